@@ -1,0 +1,86 @@
+//! The theory of a Time Warp simulation: its definitions, and what holds of every run of it, whatever code does the steps.
+//!
+//! `specs` defines it, in this order: `Rules` (messages in their order, and what an actor does with one), `Lists` (of messages),
+//! `Simulation` (processes, offers, and the laws asked of them), `OneThread` (the run that every other is compared with), `Letters`
+//! (messages with a sign, and signed counts), `Part` (one process, which runs ahead and rolls back), `World` (processes with mail,
+//! floors and GVT, and the six steps), `Safe` (the count law; a safe and a finished world), `Own` (what a process does alone) and
+//! `Well` (what holds of it alone). In `proofs`, `Cut`, `OneThread` and `Turns` are about the one-thread run; the files named `Well..`
+//! about one process alone, `Sound..` about one process in the world, `Kept..` about the world; `Safety` has the theorem, and
+//! `Examples` small cases that are computed. `Reading`, `Rolling` and `Handling` are also for code that stands for a process.
+#![tactic(auto)]
+
+ghost use Rattle.std.specs.Prelude.{ℕ, ◌+◌, ◌≡◌, ◌≤◌, Bool, true, false, List, ◌++◌, length};
+ghost use Rattle.virtual_time.specs.Rules.{Rules, IsOrder, reached, sent};
+ghost use Rattle.virtual_time.specs.Lists.{IsNumbered, times_in, earlier};
+ghost use Rattle.virtual_time.specs.Simulation.{Simulation, Laws, made};
+ghost use Rattle.virtual_time.specs.OneThread.{IsBelow};
+ghost use Rattle.virtual_time.specs.Part.{Part, opened, undo_all};
+ghost use Rattle.virtual_time.specs.World.{World, Step, start, step, run, is_enabled};
+ghost use Rattle.virtual_time.specs.Safe.{Safe, history, CountLaw, IsFinished, IsWhole};
+ghost use Rattle.virtual_time.specs.Own.{Act, acted, local, own};
+ghost use Rattle.virtual_time.specs.Own.Act.{Running, Emptying};
+ghost use Rattle.virtual_time.specs.Well.{IsWell, SendsKept};
+
+/// The headline: whatever steps are done, in whatever order and however many, for every simulation that meets its laws.
+/// It says nothing of how soon anything comes: GVT need not rise, and a run need not finish.
+///
+/// The rules are those of Jefferson, "Virtual Time", ACM TOPLAS 7(3), 1985: rollback by antimessages, GVT, and commitment of
+/// what is below it. Undoing an event by a record, in place of a saved state, is reverse computation (Carothers, Perumalla and
+/// Fujimoto). The order at equal times, by receiver, sender, number and body, is this project's own (profile).
+///
+/// - `safe`: at each process the committed events are the first ones of the one-thread run, undoing all done events would leave
+///   the state after just these, and with the done events below GVT they are all events of the one-thread run below GVT; no letter
+///   and no unhandled message is earlier than GVT; each done event below GVT has the signed count 1.
+/// - `counts`: messages and antimessages balance: the count law, for each message.
+/// - `once`: no message is made twice, by offers and events together, so that what the count law adds up to is 1 or 0.
+/// - `handled_once`: no message is twice among the committed and done events of a process.
+/// - `seen`: also for a moment that is not above GVT, as an older GVT, the committed and done events before it are exactly those of
+///   the one-thread run before it.
+/// - `rises`: GVT never falls.
+/// - `never_undone`: the events of a process below GVT are the same after all later steps.
+/// - `whole`: in a finished world the committed events and their rows, at each process, are those of the whole one-thread run.
+/// - `alone`: each process is what its own acts make of its opening state, with no look at other processes, mail or GVT.
+/// - `stays`: a step that is not enabled leaves the very same world.
+pub fn headline<M, S, K, N>()
+    ensures safe { (f : Simulation M S K N) → Laws f → (steps : List Step) → Safe f (run f steps (start f)) }
+    ensures counts { (f : Simulation M S K N) → Laws f → (steps : List Step) (m : M) → CountLaw f (run f steps (start f)) m }
+    ensures once { (f : Simulation M S K N) → Laws f → (steps : List Step) (m : M) → made f (history f (run f steps (start f))) m ≤ 1 }
+    ensures handled_once { (f : Simulation M S K N) → Laws f → (steps : List Step) (p : ℕ) (m : M) →
+        times_in f.rules m (history f (run f steps (start f)) p) ≤ 1 }
+    ensures seen { (f : Simulation M S K N) → Laws f → (steps : List Step) (g : ℕ) → g ≤ (run f steps (start f)).gvt → (p : ℕ) →
+        IsBelow f p g (earlier f.rules g (history f (run f steps (start f)) p)) }
+    ensures rises { (f : Simulation M S K N) → Laws f → (steps more : List Step) → (run f steps (start f)).gvt ≤ (run f (steps ++ more) (start f)).gvt }
+    ensures never_undone { (f : Simulation M S K N) → Laws f → (steps more : List Step) (p : ℕ) →
+        earlier f.rules (run f steps (start f)).gvt (history f (run f (steps ++ more) (start f)) p)
+        ≡ earlier f.rules (run f steps (start f)).gvt (history f (run f steps (start f)) p) }
+    ensures whole { (f : Simulation M S K N) → Laws f → (steps : List Step) → IsFinished f (run f steps (start f)) → IsWhole f (run f steps (start f)) }
+    ensures alone { (f : Simulation M S K N) (steps : List Step) (p : ℕ) →
+        (run f steps (start f)).parts p ≡ local f.rules (f.opening p) (own f p steps (start f)) (opened (f.opening p)) }
+    ensures stays { (f : Simulation M S K N) (x : Step) (w : World M S) → is_enabled f x w ≡ false → step f x w ≡ w }
+{}
+
+/// The law of one process: whatever letters come to it, also such as no run would send, and in whatever order it acts.
+/// A good state is one on which the law of undoing holds; only in such a state is a message handled. Rollback is that of Jefferson,
+/// "Virtual Time", ACM TOPLAS 7(3), 1985, by reverse computation (Carothers, Perumalla and Fujimoto).
+///
+/// - `opened`: a process that has done nothing is well.
+/// - `acts`: a process that is well is well after each act: its state is what its committed and done events make of the opening one,
+///   and the done events ascend, are present, and come before each present message that is not done.
+/// - `sends`: each act but the emptying of the outbox changes the signed count of each message there by the change of the times
+///   that the committed and done events sent it. So what an undone event sent is taken back, and nothing else.
+/// - `undone`: undoing all done events leaves the state that the committed ones alone make.
+/// - `sent_once`: where an actor numbers its messages on and on, no message is sent twice, so that the times of `sends` are 1 or 0.
+pub fn process_law<M, S, K, N>()
+    ensures opened { (r : Rules M S K N) (good : S → Bool) (opening : S) → IsWell r (λ s. good s ≡ true) opening (opened opening) }
+    ensures acts { (r : Rules M S K N) → IsOrder r → (good : S → Bool) → ((s : S) (e : M) → good s ≡ true → r.undo (r.after s e) e (r.kept s e) ≡ s) →
+        (opening : S) (part : Part M S) (a : Act M) → IsWell r (λ s. good s ≡ true) opening part → (a ≡ Running → good part.state ≡ true) →
+        IsWell r (λ s. good s ≡ true) opening (acted r opening a part) }
+    ensures sends { (r : Rules M S K N) → IsOrder r → (good : S → Bool) → ((s : S) (e : M) → good s ≡ true → r.undo (r.after s e) e (r.kept s e) ≡ s) →
+        (opening : S) (part : Part M S) (a : Act M) → IsWell r (λ s. good s ≡ true) opening part → (a ≡ Running → good part.state ≡ true) → (a ≡ Emptying → ⊥) →
+        (m : M) → SendsKept r opening part (acted r opening a part) m }
+    ensures undone { (r : Rules M S K N) (good : S → Bool) → ((s : S) (e : M) → good s ≡ true → r.undo (r.after s e) e (r.kept s e) ≡ s) →
+        (opening : S) (part : Part M S) → IsWell r (λ s. good s ≡ true) opening part → undo_all r opening part ≡ reached r opening part.committed }
+    ensures sent_once { (r : Rules M S K N) → IsOrder r → ((s : S) (e : M) → IsNumbered r.number (r.counter s) (r.sends s e)) →
+        ((s : S) (e : M) → r.counter (r.after s e) ≡ r.counter s + length (r.sends s e)) →
+        (opening : S) (events : List M) (m : M) → times_in r m (sent r opening events) ≤ 1 }
+{}
