@@ -1,0 +1,59 @@
+-- The order of messages: by time, receiver, sender, number and body; bodies by kind and then by their fields.
+use Rattle.std.specs.Prelude.{ℕ}
+use Rattle.std.specs.Ordering.{nat_cmp, ordering_then}
+use Rattle.std.specs.declared.cmp.Ordering.{Ordering}
+use Rattle.std.specs.declared.cmp.Ordering.TheVariants.{Less, Equal, Greater}
+use Rattle.vlink.specs.declared.frame.Frame.{Frame}
+use Rattle.vlink.specs.declared.frame.Net.{Net}
+use Rattle.vlink.specs.declared.frame.Net.TheVariants.{A, B}
+use Rattle.vlink.specs.declared.message.Message.{Message}
+use Rattle.vlink.specs.declared.message.Body.{Body}
+use Rattle.vlink.specs.declared.message.Body.TheVariants.{Offer, Release, PortFree, Arrive, Enqueue, Carry}
+
+-- network A comes before network B
+abbrev pub net_cmp : Net → Net → Ordering
+net_cmp A A = Equal
+net_cmp A B = Less
+net_cmp B A = Greater
+net_cmp B B = Equal
+
+-- frames by virtual link, number, size, moment offered, moment released and network
+abbrev pub frame_cmp : Frame → Frame → Ordering
+frame_cmp f g =
+    ordering_then (nat_cmp f.vl.0 g.vl.0) (
+    ordering_then (nat_cmp f.number g.number) (
+    ordering_then (nat_cmp f.size g.size) (
+    ordering_then (nat_cmp f.offered g.offered) (
+    ordering_then (nat_cmp f.released g.released) (
+    net_cmp f.net g.net)))))
+
+-- the kinds of bodies in their order
+abbrev pub kind_of : Body → ℕ
+kind_of (Offer vl size) = 0
+kind_of (Release vl) = 1
+kind_of (PortFree port) = 2
+kind_of (Arrive port frame) = 3
+kind_of (Enqueue port frame) = 4
+kind_of (Carry frame) = 5
+
+-- two bodies of one kind by their fields, as they are written; of two kinds nothing is told
+abbrev pub fields_cmp : Body → Body → Ordering
+fields_cmp (Offer vl size) (Offer vl' size') = ordering_then (nat_cmp vl.0 vl'.0) (nat_cmp size size')
+fields_cmp (Release vl) (Release vl') = nat_cmp vl.0 vl'.0
+fields_cmp (PortFree port) (PortFree port') = nat_cmp port port'
+fields_cmp (Arrive port frame) (Arrive port' frame') = ordering_then (nat_cmp port port') (frame_cmp frame frame')
+fields_cmp (Enqueue port frame) (Enqueue port' frame') = ordering_then (nat_cmp port port') (frame_cmp frame frame')
+fields_cmp (Carry frame) (Carry frame') = frame_cmp frame frame'
+fields_cmp _ _ = Equal
+
+abbrev pub body_cmp : Body → Body → Ordering
+body_cmp b c = ordering_then (nat_cmp (kind_of b) (kind_of c)) (fields_cmp b c)
+
+-- the order of messages
+unfoldable pub message_cmp : Message → Message → Ordering
+message_cmp m n =
+    ordering_then (nat_cmp m.time n.time) (
+    ordering_then (nat_cmp m.receiver n.receiver) (
+    ordering_then (nat_cmp m.sender n.sender) (
+    ordering_then (nat_cmp m.number n.number) (
+    body_cmp m.body n.body))))

@@ -1,0 +1,18 @@
+//! The words that all crates speak: moments, virtual links, frames, messages with their order, letters, notes and rows.
+#![tactic(auto)]
+
+mod frame;
+mod message;
+mod note;
+mod numbering;
+mod order;
+mod time;
+mod wire;
+
+pub use frame::{Frame, FrameSize, Net, VlId};
+pub use message::{Body, Letter, Message, Sign};
+pub use note::{Cause, Note, Row};
+pub use numbering::{next_sn, steps};
+pub use order::message_order;
+pub use time::{GREATEST_NS, LATEST_NS, Time};
+pub use wire::{busy_ns, last_bit_ns};

@@ -1,0 +1,55 @@
+ghost use Rattle.std.specs.Prelude.{◌≡◌};
+ghost use Rattle.vlink.specs.declared.message.Body.TheVariants.{PortFree};
+
+use crate::frame::{Frame, FrameSize, VlId};
+use crate::time::Time;
+
+/// What a message says to its receiver. The order of the kinds is part of the order of messages.
+#[derive(Clone, Copy, Debug, PartialEq, Eq, Hash, PartialOrd, Ord)]
+pub enum Body {
+    /// An application offers a frame of this size to the source of the virtual link.
+    Offer { vl: VlId, size: FrameSize },
+    /// The regulator of the virtual link may release a waiting frame.
+    Release { vl: VlId },
+    /// The port's frame and the gap behind it have left.
+    PortFree { port: u8 },
+    /// The frame has come whole to the node at this port.
+    Arrive { port: u8, frame: Frame },
+    /// The switch puts the frame to this output port.
+    Enqueue { port: u8, frame: Frame },
+    /// The last bit of the frame leaves into the line.
+    Carry { frame: Frame },
+}
+
+impl Default for Body {
+    ghost is_default = { λ body. body ≡ PortFree 0 };
+
+    fn default() -> Self {
+        Body::PortFree { port: 0 }
+    }
+}
+
+/// An event for the process `receiver` at the moment `time`.
+///
+/// Messages are ordered by time, receiver, sender, number and body, in this order (Jefferson's order by
+/// receive time, with this project's ties).
+#[derive(Clone, Copy, Debug, Default, PartialEq, Eq, Hash, PartialOrd, Ord)]
+pub struct Message {
+    pub time: Time,
+    pub receiver: u16,
+    pub sender: u32,
+    pub number: u64,
+    pub body: Body,
+}
+
+#[derive(Clone, Copy, Debug, PartialEq, Eq, Hash)]
+pub enum Sign {
+    Plus,
+    Minus,
+}
+
+#[derive(Clone, Copy, Debug, PartialEq, Eq, Hash)]
+pub struct Letter {
+    pub message: Message,
+    pub sign: Sign,
+}

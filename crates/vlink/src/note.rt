@@ -1,0 +1,51 @@
+ghost use Rattle.std.specs.Prelude.{◌≡◌};
+ghost use Rattle.vlink.specs.declared.note.Note.TheVariants.{Delivered};
+
+use crate::frame::{FrameSize, VlId};
+use crate::message::Message;
+
+/// Why a frame was dropped, in the order of the tables.
+#[derive(Clone, Copy, Debug, PartialEq, Eq, Hash, PartialOrd, Ord)]
+pub enum Cause {
+    QueueFull,
+    PortFull,
+    Outage,
+    Unknown,
+    TooLong,
+    Policed,
+    Integrity,
+    Duplicate,
+}
+
+/// What became of a frame at the end of its way.
+#[derive(Clone, Copy, Debug, PartialEq, Eq, Hash)]
+pub enum Note {
+    Delivered {
+        vl: VlId,
+        latency: u64,
+    },
+    Dropped {
+        vl: VlId,
+        cause: Cause,
+        size: FrameSize,
+    },
+}
+
+impl Default for Note {
+    ghost is_default = { λ note. note ≡ Delivered (record { 0 = 0 }) 0 };
+
+    fn default() -> Self {
+        Note::Delivered {
+            vl: VlId(0),
+            latency: 0,
+        }
+    }
+}
+
+/// A note with the message whose event gave it and the process where that happened.
+#[derive(Clone, Copy, Debug, PartialEq, Eq, Hash)]
+pub struct Row {
+    pub message: Message,
+    pub place: u16,
+    pub note: Note,
+}

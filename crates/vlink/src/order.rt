@@ -1,0 +1,50 @@
+//! The derived order of messages is the one of the definitions.
+ghost use Rattle.std.specs.Prelude.{◌≡◌, ◌<◌};
+ghost use Rattle.std.specs.Cmp.{IsTotalOrder};
+ghost use Rattle.std.specs.declared.cmp.Ordering.TheVariants.{Less, Equal};
+ghost use Rattle.vlink.specs.declared.frame.Net.{Net};
+ghost use Rattle.vlink.specs.declared.frame.Frame.{Frame};
+ghost use Rattle.vlink.specs.declared.message.Body.{Body};
+ghost use Rattle.vlink.specs.declared.message.Message.{Message};
+ghost use Rattle.vlink.specs.Order.{net_cmp, frame_cmp, body_cmp, message_cmp};
+
+use crate::frame::{Frame, Net};
+use crate::message::{Body, Message};
+
+/// The order of messages that `cmp` and `<` compute is `message_cmp`, the order written out: by time, receiver,
+/// sender, number and body. It is total, exact (messages that compare equal are the same message) and by time first.
+///
+/// A call does nothing: its caller learns what the clauses say.
+pub fn message_order()
+    ensures written { (a b : Message) → ⟦<Message as Ord>⟧.cmp a b ≡ message_cmp a b }
+    ensures total { IsTotalOrder message_cmp }
+    ensures exact { (a b : Message) → message_cmp a b ≡ Equal → a ≡ b }
+    ensures by_time { (a b : Message) → a.time < b.time → message_cmp a b ≡ Less }
+{
+    total_of::<Message>();
+    body_order();
+}
+
+/// The derived order of bodies is the written one.
+fn body_order()
+    ensures { (b c : Body) → ⟦<Body as Ord>⟧.cmp b c ≡ body_cmp b c }
+{
+    frame_order();
+}
+
+/// The derived order of frames is the written one.
+fn frame_order()
+    ensures { (f g : Frame) → ⟦<Frame as Ord>⟧.cmp f g ≡ frame_cmp f g }
+{
+    net_order();
+}
+
+/// The derived order of networks is the written one.
+fn net_order()
+    ensures { (a b : Net) → ⟦<Net as Ord>⟧.cmp a b ≡ net_cmp a b }
+{}
+
+/// The order of a type is total.
+fn total_of<T: Ord>()
+    ensures { IsTotalOrder T.cmp }
+{}

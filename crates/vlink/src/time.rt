@@ -1,0 +1,60 @@
+ghost use Rattle.std.specs.Prelude.{◌≡◌, ℕ, ◌≤◌, ◌↔◌, IsSome, IfSome};
+
+use std::marker::Model;
+
+/// The latest end time of a run, in ns. The limit of all moments stands here and nowhere else.
+pub const LATEST_NS: u64 = 1_000_000_000_000;
+
+/// The greatest moment, in ns: the one after the latest end time.
+pub const GREATEST_NS: u64 = LATEST_NS + 1;
+
+/// A moment in simulated nanoseconds, from 0 to `GREATEST_NS`.
+///
+/// Clauses see it as its number of nanoseconds.
+#[derive(Clone, Copy, Debug, PartialEq, Eq, Hash, PartialOrd, Ord)]
+pub struct Time {
+    ns: u64,
+}
+
+impl Model for Time {
+    ghost use Rattle.std.specs.Prelude.{ℕ, ◌≤◌};
+    ghost use Rattle.vlink.specs.declared.time.TheConstants.{GREATEST_NS};
+
+    ghost Value = { ℕ };
+
+    ghost view = { λ t. t.ns };
+
+    ghost invariant = { λ t. t.ns ≤ GREATEST_NS };
+
+    ghost inverse = { λ n. record { ns = n } };
+}
+
+impl Time {
+    /// The moment at `ns` nanoseconds, or none beyond the greatest.
+    pub fn new(ns: u64) -> Option<Self>
+        ensures within { IsSome result ↔ (ns ≤ GREATEST_NS) }
+        ensures value { IfSome result (λ t. t ≡ ns) }
+    {
+        if ns <= GREATEST_NS {
+            Some(Time { ns })
+        } else {
+            None
+        }
+    }
+
+    /// Its number of nanoseconds.
+    pub fn ns(self) -> u64
+        ensures value { result ≡ self }
+        ensures within { self ≤ GREATEST_NS }
+    {
+        self.ns
+    }
+}
+
+impl Default for Time {
+    ghost is_default = { λ t. t ≡ 0 };
+
+    fn default() -> Self {
+        Time { ns: 0 }
+    }
+}
