@@ -1,0 +1,61 @@
+ghost use Rattle.std.specs.Prelude.{◌≡◌, ℕ, ◌+◌, ◌<◌, ◌≤◌, ◌↔◌, IsTrue, All, length};
+ghost use Rattle.vlink.specs.declared.message.Message.{Message};
+ghost use Rattle.vlink.specs.Numbering.{greatest_number};
+ghost use Rattle.virtual_time.specs.Lists.{IsNumbered};
+
+use crate::reversible::Reversible;
+use crate::sends::Sends;
+use vlink::{GREATEST_NS, Message, Time};
+
+/// A process of the simulation: a reversible element whose events are messages, and whose answer is what it sends
+/// and notes.
+pub trait Actor: Reversible<Event = Message, Out = Sends> {
+    /// The number of the process.
+    ghost number: { Self → ℕ };
+
+    /// The end time of the run in ns: later messages are left out.
+    ghost end: { Self → ℕ };
+
+    /// The number of the next message sent.
+    ghost counter: { Self → ℕ };
+
+    /// The fixed parts of the state are those of a process: its delays are at least 1 ns, and the like.
+    ghost is_placed: { Self → Type 0 };
+
+    /// The number of the process.
+    fn id(&self) -> u16
+        ensures number { result ≡ number self.now }
+        ensures placed { is_placed self.now };
+
+    /// The end time of the run.
+    fn until(&self) -> Time
+        ensures end { result ≡ end self.now }
+        ensures in_limits { result < GREATEST_NS };
+
+    /// Whether the sender has numbers left for all that one event can send.
+    fn has_numbers(&self) -> bool
+        ensures { IsTrue result ↔ (counter self.now + 24 ≤ greatest_number) };
+
+    /// Nothing but numbers is asked for.
+    ghost numbers_suffice: { (s : Self) → counter s + 24 ≤ greatest_number → Self.can_apply s };
+
+    /// An event keeps the number of the process, the end time and the fixed parts.
+    ghost number_stays: { (s : Self) (e : Message) → number (Self.plain.after s e) ≡ number s };
+
+    ghost end_stays: { (s : Self) (e : Message) → end (Self.plain.after s e) ≡ end s };
+
+    ghost place_stays: { (s : Self) (e : Message) → is_placed s → is_placed (Self.plain.after s e) };
+
+    /// What is sent has this process as its sender, is later than the event and not later than the end time.
+    ghost own_sends: { (s : Self) (e : Message) → All (λ m. m.sender ≡ number s) (Self.plain.out s e).messages.items };
+
+    ghost later_sends: { (s : Self) (e : Message) → is_placed s → All (λ m. e.time < m.time) (Self.plain.out s e).messages.items };
+
+    ghost timely_sends: { (s : Self) (e : Message) → All (λ m. m.time ≤ end s) (Self.plain.out s e).messages.items };
+
+    /// The numbers go on from the counter, one for each message.
+    ghost numbered_sends: { (s : Self) (e : Message) → IsNumbered (λ m. m.number) (counter s) (Self.plain.out s e).messages.items };
+
+    ghost counted_sends: { (s : Self) (e : Message) →
+        counter (Self.plain.after s e) ≡ counter s + length (Self.plain.out s e).messages.items };
+}
