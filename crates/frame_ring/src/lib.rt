@@ -1,0 +1,8 @@
+//! A list of frames with a fixed room and the sum of their sizes, in one buffer that is made once.
+#![tactic(auto)]
+
+mod ring;
+#[cfg(test)]
+mod tests;
+
+pub use ring::FrameRing;
