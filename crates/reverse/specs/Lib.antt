@@ -1,3 +1,3 @@
+pub mod Answers
 pub mod Plain
 pub mod Rules
-pub mod History

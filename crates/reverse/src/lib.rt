@@ -2,14 +2,13 @@
 #![tactic(auto)]
 
 mod actor;
+mod events;
 mod reversible;
 mod rules;
 mod sends;
 
 pub use actor::Actor;
+pub use events::{act_and_undo, forth_and_back};
 pub use reversible::Reversible;
 pub use rules::actor_rules;
 pub use sends::Sends;
-
-#[cfg(test)]
-mod tests;

@@ -16,3 +16,6 @@ pub use numbering::{next_sn, steps};
 pub use order::message_order;
 pub use time::{GREATEST_NS, LATEST_NS, Time};
 pub use wire::{busy_ns, last_bit_ns};
+
+#[cfg(test)]
+mod tests;

@@ -1,0 +1,3 @@
+pub mod Regulator
+pub mod Spacing
+pub mod Undoing
