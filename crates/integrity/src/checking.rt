@@ -1,0 +1,144 @@
+ghost use Rattle.std.specs.Prelude.{◌≡◌, ℕ, Option, None};
+ghost use Rattle.integrity.specs.Integrity.{passes};
+
+use reverse::Reversible;
+use std::marker::Model;
+use vlink::next_sn;
+
+/// What integrity checking says of a frame.
+#[derive(Clone, Copy, Debug, PartialEq, Eq, Hash)]
+pub enum Check {
+    Passed,
+    Refused,
+}
+
+/// Integrity checking of one virtual link on one network, at a receiver (ARINC 664 Part 7).
+///
+/// A frame passes if none was received before it, if its number is 0, or if its number is one or two steps after
+/// the previous one: that of the last frame received, whether it passed or not (profile).
+///
+/// The event is the number of a frame. Clauses see the previous number, or none.
+#[derive(Clone, Copy, Debug, PartialEq, Eq, Hash)]
+pub struct Integrity {
+    previous: Option<u8>,
+}
+
+impl Model for Integrity {
+    ghost Value = { Option ℕ };
+
+    ghost view = { λ i. i.previous };
+
+    ghost inverse = { λ previous. record { previous = previous } };
+}
+
+impl Integrity {
+    /// Checking before any frame is received.
+    pub fn new() -> Self
+        ensures { result ≡ None }
+    {
+        Integrity { previous: None }
+    }
+
+    /// The number of the last frame received, passed or not.
+    pub fn previous(self) -> Option<u8>
+        ensures { result ≡ self }
+    {
+        self.previous
+    }
+
+    /// Whether a frame of this number passes now.
+    fn passes(self, number: u8) -> bool
+        ensures { result ≡ passes self number }
+    {
+        match self.previous {
+            None => true,
+            Some(previous) => {
+                let next = next_sn(previous);
+                number == 0 || number == next || number == next_sn(next)
+            }
+        }
+    }
+}
+
+impl Default for Integrity {
+    ghost is_default = { λ i. i ≡ None };
+
+    fn default() -> Self {
+        Integrity::new()
+    }
+}
+
+impl Reversible for Integrity {
+    ghost use Rattle.std.specs.Prelude.{⊤, refl};
+    ghost use Rattle.integrity.specs.Integrity.{integrity};
+
+    type Event = u8;
+
+    type Out = Check;
+
+    type Record = Option<u8>;
+
+    ghost plain = { integrity };
+
+    ghost is_value = { λ _ _. ⊤ };
+
+    ghost can_apply = { λ _. ⊤ };
+
+    ghost undoes = { λ previous number. refl };
+
+    fn apply(&mut self, event: &u8) -> (Check, Option<u8>) {
+        let number = *event;
+        let kept = self.previous;
+        let check = if self.passes(number) {
+            Check::Passed
+        } else {
+            Check::Refused
+        };
+        self.previous = Some(number);
+        (check, kept)
+    }
+
+    fn undo(&mut self, _event: &u8, kept: Option<u8>) {
+        self.previous = kept;
+    }
+}
+
+#[cfg(test)]
+mod tests {
+    use super::*;
+
+    #[test]
+    fn checks_a_number_against_the_previous_one(rt: HostRuntime) {
+        let rows = [
+            (254, 255, Check::Passed),
+            (254, 1, Check::Passed),
+            (254, 2, Check::Refused),
+            (254, 0, Check::Passed),
+            (255, 1, Check::Passed),
+            (255, 2, Check::Passed),
+            (255, 0, Check::Passed),
+            (255, 3, Check::Refused),
+            (255, 255, Check::Refused),
+            (0, 1, Check::Passed),
+            (0, 2, Check::Passed),
+            (0, 255, Check::Refused),
+        ];
+        for (previous, number, wanted) in rows {
+            let mut integrity = Integrity::new();
+            let (first, _) = integrity.apply(&previous);
+            assert_eq!(rt; first, Check::Passed);
+
+            let (check, kept) = integrity.apply(&number);
+            assert_eq!(rt; check, wanted, "{previous}, then {number}");
+            assert_eq!(rt; integrity.previous(), Some(number));
+
+            integrity.undo(&number, kept);
+            assert_eq!(rt; integrity.previous(), Some(previous));
+        }
+    }
+
+    #[test]
+    fn starts_with_no_number(rt: HostRuntime) {
+        assert_eq!(rt; Integrity::default().previous(), None);
+    }
+}
