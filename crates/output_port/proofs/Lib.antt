@@ -1,0 +1,4 @@
+pub mod Popping
+pub mod Limit
+pub mod Starts
+pub mod Busy

@@ -1,0 +1,47 @@
+use vlink::Frame;
+
+/// The priority of a frame at an output port.
+#[derive(Clone, Copy, Debug, PartialEq, Eq)]
+pub enum Priority {
+    High,
+    Low,
+}
+
+/// What a port is asked to do.
+#[derive(Clone, Copy, Debug, PartialEq, Eq)]
+pub enum PortEvent {
+    /// A frame, whole in the switch or end system, is put to the port.
+    Put { frame: Frame, priority: Priority },
+    /// The frame in transmission and the gap behind it have left.
+    Free,
+}
+
+/// The answer of a port.
+#[derive(Clone, Copy, Debug, PartialEq, Eq)]
+pub enum PortAnswer {
+    /// This frame starts: the port is busy with it until the next Free.
+    Started(Frame),
+    /// The frame put waits.
+    Kept,
+    /// The frame put is dropped, since it would make more bytes wait than may.
+    Dropped,
+    /// No frame waits: the port becomes idle.
+    Idle,
+    /// An idle port has nothing to free.
+    Nothing,
+}
+
+/// What undoing an event takes: what it changed.
+#[derive(Clone, Copy, Debug, PartialEq, Eq)]
+pub enum PortRecord {
+    /// The frame put started at once: the port became busy.
+    AtOnce,
+    /// The frame put went to the back of the list of this priority.
+    Kept(Priority),
+    /// This frame left the front of the list of this priority.
+    Popped(Priority, Frame),
+    /// The port became idle.
+    Idle,
+    /// Nothing changed.
+    Nothing,
+}

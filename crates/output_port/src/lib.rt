@@ -1,0 +1,12 @@
+//! An output port with two priorities: frames that wait for one line, the high ones first, within a limit of bytes.
+#![tactic(auto)]
+
+mod event;
+mod port;
+mod strict_priority;
+#[cfg(test)]
+mod tests;
+
+pub use event::{PortAnswer, PortEvent, PortRecord, Priority};
+pub use port::Port;
+pub use strict_priority::order;
