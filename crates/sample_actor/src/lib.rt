@@ -1,6 +1,8 @@
 //! An actor for the tests of the crates that are generic in one: it adds up the moments of its messages.
 #![tactic(auto)]
 
+#[cfg(test)]
+mod process_tests;
 mod summing;
 #[cfg(test)]
 mod tests;

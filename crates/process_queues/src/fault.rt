@@ -1,0 +1,24 @@
+use std::alloc::AllocError;
+use thiserror::Error;
+
+/// Why a process refused a call, which then left it as it was.
+#[derive(Clone, Copy, Debug, PartialEq, Eq, Error)]
+pub enum ProcFault {
+    /// A growth was refused.
+    #[error("out of memory")]
+    OutOfMemory,
+    /// The actor has not enough numbers left for what one event can send.
+    #[error("numbers used up")]
+    Exhausted,
+}
+
+impl From<AllocError> for ProcFault {
+    ghost use Rattle.std.specs.Prelude.{◌≡◌};
+    ghost use Rattle.process_queues.specs.declared.fault.ProcFault.TheVariants.{OutOfMemory};
+
+    ghost from_gives = { λ _ fault. fault ≡ OutOfMemory };
+
+    fn from(_: AllocError) -> Self {
+        ProcFault::OutOfMemory
+    }
+}

@@ -1,0 +1,73 @@
+-- Steps of one process, one after another.
+use Rattle.std.proofs.Common.{◌≡◌, ℕ, zero, suc, ◌+◌, ◌<◌, ◌≤◌, ◌⊎◌, inl, inr, Option, IsSomeAnd, List, [], ◌∷◌, ◌++◌, length, drop, replicate, refl, sym, ap, ◌∙◌, subst, arith, append_assoc, append-nil}
+use Rattle.std.proofs.lemmas.List.{replicate_more}
+use Rattle.std.proofs.lemmas.Bool.{cases_lt}
+use Rattle.vlink.specs.declared.message.Message.{Message}
+use Rattle.vlink.specs.declared.message.Letter.{Letter}
+use Rattle.virtual_time.specs.Rules.{Rules}
+use Rattle.virtual_time.specs.Part.{Part}
+use Rattle.process_queues.specs.Queues.{Queues, StandsFor, next_in}
+use Rattle.process_queues.proofs.Mailing.{drop-next}
+use Rattle.worker_pool.specs.declared.step.Step.{Step}
+use Rattle.worker_pool.specs.declared.step.Step.TheVariants.{Take, Arrive, Run, Post}
+use Rattle.worker_pool.specs.Hands.{Hand, moved, Works, ArrivesSome, AreNew, IsIdleBefore}
+
+module _ {S K N : Type 0} (r : Rules Message S K N) where
+  pub moved-append : (opening : S) (xs ys : List Step) (part : Part Message S) → moved r opening (xs ++ ys) part ≡ moved r opening ys (moved r opening xs part)
+  moved-append opening [] ys part = refl
+  moved-append opening (Take p i ∷ xs) ys part = moved-append opening xs ys part
+  moved-append opening (Arrive p ∷ xs) ys part = moved-append opening xs ys _
+  moved-append opening (Run p ∷ xs) ys part = moved-append opening xs ys _
+  moved-append opening (Post p ∷ xs) ys part = moved-append opening xs ys part
+
+  pub new-drop : (done : List Message) (n : ℕ) (ls : List Letter) → AreNew r done ls → AreNew r done (drop n ls)
+  new-drop done zero ls h = h
+  new-drop done (suc n) [] h = tt
+  new-drop done (suc n) (l ∷ ls) h = new-drop done n ls h.2
+
+  module _ (is_value : S → Message → Type 0) where
+    pub works-none : (h : Hand S K) → Works r is_value h h []
+    works-none h = record { number = refl; block = sym (append-nil h.block); process = λ opening part s. s }
+
+    pub works-more : (a b c : Hand S K) (xs ys : List Step) → Works r is_value a b xs → Works r is_value b c ys → Works r is_value a c (xs ++ ys)
+    works-more a b c xs ys v w = record {
+      number = w.number ∙ v.number;
+      block = w.block ∙ (ap (λ z. z ++ ys) v.block ∙ append_assoc a.block xs ys);
+      process = λ opening part s. subst (λ p. StandsFor r is_value opening p c.queues) (sym (moved-append opening xs ys part))
+          (w.process opening (moved r opening xs part) (v.process opening part s));
+    }
+
+    pub arrives-none : (h : Hand S K) → ArrivesSome r is_value h h 0
+    arrives-none h = record { works = works-none h; done = refl; tray = refl; within = omega arith }
+
+    pub arrives-next : (a b c : Hand S K) (n : ℕ) → ArrivesSome r is_value a b n → n < length a.queues.tray → ArrivesSome r is_value b c 1 → ArrivesSome r is_value a c (n + 1)
+    arrives-next a b c n v h w = record {
+      works = subst (Works r is_value a c) (replicate_more n (Arrive a.number))
+          (works-more a b c (replicate n (Arrive a.number)) (Arrive a.number ∷ []) v.works
+          (subst (λ p. Works r is_value b c (Arrive p ∷ [])) v.works.number w.works));
+      done = w.done ∙ v.done;
+      tray = w.tray ∙ (ap (drop 1) v.tray ∙ drop-next a.queues.tray n);
+      within = omega arith;
+    }
+
+    pub runs-none : (h : Hand S K) → Works r is_value h h (replicate 0 (Run h.number))
+    runs-none h = works-none h
+
+    pub runs-next : (a b c : Hand S K) (n : ℕ) → Works r is_value a b (replicate n (Run a.number)) → Works r is_value b c (Run b.number ∷ []) →
+        Works r is_value a c (replicate (n + 1) (Run a.number))
+    runs-next a b c n v w = subst (Works r is_value a c) (replicate_more n (Run a.number))
+        (works-more a b c (replicate n (Run a.number)) (Run a.number ∷ []) v (subst (λ p. Works r is_value b c (Run p ∷ [])) v.number w))
+
+    pub works-both : (a b c : Hand S K) (n k : ℕ) → ArrivesSome r is_value a b n → Works r is_value b c (replicate k (Run b.number)) →
+        Works r is_value a c (replicate n (Arrive a.number) ++ replicate k (Run a.number))
+    works-both a b c n k v w = works-more a b c (replicate n (Arrive a.number)) (replicate k (Run a.number)) v.works
+        (subst (λ p. Works r is_value b c (replicate k (Run p))) v.works.number w)
+
+-- of what is not earlier than a moment nothing is earlier
+pub idle-before : {S K N : Type 0} (r : Rules Message S K N) (moment : ℕ) (q : Queues S K) (o : Option Message) → o ≡ next_in r q →
+    (IsSomeAnd o (λ m. m.time < moment) → ⊥) → IsIdleBefore r moment q
+idle-before r moment q o e n m k = go (cases_lt m.time moment)
+  where
+    go : (m.time < moment) ⊎ (moment ≤ m.time) → moment ≤ m.time
+    go (inl early) = absurd (n (subst (λ z. IsSomeAnd z (λ x. x.time < moment)) (sym (e ∙ k)) early))
+    go (inr late) = late
