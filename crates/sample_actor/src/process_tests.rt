@@ -70,21 +70,25 @@ fn without_numbers_a_message_is_not_handled(rt: HostRuntime) -> Result<(), Fail>
 
 #[test]
 fn letters_are_taken_from_the_mail_in_order(rt: HostRuntime) -> Result<(), Fail> {
-    let mut outbox = Vec::new(rt.alloc());
+    let until = Time::new(LATEST_NS).expect(&rt, "a moment within the limits");
+    let mut process = Process::new(rt.alloc(), Summing::new(until));
     for ns in [10, 20] {
-        outbox.push(plus(ns, 1).expect(&rt, "a moment within the limits"))?;
+        let letter = plus(ns, 0).expect(&rt, "a moment within the limits");
+        process.deliver(letter)?;
+        assert!(rt; process.front_is_new());
+        assert_eq!(rt; process.arrive()?, Some(0));
+        assert_eq!(rt; process.run()?, Some(letter.message));
     }
     let mut mail = Mail::new(rt.alloc());
-    mail.post(&mut outbox)?;
-    assert_eq!(rt; outbox.len(), 0);
+    process.post(&mut mail)?;
+    assert_eq!(rt; process.outbox().len(), 0);
     assert_eq!(rt; (mail.count(0), mail.count(1)), (0, 2));
-    assert_eq!(rt; mail.look(1, 0), plus(10, 1));
-    assert_eq!(rt; mail.look(1, 1), plus(20, 1));
-    assert_eq!(rt; mail.look(1, 2), None);
-    assert_eq!(rt; mail.look(0, 0), None);
-    assert_eq!(rt; mail.take_first(0), None);
-    assert_eq!(rt; mail.take_first(1), plus(10, 1));
+    let looked = mail.look(1, 1).expect(&rt, "the second letter");
+    assert_eq!(rt; looked.message.time.ns(), 25);
+    let taken = mail.take_first(1).expect(&rt, "the first letter");
+    assert_eq!(rt; taken.message.time.ns(), 15);
     assert_eq!(rt; mail.count(1), 1);
-    assert_eq!(rt; mail.look(1, 0), plus(20, 1));
+    let looked = mail.look(1, 0).expect(&rt, "the letter that is left");
+    assert_eq!(rt; looked.message.time.ns(), 25);
     Ok(())
 }
