@@ -1,4 +1,4 @@
-use crate::{BagRegulator, RegAnswer, RegEvent, RegOut};
+use crate::{BagRegulator, RegAnswer, RegEvent, RegOut, RegRecord};
 use reverse::{Reversible, forth_and_back};
 use std::process::Abort;
 use std::test::Fail;
@@ -90,4 +90,9 @@ fn releases_what_waits(rt: HostRuntime) -> Result<(), Fail> {
         (Some(moment(&rt, 2_000_000)), 3)
     );
     Ok(())
+}
+
+#[test]
+fn a_record_fits_a_cache_line(rt: HostRuntime) {
+    assert!(rt; size_of::<RegRecord>() <= 64);
 }
