@@ -9,6 +9,6 @@ next_number n = if n == 255 then 1 else (n + 1)
 abbrev pub steps_between : ℕ → ℕ → ℕ
 steps_between l s = if l == 0 then s else ((s + 255 - l) % 255)
 
--- the greatest number that a sender gives to a message: 2^62
+-- 2^62: all numbers that a sender gives to its messages are less
 abbrev pub greatest_number : ℕ
 greatest_number = 4611686018427387904

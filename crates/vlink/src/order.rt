@@ -11,7 +11,7 @@ ghost use Rattle.vlink.specs.Order.{net_cmp, frame_cmp, body_cmp, message_cmp};
 use crate::frame::{Frame, Net};
 use crate::message::{Body, Message};
 
-/// The order of messages that `cmp` and `<` compute is `message_cmp`, the order written out: by time, receiver,
+/// The order of messages that `cmp` computes is `message_cmp`, the order written out: by time, receiver,
 /// sender, number and body. It is total, exact (messages that compare equal are the same message) and by time first.
 ///
 /// A call does nothing: its caller learns what the clauses say.
