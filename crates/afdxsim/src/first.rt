@@ -1,77 +1,85 @@
 //! The first run: one end system with one virtual link is offered one frame.
+ghost use Rattle.std.specs.Prelude.{◌≡◌, ◌≢◌, ◌⊎◌, [], map, IfOk};
+ghost use Rattle.clap.specs.Words.{fault_of};
+ghost use Rattle.clap.specs.Values.{kind_of};
+ghost use Rattle.clap.specs.declared.error.kind.ErrorKind.TheVariants.{OutOfMemory};
+ghost use Rattle.vlink.specs.declared.message.Sign.TheVariants.{Plus};
+ghost use Rattle.afdxsim.specs.Source.{opening_source};
+ghost use Rattle.afdxsim.specs.Words.{program, AsksFor, AsksForText};
+
+use crate::once::{run_once, undo_once};
 use crate::source::Source;
 use crate::words::offered;
-use std::alloc::{AllocError, Global};
+use clap::error::ErrorKind;
+use std::alloc::Global;
 use std::convert::AsStr;
 use std::fmt;
-use vlink::{Body, FrameSize, LATEST_NS, Letter, Message, Sign, Time, VlId};
-use worker_pool::{Exchange, Open, PoolFault, Step, collect, post, work};
-
-/// Why the first run printed nothing, or not all.
-#[derive(Drop, Debug)]
-enum FirstFault {
-    /// Clap refuses the words, or was asked for help.
-    Words(clap::Error),
-    /// The pool refused a step.
-    Pool(PoolFault),
-    /// The text could not be written.
-    Text,
-}
+use vlink::{Body, FrameSize, Letter, Message, Sign, Time, VlId};
+use worker_pool::{Exchange, PoolFault, Step};
 
 /// What `afdxsim first OFFERED` does: a frame of 64 bytes is offered to virtual link 1 at the moment OFFERED, in ns; its end system
 /// takes the offer, handles it and posts what it sends. `out` gets the frame that is on its way to the line, and then the journal's
 /// steps, a line each.
 ///
-/// The words are those after the program's name. The answer is the status: 0 done, 2 bad words (`out` gets clap's text), 5 where
-/// memory or numbers were wanting or `out` takes no more.
-pub fn first<'a, S: AsStr, W: fmt::Write>(words: &'a [S], alloc: Global, out: &mut W) -> u8 {
-    match run(words, alloc, out) {
+/// The words are those after the program's name. The answer is the status: 0 done, or help was asked for (`out` gets clap's text),
+/// 2 bad words (`out` gets clap's text), 5 where memory or numbers were wanting or `out` takes no more.
+pub fn first<'a, S: AsStr, W: fmt::Write>(words: &'a [S], alloc: Global, out: &mut W) -> u8
+    ensures status { (result ≡ 0) ⊎ (result ≡ 2) ⊎ (result ≡ 5) }
+    ensures bad_words { result ≡ 2 → fault_of program (map S.text words.entry.now) ≢ [] }
+    ensures done { result ≡ 0 → (fault_of program (map S.text words.entry.now) ≡ []) ⊎ AsksForText (fault_of program (map S.text words.entry.now)) }
+{
+    match offered(words, alloc) {
+        Ok(ns) => show(ns, alloc, out),
+        Err(error) => refuse(&error, out),
+    }
+}
+
+/// Does the run and writes its text. The answer is the status.
+fn show<W: fmt::Write>(ns: u64, alloc: Global, out: &mut W) -> u8
+    ensures status { (result ≡ 0) ⊎ (result ≡ 5) }
+{
+    let exchange = match exchange_after(Time::new(ns).unwrap_or_default(), alloc) {
+        Ok(exchange) => exchange,
+        Err(fault) => {
+            let _written = writeln!(out, "afdxsim: {fault}");
+            return 5;
+        }
+    };
+    match write_run(&exchange, out) {
         Ok(()) => 0,
-        Err(FirstFault::Words(error)) => {
-            let status = error.exit_code() as u8;
-            let _written = write!(out, "{error}");
-            status
-        }
-        Err(FirstFault::Pool(PoolFault::Exhausted)) => {
-            let _written = out.write_str("afdxsim: numbers used up\n");
-            5
-        }
-        Err(FirstFault::Pool(PoolFault::OutOfMemory)) | Err(FirstFault::Text) => {
+        Err(_) => {
             let _written = out.write_str("afdxsim: out of memory\n");
             5
         }
     }
 }
 
-impl From<AllocError> for FirstFault {
-    fn from(_: AllocError) -> Self {
-        FirstFault::Pool(PoolFault::OutOfMemory)
+/// Writes why the words are refused, or the help that they ask for. The answer is the status.
+fn refuse<W: fmt::Write>(error: &clap::Error, out: &mut W) -> u8
+    ensures memory { kind_of error.now ≡ OutOfMemory → result ≡ 5 }
+    ensures text { AsksFor (kind_of error.now) → result ≡ 0 }
+    ensures only_text { result ≡ 0 → AsksFor (kind_of error.now) }
+    ensures only_mistake { result ≡ 2 → kind_of error.now ≢ OutOfMemory }
+    ensures status { (result ≡ 0) ⊎ (result ≡ 2) ⊎ (result ≡ 5) }
+{
+    match error.kind() {
+        ErrorKind::OutOfMemory => {
+            let _written = out.write_str("afdxsim: out of memory\n");
+            5
+        }
+        ErrorKind::DisplayHelp | ErrorKind::DisplayVersion => {
+            let _written = write!(out, "{error}");
+            0
+        }
+        _ => {
+            let _written = write!(out, "{error}");
+            2
+        }
     }
 }
 
-impl From<PoolFault> for FirstFault {
-    fn from(fault: PoolFault) -> Self {
-        FirstFault::Pool(fault)
-    }
-}
-
-impl From<fmt::Error> for FirstFault {
-    fn from(_: fmt::Error) -> Self {
-        FirstFault::Text
-    }
-}
-
-/// Reads the words, does the run and writes its text.
-fn run<'a, S: AsStr, W: fmt::Write>(
-    words: &'a [S],
-    alloc: Global,
-    out: &mut W,
-) -> Result<(), FirstFault> {
-    let ns = match offered(words, alloc) {
-        Ok(ns) => ns,
-        Err(error) => return Err(FirstFault::Words(error)),
-    };
-    let exchange = exchange_after(Time::new(ns).unwrap_or_default(), alloc)?;
+/// The frame on its way to the line, and then the journal's steps, a line each.
+fn write_run<W: fmt::Write>(exchange: &Exchange, out: &mut W) -> fmt::Result {
     if let Some(letter) = exchange.look(1, 0) {
         write_carried(&letter.message.body, out)?;
     }
@@ -84,8 +92,24 @@ fn run<'a, S: AsStr, W: fmt::Write>(
 }
 
 /// The exchange after process 0 has taken the offer at this moment, handled it and posted what it sent.
-fn exchange_after(at: Time, alloc: Global) -> Result<Exchange, FirstFault> {
-    let offer = Letter {
+fn exchange_after(at: Time, alloc: Global) -> Result<Exchange, PoolFault> {
+    let (exchange, _held) = run_once(alloc, Source::new(alloc)?, offer(at), 2)?;
+    Ok(exchange)
+}
+
+/// The source after such a run, undone: what it was at the start, whatever the moment of the offer.
+pub fn first_undone(at: Time, alloc: Global) -> Result<Source, PoolFault>
+    ensures opening { IfOk result (λ source. source ≡ opening_source) }
+{
+    undo_once(alloc, Source::new(alloc)?, offer(at), 2)
+}
+
+/// The offer of a frame of 64 bytes at this moment.
+fn offer(at: Time) -> Letter
+    ensures receiver { result.message.receiver ≡ 0 }
+    ensures sign { result.sign ≡ Plus }
+{
+    Letter {
         message: Message {
             time: at,
             receiver: 0,
@@ -97,12 +121,7 @@ fn exchange_after(at: Time, alloc: Global) -> Result<Exchange, FirstFault> {
             },
         },
         sign: Sign::Plus,
-    };
-    let (mut exchange, mut held) = Exchange::first(alloc, Source::new(alloc)?, offer, 2)?;
-    collect(&mut held, &mut exchange, 1)?;
-    work(&mut held, 1, LATEST_NS, &Open)?;
-    post(&mut held, &mut exchange)?;
-    Ok(exchange)
+    }
 }
 
 /// A line on the frame that is carried, where one is.

@@ -2,10 +2,12 @@
 #![tactic(auto)]
 
 mod first;
+mod once;
 mod source;
 mod words;
 
-pub use first::first;
+pub use first::{first, first_undone};
+pub use once::{run_once, undo_once};
 pub use source::{Source, SourceRecord};
 use std::process::ExitCode;
 use std::{env, io};

@@ -1,4 +1,4 @@
-use crate::{Source, first, offered};
+use crate::{LATEST_OFFER_NS, Source, first, first_undone, offered};
 use clap::error::ErrorKind;
 use reverse::act_and_undo;
 use std::process::Abort;
@@ -125,6 +125,20 @@ fn shows_the_first_run(rt: HostRuntime) {
     assert_eq!(rt; first(&["first", "1000"], rt.alloc(), &mut text), 0);
     let lines = "vl 1 number 0 size 64 offered 1000 released 1000\nT 0 0\nA 0\nR 0\nP 0\n";
     assert_eq!(rt; text.as_str(), lines);
+}
+
+#[test]
+fn is_back_at_the_start_after_the_first_run(rt: HostRuntime) -> Result<(), Fail> {
+    for ns in [0, 1000, LATEST_OFFER_NS] {
+        let at = Time::new(ns).expect(&rt, "a moment within the limits");
+        let source = first_undone(at, rt.alloc())?;
+        assert_eq!(rt; source.counter(), 0);
+        assert_eq!(rt;
+            (source.regulator().last(), source.regulator().sn()),
+            (None, 0)
+        );
+    }
+    Ok(())
 }
 
 #[test]

@@ -1,5 +1,5 @@
 -- The message that is handled next, by the newest done event and the messages that arrived.
-use Rattle.std.proofs.Common.{◌≡◌, suc, ◌-◌, inl, inr, true, false, List, [], ◌∷◌, filter, length, get_or, Option, Some, None, refl, sym, ap, ◌∙◌, subst, arith}
+use Rattle.std.proofs.Common.{◌≡◌, ◌<◌, suc, ◌-◌, inl, inr, true, false, List, [], ◌∷◌, filter, length, get_or, Option, Some, None, refl, sym, ap, ◌∙◌, subst, arith}
 use Rattle.vlink.specs.declared.message.Message.{Message}
 use Rattle.vlink.specs.declared.message.Letter.{Letter}
 use Rattle.vlink.specs.declared.message.Sign.TheVariants.{Plus}
@@ -118,3 +118,20 @@ module _ {S K N : Type 0} (r : Rules Message S K N) (O : IsOrder r) (is_value : 
       go (t ∷ ts) k =
           let same : l ≡ t = k in
           (subst (λ x. x.sign ≡ Plus) same p, subst (λ x. (d : Message) → IsIn r d q.done → r.less d x.message ≡ true) same (after-all l.message a))
+
+  -- where it is a plus and comes after all done events, it comes after the newest one
+  pub front-after : (l : Letter) → l ≡ get_or q.tray 0 l → 0 < length q.tray → IsNewFront r q.done q.tray →
+      (l.sign ≡ Plus) × (is_after r (newest_of q.done) l.message ≡ true)
+  front-after l e some new = go q.tray e some new
+    where
+      after : (m : Message) → ((d : Message) → IsIn r d q.done → r.less d m ≡ true) → is_after r (newest_of q.done) m ≡ true
+      after m late = by_newest (newest_of q.done) refl
+        where
+          by_newest : (o : Option Message) → newest_of q.done ≡ o → is_after r o m ≡ true
+          by_newest None k = refl
+          by_newest (Some d) k = late d (newest-in r O q.done d k)
+      go : (ts : List Letter) → l ≡ get_or ts 0 l → 0 < length ts → IsNewFront r q.done ts → (l.sign ≡ Plus) × (is_after r (newest_of q.done) l.message ≡ true)
+      go [] k s n = absurd (omega arith)
+      go (t ∷ ts) k s n =
+          let same : l ≡ t = k in
+          (subst (λ x. x.sign ≡ Plus) (sym same) n.0, subst (λ x. is_after r (newest_of q.done) x.message ≡ true) (sym same) (after t.message n.1))

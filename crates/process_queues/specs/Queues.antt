@@ -1,5 +1,5 @@
 -- What a process has in hand, and when that stands for a part of the law of virtual time.
-use Rattle.std.specs.Prelude.{◌≡◌, ◌-◌, Bool, true, false, List, [], ◌∷◌, ◌++◌, length, map, filter, slice_get, Option, Some, None, ⊤}
+use Rattle.std.specs.Prelude.{◌≡◌, ◌-◌, ℕ, Bool, true, false, List, [], ◌∷◌, ◌++◌, length, map, filter, slice_get, Option, Some, None, ⊤}
 use Rattle.vlink.specs.declared.message.Message.{Message}
 use Rattle.vlink.specs.declared.message.Letter.{Letter}
 use Rattle.vlink.specs.declared.message.Sign.{Sign}
@@ -19,6 +19,11 @@ pub record Queues (S K : Type 0) : Type 0 where
   pub tally : List Message
   pub tray : List Letter
   pub outbox : List Letter
+
+-- the queues, and for how many more letters the tray has room
+pub record InHand (S K : Type 0) : Type 0 where
+  pub queues : Queues S K
+  pub room : ℕ
 
 -- a plus letter
 abbrev pub is_plus : Sign → Bool

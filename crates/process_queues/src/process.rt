@@ -1,4 +1,4 @@
-ghost use Rattle.std.specs.Prelude.{◌≡◌, ◌≢◌, ◌+◌, ◌<◌, ◌≤◌, ◌^◌, [], ◌∷◌, ◌++◌, ℕ, length, map, min, take, drop, vec_len, vec_capacity, IsSome, IsTrue, MatchOption, OnOk, OnErr, IfOk, IfErr};
+ghost use Rattle.std.specs.Prelude.{◌≡◌, ◌≢◌, ◌+◌, ◌<◌, ◌≤◌, ◌^◌, [], ◌∷◌, ◌++◌, ◌↔◌, ℕ, length, map, min, take, drop, vec_len, vec_capacity, IsSome, IsTrue, MatchOption, OnOk, OnErr, IfOk, IfErr};
 ghost use Rattle.vlink.specs.declared.message.Message.{Message};
 ghost use Rattle.vlink.specs.Numbering.{greatest_number};
 ghost use Rattle.virtual_time.specs.Rules.{reached};
@@ -33,11 +33,16 @@ impl<R: Actor> Model for Process<R> {
     ghost use Rattle.vlink.specs.declared.message.Message.{Message};
     ghost use Rattle.virtual_time.specs.Part.{Part};
     ghost use Rattle.reverse.specs.Rules.{rules_of};
-    ghost use Rattle.process_queues.specs.Queues.{Queues, StandsFor};
+    ghost use Rattle.std.specs.Prelude.{◌-◌};
+    ghost use Rattle.std.specs.VecDeque.{deque_len, deque_capacity};
+    ghost use Rattle.process_queues.specs.Queues.{InHand, StandsFor};
 
-    ghost Value = { Queues R R.Record };
+    ghost Value = { InHand R R.Record };
 
-    ghost view = { λ p. record { state = p.actor; done = p.done.items; records = p.records.items; tally = p.tally.items; tray = p.tray.items; outbox = p.outbox.items } };
+    ghost view = { λ p. record {
+      queues = record { state = p.actor; done = p.done.items; records = p.records.items; tally = p.tally.items; tray = p.tray.items; outbox = p.outbox.items };
+      room = deque_capacity p.tray - deque_len p.tray;
+    } };
 
     ghost invariant = { λ p. (opening : R) × (part : Part Message R) × StandsFor (rules_of R.plain R.counter) R.is_value opening part
         (record { state = p.actor; done = p.done.items; records = p.records.items; tally = p.tally.items; tray = p.tray.items; outbox = p.outbox.items }) };
@@ -46,8 +51,8 @@ impl<R: Actor> Model for Process<R> {
 impl<R: Actor> Process<R> {
     /// A process that has done nothing, with this actor in its opening state.
     pub fn new(alloc: Global, actor: R) -> Self
-        ensures stands { StandsFor (rules_of R.plain R.counter) R.is_value actor (opened actor) result }
-        ensures opening { result ≡ record { state = actor; done = []; records = []; tally = []; tray = []; outbox = [] } }
+        ensures stands { StandsFor (rules_of R.plain R.counter) R.is_value actor (opened actor) result.queues }
+        ensures opening { result.queues ≡ record { state = actor; done = []; records = []; tally = []; tray = []; outbox = [] } }
     {
         Process {
             actor,
@@ -61,33 +66,37 @@ impl<R: Actor> Process<R> {
 
     /// The letters that wait to be posted, in order.
     pub fn outbox(&self) -> &[Letter]
-        ensures { result.now ≡ self.now.outbox }
+        ensures { result.now ≡ self.now.queues.outbox }
     {
         &self.outbox
     }
 
     /// How many letters were taken from the mail and have not arrived.
     pub fn tray_len(&self) -> usize
-        ensures value { result ≡ length self.now.tray }
-        ensures small { length self.now.tray < 2 ^ 63 }
+        ensures value { result ≡ length self.now.queues.tray }
+        ensures small { length self.now.queues.tray < 2 ^ 63 }
     {
         self.tray.len()
     }
 
-    /// Makes room for `count` letters: as long as no other call comes between, so many calls of `deliver` take no memory.
-    pub fn reserve_letters(&mut self, count: usize) -> Result<(), ProcFault>
-        ensures same { self.new ≡ self.old }
+    /// Makes room for so many letters: as long as no other call comes between, so many calls of `deliver` take no memory.
+    pub fn reserve_letters(&mut self, letters: usize) -> Result<(), ProcFault>
+        ensures room { OnOk result (letters ≤ self.new.room) }
+        ensures same { self.new.queues ≡ self.old.queues }
+        ensures reserved { OnErr result (self.old.room < letters) }
         ensures memory { IfErr result (λ fault. fault ≡ OutOfMemory) }
     {
-        self.tray.reserve(count)?;
+        self.tray.reserve(letters)?;
         Ok(())
     }
 
     /// The letter comes to the back of the tray.
     pub fn deliver(&mut self, letter: Letter) -> Result<(), ProcFault>
-        ensures delivered { OnOk result (Does (rules_of R.plain R.counter) R.is_value (λ opening. delivered (signed letter)) self.old self.new) }
-        ensures tray { OnOk result (self.new ≡ record self.old { tray = self.old.tray ++ letter ∷ [] }) }
-        ensures unchanged { OnErr result (self.new ≡ self.old) }
+        ensures delivered { OnOk result (Does (rules_of R.plain R.counter) R.is_value (λ opening. delivered (signed letter)) self.old.queues self.new.queues) }
+        ensures tray { OnOk result (self.new.queues ≡ record self.old.queues { tray = self.old.queues.tray ++ letter ∷ [] }) }
+        ensures room { OnOk result (self.old.room ≤ self.new.room + 1) }
+        ensures unchanged { OnErr result (self.new.queues ≡ self.old.queues) }
+        ensures reserved { OnErr result (self.old.room ≡ 0) }
         ensures memory { IfErr result (λ fault. fault ≡ OutOfMemory) }
     {
         self.tray.reserve(1)?;
@@ -104,13 +113,14 @@ impl<R: Actor> Process<R> {
         most: usize,
     ) -> Result<usize, ProcFault>
         ensures delivered { IfOk result (λ count. Does (rules_of R.plain R.counter) R.is_value
-            (λ opening. delivered_all (take count (letters_for process mail.old))) self.old self.new) }
+            (λ opening. delivered_all (take count (letters_for process mail.old))) self.old.queues self.new.queues) }
         ensures count { IfOk result (λ count. count ≡ min most (length (letters_for process mail.old))) }
-        ensures queues { IfOk result (λ count. self.new ≡ record self.old { tray = self.old.tray ++ take count (letters_for process mail.old) }) }
+        ensures queues { IfOk result (λ count. self.new.queues ≡ record self.old.queues { tray = self.old.queues.tray ++ take count (letters_for process mail.old) }) }
         ensures left { IfOk result (λ count. letters_for process mail.new ≡ drop count (letters_for process mail.old)) }
         ensures others { (q : ℕ) → q ≢ process → letters_for q mail.new ≡ letters_for q mail.old }
-        ensures unchanged { OnErr result (self.new ≡ self.old) }
+        ensures unchanged { OnErr result (self.new.queues ≡ self.old.queues) }
         ensures mail_unchanged { OnErr result (mail.new ≡ mail.old) }
+        ensures reserved { OnErr result (self.old.room < min most (length (letters_for process mail.old))) }
         ensures memory { IfErr result (λ fault. fault ≡ OutOfMemory) }
     {
         let count = mail.count(process).min(most);
@@ -121,7 +131,7 @@ impl<R: Actor> Process<R> {
 
     /// Whether the front letter of the tray, if there is one, is a plus and comes after all done events: what `arrive` asks.
     pub fn front_is_new(&self) -> bool
-        ensures { IsTrue result → IsNewFront (rules_of R.plain R.counter) self.now.done self.now.tray }
+        ensures { IsTrue result ↔ IsNewFront (rules_of R.plain R.counter) self.now.queues.done self.now.queues.tray }
     {
         actor_rules::<R>();
         match self.tray.front() {
@@ -135,11 +145,11 @@ impl<R: Actor> Process<R> {
     ///
     /// For now the front letter must be a plus and come after all done events, so that none is undone.
     pub fn arrive(&mut self) -> Result<Option<u64>, ProcFault>
-        requires { IsNewFront (rules_of R.plain R.counter) self.old.done self.old.tray }
-        ensures arrived { OnOk result (Does (rules_of R.plain R.counter) R.is_value (arrive (rules_of R.plain R.counter)) self.old self.new) }
-        ensures queues { OnOk result (self.new ≡ arrived_of self.old self.old.tray) }
-        ensures answer { IfOk result (λ undone. MatchOption undone (self.old.tray ≡ []) (λ count. (count ≡ 0) × (self.old.tray ≢ []))) }
-        ensures unchanged { OnErr result (self.new ≡ self.old) }
+        requires { IsNewFront (rules_of R.plain R.counter) self.old.queues.done self.old.queues.tray }
+        ensures arrived { OnOk result (Does (rules_of R.plain R.counter) R.is_value (arrive (rules_of R.plain R.counter)) self.old.queues self.new.queues) }
+        ensures queues { OnOk result (self.new.queues ≡ arrived_of self.old.queues self.old.queues.tray) }
+        ensures answer { IfOk result (λ undone. MatchOption undone (self.old.queues.tray ≡ []) (λ count. (count ≡ 0) × (self.old.queues.tray ≢ []))) }
+        ensures unchanged { OnErr result (self.new.queues ≡ self.old.queues) }
         ensures memory { IfErr result (λ fault. fault ≡ OutOfMemory) }
     {
         actor_rules::<R>();
@@ -155,9 +165,9 @@ impl<R: Actor> Process<R> {
 
     /// The message that is handled next: the first present one that is not done, if there is one.
     pub fn next(&self) -> Option<Message>
-        ensures next { result ≡ next_in (rules_of R.plain R.counter) self.now }
+        ensures next { result ≡ next_in (rules_of R.plain R.counter) self.now.queues }
         ensures stands { (opening : R) (part : Part Message R) →
-            StandsFor (rules_of R.plain R.counter) R.is_value opening part self.now → result ≡ next_of (rules_of R.plain R.counter) part }
+            StandsFor (rules_of R.plain R.counter) R.is_value opening part self.now.queues → result ≡ next_of (rules_of R.plain R.counter) part }
     {
         actor_rules::<R>();
         self.first_unhandled()
@@ -165,7 +175,7 @@ impl<R: Actor> Process<R> {
 
     /// The first message that arrived and comes after the newest done event. It looks through all that arrived.
     fn first_unhandled(&self) -> Option<Message>
-        ensures { result ≡ next_in (rules_of R.plain R.counter) self.now }
+        ensures { result ≡ next_in (rules_of R.plain R.counter) self.now.queues }
     {
         first_after::<R>(&self.tally, self.done.last())
     }
@@ -173,14 +183,14 @@ impl<R: Actor> Process<R> {
     /// The first present message that is not done is handled: it joins the done events, and what it sends goes to the outbox.
     /// The answer is that message, or none where there is none.
     pub fn run(&mut self) -> Result<Option<Message>, ProcFault>
-        ensures ran { OnOk result (Does (rules_of R.plain R.counter) R.is_value (λ opening. run_one (rules_of R.plain R.counter)) self.old self.new) }
+        ensures ran { OnOk result (Does (rules_of R.plain R.counter) R.is_value (λ opening. run_one (rules_of R.plain R.counter)) self.old.queues self.new.queues) }
         ensures handled { IfOk result (λ message. (opening : R) (part : Part Message R) →
-            StandsFor (rules_of R.plain R.counter) R.is_value opening part self.old → message ≡ next_of (rules_of R.plain R.counter) part) }
-        ensures next { IfOk result (λ message. message ≡ next_in (rules_of R.plain R.counter) self.old) }
-        ensures tray { self.new.tray ≡ self.old.tray }
-        ensures exhausted { result ≡ Err Exhausted →
-            IsSome (next_in (rules_of R.plain R.counter) self.old) × (greatest_number < R.counter self.old.state + 24) }
-        ensures unchanged { OnErr result (self.new ≡ self.old) }
+            StandsFor (rules_of R.plain R.counter) R.is_value opening part self.old.queues → message ≡ next_of (rules_of R.plain R.counter) part) }
+        ensures next { IfOk result (λ message. message ≡ next_in (rules_of R.plain R.counter) self.old.queues) }
+        ensures tray { self.new.queues.tray ≡ self.old.queues.tray }
+        ensures exhausted { (result ≡ Err Exhausted) ↔
+            IsSome (next_in (rules_of R.plain R.counter) self.old.queues) × (greatest_number < R.counter self.old.queues.state + 24) }
+        ensures unchanged { OnErr result (self.new.queues ≡ self.old.queues) }
     {
         actor_rules::<R>();
         let Some(message) = self.next() else {
@@ -201,10 +211,10 @@ impl<R: Actor> Process<R> {
 
     /// The letters of the outbox go in order behind those in the mail, and the outbox is left empty.
     pub fn post(&mut self, mail: &mut Mail) -> Result<(), ProcFault>
-        ensures emptied { OnOk result (Does (rules_of R.plain R.counter) R.is_value (λ opening. emptied) self.old self.new) }
-        ensures posted { OnOk result (mail.new ≡ mail.old ++ self.old.outbox) }
-        ensures queues { OnOk result (self.new ≡ record self.old { outbox = [] }) }
-        ensures unchanged { OnErr result (self.new ≡ self.old) }
+        ensures emptied { OnOk result (Does (rules_of R.plain R.counter) R.is_value (λ opening. emptied) self.old.queues self.new.queues) }
+        ensures posted { OnOk result (mail.new ≡ mail.old ++ self.old.queues.outbox) }
+        ensures queues { OnOk result (self.new.queues ≡ record self.old.queues { outbox = [] }) }
+        ensures unchanged { OnErr result (self.new.queues ≡ self.old.queues) }
         ensures mail_unchanged { OnErr result (mail.new ≡ mail.old) }
         ensures memory { IfErr result (λ fault. fault ≡ OutOfMemory) }
     {
@@ -215,9 +225,9 @@ impl<R: Actor> Process<R> {
     /// Undoes all done events, the newest first, each with its record, and gives the actor back. Nothing is sent.
     pub fn undo_all(self) -> R
         ensures undone { (opening : R) (part : Part Message R) →
-            StandsFor (rules_of R.plain R.counter) R.is_value opening part self → result ≡ undo_all (rules_of R.plain R.counter) opening part }
+            StandsFor (rules_of R.plain R.counter) R.is_value opening part self.queues → result ≡ undo_all (rules_of R.plain R.counter) opening part }
         ensures committed { (opening : R) (part : Part Message R) →
-            StandsFor (rules_of R.plain R.counter) R.is_value opening part self → result ≡ reached (rules_of R.plain R.counter) opening part.committed }
+            StandsFor (rules_of R.plain R.counter) R.is_value opening part self.queues → result ≡ reached (rules_of R.plain R.counter) opening part.committed }
     {
         actor_rules::<R>();
         let Process {

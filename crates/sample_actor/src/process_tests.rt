@@ -54,6 +54,19 @@ fn handles_three_messages_and_undoes_them(rt: HostRuntime) -> Result<(), Fail> {
 }
 
 #[test]
+fn letters_go_where_room_was_made(rt: HostRuntime) -> Result<(), Fail> {
+    let until = Time::new(LATEST_NS).expect(&rt, "a moment within the limits");
+    let mut process = Process::new(rt.alloc(), Summing::new(until));
+    process.reserve_letters(3)?;
+    for ns in [10, 20, 30] {
+        let letter = plus(ns, 0).expect(&rt, "a moment within the limits");
+        process.deliver(letter)?;
+    }
+    assert_eq!(rt; process.tray_len(), 3);
+    Ok(())
+}
+
+#[test]
 fn without_numbers_a_message_is_not_handled(rt: HostRuntime) -> Result<(), Fail> {
     let until = Time::new(LATEST_NS).expect(&rt, "a moment within the limits");
     let mut actor = Summing::new(until);

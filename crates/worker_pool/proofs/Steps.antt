@@ -1,11 +1,12 @@
 -- Steps of one process, one after another.
-use Rattle.std.proofs.Common.{◌≡◌, ℕ, zero, suc, ◌+◌, ◌<◌, ◌≤◌, ◌⊎◌, inl, inr, Option, IsSomeAnd, List, [], ◌∷◌, ◌++◌, length, drop, replicate, refl, sym, ap, ◌∙◌, subst, arith, append_assoc, append-nil}
+use Rattle.std.proofs.Common.{◌≡◌, ℕ, zero, suc, ◌+◌, ◌<◌, ◌≤◌, ◌⊎◌, inl, inr, Bool, true, false, cond, Option, Some, None, IsSomeAnd, List, [], ◌∷◌, ◌++◌, length, drop, replicate, refl, sym, ap, ◌∙◌, subst, arith, append_assoc, append-nil}
 use Rattle.std.proofs.lemmas.List.{replicate_more}
 use Rattle.std.proofs.lemmas.Bool.{cases_lt}
 use Rattle.vlink.specs.declared.message.Message.{Message}
 use Rattle.vlink.specs.declared.message.Letter.{Letter}
 use Rattle.virtual_time.specs.Rules.{Rules}
-use Rattle.virtual_time.specs.Part.{Part}
+use Rattle.virtual_time.specs.Letters.{Letter as Signed}
+use Rattle.virtual_time.specs.Part.{Part, arrive, arrived, counted, is_turned, rolled_back, run_one, next_of, handled}
 use Rattle.process_queues.specs.Queues.{Queues, StandsFor, next_in}
 use Rattle.process_queues.proofs.Mailing.{drop-next}
 use Rattle.worker_pool.specs.declared.step.Step.{Step}
@@ -19,6 +20,32 @@ module _ {S K N : Type 0} (r : Rules Message S K N) where
   moved-append opening (Arrive p ∷ xs) ys part = moved-append opening xs ys _
   moved-append opening (Run p ∷ xs) ys part = moved-append opening xs ys _
   moved-append opening (Post p ∷ xs) ys part = moved-append opening xs ys part
+
+  -- what a process does on its own commits nothing
+  arrive-commits : (opening : S) (part : Part Message S) → (arrive r opening part).committed ≡ part.committed
+  arrive-commits opening part = go part.tray
+    where
+      turned : (b : Bool) (l : Signed Message) (rest : List (Signed Message)) →
+          (cond b (rolled_back r opening l.message (counted r l rest part)) (counted r l rest part)).committed ≡ part.committed
+      turned true l rest = refl
+      turned false l rest = refl
+      go : (ls : List (Signed Message)) → (arrived r opening part ls).committed ≡ part.committed
+      go [] = refl
+      go (l ∷ rest) = turned (is_turned r l part.tally) l rest
+
+  run-commits : (part : Part Message S) → (run_one r part).committed ≡ part.committed
+  run-commits part = go (next_of r part)
+    where
+      go : (o : Option Message) → (handled r part o).committed ≡ part.committed
+      go None = refl
+      go (Some m) = refl
+
+  pub moved-commits : (opening : S) (xs : List Step) (part : Part Message S) → (moved r opening xs part).committed ≡ part.committed
+  moved-commits opening [] part = refl
+  moved-commits opening (Take p i ∷ xs) part = moved-commits opening xs part
+  moved-commits opening (Arrive p ∷ xs) part = moved-commits opening xs (arrive r opening part) ∙ arrive-commits opening part
+  moved-commits opening (Run p ∷ xs) part = moved-commits opening xs (run_one r part) ∙ run-commits part
+  moved-commits opening (Post p ∷ xs) part = moved-commits opening xs part
 
   pub new-drop : (done : List Message) (n : ℕ) (ls : List Letter) → AreNew r done ls → AreNew r done (drop n ls)
   new-drop done zero ls h = h

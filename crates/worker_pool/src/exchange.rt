@@ -1,7 +1,9 @@
 ghost use Rattle.std.specs.Prelude.{◌≡◌, ◌≢◌, ◌≤◌, ◌+◌, ℕ, [], ◌∷◌, ◌++◌, length, min, drop, take, replicate, slice_get, vec_len, vec_capacity, ◌<◌, OnOk, OnErr, IfOk, IfErr};
 ghost use Rattle.process_queues.specs.Mail.{letters_for};
-ghost use Rattle.process_queues.specs.Queues.{StandsFor};
-ghost use Rattle.virtual_time.specs.Part.{opened};
+ghost use Rattle.process_queues.specs.Queues.{StandsFor, Does, delivered_all};
+ghost use Rattle.virtual_time.specs.Part.{Part, opened, emptied, undo_all};
+ghost use Rattle.virtual_time.specs.Rules.{reached};
+ghost use Rattle.vlink.specs.declared.message.Message.{Message};
 ghost use Rattle.worker_pool.specs.declared.fault.PoolFault.TheVariants.{OutOfMemory};
 ghost use Rattle.reverse.specs.Rules.{rules_of};
 ghost use Rattle.worker_pool.specs.declared.step.Step.TheVariants.{Take, Post};
@@ -28,7 +30,7 @@ impl<R: Actor> Model for Held<R> {
 
     ghost Value = { Hand R R.Record };
 
-    ghost view = { λ h. record { number = h.number; queues = h.process; block = h.block.items } };
+    ghost view = { λ h. record { number = h.number; queues = h.process.queues; block = h.block.items } };
 }
 
 /// Where processes exchange their letters: the mail, and the journal of all steps so far.
@@ -53,6 +55,17 @@ impl<R: Actor> Held<R> {
         ensures { result ≡ length self.now.block }
     {
         self.block.len() as u64
+    }
+
+    /// Undoes all done events of the process, the newest first, each with its record, and gives the actor back. Nothing is sent.
+    pub fn undo_all(self) -> R
+        ensures undone { (opening : R) (part : Part Message R) →
+            StandsFor (rules_of R.plain R.counter) R.is_value opening part self.queues → result ≡ undo_all (rules_of R.plain R.counter) opening part }
+        ensures committed { (opening : R) (part : Part Message R) →
+            StandsFor (rules_of R.plain R.counter) R.is_value opening part self.queues → result ≡ reached (rules_of R.plain R.counter) opening part.committed }
+    {
+        let Held { process, .. } = self;
+        process.undo_all()
     }
 }
 
@@ -132,6 +145,8 @@ pub fn collect<R: Actor>(
     most: u32,
 ) -> Result<u32, PoolFault>
     requires { held.old.block ≡ [] }
+    ensures process { IfOk result (λ count. Does (rules_of R.plain R.counter) R.is_value
+        (λ opening. delivered_all (take count (letters_for held.old.number exchange.old.mail))) held.old.queues held.new.queues) }
     ensures count { IfOk result (λ count. count ≡ min most (length (letters_for held.old.number exchange.old.mail))) }
     ensures tray { IfOk result (λ count. held.new ≡ record held.old {
       queues = record held.old.queues { tray = held.old.queues.tray ++ take count (letters_for held.old.number exchange.old.mail) };
@@ -141,6 +156,7 @@ pub fn collect<R: Actor>(
     ensures journal { IfOk result (λ count. exchange.new.journal ≡ exchange.old.journal ++ replicate count (Take held.old.number 0)) }
     ensures unchanged { OnErr result (held.new ≡ held.old) }
     ensures exchange_unchanged { OnErr result (exchange.new ≡ exchange.old) }
+    ensures memory { IfErr result (λ fault. fault ≡ OutOfMemory) }
 {
     let count = exchange.mail.count(held.number).min(most as usize);
     exchange.journal.reserve(count)?;
@@ -168,6 +184,8 @@ fn push_copies(steps: &mut Vec<Step>, step: Step, count: usize)
 /// The process's outbox goes to the mail, in order; its block and then the post are entered in the journal. With an empty block
 /// nothing changes. A refusal changes nothing.
 pub fn post<R: Actor>(held: &mut Held<R>, exchange: &mut Exchange) -> Result<(), PoolFault>
+    ensures process { OnOk result (held.old.block ≢ [] →
+        Does (rules_of R.plain R.counter) R.is_value (λ opening. emptied) held.old.queues held.new.queues) }
     ensures journal { OnOk result (held.old.block ≢ [] → exchange.new.journal ≡ exchange.old.journal ++ held.old.block ++ Post held.old.number ∷ []) }
     ensures mail { OnOk result (held.old.block ≢ [] → exchange.new.mail ≡ exchange.old.mail ++ held.old.queues.outbox) }
     ensures held { OnOk result (held.old.block ≢ [] → held.new ≡ record held.old { queues = record held.old.queues { outbox = [] }; block = [] }) }
@@ -175,6 +193,7 @@ pub fn post<R: Actor>(held: &mut Held<R>, exchange: &mut Exchange) -> Result<(),
     ensures idle_exchange { OnOk result (held.old.block ≡ [] → exchange.new ≡ exchange.old) }
     ensures unchanged { OnErr result (held.new ≡ held.old) }
     ensures exchange_unchanged { OnErr result (exchange.new ≡ exchange.old) }
+    ensures memory { IfErr result (λ fault. fault ≡ OutOfMemory) }
 {
     if held.block.is_empty() {
         return Ok(());

@@ -1,6 +1,9 @@
 //! What a process in hand does on its own.
-ghost use Rattle.std.specs.Prelude.{◌≡◌, ◌<◌, ◌≤◌, ◌+◌, ◌++◌, ◌⊎◌, ◌↔◌, ℕ, [], ◌∷◌, IsTrue, IsSomeAnd, length, replicate, OnOk, OnErr, IfOk};
+ghost use Rattle.std.specs.Prelude.{◌≡◌, ◌<◌, ◌≤◌, ◌+◌, ◌++◌, ◌⊎◌, ◌↔◌, ℕ, [], ◌∷◌, IsTrue, IsSome, IsSomeAnd, length, replicate, OnOk, OnErr, IfOk, IfErr};
 ghost use Rattle.reverse.specs.Rules.{rules_of};
+ghost use Rattle.vlink.specs.Numbering.{greatest_number};
+ghost use Rattle.process_queues.specs.Queues.{next_in};
+ghost use Rattle.worker_pool.specs.declared.fault.PoolFault.TheVariants.{OutOfMemory, Exhausted};
 ghost use Rattle.worker_pool.specs.declared.step.Step.TheVariants.{Arrive, Run};
 ghost use Rattle.worker_pool.specs.Hands.{AreNew, Works, ArrivesSome, IsIdleBefore};
 
@@ -17,6 +20,7 @@ fn arrive_one<R: Actor>(held: &mut Held<R>) -> Result<(), PoolFault>
     requires some { 0 < length held.old.queues.tray }
     ensures arrived { OnOk result (ArrivesSome (rules_of R.plain R.counter) R.is_value held.old held.new 1) }
     ensures unchanged { OnErr result (held.new ≡ held.old) }
+    ensures memory { IfErr result (λ fault. fault ≡ OutOfMemory) }
 {
     let number = u32::from(held.number);
     held.block.reserve(1)?;
@@ -30,6 +34,7 @@ fn arrive_all<R: Actor>(held: &mut Held<R>) -> Result<(), PoolFault>
     requires { AreNew (rules_of R.plain R.counter) held.old.queues.done held.old.queues.tray }
     ensures arrived { OnOk result (ArrivesSome (rules_of R.plain R.counter) R.is_value held.old held.new (length held.old.queues.tray)) }
     ensures some { OnErr result ((count : ℕ) × ArrivesSome (rules_of R.plain R.counter) R.is_value held.old held.new count) }
+    ensures memory { IfErr result (λ fault. fault ≡ OutOfMemory) }
 {
     let letters = held.process.tray_len();
     for arrived in 0..letters {
@@ -50,6 +55,8 @@ fn run_some<R: Actor, G: Gate>(
     ensures within { IfOk result (λ count. count ≤ turn) }
     ensures ends { IfOk result (λ count. (count ≡ turn) ⊎ IsIdleBefore (rules_of R.plain R.counter) until held.new.queues) }
     ensures some { OnErr result ((count : ℕ) × Works (rules_of R.plain R.counter) R.is_value held.old held.new (replicate count (Run held.old.number))) }
+    ensures exhausted { result ≡ Err Exhausted →
+        IsSome (next_in (rules_of R.plain R.counter) held.new.queues) × (greatest_number < R.counter held.new.queues.state + 24) }
 {
     for count in 0..turn {
         if !is_early(held.process.next(), until) {
@@ -74,6 +81,8 @@ fn is_early(message: Option<Message>, until: u64) -> bool
 fn run_one<R: Actor, G: Gate>(held: &mut Held<R>, gate: &G) -> Result<(), PoolFault>
     ensures ran { OnOk result (Works (rules_of R.plain R.counter) R.is_value held.old held.new (Run held.old.number ∷ [])) }
     ensures unchanged { OnErr result (held.new ≡ held.old) }
+    ensures exhausted { result ≡ Err Exhausted →
+        IsSome (next_in (rules_of R.plain R.counter) held.new.queues) × (greatest_number < R.counter held.new.queues.state + 24) }
 {
     let number = held.number;
     let count = held.runs;
@@ -107,6 +116,8 @@ pub fn work<R: Actor, G: Gate>(
         ((count ≡ turn) ⊎ IsIdleBefore (rules_of R.plain R.counter) window held.new.queues)) }
     ensures some { OnErr result ((arrived count : ℕ) ×
         Works (rules_of R.plain R.counter) R.is_value held.old held.new (replicate arrived (Arrive held.old.number) ++ replicate count (Run held.old.number))) }
+    ensures exhausted { result ≡ Err Exhausted →
+        IsSome (next_in (rules_of R.plain R.counter) held.new.queues) × (greatest_number < R.counter held.new.queues.state + 24) }
 {
     let letters = held.process.tray_len();
     arrive_all(held)?;

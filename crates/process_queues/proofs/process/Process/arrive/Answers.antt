@@ -15,7 +15,7 @@ pub invariant_of-self-in-Some : goal.invariant_of-self-in-Some
 invariant_of-self-in-Some g c =
     let i = c.self.invariant in
     let r = rules_of g.R.Reversible.plain g.R.Actor.counter in
-    let front : IsNewFront r c.self.inside.done.items c.self.inside.tray.items = subst (λ q. IsNewFront r q.done q.tray) (sym c.self.view_is) c.requires in
+    let front : IsNewFront r c.self.inside.done.items c.self.inside.tray.items = subst (λ q. IsNewFront r q.queues.done q.queues.tray) (sym c.self.view_is) c.requires in
     let new : IsNewFront r c.self.inside.done.items (c.in-Some.letter ∷ c.pop_front.new.self.items) = subst (IsNewFront r c.self.inside.done.items) c.in-Some.ensures.items front in (
       i.0,
       arrive r i.0 i.1,
@@ -27,9 +27,9 @@ invariant_of-self-in-Some g c =
 pub returns-in-Some-clause-arrived : goal.returns-in-Some-clause-arrived
 returns-in-Some-clause-arrived g c = λ opening part h.
     let r = rules_of g.R.Reversible.plain g.R.Actor.counter in
-    let front : IsNewFront r c.self.inside.done.items c.self.inside.tray.items = subst (λ q. IsNewFront r q.done q.tray) (sym c.self.view_is) c.requires in
+    let front : IsNewFront r c.self.inside.done.items c.self.inside.tray.items = subst (λ q. IsNewFront r q.queues.done q.queues.tray) (sym c.self.view_is) c.requires in
     let new : IsNewFront r c.self.inside.done.items (c.in-Some.letter ∷ c.pop_front.new.self.items) = subst (IsNewFront r c.self.inside.done.items) c.in-Some.ensures.items front in
-    arrived-stands r g.R.Reversible.is_value opening part _ _ (subst (StandsFor r g.R.Reversible.is_value opening part) (sym c.self.view_is) h)
+    arrived-stands r g.R.Reversible.is_value opening part _ _ (subst (λ q. StandsFor r g.R.Reversible.is_value opening part q.queues) (sym c.self.view_is) h)
     c.actor_rules.ensures.order c.actor_rules.ensures.undoes
     c.in-Some.letter c.pop_front.new.self.items c.in-Some.ensures.items new.0 new.1
     (rw (c.push_reserved.ensures.items, c.reserve.ensures.items) refl)

@@ -22,5 +22,5 @@ pub returns-clause-delivered : goal.returns-clause-delivered
 returns-clause-delivered g c = λ opening part h.
     let r = rules_of g.R.Reversible.plain g.R.Actor.counter in
     let taken = take c.min-count.result (letters_for c.args.process c.args.mail.now) in
-    delivered_all-stands r g.R.Reversible.is_value opening taken part _ _ (subst (StandsFor r g.R.Reversible.is_value opening part) (sym c.self.view_is) h)
+    delivered_all-stands r g.R.Reversible.is_value opening taken part _ _ (subst (λ q. StandsFor r g.R.Reversible.is_value opening part q.queues) (sym c.self.view_is) h)
     (rw (c.take_letters.ensures.tray, c.reserve.ensures.items) refl)

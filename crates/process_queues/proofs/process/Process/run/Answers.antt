@@ -17,25 +17,25 @@ invariant_of-self-in_err-reserve-3 g c = rw (c.reserve.ensures.items, c.reserve-
 
 pub returns-in_default-clause-ran : goal.returns-in_default-clause-ran
 returns-in_default-clause-ran g c = λ opening part h.
-    idle-stands (rules_of g.R.Reversible.plain g.R.Actor.counter) c.actor_rules.ensures.order g.R.Reversible.is_value opening part c.args.self.now h
+    idle-stands (rules_of g.R.Reversible.plain g.R.Actor.counter) c.actor_rules.ensures.order g.R.Reversible.is_value opening part c.args.self.now.queues h
     (sym c.in_default.ensures.next)
 
 pub returns-in_default-clause-handled : goal.returns-in_default-clause-handled
 returns-in_default-clause-handled g c = λ opening part h.
-    sym (next-stands (rules_of g.R.Reversible.plain g.R.Actor.counter) c.actor_rules.ensures.order g.R.Reversible.is_value opening part c.args.self.now h
+    sym (next-stands (rules_of g.R.Reversible.plain g.R.Actor.counter) c.actor_rules.ensures.order g.R.Reversible.is_value opening part c.args.self.now.queues h
     ∙ sym c.in_default.ensures.next)
 
 pub returns-clause-handled : goal.returns-clause-handled
 returns-clause-handled g c = λ opening part h.
-    sym (next-stands (rules_of g.R.Reversible.plain g.R.Actor.counter) c.actor_rules.ensures.order g.R.Reversible.is_value opening part c.args.self.now h
+    sym (next-stands (rules_of g.R.Reversible.plain g.R.Actor.counter) c.actor_rules.ensures.order g.R.Reversible.is_value opening part c.args.self.now.queues h
     ∙ sym c.in-Some.ensures.next)
 
 pub returns-clause-ran : goal.returns-clause-ran
 returns-clause-ran g c = λ opening part h.
     let r = rules_of g.R.Reversible.plain g.R.Actor.counter in
-    ran-stands r g.R.Reversible.is_value opening part _ _ (subst (StandsFor r g.R.Reversible.is_value opening part) (sym c.self.view_is) h)
+    ran-stands r g.R.Reversible.is_value opening part _ _ (subst (λ q. StandsFor r g.R.Reversible.is_value opening part q.queues) (sym c.self.view_is) h)
     c.actor_rules.ensures.order c.actor_rules.ensures.undoes c.in-Some.message c.apply-sends.result.1
-    (next-stands r c.actor_rules.ensures.order g.R.Reversible.is_value opening part c.args.self.now h ∙ sym c.in-Some.ensures.next)
+    (next-stands r c.actor_rules.ensures.order g.R.Reversible.is_value opening part c.args.self.now.queues h ∙ sym c.in-Some.ensures.next)
     c.apply-sends.ensures.valid c.apply-sends.ensures.saved
     (rw (
       c.apply-sends.ensures.state,
@@ -53,12 +53,12 @@ pub invariant_of-self-2 : goal.invariant_of-self-2
 invariant_of-self-2 g c =
     let r = rules_of g.R.Reversible.plain g.R.Actor.counter in
     let i = c.self.invariant in
-    let h : StandsFor r g.R.Reversible.is_value i.0 i.1 c.args.self.now = subst (StandsFor r g.R.Reversible.is_value i.0 i.1) c.self.view_is i.2 in (
+    let h : StandsFor r g.R.Reversible.is_value i.0 i.1 c.args.self.now.queues = subst (λ q. StandsFor r g.R.Reversible.is_value i.0 i.1 q.queues) c.self.view_is i.2 in (
       i.0,
       run_one r i.1,
       ran-stands r g.R.Reversible.is_value i.0 i.1 _ _ i.2
           c.actor_rules.ensures.order c.actor_rules.ensures.undoes c.in-Some.message c.apply-sends.result.1
-          (next-stands r c.actor_rules.ensures.order g.R.Reversible.is_value i.0 i.1 c.args.self.now h ∙ sym c.in-Some.ensures.next)
+          (next-stands r c.actor_rules.ensures.order g.R.Reversible.is_value i.0 i.1 c.args.self.now.queues h ∙ sym c.in-Some.ensures.next)
           c.apply-sends.ensures.valid c.apply-sends.ensures.saved
           (rw (
             c.apply-sends.ensures.state,

@@ -23,8 +23,8 @@ loop-kept-init g c =
     let done_len : length c.self.inside.done.items ≡ vec_len c.self.inside.done = omega arith in
     record {
       led = λ opening part h. subst (λ n. LedTo r g.R.Reversible.is_value (reached r opening part.committed) (take n c.self.inside.done.items) c.self.inside.actor c.self.inside.records.items)
-          records_len (led-whole r g.R.Reversible.is_value opening part _ (subst (StandsFor r g.R.Reversible.is_value opening part) (sym c.self.view_is) h));
-      some = (i.0, i.1, subst (StandsFor r g.R.Reversible.is_value i.0 i.1) c.self.view_is i.2);
+          records_len (led-whole r g.R.Reversible.is_value opening part _ (subst (λ q. StandsFor r g.R.Reversible.is_value opening part q.queues) (sym c.self.view_is) h));
+      some = (i.0, i.1, subst (λ q. StandsFor r g.R.Reversible.is_value i.0 i.1 q.queues) c.self.view_is i.2);
       within = let a = as_many r g.R.Reversible.is_value i.0 i.1 _ i.2 in omega arith;
     }
 

@@ -9,10 +9,10 @@ use Rattle.process_queues.proofs.process.Process.undo_all.Given as goal
 
 abbrev pub invariant-loop-kept : goal.invariant-loop-kept
 invariant-loop-kept g l = record {
-  led : (opening : _) (part : Part Message _) → StandsFor (rules_of g.R.Reversible.plain g.R.Actor.counter) g.R.Reversible.is_value opening part l.fn.self →
+  led : (opening : _) (part : Part Message _) → StandsFor (rules_of g.R.Reversible.plain g.R.Actor.counter) g.R.Reversible.is_value opening part l.fn.self.queues →
       LedTo (rules_of g.R.Reversible.plain g.R.Actor.counter) g.R.Reversible.is_value (reached (rules_of g.R.Reversible.plain g.R.Actor.counter) opening part.committed)
       (take (vec_len l.records) l.done.items) l.actor l.records.items;
-  some : (opening : _) × (part : Part Message _) × StandsFor (rules_of g.R.Reversible.plain g.R.Actor.counter) g.R.Reversible.is_value opening part l.fn.self;
+  some : (opening : _) × (part : Part Message _) × StandsFor (rules_of g.R.Reversible.plain g.R.Actor.counter) g.R.Reversible.is_value opening part l.fn.self.queues;
   within : vec_len l.records ≤ vec_len l.done;
 }
 
