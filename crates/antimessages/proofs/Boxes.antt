@@ -1,0 +1,230 @@
+-- The mail of all processes: one box of it changed, one letter put there or taken, and the letters that a process receives.
+use Rattle.std.proofs.Common.{◌≡◌, ℕ, zero, suc, ◌+◌, ◌-◌, ◌<◌, ◌≤◌, ◌==◌, ◌⊎◌, inl, inr, Bool, true, false, cond, List, [], ◌∷◌, ◌++◌, map, filter, set, get_or, length, take, drop, slice_get, remove, All, Option, Some, None, Global, refl, sym, ap, ◌∙◌, subst, arith, append_assoc, append-nil, eqb-true, eq-eqb, ne_eqb}
+use Rattle.std.specs.Prelude.{OnSome, IfNone, IsSome, ◌↔◌, ◌≢◌}
+use Rattle.std.specs.declared.collections.VecDeque.{VecDeque}
+use Rattle.std.specs.VecDeque.{deque_len, deque_capacity}
+use Rattle.std.proofs.lemmas.Bool.{cases_eq, cases_lt, cases_Bool}
+use Rattle.std.proofs.lemmas.List.{map-append, take_more, at_drop_more, length-map, get_or-map}
+use Rattle.std.proofs.lemmas.List.Elements.{filter-append}
+use Rattle.vlink.specs.declared.message.Message.{Message}
+use Rattle.vlink.specs.declared.message.Letter.{Letter}
+use Rattle.virtual_time.specs.Letters.{Letter as Signed, received_by}
+use Rattle.antimessages.specs.Letters.{message_rules, signed, Store}
+use Rattle.antimessages.specs.Mailing.{store_of, letters_in, room_in, letters_for, room_for, HasRoom}
+
+module _ {X Y : Type 0} (f : X → Y) where
+  pub get-here : (xs : List X) (i : ℕ) (x : X) → i < length xs → slice_get (map f (set xs i x)) i ≡ Some (f x)
+  get-here [] i x h = absurd (omega arith)
+  get-here (y ∷ ys) zero x h = refl
+  get-here (y ∷ ys) (suc i) x h = get-here ys i x (omega arith)
+
+  pub get-other : (xs : List X) (i p : ℕ) (x : X) → (p ≡ i → ⊥) → slice_get (map f (set xs i x)) p ≡ slice_get (map f xs) p
+  get-other [] i p x n = refl
+  get-other (y ∷ ys) zero zero x n = absurd (n refl)
+  get-other (y ∷ ys) zero (suc p) x n = refl
+  get-other (y ∷ ys) (suc i) zero x n = refl
+  get-other (y ∷ ys) (suc i) (suc p) x n = get-other ys i p x (λ e. n (ap suc e))
+
+  pub get-at : (xs : List X) (i : ℕ) (x : X) → i < length xs → x ≡ get_or xs i x → slice_get (map f xs) i ≡ Some (f x)
+  get-at [] i x h e = absurd (omega arith)
+  get-at (y ∷ ys) zero x h e = ap (λ z. Some (f z)) (sym e)
+  get-at (y ∷ ys) (suc i) x h e = get-at ys i x (omega arith) e
+
+  pub map-remove : (xs : List X) (i : ℕ) → map f (remove xs i) ≡ remove (map f xs) i
+  map-remove [] zero = refl
+  map-remove [] (suc i) = refl
+  map-remove (y ∷ ys) zero = refl
+  map-remove (y ∷ ys) (suc i) = ap (λ z. f y ∷ z) (map-remove ys i)
+
+  pub remove-past : (xs : List X) (i : ℕ) → length xs ≤ i → remove xs i ≡ xs
+  remove-past [] zero h = refl
+  remove-past [] (suc i) h = refl
+  remove-past (y ∷ ys) zero h = absurd (omega arith)
+  remove-past (y ∷ ys) (suc i) h = ap (λ z. y ∷ z) (remove-past ys i (omega arith))
+
+-- taking a letter out of a box, or none where there is none
+pub taken-items : (o : Option Letter) (old new : VecDeque Letter Global) (i : ℕ) → OnSome o (new.items ≡ remove old.items i) → IfNone o (new ≡ old) →
+    (i < deque_len old → IsSome o) → new.items ≡ remove old.items i
+taken-items (Some x) old new i some none within = some
+taken-items None old new i some none within =
+    ap (λ q. q.items) none ∙ sym (remove-past signed old.items i (elim (cases_lt i old.len) [ inl k ↦ absurd (let n = within k in (cc)) | inr k ↦ let ok = old.ok.0 in omega arith ]))
+
+-- how many letters a process receives
+pub received-filter : (p : ℕ) (ls : List Letter) → received_by message_rules p (map signed ls) ≡ map signed (filter (λ l. l.message.receiver == p) ls)
+received-filter p [] = refl
+received-filter p (l ∷ ls) = go (l.message.receiver == p) (received-filter p ls)
+  where
+    go : (b : Bool) → received_by message_rules p (map signed ls) ≡ map signed (filter (λ l. l.message.receiver == p) ls) →
+        cond b (signed l ∷ received_by message_rules p (map signed ls)) (received_by message_rules p (map signed ls))
+        ≡ map signed (cond b (l ∷ filter (λ l. l.message.receiver == p) ls) (filter (λ l. l.message.receiver == p) ls))
+    go true e = ap (λ z. signed l ∷ z) e
+    go false e = e
+
+-- the letter at a place: those before it and it, and it and those behind
+module _ (p : ℕ) (ls : List Letter) (i : ℕ) (l : Letter) (h : i < length ls) (e : l ≡ get_or ls i l) where
+  pub received-more : received_by message_rules p (map signed (take (i + 1) ls))
+      ≡ received_by message_rules p (map signed (take i ls)) ++ cond (l.message.receiver == p) (signed l ∷ []) []
+  received-more =
+      ap (λ z. received_by message_rules p (map signed z)) (take_more ls i l h ∙ ap (λ z. take i ls ++ z ∷ []) (sym e)) ∙
+      (ap (received_by message_rules p) (map-append signed (take i ls) (l ∷ [])) ∙
+      filter-append (λ (x : Signed Message). x.message.receiver == p) (map signed (take i ls)) (signed l ∷ []))
+
+  pub received-rest : received_by message_rules p (map signed (drop i ls))
+      ≡ cond (l.message.receiver == p) (signed l ∷ received_by message_rules p (map signed (drop (i + 1) ls))) (received_by message_rules p (map signed (drop (i + 1) ls)))
+  received-rest = at_drop_more (λ z. received_by message_rules p (map signed z)) ls i l h ∙
+      ap (λ z. received_by message_rules p (map signed (z ∷ drop (i + 1) ls))) (sym e)
+
+-- a letter that is in a list is received there by its receiver
+pub received-some : (ls : List Letter) (i : ℕ) (l : Letter) → i < length ls → l ≡ get_or ls i l → 0 < length (received_by message_rules l.message.receiver (map signed ls))
+received-some [] i l h e = absurd (omega arith)
+received-some (x ∷ xs) zero l h e =
+    let P : Letter → Type 0 = λ z. 0 < length (received_by message_rules z.message.receiver (map signed (x ∷ xs))) in
+    subst P (sym e) (rw (eq-eqb x.message.receiver x.message.receiver refl) (omega arith))
+received-some (x ∷ xs) (suc i) l h e = go (x.message.receiver == l.message.receiver) (received-some xs i l (omega arith) e)
+  where
+    go : (b : Bool) → 0 < length (received_by message_rules l.message.receiver (map signed xs)) →
+        0 < length (cond b (signed x ∷ received_by message_rules l.message.receiver (map signed xs)) (received_by message_rules l.message.receiver (map signed xs)))
+    go true k = omega arith
+    go false k = k
+
+-- each letter of a list has one of n receivers
+pub receiver-within : (ls : List Letter) (n : ℕ) → All (λ l. l.message.receiver < n) ls → (i : ℕ) (l : Letter) → i < length ls → l ≡ get_or ls i l → l.message.receiver < n
+receiver-within ls n all i l h e = subst (λ x. x.message.receiver < n) (sym e) (all i l h)
+
+-- what is said of the receivers of letters, in the words of the law and in those of the code
+pub receivers-inside : (ls now : List Letter) (seen : List (Signed Message)) (boxes : List (VecDeque Letter Global)) (mail : List Store) →
+    now ≡ ls → map signed ls ≡ seen → map store_of boxes ≡ mail → All (λ l. l.message.receiver < length mail) seen → All (λ l. l.message.receiver < length boxes) now
+receivers-inside ls now seen boxes mail e s m all = λ k d h.
+    let inside : k < length (map signed now) = let a = length-map now signed in omega arith in
+    let b : length mail ≡ length boxes = ap length (sym m) ∙ length-map boxes store_of in
+    let same : seen ≡ map signed now = sym s ∙ ap (map signed) (sym e) in
+    let P : Signed Message → Type 0 = λ l. l.message.receiver < length boxes in
+    subst P (get_or-map signed now k d (signed d) (let a = length-map now signed in omega arith))
+    (subst (λ z. (get_or z k (signed d)).message.receiver < length boxes) same
+    (subst (λ n. (get_or seen k (signed d)).message.receiver < n) b (all k (signed d) (subst (λ z. k < length z) (sym same) inside))))
+
+-- one box is another one now
+module _ (boxes : List (VecDeque Letter Global)) (i : ℕ) (old new : VecDeque Letter Global) (h : i < length boxes) (e : old ≡ get_or boxes i old) where
+  pub old-letters : letters_for i (map store_of boxes) ≡ map signed old.items
+  old-letters = ap letters_in (get-at store_of boxes i old h e)
+
+  pub old-room : room_for i (map store_of boxes) ≡ deque_capacity old - deque_len old
+  old-room = ap room_in (get-at store_of boxes i old h e)
+
+  pub new-letters : letters_for i (map store_of (set boxes i new)) ≡ map signed new.items
+  new-letters = ap letters_in (get-here store_of boxes i new h)
+
+  pub new-room : room_for i (map store_of (set boxes i new)) ≡ deque_capacity new - deque_len new
+  new-room = ap room_in (get-here store_of boxes i new h)
+
+  pub other-letters : (p : ℕ) → (p ≡ i → ⊥) → letters_for p (map store_of (set boxes i new)) ≡ letters_for p (map store_of boxes)
+  other-letters p n = ap letters_in (get-other store_of boxes i p new n)
+
+  pub other-room : (p : ℕ) → (p ≡ i → ⊥) → room_for p (map store_of (set boxes i new)) ≡ room_for p (map store_of boxes)
+  other-room p n = ap room_in (get-other store_of boxes i p new n)
+
+  -- the letters stay, in more room or less
+  pub same-letters : new.items ≡ old.items → (p : ℕ) → letters_for p (map store_of (set boxes i new)) ≡ letters_for p (map store_of boxes)
+  same-letters k p = elim (cases_eq p i) [
+    | inl a ↦ ap (λ z. letters_for z (map store_of (set boxes i new))) a ∙ (new-letters ∙ (ap (map signed) k ∙ (sym old-letters ∙ ap (λ z. letters_for z (map store_of boxes)) (sym a))))
+    | inr n ↦ other-letters p n
+  ]
+
+  pub more-room : deque_len new ≡ deque_len old → deque_capacity old ≤ deque_capacity new → (p : ℕ) → room_for p (map store_of boxes) ≤ room_for p (map store_of (set boxes i new))
+  more-room k c p = elim (cases_eq p i) [
+    | inl a ↦ subst (λ z. room_for z (map store_of boxes) ≤ room_for z (map store_of (set boxes i new))) (sym a) (let x = old-room in let y = new-room in omega arith)
+    | inr n ↦ let x = other-room p n in omega arith
+  ]
+
+  -- one letter more at the back of its receiver's mail, the one at this place of the outbox
+  module _ (outbox : List Letter) (k : ℕ) (l : Letter) (within : k < length outbox) (there : l ≡ get_or outbox k l) (mine : i ≡ l.message.receiver) where
+    -- it needs room, and so there is room
+    pub room-needed : HasRoom (map store_of boxes) (map signed (drop k outbox)) → deque_len old < deque_capacity old
+    room-needed room =
+        let a = room i in
+        let b = old-room in
+        let c : received_by message_rules i (map signed (drop k outbox)) ≡ signed l ∷ received_by message_rules i (map signed (drop (k + 1) outbox)) =
+        received-rest i outbox k l within there ∙
+        ap (λ z. cond z (signed l ∷ received_by message_rules i (map signed (drop (k + 1) outbox))) (received_by message_rules i (map signed (drop (k + 1) outbox)))) (eq-eqb _ _ (sym mine)) in
+        let d = ap length c in
+        omega arith
+
+    pub put-letters : (first : List (VecDeque Letter Global)) → new.items ≡ old.items ++ l ∷ [] →
+        ((p : ℕ) → letters_for p (map store_of boxes) ≡ letters_for p (map store_of first) ++ received_by message_rules p (map signed (take k outbox))) →
+        (p : ℕ) → letters_for p (map store_of (set boxes i new)) ≡ letters_for p (map store_of first) ++ received_by message_rules p (map signed (take (k + 1) outbox))
+    put-letters first push put p = go (cases_eq p i)
+      where
+        more : (b : Bool) → (l.message.receiver == p) ≡ b → letters_for p (map store_of first) ++ received_by message_rules p (map signed (take (k + 1) outbox))
+            ≡ (letters_for p (map store_of first) ++ received_by message_rules p (map signed (take k outbox))) ++ cond b (signed l ∷ []) []
+        more b e =
+            ap (λ z. letters_for p (map store_of first) ++ z) (received-more p outbox k l within there ∙
+            ap (λ z. received_by message_rules p (map signed (take k outbox)) ++ cond z (signed l ∷ []) []) e) ∙
+            sym (append_assoc (letters_for p (map store_of first)) (received_by message_rules p (map signed (take k outbox))) (cond b (signed l ∷ []) []))
+
+        go : (p ≡ i) ⊎ (p ≡ i → ⊥) → letters_for p (map store_of (set boxes i new)) ≡ letters_for p (map store_of first) ++ received_by message_rules p (map signed (take (k + 1) outbox))
+        go (inl a) =
+            ap (λ z. letters_for z (map store_of (set boxes i new))) a ∙ (new-letters ∙ (ap (map signed) push ∙ (map-append signed old.items (l ∷ []) ∙
+            (ap (λ z. z ++ signed l ∷ []) (sym old-letters ∙ (ap (λ z. letters_for z (map store_of boxes)) (sym a) ∙ put p)) ∙ sym (more true (eq-eqb _ _ (sym mine ∙ sym a)))))))
+        go (inr n) =
+            other-letters p n ∙ (put p ∙ (sym (append-nil _) ∙ sym (more false (ne_eqb _ _ (λ e. n (sym e ∙ sym mine))))))
+
+    pub put-room : deque_len new ≡ deque_len old + 1 → deque_capacity new ≡ deque_capacity old →
+        HasRoom (map store_of boxes) (map signed (drop k outbox)) → HasRoom (map store_of (set boxes i new)) (map signed (drop (k + 1) outbox))
+    put-room n c room p = go (cases_eq p i)
+      where
+        rest : ℕ
+        rest = length (received_by message_rules p (map signed (drop (k + 1) outbox)))
+
+        split : (b : Bool) → (l.message.receiver == p) ≡ b → length (received_by message_rules p (map signed (drop k outbox)))
+            ≡ length (cond b (signed l ∷ received_by message_rules p (map signed (drop (k + 1) outbox))) (received_by message_rules p (map signed (drop (k + 1) outbox))))
+        split b e = ap length (received-rest p outbox k l within there ∙
+            ap (λ z. cond z (signed l ∷ received_by message_rules p (map signed (drop (k + 1) outbox))) (received_by message_rules p (map signed (drop (k + 1) outbox)))) e)
+
+        go : (p ≡ i) ⊎ (p ≡ i → ⊥) → length (received_by message_rules p (map signed (drop (k + 1) outbox))) ≤ room_for p (map store_of (set boxes i new))
+        go (inl a) =
+            let s = split true (eq-eqb _ _ (sym mine ∙ sym a)) in
+            let x = room p in
+            let y = ap (λ z. room_for z (map store_of boxes)) a ∙ old-room in
+            let z = ap (λ z. room_for z (map store_of (set boxes i new))) a ∙ new-room in
+            omega arith
+        go (inr m) =
+            let s = split false (ne_eqb _ _ (λ e. m (sym e ∙ sym mine))) in
+            let x = room p in
+            let y = other-room p m in
+            omega arith
+
+    -- the receiver of this letter has room for all that it receives, as those of the letters before it
+    pub reserve-room : deque_len new ≡ deque_len old → deque_capacity old ≤ deque_capacity new →
+        deque_len new + length (filter (λ x. x.message.receiver == l.message.receiver) outbox) ≤ deque_capacity new →
+        ((p : ℕ) → 0 < length (received_by message_rules p (map signed (take k outbox))) → length (received_by message_rules p (map signed outbox)) ≤ room_for p (map store_of boxes)) →
+        (p : ℕ) → 0 < length (received_by message_rules p (map signed (take (k + 1) outbox))) →
+        length (received_by message_rules p (map signed outbox)) ≤ room_for p (map store_of (set boxes i new))
+    reserve-room n c fits room p some = go (cases_eq p i)
+      where
+        all : length (received_by message_rules l.message.receiver (map signed outbox)) ≡ length (filter (λ x. x.message.receiver == l.message.receiver) outbox)
+        all = ap length (received-filter l.message.receiver outbox) ∙ length-map (filter (λ x. x.message.receiver == l.message.receiver) outbox) signed
+
+        go : (p ≡ i) ⊎ (p ≡ i → ⊥) → length (received_by message_rules p (map signed outbox)) ≤ room_for p (map store_of (set boxes i new))
+        go (inl a) =
+            let x = ap (λ z. length (received_by message_rules z (map signed outbox))) (a ∙ mine) in
+            let y = all in
+            let z = ap (λ z. room_for z (map store_of (set boxes i new))) a ∙ new-room in
+            omega arith
+        go (inr m) =
+            let e : received_by message_rules p (map signed (take (k + 1) outbox)) ≡ received_by message_rules p (map signed (take k outbox)) =
+            received-more p outbox k l within there ∙
+            (ap (λ z. received_by message_rules p (map signed (take k outbox)) ++ cond z (signed l ∷ []) []) (ne_eqb _ _ (λ e. m (sym e ∙ sym mine))) ∙ append-nil _) in
+            let x = room p (subst (λ z. 0 < length z) e some) in
+            let y = other-room p m in
+            omega arith
+
+    -- a growth is refused only where this receiver has too little room
+    pub refused-room : deque_capacity old < deque_len old + length (filter (λ x. x.message.receiver == l.message.receiver) outbox) →
+        HasRoom (map store_of boxes) (map signed outbox) → ⊥
+    refused-room full room =
+        let x = room i in
+        let y = old-room in
+        let z = ap (λ z. length (received_by message_rules z (map signed outbox))) mine in
+        let a = ap length (received-filter l.message.receiver outbox) ∙ length-map (filter (λ x. x.message.receiver == l.message.receiver) outbox) signed in
+        let b = received-some outbox k l within there in
+        omega arith

@@ -1,0 +1,58 @@
+-- What a letter makes of its message, by the message's signed count before it.
+use Rattle.std.proofs.Common.{◌≡◌, ℕ, suc, ◌+◌, ◌<◌, ◌≤◌, ◌⊎◌, inl, inr, Bool, true, false, nat_lt, List, ◌∷◌, ℤ, pos, ◌-ℤ◌, refl, sym, ap, ◌∙◌, subst, arith}
+use Rattle.std.specs.Prelude.{◌≢◌}
+use Rattle.std.proofs.lemmas.Bool.{cases_lt, lt-ltb, ltb-true, false_from_ne_true}
+use Rattle.std.proofs.lemmas.Int.{ints}
+use Rattle.vlink.specs.declared.message.Message.{Message}
+use Rattle.vlink.specs.declared.message.Letter.{Letter}
+use Rattle.vlink.specs.declared.message.Sign.TheVariants.{Plus, Minus}
+use Rattle.virtual_time.specs.Rules.{Rules, IsOrder}
+use Rattle.virtual_time.specs.Lists.{same}
+use Rattle.virtual_time.specs.Letters.{Letter as Signed, pluses, minuses, is_present}
+use Rattle.virtual_time.proofs.Order.{same-refl}
+use Rattle.antimessages.specs.Letters.{signed}
+use Rattle.antimessages.specs.Counting.{change_by, change_between, signed_count}
+use Rattle.antimessages.specs.declared.tally.Change.{Change}
+use Rattle.antimessages.specs.declared.tally.Change.TheVariants.{BecamePresent, BecameAbsent, Same}
+
+not-lt : (a b : ℕ) → b ≤ a → nat_lt a b ≡ false
+not-lt a b h = false_from_ne_true _ (λ t. let k = ltb-true a b t in omega arith)
+
+-- what becomes of presence where there are p plus letters and q minus letters, and then one more of either
+plus-none : (p q : ℕ) → pos p -ℤ pos q ≡ pos 0 → change_between (nat_lt q p) (nat_lt (0 + q) (1 + p)) ≡ BecamePresent
+plus-none p q h = let e : p ≡ q = omega (arith, ints) in rw (not-lt q p (omega arith), lt-ltb (0 + q) (1 + p) (omega arith)) refl
+
+plus-some : (p q : ℕ) → pos p -ℤ pos q ≢ pos 0 → change_between (nat_lt q p) (nat_lt (0 + q) (1 + p)) ≡ Same
+plus-some p q h = elim (cases_lt q p) [
+  | inl more ↦ rw (lt-ltb q p more, lt-ltb (0 + q) (1 + p) (omega arith)) refl
+  | inr less ↦ rw (not-lt q p less, not-lt (0 + q) (1 + p) (let n : p ≢ q = λ e. h (omega (arith, ints)) in omega arith)) refl
+]
+
+minus-one : (p q : ℕ) → pos p -ℤ pos q ≡ pos 1 → change_between (nat_lt q p) (nat_lt (1 + q) (0 + p)) ≡ BecameAbsent
+minus-one p q h = let e : p ≡ 1 + q = omega (arith, ints) in rw (lt-ltb q p (omega arith), not-lt (1 + q) (0 + p) (omega arith)) refl
+
+minus-other : (p q : ℕ) → pos p -ℤ pos q ≢ pos 1 → change_between (nat_lt q p) (nat_lt (1 + q) (0 + p)) ≡ Same
+minus-other p q h = elim (cases_lt q p) [
+  | inl more ↦ rw (lt-ltb q p more, lt-ltb (1 + q) (0 + p) (let n : p ≢ 1 + q = λ e. h (omega (arith, ints)) in omega arith)) refl
+  | inr less ↦ rw (not-lt q p less, not-lt (1 + q) (0 + p) (omega arith)) refl
+]
+
+module _ {S K N : Type 0} (r : Rules Message S K N) (O : IsOrder r) (l : Letter) (tally : List (Signed Message)) where
+  one : same r l.message l.message ≡ true
+  one = same-refl r O l.message
+
+  pub change-plus_none : l.sign ≡ Plus → signed_count r l.message tally ≡ pos 0 → change_by r (signed l) tally ≡ BecamePresent
+  unfolding is_present
+  change-plus_none e h = rw (e, one) (plus-none (pluses r l.message tally) (minuses r l.message tally) h)
+
+  pub change-plus_some : l.sign ≡ Plus → signed_count r l.message tally ≢ pos 0 → change_by r (signed l) tally ≡ Same
+  unfolding is_present
+  change-plus_some e h = rw (e, one) (plus-some (pluses r l.message tally) (minuses r l.message tally) h)
+
+  pub change-minus_one : l.sign ≡ Minus → signed_count r l.message tally ≡ pos 1 → change_by r (signed l) tally ≡ BecameAbsent
+  unfolding is_present
+  change-minus_one e h = rw (e, one) (minus-one (pluses r l.message tally) (minuses r l.message tally) h)
+
+  pub change-minus_other : l.sign ≡ Minus → signed_count r l.message tally ≢ pos 1 → change_by r (signed l) tally ≡ Same
+  unfolding is_present
+  change-minus_other e h = rw (e, one) (minus-other (pluses r l.message tally) (minuses r l.message tally) h)

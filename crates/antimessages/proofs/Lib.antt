@@ -1,0 +1,6 @@
+pub mod Elements
+pub mod Tidy
+pub mod Counts
+pub mod Changes
+pub mod First
+pub mod Boxes

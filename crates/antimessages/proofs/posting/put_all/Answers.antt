@@ -1,0 +1,49 @@
+use Rattle.std.proofs.Common.{◌≡◌, ◌<◌, ◌++◌, length, map, take, refl, sym, ap, ◌∙◌, append-nil, arith}
+use Rattle.std.proofs.Math.ListN.{length-set}
+use Rattle.std.proofs.lemmas.List.{take_all}
+use Rattle.virtual_time.specs.Letters.{received_by}
+use Rattle.antimessages.specs.Letters.{message_rules, signed}
+use Rattle.antimessages.specs.Mailing.{letters_for, store_of}
+use Rattle.antimessages.proofs.Boxes.{receiver-within, room-needed, put-letters, put-room}
+use Rattle.antimessages.proofs.posting.put_all.Goals as goal
+
+pub loop-letter-init : goal.loop-letter-init
+loop-letter-init c = record { processes = refl; put = λ p. sym (append-nil _); room = c.requires.room }
+
+pub index_mut-requires : goal.index_mut-requires
+index_mut-requires c =
+    let within = receiver-within c.args.letters.now _ c.requires.receivers c.loop-letter.letter-index c.letter-item.result c.loop-letter-test.true c.letter-item.is in
+    omega (arith, c.from.ensures, c.loop-letter.invariant.processes, c.loop-letter.boxes.ok.0)
+
+pub push_back_reserved-requires : goal.push_back_reserved-requires
+push_back_reserved-requires c =
+    let boxes = c.loop-letter.boxes.items in
+    let inv = c.loop-letter.invariant in
+    let within = receiver-within c.args.letters.now _ c.requires.receivers c.loop-letter.letter-index c.letter-item.result c.loop-letter-test.true c.letter-item.is in
+    let h : c.from.result < length boxes = omega (arith, c.from.ensures, inv.processes) in
+    room-needed boxes c.from.result c.index_mut.result.now c.index_mut.result.now h c.index_mut.ensures.value
+    c.args.letters.now c.loop-letter.letter-index c.letter-item.result c.loop-letter-test.true c.letter-item.is c.from.ensures inv.room
+
+pub loop-letter-preserved : goal.loop-letter-preserved
+loop-letter-preserved c =
+    let boxes = c.loop-letter.boxes.items in
+    let i = c.from.result in
+    let old = c.index_mut.result.now in
+    let new = c.push_back_reserved.new.self in
+    let inv = c.loop-letter.invariant in
+    let within = receiver-within c.args.letters.now _ c.requires.receivers c.loop-letter.letter-index c.letter-item.result c.loop-letter-test.true c.letter-item.is in
+    let h : i < length boxes = omega (arith, c.from.ensures, inv.processes) in
+    record {
+      processes = length-set boxes i new ∙ inv.processes;
+      put = put-letters boxes i old new h c.index_mut.ensures.value
+          c.args.letters.now c.loop-letter.letter-index c.letter-item.result c.loop-letter-test.true c.letter-item.is c.from.ensures
+          c.args.boxes.now.items c.push_back_reserved.ensures.items inv.put;
+      room = put-room boxes i old new h c.index_mut.ensures.value
+          c.args.letters.now c.loop-letter.letter-index c.letter-item.result c.loop-letter-test.true c.letter-item.is c.from.ensures
+          c.push_back_reserved.ensures.len c.push_back_reserved.ensures.capacity inv.room;
+    }
+
+pub returns-clause-put : goal.returns-clause-put
+returns-clause-put c = λ p.
+    c.loop-letter.invariant.put p ∙
+    ap (λ z. letters_for p (map store_of c.args.boxes.now.items) ++ received_by message_rules p (map signed z)) (take_all c.loop-letter.letter-index c.args.letters.now c.loop-letter-test.false)

@@ -1,0 +1,82 @@
+use Rattle.std.proofs.Common.{◌≡◌, ℕ, ◌<◌, ◌≤◌, inl, inr, length, map, take, refl, sym, ap, ◌∙◌, subst, arith}
+use Rattle.std.proofs.Math.ListN.{length-set}
+use Rattle.std.proofs.lemmas.Bool.{cases_lt}
+use Rattle.std.proofs.lemmas.List.{take_all}
+use Rattle.virtual_time.specs.Letters.{received_by}
+use Rattle.antimessages.specs.Letters.{message_rules, signed}
+use Rattle.antimessages.specs.Mailing.{letters_for, room_for, store_of}
+use Rattle.antimessages.proofs.Boxes.{receiver-within, same-letters, more-room, reserve-room, refused-room}
+use Rattle.antimessages.proofs.posting.reserve_all.Goals as goal
+
+pub loop-letter-init : goal.loop-letter-init
+loop-letter-init c = record { processes = refl; same = λ p. refl; no_less = λ p. omega arith; room = λ p some. absurd (omega arith) }
+
+pub index_mut-requires : goal.index_mut-requires
+index_mut-requires c =
+    let within = receiver-within c.args.letters.now _ c.requires c.loop-letter.letter-index c.letter-item.result c.loop-letter-test.true c.letter-item.is in
+    omega (arith, c.from.ensures, c.loop-letter.invariant.processes, c.loop-letter.boxes.ok.0)
+
+pub returns-in_err-reserve-clause-same : goal.returns-in_err-reserve-clause-same
+returns-in_err-reserve-clause-same c = λ p.
+    let boxes = c.loop-letter.boxes.items in
+    let inv = c.loop-letter.invariant in
+    let within = receiver-within c.args.letters.now _ c.requires c.loop-letter.letter-index c.letter-item.result c.loop-letter-test.true c.letter-item.is in
+    let h : c.from.result < length boxes = omega (arith, c.from.ensures, inv.processes) in
+    same-letters boxes c.from.result c.index_mut.result.now c.reserve.new.self h c.index_mut.ensures.value c.reserve.ensures.items p ∙ inv.same p
+
+pub returns-in_err-reserve-clause-no_less : goal.returns-in_err-reserve-clause-no_less
+returns-in_err-reserve-clause-no_less c = λ p.
+    let boxes = c.loop-letter.boxes.items in
+    let inv = c.loop-letter.invariant in
+    let within = receiver-within c.args.letters.now _ c.requires c.loop-letter.letter-index c.letter-item.result c.loop-letter-test.true c.letter-item.is in
+    let h : c.from.result < length boxes = omega (arith, c.from.ensures, inv.processes) in
+    let a = inv.no_less p in
+    let b = more-room boxes c.from.result c.index_mut.result.now c.reserve.new.self h c.index_mut.ensures.value c.reserve.ensures.len c.reserve.ensures.capacity p in
+    omega arith
+
+pub returns-in_err-reserve-clause-reserved : goal.returns-in_err-reserve-clause-reserved
+returns-in_err-reserve-clause-reserved c = λ room.
+    let boxes = c.loop-letter.boxes.items in
+    let inv = c.loop-letter.invariant in
+    let within = receiver-within c.args.letters.now _ c.requires c.loop-letter.letter-index c.letter-item.result c.loop-letter-test.true c.letter-item.is in
+    let h : c.from.result < length boxes = omega (arith, c.from.ensures, inv.processes) in
+    let full = rw c.count_for.ensures at c.in_err-reserve.ensures.full in
+    absurd (refused-room boxes c.from.result c.index_mut.result.now c.reserve.new.self h c.index_mut.ensures.value
+    c.args.letters.now c.loop-letter.letter-index c.letter-item.result c.loop-letter-test.true c.letter-item.is c.from.ensures full
+    (λ p. let a = room p in let b = inv.no_less p in omega arith))
+
+pub loop-letter-preserved : goal.loop-letter-preserved
+loop-letter-preserved c =
+    let boxes = c.loop-letter.boxes.items in
+    let i = c.from.result in
+    let old = c.index_mut.result.now in
+    let new = c.reserve.new.self in
+    let inv = c.loop-letter.invariant in
+    let within = receiver-within c.args.letters.now _ c.requires c.loop-letter.letter-index c.letter-item.result c.loop-letter-test.true c.letter-item.is in
+    let h : i < length boxes = omega (arith, c.from.ensures, inv.processes) in
+    let fits = rw c.count_for.ensures at c.in_ok-reserve.ensures.ok in
+    record {
+      processes = length-set boxes i new ∙ inv.processes;
+      same = λ p. same-letters boxes i old new h c.index_mut.ensures.value c.reserve.ensures.items p ∙ inv.same p;
+      no_less = λ p.
+          let a = inv.no_less p in
+          let b = more-room boxes i old new h c.index_mut.ensures.value c.reserve.ensures.len c.reserve.ensures.capacity p in
+          omega arith;
+      room = reserve-room boxes i old new h c.index_mut.ensures.value
+          c.args.letters.now c.loop-letter.letter-index c.letter-item.result c.loop-letter-test.true c.letter-item.is c.from.ensures
+          c.reserve.ensures.len c.reserve.ensures.capacity fits inv.room;
+    }
+
+pub returns-clause-same : goal.returns-clause-same
+returns-clause-same c = c.loop-letter.invariant.same
+
+pub returns-clause-room : goal.returns-clause-room
+returns-clause-room c = λ p.
+    let all = ap (λ z. length (received_by message_rules p (map signed z))) (take_all c.loop-letter.letter-index c.args.letters.now c.loop-letter-test.false) in
+    elim (cases_lt 0 (length (received_by message_rules p (map signed c.args.letters.now)))) [
+      | inl some ↦ c.loop-letter.invariant.room p (omega arith)
+      | inr none ↦ omega arith
+    ]
+
+pub returns-clause-no_less : goal.returns-clause-no_less
+returns-clause-no_less c = c.loop-letter.invariant.no_less

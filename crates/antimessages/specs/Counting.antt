@@ -1,0 +1,41 @@
+-- Signed counts: what a letter makes of them, and which present message comes first.
+use Rattle.std.specs.Prelude.{◌≡◌, ◌⊎◌, ℤ, pos, ◌-ℤ◌, Bool, true, false, ◌&&◌, List, [], ◌∷◌, map, filter, Option, Some, None, ⊤}
+use Rattle.std.specs.List.{AllByRecursion}
+use Rattle.virtual_time.specs.Rules.{Rules}
+use Rattle.virtual_time.specs.Lists.{least}
+use Rattle.virtual_time.specs.Letters.{Letter, pluses, minuses, is_present}
+use Rattle.antimessages.specs.declared.tally.Change.{Change}
+use Rattle.antimessages.specs.declared.tally.Change.TheVariants.{BecamePresent, BecameAbsent, Same}
+
+-- from present or not to present or not
+abbrev pub change_between : Bool → Bool → Change
+change_between false true = BecamePresent
+change_between true false = BecameAbsent
+change_between _ _ = Same
+
+module _ {M S K N : Type 0} (r : Rules M S K N) where
+  -- the signed count of m: its plus letters less its minus letters
+  abbrev pub signed_count : M → List (Letter M) → ℤ
+  signed_count m tally = pos (pluses r m tally) -ℤ pos (minuses r m tally)
+
+  -- whether the message of a letter becomes present or absent as the letter enters the tally
+  abbrev pub change_by : Letter M → List (Letter M) → Change
+  change_by l tally = change_between (is_present r tally l.message) (is_present r (l ∷ tally) l.message)
+
+  -- the message comes after another one, if there is one
+  abbrev pub is_after : Option M → M → Bool
+  is_after None m = true
+  is_after (Some newest) m = r.less newest m
+
+  -- the first present message of those that come after another one, if there is one
+  abbrev pub present_after : Option M → List (Letter M) → Option M
+  present_after newest tally = least r (filter (λ m. is_present r tally m && is_after newest m) (map (λ l. l.message) tally))
+
+  -- the letter a can stand before the letter b: its message comes first, or they are the same letter twice
+  abbrev pub CanPrecede : Letter M → Letter M → Type 0
+  CanPrecede a b = (r.less a.message b.message ≡ true) ⊎ (a ≡ b)
+
+  -- the letters stand in the order of their messages, and no message has letters of both signs
+  abbrev pub IsTidy : List (Letter M) → Type 0
+  IsTidy [] = ⊤
+  IsTidy (l ∷ ls) = AllByRecursion (CanPrecede l) ls × IsTidy ls

@@ -1,0 +1,116 @@
+ghost use Rattle.std.specs.Prelude.{◌≡◌, ◌≢◌, ℕ, ◌<◌, ◌≤◌, [], ◌++◌, length, map, remove, slice_get, All, IsOk, OnOk, OnErr, IfOk};
+ghost use Rattle.std.specs.Option.{option_map};
+ghost use Rattle.virtual_time.specs.Letters.{received_by};
+ghost use Rattle.antimessages.specs.Letters.{message_rules, signed};
+ghost use Rattle.antimessages.specs.Mailing.{letters_for, room_for, HasRoom};
+
+use crate::fault::OutOfMemory;
+use crate::outbox::Outbox;
+use crate::posting::{put_all, reserve_all};
+use std::alloc::Global;
+use std::collections::VecDeque;
+use std::marker::Model;
+use vlink::Letter;
+
+/// The letters that were posted and not taken, of each process those that it receives, in the order in which they were posted.
+/// Processes are numbered from 0.
+#[derive(Drop)]
+pub struct Mail {
+    boxes: Vec<VecDeque<Letter>>,
+}
+
+impl Model for Mail {
+    ghost use Rattle.std.specs.Prelude.{List, map};
+    ghost use Rattle.antimessages.specs.Letters.{Store};
+    ghost use Rattle.antimessages.specs.Mailing.{store_of};
+
+    ghost Value = { List Store };
+
+    ghost view = { λ m. map store_of m.boxes.items };
+}
+
+impl Mail {
+    /// No letter, for so many processes.
+    pub fn new(alloc: Global, processes: u16) -> Result<Self, OutOfMemory>
+        ensures processes { IfOk result (λ mail. length mail ≡ processes) }
+        ensures none { IfOk result (λ mail. (p : ℕ) → letters_for p mail ≡ []) }
+    {
+        let mut boxes = Vec::with_capacity(alloc, usize::from(processes))?;
+        for process in 0..processes {
+            boxes.push_reserved(VecDeque::new(alloc));
+        }
+        Ok(Mail { boxes })
+    }
+
+    /// How many processes there are.
+    pub fn processes(&self) -> usize
+        ensures { result ≡ length self.now }
+    {
+        self.boxes.len()
+    }
+
+    /// How many letters there are for this process; 0 where there is no such process.
+    pub fn count(&self, process: u16) -> usize
+        ensures { result ≡ length (letters_for process self.now) }
+    {
+        match self.boxes.get(usize::from(process)) {
+            Some(letters) => letters.len(),
+            None => 0,
+        }
+    }
+
+    /// The letter number `place`, from 0, of those for this process: the one that `take` would give. None where there is none.
+    pub fn look(&self, process: u16, place: usize) -> Option<Letter>
+        ensures { option_map signed result ≡ slice_get (letters_for process self.now) place }
+    {
+        match self.boxes.get(usize::from(process)) {
+            Some(letters) => letters.get(place).copied(),
+            None => None,
+        }
+    }
+
+    /// Takes the letter number `place`, from 0, of those for this process; the others keep their order. None, and nothing changes,
+    /// where there is none or no such process.
+    pub fn take(&mut self, process: u16, place: usize) -> Option<Letter>
+        ensures taken { option_map signed result ≡ slice_get (letters_for process self.old) place }
+        ensures left { letters_for process self.new ≡ remove (letters_for process self.old) place }
+        ensures others { (q : ℕ) → q ≢ process → letters_for q self.new ≡ letters_for q self.old }
+        ensures processes { length self.new ≡ length self.old }
+    {
+        if usize::from(process) >= self.boxes.len() {
+            return None;
+        }
+        self.boxes[usize::from(process)].remove(place)
+    }
+
+    /// Makes room, so that `post` of this outbox takes no memory as long as no other call comes between. It is refused only where
+    /// some process had less room.
+    pub fn reserve(&mut self, outbox: &Outbox) -> Result<(), OutOfMemory>
+        requires { All (λ letter. letter.message.receiver < length self.old) outbox.now.letters }
+        ensures same { (p : ℕ) → letters_for p self.new ≡ letters_for p self.old }
+        ensures processes { length self.new ≡ length self.old }
+        ensures room { OnOk result (HasRoom self.new outbox.now.letters) }
+        ensures no_less { (p : ℕ) → room_for p self.old ≤ room_for p self.new }
+        ensures reserved { HasRoom self.old outbox.now.letters → IsOk result }
+    {
+        reserve_all(&mut self.boxes, &outbox.letters)?;
+        Ok(())
+    }
+
+    /// The letters of the outbox go in order to the back of the mail of their receivers, and the outbox is left empty. Where there
+    /// is room this takes no memory and succeeds; a refusal changes nothing.
+    pub fn post(&mut self, outbox: &mut Outbox) -> Result<(), OutOfMemory>
+        requires { All (λ letter. letter.message.receiver < length self.old) outbox.old.letters }
+        ensures posted { OnOk result ((p : ℕ) → letters_for p self.new ≡ letters_for p self.old ++ received_by message_rules p outbox.old.letters) }
+        ensures emptied { OnOk result (outbox.new.letters ≡ []) }
+        ensures unchanged { OnErr result ((p : ℕ) → letters_for p self.new ≡ letters_for p self.old) }
+        ensures kept { OnErr result (outbox.new.letters ≡ outbox.old.letters) }
+        ensures processes { length self.new ≡ length self.old }
+        ensures reserved { HasRoom self.old outbox.old.letters → IsOk result }
+    {
+        reserve_all(&mut self.boxes, &outbox.letters)?;
+        put_all(&mut self.boxes, &outbox.letters);
+        outbox.letters.clear();
+        Ok(())
+    }
+}

@@ -1,0 +1,67 @@
+ghost use Rattle.std.specs.Prelude.{◌≡◌, ◌+◌, ◌<◌, ◌≤◌, [], ◌∷◌, ◌++◌, map, IsOk, OnOk, OnErr};
+ghost use Rattle.antimessages.specs.Letters.{signed};
+
+use crate::fault::OutOfMemory;
+use std::alloc::Global;
+use std::marker::Model;
+use vlink::Letter;
+
+/// The letters of one process that wait to be posted, in the order in which they were made.
+#[derive(Drop)]
+pub struct Outbox {
+    pub(crate) letters: Vec<Letter>,
+}
+
+impl Model for Outbox {
+    ghost use Rattle.std.specs.Prelude.{◌-◌, map, vec_len, vec_capacity};
+    ghost use Rattle.antimessages.specs.Letters.{Store, signed};
+
+    ghost Value = { Store };
+
+    ghost view = { λ b. record { letters = map signed b.letters.items; room = vec_capacity b.letters - vec_len b.letters } };
+}
+
+impl Outbox {
+    /// No letter. It takes no memory.
+    pub fn new(alloc: Global) -> Self
+        ensures { result.letters ≡ [] }
+    {
+        Outbox {
+            letters: Vec::new(alloc),
+        }
+    }
+
+    /// The letters, the first made at the front.
+    pub fn letters(&self) -> &[Letter]
+        ensures { map signed result.now ≡ self.now.letters }
+    {
+        &self.letters
+    }
+
+    /// The letter goes to the back. Where there is room this takes no memory and succeeds; a refusal changes nothing.
+    pub fn push(&mut self, letter: Letter) -> Result<(), OutOfMemory>
+        ensures pushed { OnOk result (self.new.letters ≡ self.old.letters ++ signed letter ∷ []) }
+        ensures unchanged { OnErr result (self.new.letters ≡ self.old.letters) }
+        ensures reserved { 0 < self.old.room → IsOk result }
+        ensures room { self.old.room ≤ self.new.room + 1 }
+    {
+        self.letters.reserve(1)?;
+        self.letters.push_reserved(Letter {
+            message: letter.message,
+            sign: letter.sign,
+        });
+        Ok(())
+    }
+
+    /// Makes room for `count` more letters, so that as many calls of `push` take no memory. It is refused only where there was
+    /// less room.
+    pub fn reserve(&mut self, count: usize) -> Result<(), OutOfMemory>
+        ensures same { self.new.letters ≡ self.old.letters }
+        ensures room { OnOk result (count ≤ self.new.room) }
+        ensures no_less { self.old.room ≤ self.new.room }
+        ensures reserved { count ≤ self.old.room → IsOk result }
+    {
+        self.letters.reserve(count)?;
+        Ok(())
+    }
+}

@@ -1,0 +1,51 @@
+//! Room for letters with their receivers, and the letters put there.
+ghost use Rattle.std.specs.Prelude.{◌≡◌, ℕ, ◌<◌, ◌≤◌, ◌==◌, ◌++◌, length, map, filter, All, IsOk, OnOk};
+ghost use Rattle.virtual_time.specs.Letters.{received_by};
+ghost use Rattle.antimessages.specs.Letters.{message_rules, signed};
+ghost use Rattle.antimessages.specs.Mailing.{letters_for, room_for, HasRoom, store_of};
+
+use std::alloc::AllocError;
+use std::collections::VecDeque;
+use vlink::Letter;
+
+/// Makes room in the mail of each receiver for all letters that it receives.
+pub(crate) fn reserve_all(
+    boxes: &mut Vec<VecDeque<Letter>>,
+    letters: &[Letter],
+) -> Result<(), AllocError>
+    requires { All (λ letter. letter.message.receiver < length boxes.old.items) letters.now }
+    ensures same { (p : ℕ) → letters_for p (map store_of boxes.new.items) ≡ letters_for p (map store_of boxes.old.items) }
+    ensures processes { length boxes.new.items ≡ length boxes.old.items }
+    ensures room { OnOk result (HasRoom (map store_of boxes.new.items) (map signed letters.now)) }
+    ensures no_less { (p : ℕ) → room_for p (map store_of boxes.old.items) ≤ room_for p (map store_of boxes.new.items) }
+    ensures reserved { HasRoom (map store_of boxes.old.items) (map signed letters.now) → IsOk result }
+{
+    for letter in letters {
+        let receiver = letter.message.receiver;
+        boxes[usize::from(receiver)].reserve(count_for(letters, receiver))?;
+    }
+    Ok(())
+}
+
+/// How many of the letters this process receives.
+fn count_for(letters: &[Letter], receiver: u16) -> usize
+    ensures { result ≡ length (filter (λ letter. letter.message.receiver == receiver) letters.now) }
+{
+    letters
+        .iter()
+        .filter(|letter| letter.message.receiver == receiver)
+        .count()
+}
+
+/// Each letter goes to the back of the mail of its receiver, in order. There is room for all.
+pub(crate) fn put_all(boxes: &mut Vec<VecDeque<Letter>>, letters: &[Letter])
+    requires receivers { All (λ letter. letter.message.receiver < length boxes.old.items) letters.now }
+    requires room { HasRoom (map store_of boxes.old.items) (map signed letters.now) }
+    ensures put { (p : ℕ) → letters_for p (map store_of boxes.new.items)
+        ≡ letters_for p (map store_of boxes.old.items) ++ received_by message_rules p (map signed letters.now) }
+    ensures processes { length boxes.new.items ≡ length boxes.old.items }
+{
+    for letter in letters {
+        boxes[usize::from(letter.message.receiver)].push_back_reserved(*letter);
+    }
+}
