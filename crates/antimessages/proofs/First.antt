@@ -67,12 +67,12 @@ module _ {S K N : Type 0} (r : Rules Message S K N) (O : IsOrder r) where
         present_after r newest (map signed ls) ≡ option_map (λ l. l.message) (find (λ l. is_plus l.sign) suf)
     first-split pre [] e front behind =
         ap (least r) (filter-none r O wanted (map (λ l. l.message) (map signed ls)) (λ m i.
-            false_from_ne_true _ (λ t.
-                let a = and_parts (is_present r (map signed ls) m) (is_after r newest m) t in
-                let b = present-true r O (map signed ls) m a.0 in
-                let c = all_pluses pre [] e m in
-                let d = front m a.1 in
-                omega arith)))
+        false_from_ne_true _ (λ t.
+        let a = and_parts (is_present r (map signed ls) m) (is_after r newest m) t in
+        let b = present-true r O (map signed ls) m a.0 in
+        let c = all_pluses pre [] e m in
+        let d = front m a.1 in
+        omega arith)))
     first-split pre (y ∷ zs) e front behind = go (is_plus y.sign) refl (first-split (pre ++ y ∷ []) zs)
       where
         the_first : is_plus y.sign ≡ true → IsLeast r O y.message (filter wanted (map (λ l. l.message) (map signed ls)))
@@ -103,11 +103,11 @@ module _ {S K N : Type 0} (r : Rules Message S K N) (O : IsOrder r) where
         go false s ih = ih
             (e ∙ sym (append_assoc pre (y ∷ []) zs))
             (λ x a.
-                let b = ap (pluses r x) (map-append signed pre (y ∷ [])) in
-                let c = pluses-append r O x (map signed pre) (map signed (y ∷ [])) in
-                let d = front x a in
-                let none : pluses r x (map signed (y ∷ [])) ≡ 0 = rw s (omega arith) in
-                omega arith)
+            let b = ap (pluses r x) (map-append signed pre (y ∷ [])) in
+            let c = pluses-append r O x (map signed pre) (map signed (y ∷ [])) in
+            let d = front x a in
+            let none : pluses r x (map signed (y ∷ [])) ≡ 0 = rw s (omega arith) in
+            omega arith)
             behind.1
 
     -- the same by the place where the messages that come after the newest begin
