@@ -1,5 +1,5 @@
 -- What a letter makes of its message, by the message's signed count before it.
-use Rattle.std.proofs.Common.{◌≡◌, ℕ, suc, ◌+◌, ◌<◌, ◌≤◌, ◌⊎◌, inl, inr, Bool, true, false, nat_lt, List, ◌∷◌, ℤ, pos, ◌-ℤ◌, refl, sym, ap, ◌∙◌, subst, arith}
+use Rattle.std.proofs.Common.{◌≡◌, ℕ, ◌+◌, ◌≤◌, inl, inr, true, false, nat_lt, List, pos, ◌-ℤ◌, refl, arith}
 use Rattle.std.specs.Prelude.{◌≢◌}
 use Rattle.std.proofs.lemmas.Bool.{cases_lt, lt-ltb, ltb-true, false_from_ne_true}
 use Rattle.std.proofs.lemmas.Int.{ints}
@@ -12,7 +12,6 @@ use Rattle.virtual_time.specs.Letters.{Letter as Signed, pluses, minuses, is_pre
 use Rattle.virtual_time.proofs.Order.{same-refl}
 use Rattle.antimessages.specs.Letters.{signed}
 use Rattle.antimessages.specs.Counting.{change_by, change_between, signed_count}
-use Rattle.antimessages.specs.declared.tally.Change.{Change}
 use Rattle.antimessages.specs.declared.tally.Change.TheVariants.{BecamePresent, BecameAbsent, Same}
 
 not-lt : (a b : ℕ) → b ≤ a → nat_lt a b ≡ false

@@ -1,18 +1,18 @@
 -- How many letters of a message there are among letters in the order of their messages.
-use Rattle.std.proofs.Common.{◌≡◌, ℕ, zero, suc, ◌+◌, ◌<◌, ◌≤◌, ◌⊎◌, inl, inr, Bool, true, false, not, ◌&&◌, cond, List, [], ◌∷◌, ◌++◌, map, length, take, drop, slice_get, Some, ℤ, pos, ◌+ℤ◌, ◌-ℤ◌, refl, sym, ap, ◌∙◌, subst, arith}
+use Rattle.std.proofs.Common.{◌≡◌, ℕ, zero, suc, ◌<◌, ◌≤◌, ◌⊎◌, inl, inr, Bool, true, false, not, cond, List, [], ◌∷◌, map, length, take, drop, slice_get, Some, ℤ, pos, ◌+ℤ◌, ◌-ℤ◌, refl, sym, ap, ◌∙◌, subst, arith}
 use Rattle.std.specs.Prelude.{insert, remove, ◌≢◌, ◌<ℤ◌, ⊤}
 use Rattle.std.specs.List.{AllByRecursion}
-use Rattle.std.proofs.lemmas.Bool.{both_ways, cases_lt}
+use Rattle.std.proofs.lemmas.Bool.{both_ways}
 use Rattle.std.proofs.lemmas.Int.{ints}
 use Rattle.vlink.specs.declared.message.Message.{Message}
 use Rattle.vlink.specs.declared.message.Letter.{Letter}
 use Rattle.vlink.specs.declared.message.Sign.{Sign}
 use Rattle.vlink.specs.declared.message.Sign.TheVariants.{Plus, Minus}
 use Rattle.virtual_time.specs.Rules.{Rules, IsOrder}
-use Rattle.virtual_time.specs.Lists.{one_if, same}
+use Rattle.virtual_time.specs.Lists.{same}
 use Rattle.virtual_time.specs.Letters.{Letter as Signed, pluses, minuses}
-use Rattle.virtual_time.proofs.Order.{same-refl, same_cases, less-irrefl, less-different, greater-different, different, not_less-cases}
-use Rattle.virtual_time.proofs.Letters.{as_plus, as_minus, as_other, counts-other, pluses-append, minuses-append}
+use Rattle.virtual_time.proofs.Order.{same-refl, same_cases, less-different, greater-different, different, not_less-cases}
+use Rattle.virtual_time.proofs.Letters.{counts-other}
 use Rattle.antimessages.specs.Letters.{signed, is_plus, weight}
 use Rattle.antimessages.specs.Counting.{CanPrecede, IsTidy, signed_count}
 use Rattle.antimessages.proofs.Tidy.{tidy-drop, same_letter}

@@ -1,35 +1,25 @@
 -- The first present message after another one, among letters in the order of their messages.
-use Rattle.std.proofs.Common.{◌≡◌, ℕ, suc, ◌+◌, ◌<◌, ◌≤◌, ◌⊎◌, inl, inr, Bool, true, false, not, ◌&&◌, cond, List, [], ◌∷◌, ◌++◌, map, filter, take, drop, Option, Some, None, refl, sym, ap, ◌∙◌, subst, arith, append_assoc}
+use Rattle.std.proofs.Common.{◌≡◌, ℕ, suc, ◌+◌, ◌<◌, ◌⊎◌, inl, inr, Bool, true, false, ◌&&◌, cond, List, [], ◌∷◌, ◌++◌, map, take, drop, Option, Some, refl, sym, ap, ◌∙◌, subst, arith, append_assoc}
 use Rattle.std.specs.List.{AllByRecursion, find}
 use Rattle.std.specs.Option.{option_map}
-use Rattle.std.proofs.lemmas.Bool.{both_ways, cases_lt, and_parts, and_from, false_from_ne_true}
+use Rattle.std.proofs.lemmas.Bool.{both_ways, and_parts, false_from_ne_true}
 use Rattle.std.proofs.lemmas.List.{map-append, take-append-drop}
 use Rattle.vlink.specs.declared.message.Message.{Message}
 use Rattle.vlink.specs.declared.message.Letter.{Letter}
 use Rattle.virtual_time.specs.Rules.{Rules, IsOrder}
-use Rattle.virtual_time.specs.Lists.{same, IsIn, least}
-use Rattle.virtual_time.specs.Letters.{Letter as Signed, pluses, minuses, is_present}
+use Rattle.virtual_time.specs.Lists.{same, least}
+use Rattle.virtual_time.specs.Letters.{pluses, is_present}
 use Rattle.virtual_time.proofs.Order.{same_cases, same-refl, less-asym, different}
-use Rattle.virtual_time.proofs.Lists.{in-head, in-filter, in-filter_from, filter-none}
-use Rattle.virtual_time.proofs.Least.{IsLeast}
-use Rattle.virtual_time.proofs.Letters.{as_plus, as_other, counts-other, pluses-append}
-use Rattle.virtual_time.proofs.Presence.{present-true, present-from}
-use Rattle.virtual_time.proofs.Reading.{least-from}
+use Rattle.virtual_time.proofs.Lists.{filter-none}
+use Rattle.virtual_time.proofs.Letters.{counts-other, pluses-append}
+use Rattle.virtual_time.proofs.Presence.{present-true}
 use Rattle.antimessages.specs.Letters.{signed, is_plus}
 use Rattle.antimessages.specs.Counting.{CanPrecede, IsTidy, is_after, present_after}
-use Rattle.antimessages.proofs.Elements.{all-right}
+use Rattle.antimessages.proofs.After.{IsFirstAfter, first_after-from}
 use Rattle.antimessages.proofs.Tidy.{tidy-right}
 use Rattle.antimessages.proofs.Counts.{tidy-one_sign}
 
 module _ {S K N : Type 0} (r : Rules Message S K N) (O : IsOrder r) where
-  plus-in : (m : Message) (ls : List (Signed Message)) → 0 < pluses r m ls → IsIn r m (map (λ l. l.message) ls)
-  plus-in m [] h = absurd (omega arith)
-  plus-in m (l ∷ ls) h = go (same_cases r O m l.message) (plus-in m ls)
-    where
-      go : (m ≡ l.message) ⊎ (same r m l.message ≡ false) → (0 < pluses r m ls → IsIn r m (map (λ l. l.message) ls)) → IsIn r m (l.message ∷ map (λ l. l.message) ls)
-      go (inl e) ih = subst (λ y. IsIn r y (l.message ∷ map (λ l. l.message) ls)) (sym e) (in-head r O l.message _)
-      go (inr n) ih = let a = (as_other r O m l n).0 in let b = ih (omega arith) in omega arith
-
   -- the message of a plus letter behind y does not come before that of y
   plus-behind : (y : Letter) (zs : List Letter) (x : Message) → AllByRecursion (CanPrecede r (signed y)) (map signed zs) →
       0 < pluses r x (map signed zs) → r.less x y.message ≡ false
@@ -75,22 +65,17 @@ module _ {S K N : Type 0} (r : Rules Message S K N) (O : IsOrder r) where
         omega arith)))
     first-split pre (y ∷ zs) e front behind = go (is_plus y.sign) refl (first-split (pre ++ y ∷ []) zs)
       where
-        the_first : is_plus y.sign ≡ true → IsLeast r O y.message (filter wanted (map (λ l. l.message) (map signed ls)))
+        the_first : is_plus y.sign ≡ true → IsFirstAfter r O newest (map signed ls) y.message
         the_first s =
             let own : pluses r y.message (map signed (y ∷ zs)) ≡ suc (pluses r y.message (map signed zs)) = rw (s, same-refl r O y.message) (omega arith) in
             let all = all_pluses pre (y ∷ zs) e y.message in
-            let some : 0 < pluses r y.message (map signed ls) = omega arith in
-            let none = tidy-one_sign r O y.message ls tidy some in
+            let none = tidy-one_sign r O y.message ls tidy (omega arith) in
             record {
-              inside = in-filter_from r O wanted y.message (map (λ l. l.message) (map signed ls))
-                  (and_from _ _ (present-from r O (map signed ls) y.message (omega arith)) behind.0)
-                  (plus-in y.message (map signed ls) some);
-              lowest = λ x i.
-                  let k = in-filter r O wanted x (map (λ l. l.message) (map signed ls)) i in
-                  let a = and_parts (is_present r (map signed ls) x) (is_after r newest x) k.0 in
-                  let b = present-true r O (map signed ls) x a.0 in
+              present = omega arith;
+              after = behind.0;
+              first = λ x h a.
                   let c = all_pluses pre (y ∷ zs) e x in
-                  let d = front x a.1 in
+                  let d = front x a in
                   plus-from y zs x (tidy-right r pre (y ∷ zs) (subst (λ z. IsTidy r (map signed z)) e tidy)).0 (omega arith);
             }
 
@@ -99,7 +84,7 @@ module _ {S K N : Type 0} (r : Rules Message S K N) (O : IsOrder r) where
             AllByRecursion (λ l. is_after r newest l.message ≡ true) zs →
             present_after r newest (map signed ls) ≡ option_map (λ l. l.message) (find (λ l. is_plus l.sign) zs)) →
             present_after r newest (map signed ls) ≡ option_map (λ l. l.message) (cond b (Some y) (find (λ l. is_plus l.sign) zs))
-        go true s ih = least-from r O (filter wanted (map (λ l. l.message) (map signed ls))) y.message (the_first s)
+        go true s ih = first_after-from r O newest (map signed ls) y.message (the_first s)
         go false s ih = ih
             (e ∙ sym (append_assoc pre (y ∷ []) zs))
             (λ x a.

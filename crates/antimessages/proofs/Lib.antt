@@ -4,3 +4,5 @@ pub mod Counts
 pub mod Changes
 pub mod First
 pub mod Boxes
+pub mod Agreeing
+pub mod After

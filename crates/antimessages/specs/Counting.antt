@@ -13,10 +13,20 @@ change_between false true = BecamePresent
 change_between true false = BecameAbsent
 change_between _ _ = Same
 
+-- it became present or absent
+abbrev pub is_turn : Change → Bool
+is_turn BecamePresent = true
+is_turn BecameAbsent = true
+is_turn Same = false
+
 module _ {M S K N : Type 0} (r : Rules M S K N) where
   -- the signed count of m: its plus letters less its minus letters
   abbrev pub signed_count : M → List (Letter M) → ℤ
   signed_count m tally = pos (pluses r m tally) -ℤ pos (minuses r m tally)
+
+  -- each message has the same signed count in both: as tallies they are the same
+  abbrev pub HaveSameCounts : List (Letter M) → List (Letter M) → Type 0
+  HaveSameCounts xs ys = (m : M) → signed_count m xs ≡ signed_count m ys
 
   -- whether the message of a letter becomes present or absent as the letter enters the tally
   abbrev pub change_by : Letter M → List (Letter M) → Change

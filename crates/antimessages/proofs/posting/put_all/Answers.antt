@@ -1,4 +1,4 @@
-use Rattle.std.proofs.Common.{◌≡◌, ◌<◌, ◌++◌, length, map, take, refl, sym, ap, ◌∙◌, append-nil, arith}
+use Rattle.std.proofs.Common.{◌<◌, ◌++◌, length, map, refl, sym, ap, ◌∙◌, append-nil, arith}
 use Rattle.std.proofs.Math.ListN.{length-set}
 use Rattle.std.proofs.lemmas.List.{take_all}
 use Rattle.virtual_time.specs.Letters.{received_by}

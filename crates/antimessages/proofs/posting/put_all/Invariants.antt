@@ -1,4 +1,4 @@
-use Rattle.std.proofs.Common.{◌≡◌, ℕ, ◌≤◌, ◌++◌, length, map, take, drop}
+use Rattle.std.proofs.Common.{◌≡◌, ℕ, ◌++◌, length, map, take, drop}
 use Rattle.virtual_time.specs.Letters.{received_by}
 use Rattle.antimessages.specs.Letters.{message_rules, signed}
 use Rattle.antimessages.specs.Mailing.{letters_for, store_of, HasRoom}

@@ -1,10 +1,9 @@
-use Rattle.std.proofs.Common.{◌≡◌, ℕ, ◌<◌, ◌≤◌, inl, inr, length, map, take, refl, sym, ap, ◌∙◌, subst, arith}
+use Rattle.std.proofs.Common.{◌<◌, inl, inr, length, map, refl, ap, ◌∙◌, arith}
 use Rattle.std.proofs.Math.ListN.{length-set}
 use Rattle.std.proofs.lemmas.Bool.{cases_lt}
 use Rattle.std.proofs.lemmas.List.{take_all}
 use Rattle.virtual_time.specs.Letters.{received_by}
 use Rattle.antimessages.specs.Letters.{message_rules, signed}
-use Rattle.antimessages.specs.Mailing.{letters_for, room_for, store_of}
 use Rattle.antimessages.proofs.Boxes.{receiver-within, same-letters, more-room, reserve-room, refused-room}
 use Rattle.antimessages.proofs.posting.reserve_all.Goals as goal
 

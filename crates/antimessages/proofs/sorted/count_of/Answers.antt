@@ -1,12 +1,9 @@
-use Rattle.std.proofs.Common.{◌≡◌, ◌≤◌, ℕ, zero, suc, Bool, true, false, List, [], ◌∷◌, length, take, drop, map, slice_get, Option, Some, None, pos, ◌-ℤ◌, to_z, of_z, refl, sym, ap, ◌∙◌, subst, arith}
-use Rattle.std.specs.List.{AllByRecursion}
-use Rattle.std.specs.Int.{w128}
+use Rattle.std.proofs.Common.{◌≡◌, ℕ, zero, suc, Bool, true, false, List, [], ◌∷◌, drop, map, slice_get, Some, None, pos, ◌-ℤ◌, refl, sym, ap, ◌∙◌, subst, arith}
 use Rattle.std.proofs.lemmas.Int.{ints}
 use Rattle.std.proofs.lemmas.List.{take_rest}
 use Rattle.vlink.specs.declared.message.Letter.{Letter}
 use Rattle.virtual_time.specs.Letters.{pluses, minuses}
 use Rattle.antimessages.specs.Letters.{message_rules, signed, is_plus}
-use Rattle.antimessages.specs.Counting.{IsTidy, signed_count}
 use Rattle.antimessages.proofs.Tidy.{tidy-drop}
 use Rattle.antimessages.proofs.Counts.{HasHeadSign, counts-rest, count-run}
 use Rattle.antimessages.proofs.sorted.count_of.Goals as goal

@@ -1,5 +1,5 @@
-use Rattle.std.proofs.Common.{◌≡◌, rules, Bool, true, false, not, length, ap, ◌∙◌}
-use Rattle.std.specs.List.Sorted.{IsPartitionPoint, IsPartitionedBy}
+use Rattle.std.proofs.Common.{◌≡◌, rules, true, false, not}
+use Rattle.std.specs.List.Sorted.{IsPartitionedBy}
 use Rattle.std.proofs.lemmas.Bool.{not-true, not-false, not_from_false, false_from_ne_true, both_ways}
 use Rattle.std.proofs.lemmas.List.Sorted.{IsPartitionPoint-from_clause}
 use Rattle.vlink.specs.declared.message.Message.{Message}

@@ -1,5 +1,5 @@
-use Rattle.std.proofs.Common.{◌≡◌, rules, true, false, length}
-use Rattle.std.specs.List.Sorted.{IsPartitionPoint, IsPartitionedBy}
+use Rattle.std.proofs.Common.{◌≡◌, rules, true, false}
+use Rattle.std.specs.List.Sorted.{IsPartitionedBy}
 use Rattle.std.proofs.lemmas.List.Sorted.{IsPartitionPoint-from_clause}
 use Rattle.vlink.specs.declared.message.Letter.{Letter}
 use Rattle.antimessages.specs.Letters.{message_rules}

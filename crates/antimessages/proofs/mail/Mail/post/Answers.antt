@@ -1,4 +1,4 @@
-use Rattle.std.proofs.Common.{◌<◌, length, slice_index_or, sym, ap, ◌∙◌, subst}
+use Rattle.std.proofs.Common.{◌<◌, slice_index_or, sym, ap, subst}
 use Rattle.antimessages.proofs.Boxes.{receivers-inside}
 use Rattle.antimessages.proofs.mail.Mail.post.Goals as goal
 

@@ -1,4 +1,4 @@
-use Rattle.std.proofs.Common.{◌≡◌, ◌<◌, length, map, remove, slice_set, sym, ap, ◌∙◌, arith}
+use Rattle.std.proofs.Common.{◌<◌, length, map, remove, slice_set, sym, ap, ◌∙◌, arith}
 use Rattle.antimessages.specs.Letters.{signed}
 use Rattle.antimessages.specs.Mailing.{store_of, letters_for}
 use Rattle.antimessages.proofs.Boxes.{taken-items, map-remove, old-letters, new-letters, other-letters}

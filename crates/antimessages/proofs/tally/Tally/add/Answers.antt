@@ -1,4 +1,4 @@
-use Rattle.std.proofs.Common.{◌≡◌, ◌+ℤ◌, inl, map, refl, ap, ◌∙◌}
+use Rattle.std.proofs.Common.{◌+ℤ◌, inl, map, refl, ap, ◌∙◌}
 use Rattle.std.proofs.lemmas.Bool.{both_ways}
 use Rattle.vlink.specs.declared.message.Letter.{Letter}
 use Rattle.antimessages.specs.Letters.{message_rules, signed, weight}

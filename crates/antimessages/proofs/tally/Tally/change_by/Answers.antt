@@ -1,4 +1,4 @@
-use Rattle.std.proofs.Common.{◌≡◌, ℤ, pos, sym, arith}
+use Rattle.std.proofs.Common.{◌≡◌, pos, sym, arith}
 use Rattle.std.specs.Prelude.{◌≢◌}
 use Rattle.std.proofs.lemmas.Int.{ints}
 use Rattle.antimessages.specs.Letters.{message_rules}
