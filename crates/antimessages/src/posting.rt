@@ -1,5 +1,6 @@
 //! Room for letters with their receivers, and the letters put there.
-ghost use Rattle.std.specs.Prelude.{◌≡◌, ℕ, ◌<◌, ◌≤◌, ◌==◌, ◌++◌, length, map, filter, All, IsOk, OnOk};
+ghost use Rattle.std.specs.Prelude.{◌≡◌, ℕ, ◌+◌, ◌<◌, ◌≤◌, ◌==◌, ◌++◌, length, map, filter, All, IsOk, OnOk, OnErr};
+ghost use Rattle.std.specs.VecDeque.{deque_len, deque_capacity};
 ghost use Rattle.virtual_time.specs.Letters.{received_by};
 ghost use Rattle.antimessages.specs.Letters.{message_rules, signed};
 ghost use Rattle.antimessages.specs.Mailing.{letters_for, room_for, HasRoom, store_of};
@@ -22,9 +23,28 @@ pub(crate) fn reserve_all(
 {
     for letter in letters {
         let receiver = letter.message.receiver;
-        boxes[usize::from(receiver)].reserve(count_for(letters, receiver))?;
+        make_room(&mut boxes[usize::from(receiver)], letters, receiver)?;
     }
     Ok(())
+}
+
+/// Makes room in the mail of one receiver for those of the letters that it receives. They are counted only where there might be
+/// too little room.
+fn make_room(
+    mailbox: &mut VecDeque<Letter>,
+    letters: &[Letter],
+    receiver: u16,
+) -> Result<(), AllocError>
+    ensures items { mailbox.new.items ≡ mailbox.old.items }
+    ensures len { deque_len mailbox.new ≡ deque_len mailbox.old }
+    ensures capacity { deque_capacity mailbox.old ≤ deque_capacity mailbox.new }
+    ensures ok { OnOk result (deque_len mailbox.new + length (filter (λ letter. letter.message.receiver == receiver) letters.now) ≤ deque_capacity mailbox.new) }
+    ensures full { OnErr result (deque_capacity mailbox.old < deque_len mailbox.old + length (filter (λ letter. letter.message.receiver == receiver) letters.now)) }
+{
+    if letters.len() <= mailbox.capacity() - mailbox.len() {
+        return Ok(());
+    }
+    mailbox.reserve(count_for(letters, receiver))
 }
 
 /// How many of the letters this process receives.

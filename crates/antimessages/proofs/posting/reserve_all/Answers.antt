@@ -15,33 +15,32 @@ index_mut-requires c =
     let within = receiver-within c.args.letters.now _ c.requires c.loop-letter.letter-index c.letter-item.result c.loop-letter-test.true c.letter-item.is in
     omega (arith, c.from.ensures, c.loop-letter.invariant.processes, c.loop-letter.boxes.ok.0)
 
-pub returns-in_err-reserve-clause-same : goal.returns-in_err-reserve-clause-same
-returns-in_err-reserve-clause-same c = λ p.
+pub returns-in_err-make_room-clause-same : goal.returns-in_err-make_room-clause-same
+returns-in_err-make_room-clause-same c = λ p.
     let boxes = c.loop-letter.boxes.items in
     let inv = c.loop-letter.invariant in
     let within = receiver-within c.args.letters.now _ c.requires c.loop-letter.letter-index c.letter-item.result c.loop-letter-test.true c.letter-item.is in
     let h : c.from.result < length boxes = omega (arith, c.from.ensures, inv.processes) in
-    same-letters boxes c.from.result c.index_mut.result.now c.reserve.new.self h c.index_mut.ensures.value c.reserve.ensures.items p ∙ inv.same p
+    same-letters boxes c.from.result c.index_mut.result.now c.make_room.new.mailbox h c.index_mut.ensures.value c.make_room.ensures.items p ∙ inv.same p
 
-pub returns-in_err-reserve-clause-no_less : goal.returns-in_err-reserve-clause-no_less
-returns-in_err-reserve-clause-no_less c = λ p.
+pub returns-in_err-make_room-clause-no_less : goal.returns-in_err-make_room-clause-no_less
+returns-in_err-make_room-clause-no_less c = λ p.
     let boxes = c.loop-letter.boxes.items in
     let inv = c.loop-letter.invariant in
     let within = receiver-within c.args.letters.now _ c.requires c.loop-letter.letter-index c.letter-item.result c.loop-letter-test.true c.letter-item.is in
     let h : c.from.result < length boxes = omega (arith, c.from.ensures, inv.processes) in
     let a = inv.no_less p in
-    let b = more-room boxes c.from.result c.index_mut.result.now c.reserve.new.self h c.index_mut.ensures.value c.reserve.ensures.len c.reserve.ensures.capacity p in
+    let b = more-room boxes c.from.result c.index_mut.result.now c.make_room.new.mailbox h c.index_mut.ensures.value c.make_room.ensures.len c.make_room.ensures.capacity p in
     omega arith
 
-pub returns-in_err-reserve-clause-reserved : goal.returns-in_err-reserve-clause-reserved
-returns-in_err-reserve-clause-reserved c = λ room.
+pub returns-in_err-make_room-clause-reserved : goal.returns-in_err-make_room-clause-reserved
+returns-in_err-make_room-clause-reserved c = λ room.
     let boxes = c.loop-letter.boxes.items in
     let inv = c.loop-letter.invariant in
     let within = receiver-within c.args.letters.now _ c.requires c.loop-letter.letter-index c.letter-item.result c.loop-letter-test.true c.letter-item.is in
     let h : c.from.result < length boxes = omega (arith, c.from.ensures, inv.processes) in
-    let full = rw c.count_for.ensures at c.in_err-reserve.ensures.full in
-    absurd (refused-room boxes c.from.result c.index_mut.result.now c.reserve.new.self h c.index_mut.ensures.value
-    c.args.letters.now c.loop-letter.letter-index c.letter-item.result c.loop-letter-test.true c.letter-item.is c.from.ensures full
+    absurd (refused-room boxes c.from.result c.index_mut.result.now c.make_room.new.mailbox h c.index_mut.ensures.value
+    c.args.letters.now c.loop-letter.letter-index c.letter-item.result c.loop-letter-test.true c.letter-item.is c.from.ensures c.in_err-make_room.ensures.full
     (λ p. let a = room p in let b = inv.no_less p in omega arith))
 
 pub loop-letter-preserved : goal.loop-letter-preserved
@@ -49,21 +48,20 @@ loop-letter-preserved c =
     let boxes = c.loop-letter.boxes.items in
     let i = c.from.result in
     let old = c.index_mut.result.now in
-    let new = c.reserve.new.self in
+    let new = c.make_room.new.mailbox in
     let inv = c.loop-letter.invariant in
     let within = receiver-within c.args.letters.now _ c.requires c.loop-letter.letter-index c.letter-item.result c.loop-letter-test.true c.letter-item.is in
     let h : i < length boxes = omega (arith, c.from.ensures, inv.processes) in
-    let fits = rw c.count_for.ensures at c.in_ok-reserve.ensures.ok in
     record {
       processes = length-set boxes i new ∙ inv.processes;
-      same = λ p. same-letters boxes i old new h c.index_mut.ensures.value c.reserve.ensures.items p ∙ inv.same p;
+      same = λ p. same-letters boxes i old new h c.index_mut.ensures.value c.make_room.ensures.items p ∙ inv.same p;
       no_less = λ p.
           let a = inv.no_less p in
-          let b = more-room boxes i old new h c.index_mut.ensures.value c.reserve.ensures.len c.reserve.ensures.capacity p in
+          let b = more-room boxes i old new h c.index_mut.ensures.value c.make_room.ensures.len c.make_room.ensures.capacity p in
           omega arith;
       room = reserve-room boxes i old new h c.index_mut.ensures.value
           c.args.letters.now c.loop-letter.letter-index c.letter-item.result c.loop-letter-test.true c.letter-item.is c.from.ensures
-          c.reserve.ensures.len c.reserve.ensures.capacity fits inv.room;
+          c.make_room.ensures.len c.make_room.ensures.capacity c.in_ok-make_room.ensures.ok inv.room;
     }
 
 pub returns-clause-same : goal.returns-clause-same
