@@ -27,6 +27,7 @@ message_rules =
       undo = λ s m k. s;
     }
 
+-- whether a letter of this sign brings its message, and does not take it back
 abbrev pub is_plus : Sign → Bool
 is_plus Plus = true
 is_plus Minus = false

@@ -12,6 +12,7 @@ use Rattle.antimessages.specs.Letters.{message_rules, signed, Store}
 abbrev pub store_of : VecDeque Letter Global → Store
 store_of waiting = record { letters = map signed waiting.items; room = deque_capacity waiting - deque_len waiting }
 
+-- the letters of a store, none where there is no store; and its room
 abbrev pub letters_in : Option Store → List (Signed Message)
 letters_in None = []
 letters_in (Some store) = store.letters

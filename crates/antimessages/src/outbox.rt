@@ -46,6 +46,7 @@ impl Outbox {
         ensures room { self.old.room ≤ self.new.room + 1 }
     {
         self.letters.reserve(1)?;
+        // Written out again: the kit's borrow checker does not cover moving on the letter itself.
         self.letters.push_reserved(Letter {
             message: letter.message,
             sign: letter.sign,
