@@ -115,34 +115,38 @@ sent-all P s ns receiver b h = go (nat_le ns s.until) refl
 
 -- the same of the answer of the regulator at t, where the messages of time x in L are what it asks for
 answered-all : (P : Message → Type 0) (L : ℕ → Type 0) (s : SourceState) (t : ℕ) (out : RegOut) →
-    ((x n receiver : ℕ) (b : Body) → L x → x ≤ s.until → P (record { time = x; receiver = receiver; sender = 0; number = n; body = b })) →
+    ((x n receiver : ℕ) (b : Body) → receiver < 2 → L x → x ≤ s.until → P (record { time = x; receiver = receiver; sender = 0; number = n; body = b })) →
     ((x : ℕ) → out.release_at ≡ Some x → L x) → ((x : ℕ) → t < x → L x) → All P (answered s t out)
 answered-all P L s t out h asks later = All-append P _ _ (first out.release_at refl) (second out.answer)
   where
     first : (ask : Option ℕ) → out.release_at ≡ ask → All P (asked s ask)
     first None e = All-nil P
-    first (Some x) e = sent-all P s x 0 (body.Release (record { 0 = 1 })) (λ i. h x s.counter 0 _ (asks x e) i)
+    first (Some x) e = sent-all P s x 0 (body.Release (record { 0 = 1 })) (λ i. h x s.counter 0 _ (omega arith) (asks x e) i)
 
     second : (answer : RegAnswer) → All P (carried (counted s (asked s out.release_at)) t answer)
     second (Released frame) =
         sent-all P (counted s (asked s out.release_at)) (t + last_bit_after frame.size 80) 1 (body.Carry frame)
-        (λ i. h (t + last_bit_after frame.size 80) (counted s (asked s out.release_at)).counter 1 _ (later _ (omega arith)) i)
+        (λ i. h (t + last_bit_after frame.size 80) (counted s (asked s out.release_at)).counter 1 _ (omega arith) (later _ (omega arith)) i)
     second Kept = All-nil P
     second Dropped = All-nil P
     second Nothing = All-nil P
 
 sends-all : (P : Message → Type 0) (s : SourceState) (e : Message) →
-    ((x n receiver : ℕ) (b : Body) → x ≤ s.until → P (record { time = x; receiver = receiver; sender = 0; number = n; body = b })) →
+    ((x n receiver : ℕ) (b : Body) → receiver < 2 → x ≤ s.until → P (record { time = x; receiver = receiver; sender = 0; number = n; body = b })) →
     All P (sends s (event_of e))
 sends-all P s e h =
     at-body (λ o. All P (sends s o)) e.time e.body (All-nil P)
-    (λ ev m. answered-all P (λ x. ⊤) s (moment_of ev) (regulator.out s.regulator ev) (λ x n r b l i. h x n r b i) (λ x i. tt) (λ x i. tt))
+    (λ ev m. answered-all P (λ x. ⊤) s (moment_of ev) (regulator.out s.regulator ev) (λ x n r b near l i. h x n r b near i) (λ x i. tt) (λ x i. tt))
 
 pub sends-own : (s : SourceState) (e : Message) → All (λ m. m.sender ≡ 0) (sends s (event_of e))
-sends-own s e = sends-all (λ m. m.sender ≡ 0) s e (λ x n r b i. refl)
+sends-own s e = sends-all (λ m. m.sender ≡ 0) s e (λ x n r b near i. refl)
+
+-- what is sent goes to process 0 or to process 1
+pub sends-near : (s : SourceState) (e : Message) → All (λ m. m.receiver < 2) (sends s (event_of e))
+sends-near s e = sends-all (λ m. m.receiver < 2) s e (λ x n r b near i. near)
 
 pub sends-timely : (s : SourceState) (e : Message) → All (λ m. m.time ≤ s.until) (sends s (event_of e))
-sends-timely s e = sends-all (λ m. m.time ≤ s.until) s e (λ x n r b i. i)
+sends-timely s e = sends-all (λ m. m.time ≤ s.until) s e (λ x n r b near i. i)
 
 is-later : (t : ℕ) (o : Option ℕ) (x : ℕ) → IsLater t o → o ≡ Some x → t < x
 is-later t o x h e = subst (IsLater t) e h
@@ -150,7 +154,7 @@ is-later t o x h e = subst (IsLater t) e h
 pub sends-later : (s : SourceState) (e : Message) → 0 < s.regulator.bag → All (λ m. e.time < m.time) (sends s (event_of e))
 sends-later s e h =
     at-body (λ o. All (λ m. e.time < m.time) (sends s o)) e.time e.body (All-nil (λ m. e.time < m.time))
-    (λ ev m. answered-all (λ m. e.time < m.time) (λ x. e.time < x) s (moment_of ev) (regulator.out s.regulator ev) (λ x n r b l i. l)
+    (λ ev m. answered-all (λ m. e.time < m.time) (λ x. e.time < x) s (moment_of ev) (regulator.out s.regulator ev) (λ x n r b near l i. l)
     (λ x i. subst (λ t. t < x) m (is-later (moment_of ev) _ x (kept s.regulator ev h).later i))
     (λ x i. subst (λ t. t < x) m i))
 

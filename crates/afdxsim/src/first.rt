@@ -3,7 +3,6 @@ ghost use Rattle.std.specs.Prelude.{◌≡◌, ◌≢◌, ◌⊎◌, [], map, If
 ghost use Rattle.clap.specs.Words.{fault_of};
 ghost use Rattle.clap.specs.Values.{kind_of};
 ghost use Rattle.clap.specs.declared.error.kind.ErrorKind.TheVariants.{OutOfMemory};
-ghost use Rattle.vlink.specs.declared.message.Sign.TheVariants.{Plus};
 ghost use Rattle.afdxsim.specs.Source.{opening_source};
 ghost use Rattle.afdxsim.specs.Words.{program, AsksFor, AsksForText};
 
@@ -107,7 +106,6 @@ pub fn first_undone(at: Time, alloc: Global) -> Result<Source, PoolFault>
 /// The offer of a frame of 64 bytes at this moment.
 fn offer(at: Time) -> Letter
     ensures receiver { result.message.receiver ≡ 0 }
-    ensures sign { result.sign ≡ Plus }
 {
     Letter {
         message: Message {

@@ -1,9 +1,8 @@
 //! A run of one process on one letter, and what is left when it is undone.
-ghost use Rattle.std.specs.Prelude.{◌≡◌, ◌<◌, [], IfOk};
+ghost use Rattle.std.specs.Prelude.{◌≡◌, ◌<◌, [], All, IfOk};
 ghost use Rattle.reverse.specs.Rules.{rules_of};
 ghost use Rattle.virtual_time.specs.Part.{Part};
 ghost use Rattle.vlink.specs.declared.message.Message.{Message};
-ghost use Rattle.vlink.specs.declared.message.Sign.TheVariants.{Plus};
 ghost use Rattle.process_queues.specs.Queues.{StandsFor};
 
 use reverse::Actor;
@@ -11,7 +10,8 @@ use std::alloc::Global;
 use vlink::{LATEST_NS, Letter};
 use worker_pool::{Exchange, Held, Open, PoolFault, collect, post, work};
 
-/// The exchange and the process after the process has taken the letter, handled it and posted what it sent.
+/// The exchange and the process after the process has taken the letter, handled it and posted what it sent. All that the actor sends
+/// goes to a process.
 pub fn run_once<R: Actor + Drop>(
     alloc: Global,
     actor: R,
@@ -20,7 +20,7 @@ pub fn run_once<R: Actor + Drop>(
 ) -> Result<(Exchange, Held<R>), PoolFault>
     requires receiver { letter.message.receiver < processes }
     requires actor { R.number actor < processes }
-    requires plus { letter.sign ≡ Plus }
+    requires places { (s : R) (e : Message) → All (λ m. m.receiver < processes) (R.plain.out s e).messages.items }
     ensures stands { IfOk result (λ made. (part : Part Message R) ×
         StandsFor (rules_of R.plain R.counter) R.is_value actor part (made.1).queues × (part.committed ≡ [])) }
 {
@@ -40,7 +40,7 @@ pub fn undo_once<R: Actor + Drop>(
 ) -> Result<R, PoolFault>
     requires receiver { letter.message.receiver < processes }
     requires actor { R.number actor < processes }
-    requires plus { letter.sign ≡ Plus }
+    requires places { (s : R) (e : Message) → All (λ m. m.receiver < processes) (R.plain.out s e).messages.items }
     ensures opening { IfOk result (λ undone. undone ≡ actor) }
 {
     let (_exchange, held) = run_once(alloc, actor, letter, processes)?;

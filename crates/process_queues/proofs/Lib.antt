@@ -1,5 +1,9 @@
-pub mod Histories
-pub mod Mailing
+pub mod Arriving
+pub mod Counting
+pub mod Newest
 pub mod Next
+pub mod Pasts
+pub mod Reading
+pub mod Rolls
 pub mod Standing
-pub mod Undoing
+pub mod Taking

@@ -1,125 +1,211 @@
 -- What each act of a process makes of the part that its queues stand for.
-use Rattle.std.proofs.Common.{◌≡◌, ◌+◌, Bool, true, false, cond, not, ◌&&◌, List, [], ◌∷◌, ◌++◌, map, Some, refl, sym, ap, ◌∙◌, subst, arith, append_assoc, append-nil}
+use Rattle.std.proofs.Common.{◌≡◌, ℕ, ◌+◌, ◌⊎◌, inl, inr, Bool, true, false, not, cond, List, [], ◌∷◌, ◌++◌, length, map, Some, refl, sym, ap, ◌∙◌, subst, arith, append_assoc, append-nil}
 use Rattle.std.specs.Prelude.{⊤}
-use Rattle.std.proofs.lemmas.List.{map-append}
+use Rattle.std.proofs.lemmas.List.{length-append}
+use Rattle.std.proofs.lemmas.Bool.{not_from_true}
 use Rattle.vlink.specs.declared.message.Message.{Message}
-use Rattle.vlink.specs.declared.message.Letter.{Letter}
-use Rattle.vlink.specs.declared.message.Sign.TheVariants.{Plus}
-use Rattle.virtual_time.specs.Rules.{Rules, IsOrder, reached}
-use Rattle.virtual_time.specs.Lists.{IsIn, same, one_if}
-use Rattle.virtual_time.specs.Letters.{plus_of, pluses, minuses}
-use Rattle.virtual_time.specs.Part.{Part, opened, delivered, emptied, counted, is_turned, rolled_back, arrived, arrive, next_of, handled, run_one}
+use Rattle.vlink.specs.declared.note.Note.{Note}
+use Rattle.virtual_time.specs.Rules.{Rules, reached, rowed, rows_of}
+use Rattle.virtual_time.specs.Lists.{IsIn, IsAscending, before, from_on}
+use Rattle.virtual_time.specs.Letters.{Letter as Signed, plus_of, minus_of}
+use Rattle.virtual_time.specs.Part.{Part, opened, delivered, emptied, counted, is_turned, rolled_back, arrived, arrive, undone_by, next_of, handled, run_one, can_seal, sealed, seal_oldest}
 use Rattle.virtual_time.specs.Well.{IsWell}
-use Rattle.virtual_time.proofs.Lists.{times-append}
-use Rattle.virtual_time.proofs.Rolling.{roll-none}
+use Rattle.virtual_time.proofs.Lists.{filter-none}
+use Rattle.virtual_time.proofs.Handling.{reached-append, rowed-append}
+use Rattle.virtual_time.proofs.Rolling.{roll-none, roll-split}
 use Rattle.virtual_time.proofs.WellStep.{opened-well, delivered-well, emptied-well}
 use Rattle.virtual_time.proofs.WellArrive.{arrive-well}
 use Rattle.virtual_time.proofs.WellRun.{run-well}
-use Rattle.process_queues.specs.Queues.{Queues, StandsFor, signed, is_plus, letter_of, delivered_all}
-use Rattle.process_queues.proofs.Histories.{led-push}
+use Rattle.virtual_time.proofs.WellSeal.{seal-well}
+use Rattle.process_queues.specs.Past.{Past, IsPastOf, BelongsTo, handled_past, rows_by}
+use Rattle.process_queues.specs.Queues.{Queues, StandsFor, CountsAgree, delivered_all}
+use Rattle.process_queues.proofs.Counting.{OfMessages}
+use Rattle.process_queues.proofs.Pasts.{past-none, past-more, as_many, length-rows}
 
-pub signed-letters : (ms : List Message) → map signed (map letter_of ms) ≡ map plus_of ms
-signed-letters [] = refl
-signed-letters (m ∷ ms) = ap (λ ls. plus_of m ∷ ls) (signed-letters ms)
-
-module _ {S K N : Type 0} (r : Rules Message S K N) (is_value : S → Message → Type 0) where
+module _ {S K : Type 0} (r : Rules Message S K Note) (is_value : S → Message → Type 0) where
   pub opened-stands : (actor : S) (q : Queues S K) →
-      q ≡ record { state = actor; done = []; records = []; tally = []; tray = []; outbox = [] } → StandsFor r is_value actor (opened actor) q
+      q ≡ record { past = record { state = actor; done = []; sends = []; rows = [] }; sealed = 0; committed = 0; tally = []; tray = []; outbox = [] } →
+      StandsFor r is_value actor (opened actor) q
   opened-stands actor q e = subst (StandsFor r is_value actor (opened actor)) (sym e) (record {
-    state = refl;
-    done = refl;
-    led = record { state = refl; records_are = refl; values = tt };
+    past = record { past_of = past-none r is_value actor [] [] _ refl refl refl refl; state = refl; ascending = tt };
+    sealed = refl;
+    committed = refl;
+    counts = λ m. refl;
     tray = refl;
     outbox = refl;
-    present = λ m. refl;
-    none_taken_back = λ m. refl;
     well = opened-well r (λ s. ⊤) actor;
   })
 
   module _ (opening : S) (part : Part Message S) (q q' : Queues S K) (h : StandsFor r is_value opening part q) where
-    pub delivered-stands : (l : Letter) → q' ≡ record q { tray = q.tray ++ l ∷ [] } → StandsFor r is_value opening (delivered (signed l) part) q'
-    delivered-stands l e = subst (StandsFor r is_value opening (delivered (signed l) part)) (sym e) (record {
-      state = h.state;
-      done = h.done;
-      led = h.led;
-      tray = map-append signed q.tray (l ∷ []) ∙ ap (λ ls. ls ++ signed l ∷ []) h.tray;
+    pub delivered-stands : (l : Signed Message) → q' ≡ record q { tray = q.tray ++ l ∷ [] } → StandsFor r is_value opening (delivered l part) q'
+    delivered-stands l e = subst (StandsFor r is_value opening (delivered l part)) (sym e) (record {
+      past = record { past_of = h.past.past_of; state = h.past.state; ascending = h.past.ascending };
+      sealed = h.sealed;
+      committed = h.committed;
+      counts = h.counts;
+      tray = ap (λ ls. ls ++ l ∷ []) h.tray;
       outbox = h.outbox;
-      present = h.present;
-      none_taken_back = h.none_taken_back;
-      well = delivered-well r (λ s. ⊤) opening (signed l) part h.well;
+      well = delivered-well r (λ s. ⊤) opening l part h.well;
     })
 
     pub emptied-stands : q' ≡ record q { outbox = [] } → StandsFor r is_value opening (emptied part) q'
     emptied-stands e = subst (StandsFor r is_value opening (emptied part)) (sym e) (record {
-      state = h.state;
-      done = h.done;
-      led = h.led;
+      past = record { past_of = h.past.past_of; state = h.past.state; ascending = h.past.ascending };
+      sealed = h.sealed;
+      committed = h.committed;
+      counts = h.counts;
       tray = h.tray;
       outbox = refl;
-      present = h.present;
-      none_taken_back = h.none_taken_back;
       well = emptied-well r (λ s. ⊤) opening part h.well;
     })
 
-    module _ (O : IsOrder r) (law : (s : S) (e : Message) → r.undo (r.after s e) e (r.kept s e) ≡ s) where
-      -- a letter that is a plus and comes after all done events undoes none
-      arrive-counts : (l : Letter) (rest : List Letter) → q.tray ≡ l ∷ rest → ((d : Message) → IsIn r d q.done → r.less d l.message ≡ true) →
-          arrive r opening part ≡ counted r (signed l) (map signed rest) part
-      arrive-counts l rest e late = ap (arrived r opening part) (sym h.tray ∙ ap (map signed) e) ∙ go (is_turned r (signed l) part.tally)
-        where
-          go : (b : Bool) → cond b (rolled_back r opening l.message (counted r (signed l) (map signed rest) part)) (counted r (signed l) (map signed rest) part)
-              ≡ counted r (signed l) (map signed rest) part
-          go true = roll-none r O opening (counted r (signed l) (map signed rest) part) l.message
-              (λ x j. late x (subst (IsIn r x) (sym h.done) j))
-          go false = refl
+  module _ (opening : S) (part : Part Message S) (q : Queues S K) (h : StandsFor r is_value opening part q) (R : OfMessages r) where
+    -- what the arrival of the front letter makes, by whether its message turns
+    arrive-is : (l : Signed Message) (rest : List (Signed Message)) → q.tray ≡ l ∷ rest → (b : Bool) → is_turned r l part.tally ≡ b →
+        arrive r opening part ≡ cond b (rolled_back r opening l.message (counted r l rest part)) (counted r l rest part)
+    arrive-is l rest e b t = ap (arrived r opening part) (sym h.tray ∙ e) ∙
+        ap (λ z. cond z (rolled_back r opening l.message (counted r l rest part)) (counted r l rest part)) t
 
-      pub arrived-stands : (l : Letter) (rest : List Letter) → q.tray ≡ l ∷ rest → l.sign ≡ Plus → ((d : Message) → IsIn r d q.done → r.less d l.message ≡ true) →
-          q' ≡ record q { tray = rest; tally = q.tally ++ l.message ∷ [] } → StandsFor r is_value opening (arrive r opening part) q'
-      arrived-stands l rest e p late f =
-          subst (λ z. StandsFor r is_value opening z q') (sym (arrive-counts l rest e late))
-          (subst (StandsFor r is_value opening (counted r (signed l) (map signed rest) part)) (sym f) (record {
-            state = h.state;
-            done = h.done;
-            led = h.led;
-            tray = refl;
-            outbox = h.outbox;
-            present = λ m.
-                let a = times-append r O m q.tally (l.message ∷ []) in
-                let b = h.present m in
-                let c : pluses r m (signed l ∷ part.tally) ≡ one_if (same r m l.message) + pluses r m part.tally =
-                ap (λ s. one_if (is_plus s && same r m l.message) + pluses r m part.tally) p in
-                omega arith;
-            none_taken_back = λ m.
-                let a = ap (λ s. one_if (not (is_plus s) && same r m l.message) + minuses r m part.tally) p in
-                let b = h.none_taken_back m in
-                omega arith;
-            well = subst (IsWell r (λ s. ⊤) opening) (arrive-counts l rest e late) (arrive-well r O (λ s. ⊤) (λ s m g. law s m) opening part h.well).well;
-          }))
+    undone-is : (l : Signed Message) (rest : List (Signed Message)) → q.tray ≡ l ∷ rest → (b : Bool) → is_turned r l part.tally ≡ b →
+        undone_by r part part.tray ≡ cond b (length (from_on r l.message part.done)) 0
+    undone-is l rest e b t = ap (undone_by r part) (sym h.tray ∙ e) ∙ ap (λ z. cond z (length (from_on r l.message part.done)) 0) t
 
-      -- the message that is next is handled
-      pub ran-stands : (m : Message) (k : K) → next_of r part ≡ Some m → is_value q.state m → k ≡ r.kept q.state m →
-          q' ≡ record q { state = r.after q.state m; done = q.done ++ m ∷ []; records = q.records ++ k ∷ []; outbox = q.outbox ++ map letter_of (r.sends q.state m) } →
-          StandsFor r is_value opening (run_one r part) q'
-      ran-stands m k next valid kept f =
-          subst (λ z. StandsFor r is_value opening z q') (sym (ap (handled r part) next))
-          (subst (StandsFor r is_value opening (handled r part (Some m))) (sym f) (record {
-            state = ap (λ s. r.after s m) h.state;
-            done = ap (λ ds. ds ++ m ∷ []) h.done;
-            led = led-push r is_value (reached r opening part.committed) part.done (part.done ++ m ∷ []) m q.state _ q.records _ k h.led valid refl refl refl kept;
-            tray = h.tray;
-            outbox = map-append signed q.outbox (map letter_of (r.sends q.state m)) ∙
-                (ap (λ ls. ls ++ map signed (map letter_of (r.sends q.state m))) h.outbox ∙
-                ap (λ ls. part.outbox ++ ls) (signed-letters (r.sends q.state m) ∙ ap (λ s. map plus_of (r.sends s m)) h.state));
-            present = h.present;
-            none_taken_back = h.none_taken_back;
-            well = subst (IsWell r (λ s. ⊤) opening) (ap (handled r part) next) (run-well r O (λ s. ⊤) (λ s e g. law s e) opening part h.well tt).well;
-          }))
+    -- the message does not turn, or it comes after all done events: nothing is undone
+    abbrev pub StaysPut : Signed Message → Type 0
+    StaysPut l = (is_turned r l part.tally ≡ false) ⊎ ((d : Message) → IsIn r d part.done → r.less d l.message ≡ true)
+
+    arrive-counts : (l : Signed Message) (rest : List (Signed Message)) → q.tray ≡ l ∷ rest → StaysPut l → arrive r opening part ≡ counted r l rest part
+    arrive-counts l rest e (inl t) = arrive-is l rest e false t
+    arrive-counts l rest e (inr late) = go (is_turned r l part.tally) refl
+      where
+        go : (b : Bool) → is_turned r l part.tally ≡ b → arrive r opening part ≡ counted r l rest part
+        go true t = arrive-is l rest e true t ∙ roll-none r R.order opening (counted r l rest part) l.message late
+        go false t = arrive-is l rest e false t
+
+    pub undone-none : (l : Signed Message) (rest : List (Signed Message)) → q.tray ≡ l ∷ rest → StaysPut l → undone_by r part part.tray ≡ 0
+    undone-none l rest e (inl t) = undone-is l rest e false t
+    undone-none l rest e (inr late) = go (is_turned r l part.tally) refl
+      where
+        go : (b : Bool) → is_turned r l part.tally ≡ b → undone_by r part part.tray ≡ 0
+        go true t = undone-is l rest e true t ∙ ap length (filter-none r R.order (λ x. not (r.less x l.message)) part.done (λ x j. not_from_true _ (late x j)))
+        go false t = undone-is l rest e false t
+
+    -- the part after the front letter was counted, before the rollback
+    pub counted-belongs : (l : Signed Message) (rest : List (Signed Message)) → BelongsTo r is_value opening (counted r l rest part) q.past
+    counted-belongs l rest = record { past_of = h.past.past_of; state = h.past.state; ascending = h.past.ascending }
+
+    -- how many events a rollback undid
+    pub undone-back : (l : Signed Message) (rest : List (Signed Message)) (past' : Past S K) (count : ℕ) → q.tray ≡ l ∷ rest → is_turned r l part.tally ≡ true →
+        BelongsTo r is_value opening (rolled_back r opening l.message (counted r l rest part)) past' →
+        count + length past'.done ≡ length q.past.done → count ≡ undone_by r part part.tray
+    undone-back l rest past' count e t b n =
+        let a = ap length b.past_of.done ∙ as_many r (reached r opening part.committed) (before r l.message part.done) in
+        let c = ap length h.past.past_of.done ∙ as_many r (reached r opening part.committed) part.done in
+        let d = ap length (roll-split r R.order l.message part.done h.past.ascending) in
+        let f = length-append (before r l.message part.done) (from_on r l.message part.done) in
+        let same : count ≡ length (from_on r l.message part.done) = omega arith in
+        same ∙ sym (undone-is l rest e true t)
+
+  module _ (opening : S) (part : Part Message S) (q q' : Queues S K) (h : StandsFor r is_value opening part q) (R : OfMessages r) where
+    pub arrived-still : (l : Signed Message) (rest tally : List (Signed Message)) → q.tray ≡ l ∷ rest → StaysPut opening part q h R l → CountsAgree r (l ∷ part.tally) tally →
+        q' ≡ record q { tray = rest; tally = tally } → StandsFor r is_value opening (arrive r opening part) q'
+    arrived-still l rest tally e still counts f =
+        subst (λ z. StandsFor r is_value opening z q') (sym (arrive-counts opening part q h R l rest e still))
+        (subst (StandsFor r is_value opening (counted r l rest part)) (sym f) (record {
+          past = record { past_of = h.past.past_of; state = h.past.state; ascending = h.past.ascending };
+          sealed = h.sealed;
+          committed = h.committed;
+          counts = counts;
+          tray = refl;
+          outbox = h.outbox;
+          well = subst (IsWell r (λ s. ⊤) opening) (arrive-counts opening part q h R l rest e still) (arrive-well r R.order (λ s. ⊤) (λ s m g. R.undoes s m) opening part h.well).well;
+        }))
+
+    pub arrived-back : (l : Signed Message) (rest tally : List (Signed Message)) → q.tray ≡ l ∷ rest → is_turned r l part.tally ≡ true →
+        CountsAgree r (l ∷ part.tally) tally → BelongsTo r is_value opening (rolled_back r opening l.message (counted r l rest part)) q'.past →
+        q'.sealed ≡ q.sealed → q'.committed ≡ q.committed → q'.tally ≡ tally → q'.tray ≡ rest →
+        q'.outbox ≡ (rolled_back r opening l.message (counted r l rest part)).outbox → StandsFor r is_value opening (arrive r opening part) q'
+    arrived-back l rest tally e t counts b a c d f o =
+        subst (λ z. StandsFor r is_value opening z q') (sym (arrive-is opening part q h R l rest e true t)) (record {
+          past = b;
+          sealed = a ∙ h.sealed;
+          committed = c ∙ h.committed;
+          counts = subst (CountsAgree r (l ∷ part.tally)) (sym d) counts;
+          tray = f;
+          outbox = o;
+          well = subst (IsWell r (λ s. ⊤) opening) (arrive-is opening part q h R l rest e true t) (arrive-well r R.order (λ s. ⊤) (λ s m g. R.undoes s m) opening part h.well).well;
+        })
+
+    -- the message that is next is handled
+    pub ran-stands : (m : Message) → next_of r part ≡ Some m → is_value q.past.state m →
+        q' ≡ record q { past = handled_past r q.past m; outbox = q.outbox ++ map plus_of (r.sends q.past.state m) } →
+        StandsFor r is_value opening (run_one r part) q'
+    ran-stands m next valid f =
+        subst (λ z. StandsFor r is_value opening z q') (sym (ap (handled r part) next))
+        (subst (StandsFor r is_value opening (handled r part (Some m))) (sym f) (record {
+          past = record {
+            past_of = past-more r is_value (reached r opening part.committed) part.done (rowed r opening part.committed) q.past m (R.places m) h.past.past_of valid;
+            state = ap (λ s. r.after s m) h.past.state;
+            ascending = well.ascending;
+          };
+          sealed = h.sealed;
+          committed = h.committed;
+          counts = h.counts;
+          tray = h.tray;
+          outbox = ap (λ ls. ls ++ map plus_of (r.sends q.past.state m)) h.outbox ∙ ap (λ s. part.outbox ++ map plus_of (r.sends s m)) (sym h.past.state);
+          well = well;
+        }))
+      where
+        well : IsWell r (λ s. ⊤) opening (handled r part (Some m))
+        well = subst (IsWell r (λ s. ⊤) opening) (ap (handled r part) next) (run-well r R.order (λ s. ⊤) (λ s e g. R.undoes s e) opening part h.well tt).well
+
+    -- the oldest done event is committed, or stays
+    pub seal-stays : can_seal r part part.done ≡ false → StandsFor r is_value opening (seal_oldest r part) q
+    seal-stays c = subst (λ z. StandsFor r is_value opening z q) (sym (ap (λ b. cond b (sealed r part part.done) part) c)) h
+
+    pub sealed-stands : (m : Message) (rest : List Message) (past' : Past S K) (tally : List (Signed Message)) → part.done ≡ m ∷ rest → can_seal r part part.done ≡ true →
+        IsPastOf r is_value (r.after (reached r opening part.committed) m) rest
+        (rowed r opening part.committed ++ rows_by m (r.notes (reached r opening part.committed) m)) past' →
+        past'.state ≡ q.past.state → CountsAgree r (minus_of m ∷ part.tally) tally →
+        q' ≡ record q { past = past'; sealed = q.sealed + length (r.notes (reached r opening part.committed) m); committed = q.committed + 1; tally = tally } →
+        StandsFor r is_value opening (seal_oldest r part) q'
+    sealed-stands m rest past' tally d c p s counts f =
+        subst (λ z. StandsFor r is_value opening z q') (sym seals)
+        (subst (StandsFor r is_value opening (sealed r part (m ∷ rest))) (sym f) (record {
+          past = record {
+            past_of = subst (λ z. IsPastOf r is_value z rest (rowed r opening (part.committed ++ m ∷ [])) past') (sym (reached-append r opening part.committed (m ∷ [])))
+                (subst (λ z. IsPastOf r is_value (r.after (reached r opening part.committed) m) rest z past') (sym rows) p);
+            state = h.past.state ∙ sym s;
+            ascending = well.ascending;
+          };
+          sealed =
+              let a = ap length rows in
+              let b = length-append (rowed r opening part.committed) (rows_by m (r.notes (reached r opening part.committed) m)) in
+              let n = length-rows m (r.notes (reached r opening part.committed) m) in
+              let g = h.sealed in
+              omega arith;
+          committed = let a = length-append part.committed (m ∷ []) in let b = h.committed in omega arith;
+          counts = counts;
+          tray = h.tray;
+          outbox = h.outbox;
+          well = well;
+        }))
+      where
+        seals : seal_oldest r part ≡ sealed r part (m ∷ rest)
+        seals = ap (λ b. cond b (sealed r part part.done) part) c ∙ ap (sealed r part) d
+
+        rows : rowed r opening (part.committed ++ m ∷ []) ≡ rowed r opening part.committed ++ rows_by m (r.notes (reached r opening part.committed) m)
+        rows = rowed-append r opening part.committed (m ∷ []) ∙
+            ap (λ z. rowed r opening part.committed ++ z) (append-nil _ ∙ R.places m (r.notes (reached r opening part.committed) m))
+
+        well : IsWell r (λ s. ⊤) opening (sealed r part (m ∷ rest))
+        well = subst (IsWell r (λ s. ⊤) opening) seals (seal-well r R.order (λ s. ⊤) (λ s e g. R.undoes s e) opening part h.well).well
 
   -- several letters come to the back of the tray
-  pub delivered_all-stands : (opening : S) (ls : List Letter) (part : Part Message S) (q q' : Queues S K) → StandsFor r is_value opening part q →
+  pub delivered_all-stands : (opening : S) (ls : List (Signed Message)) (part : Part Message S) (q q' : Queues S K) → StandsFor r is_value opening part q →
       q' ≡ record q { tray = q.tray ++ ls } → StandsFor r is_value opening (delivered_all ls part) q'
   delivered_all-stands opening [] part q q' h e = subst (StandsFor r is_value opening part) (sym (e ∙ ap (λ ts. record q { tray = ts }) (append-nil q.tray))) h
   delivered_all-stands opening (l ∷ ls) part q q' h e =
-      delivered_all-stands opening ls (delivered (signed l) part) (record q { tray = q.tray ++ l ∷ [] }) q'
+      delivered_all-stands opening ls (delivered l part) (record q { tray = q.tray ++ l ∷ [] }) q'
       (delivered-stands opening part q (record q { tray = q.tray ++ l ∷ [] }) h l refl)
       (e ∙ ap (λ ts. record q { tray = ts }) (sym (append_assoc q.tray (l ∷ []) ls)))

@@ -1,3 +1,2 @@
-pub mod History
-pub mod Mail
+pub mod Past
 pub mod Queues

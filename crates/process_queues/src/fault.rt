@@ -22,3 +22,14 @@ impl From<AllocError> for ProcFault {
         ProcFault::OutOfMemory
     }
 }
+
+impl From<antimessages::OutOfMemory> for ProcFault {
+    ghost use Rattle.std.specs.Prelude.{◌≡◌};
+    ghost use Rattle.process_queues.specs.declared.fault.ProcFault.TheVariants.{OutOfMemory};
+
+    ghost from_gives = { λ _ fault. fault ≡ OutOfMemory };
+
+    fn from(_: antimessages::OutOfMemory) -> Self {
+        ProcFault::OutOfMemory
+    }
+}

@@ -1,11 +1,13 @@
-//! One process of a Time Warp run: its letters, its events with their records, and what it does alone.
+//! One process of a Time Warp run: its letters, its events with their records, and what it does alone. Late letters and antimessages
+//! make it roll back (Jefferson, "Virtual Time", ACM TOPLAS 7(3), 1985), by undo records in place of saved states.
 #![tactic(auto)]
 
+mod acts;
 mod fault;
-mod first;
-mod mail;
+mod order;
+mod past;
 mod process;
+mod rollback;
 
 pub use fault::ProcFault;
-pub use mail::Mail;
 pub use process::Process;

@@ -1,74 +1,141 @@
-ghost use Rattle.std.specs.Prelude.{◌≡◌, ◌≢◌, ◌+◌, ◌<◌, ◌≤◌, ◌^◌, [], ◌∷◌, ◌++◌, ◌↔◌, ℕ, length, map, min, take, drop, vec_len, vec_capacity, IsSome, IsTrue, MatchOption, OnOk, OnErr, IfOk, IfErr};
-ghost use Rattle.vlink.specs.declared.message.Message.{Message};
-ghost use Rattle.vlink.specs.Numbering.{greatest_number};
-ghost use Rattle.virtual_time.specs.Rules.{reached};
-ghost use Rattle.virtual_time.specs.Part.{Part, opened, delivered, arrive, run_one, next_of, emptied, undo_all};
-ghost use Rattle.reverse.specs.Rules.{rules_of};
-ghost use Rattle.process_queues.specs.declared.fault.ProcFault.TheVariants.{OutOfMemory, Exhausted};
-ghost use Rattle.process_queues.specs.Mail.{letters_for};
+ghost use Rattle.std.specs.Prelude.{◌≡◌, ◌≢◌, ◌+◌, ◌<◌, ◌≤◌, ◌^◌, ◌-◌, [], ◌∷◌, ◌++◌, ℕ, length, map, min, take, drop, OnOk, OnErr, IfOk, IfErr, slice_get};
+ghost use Rattle.std.specs.Option.{option_map};
 ghost use Rattle.std.specs.VecDeque.{deque_len, deque_capacity};
-ghost use Rattle.process_queues.specs.Queues.{StandsFor, Does, delivered_all, IsNewFront, signed, letter_of, next_in, arrived_of};
+ghost use Rattle.vlink.specs.declared.message.Message.{Message};
+ghost use Rattle.virtual_time.specs.Rules.{rowed};
+ghost use Rattle.virtual_time.specs.Letters.{lowest};
+ghost use Rattle.virtual_time.specs.Part.{Part, opened, delivered, next_of, floor_of};
+ghost use Rattle.reverse.specs.Rules.{rules_of};
+ghost use Rattle.antimessages.specs.Letters.{message_rules, signed};
+ghost use Rattle.antimessages.specs.Counting.{signed_count};
+ghost use Rattle.antimessages.specs.Mailing.{letters_for};
+ghost use Rattle.process_queues.specs.declared.fault.ProcFault.TheVariants.{OutOfMemory};
+ghost use Rattle.process_queues.specs.Past.{seen_row};
+ghost use Rattle.process_queues.specs.Queues.{StandsFor, Does, delivered_all, next_in};
 
 use crate::fault::ProcFault;
-use crate::first::{first_after, is_after};
-use crate::mail::Mail;
+use crate::past::Past;
+use antimessages::{Mail, Outbox, Tally};
 use reverse::{Actor, actor_rules};
 use std::alloc::Global;
 use std::collections::VecDeque;
 use std::marker::Model;
-use vlink::{Letter, Message, Sign};
+use vlink::{Letter, Message, Row, Time};
 
-/// A process that runs ahead of the others.
+/// A process that runs ahead of the others, and rolls back where a letter comes late.
+///
+/// Nothing of the opening state is kept, and an actor has no `Clone`: a rollback that goes back to a kept copy of the opening state does
+/// not compile. It goes by the records alone, and a record is `Copy`: one that keeps a whole node, which holds memory, does not compile.
 #[derive(Drop)]
 pub struct Process<R: Actor> {
-    actor: R,
-    done: Vec<Message>,
-    records: Vec<R::Record>,
-    tally: Vec<Message>,
-    tray: VecDeque<Letter>,
-    outbox: Vec<Letter>,
+    pub(crate) past: Past<R>,
+    pub(crate) sealed: usize,
+    /// How many rows each committed event gave.
+    pub(crate) committed: Vec<u8>,
+    pub(crate) tally: Tally,
+    pub(crate) tray: VecDeque<Letter>,
+    pub(crate) outbox: Outbox,
 }
 
 impl<R: Actor> Model for Process<R> {
+    ghost use Rattle.std.specs.Prelude.{◌-◌, length, map};
+    ghost use Rattle.std.specs.VecDeque.{deque_len, deque_capacity};
     ghost use Rattle.vlink.specs.declared.message.Message.{Message};
     ghost use Rattle.virtual_time.specs.Part.{Part};
     ghost use Rattle.reverse.specs.Rules.{rules_of};
-    ghost use Rattle.std.specs.Prelude.{◌-◌};
-    ghost use Rattle.std.specs.VecDeque.{deque_len, deque_capacity};
+    ghost use Rattle.antimessages.specs.Letters.{signed};
     ghost use Rattle.process_queues.specs.Queues.{InHand, StandsFor};
 
     ghost Value = { InHand R R.Record };
 
     ghost view = { λ p. record {
-      queues = record { state = p.actor; done = p.done.items; records = p.records.items; tally = p.tally.items; tray = p.tray.items; outbox = p.outbox.items };
+      queues = record {
+        past = p.past;
+        sealed = p.sealed;
+        committed = length p.committed.items;
+        tally = p.tally.letters;
+        tray = map signed p.tray.items;
+        outbox = p.outbox.letters;
+      };
       room = deque_capacity p.tray - deque_len p.tray;
     } };
 
     ghost invariant = { λ p. (opening : R) × (part : Part Message R) × StandsFor (rules_of R.plain R.counter) R.is_value opening part
-        (record { state = p.actor; done = p.done.items; records = p.records.items; tally = p.tally.items; tray = p.tray.items; outbox = p.outbox.items }) };
+        (record {
+          past = p.past;
+          sealed = p.sealed;
+          committed = length p.committed.items;
+          tally = p.tally.letters;
+          tray = map signed p.tray.items;
+          outbox = p.outbox.letters;
+        }) };
 }
 
 impl<R: Actor> Process<R> {
-    /// A process that has done nothing, with this actor in its opening state.
+    /// A process that has done nothing, with this actor in its opening state. It takes no memory.
     pub fn new(alloc: Global, actor: R) -> Self
         ensures stands { StandsFor (rules_of R.plain R.counter) R.is_value actor (opened actor) result.queues }
-        ensures opening { result.queues ≡ record { state = actor; done = []; records = []; tally = []; tray = []; outbox = [] } }
+        ensures opening { result.queues ≡ record {
+          past = record { state = actor; done = []; sends = []; rows = [] };
+          sealed = 0;
+          committed = 0;
+          tally = [];
+          tray = [];
+          outbox = [];
+        } }
     {
         Process {
-            actor,
-            done: Vec::new(alloc),
-            records: Vec::new(alloc),
-            tally: Vec::new(alloc),
+            past: Past::new(alloc, actor),
+            sealed: 0,
+            committed: Vec::new(alloc),
+            tally: Tally::new(alloc),
             tray: VecDeque::new(alloc),
-            outbox: Vec::new(alloc),
+            outbox: Outbox::new(alloc),
         }
+    }
+
+    /// The signed count of a message: how many plus letters of it arrived, less the minus letters. A committed event's letter does not
+    /// count any more.
+    pub fn count(&self, message: &Message) -> i128
+        ensures count { result ≡ signed_count message_rules message.now self.now.queues.tally }
+        ensures stands { (opening : R) (part : Part Message R) → StandsFor (rules_of R.plain R.counter) R.is_value opening part self.now.queues →
+            result ≡ signed_count (rules_of R.plain R.counter) message.now part.tally }
+    {
+        self.tally.count(message)
+    }
+
+    /// The moment of the oldest done event, if there is one.
+    pub fn oldest(&self) -> Option<Time>
+        ensures oldest { result ≡ option_map (λ e. e.message.time) (slice_get self.now.queues.past.done 0) }
+        ensures stands { (opening : R) (part : Part Message R) → StandsFor (rules_of R.plain R.counter) R.is_value opening part self.now.queues →
+            result ≡ option_map (λ m. m.time) (slice_get part.done 0) }
+    {
+        self.past.oldest_time()
+    }
+
+    /// How many events are committed.
+    pub fn committed(&self) -> u64
+        ensures committed { result ≡ self.now.queues.committed }
+        ensures stands { (opening : R) (part : Part Message R) → StandsFor (rules_of R.plain R.counter) R.is_value opening part self.now.queues →
+            result ≡ length part.committed }
+    {
+        self.committed.len() as u64
+    }
+
+    /// The rows of the committed events, in their order.
+    pub fn sealed(&self) -> &[Row]
+        ensures rows { map seen_row result.now ≡ take self.now.queues.sealed self.now.queues.past.rows }
+        ensures stands { (opening : R) (part : Part Message R) → StandsFor (rules_of R.plain R.counter) R.is_value opening part self.now.queues →
+            map seen_row result.now ≡ rowed (rules_of R.plain R.counter) opening part.committed }
+    {
+        &self.past.rows()[..self.sealed]
     }
 
     /// The letters that wait to be posted, in order.
     pub fn outbox(&self) -> &[Letter]
-        ensures { result.now ≡ self.now.queues.outbox }
+        ensures { map signed result.now ≡ self.now.queues.outbox }
     {
-        &self.outbox
+        self.outbox.letters()
     }
 
     /// How many letters were taken from the mail and have not arrived.
@@ -77,6 +144,38 @@ impl<R: Actor> Process<R> {
         ensures small { length self.now.queues.tray < 2 ^ 63 }
     {
         self.tray.len()
+    }
+
+    /// The message that is handled next: the first present one that is not done, if there is one.
+    pub fn next(&self) -> Option<Message>
+        ensures next { result ≡ next_in self.now.queues }
+        ensures stands { (opening : R) (part : Part Message R) → StandsFor (rules_of R.plain R.counter) R.is_value opening part self.now.queues →
+            result ≡ next_of (rules_of R.plain R.counter) part }
+    {
+        actor_rules::<R>();
+        self.tally.present_after(self.past.newest())
+    }
+
+    /// A moment that nothing in hand is earlier than, as a post sets it: the least time of the tray's letters and of the present messages
+    /// that are not done, or the moment after the end.
+    pub fn floor(&self) -> Time
+        ensures { (opening : R) (part : Part Message R) → StandsFor (rules_of R.plain R.counter) R.is_value opening part self.now.queues →
+            result ≡ floor_of (rules_of R.plain R.counter) (R.end self.now.queues.past.state) part }
+    {
+        floor_of_tray::<R>(&self.tray, self.floor_of_messages())
+    }
+
+    /// The least time of the present messages that are not done, or the moment after the end.
+    fn floor_of_messages(&self) -> Time
+        ensures { (opening : R) (part : Part Message R) → StandsFor (rules_of R.plain R.counter) R.is_value opening part self.now.queues →
+            result ≡ floor_of (rules_of R.plain R.counter) (R.end self.now.queues.past.state) (record part { tray = [] }) }
+    {
+        actor_rules::<R>();
+        let end = Time::new(self.past.actor().until().ns() + 1).unwrap();
+        match self.next() {
+            Some(message) => earlier(message.time, end),
+            None => end,
+        }
     }
 
     /// Makes room for so many letters: as long as no other call comes between, so many calls of `deliver` take no memory.
@@ -93,7 +192,7 @@ impl<R: Actor> Process<R> {
     /// The letter comes to the back of the tray.
     pub fn deliver(&mut self, letter: Letter) -> Result<(), ProcFault>
         ensures delivered { OnOk result (Does (rules_of R.plain R.counter) R.is_value (λ opening. delivered (signed letter)) self.old.queues self.new.queues) }
-        ensures tray { OnOk result (self.new.queues ≡ record self.old.queues { tray = self.old.queues.tray ++ letter ∷ [] }) }
+        ensures tray { OnOk result (self.new.queues ≡ record self.old.queues { tray = self.old.queues.tray ++ signed letter ∷ [] }) }
         ensures room { OnOk result (self.old.room ≤ self.new.room + 1) }
         ensures unchanged { OnErr result (self.new.queues ≡ self.old.queues) }
         ensures reserved { OnErr result (self.old.room ≡ 0) }
@@ -118,6 +217,7 @@ impl<R: Actor> Process<R> {
         ensures queues { IfOk result (λ count. self.new.queues ≡ record self.old.queues { tray = self.old.queues.tray ++ take count (letters_for process mail.old) }) }
         ensures left { IfOk result (λ count. letters_for process mail.new ≡ drop count (letters_for process mail.old)) }
         ensures others { (q : ℕ) → q ≢ process → letters_for q mail.new ≡ letters_for q mail.old }
+        ensures processes { length mail.new ≡ length mail.old }
         ensures unchanged { OnErr result (self.new.queues ≡ self.old.queues) }
         ensures mail_unchanged { OnErr result (mail.new ≡ mail.old) }
         ensures reserved { OnErr result (self.old.room < min most (length (letters_for process mail.old))) }
@@ -128,141 +228,16 @@ impl<R: Actor> Process<R> {
         take_letters::<R>(&mut self.tray, mail, process, count);
         Ok(count)
     }
-
-    /// Whether the front letter of the tray, if there is one, is a plus and comes after all done events: what `arrive` asks.
-    pub fn front_is_new(&self) -> bool
-        ensures { IsTrue result ↔ IsNewFront (rules_of R.plain R.counter) self.now.queues.done self.now.queues.tray }
-    {
-        actor_rules::<R>();
-        match self.tray.front() {
-            Some(letter) => letter.sign == Sign::Plus
-                && is_after::<R>(self.done.last(), &letter.message),
-            None => true,
-        }
-    }
-
-    /// The front letter of the tray arrives. The answer is how many events that undid, or none where the tray is empty.
-    ///
-    /// For now the front letter must be a plus and come after all done events, so that none is undone.
-    pub fn arrive(&mut self) -> Result<Option<u64>, ProcFault>
-        requires { IsNewFront (rules_of R.plain R.counter) self.old.queues.done self.old.queues.tray }
-        ensures arrived { OnOk result (Does (rules_of R.plain R.counter) R.is_value (arrive (rules_of R.plain R.counter)) self.old.queues self.new.queues) }
-        ensures queues { OnOk result (self.new.queues ≡ arrived_of self.old.queues self.old.queues.tray) }
-        ensures answer { IfOk result (λ undone. MatchOption undone (self.old.queues.tray ≡ []) (λ count. (count ≡ 0) × (self.old.queues.tray ≢ []))) }
-        ensures unchanged { OnErr result (self.new.queues ≡ self.old.queues) }
-        ensures memory { IfErr result (λ fault. fault ≡ OutOfMemory) }
-    {
-        actor_rules::<R>();
-        self.tally.reserve(1)?;
-        match self.tray.pop_front() {
-            Some(letter) => {
-                self.tally.push_reserved(letter.message);
-                Ok(Some(0))
-            }
-            None => Ok(None),
-        }
-    }
-
-    /// The message that is handled next: the first present one that is not done, if there is one.
-    pub fn next(&self) -> Option<Message>
-        ensures next { result ≡ next_in (rules_of R.plain R.counter) self.now.queues }
-        ensures stands { (opening : R) (part : Part Message R) →
-            StandsFor (rules_of R.plain R.counter) R.is_value opening part self.now.queues → result ≡ next_of (rules_of R.plain R.counter) part }
-    {
-        actor_rules::<R>();
-        self.first_unhandled()
-    }
-
-    /// The first message that arrived and comes after the newest done event. It looks through all that arrived.
-    fn first_unhandled(&self) -> Option<Message>
-        ensures { result ≡ next_in (rules_of R.plain R.counter) self.now.queues }
-    {
-        first_after::<R>(&self.tally, self.done.last())
-    }
-
-    /// The first present message that is not done is handled: it joins the done events, and what it sends goes to the outbox.
-    /// The answer is that message, or none where there is none.
-    pub fn run(&mut self) -> Result<Option<Message>, ProcFault>
-        ensures ran { OnOk result (Does (rules_of R.plain R.counter) R.is_value (λ opening. run_one (rules_of R.plain R.counter)) self.old.queues self.new.queues) }
-        ensures handled { IfOk result (λ message. (opening : R) (part : Part Message R) →
-            StandsFor (rules_of R.plain R.counter) R.is_value opening part self.old.queues → message ≡ next_of (rules_of R.plain R.counter) part) }
-        ensures next { IfOk result (λ message. message ≡ next_in (rules_of R.plain R.counter) self.old.queues) }
-        ensures tray { self.new.queues.tray ≡ self.old.queues.tray }
-        ensures exhausted { (result ≡ Err Exhausted) ↔
-            IsSome (next_in (rules_of R.plain R.counter) self.old.queues) × (greatest_number < R.counter self.old.queues.state + 24) }
-        ensures unchanged { OnErr result (self.new.queues ≡ self.old.queues) }
-    {
-        actor_rules::<R>();
-        let Some(message) = self.next() else {
-            return Ok(None);
-        };
-        if !self.actor.has_numbers() {
-            return Err(ProcFault::Exhausted);
-        }
-        self.done.reserve(1)?;
-        self.records.reserve(1)?;
-        self.outbox.reserve(24)?;
-        let (sends, kept) = self.actor.apply(&message);
-        self.done.push_reserved(message);
-        self.records.push_reserved(kept);
-        send_all(&mut self.outbox, sends.messages.as_slice());
-        Ok(Some(message))
-    }
-
-    /// The letters of the outbox go in order behind those in the mail, and the outbox is left empty.
-    pub fn post(&mut self, mail: &mut Mail) -> Result<(), ProcFault>
-        ensures emptied { OnOk result (Does (rules_of R.plain R.counter) R.is_value (λ opening. emptied) self.old.queues self.new.queues) }
-        ensures posted { OnOk result (mail.new ≡ mail.old ++ self.old.queues.outbox) }
-        ensures queues { OnOk result (self.new.queues ≡ record self.old.queues { outbox = [] }) }
-        ensures unchanged { OnErr result (self.new.queues ≡ self.old.queues) }
-        ensures mail_unchanged { OnErr result (mail.new ≡ mail.old) }
-        ensures memory { IfErr result (λ fault. fault ≡ OutOfMemory) }
-    {
-        mail.post(&mut self.outbox)?;
-        Ok(())
-    }
-
-    /// Undoes all done events, the newest first, each with its record, and gives the actor back. Nothing is sent.
-    pub fn undo_all(self) -> R
-        ensures undone { (opening : R) (part : Part Message R) →
-            StandsFor (rules_of R.plain R.counter) R.is_value opening part self.queues → result ≡ undo_all (rules_of R.plain R.counter) opening part }
-        ensures committed { (opening : R) (part : Part Message R) →
-            StandsFor (rules_of R.plain R.counter) R.is_value opening part self.queues → result ≡ reached (rules_of R.plain R.counter) opening part.committed }
-    {
-        actor_rules::<R>();
-        let Process {
-            mut actor,
-            done,
-            mut records,
-            ..
-        } = self;
-        while let Some(kept) = records.pop() {
-            actor.undo(&done[records.len()], kept);
-        }
-        actor
-    }
-}
-
-/// The letters that bring these messages go behind those in the outbox, which has room for them.
-fn send_all(outbox: &mut Vec<Letter>, messages: &[Message])
-    requires { vec_len outbox.old + length messages.now ≤ vec_capacity outbox.old }
-    ensures { outbox.new.items ≡ outbox.old.items ++ map letter_of messages.now }
-{
-    for message in messages {
-        outbox.push_reserved(Letter {
-            message: *message,
-            sign: Sign::Plus,
-        });
-    }
 }
 
 /// The first `count` letters for this process go from the mail to the back of the tray, which has room for them.
 fn take_letters<R: Actor>(tray: &mut VecDeque<Letter>, mail: &mut Mail, process: u16, count: usize)
     requires room { deque_len tray.old + count ≤ deque_capacity tray.old }
     requires enough { count ≤ length (letters_for process mail.old) }
-    ensures tray { tray.new.items ≡ tray.old.items ++ take count (letters_for process mail.old) }
+    ensures tray { map signed tray.new.items ≡ map signed tray.old.items ++ take count (letters_for process mail.old) }
     ensures left { letters_for process mail.new ≡ drop count (letters_for process mail.old) }
     ensures others { (q : ℕ) → q ≢ process → letters_for q mail.new ≡ letters_for q mail.old }
+    ensures processes { length mail.new ≡ length mail.old }
 {
     for taken in 0..count {
         take_letter::<R>(tray, mail, process);
@@ -273,14 +248,37 @@ fn take_letters<R: Actor>(tray: &mut VecDeque<Letter>, mail: &mut Mail, process:
 fn take_letter<R: Actor>(tray: &mut VecDeque<Letter>, mail: &mut Mail, process: u16)
     requires room { deque_len tray.old < deque_capacity tray.old }
     requires some { 0 < length (letters_for process mail.old) }
-    ensures tray { tray.new.items ≡ tray.old.items ++ take 1 (letters_for process mail.old) }
+    ensures tray { map signed tray.new.items ≡ map signed tray.old.items ++ take 1 (letters_for process mail.old) }
     ensures length { deque_len tray.new ≡ deque_len tray.old + 1 }
     ensures capacity { deque_capacity tray.new ≡ deque_capacity tray.old }
     ensures left { letters_for process mail.new ≡ drop 1 (letters_for process mail.old) }
     ensures others { (q : ℕ) → q ≢ process → letters_for q mail.new ≡ letters_for q mail.old }
+    ensures processes { length mail.new ≡ length mail.old }
 {
-    match mail.take_first(process) {
+    match mail.take(process, 0) {
         Some(letter) => tray.push_back_reserved(letter),
         None => {}
     }
+}
+
+/// The earlier of two moments.
+fn earlier(first: Time, second: Time) -> Time
+    ensures { result ≡ min first second }
+{
+    if first.ns() <= second.ns() {
+        first
+    } else {
+        second
+    }
+}
+
+/// The least time of these letters, or the given moment where that is earlier.
+fn floor_of_tray<R: Actor>(tray: &VecDeque<Letter>, moment: Time) -> Time
+    ensures { result ≡ lowest moment (map (λ l. l.message.time) tray.now.items) }
+{
+    let mut floor = moment;
+    for place in 0..tray.len() {
+        floor = earlier(tray[place].message.time, floor);
+    }
+    floor
 }

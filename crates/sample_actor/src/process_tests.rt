@@ -1,52 +1,88 @@
 use crate::Summing;
-use process_queues::{Mail, ProcFault, Process};
+use antimessages::{Mail, Outbox};
+use process_queues::{ProcFault, Process};
+use std::alloc::Global;
+use std::process::Abort;
 use std::test::Fail;
 use vlink::{LATEST_NS, Letter, Message, Sign, Time};
 
-/// A plus letter from process 2, at this moment, if that is within the limits.
-fn plus(ns: u64, receiver: u16) -> Option<Letter> {
-    let message = Message {
-        time: Time::new(ns)?,
-        receiver,
-        sender: 2,
+/// The message from this sender at this moment, for process 0.
+fn message(rt: &impl Abort, ns: u64, sender: u32) -> Message {
+    Message {
+        time: Time::new(ns).expect(rt, "a moment within the limits"),
+        sender,
         ..Message::default()
-    };
-    Some(Letter {
+    }
+}
+
+/// The letter that brings the message.
+fn plus(message: Message) -> Letter {
+    Letter {
         message,
         sign: Sign::Plus,
-    })
+    }
+}
+
+/// The antimessage of the message.
+fn minus(message: Message) -> Letter {
+    Letter {
+        message,
+        sign: Sign::Minus,
+    }
+}
+
+/// The test actor, with nothing done.
+fn opened(rt: &impl Abort, alloc: Global) -> Process<Summing> {
+    let until = Time::new(LATEST_NS).expect(rt, "a moment within the limits");
+    Process::new(alloc, Summing::new(until))
+}
+
+/// The test actor after the messages at these moments, which came from sender 2 one after another, its outbox posted.
+fn after(rt: &impl Abort, alloc: Global, moments: &[u64]) -> Result<Process<Summing>, Fail> {
+    let mut process = opened(rt, alloc);
+    for ns in moments {
+        let message = message(rt, *ns, 2);
+        process.deliver(plus(message))?;
+        assert_eq!(rt; process.arrive()?, Some(0));
+        assert_eq!(rt; process.run()?, Some(message));
+    }
+    let mut mail = Mail::new(alloc, 2)?;
+    process.post(&mut mail)?;
+    assert_eq!(rt; (mail.count(0), mail.count(1)), (0, moments.len()));
+    assert_eq!(rt; process.outbox().len(), 0);
+    Ok(process)
+}
+
+/// The moments, numbers and signs of the letters in the outbox; a plus is true.
+fn outbox_of(alloc: Global, process: &Process<Summing>) -> Result<Vec<(u64, u64, bool)>, Fail> {
+    let mut letters = Vec::new(alloc);
+    for letter in process.outbox() {
+        letters.push((
+            letter.message.time.ns(),
+            letter.message.number,
+            letter.sign == Sign::Plus,
+        ))?;
+    }
+    Ok(letters)
 }
 
 #[test]
 fn handles_three_messages_and_undoes_them(rt: HostRuntime) -> Result<(), Fail> {
-    let until = Time::new(LATEST_NS).expect(&rt, "a moment within the limits");
-    let mut process = Process::new(rt.alloc(), Summing::new(until));
+    let mut process = opened(&rt, rt.alloc());
     assert_eq!(rt; process.run()?, None);
     for ns in [10, 20, 30] {
-        let letter = plus(ns, 0).expect(&rt, "a moment within the limits");
-        process.deliver(letter)?;
+        process.deliver(plus(message(&rt, ns, 2)))?;
     }
     for undone in [Some(0), Some(0), Some(0), None] {
-        assert!(rt; process.front_is_new());
         assert_eq!(rt; process.arrive()?, undone);
     }
     for ns in [10, 20, 30] {
-        let letter = plus(ns, 0).expect(&rt, "a moment within the limits");
-        assert_eq!(rt; process.run()?, Some(letter.message));
+        assert_eq!(rt; process.run()?, Some(message(&rt, ns, 2)));
     }
     assert_eq!(rt; process.run()?, None);
-    let mut sent = Vec::new(rt.alloc());
-    for letter in process.outbox() {
-        assert_eq!(rt; letter.sign, Sign::Plus);
-        sent.push((
-            letter.message.time.ns(),
-            letter.message.receiver,
-            letter.message.number,
-        ))?;
-    }
     assert_eq!(rt;
-        sent.as_slice(),
-        [(15, 1, 0), (25, 1, 1), (35, 1, 2)].as_slice()
+        outbox_of(rt.alloc(), &process)?.as_slice(),
+        [(15, 0, true), (25, 1, true), (35, 2, true)].as_slice()
     );
     let actor = process.undo_all();
     assert_eq!(rt; (actor.sum, actor.counter), (0, 0));
@@ -54,15 +90,86 @@ fn handles_three_messages_and_undoes_them(rt: HostRuntime) -> Result<(), Fail> {
 }
 
 #[test]
-fn letters_go_where_room_was_made(rt: HostRuntime) -> Result<(), Fail> {
-    let until = Time::new(LATEST_NS).expect(&rt, "a moment within the limits");
-    let mut process = Process::new(rt.alloc(), Summing::new(until));
-    process.reserve_letters(3)?;
-    for ns in [10, 20, 30] {
-        let letter = plus(ns, 0).expect(&rt, "a moment within the limits");
-        process.deliver(letter)?;
-    }
-    assert_eq!(rt; process.tray_len(), 3);
+fn a_late_letter_undoes_what_is_not_before_it(rt: HostRuntime) -> Result<(), Fail> {
+    let mut process = after(&rt, rt.alloc(), &[10, 20, 30])?;
+    process.deliver(plus(message(&rt, 15, 2)))?;
+    assert_eq!(rt; process.arrive()?, Some(2));
+    assert_eq!(rt;
+        outbox_of(rt.alloc(), &process)?.as_slice(),
+        [(35, 2, false), (25, 1, false)].as_slice()
+    );
+    assert_eq!(rt; process.oldest(), Time::new(10));
+    assert_eq!(rt; process.run()?, Some(message(&rt, 15, 2)));
+    assert_eq!(rt;
+        outbox_of(rt.alloc(), &process)?.as_slice(),
+        [(35, 2, false), (25, 1, false), (20, 1, true)].as_slice()
+    );
+    Ok(())
+}
+
+#[test]
+fn a_tie_from_a_smaller_sender_is_late(rt: HostRuntime) -> Result<(), Fail> {
+    let mut process = after(&rt, rt.alloc(), &[10])?;
+    process.deliver(plus(message(&rt, 10, 1)))?;
+    assert_eq!(rt; process.arrive()?, Some(1));
+    assert_eq!(rt; process.next(), Some(message(&rt, 10, 1)));
+    Ok(())
+}
+
+#[test]
+fn an_antimessage_may_come_first(rt: HostRuntime) -> Result<(), Fail> {
+    let mut process = opened(&rt, rt.alloc());
+    let early = message(&rt, 10, 2);
+    process.deliver(minus(early))?;
+    assert_eq!(rt; process.arrive()?, Some(0));
+    assert_eq!(rt; process.count(&early), -1);
+    process.deliver(plus(early))?;
+    assert_eq!(rt; process.arrive()?, Some(0));
+    assert_eq!(rt; process.count(&early), 0);
+    assert_eq!(rt; process.run()?, None);
+    Ok(())
+}
+
+#[test]
+fn a_message_that_came_twice_stays_done(rt: HostRuntime) -> Result<(), Fail> {
+    let mut process = after(&rt, rt.alloc(), &[10])?;
+    let twice = message(&rt, 10, 2);
+    process.deliver(plus(twice))?;
+    assert_eq!(rt; process.arrive()?, Some(0));
+    assert_eq!(rt; process.count(&twice), 2);
+    assert_eq!(rt; process.seal_oldest()?, false);
+    process.deliver(minus(twice))?;
+    assert_eq!(rt; process.arrive()?, Some(0));
+    assert_eq!(rt; process.count(&twice), 1);
+    assert_eq!(rt; process.oldest(), Time::new(10));
+    assert_eq!(rt; process.run()?, None);
+    assert_eq!(rt; (process.committed(), process.sealed().len()), (0, 0));
+    assert_eq!(rt; process.seal_oldest()?, true);
+    assert_eq!(rt; (process.committed(), process.sealed().len()), (1, 0));
+    assert_eq!(rt; (process.count(&twice), process.oldest()), (0, None));
+    assert_eq!(rt; process.seal_oldest()?, false);
+    let actor = process.undo_all();
+    assert_eq!(rt; (actor.sum, actor.counter), (10, 1));
+    Ok(())
+}
+
+#[test]
+fn an_antimessage_undoes_its_event_and_those_after_it(rt: HostRuntime) -> Result<(), Fail> {
+    let mut process = after(&rt, rt.alloc(), &[10, 20, 30])?;
+    process.deliver(minus(message(&rt, 20, 2)))?;
+    assert_eq!(rt; process.arrive()?, Some(2));
+    assert_eq!(rt;
+        outbox_of(rt.alloc(), &process)?.as_slice(),
+        [(35, 2, false), (25, 1, false)].as_slice()
+    );
+    assert_eq!(rt; process.run()?, Some(message(&rt, 30, 2)));
+    assert_eq!(rt;
+        outbox_of(rt.alloc(), &process)?.as_slice(),
+        [(35, 2, false), (25, 1, false), (35, 1, true)].as_slice()
+    );
+    assert_eq!(rt; process.run()?, None);
+    let actor = process.undo_all();
+    assert_eq!(rt; (actor.sum, actor.counter), (0, 0));
     Ok(())
 }
 
@@ -72,36 +179,82 @@ fn without_numbers_a_message_is_not_handled(rt: HostRuntime) -> Result<(), Fail>
     let mut actor = Summing::new(until);
     actor.counter = (1 << 62) - 23;
     let mut process = Process::new(rt.alloc(), actor);
-    let letter = plus(10, 0).expect(&rt, "a moment within the limits");
-    process.deliver(letter)?;
-    assert!(rt; process.front_is_new());
+    assert_eq!(rt; process.run()?, None);
+    let waiting = message(&rt, 10, 2);
+    process.deliver(plus(waiting))?;
     assert_eq!(rt; process.arrive()?, Some(0));
     assert_eq!(rt; process.run(), Err(ProcFault::Exhausted));
-    assert_eq!(rt; process.next(), Some(letter.message));
+    assert_eq!(rt; process.next(), Some(waiting));
     Ok(())
 }
 
 #[test]
-fn letters_are_taken_from_the_mail_in_order(rt: HostRuntime) -> Result<(), Fail> {
-    let until = Time::new(LATEST_NS).expect(&rt, "a moment within the limits");
-    let mut process = Process::new(rt.alloc(), Summing::new(until));
-    for ns in [10, 20] {
-        let letter = plus(ns, 0).expect(&rt, "a moment within the limits");
-        process.deliver(letter)?;
-        assert!(rt; process.front_is_new());
-        assert_eq!(rt; process.arrive()?, Some(0));
-        assert_eq!(rt; process.run()?, Some(letter.message));
+fn the_floor_is_the_least_of_tray_and_unhandled(rt: HostRuntime) -> Result<(), Fail> {
+    let mut process = after(&rt, rt.alloc(), &[10])?;
+    assert_eq!(rt; process.floor().ns(), LATEST_NS + 1);
+    process.deliver(plus(message(&rt, 40, 2)))?;
+    assert_eq!(rt; process.floor().ns(), 40);
+    assert_eq!(rt; process.arrive()?, Some(0));
+    assert_eq!(rt; process.floor().ns(), 40);
+    process.deliver(minus(message(&rt, 50, 2)))?;
+    assert_eq!(rt; process.floor().ns(), 40);
+    process.deliver(minus(message(&rt, 30, 2)))?;
+    assert_eq!(rt; process.floor().ns(), 30);
+    Ok(())
+}
+
+#[test]
+fn letters_go_where_room_was_made(rt: HostRuntime) -> Result<(), Fail> {
+    let mut process = opened(&rt, rt.alloc());
+    process.reserve_letters(3)?;
+    for ns in [10, 20, 30] {
+        process.deliver(plus(message(&rt, ns, 2)))?;
     }
-    let mut mail = Mail::new(rt.alloc());
-    process.post(&mut mail)?;
-    assert_eq!(rt; process.outbox().len(), 0);
-    assert_eq!(rt; (mail.count(0), mail.count(1)), (0, 2));
-    let looked = mail.look(1, 1).expect(&rt, "the second letter");
-    assert_eq!(rt; looked.message.time.ns(), 25);
-    let taken = mail.take_first(1).expect(&rt, "the first letter");
-    assert_eq!(rt; taken.message.time.ns(), 15);
-    assert_eq!(rt; mail.count(1), 1);
-    let looked = mail.look(1, 0).expect(&rt, "the letter that is left");
-    assert_eq!(rt; looked.message.time.ns(), 25);
+    assert_eq!(rt; process.tray_len(), 3);
+    Ok(())
+}
+
+#[test]
+fn letters_are_collected_in_order(rt: HostRuntime) -> Result<(), Fail> {
+    let mut outbox = Outbox::new(rt.alloc());
+    for ns in [30, 10, 20] {
+        outbox.push(plus(message(&rt, ns, 2)))?;
+    }
+    let mut mail = Mail::new(rt.alloc(), 2)?;
+    mail.post(&mut outbox)?;
+    let mut process = opened(&rt, rt.alloc());
+    assert_eq!(rt; process.collect(&mut mail, 0, 2)?, 2);
+    assert_eq!(rt; (process.tray_len(), mail.count(0)), (2, 1));
+    assert_eq!(rt; process.collect(&mut mail, 0, 2)?, 1);
+    assert_eq!(rt; process.collect(&mut mail, 0, 2)?, 0);
+    for undone in [Some(0), Some(0), Some(0), None] {
+        assert_eq!(rt; process.arrive()?, undone);
+    }
+    assert_eq!(rt; process.run()?, Some(message(&rt, 10, 2)));
+    Ok(())
+}
+
+/// A late letter, whose arrival is refused any number of times: each refusal leaves all as it was, and in the end two events are
+/// undone.
+#[test]
+fn a_refused_arrival_changes_nothing(rt: HostRuntime) -> Result<(), Fail> {
+    let mut process = after(&rt, rt.alloc(), &[10, 20, 30])?;
+    let late = message(&rt, 15, 2);
+    process.deliver(plus(late))?;
+    let mut undone = process.arrive();
+    for _ in 0..8 {
+        if undone != Err(ProcFault::OutOfMemory) {
+            break;
+        }
+        assert_eq!(rt; (process.tray_len(), process.outbox().len()), (1, 0));
+        assert_eq!(rt;
+            (process.count(&late), process.oldest()),
+            (0, Time::new(10))
+        );
+        assert_eq!(rt; process.next(), None);
+        undone = process.arrive();
+    }
+    assert_eq!(rt; undone, Ok(Some(2)));
+    assert_eq!(rt; process.outbox().len(), 2);
     Ok(())
 }

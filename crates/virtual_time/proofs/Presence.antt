@@ -43,7 +43,7 @@ module _ {M S K N : Type 0} (r : Rules M S K N) (O : IsOrder r) where
       go (inl k) = absurd (let a = subst (λ z. IsPresent r (minus_of m ∷ tally) z) k h in let b = ap one_if (same-refl r O m) in omega arith)
       go (inr n) = (n, let a = counts-other r O x (minus_of m) tally n in let b = a.0 in let c = a.1 in omega arith)
 
-  in-messages : (m : M) (ls : List (Letter M)) → 0 < pluses r m ls → IsIn r m (map (λ l. l.message) ls)
+  pub in-messages : (m : M) (ls : List (Letter M)) → 0 < pluses r m ls → IsIn r m (map (λ l. l.message) ls)
   in-messages m [] h = absurd (omega arith)
   in-messages m (l ∷ ls) h = go (same_cases r O m l.message) (λ i. in-messages m ls i)
     where

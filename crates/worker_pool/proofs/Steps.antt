@@ -3,17 +3,17 @@ use Rattle.std.proofs.Common.{◌≡◌, ℕ, zero, suc, ◌+◌, ◌<◌, ◌�
 use Rattle.std.proofs.lemmas.List.{replicate_more}
 use Rattle.std.proofs.lemmas.Bool.{cases_lt}
 use Rattle.vlink.specs.declared.message.Message.{Message}
-use Rattle.vlink.specs.declared.message.Letter.{Letter}
+use Rattle.vlink.specs.declared.note.Note.{Note}
 use Rattle.virtual_time.specs.Rules.{Rules}
 use Rattle.virtual_time.specs.Letters.{Letter as Signed}
 use Rattle.virtual_time.specs.Part.{Part, arrive, arrived, counted, is_turned, rolled_back, run_one, next_of, handled}
 use Rattle.process_queues.specs.Queues.{Queues, StandsFor, next_in}
-use Rattle.process_queues.proofs.Mailing.{drop-next}
+use Rattle.process_queues.proofs.Taking.{drop-next}
 use Rattle.worker_pool.specs.declared.step.Step.{Step}
 use Rattle.worker_pool.specs.declared.step.Step.TheVariants.{Take, Arrive, Run, Post}
-use Rattle.worker_pool.specs.Hands.{Hand, moved, Works, ArrivesSome, AreNew, IsIdleBefore}
+use Rattle.worker_pool.specs.Hands.{Hand, moved, Works, ArrivesSome, IsIdleBefore}
 
-module _ {S K N : Type 0} (r : Rules Message S K N) where
+module _ {S K : Type 0} (r : Rules Message S K Note) where
   pub moved-append : (opening : S) (xs ys : List Step) (part : Part Message S) → moved r opening (xs ++ ys) part ≡ moved r opening ys (moved r opening xs part)
   moved-append opening [] ys part = refl
   moved-append opening (Take p i ∷ xs) ys part = moved-append opening xs ys part
@@ -47,11 +47,6 @@ module _ {S K N : Type 0} (r : Rules Message S K N) where
   moved-commits opening (Run p ∷ xs) part = moved-commits opening xs (run_one r part) ∙ run-commits part
   moved-commits opening (Post p ∷ xs) part = moved-commits opening xs part
 
-  pub new-drop : (done : List Message) (n : ℕ) (ls : List Letter) → AreNew r done ls → AreNew r done (drop n ls)
-  new-drop done zero ls h = h
-  new-drop done (suc n) [] h = tt
-  new-drop done (suc n) (l ∷ ls) h = new-drop done n ls h.2
-
   module _ (is_value : S → Message → Type 0) where
     pub works-none : (h : Hand S K) → Works r is_value h h []
     works-none h = record { number = refl; block = sym (append-nil h.block); process = λ opening part s. s }
@@ -65,14 +60,13 @@ module _ {S K N : Type 0} (r : Rules Message S K N) where
     }
 
     pub arrives-none : (h : Hand S K) → ArrivesSome r is_value h h 0
-    arrives-none h = record { works = works-none h; done = refl; tray = refl; within = omega arith }
+    arrives-none h = record { works = works-none h; tray = refl; within = omega arith }
 
     pub arrives-next : (a b c : Hand S K) (n : ℕ) → ArrivesSome r is_value a b n → n < length a.queues.tray → ArrivesSome r is_value b c 1 → ArrivesSome r is_value a c (n + 1)
     arrives-next a b c n v h w = record {
       works = subst (Works r is_value a c) (replicate_more n (Arrive a.number))
           (works-more a b c (replicate n (Arrive a.number)) (Arrive a.number ∷ []) v.works
           (subst (λ p. Works r is_value b c (Arrive p ∷ [])) v.works.number w.works));
-      done = w.done ∙ v.done;
       tray = w.tray ∙ (ap (drop 1) v.tray ∙ drop-next a.queues.tray n);
       within = omega arith;
     }
@@ -91,9 +85,9 @@ module _ {S K N : Type 0} (r : Rules Message S K N) where
         (subst (λ p. Works r is_value b c (replicate k (Run p))) v.works.number w)
 
 -- of what is not earlier than a moment nothing is earlier
-pub idle-before : {S K N : Type 0} (r : Rules Message S K N) (moment : ℕ) (q : Queues S K) (o : Option Message) → o ≡ next_in r q →
-    (IsSomeAnd o (λ m. m.time < moment) → ⊥) → IsIdleBefore r moment q
-idle-before r moment q o e n m k = go (cases_lt m.time moment)
+pub idle-before : {S K : Type 0} (moment : ℕ) (q : Queues S K) (o : Option Message) → o ≡ next_in q →
+    (IsSomeAnd o (λ m. m.time < moment) → ⊥) → IsIdleBefore moment q
+idle-before moment q o e n m k = go (cases_lt m.time moment)
   where
     go : (m.time < moment) ⊎ (moment ≤ m.time) → moment ≤ m.time
     go (inl early) = absurd (n (subst (λ z. IsSomeAnd z (λ x. x.time < moment)) (sym (e ∙ k)) early))

@@ -1,7 +1,10 @@
-ghost use Rattle.std.specs.Prelude.{◌≡◌, ◌≢◌, ◌≤◌, ◌+◌, ℕ, [], ◌∷◌, ◌++◌, length, min, drop, take, replicate, slice_get, vec_len, vec_capacity, ◌<◌, OnOk, OnErr, IfOk, IfErr};
-ghost use Rattle.process_queues.specs.Mail.{letters_for};
+ghost use Rattle.std.specs.Prelude.{◌≡◌, ◌≢◌, ◌≤◌, ◌+◌, ℕ, [], ◌∷◌, ◌++◌, All, length, min, drop, take, replicate, slice_get, vec_len, vec_capacity, ◌<◌, OnOk, OnErr, IfOk, IfErr};
+ghost use Rattle.virtual_time.specs.Letters.{received_by};
+ghost use Rattle.antimessages.specs.Letters.{message_rules, signed};
+ghost use Rattle.antimessages.specs.Mailing.{letters_for};
 ghost use Rattle.process_queues.specs.Queues.{StandsFor, Does, delivered_all};
 ghost use Rattle.virtual_time.specs.Part.{Part, opened, emptied, undo_all};
+ghost use Rattle.std.specs.Option.{option_map};
 ghost use Rattle.virtual_time.specs.Rules.{reached};
 ghost use Rattle.vlink.specs.declared.message.Message.{Message};
 ghost use Rattle.worker_pool.specs.declared.fault.PoolFault.TheVariants.{OutOfMemory};
@@ -10,7 +13,8 @@ ghost use Rattle.worker_pool.specs.declared.step.Step.TheVariants.{Take, Post};
 
 use crate::fault::PoolFault;
 use crate::step::Step;
-use process_queues::{Mail, Process};
+use antimessages::{Mail, Outbox};
+use process_queues::Process;
 use reverse::Actor;
 use std::alloc::Global;
 use std::marker::Model;
@@ -42,11 +46,14 @@ pub struct Exchange {
 }
 
 impl Model for Exchange {
+    ghost use Rattle.std.specs.Prelude.{◌≡◌, length};
     ghost use Rattle.worker_pool.specs.Hands.{Hub};
 
     ghost Value = { Hub };
 
     ghost view = { λ x. record { mail = x.mail; journal = x.journal.items; processes = x.processes } };
+
+    ghost invariant = { λ x. length x.mail ≡ x.processes };
 }
 
 impl<R: Actor> Held<R> {
@@ -80,19 +87,28 @@ impl Exchange {
     ) -> Result<(Exchange, Held<R>), PoolFault>
         requires receiver { letter.message.receiver < processes }
         requires actor { R.number actor < processes }
-        ensures exchange { IfOk result (λ made. made.0 ≡ record { mail = letter ∷ []; journal = []; processes = processes }) }
+        ensures mail { IfOk result (λ made. (p : ℕ) → letters_for p (made.0).mail ≡ received_by message_rules p (signed letter ∷ [])) }
+        ensures journal { IfOk result (λ made. (made.0).journal ≡ []) }
+        ensures processes { IfOk result (λ made. (made.0).processes ≡ processes) }
         ensures held { IfOk result (λ made. made.1 ≡ record {
           number = R.number actor;
-          queues = record { state = actor; done = []; records = []; tally = []; tray = []; outbox = [] };
+          queues = record {
+            past = record { state = actor; done = []; sends = []; rows = [] };
+            sealed = 0;
+            committed = 0;
+            tally = [];
+            tray = [];
+            outbox = [];
+          };
           block = [];
         }) }
         ensures opening { IfOk result (λ made. StandsFor (rules_of R.plain R.counter) R.is_value actor (opened actor) (made.1).queues) }
         ensures memory { IfErr result (λ fault. fault ≡ OutOfMemory) }
     {
         let number = actor.id();
-        let mut letters = Vec::with_capacity(alloc, 1)?;
-        letters.push_reserved(letter);
-        let mut mail = Mail::new(alloc);
+        let mut letters = Outbox::new(alloc);
+        letters.push(letter)?;
+        let mut mail = Mail::new(alloc, processes)?;
         mail.post(&mut letters)?;
         let held = Held {
             process: Process::new(alloc, actor),
@@ -131,7 +147,7 @@ impl Exchange {
 
     /// The letter number `place`, from 0, of the mail of process `process`.
     pub fn look(&self, process: u16, place: usize) -> Option<Letter>
-        ensures { result ≡ slice_get (letters_for process self.now.mail) place }
+        ensures { option_map signed result ≡ slice_get (letters_for process self.now.mail) place }
     {
         self.mail.look(process, place)
     }
@@ -154,6 +170,7 @@ pub fn collect<R: Actor>(
     ensures mail { IfOk result (λ count. letters_for held.old.number exchange.new.mail ≡ drop count (letters_for held.old.number exchange.old.mail)) }
     ensures others { (q : ℕ) → q ≢ held.old.number → letters_for q exchange.new.mail ≡ letters_for q exchange.old.mail }
     ensures journal { IfOk result (λ count. exchange.new.journal ≡ exchange.old.journal ++ replicate count (Take held.old.number 0)) }
+    ensures processes { exchange.new.processes ≡ exchange.old.processes }
     ensures unchanged { OnErr result (held.new ≡ held.old) }
     ensures exchange_unchanged { OnErr result (exchange.new ≡ exchange.old) }
     ensures memory { IfErr result (λ fault. fault ≡ OutOfMemory) }
@@ -182,17 +199,21 @@ fn push_copies(steps: &mut Vec<Step>, step: Step, count: usize)
 }
 
 /// The process's outbox goes to the mail, in order; its block and then the post are entered in the journal. With an empty block
-/// nothing changes. A refusal changes nothing.
+/// nothing changes. A refusal changes nothing. Each letter is for a process of the exchange.
 pub fn post<R: Actor>(held: &mut Held<R>, exchange: &mut Exchange) -> Result<(), PoolFault>
+    requires { All (λ letter. letter.message.receiver < exchange.old.processes) held.old.queues.outbox }
     ensures process { OnOk result (held.old.block ≢ [] →
         Does (rules_of R.plain R.counter) R.is_value (λ opening. emptied) held.old.queues held.new.queues) }
     ensures journal { OnOk result (held.old.block ≢ [] → exchange.new.journal ≡ exchange.old.journal ++ held.old.block ++ Post held.old.number ∷ []) }
-    ensures mail { OnOk result (held.old.block ≢ [] → exchange.new.mail ≡ exchange.old.mail ++ held.old.queues.outbox) }
+    ensures mail { OnOk result (held.old.block ≢ [] →
+        (p : ℕ) → letters_for p exchange.new.mail ≡ letters_for p exchange.old.mail ++ received_by message_rules p held.old.queues.outbox) }
     ensures held { OnOk result (held.old.block ≢ [] → held.new ≡ record held.old { queues = record held.old.queues { outbox = [] }; block = [] }) }
     ensures idle { OnOk result (held.old.block ≡ [] → held.new ≡ held.old) }
     ensures idle_exchange { OnOk result (held.old.block ≡ [] → exchange.new ≡ exchange.old) }
+    ensures processes { exchange.new.processes ≡ exchange.old.processes }
     ensures unchanged { OnErr result (held.new ≡ held.old) }
-    ensures exchange_unchanged { OnErr result (exchange.new ≡ exchange.old) }
+    ensures journal_unchanged { OnErr result (exchange.new.journal ≡ exchange.old.journal) }
+    ensures mail_unchanged { OnErr result ((p : ℕ) → letters_for p exchange.new.mail ≡ letters_for p exchange.old.mail) }
     ensures memory { IfErr result (λ fault. fault ≡ OutOfMemory) }
 {
     if held.block.is_empty() {

@@ -24,6 +24,17 @@ impl From<AllocError> for PoolFault {
     }
 }
 
+impl From<antimessages::OutOfMemory> for PoolFault {
+    ghost use Rattle.std.specs.Prelude.{◌≡◌};
+    ghost use Rattle.worker_pool.specs.declared.fault.PoolFault.TheVariants.{OutOfMemory};
+
+    ghost from_gives = { λ _ fault. fault ≡ OutOfMemory };
+
+    fn from(_: antimessages::OutOfMemory) -> Self {
+        PoolFault::OutOfMemory
+    }
+}
+
 impl From<ProcFault> for PoolFault {
     ghost use Rattle.std.specs.Prelude.{◌≡◌};
     ghost use Rattle.worker_pool.specs.Faults.{fault_of};

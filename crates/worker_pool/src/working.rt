@@ -5,7 +5,7 @@ ghost use Rattle.vlink.specs.Numbering.{greatest_number};
 ghost use Rattle.process_queues.specs.Queues.{next_in};
 ghost use Rattle.worker_pool.specs.declared.fault.PoolFault.TheVariants.{OutOfMemory, Exhausted};
 ghost use Rattle.worker_pool.specs.declared.step.Step.TheVariants.{Arrive, Run};
-ghost use Rattle.worker_pool.specs.Hands.{AreNew, Works, ArrivesSome, IsIdleBefore};
+ghost use Rattle.worker_pool.specs.Hands.{Works, ArrivesSome, IsIdleBefore};
 
 use crate::exchange::Held;
 use crate::fault::PoolFault;
@@ -16,8 +16,7 @@ use vlink::Message;
 
 /// The front letter of the tray, which is not empty, arrives; the step joins the block.
 fn arrive_one<R: Actor>(held: &mut Held<R>) -> Result<(), PoolFault>
-    requires new { AreNew (rules_of R.plain R.counter) held.old.queues.done held.old.queues.tray }
-    requires some { 0 < length held.old.queues.tray }
+    requires { 0 < length held.old.queues.tray }
     ensures arrived { OnOk result (ArrivesSome (rules_of R.plain R.counter) R.is_value held.old held.new 1) }
     ensures unchanged { OnErr result (held.new ≡ held.old) }
     ensures memory { IfErr result (λ fault. fault ≡ OutOfMemory) }
@@ -31,7 +30,6 @@ fn arrive_one<R: Actor>(held: &mut Held<R>) -> Result<(), PoolFault>
 
 /// All letters of the tray arrive, one after another; the steps join the block. A refusal leaves those that have arrived.
 fn arrive_all<R: Actor>(held: &mut Held<R>) -> Result<(), PoolFault>
-    requires { AreNew (rules_of R.plain R.counter) held.old.queues.done held.old.queues.tray }
     ensures arrived { OnOk result (ArrivesSome (rules_of R.plain R.counter) R.is_value held.old held.new (length held.old.queues.tray)) }
     ensures some { OnErr result ((count : ℕ) × ArrivesSome (rules_of R.plain R.counter) R.is_value held.old held.new count) }
     ensures memory { IfErr result (λ fault. fault ≡ OutOfMemory) }
@@ -53,10 +51,10 @@ fn run_some<R: Actor, G: Gate>(
 ) -> Result<u64, PoolFault>
     ensures ran { IfOk result (λ count. Works (rules_of R.plain R.counter) R.is_value held.old held.new (replicate count (Run held.old.number))) }
     ensures within { IfOk result (λ count. count ≤ turn) }
-    ensures ends { IfOk result (λ count. (count ≡ turn) ⊎ IsIdleBefore (rules_of R.plain R.counter) until held.new.queues) }
+    ensures ends { IfOk result (λ count. (count ≡ turn) ⊎ IsIdleBefore until held.new.queues) }
     ensures some { OnErr result ((count : ℕ) × Works (rules_of R.plain R.counter) R.is_value held.old held.new (replicate count (Run held.old.number))) }
     ensures exhausted { result ≡ Err Exhausted →
-        IsSome (next_in (rules_of R.plain R.counter) held.new.queues) × (greatest_number < R.counter held.new.queues.state + 24) }
+        IsSome (next_in held.new.queues) × (greatest_number < R.counter held.new.queues.past.state + 24) }
 {
     for count in 0..turn {
         if !is_early(held.process.next(), until) {
@@ -82,7 +80,7 @@ fn run_one<R: Actor, G: Gate>(held: &mut Held<R>, gate: &G) -> Result<(), PoolFa
     ensures ran { OnOk result (Works (rules_of R.plain R.counter) R.is_value held.old held.new (Run held.old.number ∷ [])) }
     ensures unchanged { OnErr result (held.new ≡ held.old) }
     ensures exhausted { result ≡ Err Exhausted →
-        IsSome (next_in (rules_of R.plain R.counter) held.new.queues) × (greatest_number < R.counter held.new.queues.state + 24) }
+        IsSome (next_in held.new.queues) × (greatest_number < R.counter held.new.queues.past.state + 24) }
 {
     let number = held.number;
     let count = held.runs;
@@ -101,23 +99,21 @@ fn run_one<R: Actor, G: Gate>(held: &mut Held<R>, gate: &G) -> Result<(), PoolFa
 /// unhandled one is earlier than `window` ns, `turn` of them at most. Each step that is done joins the block; the answer is how
 /// many did. `gate` is told of each message that is handled, before and after.
 ///
-/// For now each letter of the tray must be a plus and come after all done events. A refusal leaves the steps that were done, and a
-/// block of just these.
+/// A refusal leaves the steps that were done, and a block of just these.
 pub fn work<R: Actor, G: Gate>(
     held: &mut Held<R>,
     turn: u32,
     window: u64,
     gate: &G,
 ) -> Result<u64, PoolFault>
-    requires { AreNew (rules_of R.plain R.counter) held.old.queues.done held.old.queues.tray }
     ensures worked { IfOk result (λ steps. (count : ℕ) ×
         Works (rules_of R.plain R.counter) R.is_value held.old held.new (replicate (length held.old.queues.tray) (Arrive held.old.number) ++ replicate count (Run held.old.number)) ×
         (steps ≡ length held.old.queues.tray + count) × (count ≤ turn) ×
-        ((count ≡ turn) ⊎ IsIdleBefore (rules_of R.plain R.counter) window held.new.queues)) }
+        ((count ≡ turn) ⊎ IsIdleBefore window held.new.queues)) }
     ensures some { OnErr result ((arrived count : ℕ) ×
         Works (rules_of R.plain R.counter) R.is_value held.old held.new (replicate arrived (Arrive held.old.number) ++ replicate count (Run held.old.number))) }
     ensures exhausted { result ≡ Err Exhausted →
-        IsSome (next_in (rules_of R.plain R.counter) held.new.queues) × (greatest_number < R.counter held.new.queues.state + 24) }
+        IsSome (next_in held.new.queues) × (greatest_number < R.counter held.new.queues.past.state + 24) }
 {
     let letters = held.process.tray_len();
     arrive_all(held)?;

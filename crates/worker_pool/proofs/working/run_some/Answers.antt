@@ -14,6 +14,5 @@ loop-count-preserved g c =
 
 pub returns-then-not-is_early-clause-ends : goal.returns-then-not-is_early-clause-ends
 returns-then-not-is_early-clause-ends g c =
-    let r = rules_of g.R.Reversible.plain g.R.Actor.counter in
-    inr (idle-before r c.args.until c.loop-count.held.queues c.next.result (c.next.ensures.next ∙ ap (λ h. next_in r h.queues) c.held.view_is)
+    inr (idle-before c.args.until c.loop-count.held.queues c.next.result (c.next.ensures.next ∙ ap (λ h. next_in h.queues) c.held.view_is)
     (λ early. let t = c.is_early.ensures.early.1 early in cc))

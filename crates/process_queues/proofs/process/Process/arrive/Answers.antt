@@ -1,35 +1,98 @@
-use Rattle.std.proofs.Common.{◌∷◌, refl, sym, subst}
-use Rattle.virtual_time.specs.Part.{arrive}
+use Rattle.std.proofs.Common.{rules, ◌≡◌, [], ◌∷◌, map, drop, length, slice_get, Some, refl, sym, ap, ◌∙◌, subst}
+use Rattle.virtual_time.specs.Part.{arrive, counted}
 use Rattle.reverse.specs.Rules.{rules_of}
-use Rattle.process_queues.specs.Queues.{StandsFor, IsNewFront}
-use Rattle.process_queues.proofs.Standing.{arrived-stands}
+use Rattle.antimessages.specs.Letters.{signed}
+use Rattle.process_queues.specs.Queues.{StandsFor}
+use Rattle.process_queues.proofs.Arriving.{front-split, stays-put, turns, counts-with}
+use Rattle.process_queues.proofs.Counting.{of-messages}
+use Rattle.process_queues.proofs.Standing.{arrived-still, arrived-back, counted-belongs, undone-none, undone-back}
 use Rattle.process_queues.proofs.process.Process.arrive.Goals as goal
 
 pub invariant_of-self : goal.invariant_of-self
-invariant_of-self g c = rw c.reserve.ensures.items c.self.invariant
+invariant_of-self g c = rw c.in_err-reserve.ensures.same c.self.invariant
 
-pub invariant_of-self-in-None : goal.invariant_of-self-in-None
-invariant_of-self-in-None g c = rw (c.reserve.ensures.items, sym c.in-None.ensures.items) c.self.invariant
-
-pub invariant_of-self-in-Some : goal.invariant_of-self-in-Some
-invariant_of-self-in-Some g c =
-    let i = c.self.invariant in
+pub returns-then-undoes_nothing-clause-arrived : goal.returns-then-undoes_nothing-clause-arrived
+returns-then-undoes_nothing-clause-arrived g c opening part h =
     let r = rules_of g.R.Reversible.plain g.R.Actor.counter in
-    let front : IsNewFront r c.self.inside.done.items c.self.inside.tray.items = subst (λ q. IsNewFront r q.queues.done q.queues.tray) (sym c.self.view_is) c.requires in
-    let new : IsNewFront r c.self.inside.done.items (c.in-Some.letter ∷ c.pop_front.new.self.items) = subst (IsNewFront r c.self.inside.done.items) c.in-Some.ensures.items front in (
+    let v = g.R.Reversible.is_value in
+    let R = of-messages g.R.Reversible.plain g.R.Actor.counter c.actor_rules.ensures.order c.actor_rules.ensures.undoes in
+    let k = subst (λ q. StandsFor r v opening part q.queues) (sym c.self.view_is) h in
+    let l = c.in-Some.letter in
+    let first : slice_get c.self.inside.tray.items 0 ≡ Some l = search rules in
+    let tray = front-split c.self.inside.tray.items l first in
+    let tally = c.reserve.new.self.letters in
+    arrived-still r v opening part _ _ k R (signed l) (map signed (drop 1 c.self.inside.tray.items)) c.count_front.new.tally.letters tray
+    (stays-put r R v opening part _ k l tally c.in_ok-reserve.ensures.same (c.undoes_nothing.ensures.nothing c.if-undoes_nothing.true))
+    (counts-with r R v opening part _ k l tally c.in_ok-reserve.ensures.same c.count_front.new.tally.letters (c.count_front.ensures.counts l first))
+    (rw c.count_front.ensures.tray refl)
+
+pub invariant_of-self-then-undoes_nothing : goal.invariant_of-self-then-undoes_nothing
+invariant_of-self-then-undoes_nothing g c =
+    let r = rules_of g.R.Reversible.plain g.R.Actor.counter in
+    let i = c.self.invariant in (
       i.0,
       arrive r i.0 i.1,
-      arrived-stands r g.R.Reversible.is_value i.0 i.1 _ _ i.2 c.actor_rules.ensures.order c.actor_rules.ensures.undoes
-          c.in-Some.letter c.pop_front.new.self.items c.in-Some.ensures.items new.0 new.1
-          (rw (c.push_reserved.ensures.items, c.reserve.ensures.items) refl),
+      returns-then-undoes_nothing-clause-arrived g c i.0 i.1 (subst (λ q. StandsFor r g.R.Reversible.is_value i.0 i.1 q.queues) c.self.view_is i.2),
     )
 
-pub returns-in-Some-clause-arrived : goal.returns-in-Some-clause-arrived
-returns-in-Some-clause-arrived g c = λ opening part h.
+pub returns-then-undoes_nothing-clause-answer : goal.returns-then-undoes_nothing-clause-answer
+returns-then-undoes_nothing-clause-answer g c opening part h =
     let r = rules_of g.R.Reversible.plain g.R.Actor.counter in
-    let front : IsNewFront r c.self.inside.done.items c.self.inside.tray.items = subst (λ q. IsNewFront r q.queues.done q.queues.tray) (sym c.self.view_is) c.requires in
-    let new : IsNewFront r c.self.inside.done.items (c.in-Some.letter ∷ c.pop_front.new.self.items) = subst (IsNewFront r c.self.inside.done.items) c.in-Some.ensures.items front in
-    arrived-stands r g.R.Reversible.is_value opening part _ _ (subst (λ q. StandsFor r g.R.Reversible.is_value opening part q.queues) (sym c.self.view_is) h)
-    c.actor_rules.ensures.order c.actor_rules.ensures.undoes
-    c.in-Some.letter c.pop_front.new.self.items c.in-Some.ensures.items new.0 new.1
-    (rw (c.push_reserved.ensures.items, c.reserve.ensures.items) refl)
+    let v = g.R.Reversible.is_value in
+    let R = of-messages g.R.Reversible.plain g.R.Actor.counter c.actor_rules.ensures.order c.actor_rules.ensures.undoes in
+    let k = subst (λ q. StandsFor r v opening part q.queues) (sym c.self.view_is) h in
+    let l = c.in-Some.letter in
+    let first : slice_get c.self.inside.tray.items 0 ≡ Some l = search rules in
+    let tray = front-split c.self.inside.tray.items l first in (
+      λ none. let bad : signed l ∷ map signed (drop 1 c.self.inside.tray.items) ≡ [] = sym tray ∙ (k.tray ∙ none) in cc,
+      sym (undone-none r v opening part _ k R (signed l) (map signed (drop 1 c.self.inside.tray.items)) tray
+      (stays-put r R v opening part _ k l c.reserve.new.self.letters c.in_ok-reserve.ensures.same (c.undoes_nothing.ensures.nothing c.if-undoes_nothing.true))),
+    )
+
+pub invariant_of-self-in_err-reserve-2 : goal.invariant_of-self-in_err-reserve-2
+invariant_of-self-in_err-reserve-2 g c = rw (c.in_ok-reserve.ensures.same, c.in_err-reserve-2.ensures.same) c.self.invariant
+
+pub returns-clause-arrived : goal.returns-clause-arrived
+returns-clause-arrived g c opening part h =
+    let r = rules_of g.R.Reversible.plain g.R.Actor.counter in
+    let v = g.R.Reversible.is_value in
+    let R = of-messages g.R.Reversible.plain g.R.Actor.counter c.actor_rules.ensures.order c.actor_rules.ensures.undoes in
+    let k = subst (λ q. StandsFor r v opening part q.queues) (sym c.self.view_is) h in
+    let l = c.in-Some.letter in
+    let first : slice_get c.self.inside.tray.items 0 ≡ Some l = search rules in
+    let rest = map signed (drop 1 c.self.inside.tray.items) in
+    let tray = front-split c.self.inside.tray.items l first in
+    let tally = c.reserve.new.self.letters in
+    let b = counted-belongs r v opening part _ k R (signed l) rest in
+    arrived-back r v opening part _ _ k R (signed l) rest c.count_front-2.new.tally.letters tray
+    (turns r R v opening part _ k l tally c.in_ok-reserve.ensures.same (c.undoes_nothing.ensures.something c.if-undoes_nothing.false))
+    (counts-with r R v opening part _ k l tally c.in_ok-reserve.ensures.same c.count_front-2.new.tally.letters (c.count_front-2.ensures.counts l first))
+    (c.roll_back.ensures.rolled opening (counted r (signed l) rest part) b)
+    refl refl refl (ap (map signed) c.count_front-2.ensures.tray)
+    (c.roll_back.ensures.posted opening (counted r (signed l) rest part) b (c.in_ok-reserve-2.ensures.same ∙ k.outbox))
+
+pub invariant_of-self-2 : goal.invariant_of-self-2
+invariant_of-self-2 g c =
+    let r = rules_of g.R.Reversible.plain g.R.Actor.counter in
+    let i = c.self.invariant in (
+      i.0,
+      arrive r i.0 i.1,
+      returns-clause-arrived g c i.0 i.1 (subst (λ q. StandsFor r g.R.Reversible.is_value i.0 i.1 q.queues) c.self.view_is i.2),
+    )
+
+pub returns-clause-answer : goal.returns-clause-answer
+returns-clause-answer g c opening part h =
+    let r = rules_of g.R.Reversible.plain g.R.Actor.counter in
+    let v = g.R.Reversible.is_value in
+    let R = of-messages g.R.Reversible.plain g.R.Actor.counter c.actor_rules.ensures.order c.actor_rules.ensures.undoes in
+    let k = subst (λ q. StandsFor r v opening part q.queues) (sym c.self.view_is) h in
+    let l = c.in-Some.letter in
+    let first : slice_get c.self.inside.tray.items 0 ≡ Some l = search rules in
+    let rest = map signed (drop 1 c.self.inside.tray.items) in
+    let tray = front-split c.self.inside.tray.items l first in
+    let b = counted-belongs r v opening part _ k R (signed l) rest in (
+      λ none. let bad : signed l ∷ rest ≡ [] = sym tray ∙ (k.tray ∙ none) in cc,
+      undone-back r v opening part _ k R (signed l) rest c.roll_back.new.self c.roll_back.result tray
+      (turns r R v opening part _ k l c.reserve.new.self.letters c.in_ok-reserve.ensures.same (c.undoes_nothing.ensures.something c.if-undoes_nothing.false))
+      (c.roll_back.ensures.rolled opening (counted r (signed l) rest part) b) c.roll_back.ensures.count,
+    )

@@ -1,6 +1,6 @@
 use Rattle.std.proofs.Common.{refl, sym, subst, take}
 use Rattle.reverse.specs.Rules.{rules_of}
-use Rattle.process_queues.specs.Mail.{letters_for}
+use Rattle.antimessages.specs.Mailing.{letters_for}
 use Rattle.process_queues.specs.Queues.{StandsFor, delivered_all}
 use Rattle.process_queues.proofs.Standing.{delivered_all-stands}
 use Rattle.process_queues.proofs.process.Process.collect.Goals as goal

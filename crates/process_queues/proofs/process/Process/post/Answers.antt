@@ -1,4 +1,4 @@
-use Rattle.std.proofs.Common.{refl}
+use Rattle.std.proofs.Common.{refl, ◌∙◌, ap}
 use Rattle.virtual_time.specs.Part.{emptied}
 use Rattle.reverse.specs.Rules.{rules_of}
 use Rattle.process_queues.proofs.Standing.{emptied-stands}
@@ -13,5 +13,5 @@ invariant_of-self-2 g c =
       i.0,
       emptied i.1,
       emptied-stands (rules_of g.R.Reversible.plain g.R.Actor.counter) g.R.Reversible.is_value i.0 i.1 _ _ i.2
-          (rw c.in_ok-post.ensures.emptied refl),
+          (rw (c.in_ok-post.ensures.emptied) refl),
     )

@@ -1,0 +1,41 @@
+-- A letter that arrives: whether its message turns, and the counts with it.
+use Rattle.std.proofs.Common.{◌≡◌, ◌⊎◌, inl, inr, true, false, List, [], ◌∷◌, map, drop, slice_get, Some, refl, sym, ap, ◌∙◌, subst}
+use Rattle.std.specs.Prelude.{◌≢◌}
+use Rattle.vlink.specs.declared.message.Message.{Message}
+use Rattle.vlink.specs.declared.message.Letter.{Letter}
+use Rattle.vlink.specs.declared.note.Note.{Note}
+use Rattle.virtual_time.specs.Rules.{Rules}
+use Rattle.virtual_time.specs.Letters.{Letter as Signed}
+use Rattle.virtual_time.specs.Part.{Part, is_turned}
+use Rattle.antimessages.specs.Letters.{message_rules, signed}
+use Rattle.antimessages.specs.Counting.{signed_count, change_by, is_after}
+use Rattle.antimessages.specs.declared.tally.Change.TheVariants.{Same}
+use Rattle.process_queues.specs.Past.{newest_of}
+use Rattle.process_queues.specs.Queues.{Queues, StandsFor, CountsAgree}
+use Rattle.process_queues.proofs.Counting.{OfMessages, counts-cons, not_turned, turned}
+use Rattle.process_queues.proofs.Newest.{after-all}
+use Rattle.process_queues.proofs.Rolls.{done-messages}
+use Rattle.process_queues.proofs.Standing.{StaysPut}
+
+-- the front letter, and those behind it
+pub front-split : (ls : List Letter) (l : Letter) → slice_get ls 0 ≡ Some l → map signed ls ≡ signed l ∷ map signed (drop 1 ls)
+front-split [] l e = cc
+front-split (x ∷ xs) l e = let k : x ≡ l = cc in ap (λ z. signed z ∷ map signed xs) k
+
+module _ {S K : Type 0} (r : Rules Message S K Note) (R : OfMessages r) (is_value : S → Message → Type 0) (opening : S) (part : Part Message S) (q : Queues S K)
+    (h : StandsFor r is_value opening part q) (l : Letter) (tally : List (Signed Message)) (same : tally ≡ q.tally) where
+  agrees : CountsAgree r part.tally tally
+  agrees = subst (CountsAgree r part.tally) (sym same) h.counts
+
+  pub stays-put : (change_by message_rules (signed l) tally ≡ Same) ⊎ (is_after r (newest_of (map (λ e. e.message) q.past.done)) l.message ≡ true) →
+      StaysPut r is_value opening part q h R (signed l)
+  stays-put (inl e) = inl (not_turned r R (signed l) part.tally tally agrees e)
+  stays-put (inr a) = inr (after-all r R.order part.done l.message h.past.ascending
+      (subst (λ ds. is_after r (newest_of ds) l.message ≡ true) (done-messages r is_value opening part q.past h.past) a))
+
+  pub turns : change_by message_rules (signed l) tally ≢ Same → is_turned r (signed l) part.tally ≡ true
+  turns n = turned r R (signed l) part.tally tally agrees n
+
+  pub counts-with : (tally' : List (Signed Message)) → ((m : Message) → signed_count message_rules m tally' ≡ signed_count message_rules m (signed l ∷ tally)) →
+      CountsAgree r (signed l ∷ part.tally) tally'
+  counts-with tally' c m = counts-cons r R (signed l) part.tally tally agrees m ∙ sym (c m)

@@ -1,0 +1,84 @@
+-- What of a process can be read, by the part that it stands for.
+use Rattle.std.proofs.Common.{◌≡◌, ℕ, suc, ◌+◌, ◌≤◌, min, List, [], ◌∷◌, ◌++◌, length, map, take, drop, Option, Some, None, slice_get, refl, sym, ap, ◌∙◌, subst, arith}
+use Rattle.std.specs.Option.{option_map}
+use Rattle.std.proofs.lemmas.List.{length-append}
+use Rattle.vlink.specs.declared.message.Message.{Message}
+use Rattle.vlink.specs.declared.message.Letter.{Letter}
+use Rattle.antimessages.specs.Letters.{signed}
+use Rattle.vlink.specs.declared.note.Note.{Note}
+use Rattle.virtual_time.specs.Rules.{Rules, IsOrder, reached, rowed}
+use Rattle.virtual_time.specs.Letters.{Letter as Signed, lowest, times_of}
+use Rattle.virtual_time.specs.Part.{Part, unhandled, next_of, floor_of}
+use Rattle.virtual_time.proofs.Least.{least-some, least-none}
+use Rattle.virtual_time.proofs.Lowest.{lowest-top, lowest-message, lowest-messages}
+use Rattle.virtual_time.proofs.Order.{not_less-time}
+use Rattle.process_queues.specs.declared.past.Event.{Event}
+use Rattle.process_queues.specs.Past.{event_of, events_of}
+use Rattle.process_queues.specs.Queues.{Queues, StandsFor}
+use Rattle.process_queues.proofs.Pasts.{front-of}
+
+some-same : {A : Type 0} (a b : A) → Some a ≡ Some b → a ≡ b
+some-same a b e = cc
+
+module _ {S K : Type 0} (r : Rules Message S K Note) (is_value : S → Message → Type 0) (opening : S) (part : Part Message S) (q : Queues S K)
+    (h : StandsFor r is_value opening part q) where
+  -- the oldest done event
+  pub oldest-stands : option_map (λ e. e.message.time) (slice_get q.past.done 0) ≡ option_map (λ m. m.time) (slice_get part.done 0)
+  oldest-stands = ap (λ es. option_map (λ e. e.message.time) (slice_get es 0)) h.past.past_of.done ∙ go (reached r opening part.committed) part.done
+    where
+      go : (s : S) (ms : List Message) → option_map (λ e. e.message.time) (slice_get (events_of r s ms) 0) ≡ option_map (λ m. m.time) (slice_get ms 0)
+      go s [] = refl
+      go s (m ∷ ms) = refl
+
+  -- there is an oldest done event just where something was done, and it is the first one
+  pub first-done : (event : Event K) → slice_get q.past.done 0 ≡ Some event → (rest : List Message) × (part.done ≡ event.message ∷ rest)
+  first-done event e = go (reached r opening part.committed) part.done (sym (ap (λ es. slice_get es 0) h.past.past_of.done) ∙ e)
+    where
+      go : (s : S) (ms : List Message) → slice_get (events_of r s ms) 0 ≡ Some event → (rest : List Message) × (ms ≡ event.message ∷ rest)
+      go s [] k = cc
+      go s (m ∷ ms) k = let same : event_of r s m ≡ event = some-same (event_of r s m) event k in (ms, ap (λ z. z.message ∷ ms) same)
+
+  pub none-done : slice_get q.past.done 0 ≡ None → part.done ≡ []
+  none-done e = go (reached r opening part.committed) part.done (sym (ap (λ es. slice_get es 0) h.past.past_of.done) ∙ e)
+    where
+      go : (s : S) (ms : List Message) → slice_get (events_of r s ms) 0 ≡ None → ms ≡ []
+      go s [] k = refl
+      go s (m ∷ ms) k = cc
+
+  -- the rows of the committed events are the first ones
+  pub sealed-rows : take q.sealed q.past.rows ≡ rowed r opening part.committed
+  sealed-rows = ap (take q.sealed) h.past.past_of.rows ∙ front-of (rowed r opening part.committed) _ q.sealed h.sealed
+
+  pub sealed-within : q.sealed ≤ length q.past.rows
+  sealed-within =
+      let a = ap length h.past.past_of.rows in
+      let b = h.sealed in
+      let c = length-append (rowed r opening part.committed) (rowed r (reached r opening part.committed) part.done) in
+      omega arith
+
+module _ {S K : Type 0} (r : Rules Message S K Note) (O : IsOrder r) (until : ℕ) (part : Part Message S) where
+  -- the least time of the unhandled messages is that of the next one
+  pub floor-some : (m : Message) → next_of r part ≡ Some m → min (r.time m) (until + 1) ≡ floor_of r until (record part { tray = [] })
+  floor-some m e =
+      let l = least-some r O (unhandled r part.tally part.done) m e in
+      let a = lowest-top r O (suc until) (map r.time (unhandled r part.tally part.done)) in
+      let b = lowest-message r O (suc until) (unhandled r part.tally part.done) m l.inside in
+      let c = lowest-messages r O (min (r.time m) (suc until)) (suc until) (unhandled r part.tally part.done) (omega arith)
+      (λ x i. let k = not_less-time r O x m (l.lowest x i) in omega arith) in
+      omega arith
+
+  pub floor-none : next_of r part ≡ None → until + 1 ≡ floor_of r until (record part { tray = [] })
+  floor-none e = let k = least-none r O (unhandled r part.tally part.done) e in
+      let a = ap (λ ms. lowest (suc until) (map r.time ms)) k in
+      omega arith
+
+-- the least of these and one more behind them
+pub lowest-push : (d x : ℕ) (xs : List ℕ) → lowest d (xs ++ x ∷ []) ≡ min x (lowest d xs)
+lowest-push d x [] = refl
+lowest-push d x (y ∷ ys) = let a = lowest-push d x ys in omega arith
+
+-- the times of letters are those that the law of virtual time sees
+pub times-signed : {S K : Type 0} (r : Rules Message S K Note) → ((m : Message) → r.time m ≡ m.time) → (ls : List Letter) →
+    map (λ l. l.message.time) ls ≡ times_of r (map signed ls)
+times-signed r t [] = refl
+times-signed r t (l ∷ ls) = ap (λ z. z ∷ map (λ x. x.message.time) ls) (sym (t l.message)) ∙ ap (λ zs. r.time l.message ∷ zs) (times-signed r t ls)

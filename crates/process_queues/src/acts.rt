@@ -1,0 +1,153 @@
+//! What a process does alone: letters arrive, messages are handled, events are committed, and all is undone.
+ghost use Rattle.std.specs.Prelude.{◌≡◌, ◌≢◌, ◌+◌, ◌<◌, ◌↔◌, ◌⊎◌, ℕ, ◌++◌, [], ◌∷◌, false, true, length, drop, All, map, IsTrue, IsSome, MatchOption, OnOk, OnErr, IfOk, IfErr, slice_get, Some};
+ghost use Rattle.std.specs.VecDeque.{deque_len};
+ghost use Rattle.vlink.specs.declared.message.Message.{Message};
+ghost use Rattle.vlink.specs.declared.message.Letter.{Letter as Posted};
+ghost use Rattle.vlink.specs.Numbering.{greatest_number};
+ghost use Rattle.virtual_time.specs.Rules.{reached};
+ghost use Rattle.virtual_time.specs.Letters.{received_by};
+ghost use Rattle.virtual_time.specs.Part.{Part, arrive, undone_by, run_one, next_of, can_seal, seal_oldest, emptied, undo_all};
+ghost use Rattle.reverse.specs.Rules.{rules_of};
+ghost use Rattle.antimessages.specs.Letters.{message_rules, signed};
+ghost use Rattle.antimessages.specs.Counting.{signed_count, change_by, is_after};
+ghost use Rattle.antimessages.specs.declared.tally.Change.TheVariants.{Same};
+ghost use Rattle.process_queues.specs.Past.{newest_of};
+ghost use Rattle.antimessages.specs.Mailing.{letters_for};
+ghost use Rattle.process_queues.specs.declared.fault.ProcFault.TheVariants.{OutOfMemory, Exhausted};
+ghost use Rattle.process_queues.specs.Queues.{StandsFor, Does, next_in};
+
+use crate::fault::ProcFault;
+use crate::past::Past;
+use crate::process::Process;
+use antimessages::{Change, Mail, Tally};
+use reverse::{Actor, actor_rules};
+use std::collections::VecDeque;
+use vlink::{Letter, Message};
+
+impl<R: Actor> Process<R> {
+    /// The front letter of the tray is counted. Where its message became present or absent by that, every done event that does not come
+    /// before it is undone, the newest first, and what these events sent goes to the outbox as antimessages, the last sent first. The
+    /// answer is how many events that undid, or none where the tray is empty.
+    pub fn arrive(&mut self) -> Result<Option<u64>, ProcFault>
+        ensures arrived { OnOk result (Does (rules_of R.plain R.counter) R.is_value (arrive (rules_of R.plain R.counter)) self.old.queues self.new.queues) }
+        ensures answer { IfOk result (λ undone. (opening : R) (part : Part Message R) → StandsFor (rules_of R.plain R.counter) R.is_value opening part self.old.queues →
+            MatchOption undone (part.tray ≡ []) (λ count. (part.tray ≢ []) × (count ≡ undone_by (rules_of R.plain R.counter) part part.tray))) }
+        ensures tray { OnOk result (self.new.queues.tray ≡ drop 1 self.old.queues.tray) }
+        ensures unchanged { OnErr result (self.new.queues ≡ self.old.queues) }
+        ensures memory { IfErr result (λ fault. fault ≡ OutOfMemory) }
+    {
+        actor_rules::<R>();
+        let Some(letter) = self.tray.front().copied() else {
+            return Ok(None);
+        };
+        self.tally.reserve(1)?;
+        if undoes_nothing(&self.past, &self.tally, &letter) {
+            count_front::<R>(&mut self.tray, &mut self.tally);
+            return Ok(Some(0));
+        }
+        self.outbox.reserve(self.past.sent())?;
+        count_front::<R>(&mut self.tray, &mut self.tally);
+        Ok(Some(self.past.roll_back(&letter.message, &mut self.outbox)))
+    }
+
+    /// The first present message that is not done is handled: it joins the done events, and what it sends goes to the outbox.
+    /// The answer is that message, or none where there is none.
+    pub fn run(&mut self) -> Result<Option<Message>, ProcFault>
+        ensures ran { OnOk result (Does (rules_of R.plain R.counter) R.is_value (λ opening. run_one (rules_of R.plain R.counter)) self.old.queues self.new.queues) }
+        ensures handled { IfOk result (λ message. (opening : R) (part : Part Message R) →
+            StandsFor (rules_of R.plain R.counter) R.is_value opening part self.old.queues → message ≡ next_of (rules_of R.plain R.counter) part) }
+        ensures next { IfOk result (λ message. message ≡ next_in self.old.queues) }
+        ensures tray { self.new.queues.tray ≡ self.old.queues.tray }
+        ensures exhausted { (result ≡ Err Exhausted) ↔
+            IsSome (next_in self.old.queues) × (greatest_number < R.counter self.old.queues.past.state + 24) }
+        ensures unchanged { OnErr result (self.new.queues ≡ self.old.queues) }
+    {
+        actor_rules::<R>();
+        let Some(message) = self.next() else {
+            return Ok(None);
+        };
+        if !self.past.actor().has_numbers() {
+            return Err(ProcFault::Exhausted);
+        }
+        self.past.handle(&message, &mut self.outbox)?;
+        Ok(Some(message))
+    }
+
+    /// The oldest done event is committed, where its signed count is just 1: it leaves the done events and the counts, and its rows are
+    /// sealed. The answer is whether there was one.
+    pub fn seal_oldest(&mut self) -> Result<bool, ProcFault>
+        ensures sealed { OnOk result (Does (rules_of R.plain R.counter) R.is_value (λ opening. seal_oldest (rules_of R.plain R.counter)) self.old.queues self.new.queues) }
+        ensures answer { IfOk result (λ done. (opening : R) (part : Part Message R) →
+            StandsFor (rules_of R.plain R.counter) R.is_value opening part self.old.queues → done ≡ can_seal (rules_of R.plain R.counter) part part.done) }
+        ensures tray { self.new.queues.tray ≡ self.old.queues.tray }
+        ensures unchanged { OnErr result (self.new.queues ≡ self.old.queues) }
+        ensures memory { IfErr result (λ fault. fault ≡ OutOfMemory) }
+    {
+        actor_rules::<R>();
+        let Some(event) = self.past.oldest() else {
+            return Ok(false);
+        };
+        if self.tally.count(&event.message) != 1 {
+            return Ok(false);
+        }
+        self.committed.reserve(1)?;
+        let _rows = self.past.rows().len();
+        self.tally.remove_one(&event.message);
+        let noted = self.past.forget_oldest();
+        self.sealed += usize::from(noted);
+        self.committed.push_reserved(noted);
+        Ok(true)
+    }
+
+    /// The letters of the outbox go in order to the back of their receivers' mail, and the outbox is left empty.
+    pub fn post(&mut self, mail: &mut Mail) -> Result<(), ProcFault>
+        requires { All (λ letter. letter.message.receiver < length mail.old) self.old.queues.outbox }
+        ensures emptied { OnOk result (Does (rules_of R.plain R.counter) R.is_value (λ opening. emptied) self.old.queues self.new.queues) }
+        ensures posted { OnOk result ((p : ℕ) → letters_for p mail.new ≡ letters_for p mail.old ++ received_by message_rules p self.old.queues.outbox) }
+        ensures queues { OnOk result (self.new.queues ≡ record self.old.queues { outbox = [] }) }
+        ensures processes { length mail.new ≡ length mail.old }
+        ensures unchanged { OnErr result (self.new.queues ≡ self.old.queues) }
+        ensures mail_unchanged { OnErr result ((p : ℕ) → letters_for p mail.new ≡ letters_for p mail.old) }
+        ensures memory { IfErr result (λ fault. fault ≡ OutOfMemory) }
+    {
+        mail.post(&mut self.outbox)?;
+        Ok(())
+    }
+
+    /// Undoes all done events, the newest first, each by its record, and gives the actor back. Nothing is sent.
+    pub fn undo_all(self) -> R
+        ensures undone { (opening : R) (part : Part Message R) →
+            StandsFor (rules_of R.plain R.counter) R.is_value opening part self.queues → result ≡ undo_all (rules_of R.plain R.counter) opening part }
+        ensures committed { (opening : R) (part : Part Message R) →
+            StandsFor (rules_of R.plain R.counter) R.is_value opening part self.queues → result ≡ reached (rules_of R.plain R.counter) opening part.committed }
+    {
+        let Process { past, .. } = self;
+        past.undo_all()
+    }
+}
+
+/// Whether a letter undoes nothing as it is counted: its message becomes neither present nor absent, or comes after all done events.
+fn undoes_nothing<R: Actor>(past: &Past<R>, tally: &Tally, letter: &Letter) -> bool
+    ensures nothing { IsTrue result → (change_by message_rules (signed letter.now) tally.now.letters ≡ Same) ⊎
+        (is_after (rules_of R.plain R.counter) (newest_of (map (λ e. e.message) past.now.done)) letter.now.message ≡ true) }
+    ensures something { result ≡ false → change_by message_rules (signed letter.now) tally.now.letters ≢ Same }
+{
+    match tally.change_by(letter) {
+        Change::Same => true,
+        Change::BecamePresent | Change::BecameAbsent => past.is_before(&letter.message),
+    }
+}
+
+/// The front letter leaves the tray and is counted. There is one, and the tally has room for it.
+fn count_front<R: Actor>(tray: &mut VecDeque<Letter>, tally: &mut Tally)
+    requires some { 0 < deque_len tray.old }
+    requires room { 0 < tally.old.room }
+    ensures tray { tray.new.items ≡ drop 1 tray.old.items }
+    ensures counts { (letter : Posted) → slice_get tray.old.items 0 ≡ Some letter → (m : Message) →
+        signed_count message_rules m tally.new.letters ≡ signed_count message_rules m (signed letter ∷ tally.old.letters) }
+{
+    actor_rules::<R>();
+    if let Some(letter) = tray.pop_front() {
+        let _change = tally.add(letter);
+    }
+}

@@ -1,0 +1,14 @@
+//! Messages in their order.
+ghost use Rattle.std.specs.Prelude.{◌≡◌};
+ghost use Rattle.reverse.specs.Rules.{is_before};
+
+use std::cmp::Ordering;
+use vlink::{Message, message_order};
+
+/// Whether the first message comes before the second.
+pub(crate) fn is_before(first: &Message, second: &Message) -> bool
+    ensures { result ≡ is_before first.now second.now }
+{
+    message_order();
+    first.cmp(second) == Ordering::Less
+}

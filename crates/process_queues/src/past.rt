@@ -1,0 +1,209 @@
+ghost use Rattle.std.specs.Prelude.{◌≡◌, ◌+◌, ◌<◌, ◌≤◌, ◌-◌, List, [], ◌∷◌, ◌++◌, ◌↔◌, length, map, take, drop, reverse, vec_len, vec_capacity, IsTrue, OnOk, OnErr, IfErr, slice_get};
+ghost use Rattle.std.specs.Option.{option_map, option_copied};
+ghost use Rattle.vlink.specs.declared.message.Message.{Message};
+ghost use Rattle.vlink.specs.Numbering.{greatest_number};
+ghost use Rattle.virtual_time.specs.Rules.{reached};
+ghost use Rattle.virtual_time.specs.Letters.{plus_of, minus_of};
+ghost use Rattle.reverse.specs.Rules.{rules_of};
+ghost use Rattle.antimessages.specs.Counting.{is_after};
+ghost use Rattle.process_queues.specs.Past.{Past, Rows, IsPastOf, handled_past, newest_of, seen_row, rows_by, FirstDone};
+
+use crate::order::is_before;
+use antimessages::{OutOfMemory, Outbox};
+use reverse::{Actor, actor_rules};
+use std::alloc::Global;
+use std::marker::Model;
+use vlink::{Letter, Message, Note, Row, Sign, Time};
+
+/// What is kept of a done event: its message, the record by which it is undone, how many messages it sent, and how many rows it gave.
+#[derive(Clone, Copy)]
+pub(crate) struct Event<K: Copy> {
+    pub(crate) message: Message,
+    pub(crate) kept: K,
+    pub(crate) sent: u8,
+    pub(crate) noted: u8,
+}
+
+/// The actor with the events that it has done and not committed, oldest first, and all that they sent, in order. The rows are those of
+/// the committed events and then of the done ones.
+#[derive(Drop)]
+pub(crate) struct Past<R: Actor> {
+    pub(crate) actor: R,
+    pub(crate) done: Vec<Event<R::Record>>,
+    pub(crate) sends: Vec<Message>,
+    pub(crate) rows: Vec<Row>,
+}
+
+impl<R: Actor> Model for Past<R> {
+    ghost use Rattle.std.specs.Prelude.{map};
+    ghost use Rattle.process_queues.specs.Past.{Past, seen_row};
+
+    ghost Value = { Past R R.Record };
+
+    ghost view = { λ p. record { state = p.actor; done = p.done.items; sends = p.sends.items; rows = map seen_row p.rows.items } };
+}
+
+impl<R: Actor> Past<R> {
+    /// No event and no row.
+    pub(crate) fn new(alloc: Global, actor: R) -> Self
+        ensures { result ≡ record { state = actor; done = []; sends = []; rows = [] } }
+    {
+        Past {
+            actor,
+            done: Vec::new(alloc),
+            sends: Vec::new(alloc),
+            rows: Vec::new(alloc),
+        }
+    }
+
+    /// The actor.
+    pub(crate) fn actor(&self) -> &R
+        ensures { result.now ≡ self.now.state }
+    {
+        &self.actor
+    }
+
+    /// The rows of the committed events and of the done ones.
+    pub(crate) fn rows(&self) -> &[Row]
+        ensures { map seen_row result.now ≡ self.now.rows }
+    {
+        &self.rows
+    }
+
+    /// The oldest done event, if there is one.
+    pub(crate) fn oldest(&self) -> Option<Event<R::Record>>
+        ensures { result ≡ slice_get self.now.done 0 }
+    {
+        self.done.first().copied()
+    }
+
+    /// The moment of the oldest done event, if there is one.
+    pub(crate) fn oldest_time(&self) -> Option<Time>
+        ensures { result ≡ option_map (λ e. e.message.time) (slice_get self.now.done 0) }
+    {
+        match self.done.first() {
+            Some(event) => Some(event.message.time),
+            None => None,
+        }
+    }
+
+    /// How many done events there are.
+    pub(crate) fn done_len(&self) -> usize
+        ensures { result ≡ length self.now.done }
+    {
+        self.done.len()
+    }
+
+    /// How many messages the done events sent.
+    pub(crate) fn sent(&self) -> usize
+        ensures { result ≡ length self.now.sends }
+    {
+        self.sends.len()
+    }
+
+    /// The message of the newest done event, if there is one.
+    pub(crate) fn newest(&self) -> Option<&Message>
+        ensures { option_copied result ≡ newest_of (map (λ e. e.message) self.now.done) }
+    {
+        match self.done.last() {
+            Some(event) => Some(&event.message),
+            None => None,
+        }
+    }
+
+    /// Whether the message comes after the newest done event, if there is one.
+    pub(crate) fn is_before(&self, message: &Message) -> bool
+        ensures { result ≡ is_after (rules_of R.plain R.counter) (newest_of (map (λ e. e.message) self.now.done)) message.now }
+    {
+        match self.newest() {
+            Some(newest) => is_before(newest, message),
+            None => true,
+        }
+    }
+
+    /// The actor handles the message; what it sends goes to the outbox. A refusal changes nothing.
+    pub(crate) fn handle(
+        &mut self,
+        message: &Message,
+        outbox: &mut Outbox,
+    ) -> Result<(), OutOfMemory>
+        requires { R.counter self.old.state + 24 ≤ greatest_number }
+        ensures handled { OnOk result (self.new ≡ handled_past (rules_of R.plain R.counter) self.old message.now) }
+        ensures sent { OnOk result (outbox.new.letters ≡ outbox.old.letters ++ map plus_of ((rules_of R.plain R.counter).sends self.old.state message.now)) }
+        ensures valid { OnOk result (R.is_value self.old.state message.now) }
+        ensures unchanged { OnErr result (self.new ≡ self.old) }
+        ensures kept { OnErr result (outbox.new.letters ≡ outbox.old.letters) }
+    {
+        self.done.reserve(1)?;
+        self.sends.reserve(24)?;
+        self.rows.reserve(2)?;
+        outbox.reserve(24)?;
+        let (sends, kept) = self.actor.apply(message);
+        self.done.push_reserved(Event {
+            message: *message,
+            kept,
+            sent: sends.messages.len() as u8,
+            noted: sends.notes.len() as u8,
+        });
+        send_all(&mut self.sends, outbox, sends.messages.as_slice());
+        note_all(&mut self.rows, message, sends.notes.as_slice());
+        Ok(())
+    }
+
+    /// The oldest event, which there is, is forgotten; its rows stay, behind those of the events before it. The answer is how many they are.
+    pub(crate) fn forget_oldest(&mut self) -> u8
+        requires { FirstDone (rules_of R.plain R.counter) R.is_value self.old }
+        ensures forgotten { (start : R) (ms : List Message) (e : Message) (earlier : Rows) →
+            IsPastOf (rules_of R.plain R.counter) R.is_value start (e ∷ ms) earlier self.old →
+            IsPastOf (rules_of R.plain R.counter) R.is_value ((rules_of R.plain R.counter).after start e) ms
+            (earlier ++ rows_by e ((rules_of R.plain R.counter).notes start e)) self.new }
+        ensures noted { (start : R) (ms : List Message) (e : Message) (earlier : Rows) →
+            IsPastOf (rules_of R.plain R.counter) R.is_value start (e ∷ ms) earlier self.old →
+            result ≡ length ((rules_of R.plain R.counter).notes start e) }
+        ensures state { self.new.state ≡ self.old.state }
+    {
+        let event = self.done.remove(0);
+        forget_first(&mut self.sends, usize::from(event.sent));
+        event.noted
+    }
+}
+
+/// The messages go behind those that were sent, and as letters to the outbox. There is room for them.
+fn send_all(sends: &mut Vec<Message>, outbox: &mut Outbox, messages: &[Message])
+    requires room { vec_len sends.old + length messages.now ≤ vec_capacity sends.old }
+    requires outbox_room { length messages.now ≤ outbox.old.room }
+    ensures sends { sends.new.items ≡ sends.old.items ++ messages.now }
+    ensures outbox { outbox.new.letters ≡ outbox.old.letters ++ map plus_of messages.now }
+{
+    for message in messages {
+        sends.push_reserved(*message);
+        let _room = outbox.push(Letter {
+            message: *message,
+            sign: Sign::Plus,
+        });
+    }
+}
+
+/// The notes that the message's event gave go behind the rows, which have room for them.
+fn note_all(rows: &mut Vec<Row>, message: &Message, notes: &[Note])
+    requires { vec_len rows.old + length notes.now ≤ vec_capacity rows.old }
+    ensures { map seen_row rows.new.items ≡ map seen_row rows.old.items ++ rows_by message.now notes.now }
+{
+    for note in notes {
+        rows.push_reserved(Row {
+            message: *message,
+            place: message.receiver,
+            note: *note,
+        });
+    }
+}
+
+/// The first messages that were sent, so many, are forgotten.
+fn forget_first(sends: &mut Vec<Message>, count: usize)
+    requires { count ≤ vec_len sends.old }
+    ensures { sends.new.items ≡ drop count sends.old.items }
+{
+    let left = sends.len() - count;
+    sends.rotate_left(count);
+    sends.truncate(left);
+}
