@@ -1,27 +1,16 @@
 -- The first present message after another one, by what is true of it.
-use Rattle.std.proofs.Common.{◌≡◌, ◌<◌, ◌⊎◌, inl, inr, true, false, ◌&&◌, List, [], ◌∷◌, map, filter, Option, Some, None, sym, ap, subst, arith}
+use Rattle.std.proofs.Common.{◌≡◌, true, false, ◌&&◌, List, map, filter, Option, Some, None, ap, arith}
 use Rattle.std.proofs.lemmas.Bool.{and_parts, and_from}
 use Rattle.virtual_time.specs.Rules.{Rules, IsOrder}
-use Rattle.virtual_time.specs.Lists.{same, times_in, IsIn}
-use Rattle.virtual_time.specs.Letters.{Letter as Signed, pluses, IsPresent, is_present}
-use Rattle.virtual_time.proofs.Order.{same_cases}
-use Rattle.virtual_time.proofs.Lists.{in-head, in-filter, in-filter_from}
+use Rattle.virtual_time.specs.Lists.{times_in, IsIn}
+use Rattle.virtual_time.specs.Letters.{Letter as Signed, IsPresent, is_present}
+use Rattle.virtual_time.proofs.Lists.{in-filter, in-filter_from}
 use Rattle.virtual_time.proofs.Least.{least-none, least-some}
-use Rattle.virtual_time.proofs.Letters.{as_other}
-use Rattle.virtual_time.proofs.Presence.{present-true, present-from}
+use Rattle.virtual_time.proofs.Presence.{present-true, present-from, in-messages}
 use Rattle.virtual_time.proofs.Reading.{least-from}
 use Rattle.antimessages.specs.Counting.{is_after, present_after}
 
 module _ {M S K N : Type 0} (r : Rules M S K N) (O : IsOrder r) where
-  -- a message with a plus letter is among those of the letters
-  pub plus-in : (m : M) (ls : List (Signed M)) → 0 < pluses r m ls → IsIn r m (map (λ l. l.message) ls)
-  plus-in m [] h = absurd (omega arith)
-  plus-in m (l ∷ ls) h = go (same_cases r O m l.message) (plus-in m ls)
-    where
-      go : (m ≡ l.message) ⊎ (same r m l.message ≡ false) → (0 < pluses r m ls → IsIn r m (map (λ l. l.message) ls)) → IsIn r m (l.message ∷ map (λ l. l.message) ls)
-      go (inl e) ih = subst (λ y. IsIn r y (l.message ∷ map (λ l. l.message) ls)) (sym e) (in-head r O l.message _)
-      go (inr n) ih = let a = (as_other r O m l n).0 in let b = ih (omega arith) in omega arith
-
   -- m is present and comes after the newest, and nothing that does so comes before it
   pub record IsFirstAfter (newest : Option M) (tally : List (Signed M)) (m : M) : Type 0 where
     pub present : IsPresent r tally m
@@ -33,7 +22,7 @@ module _ {M S K N : Type 0} (r : Rules M S K N) (O : IsOrder r) where
         IsIn r m (filter (λ m. is_present r tally m && is_after r newest m) (map (λ l. l.message) tally))
     wanted-in m h a =
         in-filter_from r O (λ m. is_present r tally m && is_after r newest m) m (map (λ l. l.message) tally)
-        (and_from _ _ (present-from r O tally m h) a) (plus-in m tally (omega arith))
+        (and_from _ _ (present-from r O tally m h) a) (in-messages r O m tally (omega arith))
 
     pub first_after-is : (m : M) → present_after r newest tally ≡ Some m → IsFirstAfter newest tally m
     first_after-is m e =

@@ -1,5 +1,5 @@
 -- The newest of several events, and what comes after it.
-use Rattle.std.proofs.Common.{◌≡◌, ◌<◌, suc, ◌-◌, inl, inr, true, false, List, [], ◌∷◌, ◌++◌, length, Option, Some, None, refl, sym, ap, ◌∙◌, subst, arith}
+use Rattle.std.proofs.Common.{◌≡◌, suc, ◌-◌, inl, inr, true, false, List, [], ◌∷◌, ◌++◌, length, Option, Some, None, refl, sym, ap, ◌∙◌, subst, arith}
 use Rattle.virtual_time.specs.Rules.{Rules, IsOrder}
 use Rattle.virtual_time.specs.Lists.{IsIn, IsAscending}
 use Rattle.virtual_time.proofs.Lists.{in-head, in-cons}

@@ -1,21 +1,21 @@
 -- The message that is handled next, by the newest done event and the letters that were counted.
-use Rattle.std.proofs.Common.{◌≡◌, ◌<◌, inl, inr, Bool, true, false, ◌&&◌, List, map, filter, Option, Some, None, refl, sym, ap, ◌∙◌, subst, arith, pos}
-use Rattle.std.proofs.lemmas.Bool.{cases_lt, and_parts, and_from}
+use Rattle.std.proofs.Common.{◌≡◌, inl, inr, true, map, Option, Some, None, refl, sym, ap, ◌∙◌, subst, arith}
+use Rattle.std.proofs.lemmas.Bool.{cases_lt}
 use Rattle.vlink.specs.declared.message.Message.{Message}
 use Rattle.vlink.specs.declared.note.Note.{Note}
 use Rattle.virtual_time.specs.Rules.{Rules}
 use Rattle.virtual_time.specs.Lists.{IsIn, times_in}
-use Rattle.virtual_time.specs.Letters.{IsPresent, is_present}
+use Rattle.virtual_time.specs.Letters.{IsPresent}
 use Rattle.virtual_time.specs.Part.{Part, next_of}
-use Rattle.virtual_time.proofs.Lists.{in-filter, in-filter_from, times-none}
-use Rattle.virtual_time.proofs.Least.{least-some, least-none}
-use Rattle.virtual_time.proofs.Presence.{present-true, present-from, in-messages}
+use Rattle.virtual_time.proofs.Lists.{times-none}
+use Rattle.virtual_time.proofs.Presence.{present-true, present-from}
 use Rattle.virtual_time.proofs.Reading.{next-from, none-next_from}
 use Rattle.antimessages.specs.Letters.{message_rules}
 use Rattle.antimessages.specs.Counting.{is_after}
+use Rattle.antimessages.proofs.After.{first_after-is, first_after-none}
 use Rattle.process_queues.specs.Past.{newest_of}
 use Rattle.process_queues.specs.Queues.{Queues, StandsFor, next_in}
-use Rattle.process_queues.proofs.Counting.{OfMessages, times-same, present-agree}
+use Rattle.process_queues.proofs.Counting.{OfMessages, present-agree}
 use Rattle.process_queues.proofs.Newest.{none-newest, newest-in, newest-last}
 use Rattle.process_queues.proofs.Rolls.{done-messages}
 
@@ -44,31 +44,17 @@ module _ {S K : Type 0} (r : Rules Message S K Note) (R : OfMessages r) (is_valu
       go None e = refl
       go (Some d) e = h.well.done_first m present z d (newest-in r R.order part.done d e)
 
-  -- the test by which the next message is found
-  abbrev passes : Message → Bool
-  passes m = is_present message_rules q.tally m && is_after message_rules (newest_of (map (λ e. e.message) q.past.done)) m
-
   after-here : (m : Message) → is_after message_rules (newest_of (map (λ e. e.message) q.past.done)) m ≡ is_after r (newest_of part.done) m
   after-here m = ap (λ o. is_after message_rules o m) newest-same ∙ after-same (newest_of part.done) m
 
-  passes-is : (m : Message) → passes m ≡ true → IsPresent r part.tally m × (times_in r m part.done ≡ 0)
-  passes-is m p =
-      let a = and_parts _ _ p in (
-        present-true r R.order part.tally m (present-agree r R part.tally q.tally h.counts m ∙ a.0),
-        after-not_done m (sym (after-here m) ∙ a.1),
-      )
-
-  passes-from : (m : Message) → IsPresent r part.tally m → times_in r m part.done ≡ 0 → passes m ≡ true
-  passes-from m present z = and_from _ _
+  -- a message is present here and there
+  here : (m : Message) → IsPresent r part.tally m → IsPresent message_rules q.tally m
+  here m present = present-true message_rules R.messages q.tally m
       (sym (present-agree r R part.tally q.tally h.counts m) ∙ present-from r R.order part.tally m present)
-      (after-here m ∙ not_done-after m present z)
 
-  -- a message that passes is among those of the letters
-  named : (m : Message) → IsPresent r part.tally m → times_in r m part.done ≡ 0 → IsIn message_rules m (filter passes (map (λ l. l.message) q.tally))
-  named m present z =
-      let p = passes-from m present z in
-      let a = present-true message_rules R.messages q.tally m (and_parts _ _ p).0 in
-      in-filter_from message_rules R.messages passes m (map (λ l. l.message) q.tally) p (in-messages message_rules R.messages m q.tally (omega arith))
+  there : (m : Message) → IsPresent message_rules q.tally m → IsPresent r part.tally m
+  there m present = present-true r R.order part.tally m
+      (present-agree r R part.tally q.tally h.counts m ∙ present-from message_rules R.messages q.tally m present)
 
   pub next-stands : next_of r part ≡ next_in q
   next-stands = go (next_in q) refl
@@ -77,16 +63,13 @@ module _ {S K : Type 0} (r : Rules Message S K Note) (R : OfMessages r) (is_valu
       go None e = none-next_from r R.order part (λ m present.
           elim (cases_lt 0 (times_in r m part.done)) [
             | inl j ↦ j
-            | inr z ↦ absurd (
-                let a = named m present (omega arith) in
-                let b = ap (times_in message_rules m) (least-none message_rules R.messages (filter passes (map (λ l. l.message) q.tally)) e) in
-                omega arith)
+            | inr z ↦ absurd (first_after-none message_rules R.messages _ q.tally e m (here m present)
+                (after-here m ∙ not_done-after m present (omega arith)))
           ])
       go (Some m) e =
-          let l = least-some message_rules R.messages (filter passes (map (λ l. l.message) q.tally)) m e in
-          let a = passes-is m (in-filter message_rules R.messages passes m (map (λ l. l.message) q.tally) l.inside).0 in
+          let f = first_after-is message_rules R.messages _ q.tally m e in
           next-from r R.order part m (record {
-            present = a.0;
-            not_done = a.1;
-            first = λ x present z. R.less_one x m ∙ l.lowest x (named x present z);
+            present = there m f.present;
+            not_done = after-not_done m (sym (after-here m) ∙ f.after);
+            first = λ x present z. R.less_one x m ∙ f.first x (here x present) (after-here x ∙ not_done-after x present z);
           })

@@ -1,6 +1,5 @@
 -- One event more at the end of several, or one less: what is kept of them, what they sent, and their rows.
-use Rattle.std.proofs.Common.{◌≡◌, ℕ, ◌+◌, ◌-◌, ◌<◌, ◌≤◌, List, [], ◌∷◌, ◌++◌, length, map, take, drop, refl, sym, ap, ◌∙◌, subst, arith, append_assoc, append-nil}
-use Rattle.std.specs.Prelude.{⊤}
+use Rattle.std.proofs.Common.{◌≡◌, ℕ, ◌-◌, ◌<◌, ◌≤◌, List, [], ◌∷◌, ◌++◌, length, map, take, drop, refl, sym, ap, ◌∙◌, subst, arith, append_assoc, append-nil}
 use Rattle.std.proofs.lemmas.List.{length-append, length-map}
 use Rattle.vlink.specs.declared.message.Message.{Message}
 use Rattle.vlink.specs.declared.note.Note.{Note}
@@ -184,4 +183,3 @@ module _ {S K : Type 0} (r : Rules Message S K Note) where
     pub left-none : (ns : List Message) (past : Past S K) → IsPastOf r is_value start ns [] past → length past.done ≡ 0 → past.state ≡ start
     left-none [] past h z = h.state
     left-none (n ∷ ns) past h z = let b = ap length h.done ∙ as_many start (n ∷ ns) in absurd (omega arith)
-

@@ -1,5 +1,5 @@
 -- What of a process can be read, by the part that it stands for.
-use Rattle.std.proofs.Common.{◌≡◌, ℕ, suc, ◌+◌, ◌≤◌, min, List, [], ◌∷◌, ◌++◌, length, map, take, drop, Option, Some, None, slice_get, refl, sym, ap, ◌∙◌, subst, arith}
+use Rattle.std.proofs.Common.{◌≡◌, ℕ, suc, ◌+◌, ◌≤◌, min, List, [], ◌∷◌, ◌++◌, length, map, take, Some, None, slice_get, refl, sym, ap, ◌∙◌, arith}
 use Rattle.std.specs.Option.{option_map}
 use Rattle.std.proofs.lemmas.List.{length-append}
 use Rattle.vlink.specs.declared.message.Message.{Message}
@@ -7,7 +7,7 @@ use Rattle.vlink.specs.declared.message.Letter.{Letter}
 use Rattle.antimessages.specs.Letters.{signed}
 use Rattle.vlink.specs.declared.note.Note.{Note}
 use Rattle.virtual_time.specs.Rules.{Rules, IsOrder, reached, rowed}
-use Rattle.virtual_time.specs.Letters.{Letter as Signed, lowest, times_of}
+use Rattle.virtual_time.specs.Letters.{lowest, times_of}
 use Rattle.virtual_time.specs.Part.{Part, unhandled, next_of, floor_of}
 use Rattle.virtual_time.proofs.Least.{least-some, least-none}
 use Rattle.virtual_time.proofs.Lowest.{lowest-top, lowest-message, lowest-messages}

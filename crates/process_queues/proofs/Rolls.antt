@@ -1,6 +1,5 @@
 -- Rolling back to a message, one event after another.
-use Rattle.std.proofs.Common.{◌≡◌, ◌<◌, ◌++◌, inl, inr, true, false, List, [], ◌∷◌, length, map, reverse, refl, sym, ap, ◌∙◌, subst, arith}
-use Rattle.std.proofs.lemmas.List.{length-append}
+use Rattle.std.proofs.Common.{◌≡◌, ◌++◌, true, false, List, [], ◌∷◌, map, reverse, refl, sym, ap, ◌∙◌, subst}
 use Rattle.vlink.specs.declared.message.Message.{Message}
 use Rattle.vlink.specs.declared.note.Note.{Note}
 use Rattle.virtual_time.specs.Rules.{Rules, IsOrder, reached, rowed}
@@ -11,9 +10,9 @@ use Rattle.virtual_time.proofs.Rolling.{last_undone, roll-last, roll-none}
 use Rattle.virtual_time.proofs.Handling.{reached-append}
 use Rattle.virtual_time.proofs.Ascending.{ascending-left}
 use Rattle.antimessages.specs.Counting.{is_after}
-use Rattle.process_queues.specs.Past.{Past, Rows, IsPastOf, BelongsTo, LastDone, newest_of}
+use Rattle.process_queues.specs.Past.{Past, IsPastOf, BelongsTo, LastDone, newest_of}
 use Rattle.process_queues.proofs.Newest.{after-all, not_after-end}
-use Rattle.process_queues.proofs.Pasts.{messages-of, as_many}
+use Rattle.process_queues.proofs.Pasts.{messages-of}
 
 module _ {S K : Type 0} (r : Rules Message S K Note) (is_value : S → Message → Type 0) (opening : S) (m : Message) where
   -- a rollback to m on its way: the past and the letters are those of a part from which rollback makes the same as from the first one

@@ -5,8 +5,8 @@ use Rattle.std.proofs.lemmas.List.{length-append}
 use Rattle.std.proofs.lemmas.Bool.{not_from_true}
 use Rattle.vlink.specs.declared.message.Message.{Message}
 use Rattle.vlink.specs.declared.note.Note.{Note}
-use Rattle.virtual_time.specs.Rules.{Rules, reached, rowed, rows_of}
-use Rattle.virtual_time.specs.Lists.{IsIn, IsAscending, before, from_on}
+use Rattle.virtual_time.specs.Rules.{Rules, reached, rowed}
+use Rattle.virtual_time.specs.Lists.{IsIn, before, from_on}
 use Rattle.virtual_time.specs.Letters.{Letter as Signed, plus_of, minus_of}
 use Rattle.virtual_time.specs.Part.{Part, opened, delivered, emptied, counted, is_turned, rolled_back, arrived, arrive, undone_by, next_of, handled, run_one, can_seal, sealed, seal_oldest}
 use Rattle.virtual_time.specs.Well.{IsWell}

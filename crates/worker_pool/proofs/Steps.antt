@@ -1,5 +1,5 @@
 -- Steps of one process, one after another.
-use Rattle.std.proofs.Common.{◌≡◌, ℕ, zero, suc, ◌+◌, ◌<◌, ◌≤◌, ◌⊎◌, inl, inr, Bool, true, false, cond, Option, Some, None, IsSomeAnd, List, [], ◌∷◌, ◌++◌, length, drop, replicate, refl, sym, ap, ◌∙◌, subst, arith, append_assoc, append-nil}
+use Rattle.std.proofs.Common.{◌≡◌, ℕ, ◌+◌, ◌<◌, ◌≤◌, ◌⊎◌, inl, inr, Bool, true, false, cond, Option, Some, None, IsSomeAnd, List, [], ◌∷◌, ◌++◌, length, drop, replicate, refl, sym, ap, ◌∙◌, subst, arith, append_assoc, append-nil}
 use Rattle.std.proofs.lemmas.List.{replicate_more}
 use Rattle.std.proofs.lemmas.Bool.{cases_lt}
 use Rattle.vlink.specs.declared.message.Message.{Message}
@@ -29,6 +29,7 @@ module _ {S K : Type 0} (r : Rules Message S K Note) where
           (cond b (rolled_back r opening l.message (counted r l rest part)) (counted r l rest part)).committed ≡ part.committed
       turned true l rest = refl
       turned false l rest = refl
+
       go : (ls : List (Signed Message)) → (arrived r opening part ls).committed ≡ part.committed
       go [] = refl
       go (l ∷ rest) = turned (is_turned r l part.tally) l rest

@@ -1,9 +1,9 @@
-use Rattle.std.proofs.Common.{◌≡◌, ◌∷◌, Some, slice_get, sym, ap, ◌∙◌, subst}
+use Rattle.std.proofs.Common.{◌≡◌, ◌∷◌, Some, slice_get, sym, ap, ◌∙◌}
 use Rattle.vlink.specs.declared.message.Letter.{Letter}
-use Rattle.reverse.specs.Rules.{rules_of}
 use Rattle.antimessages.specs.Letters.{message_rules, signed}
 use Rattle.antimessages.specs.Counting.{signed_count}
-use Rattle.process_queues.proofs.Counting.{of-messages, added-counts}
+use Rattle.antimessages.proofs.Agreeing.{added-same_counts}
+use Rattle.process_queues.proofs.Counting.{of-messages}
 use Rattle.process_queues.proofs.Taking.{ok-gives}
 use Rattle.process_queues.proofs.acts.count_front.Goals as goal
 
@@ -15,6 +15,6 @@ returns-in-Some-clause-counts g c letter is m =
     let R = of-messages g.R.Reversible.plain g.R.Actor.counter c.actor_rules.ensures.order c.actor_rules.ensures.undoes in
     let ok = c.add-change.ensures.reserved c.requires.room in
     let same : c.in-Some.letter ≡ letter = same-letter _ _ (ap (λ xs. slice_get xs 0) (sym c.in-Some.ensures.items) ∙ is) in
-    added-counts R.messages c.in-Some.letter c.args.tally.now.letters c.add-change.new.self.letters
+    added-same_counts message_rules R.messages c.in-Some.letter c.add-change.new.self.letters c.args.tally.now.letters
     (ok-gives _ ok c.add-change.ensures.count) (ok-gives _ ok c.add-change.ensures.others) m
     ∙ ap (λ l. signed_count message_rules m (signed l ∷ c.args.tally.now.letters)) same

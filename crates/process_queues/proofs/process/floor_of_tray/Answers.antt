@@ -1,4 +1,4 @@
-use Rattle.std.proofs.Common.{◌≡◌, ◌++◌, min, [], ◌∷◌, map, take, sym, ap, ◌∙◌, arith}
+use Rattle.std.proofs.Common.{◌++◌, min, [], ◌∷◌, map, take, sym, ap, ◌∙◌, arith}
 use Rattle.std.proofs.lemmas.List.{take_more, map-append}
 use Rattle.virtual_time.specs.Letters.{lowest}
 use Rattle.process_queues.proofs.Reading.{lowest-push}

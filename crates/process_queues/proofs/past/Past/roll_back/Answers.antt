@@ -1,6 +1,5 @@
-use Rattle.std.proofs.Common.{◌≡◌, length, refl, sym, ap, ◌∙◌, subst, arith}
-use Rattle.vlink.specs.declared.message.Message.{Message}
-use Rattle.virtual_time.specs.Part.{Part, rolled_back}
+use Rattle.std.proofs.Common.{refl, sym, ap, ◌∙◌, subst, arith}
+use Rattle.virtual_time.specs.Part.{rolled_back}
 use Rattle.reverse.specs.Rules.{rules_of}
 use Rattle.process_queues.specs.Past.{BelongsTo}
 use Rattle.process_queues.proofs.Rolls.{rolls-none, rolls-more, rolls-end, is-late, late-last}

@@ -1,5 +1,4 @@
-use Rattle.std.proofs.Common.{◌≡◌, [], length, refl, sym, ap, subst, arith}
-use Rattle.virtual_time.specs.Rules.{sent, rowed}
+use Rattle.std.proofs.Common.{[], refl, sym, subst, arith}
 use Rattle.reverse.specs.Rules.{rules_of}
 use Rattle.process_queues.specs.Past.{IsPastOf}
 use Rattle.process_queues.proofs.Pasts.{came-from, has-last, left-less, left-none}

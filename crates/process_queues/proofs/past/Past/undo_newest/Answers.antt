@@ -1,4 +1,4 @@
-use Rattle.std.proofs.Common.{◌≡◌, ℕ, ◌-◌, ◌<◌, ◌≤◌, [], ◌∷◌, ◌++◌, map, length, take, drop, reverse, refl, sym, ap, ◌∙◌, subst, arith, vec_len}
+use Rattle.std.proofs.Common.{◌≡◌, [], ◌∷◌, ◌++◌, map, length, take, drop, reverse, refl, sym, ap, ◌∙◌, subst, arith, vec_len}
 use Rattle.std.proofs.lemmas.List.{take-map, length-map}
 use Rattle.virtual_time.specs.Letters.{minus_of}
 use Rattle.reverse.specs.Rules.{rules_of}

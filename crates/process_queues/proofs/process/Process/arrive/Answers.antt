@@ -1,4 +1,4 @@
-use Rattle.std.proofs.Common.{rules, ◌≡◌, [], ◌∷◌, map, drop, length, slice_get, Some, refl, sym, ap, ◌∙◌, subst}
+use Rattle.std.proofs.Common.{rules, ◌≡◌, [], ◌∷◌, map, drop, slice_get, Some, refl, sym, ap, ◌∙◌, subst}
 use Rattle.virtual_time.specs.Part.{arrive, counted}
 use Rattle.reverse.specs.Rules.{rules_of}
 use Rattle.antimessages.specs.Letters.{signed}
@@ -46,7 +46,7 @@ returns-then-undoes_nothing-clause-answer g c opening part h =
     let tray = front-split c.self.inside.tray.items l first in (
       λ none. let bad : signed l ∷ map signed (drop 1 c.self.inside.tray.items) ≡ [] = sym tray ∙ (k.tray ∙ none) in cc,
       sym (undone-none r v opening part _ k R (signed l) (map signed (drop 1 c.self.inside.tray.items)) tray
-      (stays-put r R v opening part _ k l c.reserve.new.self.letters c.in_ok-reserve.ensures.same (c.undoes_nothing.ensures.nothing c.if-undoes_nothing.true))),
+          (stays-put r R v opening part _ k l c.reserve.new.self.letters c.in_ok-reserve.ensures.same (c.undoes_nothing.ensures.nothing c.if-undoes_nothing.true))),
     )
 
 pub invariant_of-self-in_err-reserve-2 : goal.invariant_of-self-in_err-reserve-2
@@ -93,6 +93,6 @@ returns-clause-answer g c opening part h =
     let b = counted-belongs r v opening part _ k R (signed l) rest in (
       λ none. let bad : signed l ∷ rest ≡ [] = sym tray ∙ (k.tray ∙ none) in cc,
       undone-back r v opening part _ k R (signed l) rest c.roll_back.new.self c.roll_back.result tray
-      (turns r R v opening part _ k l c.reserve.new.self.letters c.in_ok-reserve.ensures.same (c.undoes_nothing.ensures.something c.if-undoes_nothing.false))
-      (c.roll_back.ensures.rolled opening (counted r (signed l) rest part) b) c.roll_back.ensures.count,
+          (turns r R v opening part _ k l c.reserve.new.self.letters c.in_ok-reserve.ensures.same (c.undoes_nothing.ensures.something c.if-undoes_nothing.false))
+          (c.roll_back.ensures.rolled opening (counted r (signed l) rest part) b) c.roll_back.ensures.count,
     )

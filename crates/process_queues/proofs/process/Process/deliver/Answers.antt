@@ -1,4 +1,4 @@
-use Rattle.std.proofs.Common.{◌∷◌, [], map, refl, sym, ap, ◌∙◌}
+use Rattle.std.proofs.Common.{◌∷◌, [], refl}
 use Rattle.std.proofs.lemmas.List.{map-append}
 use Rattle.virtual_time.specs.Part.{delivered}
 use Rattle.reverse.specs.Rules.{rules_of}

@@ -1,4 +1,4 @@
-use Rattle.std.proofs.Common.{◌≡◌, [], map, refl, sym, ap, ◌∙◌, subst}
+use Rattle.std.proofs.Common.{[], map, refl, sym, ap, ◌∙◌, subst}
 use Rattle.virtual_time.specs.Letters.{lowest, times_of}
 use Rattle.virtual_time.specs.Part.{floor_of}
 use Rattle.reverse.specs.Rules.{rules_of}

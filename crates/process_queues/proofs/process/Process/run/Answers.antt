@@ -1,5 +1,5 @@
-use Rattle.std.proofs.Common.{◌≡◌, Some, refl, sym, ap, ◌∙◌, subst}
-use Rattle.virtual_time.specs.Part.{run_one, next_of}
+use Rattle.std.proofs.Common.{refl, sym, subst}
+use Rattle.virtual_time.specs.Part.{run_one}
 use Rattle.reverse.specs.Rules.{rules_of}
 use Rattle.process_queues.specs.Queues.{StandsFor}
 use Rattle.process_queues.proofs.Counting.{of-messages}

@@ -1,4 +1,4 @@
-use Rattle.std.proofs.Common.{map, take, sym, ap, ◌∙◌, subst}
+use Rattle.std.proofs.Common.{take, sym, ap, ◌∙◌, subst}
 use Rattle.std.proofs.lemmas.List.{take-map}
 use Rattle.reverse.specs.Rules.{rules_of}
 use Rattle.process_queues.specs.Past.{seen_row}
