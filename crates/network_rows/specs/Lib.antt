@@ -1,0 +1,6 @@
+pub mod Keys
+pub mod Values
+pub mod Kinds
+pub mod Faults
+pub mod Rows
+pub mod Within

@@ -1,0 +1,145 @@
+-- The rows that a document stands for. For a document with a fault of a key they mean nothing.
+use Rattle.std.specs.Prelude.{◌≡◌, ℕ, Bool, not, List, [], ◌∷◌, ◌++◌, map, filter, ◌==◌, if◌then◌else◌, Option, Some, None, option_and_then, unwrap_or}
+use Rattle.std.specs.Option.{option_map_or}
+use Rattle.std.specs.List.{list_any, filter_map}
+use Rattle.std.specs.Str.{bytes_eq}
+use Rattle.toml.specs.Data.{Data, Members, no_members, member, as_str, as_array, as_table, get_member}
+use Rattle.toml.specs.Parse.{parse_document}
+use Rattle.vlink.specs.declared.frame.Net.TheVariants as net
+use Rattle.network_rows.specs.declared.key.Key.{Key}
+use Rattle.network_rows.specs.declared.key.Key.TheVariants as key
+use Rattle.network_rows.specs.declared.key.Section.{Section}
+use Rattle.network_rows.specs.declared.key.Section.TheVariants.{Top, Node, Link, Outage, Vl}
+use Rattle.network_rows.specs.declared.key.Word.TheVariants as word
+use Rattle.network_rows.specs.declared.rule.Rule.{Rule}
+use Rattle.network_rows.specs.declared.rows.NodeKind.{NodeKind}
+use Rattle.network_rows.specs.declared.rows.NodeKind.TheVariants.{EndSystem, Switch}
+use Rattle.network_rows.specs.declared.rows.Rate.TheVariants.{Mbit10, Mbit100}
+use Rattle.network_rows.specs.declared.rows.Priority.TheVariants.{High, Low}
+use Rattle.network_rows.specs.declared.rows.NodeRow.{NodeRow}
+use Rattle.network_rows.specs.declared.rows.LinkRow.{LinkRow}
+use Rattle.network_rows.specs.declared.rows.OutageRow.{OutageRow}
+use Rattle.network_rows.specs.declared.rows.VlRow.{VlRow}
+use Rattle.network_rows.specs.declared.rows.Rows.{Rows}
+use Rattle.network_rows.specs.declared.table.TheConstants as keys
+use Rattle.network_rows.specs.Keys.{key_text, section_text}
+use Rattle.network_rows.specs.Values.{value_at, as_number, as_paths, has_word, list_of}
+use Rattle.network_rows.specs.Kinds.{allows, least_of}
+use Rattle.network_rows.specs.Faults.{keys_of, applies, faults_of_document}
+
+-- the number, if it is one that the line of the table allows; else the least that it allows
+abbrev pub number_or_least : Rule → Option ℕ → ℕ
+number_or_least rule None = least_of rule.2
+number_or_least rule (Some n) = if allows rule.2 n then n else least_of rule.2
+
+-- the number, the text and the paths at a key
+abbrev pub number_at : Rule → Members → ℕ
+number_at rule row = number_or_least rule (option_and_then as_number (value_at rule.0 row))
+
+abbrev pub text_at : Key → Members → List ℕ
+text_at key row = unwrap_or (option_and_then as_str (value_at key row)) []
+
+abbrev pub paths_at : Key → Members → List (List (List ℕ))
+paths_at key row = unwrap_or (option_and_then as_paths (value_at key row)) []
+
+-- ---- unknown keys
+
+-- the sections that are lists of rows
+abbrev pub lists : List Section
+lists = Node ∷ Link ∷ Outage ∷ Vl ∷ []
+
+-- the keys that a table of a section may have; the top one has the other sections too
+abbrev pub known_keys : Section → Members → List (List ℕ)
+known_keys section row = map (λ rule. key_text rule.0) (filter (λ rule. applies rule.1 row) (keys_of section))
+
+abbrev pub known_names : Section → List (List ℕ)
+known_names Top = map section_text lists
+known_names _ = []
+
+abbrev pub is_known : Section → Members → List ℕ → Bool
+is_known section row name = list_any (bytes_eq name) (known_keys section row ++ known_names section)
+
+-- the keys of a table
+abbrev pub names_in : Members → List (List ℕ)
+names_in no_members = []
+names_in (member name d rest) = name ∷ names_in rest
+
+abbrev pub has_unknown_key : Section → Members → Bool
+has_unknown_key section row = list_any (λ name. not (is_known section row name)) (names_in row)
+
+-- ---- rows
+
+abbrev pub node_kind_of : Members → NodeKind
+node_kind_of row =
+    if has_word key.Kind word.Switch row
+    then Switch (if has_word key.Net word.B row then net.B else net.A) (number_at keys.LATENCY_NS row)
+    else EndSystem
+
+abbrev pub node_row_of : Members → NodeRow
+node_row_of row = record {
+  name = text_at key.Name row;
+  kind = node_kind_of row;
+  port_bytes = number_at keys.PORT_BYTES row;
+  has_unknown_key = has_unknown_key Node row;
+}
+
+abbrev pub link_row_of : Members → LinkRow
+link_row_of row = record {
+  a = text_at key.A row;
+  b = text_at key.B row;
+  mbit = (if number_at keys.MBIT row == 100 then Mbit100 else Mbit10);
+  propagation_ns = number_at keys.PROPAGATION_NS row;
+  has_unknown_key = has_unknown_key Link row;
+}
+
+abbrev pub outage_row_of : Members → OutageRow
+outage_row_of row = record {
+  from = text_at key.From row;
+  to = text_at key.To row;
+  from_ns = number_at keys.FROM_NS row;
+  to_ns = number_at keys.TO_NS row;
+  has_unknown_key = has_unknown_key Outage row;
+}
+
+abbrev pub vl_row_of : Members → VlRow
+vl_row_of row = record {
+  id = record { 0 = number_at keys.ID row };
+  bag_ms = number_at keys.BAG_MS row;
+  smax = number_at keys.SMAX row;
+  priority = (if has_word key.Priority word.High row then High else Low);
+  policing_jitter_ns = number_at keys.POLICING_JITTER_NS row;
+  skew_max_ns = number_at keys.SKEW_MAX_NS row;
+  depth = number_at keys.DEPTH row;
+  size = number_at keys.SIZE row;
+  offset_ns = number_at keys.OFFSET_NS row;
+  period_ns = number_at keys.PERIOD_NS row;
+  jitter_ns = number_at keys.JITTER_NS row;
+  a = paths_at key.A row;
+  b = paths_at key.B row;
+  has_unknown_key = has_unknown_key Vl row;
+}
+
+-- the tables of a list that a document has under this name
+abbrev pub tables_of : Option Data → List Members
+tables_of value = option_map_or (λ items. filter_map as_table (list_of items)) (option_and_then as_array value) []
+
+abbrev pub tables_in : Section → Members → List Members
+tables_in section document = tables_of (get_member (section_text section) document)
+
+abbrev pub rows_of : Members → Rows
+rows_of document = record {
+  until = number_at keys.UNTIL_NS document;
+  seed = number_at keys.SEED document;
+  nodes = map node_row_of (tables_in Node document);
+  links = map link_row_of (tables_in Link document);
+  outages = map outage_row_of (tables_in Outage document);
+  vls = map vl_row_of (tables_in Vl document);
+  has_unknown_key = has_unknown_key Top document;
+}
+
+-- the text means a document without a fault of a key, and these are its rows
+pub record Means (text : List ℕ) (rows : Rows) : Type 0 where
+  pub document : Members
+  pub parsed : parse_document text ≡ Some document
+  pub sound : faults_of_document document ≡ []
+  pub rows_are : rows ≡ rows_of document

@@ -1,0 +1,121 @@
+ghost use Rattle.std.specs.Prelude.{◌≡◌};
+ghost use Rattle.network_rows.specs.Keys.{key_text, section_text, word_text};
+
+/// A part of a description: its top table, or one of its lists of tables.
+#[derive(Clone, Copy, Debug, PartialEq, Eq)]
+pub enum Section {
+    Top,
+    Node,
+    Link,
+    Outage,
+    Vl,
+}
+
+/// A key of a description.
+#[derive(Clone, Copy, Debug, PartialEq, Eq)]
+pub enum Key {
+    UntilNs,
+    Seed,
+    Name,
+    Kind,
+    PortBytes,
+    Net,
+    LatencyNs,
+    A,
+    B,
+    Mbit,
+    PropagationNs,
+    From,
+    To,
+    FromNs,
+    ToNs,
+    Id,
+    BagMs,
+    Smax,
+    Priority,
+    PolicingJitterNs,
+    SkewMaxNs,
+    Depth,
+    Size,
+    OffsetNs,
+    PeriodNs,
+    JitterNs,
+}
+
+/// A word that a text of a description may be.
+#[derive(Clone, Copy, Debug, PartialEq, Eq)]
+pub enum Word {
+    Es,
+    Switch,
+    A,
+    B,
+    High,
+    Low,
+}
+
+impl Section {
+    /// The section as a description writes it; `top` for the top table, which a description does not name.
+    pub fn text(self) -> &'static str
+        ensures { result.now ≡ section_text self }
+    {
+        match self {
+            Section::Top => "top",
+            Section::Node => "node",
+            Section::Link => "link",
+            Section::Outage => "outage",
+            Section::Vl => "vl",
+        }
+    }
+}
+
+impl Key {
+    /// The key as a description writes it.
+    pub fn text(self) -> &'static str
+        ensures { result.now ≡ key_text self }
+    {
+        match self {
+            Key::UntilNs => "until_ns",
+            Key::Seed => "seed",
+            Key::Name => "name",
+            Key::Kind => "kind",
+            Key::PortBytes => "port_bytes",
+            Key::Net => "net",
+            Key::LatencyNs => "latency_ns",
+            Key::A => "a",
+            Key::B => "b",
+            Key::Mbit => "mbit",
+            Key::PropagationNs => "propagation_ns",
+            Key::From => "from",
+            Key::To => "to",
+            Key::FromNs => "from_ns",
+            Key::ToNs => "to_ns",
+            Key::Id => "id",
+            Key::BagMs => "bag_ms",
+            Key::Smax => "smax",
+            Key::Priority => "priority",
+            Key::PolicingJitterNs => "policing_jitter_ns",
+            Key::SkewMaxNs => "skew_max_ns",
+            Key::Depth => "depth",
+            Key::Size => "size",
+            Key::OffsetNs => "offset_ns",
+            Key::PeriodNs => "period_ns",
+            Key::JitterNs => "jitter_ns",
+        }
+    }
+}
+
+impl Word {
+    /// The word as a description writes it.
+    pub fn text(self) -> &'static str
+        ensures { result.now ≡ word_text self }
+    {
+        match self {
+            Word::Es => "es",
+            Word::Switch => "switch",
+            Word::A => "A",
+            Word::B => "B",
+            Word::High => "high",
+            Word::Low => "low",
+        }
+    }
+}

@@ -1,0 +1,16 @@
+//! From the text of a network description to its rows: what each key alone tells, and the first fault of a text that has one.
+#![tactic(auto)]
+
+mod fault;
+mod key;
+mod name;
+mod rows;
+mod rule;
+mod sequence;
+mod table;
+
+pub use fault::{DescFault, Place};
+pub use key::{Key, Section};
+pub use name::Name;
+pub use rows::{LinkRow, NodeKind, NodeRow, OutageRow, Path, Priority, Rate, Rows, VlRow};
+pub use sequence::Sequence;

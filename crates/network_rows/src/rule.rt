@@ -1,0 +1,43 @@
+use crate::key::{Key, Word};
+
+/// Which rows have a key.
+#[derive(Clone, Copy, Debug, PartialEq, Eq)]
+pub enum Presence {
+    /// Each row has it.
+    Required,
+    /// Each row whose kind is `switch` has it, and no other.
+    ForSwitches,
+}
+
+/// What the value at a key has to be: its kind, and with it the limit.
+#[derive(Clone, Copy, Debug, PartialEq, Eq)]
+pub enum Kind {
+    /// An integer from the first number to the second.
+    Integer(u64, u64),
+    /// An integer from the first number to the second, greater than the one at another key of its row.
+    IntegerAbove(Key, u64, u64),
+    /// An integer that is one of two.
+    EitherInteger(u64, u64),
+    /// An integer that is one of eight.
+    OneOf([u64; 8]),
+    /// A text that is one of two words.
+    EitherWord(Word, Word),
+    /// A text that names a node: so many ASCII letters, digits, `_` and `-`, from the first number to the second.
+    NodeName(u64, u64),
+    /// Any text. It refers to a node by its name.
+    Reference,
+    /// A list of paths. A path is a list of references, so many as from the first number to the second.
+    Paths(u64, u64),
+}
+
+/// A line of the table of keys: the key, which rows have it, and what its value has to be.
+#[derive(Clone, Copy, Debug, PartialEq, Eq)]
+pub struct Rule(pub Key, pub Presence, pub Kind);
+
+/// What is asked of a key: that it is there, that its value is of its kind, or that the value is within the limit.
+#[derive(Clone, Copy, Debug, PartialEq, Eq)]
+pub enum Check {
+    OfPresence,
+    OfKind,
+    OfLimit,
+}
