@@ -16,7 +16,7 @@ use Rattle.network_rows.specs.declared.rule.Check.TheVariants.{OfPresence, OfKin
 use Rattle.network_rows.specs.declared.fault.Place.{Place}
 use Rattle.network_rows.specs.declared.fault.DescFault.{DescFault}
 use Rattle.network_rows.specs.declared.fault.DescFault.TheVariants.{Syntax, Missing, WrongKind, OutOfLimit, OutOfMemory}
-use Rattle.network_rows.specs.declared.table.TheConstants.{TOP_KEYS, NODE_KEYS, LINK_KEYS, OUTAGE_KEYS, VL_KEYS}
+use Rattle.network_rows.specs.declared.table.TheConstants.{LISTS, TOP_KEYS, NODE_KEYS, LINK_KEYS, OUTAGE_KEYS, VL_KEYS}
 use Rattle.network_rows.specs.Keys.{section_text}
 use Rattle.network_rows.specs.Values.{value_at, passes, has_word, list_of}
 use Rattle.network_rows.specs.Kinds.{has_kind, keeps_limit}
@@ -69,12 +69,11 @@ failing_in_list check section None = []
 failing_in_list check section (Some d) = option_map_or (λ items. failing_in_rows check section 1 (list_of items)) (as_array d) (failing_whole check section 0)
 
 abbrev pub failing_in_section : Check → Members → Section → List Place
-failing_in_section check document Top = failing_keys check Top None document
 failing_in_section check document section = failing_in_list check section (get_member (section_text section) document)
 
 -- the places of a document where the check fails
 abbrev pub failing : Check → Members → List Place
-failing check document = flat_map (failing_in_section check document) (Top ∷ Node ∷ Link ∷ Outage ∷ Vl ∷ [])
+failing check document = failing_keys check Top None document ++ flat_map (failing_in_section check document) LISTS
 
 -- the faults 2 to 4 of a document, in their order
 abbrev pub faults_of_document : Members → List DescFault

@@ -1,6 +1,7 @@
 -- What a kind of values asks of a value: first that it is such a value at all, then that it is within the limit.
-use Rattle.std.specs.Prelude.{ℕ, Bool, true, ◌&&◌, ◌||◌, ◌==◌, nat_le, nat_lt, List, length, slice_index, Option, Some, None, is_some, option_and_then}
+use Rattle.std.specs.Prelude.{ℕ, Bool, true, ◌&&◌, ◌||◌, ◌==◌, nat_le, nat_lt, List, codes, length, slice_index, Option, Some, None, is_some, option_and_then}
 use Rattle.std.specs.List.{list_any, list_all}
+use Rattle.std.specs.Char.{is_ascii_alphanumeric}
 use Rattle.std.specs.Str.{bytes_eq}
 use Rattle.toml.specs.Data.{Data, Members, as_str, as_integer}
 use Rattle.network_rows.specs.declared.rule.Kind.{Kind}
@@ -33,7 +34,7 @@ allows _ n = true
 
 -- an ASCII letter, a digit, `_` or `-`
 abbrev pub is_name_byte : ℕ → Bool
-is_name_byte b = (is_within 97 122 b || is_within 65 90 b) || (is_within 48 57 b || ((b == 95) || (b == 45)))
+is_name_byte b = is_ascii_alphanumeric b || list_any (λ c. c == b) (codes "_-")
 
 -- so many bytes, each of which a name may have
 abbrev pub is_name : ℕ → ℕ → List ℕ → Bool

@@ -44,16 +44,12 @@ paths_at key row = unwrap_or (option_and_then as_paths (value_at key row)) []
 
 -- ---- unknown keys
 
--- the sections that are lists of rows
-abbrev pub lists : List Section
-lists = Node ∷ Link ∷ Outage ∷ Vl ∷ []
-
 -- the keys that a table of a section may have; the top one has the other sections too
 abbrev pub known_keys : Section → Members → List (List ℕ)
 known_keys section row = map (λ rule. key_text rule.0) (filter (λ rule. applies rule.1 row) (keys_of section))
 
 abbrev pub known_names : Section → List (List ℕ)
-known_names Top = map section_text lists
+known_names Top = map section_text keys.LISTS
 known_names _ = []
 
 abbrev pub is_known : Section → Members → List ℕ → Bool

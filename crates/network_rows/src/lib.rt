@@ -1,13 +1,16 @@
 //! From the text of a network description to its rows: what each key alone tells, and the first fault of a text that has one.
 #![tactic(auto)]
 
+mod check;
 mod fault;
 mod key;
+mod kind;
 mod name;
 mod rows;
 mod rule;
 mod sequence;
 mod table;
+mod value;
 
 pub use fault::{DescFault, Place};
 pub use key::{Key, Section};

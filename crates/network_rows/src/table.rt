@@ -1,12 +1,15 @@
 //! The keys of each section, in the order of checks, with their kinds and limits. They stand here and nowhere else.
-use crate::key::Key;
 use crate::key::Word::{A, B, Es, High, Low, Switch};
+use crate::key::{Key, Section};
 use crate::rule::Kind::{
     EitherInteger, EitherWord, Integer, IntegerAbove, NodeName, OneOf, Paths, Reference,
 };
 use crate::rule::Presence::{ForSwitches, Required};
 use crate::rule::Rule;
 use vlink::{FrameSize, LATEST_NS};
+
+/// The sections that are lists of tables, in the order of checks.
+pub const LISTS: [Section; 4] = [Section::Node, Section::Link, Section::Outage, Section::Vl];
 
 // The greatest time that something takes, and the greatest jitter, in ns.
 const SECOND_NS: u64 = 1_000_000_000;

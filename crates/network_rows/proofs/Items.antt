@@ -1,0 +1,61 @@
+-- The items of an array, read one by one.
+use Rattle.std.proofs.Common.{◌≡◌, ℕ, suc, Bool, true, false, ◌&&◌, cond, List, [], ◌∷◌, length, map, Option, Some, None, option_map, option_and_then, is_some, refl, ap, ◌∙◌}
+use Rattle.std.specs.List.{list_all}
+use Rattle.toml.specs.Data.{Data}
+use Rattle.toml.specs.View.{view, items_view}
+use Rattle.toml.specs.declared.value.Value.{Value}
+use Rattle.network_rows.specs.Values.{passes, all_as, list_of}
+
+and_false : (b : Bool) → false ≡ (b && false)
+and_false true = refl
+and_false false = refl
+
+module _ {X : Type 0} where
+  -- the first item, and those behind it
+  both : Option X → Option (List X) → Option (List X)
+  both o rest = option_and_then (λ x. option_map (λ xs. x ∷ xs) rest) o
+
+  length-both : (o : Option X) (rest : Option (List X)) (b : Bool) (n : ℕ) → option_map length rest ≡ cond b (Some n) None
+      → option_map length (both o rest) ≡ cond (is_some o && b) (Some (suc n)) None
+  unfolding both
+  length-both None rest b n e = refl
+  length-both (Some x) None true n e = cc
+  length-both (Some x) None false n e = refl
+  length-both (Some x) (Some xs) true n e = cc
+  length-both (Some x) (Some xs) false n e = cc
+
+  is_some-both : (o : Option X) (rest : Option (List X)) → is_some (both o rest) ≡ (is_some o && is_some rest)
+  unfolding both
+  is_some-both None rest = refl
+  is_some-both (Some x) None = refl
+  is_some-both (Some x) (Some xs) = refl
+
+  passes-both : (test : X → Bool) (o : Option X) (rest : Option (List X)) → passes (list_all test) (both o rest) ≡ (passes test o && passes (list_all test) rest)
+  unfolding both
+  passes-both test None rest = refl
+  passes-both test (Some x) None = and_false (test x)
+  passes-both test (Some x) (Some xs) = refl
+
+  module _ (read : Data → Option X) where
+    -- how many there are, if each is such a thing
+    pub length-all_as : (vs : List Value) → option_map length (all_as read (items_view vs)) ≡ cond (list_all (λ v. is_some (read (view v))) vs) (Some (length vs)) None
+    unfolding both
+    length-all_as [] = refl
+    length-all_as (v ∷ vs) = length-both (read (view v)) _ _ (length vs) (length-all_as vs)
+
+    -- whether each is such a thing
+    pub is_some-all_as : (vs : List Value) → is_some (all_as read (items_view vs)) ≡ list_all (λ v. is_some (read (view v))) vs
+    unfolding both
+    is_some-all_as [] = refl
+    is_some-all_as (v ∷ vs) = is_some-both (read (view v)) (all_as read (items_view vs)) ∙ ap (λ b. is_some (read (view v)) && b) (is_some-all_as vs)
+
+    -- whether each is such a thing and passes the test
+    pub passes-all_as : (test : X → Bool) (vs : List Value) → passes (list_all test) (all_as read (items_view vs)) ≡ list_all (λ v. passes test (read (view v))) vs
+    unfolding both
+    passes-all_as test [] = refl
+    passes-all_as test (v ∷ vs) = passes-both test (read (view v)) (all_as read (items_view vs)) ∙ ap (λ b. passes test (read (view v)) && b) (passes-all_as test vs)
+
+-- the items as a list again
+pub list_of-items_view : (vs : List Value) → list_of (items_view vs) ≡ map view vs
+list_of-items_view [] = refl
+list_of-items_view (v ∷ vs) = ap (λ ds. view v ∷ ds) (list_of-items_view vs)
