@@ -1,10 +1,14 @@
 -- The items of an array, read one by one.
-use Rattle.std.proofs.Common.{◌≡◌, ℕ, suc, Bool, true, false, ◌&&◌, cond, List, [], ◌∷◌, length, map, Option, Some, None, option_map, option_and_then, is_some, refl, ap, ◌∙◌}
+use Rattle.std.proofs.Common.{◌≡◌, ℕ, suc, Bool, true, false, ◌&&◌, cond, List, [], ◌∷◌, length, map, Option, Some, None, option_map, option_and_then, is_some, unwrap_or, refl, ap, ◌∙◌}
 use Rattle.std.specs.List.{list_all}
 use Rattle.toml.specs.Data.{Data}
 use Rattle.toml.specs.View.{view, items_view}
 use Rattle.toml.specs.declared.value.Value.{Value}
 use Rattle.network_rows.specs.Values.{passes, all_as, list_of}
+
+none_of : {X : Type 0} (o : Option X) → is_some o ≡ false → o ≡ None
+none_of None e = refl
+none_of (Some x) e = cc
 
 and_false : (b : Bool) → false ≡ (b && false)
 and_false true = refl
@@ -55,7 +59,32 @@ module _ {X : Type 0} where
     passes-all_as test [] = refl
     passes-all_as test (v ∷ vs) = passes-both test (read (view v)) (all_as read (items_view vs)) ∙ ap (λ b. passes test (read (view v)) && b) (passes-all_as test vs)
 
+module _ {X : Type 0} (read : Data → Option X) (none : X) where
+  made_both : (o : Option X) (rest : Option (List X)) (xs : List X) (b : Bool) → (is_some o && b) ≡ true → (b ≡ true → rest ≡ Some xs) → both o rest ≡ Some (unwrap_or o none ∷ xs)
+  unfolding both
+  made_both None rest xs b e h = cc
+  made_both (Some x) rest xs b e h = ap (option_map (λ xs. x ∷ xs)) (h e)
+
+  all_as-each : (vs : List Value) → list_all (λ v. is_some (read (view v))) vs ≡ true → all_as read (items_view vs) ≡ Some (map (λ v. unwrap_or (read (view v)) none) vs)
+  unfolding both
+  all_as-each [] e = refl
+  all_as-each (v ∷ vs) e = made_both (read (view v)) (all_as read (items_view vs)) _ (list_all (λ v. is_some (read (view v))) vs) e (all_as-each vs)
+
+  all_as-some : (vs : List Value) (b : Bool) → list_all (λ v. is_some (read (view v))) vs ≡ b → unwrap_or (all_as read (items_view vs)) [] ≡ cond b (map (λ v. unwrap_or (read (view v)) none) vs) []
+  all_as-some vs true e = rw (all_as-each vs e)
+  all_as-some vs false e = rw (none_of (all_as read (items_view vs)) (is_some-all_as read vs ∙ e))
+
+  -- what they all are, or nothing
+  pub unwrap_or-all_as : (vs : List Value)
+      → unwrap_or (all_as read (items_view vs)) [] ≡ cond (list_all (λ v. is_some (read (view v))) vs) (map (λ v. unwrap_or (read (view v)) none) vs) []
+  unwrap_or-all_as vs = all_as-some vs _ refl
+
 -- the items as a list again
 pub list_of-items_view : (vs : List Value) → list_of (items_view vs) ≡ map view vs
 list_of-items_view [] = refl
 list_of-items_view (v ∷ vs) = ap (λ ds. view v ∷ ds) (list_of-items_view vs)
+
+-- what is made of each of them
+pub map-list_of : {X : Type 0} (make : Data → X) (vs : List Value) → map make (list_of (items_view vs)) ≡ map (λ v. make (view v)) vs
+map-list_of make [] = refl
+map-list_of make (v ∷ vs) = ap (λ xs. make (view v) ∷ xs) (map-list_of make vs)

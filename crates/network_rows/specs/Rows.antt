@@ -1,7 +1,7 @@
 -- The rows that a document stands for. For a document with a fault of a key they mean nothing.
 use Rattle.std.specs.Prelude.{◌≡◌, ℕ, Bool, not, List, [], ◌∷◌, ◌++◌, map, filter, ◌==◌, if◌then◌else◌, Option, Some, None, option_and_then, unwrap_or}
 use Rattle.std.specs.Option.{option_map_or}
-use Rattle.std.specs.List.{list_any, filter_map}
+use Rattle.std.specs.List.{list_any}
 use Rattle.std.specs.Str.{bytes_eq}
 use Rattle.toml.specs.Data.{Data, Members, no_members, member, as_str, as_array, as_table, get_member}
 use Rattle.toml.specs.Parse.{parse_document}
@@ -14,7 +14,9 @@ use Rattle.network_rows.specs.declared.key.Word.TheVariants as word
 use Rattle.network_rows.specs.declared.rule.Rule.{Rule}
 use Rattle.network_rows.specs.declared.rows.NodeKind.{NodeKind}
 use Rattle.network_rows.specs.declared.rows.NodeKind.TheVariants.{EndSystem, Switch}
+use Rattle.network_rows.specs.declared.rows.Rate.{Rate}
 use Rattle.network_rows.specs.declared.rows.Rate.TheVariants.{Mbit10, Mbit100}
+use Rattle.network_rows.specs.declared.rows.Priority.{Priority}
 use Rattle.network_rows.specs.declared.rows.Priority.TheVariants.{High, Low}
 use Rattle.network_rows.specs.declared.rows.NodeRow.{NodeRow}
 use Rattle.network_rows.specs.declared.rows.LinkRow.{LinkRow}
@@ -71,6 +73,12 @@ node_kind_of row =
     then Switch (if has_word key.Net word.B row then net.B else net.A) (number_at keys.LATENCY_NS row)
     else EndSystem
 
+abbrev pub priority_of : Members → Priority
+priority_of row = if has_word key.Priority word.High row then High else Low
+
+abbrev pub rate_of : Members → Rate
+rate_of row = if number_at keys.MBIT row == 100 then Mbit100 else Mbit10
+
 abbrev pub node_row_of : Members → NodeRow
 node_row_of row = record {
   name = text_at key.Name row;
@@ -83,7 +91,7 @@ abbrev pub link_row_of : Members → LinkRow
 link_row_of row = record {
   a = text_at key.A row;
   b = text_at key.B row;
-  mbit = (if number_at keys.MBIT row == 100 then Mbit100 else Mbit10);
+  mbit = rate_of row;
   propagation_ns = number_at keys.PROPAGATION_NS row;
   has_unknown_key = has_unknown_key Link row;
 }
@@ -102,7 +110,7 @@ vl_row_of row = record {
   id = record { 0 = number_at keys.ID row };
   bag_ms = number_at keys.BAG_MS row;
   smax = number_at keys.SMAX row;
-  priority = (if has_word key.Priority word.High row then High else Low);
+  priority = priority_of row;
   policing_jitter_ns = number_at keys.POLICING_JITTER_NS row;
   skew_max_ns = number_at keys.SKEW_MAX_NS row;
   depth = number_at keys.DEPTH row;
@@ -115,21 +123,26 @@ vl_row_of row = record {
   has_unknown_key = has_unknown_key Vl row;
 }
 
--- the tables of a list that a document has under this name
-abbrev pub tables_of : Option Data → List Members
-tables_of value = option_map_or (λ items. filter_map as_table (list_of items)) (option_and_then as_array value) []
+-- a row as a table
+abbrev pub table_of : Data → Members
+table_of d = unwrap_or (as_table d) no_members
 
-abbrev pub tables_in : Section → Members → List Members
-tables_in section document = tables_of (get_member (section_text section) document)
+-- the values of a list; of what is no list there are none
+abbrev pub values_of : Option Data → List Data
+values_of value = option_map_or list_of (option_and_then as_array value) []
+
+-- the rows of a section of a document, each made so of its table
+abbrev pub rows_in : {R : Type 0} → (Members → R) → Section → Members → List R
+rows_in make section document = map (λ d. make (table_of d)) (values_of (get_member (section_text section) document))
 
 abbrev pub rows_of : Members → Rows
 rows_of document = record {
   until = number_at keys.UNTIL_NS document;
   seed = number_at keys.SEED document;
-  nodes = map node_row_of (tables_in Node document);
-  links = map link_row_of (tables_in Link document);
-  outages = map outage_row_of (tables_in Outage document);
-  vls = map vl_row_of (tables_in Vl document);
+  nodes = rows_in node_row_of Node document;
+  links = rows_in link_row_of Link document;
+  outages = rows_in outage_row_of Outage document;
+  vls = rows_in vl_row_of Vl document;
   has_unknown_key = has_unknown_key Top document;
 }
 

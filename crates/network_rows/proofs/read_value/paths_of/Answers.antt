@@ -1,0 +1,12 @@
+use Rattle.std.proofs.Common.{◌≡◌, [], is_some, sym}
+use Rattle.std.specs.List.{list_all}
+use Rattle.toml.specs.Data.{as_str}
+use Rattle.toml.specs.View.{view}
+use Rattle.network_rows.specs.Values.{as_list}
+use Rattle.network_rows.proofs.Items.{unwrap_or-all_as}
+use Rattle.network_rows.proofs.read_value.paths_of.Goals as goal
+
+pub returns-in-Some : goal.returns-in-Some
+returns-in-Some c =
+    let each : list_all (λ v. is_some (as_list as_str (view v))) c.in-Some.paths.now.items ≡ c.are_each_path.result = rw (← c.as_slice-in-Some.ensures.value) (sym c.are_each_path.ensures) in
+    rw (← c.in-Some.ensures, unwrap_or-all_as (as_list as_str) [] c.in-Some.paths.now.items, each, ← c.as_slice.ensures.value) c.read_if.ensures
