@@ -13,6 +13,11 @@ module _ {X : Type 0} where
   first-append_none [] ys e = refl
   first-append_none (x ∷ xs) ys e = cc
 
+  -- of a list that has none
+  pub first-none : (xs : List X) → first xs ≡ None → xs ≡ []
+  first-none [] e = refl
+  first-none (x ∷ xs) e = cc
+
   module _ {Y : Type 0} (f : X → Y) where
     pub first-map : (xs : List X) → first (map f xs) ≡ option_map f (first xs)
     first-map [] = refl

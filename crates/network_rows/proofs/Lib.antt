@@ -1,3 +1,6 @@
 pub mod Items
 pub mod Firsts
 pub mod Names
+pub mod Empty
+pub mod Sound
+pub mod Limits

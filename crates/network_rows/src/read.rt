@@ -1,6 +1,7 @@
 ghost use Rattle.std.specs.Prelude.{IfOk, IfErr};
 ghost use Rattle.network_rows.specs.Faults.{faults_of_text, IsFirstFault};
 ghost use Rattle.network_rows.specs.Rows.{Means};
+ghost use Rattle.network_rows.specs.Within.{AreWithin};
 
 use crate::check::first_fault;
 use crate::fault::DescFault;
@@ -14,6 +15,7 @@ use std::alloc::Global;
 pub fn read_rows(alloc: Global, text: &str) -> Result<Rows, DescFault>
     // The text means a document without such a fault, and these are its rows.
     ensures rows { IfOk result (Means text.now) }
+    ensures within { IfOk result AreWithin }
     ensures fault { IfErr result (IsFirstFault (faults_of_text text.now)) }
 {
     let document = match toml::table_from_str(alloc, text) {

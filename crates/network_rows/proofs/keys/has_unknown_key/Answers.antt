@@ -1,4 +1,4 @@
-use Rattle.std.proofs.Common.{◌≡◌, not, String, Global, string_bytes, rules, tests, ◌∙◌, sym}
+use Rattle.std.proofs.Common.{not, String, Global, string_bytes, rules, tests, ◌∙◌, sym}
 use Rattle.std.specs.BTreeMap.{keys}
 use Rattle.std.proofs.lemmas.Iterator.Search.{any_from_yields_List}
 use Rattle.std.proofs.lemmas.Iterator.Consumers.{YieldsList-from_rest}
