@@ -22,3 +22,6 @@ pub use name::Name;
 pub use read::read_rows;
 pub use rows::{LinkRow, NodeKind, NodeRow, OutageRow, Path, Priority, Rate, Rows, VlRow};
 pub use sequence::Sequence;
+
+#[cfg(test)]
+mod tests;
