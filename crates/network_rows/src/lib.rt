@@ -4,7 +4,6 @@
 mod check;
 mod fault;
 mod key;
-mod keys;
 mod kind;
 mod name;
 mod read;
@@ -14,6 +13,7 @@ mod rows;
 mod rule;
 mod sequence;
 mod table;
+mod unknown;
 mod value;
 
 pub use fault::{DescFault, Place};

@@ -1,15 +1,17 @@
-//! Values of a document are copied, each once.
+//! What stands in a table, made into values of rows. Each text is copied once.
 ghost use Rattle.std.specs.Prelude.{◌≡◌, [], map, IfOk, if◌then◌else◌, unwrap_or};
 ghost use Rattle.toml.specs.Data.{Data, as_str};
 ghost use Rattle.toml.specs.View.{view, table_view};
 ghost use Rattle.network_rows.specs.Values.{as_list, as_paths};
-ghost use Rattle.network_rows.specs.Rows.{text_at, paths_at};
+ghost use Rattle.network_rows.specs.Kinds.{least_of};
+ghost use Rattle.network_rows.specs.Rows.{number_at, text_at, paths_at};
 
 use crate::key::Key;
 use crate::name::Name;
 use crate::rows::Path;
+use crate::rule::{Kind, Rule};
 use crate::sequence::Sequence;
-use crate::value::{are_each_path, are_texts, text_in, value_at};
+use crate::value::{are_each_path, are_texts, number_in, text_in, value_at};
 use std::alloc::{AllocError, Global};
 use toml::{Table, Value};
 
@@ -69,6 +71,16 @@ impl ReadValue for Path {
     }
 }
 
+/// The number at the key of a line of the table, or the least number that the line allows.
+pub fn number_at(rule: Rule, row: &Table) -> u64
+    ensures { result ≡ number_at rule (table_view row.now) }
+{
+    match number_in(row, rule.0) {
+        Some(n) if rule.2.allows(n) => n,
+        _ => rule.2.least(),
+    }
+}
+
 /// The name at a key.
 pub fn name_at(alloc: Global, row: &Table, key: Key) -> Result<Name, AllocError>
     ensures { IfOk result (λ name. name ≡ text_at key (table_view row.now)) }
@@ -94,5 +106,19 @@ fn paths_of(alloc: Global, value: &Value) -> Result<Sequence<Path>, AllocError>
     match value.as_array() {
         Some(paths) => read_if(alloc, paths.as_slice(), are_each_path(paths.as_slice())),
         None => Ok(Sequence::from_vec(Vec::new(alloc))),
+    }
+}
+
+impl Kind {
+    /// The least number that this kind allows.
+    fn least(self) -> u64
+        ensures { result ≡ least_of self }
+    {
+        match self {
+            Kind::Integer(least, _) | Kind::IntegerAbove(_, least, _) => least,
+            Kind::OneOf(numbers) => numbers[0],
+            Kind::EitherInteger(first, _) => first,
+            _ => 0,
+        }
     }
 }

@@ -5,7 +5,7 @@ use Rattle.std.proofs.lemmas.Iterator.Consumers.{YieldsList-from_rest}
 use Rattle.toml.specs.View.{table_view}
 use Rattle.network_rows.specs.Rows.{is_known}
 use Rattle.network_rows.proofs.Names.{list_any-names_in}
-use Rattle.network_rows.proofs.keys.has_unknown_key.Goals as goal
+use Rattle.network_rows.proofs.unknown.has_unknown_key.Goals as goal
 
 pub returns : goal.returns
 returns c =
