@@ -30,26 +30,26 @@ passing test (Some x) e = record { found = x; is = refl; passed = e }
 
 -- ---- numbers
 
-chosen : (rule : Rule) (n : ℕ) (b : Bool) → allows rule.2 n ≡ b → allows rule.2 (least_of rule.2) ≡ true → allows rule.2 (cond b n (least_of rule.2)) ≡ true
+chosen : (rule : Rule) (n : ℕ) (b : Bool) → allows rule.kind n ≡ b → allows rule.kind (least_of rule.kind) ≡ true → allows rule.kind (cond b n (least_of rule.kind)) ≡ true
 chosen rule n true is least = is
 chosen rule n false is least = least
 
-allowed : (rule : Rule) (o : Option ℕ) → allows rule.2 (least_of rule.2) ≡ true → allows rule.2 (number_or_least rule o) ≡ true
+allowed : (rule : Rule) (o : Option ℕ) → allows rule.kind (least_of rule.kind) ≡ true → allows rule.kind (number_or_least rule o) ≡ true
 allowed rule None least = least
-allowed rule (Some n) least = chosen rule n (allows rule.2 n) refl least
+allowed rule (Some n) least = chosen rule n (allows rule.kind n) refl least
 
 -- a number of a row is one that its line of the table allows
-number_allowed : (rule : Rule) (row : Members) → allows rule.2 (least_of rule.2) ≡ true → Allows rule (number_at rule row)
-number_allowed rule row least = allowed rule (option_and_then as_number (value_at rule.0 row)) least
+number_allowed : (rule : Rule) (row : Members) → allows rule.kind (least_of rule.kind) ≡ true → Allows rule (number_at rule row)
+number_allowed rule row least = allowed rule (option_and_then as_number (value_at rule.key row)) least
 
-number_is : (rule : Rule) (row : Members) (d : Data) (n : ℕ) → value_at rule.0 row ≡ Some d → as_number d ≡ Some n → allows rule.2 n ≡ true → number_at rule row ≡ n
+number_is : (rule : Rule) (row : Members) (d : Data) (n : ℕ) → value_at rule.key row ≡ Some d → as_number d ≡ Some n → allows rule.kind n ≡ true → number_at rule row ≡ n
 number_is rule row d n there is allows_it = rw (there, is, allows_it)
 
 -- ---- the rows of each section
 
-name_within : (row : Members) → Holds keys.NAME row → allows_text keys.NAME.2 (text_at key.Name row) ≡ true
+name_within : (row : Members) → Holds keys.NAME row → allows_text keys.NAME.kind (text_at key.Name row) ≡ true
 name_within row h =
-    let text = passing (allows_text keys.NAME.2) (as_str h.value) h.limit in
+    let text = passing (allows_text keys.NAME.kind) (as_str h.value) h.limit in
     rw (h.there, text.is) text.passed
 
 kind_within : (net : Net) (row : Members) (is_switch : Bool) → IsNodeKindWithin (cond is_switch (Switch net (number_at keys.LATENCY_NS row)) EndSystem)
@@ -70,17 +70,17 @@ both_true : (a b : Bool) → (a && b) ≡ true → (a ≡ true) × (b ≡ true)
 both_true true b e = (refl, e)
 both_true false b e = absurd (false≢true e)
 
-in_order : (row : Members) (d f : Data) (m n : ℕ) → value_at key.FromNs row ≡ Some d → as_number d ≡ Some m → allows keys.FROM_NS.2 m ≡ true
-    → value_at key.ToNs row ≡ Some f → as_number f ≡ Some n → (allows keys.TO_NS.2 n && is_above (option_and_then as_number (value_at key.FromNs row)) n) ≡ true
+in_order : (row : Members) (d f : Data) (m n : ℕ) → value_at key.FromNs row ≡ Some d → as_number d ≡ Some m → allows keys.FROM_NS.kind m ≡ true
+    → value_at key.ToNs row ≡ Some f → as_number f ≡ Some n → (allows keys.TO_NS.kind n && is_above (option_and_then as_number (value_at key.FromNs row)) n) ≡ true
     → number_at keys.FROM_NS row < number_at keys.TO_NS row
 in_order row d f m n there is allows_it there' is' both =
-    let (allows_other, above) = both_true (allows keys.TO_NS.2 n) _ both in
+    let (allows_other, above) = both_true (allows keys.TO_NS.kind n) _ both in
     rw (number_is keys.FROM_NS row d m there is allows_it, number_is keys.TO_NS row f n there' is' allows_other) (ltb-true m n (rw (there, is) at above))
 
 begins_before_end : (row : Members) → Holds keys.FROM_NS row → Holds keys.TO_NS row → number_at keys.FROM_NS row < number_at keys.TO_NS row
 begins_before_end row from to =
-    let begin = passing (allows keys.FROM_NS.2) (as_number from.value) from.limit in
-    let end = passing (λ n. allows keys.TO_NS.2 n && is_above (option_and_then as_number (value_at key.FromNs row)) n) (as_number to.value) to.limit in
+    let begin = passing (allows keys.FROM_NS.kind) (as_number from.value) from.limit in
+    let end = passing (λ n. allows keys.TO_NS.kind n && is_above (option_and_then as_number (value_at key.FromNs row)) n) (as_number to.value) to.limit in
     in_order row from.value to.value begin.found end.found from.there begin.is begin.passed to.there end.is end.passed
 
 outage_within : (row : Members) → IsSound Outage row → IsOutageWithin (outage_row_of row)
@@ -90,8 +90,8 @@ outage_within row none = record {
   in_order = begins_before_end row (holds keys.FROM_NS row refl (λ check. (none check).1.1.0)) (holds keys.TO_NS row refl (λ check. (none check).1.1.1.0));
 }
 
-paths_within : (rule : Rule) (row : Members) (d : Data) → value_at rule.0 row ≡ Some d → Passing (λ paths. list_all (allows_path rule.2) paths) (as_paths d) → ArePathsWithin rule (paths_at rule.0 row)
-paths_within rule row d there paths = AllPass-from_list_all (allows_path rule.2) _ (rw (there, paths.is) paths.passed)
+paths_within : (rule : Rule) (row : Members) (d : Data) → value_at rule.key row ≡ Some d → Passing (λ paths. list_all (allows_path rule.kind) paths) (as_paths d) → ArePathsWithin rule (paths_at rule.key row)
+paths_within rule row d there paths = AllPass-from_list_all (allows_path rule.kind) _ (rw (there, paths.is) paths.passed)
 
 vl_within : (row : Members) → IsSound Vl row → IsVlWithin (vl_row_of row)
 vl_within row none =

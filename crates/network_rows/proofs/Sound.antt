@@ -30,9 +30,9 @@ sound_keys section number row none check = filter_empty (λ rule. fails check ru
 -- the row has a value at the key, which is of the kind and within the limit
 pub record Holds (rule : Rule) (row : Members) : Type 0 where
   pub value : Data
-  pub there : value_at rule.0 row ≡ Some value
-  pub kind : has_kind rule.2 value ≡ true
-  pub limit : keeps_limit rule.2 row value ≡ true
+  pub there : value_at rule.key row ≡ Some value
+  pub kind : has_kind rule.kind value ≡ true
+  pub limit : keeps_limit rule.kind row value ≡ true
 
 true_if_not : (b : Bool) → not b ≡ false → b ≡ true
 true_if_not true e = refl
@@ -42,16 +42,16 @@ both_if_not : (a b : Bool) → not a ≡ false → (a && not b) ≡ false → b 
 both_if_not true b e f = true_if_not b f
 both_if_not false b e f = absurd (false≢true (sym e))
 
-holds_of : (rule : Rule) (row : Members) (o : Option Data) → value_at rule.0 row ≡ o → is_none o ≡ false → passes (λ d. not (has_kind rule.2 d)) o ≡ false
-    → passes (λ d. has_kind rule.2 d && not (keeps_limit rule.2 row d)) o ≡ false → Holds rule row
+holds_of : (rule : Rule) (row : Members) (o : Option Data) → value_at rule.key row ≡ o → is_none o ≡ false → passes (λ d. not (has_kind rule.kind d)) o ≡ false
+    → passes (λ d. has_kind rule.kind d && not (keeps_limit rule.kind row d)) o ≡ false → Holds rule row
 holds_of rule row None there present kind limit = absurd (false≢true (sym present))
 holds_of rule row (Some d) there present kind limit =
-    record { value = d; there = there; kind = true_if_not _ kind; limit = both_if_not (has_kind rule.2 d) (keeps_limit rule.2 row d) kind limit }
+    record { value = d; there = there; kind = true_if_not _ kind; limit = both_if_not (has_kind rule.kind d) (keeps_limit rule.kind row d) kind limit }
 
 -- a key that each row has
-pub holds : (rule : Rule) (row : Members) → applies rule.1 row ≡ true → ((check : Check) → fails check rule row ≡ false) → Holds rule row
+pub holds : (rule : Rule) (row : Members) → applies rule.presence row ≡ true → ((check : Check) → fails check rule row ≡ false) → Holds rule row
 holds rule row applied none =
-    holds_of rule row (value_at rule.0 row) refl (rw applied at (none OfPresence)) (rw applied at (none OfKind)) (rw applied at (none OfLimit))
+    holds_of rule row (value_at rule.key row) refl (rw applied at (none OfPresence)) (rw applied at (none OfKind)) (rw applied at (none OfLimit))
 
 -- ---- all rows
 

@@ -38,16 +38,16 @@ applies ForSwitches row = has_word key.Kind word.Switch row
 
 -- a check of a key fails. What is absent has no kind, and what is of another kind has no limit
 abbrev pub fails : Check → Rule → Members → Bool
-fails OfPresence rule row = applies rule.1 row && is_none (value_at rule.0 row)
-fails OfKind rule row = applies rule.1 row && passes (λ d. not (has_kind rule.2 d)) (value_at rule.0 row)
-fails OfLimit rule row = applies rule.1 row && passes (λ d. has_kind rule.2 d && not (keeps_limit rule.2 row d)) (value_at rule.0 row)
+fails OfPresence rule row = applies rule.presence row && is_none (value_at rule.key row)
+fails OfKind rule row = applies rule.presence row && passes (λ d. not (has_kind rule.kind d)) (value_at rule.key row)
+fails OfLimit rule row = applies rule.presence row && passes (λ d. has_kind rule.kind d && not (keeps_limit rule.kind row d)) (value_at rule.key row)
 
 -- ---- all of a document
 
 -- the keys of a table at which the check fails
 abbrev pub failing_keys : Check → Section → Option ℕ → Members → List Place
 failing_keys check section number row =
-    map (λ rule. record { section = section; row = number; key = Some rule.0 }) (filter (λ rule. fails check rule row) (keys_of section))
+    map (λ rule. record { section = section; row = number; key = Some rule.key }) (filter (λ rule. fails check rule row) (keys_of section))
 
 -- something that is not what it should be as a whole: a row that is no table, or a section, with the number 0, that is no list
 abbrev pub failing_whole : Check → Section → ℕ → List Place

@@ -31,12 +31,12 @@ use Rattle.network_rows.specs.Faults.{keys_of, applies, faults_of_document}
 
 -- the number, if it is one that the line of the table allows; else the least that it allows
 abbrev pub number_or_least : Rule → Option ℕ → ℕ
-number_or_least rule None = least_of rule.2
-number_or_least rule (Some n) = if allows rule.2 n then n else least_of rule.2
+number_or_least rule None = least_of rule.kind
+number_or_least rule (Some n) = if allows rule.kind n then n else least_of rule.kind
 
 -- the number, the text and the paths at a key
 abbrev pub number_at : Rule → Members → ℕ
-number_at rule row = number_or_least rule (option_and_then as_number (value_at rule.0 row))
+number_at rule row = number_or_least rule (option_and_then as_number (value_at rule.key row))
 
 abbrev pub text_at : Key → Members → List ℕ
 text_at key row = unwrap_or (option_and_then as_str (value_at key row)) []
@@ -48,7 +48,7 @@ paths_at key row = unwrap_or (option_and_then as_paths (value_at key row)) []
 
 -- the keys that a table of a section may have; the top one has the other sections too
 abbrev pub known_keys : Section → Members → List (List ℕ)
-known_keys section row = map (λ rule. key_text rule.0) (filter (λ rule. applies rule.1 row) (keys_of section))
+known_keys section row = map (λ rule. key_text rule.key) (filter (λ rule. applies rule.presence row) (keys_of section))
 
 abbrev pub known_names : Section → List (List ℕ)
 known_names Top = map section_text keys.LISTS

@@ -13,14 +13,14 @@ use Rattle.network_rows.specs.Kinds.{allows, allows_text, allows_path}
 
 -- the line of the table allows the number
 abbrev pub Allows : Rule → ℕ → Type 0
-Allows rule n = allows rule.2 n ≡ true
+Allows rule n = allows rule.kind n ≡ true
 
 abbrev pub IsNodeKindWithin : NodeKind → Type 0
 IsNodeKindWithin EndSystem = ⊤
 IsNodeKindWithin (Switch net latency_ns) = Allows keys.LATENCY_NS latency_ns
 
 pub record IsNodeWithin (row : NodeRow) : Type 0 where
-  pub name : allows_text keys.NAME.2 row.name ≡ true
+  pub name : allows_text keys.NAME.kind row.name ≡ true
   pub kind : IsNodeKindWithin row.kind
   pub port_bytes : Allows keys.PORT_BYTES row.port_bytes
 
@@ -34,7 +34,7 @@ pub record IsOutageWithin (row : OutageRow) : Type 0 where
 
 -- each path has so many names as the line of the table allows
 abbrev pub ArePathsWithin : Rule → List (List (List ℕ)) → Type 0
-ArePathsWithin rule paths = All (λ path. allows_path rule.2 path ≡ true) paths
+ArePathsWithin rule paths = All (λ path. allows_path rule.kind path ≡ true) paths
 
 pub record IsVlWithin (row : VlRow) : Type 0 where
   pub id : Allows keys.ID row.id.0

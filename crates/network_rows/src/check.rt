@@ -28,9 +28,9 @@ pub fn keys_of(section: Section) -> &'static [Rule]
 impl Rule {
     /// Whether the row has to have this key.
     pub fn applies(&self, row: &Table) -> bool
-        ensures { result ≡ applies self.now.1 (table_view row.now) }
+        ensures { result ≡ applies self.now.presence (table_view row.now) }
     {
-        match self.1 {
+        match self.presence {
             Presence::Required => true,
             Presence::ForSwitches => has_word(row, Key::Kind, Word::Switch),
         }
@@ -43,15 +43,15 @@ impl Rule {
         if !self.applies(row) {
             return false;
         }
-        let value = value_at(row, self.0);
+        let value = value_at(row, self.key);
         match check {
             Check::OfPresence => value.is_none(),
             Check::OfKind => match value {
-                Some(value) => !self.2.has(value),
+                Some(value) => !self.kind.has(value),
                 None => false,
             },
             Check::OfLimit => match value {
-                Some(value) => self.2.has(value) && !self.2.keeps_limit(row, value),
+                Some(value) => self.kind.has(value) && !self.kind.keeps_limit(row, value),
                 None => false,
             },
         }
@@ -60,10 +60,10 @@ impl Rule {
 
 // The first line of the table of keys at which the check fails.
 fn failing_rule(check: Check, rules: &[Rule], row: &Table) -> Option<Key>
-    ensures { result ≡ option_map (λ rule. rule.0) (find (λ rule. fails check rule (table_view row.now)) rules.now) }
+    ensures { result ≡ option_map (λ rule. rule.key) (find (λ rule. fails check rule (table_view row.now)) rules.now) }
 {
     let rule = rules.iter().find(|rule| rule.fails(check, row))?;
-    Some(rule.0)
+    Some(rule.key)
 }
 
 // The first key of a table at which the check fails.

@@ -75,9 +75,9 @@ impl ReadValue for Path {
 pub fn number_at(rule: Rule, row: &Table) -> u64
     ensures { result ≡ number_at rule (table_view row.now) }
 {
-    match number_in(row, rule.0) {
-        Some(n) if rule.2.allows(n) => n,
-        _ => rule.2.least(),
+    match number_in(row, rule.key) {
+        Some(n) if rule.kind.allows(n) => n,
+        _ => rule.kind.least(),
     }
 }
 

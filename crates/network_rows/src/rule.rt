@@ -30,9 +30,15 @@ pub enum Kind {
     Paths(u64, u64),
 }
 
-/// A line of the table of keys: the key, which rows have it, and what its value has to be.
+/// A line of the table of keys.
 #[derive(Clone, Copy, Debug, PartialEq, Eq)]
-pub struct Rule(pub Key, pub Presence, pub Kind);
+pub struct Rule {
+    pub key: Key,
+    /// Which rows have the key.
+    pub presence: Presence,
+    /// What its value has to be.
+    pub kind: Kind,
+}
 
 /// What is asked of a key: that it is there, that its value is of its kind, or that the value is within the limit.
 #[derive(Clone, Copy, Debug, PartialEq, Eq)]

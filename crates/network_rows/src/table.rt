@@ -4,9 +4,19 @@ use crate::key::{Key, Section};
 use crate::rule::Kind::{
     EitherInteger, EitherWord, Integer, IntegerAbove, NodeName, OneOf, Paths, Reference,
 };
-use crate::rule::Presence::{ForSwitches, Required};
-use crate::rule::Rule;
+use crate::rule::{Presence, Rule};
 use vlink::{FrameSize, LATEST_NS};
+
+// A line of the table: the key, which rows have it, and what its value has to be.
+macro_rules! rule {
+    ($key:ident, $presence:ident, $kind:expr) => {
+        Rule {
+            key: Key::$key,
+            presence: Presence::$presence,
+            kind: $kind,
+        }
+    };
+}
 
 /// The sections that are lists of tables, in the order of checks.
 pub const LISTS: [Section; 4] = [Section::Node, Section::Link, Section::Outage, Section::Vl];
@@ -21,61 +31,61 @@ const LEAST_FRAME: u64 = FrameSize::LEAST as u64;
 
 const GREATEST_FRAME: u64 = FrameSize::GREATEST as u64;
 
-pub const UNTIL_NS: Rule = Rule(Key::UntilNs, Required, Integer(1, LATEST_NS));
+pub const UNTIL_NS: Rule = rule!(UntilNs, Required, Integer(1, LATEST_NS));
 
-pub const SEED: Rule = Rule(Key::Seed, Required, Integer(0, i64::MAX as u64));
+pub const SEED: Rule = rule!(Seed, Required, Integer(0, i64::MAX as u64));
 
-pub const NAME: Rule = Rule(Key::Name, Required, NodeName(1, 32));
+pub const NAME: Rule = rule!(Name, Required, NodeName(1, 32));
 
-pub const KIND: Rule = Rule(Key::Kind, Required, EitherWord(Es, Switch));
+pub const KIND: Rule = rule!(Kind, Required, EitherWord(Es, Switch));
 
-pub const PORT_BYTES: Rule = Rule(Key::PortBytes, Required, Integer(GREATEST_FRAME, 1_048_576));
+pub const PORT_BYTES: Rule = rule!(PortBytes, Required, Integer(GREATEST_FRAME, 1_048_576));
 
-pub const NET: Rule = Rule(Key::Net, ForSwitches, EitherWord(A, B));
+pub const NET: Rule = rule!(Net, ForSwitches, EitherWord(A, B));
 
-pub const LATENCY_NS: Rule = Rule(Key::LatencyNs, ForSwitches, Integer(1, SECOND_NS));
+pub const LATENCY_NS: Rule = rule!(LatencyNs, ForSwitches, Integer(1, SECOND_NS));
 
-pub const LINK_A: Rule = Rule(Key::A, Required, Reference);
+pub const LINK_A: Rule = rule!(A, Required, Reference);
 
-pub const LINK_B: Rule = Rule(Key::B, Required, Reference);
+pub const LINK_B: Rule = rule!(B, Required, Reference);
 
-pub const MBIT: Rule = Rule(Key::Mbit, Required, EitherInteger(10, 100));
+pub const MBIT: Rule = rule!(Mbit, Required, EitherInteger(10, 100));
 
-pub const PROPAGATION_NS: Rule = Rule(Key::PropagationNs, Required, Integer(1, SECOND_NS));
+pub const PROPAGATION_NS: Rule = rule!(PropagationNs, Required, Integer(1, SECOND_NS));
 
-pub const FROM: Rule = Rule(Key::From, Required, Reference);
+pub const FROM: Rule = rule!(From, Required, Reference);
 
-pub const TO: Rule = Rule(Key::To, Required, Reference);
+pub const TO: Rule = rule!(To, Required, Reference);
 
-pub const FROM_NS: Rule = Rule(Key::FromNs, Required, Integer(0, LATEST_NS));
+pub const FROM_NS: Rule = rule!(FromNs, Required, Integer(0, LATEST_NS));
 
-pub const TO_NS: Rule = Rule(Key::ToNs, Required, IntegerAbove(Key::FromNs, 0, LATEST_NS));
+pub const TO_NS: Rule = rule!(ToNs, Required, IntegerAbove(Key::FromNs, 0, LATEST_NS));
 
-pub const ID: Rule = Rule(Key::Id, Required, Integer(0, 65_535));
+pub const ID: Rule = rule!(Id, Required, Integer(0, 65_535));
 
-pub const BAG_MS: Rule = Rule(Key::BagMs, Required, OneOf(BAGS_MS));
+pub const BAG_MS: Rule = rule!(BagMs, Required, OneOf(BAGS_MS));
 
-pub const SMAX: Rule = Rule(Key::Smax, Required, Integer(LEAST_FRAME, GREATEST_FRAME));
+pub const SMAX: Rule = rule!(Smax, Required, Integer(LEAST_FRAME, GREATEST_FRAME));
 
-pub const PRIORITY: Rule = Rule(Key::Priority, Required, EitherWord(High, Low));
+pub const PRIORITY: Rule = rule!(Priority, Required, EitherWord(High, Low));
 
-pub const POLICING_JITTER_NS: Rule = Rule(Key::PolicingJitterNs, Required, Integer(0, SECOND_NS));
+pub const POLICING_JITTER_NS: Rule = rule!(PolicingJitterNs, Required, Integer(0, SECOND_NS));
 
-pub const SKEW_MAX_NS: Rule = Rule(Key::SkewMaxNs, Required, Integer(0, SECOND_NS));
+pub const SKEW_MAX_NS: Rule = rule!(SkewMaxNs, Required, Integer(0, SECOND_NS));
 
-pub const DEPTH: Rule = Rule(Key::Depth, Required, Integer(1, 1024));
+pub const DEPTH: Rule = rule!(Depth, Required, Integer(1, 1024));
 
-pub const SIZE: Rule = Rule(Key::Size, Required, Integer(LEAST_FRAME, GREATEST_FRAME));
+pub const SIZE: Rule = rule!(Size, Required, Integer(LEAST_FRAME, GREATEST_FRAME));
 
-pub const OFFSET_NS: Rule = Rule(Key::OffsetNs, Required, Integer(0, LATEST_NS));
+pub const OFFSET_NS: Rule = rule!(OffsetNs, Required, Integer(0, LATEST_NS));
 
-pub const PERIOD_NS: Rule = Rule(Key::PeriodNs, Required, Integer(1000, LATEST_NS));
+pub const PERIOD_NS: Rule = rule!(PeriodNs, Required, Integer(1000, LATEST_NS));
 
-pub const JITTER_NS: Rule = Rule(Key::JitterNs, Required, Integer(0, SECOND_NS));
+pub const JITTER_NS: Rule = rule!(JitterNs, Required, Integer(0, SECOND_NS));
 
-pub const PATHS_A: Rule = Rule(Key::A, Required, Paths(3, 32));
+pub const PATHS_A: Rule = rule!(A, Required, Paths(3, 32));
 
-pub const PATHS_B: Rule = Rule(Key::B, Required, Paths(3, 32));
+pub const PATHS_B: Rule = rule!(B, Required, Paths(3, 32));
 
 pub const TOP_KEYS: [Rule; 2] = [UNTIL_NS, SEED];
 

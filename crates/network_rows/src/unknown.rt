@@ -30,11 +30,11 @@ fn is_known(section: Section, row: &Table, name: &str) -> bool
 
 // Whether the name is the key of one of these lines, and the row has to have it.
 fn is_key(rules: &[Rule], row: &Table, name: &str) -> bool
-    ensures { result ≡ list_any (λ rule. applies rule.1 (table_view row.now) && bytes_eq name.now (key_text rule.0)) rules.now }
+    ensures { result ≡ list_any (λ rule. applies rule.presence (table_view row.now) && bytes_eq name.now (key_text rule.key)) rules.now }
 {
     rules
         .iter()
-        .any(|rule| rule.applies(row) && name == rule.0.text())
+        .any(|rule| rule.applies(row) && name == rule.key.text())
 }
 
 // Whether the name is that of a section which is a list.

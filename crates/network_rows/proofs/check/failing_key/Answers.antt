@@ -10,5 +10,5 @@ use Rattle.network_rows.proofs.check.failing_key.Goals as goal
 pub returns : goal.returns
 returns c =
     let place : Key → Place = λ key. record { section = c.args.section; row = c.args.number; key = Some key } in
-    let found = first-map-map-filter place (λ (rule : Rule). rule.0) (λ rule. fails c.args.check rule (table_view c.args.row.now)) (keys_of c.args.section) in
+    let found = first-map-map-filter place (λ (rule : Rule). rule.key) (λ rule. fails c.args.check rule (table_view c.args.row.now)) (keys_of c.args.section) in
     rw (found, ← c.keys_of.ensures, ← c.failing_rule.ensures, c.in_ok-key.was)
