@@ -4,3 +4,4 @@ pub mod Names
 pub mod Empty
 pub mod Sound
 pub mod Limits
+pub mod Examples
