@@ -58,7 +58,7 @@ kind_within net row false = tt
 
 node_within : (row : Members) → IsSound Node row → IsNodeWithin (node_row_of row)
 node_within row none = record {
-  name = name_within row (holds keys.NAME row refl (λ check. (none check).0));
+  name = name_within row (holds keys.NAME row refl (λ check. assumption (none check)));
   kind = kind_within _ row (has_word key.Kind word.Switch row);
   port_bytes = number_allowed keys.PORT_BYTES row refl;
 }
@@ -87,7 +87,7 @@ outage_within : (row : Members) → IsSound Outage row → IsOutageWithin (outag
 outage_within row none = record {
   from_ns = number_allowed keys.FROM_NS row refl;
   to_ns = number_allowed keys.TO_NS row refl;
-  in_order = begins_before_end row (holds keys.FROM_NS row refl (λ check. (none check).1.1.0)) (holds keys.TO_NS row refl (λ check. (none check).1.1.1.0));
+  in_order = begins_before_end row (holds keys.FROM_NS row refl (λ check. assumption (none check))) (holds keys.TO_NS row refl (λ check. assumption (none check)));
 }
 
 paths_within : (rule : Rule) (row : Members) (d : Data) → value_at rule.key row ≡ Some d → Passing (λ paths. list_all (allows_path rule.kind) paths) (as_paths d) → ArePathsWithin rule (paths_at rule.key row)
@@ -95,8 +95,8 @@ paths_within rule row d there paths = AllPass-from_list_all (allows_path rule.ki
 
 vl_within : (row : Members) → IsSound Vl row → IsVlWithin (vl_row_of row)
 vl_within row none =
-    let a = holds keys.PATHS_A row refl (λ check. (none check).1.1.1.1.1.1.1.1.1.1.1.0) in
-    let b = holds keys.PATHS_B row refl (λ check. (none check).1.1.1.1.1.1.1.1.1.1.1.1.0) in
+    let a = holds keys.PATHS_A row refl (λ check. assumption (none check)) in
+    let b = holds keys.PATHS_B row refl (λ check. assumption (none check)) in
     record {
       id = number_allowed keys.ID row refl;
       bag_ms = number_allowed keys.BAG_MS row refl;
