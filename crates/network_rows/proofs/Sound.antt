@@ -9,12 +9,13 @@ use Rattle.network_rows.specs.declared.key.Section.{Section}
 use Rattle.network_rows.specs.declared.key.Section.TheVariants.{Top, Node, Link, Outage, Vl}
 use Rattle.network_rows.specs.declared.rule.Check.{Check}
 use Rattle.network_rows.specs.declared.rule.Check.TheVariants.{OfPresence, OfKind, OfLimit}
+use Rattle.network_rows.specs.declared.rule.Presence.TheVariants.{Required}
 use Rattle.network_rows.specs.declared.rule.Rule.{Rule}
 use Rattle.network_rows.specs.declared.table.TheConstants.{LISTS}
 use Rattle.network_rows.specs.Keys.{section_text}
 use Rattle.network_rows.specs.Values.{value_at, passes, list_of}
 use Rattle.network_rows.specs.Kinds.{has_kind, keeps_limit}
-use Rattle.network_rows.specs.Faults.{keys_of, applies, fails, failing_keys, failing_whole, failing_in_row, failing_in_rows, failing_in_list, failing_in_section, failing, faults_of_document}
+use Rattle.network_rows.specs.Faults.{keys_of, fails, failing_keys, failing_whole, failing_in_row, failing_in_rows, failing_in_list, failing_in_section, failing, faults_of_document}
 use Rattle.network_rows.specs.Rows.{table_of, values_of, rows_in}
 use Rattle.network_rows.proofs.Empty.{not_empty, front_empty, back_empty, map_empty, flat_map_empty, filter_empty}
 
@@ -49,9 +50,9 @@ holds_of rule row (Some d) there present kind limit =
     record { value = d; there = there; kind = true_if_not _ kind; limit = both_if_not (has_kind rule.kind d) (keeps_limit rule.kind row d) kind limit }
 
 -- a key that each row has
-pub holds : (rule : Rule) (row : Members) → applies rule.presence row ≡ true → ((check : Check) → fails check rule row ≡ false) → Holds rule row
-holds rule row applied none =
-    holds_of rule row (value_at rule.key row) refl (rw applied at (none OfPresence)) (rw applied at (none OfKind)) (rw applied at (none OfLimit))
+pub holds : (rule : Rule) (row : Members) → rule.presence ≡ Required → ((check : Check) → fails check rule row ≡ false) → Holds rule row
+holds rule row required none =
+    holds_of rule row (value_at rule.key row) refl (rw required at (none OfPresence)) (rw required at (none OfKind)) (rw required at (none OfLimit))
 
 -- ---- all rows
 
