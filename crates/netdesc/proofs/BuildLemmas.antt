@@ -1,0 +1,112 @@
+-- What rows without a fault give for the tables of their network.
+use Rattle.std.proofs.Common.{◌≡◌, ℕ, suc, ◌+◌, ◌*◌, ◌<◌, ◌≤◌, Bool, true, false, cond, nat_lt, List, [], ◌∷◌, ◌++◌, length, map, get_or, Option, Some, None, All, unwrap_or, refl, ap, sym, ◌∙◌, subst, arith, inl, inr}
+use Rattle.std.specs.Option.{option_map}
+use Rattle.std.specs.Str.{bytes_eq}
+use Rattle.network_rows.specs.declared.fault.DescFault.TheVariants.{TooMany}
+use Rattle.std.proofs.lemmas.Bool.{cases_Bool, false≢true}
+use Rattle.std.proofs.lemmas.Bool.Decides.{nat_tests}
+use Rattle.std.proofs.lemmas.List.{length-map, get_or-map}
+use Rattle.std.proofs.lemmas.List.Elements.{All-from_recursion, recursion_from_All}
+use Rattle.std.specs.Prelude.{slice_get}
+use Rattle.std.proofs.lemmas.Option.{slice_get-map, slice_get_read}
+use Rattle.std.specs.List.{AllByRecursion}
+use Rattle.std.specs.List.Sorted.{IsNonDecreasing, IsNonDecreasingBy}
+use Rattle.network_rows.specs.declared.fault.DescFault.{DescFault}
+use Rattle.network_rows.specs.declared.rows.LinkRow.{LinkRow}
+use Rattle.network_rows.specs.declared.rows.Rows.{Rows}
+use Rattle.netdesc.specs.declared.limits.TheConstants.{GREATEST_PROCESSES}
+use Rattle.netdesc.specs.declared.wiring.Link.{Link}
+use Rattle.netdesc.specs.declared.wiring.Line.{Line}
+use Rattle.netdesc.specs.Rows.{each, each_after, when, top, place_by}
+use Rattle.netdesc.specs.Names.{names_of, number_of}
+use Rattle.netdesc.specs.Plan.{Plan, NodePlan, link_plan, plan_of}
+use Rattle.netdesc.specs.Lines.{directions}
+use Rattle.netdesc.specs.Faults.{faults_of, unknown_names, double_names, not_links, not_trees, too_many, double_at_link, double_at_node, double_at_vl, process_count}
+
+-- a link ends at nodes up to this number; so does a line
+abbrev pub EndsWithin : ℕ → Link → Type 0
+EndsWithin n link = (link.a ≤ n) × (link.b ≤ n)
+
+abbrev pub LeadsWithin : ℕ → Line → Type 0
+LeadsWithin n line = (line.from ≤ n) × (line.to ≤ n)
+
+lines-within : (nodes : List NodePlan) (n : ℕ) (earlier links : List Link) → AllByRecursion (EndsWithin n) links → AllByRecursion (LeadsWithin n) (each_after (directions nodes) earlier links)
+lines-within nodes n earlier [] h = h
+lines-within nodes n earlier (link ∷ links) h = (h.0, ((h.0.1, h.0.0), lines-within nodes n (earlier ++ link ∷ []) links h.1))
+
+pub All-lines : (nodes : List NodePlan) (n : ℕ) (links : List Link) → All (EndsWithin n) links → All (LeadsWithin n) (each (directions nodes) links)
+All-lines nodes n links h = All-from_recursion (LeadsWithin n) (each (directions nodes) links) (lines-within nodes n [] links (recursion_from_All (EndsWithin n) links h))
+
+-- a name stands for no number above the count of names
+pub number_of-within : (names : List (List ℕ)) (name : List ℕ) → number_of names name ≤ length names
+number_of-within names name = go (bytes_eq name) names
+  where
+    below : (o : Option ℕ) (n : ℕ) → unwrap_or o n ≤ n → unwrap_or (option_map (λ k. k + 1) o) (suc n) ≤ suc n
+    below None n h = omega arith
+    below (Some k) n h = omega arith
+    step : (b : Bool) (o : Option ℕ) (n : ℕ) → unwrap_or o n ≤ n → unwrap_or (cond b (Some 0) (option_map (λ k. k + 1) o)) (suc n) ≤ suc n
+    step true o n h = omega arith
+    step false o n h = below o n h
+    go : (test : List ℕ → Bool) (xs : List (List ℕ)) → unwrap_or (place_by test xs) (length xs) ≤ length xs
+    go test [] = omega arith
+    go test (x ∷ xs) = step (test x) (place_by test xs) (length xs) (go test xs)
+
+-- the links of rows end at nodes up to their number
+pub links-within : (names : List (List ℕ)) (rows : List LinkRow) → All (EndsWithin (length names)) (map (link_plan names) rows)
+links-within names rows = All-from_recursion (EndsWithin (length names)) (map (link_plan names) rows) (go rows)
+  where
+    go : (rows : List LinkRow) → AllByRecursion (EndsWithin (length names)) (map (link_plan names) rows)
+    go [] = tt
+    go (row ∷ rows) = ((number_of-within names row.a, number_of-within names row.b), go rows)
+
+-- the parts of an empty list
+pub front-none : {X : Type 0} (xs ys : List X) → xs ++ ys ≡ [] → xs ≡ []
+front-none [] ys h = refl
+front-none (x ∷ xs) ys h = cc
+
+pub behind-none : {X : Type 0} (xs ys : List X) → xs ++ ys ≡ [] → ys ≡ []
+behind-none [] ys h = h
+behind-none (x ∷ xs) ys h = cc
+
+when-none : (test : Bool) (fault : DescFault) → when test fault ≡ [] → test ≡ false
+when-none true fault h = cc
+when-none false fault h = refl
+
+-- rows without a fault have few processes
+pub few-processes : (rows : Rows) → faults_of rows ≡ [] → process_count (plan_of rows) ≤ GREATEST_PROCESSES
+few-processes rows none =
+    let plan = plan_of rows in
+    let many : too_many plan ≡ [] = behind-none (unknown_names rows ++ double_names plan ++ not_links plan ++ not_trees plan) (too_many plan) none in
+    let first : when (nat_lt GREATEST_PROCESSES (process_count plan)) (TooMany top) ≡ [] = front-none _ _ (front-none _ _ (front-none _ _ many)) in
+    let test : nat_lt GREATEST_PROCESSES (process_count plan) ≡ false = when-none _ _ first in
+    grind (arith, nat_tests)
+
+-- and no two links of the same nodes
+pub links-apart : (rows : Rows) → faults_of rows ≡ [] → each double_at_link (plan_of rows).links ≡ []
+links-apart rows none =
+    let plan = plan_of rows in
+    let double : double_names plan ≡ [] = behind-none (unknown_names rows) (double_names plan) (front-none _ _ (front-none _ _ (front-none _ _ none))) in
+    behind-none (each double_at_node plan.nodes) _ (front-none _ _ double)
+
+-- a list sorted by a number has rising numbers
+pub rising-map : {X : Type 0} (n : X → ℕ) (xs : List X) → IsNonDecreasingBy n xs → IsNonDecreasing (map n xs)
+rising-map n [] h = λ i j d ij lt. absurd (omega arith)
+rising-map n (x ∷ xs) h = λ i j d ij lt.
+    let short : j < length (x ∷ xs) = omega (arith, length-map (x ∷ xs) n) in
+    let first = get_or-map n (x ∷ xs) i x d (omega arith) in
+    let second = get_or-map n (x ∷ xs) j x d short in
+    omega (arith, first, second, h i j x ij short)
+
+pub map-both : {X Y Z : Type 0} (f : Y → Z) (g : X → Y) (xs : List X) → map f (map g xs) ≡ map (λ x. f (g x)) xs
+map-both f g [] = refl
+map-both f g (x ∷ xs) = ap (λ r. f (g x) ∷ r) (map-both f g xs)
+
+-- two lines for each link
+pub length-lines : (nodes : List NodePlan) (earlier links : List Link) → length (each_after (directions nodes) earlier links) ≡ 2 * length links
+length-lines nodes earlier [] = refl
+length-lines nodes earlier (link ∷ links) = let later = length-lines nodes (earlier ++ link ∷ []) links in omega (arith, later)
+
+-- what is read at a place of one list is what is made of the item at that place of another
+pub read-made : {X Y Z : Type 0} (f : X → Z) (v : Y → Z) (xs : List X) (ys : List Y) (n k : ℕ) (y : Y) → map v ys ≡ map f xs → n ≡ length ys → k < n → y ≡ get_or ys k y → option_map f (slice_get xs k) ≡ Some (v y)
+read-made f v xs ys n k y same len lt read =
+    sym (slice_get-map f xs k) ∙ ap (λ zs. slice_get zs k) (sym same) ∙ slice_get-map v ys k ∙ ap (option_map v) (slice_get_read ys n k y len lt read)

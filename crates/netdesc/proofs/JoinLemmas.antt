@@ -1,0 +1,81 @@
+-- A map from two nodes to the link that joins them, one link after another.
+use Rattle.std.proofs.Common.{◌≡◌, ℕ, ◌+◌, ◌<◌, Bool, true, false, cond, ◌==◌, ◌&&◌, ◌||◌, List, [], ◌∷◌, ◌++◌, length, take, get_or, Option, Some, None, is_some, refl, ap, sym, ◌∙◌, arith, inl, inr}
+use Rattle.std.specs.List.{list_any}
+use Rattle.std.specs.Ordering.{nat_cmp, ordering_then, is_eq}
+use Rattle.std.specs.declared.cmp.Ordering.{Ordering}
+use Rattle.std.specs.declared.cmp.Ordering.TheVariants.{Less, Equal, Greater}
+use Rattle.std.specs.Cmp.{nat_cmp_is}
+use Rattle.std.specs.BTreeMap.{BTreeMap, get, UpdatesBy}
+use Rattle.std.specs.Bool.{Decides, one_answer}
+use Rattle.std.proofs.lemmas.Bool.{cases_Bool, false≢true}
+use Rattle.std.proofs.lemmas.Bool.Decides.{nat_tests}
+use Rattle.std.proofs.lemmas.Map.Lookups.{exact_unsigned}
+use Rattle.netdesc.specs.declared.wiring.Link.{Link}
+use Rattle.netdesc.specs.Wiring.{goes, joins, link_between, is_linked}
+use Rattle.netdesc.specs.Finding.{pair_cmp, AreJoined}
+use Rattle.netdesc.proofs.PlaceLemmas.{or_else, or_else-none, place_by-push, place_by-same, none_of}
+
+is_eq-then : (o p : Ordering) → is_eq (ordering_then o p) ≡ (is_eq o && is_eq p)
+is_eq-then Less p = refl
+is_eq-then Equal p = refl
+is_eq-then Greater p = refl
+
+pub is_eq-nat_cmp : (a b : ℕ) → is_eq (nat_cmp a b) ≡ (a == b)
+is_eq-nat_cmp a b = grind (arith, nat_tests)
+
+-- pairs are equal where both numbers are
+pub is_eq-pair : (a b x y : ℕ) → is_eq (pair_cmp (a, b) (x, y)) ≡ ((a == x) && (b == y))
+is_eq-pair a b x y = is_eq-then (nat_cmp a x) (nat_cmp b y) ∙ rw (is_eq-nat_cmp a x, is_eq-nat_cmp b y) refl
+
+-- equal numbers, tested from either side
+pub ==-flip : (a b : ℕ) → (a == b) ≡ (b == a)
+==-flip a b = grind (arith, nat_tests)
+
+pub &&-flip : (a b : Bool) → (a && b) ≡ (b && a)
+&&-flip true true = refl
+&&-flip true false = refl
+&&-flip false true = refl
+&&-flip false false = refl
+
+pub goes-true : (x y : ℕ) (l : Link) → goes x y l ≡ true → (l.a ≡ x) × (l.b ≡ y)
+goes-true x y l h = (grind (arith, nat_tests), grind (arith, nat_tests))
+
+pub ||-flip : (a b : Bool) → (a || b) ≡ (b || a)
+||-flip true true = refl
+||-flip true false = refl
+||-flip false true = refl
+||-flip false false = refl
+
+-- the link of two nodes is found from either end
+pub link_between-flip : (links : List Link) (x y : ℕ) → link_between links x y ≡ link_between links y x
+link_between-flip links x y = place_by-same (joins x y) (joins y x) links (λ l. ||-flip (goes x y l) (goes y x l))
+
+-- a link more, which joins nodes that none joins so far
+pub AreJoined-put : (old mid new : BTreeMap (ℕ × ℕ) ℕ) (links : List Link) (l : Link) (i : ℕ) → AreJoined old links
+    → is_some (get pair_cmp old (l.a, l.b)) ≡ false
+    → UpdatesBy pair_cmp (pair_cmp (l.b, l.a)) old mid (Some i) → UpdatesBy pair_cmp (pair_cmp (l.a, l.b)) mid new (Some i)
+    → i ≡ length links → AreJoined new (links ++ l ∷ [])
+AreJoined-put old mid new links l i are absent back there at_end = λ x y.
+    there.0 (x, y)
+    ∙ ap (λ b. cond b (Some i) (get pair_cmp mid (x, y))) (is_eq-pair l.a l.b x y)
+    ∙ ap (λ o. cond (goes x y l) (Some i) o) (back.0 (x, y) ∙ ap (λ b. cond b (Some i) (get pair_cmp old (x, y))) (is_eq-pair l.b l.a x y ∙ &&-flip (l.b == x) (l.a == y)) ∙ ap (λ o. cond (goes y x l) (Some i) o) (are x y))
+    ∙ found x y (goes x y l) (goes y x l) refl refl
+    ∙ sym (place_by-push (joins x y) links l)
+  where
+    fresh : link_between links l.a l.b ≡ None
+    fresh = sym (are l.a l.b) ∙ none_of (get pair_cmp old (l.a, l.b)) absent
+    found : (x y : ℕ) (one two : Bool) → goes x y l ≡ one → goes y x l ≡ two
+        → cond one (Some i) (cond two (Some i) (link_between links x y)) ≡ or_else (link_between links x y) (cond (one || two) (Some (length links)) None)
+    found x y true two e f =
+        let same = goes-true x y l e in
+        let none : link_between links x y ≡ None = ap (λ n. link_between links n y) (sym same.0) ∙ ap (λ n. link_between links l.a n) (sym same.1) ∙ fresh in
+        rw none (ap Some at_end)
+    found x y false true e f =
+        let same = goes-true y x l f in
+        let none : link_between links x y ≡ None = link_between-flip links x y ∙ ap (λ n. link_between links n x) (sym same.0) ∙ ap (λ n. link_between links l.a n) (sym same.1) ∙ fresh in
+        rw none (ap Some at_end)
+    found x y false false e f = sym (or_else-none (link_between links x y))
+
+-- what is read where there is no link
+abbrev pub no_link : Link
+no_link = record { a = 0; b = 0; byte_ns = 0; propagation_ns = 0 }

@@ -1,0 +1,91 @@
+-- A map from names to numbers, one name after another.
+use Rattle.std.proofs.Common.{◌≡◌, ℕ, zero, suc, ◌+◌, ◌<◌, ◌≤◌, Bool, true, false, cond, List, [], ◌∷◌, ◌++◌, length, take, get_or, map, Option, Some, None, is_some, IfSome, unwrap_or, ◌||◌, refl, ap, sym, ◌∙◌, arith, add-one, inl, inr}
+use Rattle.std.specs.Option.{option_map}
+use Rattle.std.specs.Str.{bytes_eq}
+use Rattle.std.specs.Cmp.Lexicographic.{slice_cmp}
+use Rattle.std.specs.Ordering.{nat_cmp}
+use Rattle.std.specs.BTreeMap.{BTreeMap, get_by, UpdatesBy}
+use denote.Ref.{Bor}
+use Rattle.std.proofs.lemmas.Bool.{cases_Bool, false≢true}
+use Rattle.std.specs.Bool.{Decides, one_answer}
+use Rattle.std.proofs.lemmas.Slice.Eq.{bytes_eq-Decides}
+use Rattle.std.proofs.lemmas.List.{take_more, map-append, length-map, length-take-le}
+use Rattle.std.proofs.lemmas.Map.Text.{btree_map_updates_str}
+use Rattle.network_rows.specs.declared.rows.NodeRow.{NodeRow}
+use Rattle.netdesc.specs.Plan.{NodePlan, node_plan}
+use Rattle.netdesc.specs.Names.{names_of, is_among, place_among, number_of}
+use Rattle.netdesc.specs.Finding.{AreNumbers}
+use Rattle.netdesc.proofs.PlaceLemmas.{or_else, or_else-none, place_by-push, place_by-at, place_by-early}
+
+-- equal texts, tested from either side
+pub bytes_eq-flip : (x y : List ℕ) → bytes_eq x y ≡ bytes_eq y x
+bytes_eq-flip x y = one_answer (bytes_eq x y) (bytes_eq y x) (bytes_eq-Decides x y) (flipped (bytes_eq-Decides y x))
+  where
+    flipped : {b : Bool} → Decides b (y ≡ x) → Decides b (x ≡ y)
+    flipped d = (λ t. sym (d.0 t), λ e. d.1 (sym e))
+
+-- a name that is there already leaves the map as it is
+pub AreNumbers-kept : (numbers : BTreeMap (Bor (List ℕ)) ℕ) (names : List (List ℕ)) (x : List ℕ) → AreNumbers numbers names
+    → is_some (get_by (λ k. slice_cmp nat_cmp x k.now) numbers) ≡ true → AreNumbers numbers (names ++ x ∷ [])
+AreNumbers-kept numbers names x are there = λ q. are q ∙ kept q (place_among names q) refl ∙ sym (place_by-push (bytes_eq q) names x)
+  where
+    kept : (q : List ℕ) (p : Option ℕ) → place_among names q ≡ p → p ≡ or_else p (cond (bytes_eq q x) (Some (length names)) None)
+    kept q None e = elim (cases_Bool (bytes_eq q x))
+      [ inl t ↦ (let same : q ≡ x = (bytes_eq-Decides q x).0 t in
+                 let none : place_among names x ≡ None = ap (place_among names) (sym same) ∙ e in
+                 absurd (false≢true (ap is_some (sym none) ∙ ap is_some (sym (are x)) ∙ there)))
+      | inr f ↦ rw f refl ]
+    kept q (Some n) e = refl
+
+-- a new name is put in at its place
+pub AreNumbers-put : (old new : BTreeMap (Bor (List ℕ)) ℕ) (names : List (List ℕ)) (x : List ℕ) (n : ℕ) → AreNumbers old names
+    → is_some (get_by (λ k. slice_cmp nat_cmp x k.now) old) ≡ false
+    → UpdatesBy (λ x y. slice_cmp nat_cmp x.now y.now) (λ k. slice_cmp nat_cmp x k.now) old new (Some n) → n ≡ length names → AreNumbers new (names ++ x ∷ [])
+AreNumbers-put old new names x n are absent put at_end = λ q.
+    btree_map_updates_str x old new (Some n) put q ∙ found q ∙ sym (place_by-push (bytes_eq q) names x)
+  where
+    absent_of : (p : Option ℕ) → is_some p ≡ false → p ≡ None
+    absent_of None e = refl
+    absent_of (Some m) e = absurd (false≢true (sym e))
+    found : (q : List ℕ) → cond (bytes_eq x q) (Some n) (get_by (λ k. slice_cmp nat_cmp q k.now) old) ≡ or_else (place_among names q) (cond (bytes_eq q x) (Some (length names)) None)
+    found q = elim (cases_Bool (bytes_eq x q))
+      [ inl t ↦ (let same : x ≡ q = (bytes_eq-Decides x q).0 t in
+                 let none : place_among names q ≡ None = ap (place_among names) (sym same) ∙ absent_of (place_among names x) (ap is_some (sym (are x)) ∙ absent) in
+                 let other : bytes_eq q x ≡ true = sym (bytes_eq-flip x q) ∙ t in
+                 rw (t, none, other) (ap Some at_end))
+      | inr f ↦ (let other : bytes_eq q x ≡ false = sym (bytes_eq-flip x q) ∙ f in
+                 rw (f, other) (are q ∙ sym (or_else-none _))) ]
+
+-- the names of one node more
+pub names_of-more : (nodes : List NodeRow) (i : ℕ) (d : NodeRow) → i < length nodes → names_of (take (i + 1) nodes) ≡ names_of (take i nodes) ++ (get_or nodes i d).name ∷ []
+names_of-more nodes i d h = ap names_of (take_more nodes i d h) ∙ map-append (λ node. node.name) (take i nodes) _
+
+pub length-names_of : (nodes : List NodeRow) (i : ℕ) → i < length nodes → length (names_of (take i nodes)) ≡ i
+length-names_of nodes i h = length-map (take i nodes) (λ node. node.name) ∙ length-take-le i nodes (omega arith)
+
+pub number_of-place : (names : List (List ℕ)) (q : List ℕ) (o : Option ℕ) → o ≡ place_among names q → IfSome o (λ n. n ≡ number_of names q)
+number_of-place names q None h = tt
+number_of-place names q (Some n) h = ap (λ p. unwrap_or p (length names)) h
+
+-- the name at i stands before it already just where its number is less
+pub number_of-early : (names : List (List ℕ)) (i : ℕ) (q : List ℕ) (o : Option ℕ) → i < length names → q ≡ get_or names i q → o ≡ place_among names q
+    → (unwrap_or o i < i → is_among (take i names) q ≡ true) × (i ≤ unwrap_or o i → is_among (take i names) q ≡ false)
+number_of-early names i q o h read place = (early, late)
+  where
+    early : unwrap_or o i < i → is_among (take i names) q ≡ true
+    early lt = elim (cases_Bool (is_among (take i names) q))
+      [ inl t ↦ t
+      | inr f ↦ (let at : o ≡ Some i = place ∙ place_by-at (bytes_eq q) names i q h ((bytes_eq-Decides q (get_or names i q)).1 read) f in
+                 let same : unwrap_or o i ≡ i = ap (λ p. unwrap_or p i) at in absurd (omega arith)) ]
+    late : i ≤ unwrap_or o i → is_among (take i names) q ≡ false
+    late le = elim (cases_Bool (is_among (take i names) q))
+      [ inl t ↦ (let found = place_by-early (bytes_eq q) names i t in
+                 let same : unwrap_or o i ≡ found.0 = ap (λ p. unwrap_or p i) (place ∙ found.1) in
+                 let lt : found.0 < i = found.2 in absurd (omega arith))
+      | inr f ↦ f ]
+
+-- the names of the rows before one
+pub names_of-before : (nodes : List NodeRow) (i : ℕ) → map (λ other. other.name) (take i (map node_plan nodes)) ≡ take i (names_of nodes)
+names_of-before nodes zero = refl
+names_of-before [] (suc i) = refl
+names_of-before (node ∷ nodes) (suc i) = ap (λ r. node.name ∷ r) (names_of-before nodes i)

@@ -1,0 +1,25 @@
+use Rattle.std.proofs.Common.{◌≡◌, ℕ, ◌<◌, ◌==◌, ◌&&◌, cond, is_none, length, vec_len, map, take, get_or, None, Some, arith, ap, sym, ◌∙◌}
+use Rattle.netdesc.specs.Lines.{place_of_vl}
+use Rattle.netdesc.specs.Views.{vl_view}
+use Rattle.netdesc.proofs.PlaceLemmas.{or_else, or_else-noted, place_by-push}
+use Rattle.netdesc.proofs.EachLemmas.{take-read, read-map, length-before-mapped}
+use Rattle.std.proofs.lemmas.List.{length-map}
+use Rattle.netdesc.proofs.finding.places_of.Goals as goal
+
+pub loop-i-preserved : goal.loop-i-preserved
+loop-i-preserved c =
+    let rows = c.args.vls.now in
+    let i = c.loop-i.i in
+    let vl = c.index-vls-i.result in
+    let lt : i < length rows = omega arith in
+    let before = take i (map vl_view rows) in
+    record {
+      len = c.note_place.ensures.len ∙ c.loop-i.invariant.len;
+      placed = λ id h.
+        c.note_place.ensures.noted id (omega (arith, c.loop-i.invariant.len))
+        ∙ ap (λ n. cond ((n == id) && is_none (get_or c.loop-i.places.items id None)) (Some i) (get_or c.loop-i.places.items id None)) c.from-id.ensures
+        ∙ or_else-noted (get_or c.loop-i.places.items id None) (vl.link.id.0 == id) i
+        ∙ ap (λ o. or_else o (cond (vl.link.id.0 == id) (Some i) None)) (c.loop-i.invariant.placed id h)
+        ∙ ap (λ n. or_else (place_of_vl before id) (cond (vl.link.id.0 == id) (Some n) None)) (sym (length-before-mapped vl_view rows i lt))
+        ∙ sym (ap (λ xs. place_of_vl xs id) (take-read (map vl_view rows) i (vl_view vl) (omega (arith, length-map rows vl_view)) (read-map vl_view rows i vl lt c.index-vls-i.is)) ∙ place_by-push (λ other. other.link.id.0 == id) before (vl_view vl))
+    }

@@ -1,0 +1,13 @@
+pub mod Rows
+pub mod Names
+pub mod Plan
+pub mod Wiring
+pub mod Trees
+pub mod Faults
+pub mod Lines
+pub mod Accepted
+pub mod Finding
+pub mod Views
+pub mod Parts
+pub mod Tables
+pub mod Description

@@ -1,0 +1,47 @@
+-- What checks and tables see of the code's vectors.
+use Rattle.std.specs.Prelude.{ℕ, ◌≡◌, slice_index_or, Bool, true, false, List, [], map, Option, Some, None, Result, Ok, Err}
+use Rattle.network_rows.specs.declared.fault.DescFault.TheVariants.{OutOfMemory}
+use Rattle.std.specs.declared.alloc.Global.{Global}
+use Rattle.std.specs.declared.vec.Vec.{Vec}
+use Rattle.network_rows.specs.declared.fault.DescFault.{DescFault}
+use Rattle.netdesc.specs.declared.vl.Routed.{Routed}
+use Rattle.netdesc.specs.declared.wiring.Outage.{Outage}
+use Rattle.netdesc.specs.declared.wiring.Way.{Way}
+use Rattle.netdesc.specs.Plan.{VlPlan}
+use Rattle.netdesc.specs.Finding.{Tells}
+
+abbrev pub items_of : {X : Type 0} → Vec X Global → List X
+items_of v = v.items
+
+abbrev pub lists_of : {X : Type 0} → Vec (Vec X Global) Global → List (List X)
+lists_of v = map items_of v.items
+
+abbrev pub vl_view : Routed → VlPlan
+vl_view routed = record { link = routed.link; a = lists_of routed.a; b = lists_of routed.b }
+
+abbrev pub vl_views : Vec Routed Global → List VlPlan
+vl_views v = map vl_view v.items
+
+-- the value is there, seen by view, and there is none of these faults; or the first one is told
+abbrev pub Gives : {X Y : Type 0} → (X → Y) → Result X DescFault → List DescFault → Y → Type 0
+Gives view (Ok x) faults y = (faults ≡ []) × (view x ≡ y)
+Gives view (Err fault) faults y = Tells fault faults
+
+-- the numbers are there, seen by view, and no name is unknown; or there is an unknown one; or memory was refused
+abbrev pub GivesNumbers : {X Y : Type 0} → (X → Y) → Result (Option X) DescFault → Bool → Y → Type 0
+GivesNumbers view (Ok (Some x)) unknown y = (unknown ≡ false) × (view x ≡ y)
+GivesNumbers view (Ok None) unknown y = unknown ≡ true
+GivesNumbers view (Err fault) unknown y = fault ≡ OutOfMemory
+
+-- a test, or memory was refused
+abbrev pub Tests : Result Bool DescFault → Bool → Type 0
+Tests (Ok answer) test = answer ≡ test
+Tests (Err fault) test = fault ≡ OutOfMemory
+
+-- the list of a node
+abbrev pub ways_at : Vec (Vec Way Global) Global → ℕ → List Way
+ways_at table node = slice_index_or (lists_of table) node []
+
+-- the outages of a line
+abbrev pub outages_at : Vec (Vec Outage Global) Global → ℕ → List Outage
+outages_at table k = slice_index_or (lists_of table) k []

@@ -1,0 +1,44 @@
+//! Network descriptions: which rows make a network, the first fault of those that do not, and what a network holds.
+#![tactic(auto)]
+
+mod attached;
+mod checked;
+mod counts;
+mod double;
+mod ends;
+mod finding;
+mod gaps;
+mod joined;
+mod kinds;
+mod limits;
+mod meetings;
+mod memory;
+mod lines;
+mod losses;
+mod make;
+mod many;
+mod names;
+mod network;
+mod numbered;
+mod place;
+mod reading;
+mod routes;
+mod steps;
+mod table;
+mod tables;
+mod tabling;
+mod trees;
+mod unknown;
+mod vl;
+mod ways;
+mod wiring;
+
+pub use limits::{GREATEST_DESTINATIONS, GREATEST_OUTAGES, GREATEST_PORTS, GREATEST_PROCESSES};
+pub use network::Network;
+pub use network_rows::{DescFault, Key, NodeKind, Place, Priority, Section};
+pub use reading::read;
+pub use vl::VirtualLink;
+pub use wiring::{Line, Outage, Way};
+
+#[cfg(test)]
+mod tests;

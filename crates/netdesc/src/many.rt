@@ -1,0 +1,98 @@
+ghost use Rattle.std.specs.Prelude.{◌≡◌, ◌+◌, ◌*◌, ◌^◌, ◌<◌, List, length, map, nat_lt, not, ◌&&◌, ◌++◌};
+ghost use Rattle.netdesc.specs.declared.limits.TheConstants.{GREATEST_PROCESSES, GREATEST_PORTS, GREATEST_OUTAGES};
+ghost use Rattle.network_rows.specs.declared.key.Section.TheVariants.{Outage};
+ghost use Rattle.network_rows.specs.declared.fault.DescFault.TheVariants.{TooMany};
+ghost use Rattle.netdesc.specs.Wiring.{is_end_system};
+ghost use Rattle.netdesc.specs.Rows.{each, when, top};
+ghost use Rattle.netdesc.specs.Plan.{VlPlan, node_plan};
+ghost use Rattle.netdesc.specs.Faults.{too_many_at_node, too_many_at_vl};
+ghost use Rattle.netdesc.specs.Finding.{Finds};
+ghost use Rattle.netdesc.specs.Views.{vl_view};
+
+use crate::counts::link_counts;
+use crate::ends::destinations_of;
+use crate::kinds::is_end_system;
+use crate::limits::{GREATEST_DESTINATIONS, GREATEST_OUTAGES, GREATEST_PORTS, GREATEST_PROCESSES};
+use crate::place::row_at;
+use crate::vl::Routed;
+use crate::wiring::Link;
+use network_rows::{DescFault, NodeRow, Place, Section};
+use std::alloc::Global;
+
+/// There are more processes than a network may have: so many nodes, and two for each link.
+pub fn has_many_processes(nodes: usize, links: usize) -> bool
+    ensures { result ≡ nat_lt GREATEST_PROCESSES (nodes + 2 * links) }
+{
+    nodes > GREATEST_PROCESSES || links > (GREATEST_PROCESSES - nodes) / 2
+}
+
+/// The node is a switch, and so many links are more than it may have ports.
+fn has_many_links(nodes: &[NodeRow], n: usize, count: usize) -> bool
+    ensures { result ≡ (not (is_end_system (map node_plan nodes.now) n) && nat_lt GREATEST_PORTS count) }
+{
+    !is_end_system(nodes, n) && count > GREATEST_PORTS
+}
+
+/// No switch has more links than it may have ports.
+pub fn check_nodes(alloc: Global, nodes: &[NodeRow], links: &[Link]) -> Result<(), DescFault>
+    ensures { Finds result (each (too_many_at_node (map node_plan nodes.now) links.now) (map node_plan nodes.now)) }
+{
+    let counts = link_counts(alloc, nodes.len(), links)?;
+    for (i, _) in nodes.iter().enumerate() {
+        let count = counts[i];
+        if has_many_links(nodes, i, count) {
+            return Err(DescFault::TooMany(row_at(Section::Node, i)));
+        }
+    }
+    Ok(())
+}
+
+/// The virtual link, whose row has the place `i`, has no more destinations than it may have.
+fn check_vl(alloc: Global, i: usize, vl: &Routed) -> Result<(), DescFault>
+    requires { i + 1 < 2 ^ 64 }
+    ensures { (earlier : List VlPlan) → length earlier ≡ i → Finds result (too_many_at_vl earlier (vl_view vl.now)) }
+{
+    let destinations = destinations_of(alloc, vl)?;
+    if destinations.len() > GREATEST_DESTINATIONS {
+        return Err(DescFault::TooMany(row_at(Section::Vl, i)));
+    }
+    Ok(())
+}
+
+/// No virtual link has more destinations than it may have.
+pub fn check_vls(alloc: Global, vls: &[Routed]) -> Result<(), DescFault>
+    ensures { Finds result (each too_many_at_vl (map vl_view vls.now)) }
+{
+    for (i, vl) in vls.iter().enumerate() {
+        check_vl(alloc, i, vl)?;
+    }
+    Ok(())
+}
+
+/// Processes, ports, outages and destinations are within their limits.
+pub fn check_many(
+    alloc: Global,
+    nodes: &[NodeRow],
+    links: &[Link],
+    outages: usize,
+    vls: &[Routed],
+) -> Result<(), DescFault>
+    ensures { Finds result
+        (when (nat_lt GREATEST_PROCESSES (length nodes.now + 2 * length links.now)) (TooMany top)
+        ++ each (too_many_at_node (map node_plan nodes.now) links.now) (map node_plan nodes.now)
+        ++ when (nat_lt GREATEST_OUTAGES outages) (TooMany (record { section = Outage; row = Some (GREATEST_OUTAGES + 1); key = None }))
+        ++ each too_many_at_vl (map vl_view vls.now)) }
+{
+    if has_many_processes(nodes.len(), links.len()) {
+        return Err(DescFault::TooMany(Place {
+            section: Section::Top,
+            row: None,
+            key: None,
+        }));
+    }
+    check_nodes(alloc, nodes, links)?;
+    if outages > GREATEST_OUTAGES {
+        return Err(DescFault::TooMany(row_at(Section::Outage, GREATEST_OUTAGES)));
+    }
+    check_vls(alloc, vls)
+}

@@ -1,0 +1,51 @@
+ghost use Rattle.std.specs.Prelude.{◌≡◌, IfOk, IfSome, is_some};
+ghost use Rattle.netdesc.specs.Names.{names_of, is_among, place_among, number_of};
+ghost use Rattle.netdesc.specs.Finding.{AreNumbers};
+
+use network_rows::NodeRow;
+use std::alloc::{AllocError, Global};
+use std::collections::BTreeMap;
+
+/// Nodes, with the number of each name.
+#[derive(Drop)]
+pub struct Names<'a> {
+    pub nodes: &'a [NodeRow],
+    numbers: BTreeMap<&'a str, usize>,
+    ghost numbered: { AreNumbers numbers (names_of nodes.now) },
+}
+
+impl<'a> Names<'a> {
+    /// The names of these nodes.
+    pub fn new(alloc: Global, nodes: &'a [NodeRow]) -> Result<Self, AllocError>
+        ensures { IfOk result (λ names. names.nodes.now ≡ nodes.now) }
+    {
+        let numbers = numbers_of(alloc, nodes)?;
+        Ok(Names { nodes, numbers })
+    }
+
+    /// The number of the first node with this name, or none where no node has it.
+    pub fn number(&self, name: &str) -> Option<usize>
+        ensures place { result ≡ place_among (names_of self.now.nodes.now) name.now }
+        ensures known { is_some result ≡ is_among (names_of self.now.nodes.now) name.now }
+        ensures value { IfSome result (λ n. n ≡ number_of (names_of self.now.nodes.now) name.now) }
+    {
+        self.numbers.get(name).copied()
+    }
+}
+
+/// The number of each name: that of the first node with the name.
+fn numbers_of<'a>(
+    alloc: Global,
+    nodes: &'a [NodeRow],
+) -> Result<BTreeMap<&'a str, usize>, AllocError>
+    ensures { IfOk result (λ numbers. AreNumbers numbers (names_of nodes.now)) }
+{
+    let mut numbers = BTreeMap::new(alloc);
+    for (i, node) in nodes.iter().enumerate() {
+        let name = node.name.as_str();
+        if !numbers.contains_key(name) {
+            numbers.insert(name, i)?;
+        }
+    }
+    Ok(numbers)
+}

@@ -1,0 +1,21 @@
+ghost use Rattle.std.specs.Prelude.{◌≡◌, [], OnOk, IfOk, IfErr};
+ghost use Rattle.netdesc.specs.Finding.{Tells};
+ghost use Rattle.netdesc.specs.Description.{faults_of_description, Describes};
+
+use crate::make::network;
+use crate::network::Network;
+use network_rows::{DescFault, read_rows};
+use std::alloc::Global;
+
+/// Reads a network description, a text in TOML.
+///
+/// An error is the first fault of the text, in the order of their numbers, sections, rows and keys; or a growth was refused.
+pub fn read(alloc: Global, text: &str) -> Result<Network, DescFault>
+    // What is read has no fault, and what has no fault is read, unless memory is refused.
+    ensures sound { OnOk result (faults_of_description text.now ≡ []) }
+    ensures network { IfOk result (Describes text.now) }
+    ensures fault { IfErr result (λ fault. Tells fault (faults_of_description text.now)) }
+{
+    let rows = read_rows(alloc, text)?;
+    network(alloc, rows)
+}

@@ -1,0 +1,17 @@
+use crate::meetings::Meetings;
+use crate::wiring::{Line, Outage};
+
+/// What is looked up in a network by number.
+#[derive(Debug, Drop)]
+pub struct Tables {
+    pub lines: Vec<Line>,
+    pub line_names: Vec<String>,
+    /// The outages of each line.
+    pub losses: Vec<Vec<Outage>>,
+    /// For each node the ports by which virtual links leave it and come in.
+    pub meetings: Meetings,
+    /// The destinations of each virtual link.
+    pub destinations: Vec<Vec<usize>>,
+    /// For each number the place of the virtual link that has it.
+    pub places: Vec<Option<usize>>,
+}
