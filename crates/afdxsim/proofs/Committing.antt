@@ -63,6 +63,7 @@ module _ {S K : Type 0} (r : Rules Message S K Note) (Q : Message → Type 0) (a
       turned true l rest = All-append (λ l. Q l.message) part.outbox _ h
           (All-map (λ l. Q l.message) minus_of _ (sent-back _ _))
       turned false l rest = h
+
       go : (ls : List (Signed Message)) → All (λ l. Q l.message) (arrived r opening part ls).outbox
       go [] = h
       go (l ∷ rest) = turned (is_turned r l part.tally) l rest

@@ -44,9 +44,11 @@ number_of-within names name = go (bytes_eq name) names
     below : (o : Option ℕ) (n : ℕ) → unwrap_or o n ≤ n → unwrap_or (option_map (λ k. k + 1) o) (suc n) ≤ suc n
     below None n h = omega arith
     below (Some k) n h = omega arith
+
     step : (b : Bool) (o : Option ℕ) (n : ℕ) → unwrap_or o n ≤ n → unwrap_or (cond b (Some 0) (option_map (λ k. k + 1) o)) (suc n) ≤ suc n
     step true o n h = omega arith
     step false o n h = below o n h
+
     go : (test : List ℕ → Bool) (xs : List (List ℕ)) → unwrap_or (place_by test xs) (length xs) ≤ length xs
     go test [] = omega arith
     go test (x ∷ xs) = step (test x) (place_by test xs) (length xs) (go test xs)

@@ -39,7 +39,7 @@ has_double-front [] ys h = cc
 has_double-front (x ∷ xs) ys h =
     ap (λ r. r || has_double (xs ++ ys)) (list_any-append (λ y. y == x) xs ys)
     ∙ or-front (list_any (λ y. y == x) xs) (has_double (xs ++ ys)) (list_any (λ y. y == x) ys)
-        (or-behind (has_double xs) (has_double (xs ++ ys)) (list_any (λ y. y == x) xs) (has_double-front xs ys) h)
+    (or-behind (has_double xs) (has_double (xs ++ ys)) (list_any (λ y. y == x) xs) (has_double-front xs ys) h)
 
 pub has_double-taken : (xs : List ℕ) (i : ℕ) → has_double (take i xs) ≡ true → has_double xs ≡ true
 has_double-taken xs i h = ap has_double (sym (take-append-drop i xs)) ∙ has_double-front (take i xs) (drop i xs) h

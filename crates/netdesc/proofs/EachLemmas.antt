@@ -99,6 +99,7 @@ take-read xs i x h read = take_more xs i x h ∙ ap (λ y. take i xs ++ y ∷ []
 
 -- a count of one more
 pub count_by-more : {X : Type 0} (p : X → Bool) (xs : List X) (i : ℕ) (d : X) → i < length xs → count_by p (take (i + 1) xs) ≡ count_by p (take i xs) + cond (p (get_or xs i d)) 1 0
-count_by-more p xs i d h = elim (cases_Bool (p (get_or xs i d)))
-  [ inl passed ↦ count_by_more_yes p xs i d h passed ∙ rw passed refl
-  | inr failed ↦ count_by_more_no p xs i d h failed ∙ rw failed (sym (add-zero (count_by p (take i xs)))) ]
+count_by-more p xs i d h = elim (cases_Bool (p (get_or xs i d))) [
+  | inl passed ↦ count_by_more_yes p xs i d h passed ∙ rw passed refl
+  | inr failed ↦ count_by_more_no p xs i d h failed ∙ rw failed (sym (add-zero (count_by p (take i xs))))
+]

@@ -64,6 +64,7 @@ AreJoined-put old mid new links l i are absent back there at_end = λ x y.
   where
     fresh : link_between links l.a l.b ≡ None
     fresh = sym (are l.a l.b) ∙ none_of (get pair_cmp old (l.a, l.b)) absent
+
     found : (x y : ℕ) (one two : Bool) → goes x y l ≡ one → goes y x l ≡ two
         → cond one (Some i) (cond two (Some i) (link_between links x y)) ≡ or_else (link_between links x y) (cond (one || two) (Some (length links)) None)
     found x y true two e f =

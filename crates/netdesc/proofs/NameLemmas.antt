@@ -30,11 +30,12 @@ pub AreNumbers-kept : (numbers : BTreeMap (Bor (List ℕ)) ℕ) (names : List (L
 AreNumbers-kept numbers names x are there = λ q. are q ∙ kept q (place_among names q) refl ∙ sym (place_by-push (bytes_eq q) names x)
   where
     kept : (q : List ℕ) (p : Option ℕ) → place_among names q ≡ p → p ≡ or_else p (cond (bytes_eq q x) (Some (length names)) None)
-    kept q None e = elim (cases_Bool (bytes_eq q x))
-      [ inl t ↦ (let same : q ≡ x = (bytes_eq-Decides q x).0 t in
-                 let none : place_among names x ≡ None = ap (place_among names) (sym same) ∙ e in
-                 absurd (false≢true (ap is_some (sym none) ∙ ap is_some (sym (are x)) ∙ there)))
-      | inr f ↦ rw f refl ]
+    kept q None e = elim (cases_Bool (bytes_eq q x)) [
+      | inl t ↦ (let same : q ≡ x = (bytes_eq-Decides q x).0 t in
+          let none : place_among names x ≡ None = ap (place_among names) (sym same) ∙ e in
+          absurd (false≢true (ap is_some (sym none) ∙ ap is_some (sym (are x)) ∙ there)))
+      | inr f ↦ rw f refl
+    ]
     kept q (Some n) e = refl
 
 -- a new name is put in at its place
@@ -47,14 +48,16 @@ AreNumbers-put old new names x n are absent put at_end = λ q.
     absent_of : (p : Option ℕ) → is_some p ≡ false → p ≡ None
     absent_of None e = refl
     absent_of (Some m) e = absurd (false≢true (sym e))
+
     found : (q : List ℕ) → cond (bytes_eq x q) (Some n) (get_by (λ k. slice_cmp nat_cmp q k.now) old) ≡ or_else (place_among names q) (cond (bytes_eq q x) (Some (length names)) None)
-    found q = elim (cases_Bool (bytes_eq x q))
-      [ inl t ↦ (let same : x ≡ q = (bytes_eq-Decides x q).0 t in
-                 let none : place_among names q ≡ None = ap (place_among names) (sym same) ∙ absent_of (place_among names x) (ap is_some (sym (are x)) ∙ absent) in
-                 let other : bytes_eq q x ≡ true = sym (bytes_eq-flip x q) ∙ t in
-                 rw (t, none, other) (ap Some at_end))
+    found q = elim (cases_Bool (bytes_eq x q)) [
+      | inl t ↦ (let same : x ≡ q = (bytes_eq-Decides x q).0 t in
+          let none : place_among names q ≡ None = ap (place_among names) (sym same) ∙ absent_of (place_among names x) (ap is_some (sym (are x)) ∙ absent) in
+          let other : bytes_eq q x ≡ true = sym (bytes_eq-flip x q) ∙ t in
+          rw (t, none, other) (ap Some at_end))
       | inr f ↦ (let other : bytes_eq q x ≡ false = sym (bytes_eq-flip x q) ∙ f in
-                 rw (f, other) (are q ∙ sym (or_else-none _))) ]
+          rw (f, other) (are q ∙ sym (or_else-none _)))
+    ]
 
 -- the names of one node more
 pub names_of-more : (nodes : List NodeRow) (i : ℕ) (d : NodeRow) → i < length nodes → names_of (take (i + 1) nodes) ≡ names_of (take i nodes) ++ (get_or nodes i d).name ∷ []
@@ -73,16 +76,19 @@ pub number_of-early : (names : List (List ℕ)) (i : ℕ) (q : List ℕ) (o : Op
 number_of-early names i q o h read place = (early, late)
   where
     early : unwrap_or o i < i → is_among (take i names) q ≡ true
-    early lt = elim (cases_Bool (is_among (take i names) q))
-      [ inl t ↦ t
+    early lt = elim (cases_Bool (is_among (take i names) q)) [
+      | inl t ↦ t
       | inr f ↦ (let at : o ≡ Some i = place ∙ place_by-at (bytes_eq q) names i q h ((bytes_eq-Decides q (get_or names i q)).1 read) f in
-                 let same : unwrap_or o i ≡ i = ap (λ p. unwrap_or p i) at in absurd (omega arith)) ]
+          let same : unwrap_or o i ≡ i = ap (λ p. unwrap_or p i) at in absurd (omega arith))
+    ]
+
     late : i ≤ unwrap_or o i → is_among (take i names) q ≡ false
-    late le = elim (cases_Bool (is_among (take i names) q))
-      [ inl t ↦ (let found = place_by-early (bytes_eq q) names i t in
-                 let same : unwrap_or o i ≡ found.0 = ap (λ p. unwrap_or p i) (place ∙ found.1) in
-                 let lt : found.0 < i = found.2 in absurd (omega arith))
-      | inr f ↦ f ]
+    late le = elim (cases_Bool (is_among (take i names) q)) [
+      | inl t ↦ (let found = place_by-early (bytes_eq q) names i t in
+          let same : unwrap_or o i ≡ found.0 = ap (λ p. unwrap_or p i) (place ∙ found.1) in
+          let lt : found.0 < i = found.2 in absurd (omega arith))
+      | inr f ↦ f
+    ]
 
 -- the names of the rows before one
 pub names_of-before : (nodes : List NodeRow) (i : ℕ) → map (λ other. other.name) (take i (map node_plan nodes)) ≡ take i (names_of nodes)

@@ -27,9 +27,9 @@ pub place_by-push : {X : Type 0} (test : X → Bool) (xs : List X) (x : X) → p
 place_by-push test [] x = refl
 place_by-push test (first ∷ xs) x =
     let later : option_map (λ n. n + 1) (place_by test (xs ++ x ∷ [])) ≡ or_else (option_map (λ n. n + 1) (place_by test xs)) (cond (test x) (Some (length (first ∷ xs))) None) =
-        ap (option_map (λ n. n + 1)) (place_by-push test xs x)
-        ∙ option_map-or_else (λ n. n + 1) (place_by test xs) _
-        ∙ ap (or_else (option_map (λ n. n + 1) (place_by test xs))) (option_map-cond (λ n. n + 1) (test x) (length xs) (length (first ∷ xs)) (add-one (length xs))) in
+    ap (option_map (λ n. n + 1)) (place_by-push test xs x)
+    ∙ option_map-or_else (λ n. n + 1) (place_by test xs) _
+    ∙ ap (or_else (option_map (λ n. n + 1) (place_by test xs))) (option_map-cond (λ n. n + 1) (test x) (length xs) (length (first ∷ xs)) (add-one (length xs))) in
     elim (test first) as (λ b. cond b (Some 0) (option_map (λ n. n + 1) (place_by test (xs ++ x ∷ []))) ≡ or_else (cond b (Some 0) (option_map (λ n. n + 1) (place_by test xs))) (cond (test x) (Some (length (first ∷ xs))) None))
     [ true ↦ refl | false ↦ later ]
 

@@ -22,9 +22,10 @@ none-contains p xs h = list_any_none p xs (λ k d lt. h (get_or xs k d) (Contain
 
 -- a step that leads to a node from where it was reached already
 pub AreWays-kept : (ways : BTreeMap ℕ ℕ) (steps : List Step) (t : Step) → AreWays ways steps → get nat_cmp ways t.to ≡ Some t.from → AreWays ways (steps ++ t ∷ [])
-AreWays-kept ways steps t are here =
-    ( (λ s there. elim (Contains-push_cases steps t s there) [ inl old ↦ are.0 s old | inr same ↦ subst (λ (u : Step). get nat_cmp ways u.to ≡ Some u.from) same here ])
-    , (λ to from found. Contains-append_left steps (t ∷ []) _ (are.1 to from found)) )
+AreWays-kept ways steps t are here = (
+  (λ s there. elim (Contains-push_cases steps t s there) [ inl old ↦ are.0 s old | inr same ↦ subst (λ (u : Step). get nat_cmp ways u.to ≡ Some u.from) same here ]),
+  (λ to from found. Contains-append_left steps (t ∷ []) _ (are.1 to from found)),
+)
 
 -- a step to a node that was not reached
 pub AreWays-put : (old new : BTreeMap ℕ ℕ) (steps : List Step) (t : Step) → AreWays old steps → get nat_cmp old t.to ≡ None → UpdatesBy nat_cmp (nat_cmp t.to) old new (Some t.from) → AreWays new (steps ++ t ∷ [])
@@ -32,23 +33,29 @@ AreWays-put old new steps t are absent put = (first, second)
   where
     at : (to : ℕ) → get nat_cmp new to ≡ cond (t.to == to) (Some t.from) (get nat_cmp old to)
     at to = put.0 to ∙ ap (λ b. cond b (Some t.from) (get nat_cmp old to)) (is_eq-nat_cmp t.to to)
+
     new_here : get nat_cmp new t.to ≡ Some t.from
     new_here = let same : (t.to == t.to) ≡ true = grind (arith, nat_tests) in at t.to ∙ rw same refl
+
     first : (s : Step) → Contains (steps ++ t ∷ []) s → get nat_cmp new s.to ≡ Some s.from
-    first s there = elim (Contains-push_cases steps t s there)
-      [ inl before ↦ elim (cases_Bool (t.to == s.to))
-          [ inl same ↦ (let equal : t.to ≡ s.to = grind (arith, nat_tests) in
-                        let gone : Some s.from ≡ None = sym (are.0 s before) ∙ ap (get nat_cmp old) (sym equal) ∙ absent in cc)
-          | inr apart ↦ at s.to ∙ rw apart (are.0 s before) ]
-      | inr same ↦ subst (λ (u : Step). get nat_cmp new u.to ≡ Some u.from) same new_here ]
+    first s there = elim (Contains-push_cases steps t s there) [
+      | inl before ↦ elim (cases_Bool (t.to == s.to)) [
+        | inl same ↦ (let equal : t.to ≡ s.to = grind (arith, nat_tests) in
+            let gone : Some s.from ≡ None = sym (are.0 s before) ∙ ap (get nat_cmp old) (sym equal) ∙ absent in cc)
+        | inr apart ↦ at s.to ∙ rw apart (are.0 s before)
+      ]
+      | inr same ↦ subst (λ (u : Step). get nat_cmp new u.to ≡ Some u.from) same new_here
+    ]
+
     second : (to from : ℕ) → get nat_cmp new to ≡ Some from → Contains (steps ++ t ∷ []) (record { from = from; to = to })
-    second to from found = elim (cases_Bool (t.to == to))
-      [ inl same ↦ (let to_is : t.to ≡ to = grind (arith, nat_tests) in
-                    let here : Some t.from ≡ Some from = sym (at to ∙ rw same refl) ∙ found in
-                    let from_is : t.from ≡ from = cc in
-                    let is_t : t ≡ record { from = from; to = to } = ap (λ n. record { from = n; to = t.to }) from_is ∙ ap (λ n. record { from = from; to = n }) to_is in
-                    subst (λ (u : Step). Contains (steps ++ t ∷ []) u) is_t (Contains-push steps t))
-      | inr apart ↦ (let before : get nat_cmp old to ≡ Some from = sym (at to ∙ rw apart refl) ∙ found in Contains-append_left steps (t ∷ []) _ (are.1 to from before)) ]
+    second to from found = elim (cases_Bool (t.to == to)) [
+      | inl same ↦ (let to_is : t.to ≡ to = grind (arith, nat_tests) in
+          let here : Some t.from ≡ Some from = sym (at to ∙ rw same refl) ∙ found in
+          let from_is : t.from ≡ from = cc in
+          let is_t : t ≡ record { from = from; to = to } = ap (λ n. record { from = n; to = t.to }) from_is ∙ ap (λ n. record { from = from; to = n }) to_is in
+          subst (λ (u : Step). Contains (steps ++ t ∷ []) u) is_t (Contains-push steps t))
+      | inr apart ↦ (let before : get nat_cmp old to ≡ Some from = sym (at to ∙ rw apart refl) ∙ found in Contains-append_left steps (t ∷ []) _ (are.1 to from before))
+    ]
 
 -- a step that leads to a node from another one than it was reached from
 pub other-way : (ways : BTreeMap ℕ ℕ) (steps : List Step) (t : Step) (from : ℕ) → AreWays ways steps → get nat_cmp ways t.to ≡ Some from → (from == t.from) ≡ false
@@ -63,12 +70,13 @@ no-other-way ways steps are =
     none-contains (λ s. list_any (is_other_way s) steps) steps (λ s s_there. none-contains (is_other_way s) steps (λ t t_there. agree s t s_there t_there))
   where
     agree : (s t : Step) → Contains steps s → Contains steps t → is_other_way s t ≡ false
-    agree s t s_there t_there = elim (cases_Bool (s.to == t.to))
-      [ inl same ↦ (let equal : s.to ≡ t.to = grind (arith, nat_tests) in
-                    let both : Some s.from ≡ Some t.from = sym (are.0 s s_there) ∙ ap (get nat_cmp ways) equal ∙ are.0 t t_there in
-                    let from_is : s.from ≡ t.from = cc in
-                    let test : (s.from == t.from) ≡ true = grind (arith, nat_tests) in rw (same, test) refl)
-      | inr apart ↦ rw apart refl ]
+    agree s t s_there t_there = elim (cases_Bool (s.to == t.to)) [
+      | inl same ↦ (let equal : s.to ≡ t.to = grind (arith, nat_tests) in
+          let both : Some s.from ≡ Some t.from = sym (are.0 s s_there) ∙ ap (get nat_cmp ways) equal ∙ are.0 t t_there in
+          let from_is : s.from ≡ t.from = cc in
+          let test : (s.from == t.from) ≡ true = grind (arith, nat_tests) in rw (same, test) refl)
+      | inr apart ↦ rw apart refl
+    ]
 
 -- a step before i and the one at i lead to one node from different ones
 pub other-way-at : (steps : List Step) (i : ℕ) (d s : Step) → i < length steps → Contains (take i steps) s → is_other_way s (get_or steps i d) ≡ true → has_other_way steps ≡ true

@@ -57,9 +57,18 @@ outage_plan names row = record { from = number_of names row.from; to = number_of
 
 abbrev pub virtual_link : VlRow → VirtualLink
 virtual_link row = record {
-    id = row.id; bag_ms = row.bag_ms; smax = row.smax; priority = row.priority; policing_jitter_ns = row.policing_jitter_ns; skew_max_ns = row.skew_max_ns;
-    depth = row.depth; size = row.size; offset_ns = row.offset_ns; period_ns = row.period_ns; jitter_ns = row.jitter_ns
-  }
+  id = row.id;
+  bag_ms = row.bag_ms;
+  smax = row.smax;
+  priority = row.priority;
+  policing_jitter_ns = row.policing_jitter_ns;
+  skew_max_ns = row.skew_max_ns;
+  depth = row.depth;
+  size = row.size;
+  offset_ns = row.offset_ns;
+  period_ns = row.period_ns;
+  jitter_ns = row.jitter_ns;
+}
 
 abbrev pub vl_plan : List (List ℕ) → VlRow → VlPlan
 vl_plan names row = record { link = virtual_link row; a = paths_numbers names row.a; b = paths_numbers names row.b }
@@ -67,10 +76,10 @@ vl_plan names row = record { link = virtual_link row; a = paths_numbers names ro
 -- what rows say, with their virtual links in the order of the rows
 abbrev pub plan_of : Rows → Plan
 plan_of rows = let names = names_of rows.nodes in record {
-    until = rows.until;
-    seed = rows.seed;
-    nodes = map node_plan rows.nodes;
-    links = map (link_plan names) rows.links;
-    outages = map (outage_plan names) rows.outages;
-    vls = map (vl_plan names) rows.vls
-  }
+  until = rows.until;
+  seed = rows.seed;
+  nodes = map node_plan rows.nodes;
+  links = map (link_plan names) rows.links;
+  outages = map (outage_plan names) rows.outages;
+  vls = map (vl_plan names) rows.vls;
+}

@@ -14,8 +14,13 @@ use Rattle.netdesc.specs.Views.{lists_of, ways_at, outages_at, vl_views}
 -- the plan that these fields of a network make
 abbrev pub plan_with : ℕ → ℕ → List NodeRow → Numbered → Plan
 plan_with until seed nodes numbered = record {
-    until = until; seed = seed; nodes = map node_plan nodes; links = numbered.links.items; outages = numbered.outages.items; vls = vl_views numbered.vls
-  }
+  until = until;
+  seed = seed;
+  nodes = map node_plan nodes;
+  links = numbered.links.items;
+  outages = numbered.outages.items;
+  vls = vl_views numbered.vls;
+}
 
 pub record AreTables (plan : Plan) (tables : Tables) : Type 0 where
   pub lines : tables.lines.items ≡ lines_of plan

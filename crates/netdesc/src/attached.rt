@@ -50,12 +50,7 @@ fn attach(
 }
 
 /// The link may not be, where `on_a` and `on_b` have the nodes with a link to a switch of network A and of network B.
-fn is_no_link(
-    nodes: &[NodeRow],
-    on_a: &BTreeSet<usize>,
-    on_b: &BTreeSet<usize>,
-    link: Link,
-) -> bool
+fn is_no_link(nodes: &[NodeRow], on_a: &BTreeSet<usize>, on_b: &BTreeSet<usize>, link: Link) -> bool
     ensures { (earlier : List Link) → AreAttached (map node_plan nodes.now) A on_a.now earlier → AreAttached (map node_plan nodes.now) B on_b.now earlier →
         result ≡ is_no_link (map node_plan nodes.now) earlier link }
 {

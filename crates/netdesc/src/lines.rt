@@ -20,19 +20,18 @@ fn port_at(nodes: &[NodeRow], count: usize, node: usize, other: usize) -> u16
     ensures { result ≡ cond (is_end_system (map node_plan nodes.now) node) (cond (is_switch_of (map node_plan nodes.now) A other) 0 1) count }
 {
     if is_end_system(nodes, node) {
-        if is_switch_of(nodes, Net::A, other) { 0 } else { 1 }
+        if is_switch_of(nodes, Net::A, other) {
+            0
+        } else {
+            1
+        }
     } else {
         count as u16
     }
 }
 
 /// Puts the two directions of a link at the end, which has these ports at its two nodes.
-fn push_both(
-    lines: &mut Vec<Line>,
-    link: Link,
-    a_port: u16,
-    b_port: u16,
-) -> Result<(), DescFault>
+fn push_both(lines: &mut Vec<Line>, link: Link, a_port: u16, b_port: u16) -> Result<(), DescFault>
     requires a { link.a < 2 ^ 16 }
     requires b { link.b < 2 ^ 16 }
     ensures lines { OnOk result (lines.new.items ≡ lines.old.items ++ both link a_port b_port) }

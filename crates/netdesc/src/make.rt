@@ -35,7 +35,10 @@ pub fn network(alloc: Global, rows: Rows) -> Result<Network, DescFault>
     let mut numbered = checked(alloc, &rows)?;
     sort_vls(&mut numbered.vls)?;
     let Rows {
-        until, seed, nodes, ..
+        until,
+        seed,
+        nodes,
+        ..
     } = rows;
     let nodes = nodes.into_vec();
     let tables = tables_of(alloc, nodes.as_slice(), &numbered)?;

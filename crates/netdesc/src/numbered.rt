@@ -7,14 +7,13 @@ ghost use Rattle.netdesc.specs.Views.{Gives, vl_views};
 ghost use Rattle.netdesc.specs.Parts.{parts_of, parts_in};
 
 use crate::attached::check_links;
-use crate::double;
-use crate::gaps;
 use crate::joined::Joined;
 use crate::names::Names;
 use crate::routes::vls_of;
 use crate::unknown::{check_nodes, links_of, outages_of};
 use crate::vl::Routed;
 use crate::wiring::{Link, Outage};
+use crate::{double, gaps};
 use network_rows::{DescFault, Place, Rows, Section};
 use std::alloc::Global;
 

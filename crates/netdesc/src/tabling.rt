@@ -16,11 +16,7 @@ use network_rows::{DescFault, NodeRow};
 use std::alloc::Global;
 
 /// The tables of a network with these nodes, links, outages and virtual links.
-pub fn tables_of(
-    alloc: Global,
-    nodes: &[NodeRow],
-    numbered: &Numbered,
-) -> Result<Tables, DescFault>
+pub fn tables_of(alloc: Global, nodes: &[NodeRow], numbered: &Numbered) -> Result<Tables, DescFault>
     requires ends { All (λ link. (link.a ≤ length nodes.now) × (link.b ≤ length nodes.now)) numbered.now.links.items }
     requires few { length nodes.now + 2 * length numbered.now.links.items ≤ GREATEST_PROCESSES }
     requires apart { each double_at_link numbered.now.links.items ≡ [] }

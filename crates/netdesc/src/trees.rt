@@ -9,8 +9,8 @@ ghost use Rattle.netdesc.specs.Faults.{no_tree_at_vl};
 ghost use Rattle.netdesc.specs.Finding.{Finds};
 ghost use Rattle.netdesc.specs.Views.{Tests, lists_of, vl_view};
 
-use crate::kinds::{is_end_system, is_switch_of};
 use crate::ends::{has_repeat, push_ends};
+use crate::kinds::{is_end_system, is_switch_of};
 use crate::place::key_at;
 use crate::steps::{has_other_way, push_all};
 use crate::vl::Routed;

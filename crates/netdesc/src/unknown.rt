@@ -96,7 +96,11 @@ fn outage_of(names: &Names, i: usize, row: &OutageRow) -> Result<Outage, DescFau
 }
 
 /// The outages of all rows.
-pub fn outages_of(alloc: Global, names: &Names, rows: &[OutageRow]) -> Result<Vec<Outage>, DescFault>
+pub fn outages_of(
+    alloc: Global,
+    names: &Names,
+    rows: &[OutageRow],
+) -> Result<Vec<Outage>, DescFault>
     ensures { Gives items_of result (each (unknown_at_outage (names_of names.now.nodes.now)) rows.now) (map (outage_plan (names_of names.now.nodes.now)) rows.now) }
 {
     let mut outages = Vec::new(alloc);

@@ -53,6 +53,13 @@ fn after(rt: &impl Abort, alloc: Global, moments: &[u64]) -> Result<Process<Summ
     Ok(process)
 }
 
+/// The sum and the counter of the actor, all of whose done events are committed first.
+fn committed_actor(mut process: Process<Summing>) -> Result<(u64, u64), Fail> {
+    while process.seal_oldest()? {}
+    let actor = process.undo_all();
+    Ok((actor.sum, actor.counter))
+}
+
 /// The moments, numbers and signs of the letters in the outbox; a plus is true.
 fn outbox_of(alloc: Global, process: &Process<Summing>) -> Result<Vec<(u64, u64, bool)>, Fail> {
     let mut letters = Vec::new(alloc);
@@ -86,6 +93,22 @@ fn handles_three_messages_and_undoes_them(rt: HostRuntime) -> Result<(), Fail> {
     );
     let actor = process.undo_all();
     assert_eq!(rt; (actor.sum, actor.counter), (0, 0));
+    Ok(())
+}
+
+#[test]
+fn three_messages_are_summed_up(rt: HostRuntime) -> Result<(), Fail> {
+    let process = after(&rt, rt.alloc(), &[10, 20, 30])?;
+    assert_eq!(rt; committed_actor(process)?, (60, 3));
+    Ok(())
+}
+
+#[test]
+fn a_late_letter_leaves_the_state_before_it(rt: HostRuntime) -> Result<(), Fail> {
+    let mut process = after(&rt, rt.alloc(), &[10, 20, 30])?;
+    process.deliver(plus(message(&rt, 15, 2)))?;
+    assert_eq!(rt; process.arrive()?, Some(2));
+    assert_eq!(rt; committed_actor(process)?, (10, 1));
     Ok(())
 }
 
@@ -234,27 +257,33 @@ fn letters_are_collected_in_order(rt: HostRuntime) -> Result<(), Fail> {
     Ok(())
 }
 
-/// A late letter, whose arrival is refused any number of times: each refusal leaves all as it was, and in the end two events are
-/// undone.
+/// A late letter that undoes thirty of the forty events done, whose arrival is refused any number of times: each refusal leaves all as it
+/// was, and the same call again undoes them.
 #[test]
 fn a_refused_arrival_changes_nothing(rt: HostRuntime) -> Result<(), Fail> {
-    let mut process = after(&rt, rt.alloc(), &[10, 20, 30])?;
-    let late = message(&rt, 15, 2);
+    let mut process = opened(&rt, rt.alloc());
+    let mut mail = Mail::new(rt.alloc(), 2)?;
+    for ns in 1..=40 {
+        process.deliver(plus(message(&rt, ns, 2)))?;
+        assert_eq!(rt; process.arrive()?, Some(0));
+        assert_eq!(rt; process.run()?, Some(message(&rt, ns, 2)));
+        process.post(&mut mail)?;
+    }
+    let late = message(&rt, 11, 1);
     process.deliver(plus(late))?;
     let mut undone = process.arrive();
-    for _ in 0..8 {
+    for _ in 0..4 {
         if undone != Err(ProcFault::OutOfMemory) {
             break;
         }
         assert_eq!(rt; (process.tray_len(), process.outbox().len()), (1, 0));
-        assert_eq!(rt;
-            (process.count(&late), process.oldest()),
-            (0, Time::new(10))
-        );
+        assert_eq!(rt; (process.count(&late), process.oldest()), (0, Time::new(1)));
         assert_eq!(rt; process.next(), None);
         undone = process.arrive();
     }
-    assert_eq!(rt; undone, Ok(Some(2)));
-    assert_eq!(rt; process.outbox().len(), 2);
+    assert_eq!(rt; undone, Ok(Some(30)));
+    assert_eq!(rt; process.outbox().len(), 30);
+    assert_eq!(rt; process.next(), Some(late));
+    assert_eq!(rt; committed_actor(process)?, (55, 10));
     Ok(())
 }

@@ -18,7 +18,11 @@ fn two_nodes_have_one_link(rt: HostRuntime) -> Result<(), Fail> {
     for (a, b) in [("ES1", "SW1"), ("SW1", "ES1"), ("ES2", "SW1")] {
         let text = with_rows(rt.alloc(), &link(rt.alloc(), a, b)?)?;
         let place = at(Section::Link, 3, Key::B);
-        assert_eq!(rt; fault_of(rt.alloc(), &text), Some(DoubleName(place)), "{a} {b}");
+        assert_eq!(rt;
+            fault_of(rt.alloc(), &text),
+            Some(DoubleName(place)),
+            "{a} {b}"
+        );
     }
     Ok(())
 }

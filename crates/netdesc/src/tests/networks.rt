@@ -16,13 +16,22 @@ fn one_switch(rt: HostRuntime) -> Result<(), Fail> {
         assert!(rt; node < network.node_count());
         assert_eq!(rt; network.node_name(node), *name);
     }
-    for (line, name) in ["ES1>SW1", "SW1>ES1", "SW1>ES2", "ES2>SW1"].iter().enumerate() {
+    for (line, name) in ["ES1>SW1", "SW1>ES1", "SW1>ES2", "ES2>SW1"]
+        .iter()
+        .enumerate()
+    {
         assert!(rt; line < network.line_count());
         assert_eq!(rt; network.line_name(line), *name);
     }
     assert!(rt; 2 < network.node_count());
     assert_eq!(rt; network.kind(0), NodeKind::EndSystem);
-    assert_eq!(rt; network.kind(2), NodeKind::Switch { net: Net::A, latency_ns: 16000 });
+    assert_eq!(rt;
+        network.kind(2),
+        NodeKind::Switch {
+            net: Net::A,
+            latency_ns: 16000
+        }
+    );
     assert_eq!(rt; network.port_bytes(2), 65536);
     Ok(())
 }
@@ -40,11 +49,21 @@ fn ports_follow_the_link_rows(rt: HostRuntime) -> Result<(), Fail> {
         propagation_ns: 100,
     };
     assert_eq!(rt; network.line(3), back);
-    let way = Way { vl: VlId(1), port: 0 };
+    let way = Way {
+        vl: VlId(1),
+        port: 0,
+    };
     assert!(rt; 2 < network.node_count());
     assert_eq!(rt; network.departures(0), [way].as_slice());
     assert_eq!(rt; network.arrivals(2), [way].as_slice());
-    assert_eq!(rt; network.departures(2), [Way { vl: VlId(1), port: 1 }].as_slice());
+    assert_eq!(rt;
+        network.departures(2),
+        [Way {
+            vl: VlId(1),
+            port: 1
+        }]
+        .as_slice()
+    );
     assert_eq!(rt; network.arrivals(1), [way].as_slice());
     assert_eq!(rt; network.arrivals(0).len(), 0);
     Ok(())
@@ -68,8 +87,16 @@ fn a_virtual_link_is_found_by_its_number(rt: HostRuntime) -> Result<(), Fail> {
 fn virtual_links_are_in_the_order_of_their_numbers(rt: HostRuntime) -> Result<(), Fail> {
     let (_, vl) = ONE_SWITCH.split_once("[[vl]]").ok_or("no virtual link")?;
     let back = changed(rt.alloc(), vl, "id = 1", "id = 0")?;
-    let back = changed(rt.alloc(), &back, "\"ES1\", \"SW1\", \"ES2\"", "\"ES2\", \"SW1\", \"ES1\"")?;
-    let network = read(rt.alloc(), &format!(in rt.alloc(); "{ONE_SWITCH}[[vl]]{back}")?)?;
+    let back = changed(
+        rt.alloc(),
+        &back,
+        "\"ES1\", \"SW1\", \"ES2\"",
+        "\"ES2\", \"SW1\", \"ES1\"",
+    )?;
+    let network = read(
+        rt.alloc(),
+        &format!(in rt.alloc(); "{ONE_SWITCH}[[vl]]{back}")?,
+    )?;
     assert_eq!(rt; network.vl_count(), 2);
     assert_eq!(rt; network.place_of(VlId(0)), Some(0));
     assert_eq!(rt; network.place_of(VlId(1)), Some(1));
@@ -81,7 +108,10 @@ fn virtual_links_are_in_the_order_of_their_numbers(rt: HostRuntime) -> Result<()
 
 #[test]
 fn an_outage_is_of_one_direction(rt: HostRuntime) -> Result<(), Fail> {
-    let network = read(rt.alloc(), &with_rows(rt.alloc(), &outage(rt.alloc(), "SW1", "ES1")?)?)?;
+    let network = read(
+        rt.alloc(),
+        &with_rows(rt.alloc(), &outage(rt.alloc(), "SW1", "ES1")?)?,
+    )?;
     assert!(rt; 1 < network.line_count());
     assert_eq!(rt; network.outages(0).len(), 0);
     assert_eq!(rt; network.outages(1).len(), 1);
@@ -92,12 +122,29 @@ fn an_outage_is_of_one_direction(rt: HostRuntime) -> Result<(), Fail> {
 fn the_second_network_is_port_1(rt: HostRuntime) -> Result<(), Fail> {
     let first = link(rt.alloc(), "ES1", "SWB")?;
     let second = link(rt.alloc(), "SWB", "ES2")?;
-    let text = with_rows(rt.alloc(), &format!(in rt.alloc(); "{SWITCH_B}{first}{second}")?)?;
-    let text = changed(rt.alloc(), &text, "b = []", "b = [[\"ES1\", \"SWB\", \"ES2\"]]")?;
+    let text = with_rows(
+        rt.alloc(),
+        &format!(in rt.alloc(); "{SWITCH_B}{first}{second}")?,
+    )?;
+    let text = changed(
+        rt.alloc(),
+        &text,
+        "b = []",
+        "b = [[\"ES1\", \"SWB\", \"ES2\"]]",
+    )?;
     let network = read(rt.alloc(), &text)?;
     assert_eq!(rt; network.process_count(), 12);
     assert!(rt; 1 < network.node_count());
-    let ways = [Way { vl: VlId(1), port: 0 }, Way { vl: VlId(1), port: 1 }];
+    let ways = [
+        Way {
+            vl: VlId(1),
+            port: 0,
+        },
+        Way {
+            vl: VlId(1),
+            port: 1,
+        },
+    ];
     assert_eq!(rt; network.departures(0), ways.as_slice());
     assert_eq!(rt; network.arrivals(1), ways.as_slice());
     assert!(rt; 0 < network.vl_count());

@@ -1,5 +1,7 @@
 //! Links that may not be, and neighbours without a link.
-use super::{ONE_SWITCH, PATHS, SWITCH_A, SWITCH_B, at, changed, fault_of, link, outage, with_rows};
+use super::{
+    ONE_SWITCH, PATHS, SWITCH_A, SWITCH_B, at, changed, fault_of, link, outage, with_rows,
+};
 use crate::DescFault::NotALink;
 use crate::{Key, Section};
 use std::test::Fail;
@@ -18,7 +20,11 @@ fn some_nodes_may_not_be_linked(rt: HostRuntime) -> Result<(), Fail> {
         let row = link(rt.alloc(), a, b)?;
         let text = with_rows(rt.alloc(), &format!(in rt.alloc(); "{nodes}{row}")?)?;
         let place = at(Section::Link, 3, Key::B);
-        assert_eq!(rt; fault_of(rt.alloc(), &text), Some(NotALink(place)), "{a} {b}");
+        assert_eq!(rt;
+            fault_of(rt.alloc(), &text),
+            Some(NotALink(place)),
+            "{a} {b}"
+        );
     }
     Ok(())
 }
@@ -40,8 +46,16 @@ fn other_nodes_may_be_linked(rt: HostRuntime) -> Result<(), Fail> {
 #[test]
 fn an_outage_is_of_a_link(rt: HostRuntime) -> Result<(), Fail> {
     for (from, to, want) in [
-        ("ES1", "ES2", Some(NotALink(at(Section::Outage, 1, Key::To)))),
-        ("SW1", "SW1", Some(NotALink(at(Section::Outage, 1, Key::To)))),
+        (
+            "ES1",
+            "ES2",
+            Some(NotALink(at(Section::Outage, 1, Key::To))),
+        ),
+        (
+            "SW1",
+            "SW1",
+            Some(NotALink(at(Section::Outage, 1, Key::To))),
+        ),
         ("SW1", "ES1", None),
     ] {
         let text = with_rows(rt.alloc(), &outage(rt.alloc(), from, to)?)?;

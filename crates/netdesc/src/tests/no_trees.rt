@@ -8,7 +8,12 @@ use std::test::Fail;
 // The text with another switch, with the links of it, and with these paths.
 fn with_switch(alloc: Global, switch: &str, links: &str, a: &str, b: &str) -> Result<String, Fail> {
     let vl = "[[vl]]";
-    let text = changed(alloc, ONE_SWITCH, vl, &format!(in alloc; "{switch}{links}{vl}")?)?;
+    let text = changed(
+        alloc,
+        ONE_SWITCH,
+        vl,
+        &format!(in alloc; "{switch}{links}{vl}")?,
+    )?;
     let text = changed(alloc, &text, PATHS, a)?;
     changed(alloc, &text, "b = []", &format!(in alloc; "b = {b}")?)
 }
@@ -57,7 +62,9 @@ fn a_node_is_reached_from_one_node(rt: HostRuntime) -> Result<(), Fail> {
     let third = SWITCH_A.split_once("SW2").ok_or("no name")?;
     let end = "kind = \"es\"\nport_bytes = 4096\n";
     let mut rows = format!(in rt.alloc(); "{SWITCH_A}{}SW3{}", third.0, third.1)?;
-    rows.push_str(&format!(in rt.alloc(); "[[node]]\nname = \"ES3\"\n{end}[[node]]\nname = \"ES4\"\n{end}")?)?;
+    rows.push_str(&format!(in rt.alloc();
+        "[[node]]\nname = \"ES3\"\n{end}[[node]]\nname = \"ES4\"\n{end}"
+    )?)?;
     for (a, b) in [
         ("SW1", "SW2"),
         ("SW1", "SW3"),

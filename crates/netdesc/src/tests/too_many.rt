@@ -9,7 +9,9 @@ use std::test::Fail;
 fn end_systems(alloc: Global, count: usize) -> Result<String, Fail> {
     let mut rows = String::new(alloc);
     for i in 0..count {
-        rows.push_str(&format!(in alloc; "[[node]]\nname = \"E{i}\"\nkind = \"es\"\nport_bytes = 4096\n")?)?;
+        rows.push_str(&format!(in alloc;
+            "[[node]]\nname = \"E{i}\"\nkind = \"es\"\nport_bytes = 4096\n"
+        )?)?;
     }
     Ok(rows)
 }
@@ -24,7 +26,10 @@ fn fault_with_end_systems(alloc: Global, count: usize) -> Result<Option<DescFaul
 fn processes_are_limited(rt: HostRuntime) -> Result<(), Fail> {
     // Three nodes and two links are seven processes.
     assert_eq!(rt; fault_with_end_systems(rt.alloc(), 4089)?, None);
-    assert_eq!(rt; fault_with_end_systems(rt.alloc(), 4090)?, Some(TooMany(TOP)));
+    assert_eq!(rt;
+        fault_with_end_systems(rt.alloc(), 4090)?,
+        Some(TooMany(TOP))
+    );
     Ok(())
 }
 
@@ -35,19 +40,30 @@ fn ports_of_a_switch_are_limited(rt: HostRuntime) -> Result<(), Fail> {
         for i in 0..count {
             rows.push_str(&link(rt.alloc(), "SW2", &format!(in rt.alloc(); "E{i}")?)?)?;
         }
-        assert_eq!(rt; fault_of(rt.alloc(), &with_rows(rt.alloc(), &rows)?), want, "{count}");
+        assert_eq!(rt;
+            fault_of(rt.alloc(), &with_rows(rt.alloc(), &rows)?),
+            want,
+            "{count}"
+        );
     }
     Ok(())
 }
 
 #[test]
 fn outages_are_limited(rt: HostRuntime) -> Result<(), Fail> {
-    for (count, want) in [(1024, None), (1025, Some(TooMany(at_row(Section::Outage, 1025))))] {
+    for (count, want) in [
+        (1024, None),
+        (1025, Some(TooMany(at_row(Section::Outage, 1025)))),
+    ] {
         let mut rows = String::new(rt.alloc());
         for _ in 0..count {
             rows.push_str(&outage(rt.alloc(), "ES1", "SW1")?)?;
         }
-        assert_eq!(rt; fault_of(rt.alloc(), &with_rows(rt.alloc(), &rows)?), want, "{count}");
+        assert_eq!(rt;
+            fault_of(rt.alloc(), &with_rows(rt.alloc(), &rows)?),
+            want,
+            "{count}"
+        );
     }
     Ok(())
 }

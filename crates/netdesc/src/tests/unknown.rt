@@ -34,7 +34,11 @@ fn unknown_keys_and_names_are_told(rt: HostRuntime) -> Result<(), Fail> {
         ),
     ] {
         let text = changed(rt.alloc(), ONE_SWITCH, part, by)?;
-        assert_eq!(rt; fault_of(rt.alloc(), &text), Some(UnknownName(place)), "{by}");
+        assert_eq!(rt;
+            fault_of(rt.alloc(), &text),
+            Some(UnknownName(place)),
+            "{by}"
+        );
     }
     Ok(())
 }
@@ -44,7 +48,11 @@ fn unknown_names_of_outages_are_told(rt: HostRuntime) -> Result<(), Fail> {
     for (from, to, key) in [("ES9", "SW1", Key::From), ("ES1", "SW9", Key::To)] {
         let text = with_rows(rt.alloc(), &outage(rt.alloc(), from, to)?)?;
         let place = at(Section::Outage, 1, key);
-        assert_eq!(rt; fault_of(rt.alloc(), &text), Some(UnknownName(place)), "{from} {to}");
+        assert_eq!(rt;
+            fault_of(rt.alloc(), &text),
+            Some(UnknownName(place)),
+            "{from} {to}"
+        );
     }
     Ok(())
 }

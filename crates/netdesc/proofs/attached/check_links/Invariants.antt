@@ -10,5 +10,5 @@ abbrev pub invariant-loop-i : goal.invariant-loop-i
 invariant-loop-i l = record {
   none : each (no_link_at_link (map node_plan l.nodes)) (take l.i l.links) ≡ [];
   on_a : AreAttached (map node_plan l.nodes) A l.on_a (take l.i l.links);
-  on_b : AreAttached (map node_plan l.nodes) B l.on_b (take l.i l.links)
+  on_b : AreAttached (map node_plan l.nodes) B l.on_b (take l.i l.links);
 }

@@ -18,7 +18,7 @@ returns-then-first-i c =
     let early = number_of-early (names_of nodes) i node.name c.number.result (omega (arith, length-map nodes (λ node. node.name))) (read-map (λ node. node.name) nodes i node lt c.node-item.is) (c.number.ensures.place ∙ ap (λ q. place_among (names_of nodes) q) c.as_str.ensures) in
     let there : is_among (take i (names_of nodes)) node.name ≡ true = early.0 (omega (arith, c.unwrap_or-first.ensures)) in
     Tells-mapped double_at_node node_plan nodes i node _ lt c.node-item.is c.loop-i.invariant
-      (inr (rw (names_of-before nodes i, there) (ap (λ p. Some (DoubleName p)) (rw at (sym c.key_at.ensures)))))
+    (inr (rw (names_of-before nodes i, there) (ap (λ p. Some (DoubleName p)) (rw at (sym c.key_at.ensures)))))
 
 pub loop-i-preserved : goal.loop-i-preserved
 loop-i-preserved c =

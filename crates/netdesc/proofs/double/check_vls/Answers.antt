@@ -9,7 +9,7 @@ use Rattle.netdesc.proofs.EachLemmas.{Tells-mapped, none-mapped, length-before-m
 use Rattle.netdesc.proofs.double.check_vls.Goals as goal
 
 pub returns-then-contains : goal.returns-then-contains
-returns-then-contains c = 
+returns-then-contains c =
     let rows = c.args.vls.now in
     let i = c.loop-i.i in
     let lt : i < length rows = omega arith in
@@ -17,7 +17,7 @@ returns-then-contains c =
     let seen : contains nat_cmp c.loop-i.ids c.index-vls-i.result.link.id.0 ≡ true = ap (contains nat_cmp c.loop-i.ids) (sym c.from-id.ensures) ∙ (sym c.contains.ensures ∙ c.if-contains.true) in
     let there : list_any (λ vl. vl.link.id.0 == c.index-vls-i.result.link.id.0) (take i (map vl_view rows)) ≡ true = sym (c.loop-i.invariant.seen c.index-vls-i.result.link.id.0) ∙ seen in
     Tells-mapped double_at_vl vl_view rows i c.index-vls-i.result _ lt c.index-vls-i.is c.loop-i.invariant.none
-      (inr (rw there (ap (λ p. Some (DoubleName p)) (rw at (sym c.key_at.ensures)))))
+    (inr (rw there (ap (λ p. Some (DoubleName p)) (rw at (sym c.key_at.ensures)))))
 
 pub loop-i-preserved : goal.loop-i-preserved
 loop-i-preserved c =
@@ -30,5 +30,5 @@ loop-i-preserved c =
     record {
       none = none-mapped double_at_vl vl_view rows i vl lt c.index-vls-i.is c.loop-i.invariant.none (rw absent refl);
       seen = λ id. c.in_ok-add.ensures.added id ∙ ap (λ b. b || (c.from-id.result == id)) (c.loop-i.invariant.seen id) ∙ ap (λ n. list_any (λ vl. vl.link.id.0 == id) (take i (map vl_view rows)) || (n == id)) c.from-id.ensures
-        ∙ sym (list_any-more-mapped (λ vl. vl.link.id.0 == id) vl_view rows i vl lt c.index-vls-i.is)
+          ∙ sym (list_any-more-mapped (λ vl. vl.link.id.0 == id) vl_view rows i vl lt c.index-vls-i.is);
     }

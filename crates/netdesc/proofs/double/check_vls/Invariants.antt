@@ -10,5 +10,5 @@ use Rattle.netdesc.proofs.double.check_vls.Given as goal
 abbrev pub invariant-loop-i : goal.invariant-loop-i
 invariant-loop-i l = record {
   none : each double_at_vl (take l.i (map vl_view l.vls)) ≡ [];
-  seen : (id : ℕ) → contains nat_cmp l.ids id ≡ list_any (λ vl. vl.link.id.0 == id) (take l.i (map vl_view l.vls))
+  seen : (id : ℕ) → contains nat_cmp l.ids id ≡ list_any (λ vl. vl.link.id.0 == id) (take l.i (map vl_view l.vls));
 }

@@ -21,5 +21,5 @@ loop-n-preserved c =
     let absent : list_any (λ n. n == get_or xs i 0) (take i xs) ≡ false = sym (c.loop-n.invariant.had (get_or xs i 0)) ∙ (sym c.contains.ensures ∙ c.if-contains.false) in
     record {
       apart = has_double-more xs i 0 lt ∙ rw (c.loop-n.invariant.apart, absent) refl;
-      had = λ m. c.in_ok-add.ensures.added m ∙ ap (λ b. b || (get_or xs i 0 == m)) (c.loop-n.invariant.had m) ∙ sym (list_any_more (λ n. n == m) xs i 0 lt)
+      had = λ m. c.in_ok-add.ensures.added m ∙ ap (λ b. b || (get_or xs i 0 == m)) (c.loop-n.invariant.had m) ∙ sym (list_any_more (λ n. n == m) xs i 0 lt);
     }

@@ -8,5 +8,5 @@ use Rattle.netdesc.proofs.ends.has_repeat.Given as goal
 abbrev pub invariant-loop-n : goal.invariant-loop-n
 invariant-loop-n l = record {
   apart : has_double (take l.n-index l.numbers) ≡ false;
-  had : (m : ℕ) → contains nat_cmp l.seen m ≡ list_any (λ n. n == m) (take l.n-index l.numbers)
+  had : (m : ℕ) → contains nat_cmp l.seen m ≡ list_any (λ n. n == m) (take l.n-index l.numbers);
 }

@@ -7,5 +7,5 @@ use Rattle.netdesc.proofs.finding.places_of.Given as goal
 abbrev pub invariant-loop-i : goal.invariant-loop-i
 invariant-loop-i l = record {
   len : vec_len l.places ≡ VL_NUMBERS;
-  placed : (id : ℕ) → id < VL_NUMBERS → get_or l.places.items id None ≡ place_of_vl (take l.i (map vl_view l.vls)) id
+  placed : (id : ℕ) → id < VL_NUMBERS → get_or l.places.items id None ≡ place_of_vl (take l.i (map vl_view l.vls)) id;
 }

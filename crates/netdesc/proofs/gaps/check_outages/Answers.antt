@@ -18,7 +18,7 @@ returns-then-is_none c =
     let at = length-before rows i lt in
     let lone : is_some c.place.result ≡ false = c.is_none.ensures ∙ ap not c.if-is_none.true in
     Tells-each (no_link_at_outage c.args.joined.now.links.now) rows i no_outage _ lt c.loop-i.invariant
-      (inr (rw (sym c.place.ensures.linked, lone) (ap (λ p. Some (NotALink p)) (rw at (sym c.key_at.ensures)))))
+    (inr (rw (sym c.place.ensures.linked, lone) (ap (λ p. Some (NotALink p)) (rw at (sym c.key_at.ensures)))))
 
 pub loop-i-preserved : goal.loop-i-preserved
 loop-i-preserved c =

@@ -17,9 +17,9 @@ returns-then-contains_key c =
     let lt : i < length rows = omega arith in
     let at = length-before rows i lt in
     let there : is_linked (take i rows) link.a link.b ≡ true =
-        sym (is_some-place_by (joins link.a link.b) (take i rows)) ∙ ap is_some (sym (c.loop-i.invariant.joined link.a link.b)) ∙ sym c.contains_key.ensures ∙ c.if-contains_key.true in
+    sym (is_some-place_by (joins link.a link.b) (take i rows)) ∙ ap is_some (sym (c.loop-i.invariant.joined link.a link.b)) ∙ sym c.contains_key.ensures ∙ c.if-contains_key.true in
     Tells-each double_at_link rows i no_link _ lt c.loop-i.invariant.none
-      (inr (rw there (ap (λ p. Some (DoubleName p)) (rw at (sym c.key_at.ensures)))))
+    (inr (rw there (ap (λ p. Some (DoubleName p)) (rw at (sym c.key_at.ensures)))))
 
 pub loop-i-preserved : goal.loop-i-preserved
 loop-i-preserved c =
@@ -28,10 +28,10 @@ loop-i-preserved c =
     let link = get_or rows i no_link in
     let lt : i < length rows = omega arith in
     let absent : is_linked (take i rows) link.a link.b ≡ false =
-        sym (is_some-place_by (joins link.a link.b) (take i rows)) ∙ ap is_some (sym (c.loop-i.invariant.joined link.a link.b)) ∙ sym c.contains_key.ensures ∙ c.if-contains_key.false in
+    sym (is_some-place_by (joins link.a link.b) (take i rows)) ∙ ap is_some (sym (c.loop-i.invariant.joined link.a link.b)) ∙ sym c.contains_key.ensures ∙ c.if-contains_key.false in
     record {
       none = each-none double_at_link rows i no_link lt c.loop-i.invariant.none (rw absent refl);
       joined = λ x y. rw (take_more rows i no_link lt)
-        (AreJoined-put c.loop-i.places c.put.new.places c.put-in-loop-i.new.places (take i rows) link i c.loop-i.invariant.joined (sym c.contains_key.ensures ∙ c.if-contains_key.false)
-          c.in_ok-put.ensures.updates c.in_ok-put-2.ensures.updates (sym (length-before rows i lt)) x y)
+          (AreJoined-put c.loop-i.places c.put.new.places c.put-in-loop-i.new.places (take i rows) link i c.loop-i.invariant.joined (sym c.contains_key.ensures ∙ c.if-contains_key.false)
+          c.in_ok-put.ensures.updates c.in_ok-put-2.ensures.updates (sym (length-before rows i lt)) x y);
     }

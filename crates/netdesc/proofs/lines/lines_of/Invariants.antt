@@ -10,5 +10,5 @@ invariant-loop-link l = record {
   len : vec_len l.counts ≡ length l.nodes + 1;
   counted : (j : ℕ) → j < vec_len l.counts → get_or l.counts.items j 0 ≡ count_by (touches j) (take l.link-index l.links);
   small : (j : ℕ) → j < vec_len l.counts → get_or l.counts.items j 0 ≤ l.link-index;
-  made : l.lines.items ≡ each (directions (map node_plan l.nodes)) (take l.link-index l.links)
+  made : l.lines.items ≡ each (directions (map node_plan l.nodes)) (take l.link-index l.links);
 }

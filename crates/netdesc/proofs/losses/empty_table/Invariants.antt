@@ -5,5 +5,5 @@ use Rattle.netdesc.proofs.losses.empty_table.Given as goal
 abbrev pub invariant-loop : goal.invariant-loop
 invariant-loop l = record {
   len : vec_len l.table ≡ l.counter;
-  empty : (k : ℕ) → outages_at l.table k ≡ []
+  empty : (k : ℕ) → outages_at l.table k ≡ [];
 }

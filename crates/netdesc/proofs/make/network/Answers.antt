@@ -35,7 +35,7 @@ tables_of-requires-clause-apart c =
 pub new-requires-clause-tables : goal.new-requires-clause-tables
 new-requires-clause-tables c =
     subst (λ (nodes : List NodeRow). AreTables (plan_with c.args.rows.until c.args.rows.seed nodes (record { links = c.in_ok-numbered.numbered.links; outages = c.in_ok-numbered.numbered.outages; vls = c.sort_vls.new.vls })) c.in_ok-tables.tables)
-      c.as_slice.ensures.value (c.in_ok-tables.ensures.tables c.args.rows.until c.args.rows.seed)
+    c.as_slice.ensures.value (c.in_ok-tables.ensures.tables c.args.rows.until c.args.rows.seed)
 
 pub returns : goal.returns
 returns c =
@@ -49,5 +49,5 @@ returns c =
       links = ap (λ p. p.links) parts;
       outages = ap (λ p. p.outages) parts;
       vls = subst (λ (before : List VlPlan). IsPermutation before (vl_views c.sort_vls.new.vls)) (ap (λ p. p.vls) parts) c.in_ok-sort_vls.ensures.moved;
-      in_order = c.in_ok-sort_vls.ensures.in_order
+      in_order = c.in_ok-sort_vls.ensures.in_order;
     })

@@ -14,4 +14,4 @@ pub returns-in-Ok-clause-in_order : goal.returns-in-Ok-clause-in_order
 returns-in-Ok-clause-in_order c =
     let xs = c.sort_by_key.new.self.items in
     subst IsNonDecreasing (sym (map-both id_of vl_view xs))
-      (rising-map (λ (vl : Routed). vl.link.id.0) xs (IsNonDecreasingBy-from_sort_by_key (λ (vl : Routed). vl.link.id.0) xs c.in-Ok.ensures.sorted (λ a r q k. search rules)))
+    (rising-map (λ (vl : Routed). vl.link.id.0) xs (IsNonDecreasingBy-from_sort_by_key (λ (vl : Routed). vl.link.id.0) xs c.in-Ok.ensures.sorted (λ a r q k. search rules)))

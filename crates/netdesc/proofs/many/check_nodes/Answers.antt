@@ -28,10 +28,10 @@ returns-then-has_many_links c =
     let count : c.index-count.result.now ≡ count_by (touches i) links = get_or_read c.in_ok-counts.counts.items i c.index-count.result.now (omega (arith, c.in_ok-counts.ensures.len)) c.index-count.ensures 0 ∙ c.in_ok-counts.ensures.counts i lt in
     let bad : (not (is_end_system nodes i) && nat_lt GREATEST_PORTS c.index-count.result.now) ≡ true = sym c.has_many_links.ensures ∙ c.if-has_many_links.true in
     let told : slice_get (many_at nodes i c.index-count.result.now) 0 ≡ Some (TooMany c.row_at.result) =
-        ap (λ b. slice_get (when b (TooMany (record { section = Node; row = Some (i + 1); key = None }))) 0) bad ∙ ap (λ p. Some (TooMany p)) (sym c.row_at.ensures) in
+    ap (λ b. slice_get (when b (TooMany (record { section = Node; row = Some (i + 1); key = None }))) 0) bad ∙ ap (λ p. Some (TooMany p)) (sym c.row_at.ensures) in
     Tells-mapped (too_many_at_node nodes links) node_plan rows i c.index-nodes-i.result _ lt c.index-nodes-i.is c.loop-i.invariant
-      (subst (λ n. Tells (TooMany c.row_at.result) (many_at nodes n (count_by (touches n) links))) (sym at)
-        (subst (λ k. Tells (TooMany c.row_at.result) (many_at nodes i k)) count (inr told)))
+    (subst (λ n. Tells (TooMany c.row_at.result) (many_at nodes n (count_by (touches n) links))) (sym at)
+    (subst (λ k. Tells (TooMany c.row_at.result) (many_at nodes i k)) count (inr told)))
 
 pub loop-i-preserved : goal.loop-i-preserved
 loop-i-preserved c =
@@ -45,4 +45,4 @@ loop-i-preserved c =
     let good : (not (is_end_system nodes i) && nat_lt GREATEST_PORTS c.index-count.result.now) ≡ false = sym c.has_many_links.ensures ∙ c.if-has_many_links.false in
     let none : many_at nodes i c.index-count.result.now ≡ [] = ap (λ b. when b (TooMany (record { section = Node; row = Some (i + 1); key = None }))) good in
     none-mapped (too_many_at_node nodes links) node_plan rows i c.index-nodes-i.result lt c.index-nodes-i.is c.loop-i.invariant
-      (ap (λ n. many_at nodes n (count_by (touches n) links)) at ∙ ap (many_at nodes i) (sym count) ∙ none)
+    (ap (λ n. many_at nodes n (count_by (touches n) links)) at ∙ ap (many_at nodes i) (sym count) ∙ none)

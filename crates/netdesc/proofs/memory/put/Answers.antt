@@ -11,5 +11,5 @@ returns-clause-put g c =
     let lt : place < length table.items = omega (arith, table.ok.0) in
     let before : c.index_mut-list.result.now.items ≡ get_or (lists_of table) place [] = ap items_of c.index_mut-list.ensures.value ∙ sym (get_or-map items_of table.items place c.index_mut-list.result.now [] lt) in
     MatchResult-weaker c.push.result c.push.ensures.pushed
-      (λ _ pushed. map-set items_of table.items place c.push.new.list ∙ ap (set (lists_of table) place) (pushed ∙ ap (λ ws. ws ++ c.args.value ∷ []) before))
-      (λ _ q. q)
+    (λ _ pushed. map-set items_of table.items place c.push.new.list ∙ ap (set (lists_of table) place) (pushed ∙ ap (λ ws. ws ++ c.args.value ∷ []) before))
+    (λ _ q. q)

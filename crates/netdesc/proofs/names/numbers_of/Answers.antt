@@ -16,8 +16,9 @@ loop-i-preserved c =
     let more : names_of (take (i + 1) nodes) ≡ before ++ name ∷ [] = names_of-more nodes i c.index-nodes-i.result lt ∙ ap (λ x. before ++ x ∷ []) same in
     let there = c.contains_key.ensures in
     let at_end : i ≡ length before = sym (length-names_of nodes i lt) in
-    elim c.if-not-contains_key.branch
-    [ then-not-contains_key+in_ok-insert w ↦ (λ q. rw (w.numbers-is, more)
-        (AreNumbers-put c.loop-i.numbers w.insert.new.self before name i c.loop-i.invariant (sym there ∙ w.if-not-contains_key.true) w.in_ok-insert.ensures.updates at_end q))
-    | else-not-contains_key w ↦ (λ q. rw (w.numbers-is, more)
-        (AreNumbers-kept c.loop-i.numbers before name c.loop-i.invariant (sym there ∙ w.if-not-contains_key.false) q)) ]
+    elim c.if-not-contains_key.branch [
+      | then-not-contains_key+in_ok-insert w ↦ (λ q. rw (w.numbers-is, more)
+          (AreNumbers-put c.loop-i.numbers w.insert.new.self before name i c.loop-i.invariant (sym there ∙ w.if-not-contains_key.true) w.in_ok-insert.ensures.updates at_end q))
+      | else-not-contains_key w ↦ (λ q. rw (w.numbers-is, more)
+          (AreNumbers-kept c.loop-i.numbers before name c.loop-i.invariant (sym there ∙ w.if-not-contains_key.false) q))
+    ]

@@ -7,5 +7,5 @@ use Rattle.netdesc.proofs.routes.path_of.Given as goal
 abbrev pub invariant-loop-name : goal.invariant-loop-name
 invariant-loop-name l = record {
   known : list_any (is_unknown (names_of l.names.nodes.now)) (take l.name-index l.path) ≡ false;
-  made : l.numbers.items ≡ map (number_of (names_of l.names.nodes.now)) (take l.name-index l.path)
+  made : l.numbers.items ≡ map (number_of (names_of l.names.nodes.now)) (take l.name-index l.path);
 }

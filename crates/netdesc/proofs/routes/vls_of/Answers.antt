@@ -14,7 +14,7 @@ returns-in_err-vl c =
     let lt : i < length rows = omega arith in
     let p = err_from_is_err_and c.from_residual.result c.from_residual.ensures.1 in
     rw (p.1, p.2) (Tells-read (unknown_at_vl (names_of c.args.names.now.nodes.now)) rows i c.index-rows-i.result _ lt c.index-rows-i.is c.loop-i.invariant.none
-      (c.in_err-vl.ensures (take i rows) (length-before rows i lt)))
+    (c.in_err-vl.ensures (take i rows) (length-before rows i lt)))
 
 pub loop-i-preserved : goal.loop-i-preserved
 loop-i-preserved c =
@@ -25,5 +25,5 @@ loop-i-preserved c =
     let here = c.in_ok-vl.ensures (take i rows) (length-before rows i lt) in
     record {
       none = none-read (unknown_at_vl names) rows i c.index-rows-i.result lt c.index-rows-i.is c.loop-i.invariant.none here.0;
-      made = map-pushed-by vl_view (vl_plan names) rows i c.index-rows-i.result _ _ c.in_ok-vl.vl lt c.index-rows-i.is c.loop-i.invariant.made c.in_ok-push.ensures.pushed here.1
+      made = map-pushed-by vl_view (vl_plan names) rows i c.index-rows-i.result _ _ c.in_ok-vl.vl lt c.index-rows-i.is c.loop-i.invariant.made c.in_ok-push.ensures.pushed here.1;
     }

@@ -9,5 +9,5 @@ use Rattle.netdesc.proofs.routes.vls_of.Given as goal
 abbrev pub invariant-loop-i : goal.invariant-loop-i
 invariant-loop-i l = record {
   none : each (unknown_at_vl (names_of l.names.nodes.now)) (take l.i l.rows) ≡ [];
-  made : map vl_view l.vls.items ≡ map (vl_plan (names_of l.names.nodes.now)) (take l.i l.rows)
+  made : map vl_view l.vls.items ≡ map (vl_plan (names_of l.names.nodes.now)) (take l.i l.rows);
 }

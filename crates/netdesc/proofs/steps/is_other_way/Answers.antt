@@ -11,9 +11,10 @@ returns-in-Some-clause-other c = λ steps are.
     let from = c.in-Some.from.now in
     let step = c.args.step in
     let found : get nat_cmp c.args.ways.now step.to ≡ Some from = sym c.in-Some.ensures.value in
-    elim (cases_Bool (from == step.from))
-      [ inl same ↦ (let equal : from ≡ step.from = grind (arith, nat_tests) in rw same (AreWays-kept c.args.ways.now steps step are (found ∙ ap Some equal)))
-      | inr apart ↦ rw apart (other-way c.args.ways.now steps step from are found apart) ]
+    elim (cases_Bool (from == step.from)) [
+      | inl same ↦ (let equal : from ≡ step.from = grind (arith, nat_tests) in rw same (AreWays-kept c.args.ways.now steps step are (found ∙ ap Some equal)))
+      | inr apart ↦ rw apart (other-way c.args.ways.now steps step from are found apart)
+    ]
 
 pub returns-in-Ok-clause-other : goal.returns-in-Ok-clause-other
 returns-in-Ok-clause-other c = λ steps are. AreWays-put c.args.ways.now c.insert.new.self steps c.args.step are (sym c.in-None.ensures.value) c.in-Ok.ensures.updates

@@ -7,5 +7,5 @@ abbrev pub invariant-loop-k : goal.invariant-loop-k
 invariant-loop-k l = record {
   len : vec_len l.table ≡ vec_len l.fn.table;
   put : (node : ℕ) → node < vec_len l.fn.table →
-    ways_at l.table node ++ ways_over (out_at node l.vl) l.lines (drop l.k-index l.route) ≡ ways_at l.fn.table node ++ ways_over (out_at node l.vl) l.lines l.route
+      ways_at l.table node ++ ways_over (out_at node l.vl) l.lines (drop l.k-index l.route) ≡ ways_at l.fn.table node ++ ways_over (out_at node l.vl) l.lines l.route;
 }

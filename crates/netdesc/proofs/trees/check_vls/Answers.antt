@@ -13,7 +13,7 @@ returns-in_err-check_vl c =
     let lt : i < length rows = omega arith in
     let p = err_from_is_err_and c.from_residual.result c.from_residual.ensures.1 in
     rw (p.1, p.2) (Tells-mapped (no_tree_at_vl (map node_plan c.args.nodes.now)) vl_view rows i c.index-vls-i.result _ lt c.index-vls-i.is c.loop-i.invariant
-      (c.in_err-check_vl.ensures (take i (map vl_view rows)) (length-before-mapped vl_view rows i lt)))
+    (c.in_err-check_vl.ensures (take i (map vl_view rows)) (length-before-mapped vl_view rows i lt)))
 
 pub loop-i-preserved : goal.loop-i-preserved
 loop-i-preserved c =
@@ -21,4 +21,4 @@ loop-i-preserved c =
     let i = c.loop-i.i in
     let lt : i < length rows = omega arith in
     none-mapped (no_tree_at_vl (map node_plan c.args.nodes.now)) vl_view rows i c.index-vls-i.result lt c.index-vls-i.is c.loop-i.invariant
-      (c.in_ok-check_vl.ensures (take i (map vl_view rows)) (length-before-mapped vl_view rows i lt))
+    (c.in_ok-check_vl.ensures (take i (map vl_view rows)) (length-before-mapped vl_view rows i lt))

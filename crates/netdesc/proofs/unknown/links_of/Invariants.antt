@@ -8,5 +8,5 @@ use Rattle.netdesc.proofs.unknown.links_of.Given as goal
 abbrev pub invariant-loop-i : goal.invariant-loop-i
 invariant-loop-i l = record {
   none : each (unknown_at_link (names_of l.names.nodes.now)) (take l.i l.rows) ≡ [];
-  made : l.links.items ≡ map (link_plan (names_of l.names.nodes.now)) (take l.i l.rows)
+  made : l.links.items ≡ map (link_plan (names_of l.names.nodes.now)) (take l.i l.rows);
 }

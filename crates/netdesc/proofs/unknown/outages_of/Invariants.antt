@@ -8,5 +8,5 @@ use Rattle.netdesc.proofs.unknown.outages_of.Given as goal
 abbrev pub invariant-loop-i : goal.invariant-loop-i
 invariant-loop-i l = record {
   none : each (unknown_at_outage (names_of l.names.nodes.now)) (take l.i l.rows) ≡ [];
-  made : l.outages.items ≡ map (outage_plan (names_of l.names.nodes.now)) (take l.i l.rows)
+  made : l.outages.items ≡ map (outage_plan (names_of l.names.nodes.now)) (take l.i l.rows);
 }

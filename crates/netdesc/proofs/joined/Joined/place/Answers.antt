@@ -9,5 +9,5 @@ returns c =
     let place : c.copied.result ≡ link_between links c.args.x c.args.y = c.copied.ensures ∙ c.get.ensures.value ∙ c.args.self.now.placed c.args.x c.args.y in
     record {
       place = place;
-      linked = ap is_some place ∙ is_some-place_by (joins c.args.x c.args.y) links
+      linked = ap is_some place ∙ is_some-place_by (joins c.args.x c.args.y) links;
     }

@@ -12,5 +12,5 @@ returns c =
     record {
       place = place;
       known = ap is_some place ∙ is_some-place_by (bytes_eq c.args.name.now) names;
-      value = number_of-place names c.args.name.now c.copied.result place
+      value = number_of-place names c.args.name.now c.copied.result place;
     }
