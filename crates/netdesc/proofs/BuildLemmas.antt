@@ -1,5 +1,5 @@
 -- What rows without a fault give for the tables of their network.
-use Rattle.std.proofs.Common.{◌≡◌, ℕ, suc, ◌+◌, ◌*◌, ◌<◌, ◌≤◌, Bool, true, false, cond, nat_lt, List, [], ◌∷◌, ◌++◌, length, map, get_or, Option, Some, None, All, unwrap_or, refl, ap, sym, ◌∙◌, subst, arith, inl, inr}
+use Rattle.std.proofs.Common.{◌≡◌, ℕ, suc, ◌+◌, ◌*◌, ◌<◌, ◌≤◌, Bool, true, false, not, cond, nat_lt, take, List, [], ◌∷◌, ◌++◌, length, map, get_or, Option, Some, None, All, unwrap_or, refl, ap, sym, ◌∙◌, subst, arith, inl, inr}
 use Rattle.std.specs.Option.{option_map}
 use Rattle.std.specs.Str.{bytes_eq}
 use Rattle.network_rows.specs.declared.fault.DescFault.TheVariants.{TooMany}
@@ -8,8 +8,10 @@ use Rattle.std.proofs.lemmas.Bool.Decides.{nat_tests}
 use Rattle.std.proofs.lemmas.List.{length-map, get_or-map}
 use Rattle.std.proofs.lemmas.List.Elements.{All-from_recursion, recursion_from_All}
 use Rattle.std.specs.Prelude.{slice_get}
-use Rattle.std.proofs.lemmas.Option.{slice_get-map, slice_get_read}
-use Rattle.std.specs.List.{AllByRecursion}
+use Rattle.std.proofs.lemmas.Option.{slice_get-map, slice_get_read, slice_get_within, get_or_from_slice_get}
+use Rattle.std.proofs.lemmas.List.{take_all}
+use Rattle.netdesc.proofs.PlaceLemmas.{place_by-early}
+use Rattle.std.specs.List.{AllByRecursion, list_any}
 use Rattle.std.specs.List.Sorted.{IsNonDecreasing, IsNonDecreasingBy}
 use Rattle.network_rows.specs.declared.fault.DescFault.{DescFault}
 use Rattle.network_rows.specs.declared.rows.LinkRow.{LinkRow}
@@ -18,10 +20,11 @@ use Rattle.netdesc.specs.declared.limits.TheConstants.{GREATEST_PROCESSES}
 use Rattle.netdesc.specs.declared.wiring.Link.{Link}
 use Rattle.netdesc.specs.declared.wiring.Line.{Line}
 use Rattle.netdesc.specs.Rows.{each, each_after, when, top, place_by}
-use Rattle.netdesc.specs.Names.{names_of, number_of}
-use Rattle.netdesc.specs.Plan.{Plan, NodePlan, link_plan, plan_of}
-use Rattle.netdesc.specs.Lines.{directions}
-use Rattle.netdesc.specs.Faults.{faults_of, unknown_names, double_names, not_links, not_trees, too_many, double_at_link, double_at_node, double_at_vl, process_count}
+use Rattle.netdesc.specs.Names.{names_of, is_among, number_of}
+use Rattle.netdesc.specs.Plan.{Plan, NodePlan, node_plan, link_plan, plan_of}
+use Rattle.netdesc.specs.Lines.{directions, lines_of}
+use Rattle.netdesc.specs.Faults.{faults_of, unknown_names, double_names, not_links, not_trees, too_many, double_at_link, double_at_node, double_at_vl, unknown_at_link, process_count}
+use Rattle.netdesc.specs.Accepted.{IsAccepted}
 
 -- a link ends at nodes up to this number; so does a line
 abbrev pub EndsWithin : ℕ → Link → Type 0
@@ -112,3 +115,54 @@ length-lines nodes earlier (link ∷ links) = let later = length-lines nodes (ea
 pub read-made : {X Y Z : Type 0} (f : X → Z) (v : Y → Z) (xs : List X) (ys : List Y) (n k : ℕ) (y : Y) → map v ys ≡ map f xs → n ≡ length ys → k < n → y ≡ get_or ys k y → option_map f (slice_get xs k) ≡ Some (v y)
 read-made f v xs ys n k y same len lt read =
     sym (slice_get-map f xs k) ∙ ap (λ zs. slice_get zs k) (sym same) ∙ slice_get-map v ys k ∙ ap (option_map v) (slice_get_read ys n k y len lt read)
+
+-- what holds of both ends of each link holds of both ends of each line
+abbrev pub BothEnds : (ℕ → Type 0) → Link → Type 0
+BothEnds P link = P link.a × P link.b
+
+abbrev pub BothNodes : (ℕ → Type 0) → Line → Type 0
+BothNodes P line = P line.from × P line.to
+
+lines-from-links : (P : ℕ → Type 0) (nodes : List NodePlan) (earlier links : List Link) → AllByRecursion (BothEnds P) links → AllByRecursion (BothNodes P) (each_after (directions nodes) earlier links)
+lines-from-links P nodes earlier [] h = h
+lines-from-links P nodes earlier (link ∷ links) h = (h.0, ((h.0.1, h.0.0), lines-from-links P nodes (earlier ++ link ∷ []) links h.1))
+
+-- a known name stands for a number below the count of names
+number_of-below : (names : List (List ℕ)) (name : List ℕ) → not (is_among names name) ≡ false → number_of names name < length names
+number_of-below names name known =
+    let whole : list_any (bytes_eq name) (take (length names) names) ≡ true = ap (list_any (bytes_eq name)) (take_all (length names) names (omega arith)) ∙ not-false (is_among names name) known in
+    let found = place_by-early (bytes_eq name) names (length names) whole in
+    let same : number_of names name ≡ found.0 = ap (λ o. unwrap_or o (length names)) found.1 in
+    let lt : found.0 < length names = found.2 in omega (arith, same)
+  where
+    not-false : (b : Bool) → not b ≡ false → b ≡ true
+    not-false true h = refl
+    not-false false h = absurd (false≢true (sym h))
+
+-- the links of rows with known names end at nodes
+links-below : (names : List (List ℕ)) (earlier rows : List LinkRow) → each_after (unknown_at_link names) earlier rows ≡ [] → AllByRecursion (BothEnds (λ n. n < length names)) (map (link_plan names) rows)
+links-below names earlier [] none = tt
+links-below names earlier (row ∷ rows) none =
+    let here : unknown_at_link names earlier row ≡ [] = front-none (unknown_at_link names earlier row) _ none in
+    let later : each_after (unknown_at_link names) (earlier ++ row ∷ []) rows ≡ [] = behind-none (unknown_at_link names earlier row) _ none in
+    ((number_of-below names row.a (when-none _ _ (behind-none _ _ (front-none _ _ here))), number_of-below names row.b (when-none _ _ (behind-none _ _ here))), links-below names (earlier ++ row ∷ []) rows later)
+
+-- the lines of a network lead from nodes to nodes
+pub lines-below : (plan : Plan) → IsAccepted plan → All (BothNodes (λ n. n < length plan.nodes)) (lines_of plan)
+lines-below plan accepted =
+    let rows = accepted.rows in
+    let stands = accepted.stands in
+    let names = names_of rows.nodes in
+    let unknown : unknown_names rows ≡ [] = front-none _ _ (front-none _ _ (front-none _ _ (front-none _ _ stands.none))) in
+    let known : each (unknown_at_link names) rows.links ≡ [] = behind-none _ _ (front-none _ _ (front-none _ _ unknown)) in
+    let count : length names ≡ length plan.nodes = length-map rows.nodes (λ node. node.name) ∙ sym (length-map rows.nodes node_plan) ∙ ap length (sym stands.nodes) in
+    let links : AllByRecursion (BothEnds (λ n. n < length plan.nodes)) plan.links =
+    subst (AllByRecursion (BothEnds (λ n. n < length plan.nodes))) (sym stands.links)
+    (subst (λ m. AllByRecursion (BothEnds (λ n. n < m)) (map (link_plan names) rows.links)) count (links-below names [] rows.links known)) in
+    All-from_recursion (BothNodes (λ n. n < length plan.nodes)) (lines_of plan) (lines-from-links (λ n. n < length plan.nodes) plan.nodes [] plan.links links)
+
+-- the line that is read leads from a node to a node
+pub line-read : (plan : Plan) (k : ℕ) (line : Line) → IsAccepted plan → slice_get (lines_of plan) k ≡ Some line → BothNodes (λ n. n < length plan.nodes) line
+line-read plan k line accepted read =
+    let lt = slice_get_within (lines_of plan) k line read in
+    subst (BothNodes (λ n. n < length plan.nodes)) (get_or_from_slice_get (lines_of plan) k line line read) (lines-below plan accepted k line lt)

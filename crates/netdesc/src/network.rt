@@ -63,6 +63,13 @@ impl Network {
         }
     }
 
+    /// Every network is that of rows without a fault, within the limits of their keys. Nothing is done.
+    pub fn accepted(&self)
+        ensures { IsAccepted self.now }
+    {
+        let _fields = &self.numbered;
+    }
+
     /// The end of a run: its last moment.
     pub fn until(&self) -> Time
         ensures { result ≡ self.now.until }
@@ -136,7 +143,9 @@ impl Network {
     /// A line: its nodes, its ports there, and its times.
     pub fn line(&self, line: usize) -> Line
         requires { line < length (lines_of self.now) }
-        ensures { slice_get (lines_of self.now) line ≡ Some result }
+        ensures value { slice_get (lines_of self.now) line ≡ Some result }
+        ensures from { result.from < length self.now.nodes }
+        ensures to { result.to < length self.now.nodes }
     {
         self.tables.lines[line]
     }
