@@ -1,4 +1,5 @@
 mod double;
+mod examples;
 mod networks;
 mod no_links;
 mod no_trees;
