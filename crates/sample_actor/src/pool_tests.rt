@@ -2,7 +2,7 @@ use crate::Summing;
 use std::cell::Cell;
 use std::test::Fail;
 use vlink::{LATEST_NS, Letter, Message, Sign, Time};
-use worker_pool::{Exchange, Gate, Open, PoolFault, Step, collect, post, work};
+use worker_pool::{Exchange, Gate, Open, PoolFault, Step, collect, work};
 
 /// A gate that counts what it is told.
 #[derive(Drop)]
@@ -64,14 +64,6 @@ fn takes_handles_posts_and_undoes_a_letter(rt: HostRuntime) -> Result<(), Fail> 
     assert_eq!(rt; work(&mut held, 16, LATEST_NS, &gate)?, 2);
     assert_eq!(rt; (gate.before.get(), gate.after.get()), (1, 1));
     assert_eq!(rt; (held.pending(), exchange.steps()), (2, 1));
-    post(&mut held, &mut exchange)?;
-    assert_eq!(rt; (held.pending(), exchange.steps()), (0, 4));
-    assert_eq!(rt; exchange.step_at(1), Some(Step::Arrive { process: 0 }));
-    assert_eq!(rt; exchange.step_at(2), Some(Step::Run { process: 0 }));
-    assert_eq!(rt; exchange.step_at(3), Some(Step::Post { process: 0 }));
-    assert_eq!(rt; exchange.step_at(4), None);
-    let sent = exchange.look(1, 0).expect(&rt, "the letter that was sent");
-    assert_eq!(rt; (sent.message.time.ns(), sent.message.number), (15, 0));
     let actor = held.undo_all();
     assert_eq!(rt; (actor.sum, actor.counter), (0, 0));
     Ok(())
@@ -107,7 +99,5 @@ fn without_numbers_the_steps_that_were_done_stay(rt: HostRuntime) -> Result<(), 
         work(&mut held, 1, LATEST_NS, &Open),
         Err(PoolFault::Exhausted)
     );
-    post(&mut held, &mut exchange)?;
-    assert_eq!(rt; (exchange.steps(), exchange.look(1, 0)), (3, None));
     Ok(())
 }
