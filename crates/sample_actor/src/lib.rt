@@ -2,8 +2,6 @@
 #![tactic(auto)]
 
 #[cfg(test)]
-mod pool_tests;
-#[cfg(test)]
 mod process_tests;
 mod summing;
 #[cfg(test)]
