@@ -1,0 +1,67 @@
+ghost use Rattle.std.specs.Prelude.{◌≡◌, ◌+◌, ◌<◌, ◌≤◌, length};
+ghost use Rattle.std.specs.List.{list_any};
+ghost use Rattle.vlink.specs.Numbering.{greatest_number};
+ghost use Rattle.nodes.specs.Sending.{replied};
+ghost use Rattle.nodes.specs.Line.{carried, is_within, line};
+
+use crate::outbound::Outbound;
+use netdesc::Outage;
+use std::marker::Model;
+use vlink::{Body, Cause, Frame, Message, Time};
+
+/// One direction of a link. It has no state that changes.
+#[derive(Debug, Drop)]
+pub struct Line {
+    to: u16,
+    to_port: u8,
+    propagation_ns: u32,
+    outages: Vec<Outage>,
+}
+
+impl Model for Line {
+    ghost use Rattle.nodes.specs.Line.{LineState};
+
+    ghost Value = { LineState };
+
+    ghost view = { λ l. record { to = l.to; to_port = l.to_port; propagation = l.propagation_ns; outages = l.outages.items } };
+}
+
+impl Line {
+    /// Whether this moment lies in an outage. It looks at each outage of the line.
+    fn is_out(&self, at: Time) -> bool
+        ensures { result ≡ list_any (is_within at) self.now.outages }
+    {
+        let ns = at.ns();
+        self.outages
+            .iter()
+            .any(|outage| outage.from_ns <= ns && ns < outage.to_ns)
+    }
+
+    /// The last bit of a frame leaves into the line.
+    fn carry(&self, at: Time, frame: &Frame, out: &mut Outbound)
+        requires room { length out.old.messages < 24 }
+        requires notes { length out.old.notes < 2 }
+        requires numbers { out.old.sender.counter < greatest_number }
+        ensures { out.new ≡ replied out.old (carried at frame.now self.now) }
+    {
+        if self.is_out(at) {
+            out.lose(Cause::Outage, frame);
+            return;
+        }
+        let ns = at.ns() + u64::from(self.propagation_ns);
+        let port = self.to_port;
+        out.send(ns, self.to, Body::Arrive { port, frame: *frame });
+    }
+
+    /// Handles a message: a frame that it carries arrives after the propagation time, or is lost in an outage.
+    pub fn handle(&self, message: &Message, out: &mut Outbound)
+        requires room { length out.old.messages < 24 }
+        requires notes { length out.old.notes < 2 }
+        requires numbers { out.old.sender.counter < greatest_number }
+        ensures { out.new ≡ replied out.old (line message.now.time message.now.body self.now) }
+    {
+        if let Body::Carry { frame } = message.body {
+            self.carry(message.time, &frame, out);
+        }
+    }
+}

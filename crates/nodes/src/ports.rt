@@ -1,0 +1,120 @@
+ghost use Rattle.std.specs.Prelude.{◌≡◌, ◌+◌, ◌<◌, ◌≤◌, IsTrue, length};
+ghost use Rattle.vlink.specs.Numbering.{greatest_number};
+ghost use Rattle.nodes.specs.Sending.{replied};
+ghost use Rattle.nodes.specs.Ports.{answered, changed, reply, start, wire_at};
+ghost use Rattle.nodes.specs.Undoing.{port_kept, restored, IsPortValue, PortCameFrom};
+
+use crate::outbound::Outbound;
+use output_port::{Port, PortAnswer, PortEvent, PortRecord};
+use reverse::Reversible;
+use std::marker::Model;
+use vlink::{Body, Cause, Frame, Time, busy_ns, last_bit_ns};
+
+/// The line that a port leads into.
+#[derive(Clone, Copy, Debug, PartialEq, Eq)]
+pub struct Wire {
+    /// The process of the line.
+    pub line: u16,
+    /// How long a byte takes, in ns.
+    pub byte_ns: u16,
+}
+
+/// The output ports of a node: for each port number the line that it leads into, if there is such a port, and the port.
+#[derive(Debug, Drop)]
+pub struct Ports {
+    wires: Vec<Option<Wire>>,
+    ports: Vec<Port>,
+}
+
+impl Model for Ports {
+    ghost use Rattle.nodes.specs.Ports.{PortsState};
+
+    ghost Value = { PortsState };
+
+    ghost view = { λ p. record { wires = p.wires.items; states = p.ports.items } };
+}
+
+impl Ports {
+    /// The line of a port, if there is such a port.
+    pub fn wire(&self, port: u8) -> Option<Wire>
+        ensures { result ≡ wire_at self.now port }
+    {
+        match self.wires.get(usize::from(port)) {
+            Some(wire) => *wire,
+            None => None,
+        }
+    }
+
+    /// Asks a port to do something at this moment, and sends and notes what follows. Nothing happens where there is no such port.
+    pub fn act(
+        &mut self,
+        at: Time,
+        port: u8,
+        event: &PortEvent,
+        out: &mut Outbound,
+    ) -> Option<PortRecord>
+        requires room { length out.old.messages + 2 ≤ 24 }
+        requires notes { length out.old.notes < 2 }
+        requires numbers { out.old.sender.counter + 2 ≤ greatest_number }
+        ensures state { self.new ≡ changed port event.now self.old }
+        ensures reply { out.new ≡ replied out.old (reply out.old.sender.number at port event.now self.old) }
+        ensures kept { result ≡ port_kept port event.now self.old }
+        ensures valid { IsPortValue port self.old }
+    {
+        let wire = self.wire(port)?;
+        let state = self.ports.get_mut(usize::from(port))?;
+        let (answer, kept) = state.apply(event);
+        answer_event(out, at, port, wire, event, answer);
+        Some(kept)
+    }
+
+    /// Takes an event at a port back.
+    pub fn undo(&mut self, port: u8, event: &PortEvent, kept: Option<PortRecord>)
+        requires { PortCameFrom port event.now self.old kept }
+        ensures { self.new ≡ restored port kept self.old }
+    {
+        let Some(kept) = kept else { return };
+        if let Some(state) = self.ports.get_mut(usize::from(port)) {
+            state.undo(event, kept);
+        }
+    }
+}
+
+/// Sends and notes what follows from a port's answer.
+fn answer_event(
+    out: &mut Outbound,
+    at: Time,
+    port: u8,
+    wire: Wire,
+    event: &PortEvent,
+    answer: PortAnswer,
+)
+    requires room { length out.old.messages + 2 ≤ 24 }
+    requires notes { length out.old.notes < 2 }
+    requires numbers { out.old.sender.counter + 2 ≤ greatest_number }
+    ensures { out.new ≡ replied out.old (answered out.old.sender.number at port wire event.now answer) }
+{
+    match answer {
+        PortAnswer::Started(frame) => start(out, at, port, wire, frame),
+        PortAnswer::Dropped => {
+            if let PortEvent::Put { frame, .. } = *event {
+                out.lose(Cause::PortFull, &frame);
+            }
+        }
+        PortAnswer::Kept | PortAnswer::Idle | PortAnswer::Nothing => {}
+    }
+}
+
+/// The frame starts: its last bit is carried into the line, and then the port is free.
+fn start(out: &mut Outbound, at: Time, port: u8, wire: Wire, frame: Frame)
+    requires room { length out.old.messages + 2 ≤ 24 }
+    requires numbers { out.old.sender.counter + 2 ≤ greatest_number }
+    ensures { out.new ≡ replied out.old (start out.old.sender.number at port wire frame) }
+{
+    let byte_ns = u32::from(wire.byte_ns);
+    let last_bit = at.ns() + last_bit_ns(frame.size, byte_ns);
+    let free = at.ns() + busy_ns(frame.size, byte_ns);
+    let number = out.number();
+    out.send(last_bit, wire.line, Body::Carry { frame });
+    out.send(free, number, Body::PortFree { port });
+}
