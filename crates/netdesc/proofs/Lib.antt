@@ -5,3 +5,6 @@ pub mod JoinLemmas
 pub mod WayLemmas
 pub mod DoubleLemmas
 pub mod BuildLemmas
+pub mod LimitLemmas
+pub mod PortLemmas
+pub mod RisingLemmas
