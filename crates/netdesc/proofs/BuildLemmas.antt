@@ -164,8 +164,10 @@ pub lines-below : (plan : Plan) → IsAccepted plan → All (BothNodes (λ n. n 
 lines-below plan accepted =
     All-from_recursion (BothNodes (λ n. n < length plan.nodes)) (lines_of plan) (lines-from-links (λ n. n < length plan.nodes) plan.nodes [] plan.links (ends-below plan accepted))
 
+-- what holds of all items holds of the one that is read
+pub read-item : {X : Type 0} (P : X → Type 0) (xs : List X) (i : ℕ) (x : X) → All P xs → slice_get xs i ≡ Some x → P x
+read-item P xs i x all read = subst P (get_or_from_slice_get xs i x x read) (all i x (slice_get_within xs i x read))
+
 -- the line that is read leads from a node to a node
 pub line-read : (plan : Plan) (k : ℕ) (line : Line) → IsAccepted plan → slice_get (lines_of plan) k ≡ Some line → BothNodes (λ n. n < length plan.nodes) line
-line-read plan k line accepted read =
-    let lt = slice_get_within (lines_of plan) k line read in
-    subst (BothNodes (λ n. n < length plan.nodes)) (get_or_from_slice_get (lines_of plan) k line line read) (lines-below plan accepted k line lt)
+line-read plan k line accepted read = read-item (BothNodes (λ n. n < length plan.nodes)) (lines_of plan) k line (lines-below plan accepted) read

@@ -8,3 +8,4 @@ pub mod BuildLemmas
 pub mod LimitLemmas
 pub mod PortLemmas
 pub mod RisingLemmas
+pub mod SourceLemmas

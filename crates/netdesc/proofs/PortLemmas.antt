@@ -24,7 +24,7 @@ use Rattle.netdesc.specs.Wiring.{is_end_system, is_switch_of}
 use Rattle.netdesc.specs.Lines.{port_at, directions, lines_of}
 use Rattle.netdesc.specs.Faults.{faults_of, unknown_names, double_names, not_links, not_trees, too_many, too_many_at_node, touches}
 use Rattle.netdesc.specs.Accepted.{IsAccepted}
-use Rattle.netdesc.proofs.BuildLemmas.{BothEnds, front-none, behind-none, when-none, ends-below}
+use Rattle.netdesc.proofs.BuildLemmas.{BothEnds, front-none, behind-none, when-none, ends-below, read-item}
 use Rattle.netdesc.proofs.EachLemmas.{each-at, length-before}
 use Rattle.netdesc.proofs.LimitLemmas.{bounds}
 
@@ -131,4 +131,4 @@ line-within plan k line accepted read =
     let none_here : each (too_many_at_node plan.nodes plan.links) plan.nodes ≡ [] = rw (stands.nodes, stands.links) none in
     let times : AllByRecursion IsLinkTimely plan.links = subst (AllByRecursion IsLinkTimely) (sym stands.links) (links-timely (names_of rows.nodes) rows.links (recursion_from_All IsLinkWithin rows.links accepted.within.links)) in
     let all : All IsLineWithin (lines_of plan) = All-from_recursion IsLineWithin (lines_of plan) (lines-within plan.nodes [] plan.links (λ n. few-links plan.nodes plan.links n none_here) (ends-below plan accepted) times) in
-    subst IsLineWithin (get_or_from_slice_get (lines_of plan) k line line read) (all k line (slice_get_within (lines_of plan) k line read))
+    read-item IsLineWithin (lines_of plan) k line all read

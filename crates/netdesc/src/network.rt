@@ -1,18 +1,19 @@
-ghost use Rattle.std.specs.Prelude.{◌≡◌, ◌*◌, ◌<◌, ◌≤◌, Some, length, slice_get};
+ghost use Rattle.std.specs.Prelude.{◌≡◌, ◌*◌, ◌<◌, ◌≤◌, true, Some, length, slice_get};
 ghost use Rattle.std.specs.List.Sorted.{IsStrictlyIncreasing};
-ghost use Rattle.std.specs.Option.{option_map};
+ghost use Rattle.std.specs.Option.{option_map, option_and_then};
 ghost use Rattle.vlink.specs.declared.time.TheConstants.{LATEST_NS};
 ghost use Rattle.network_rows.specs.declared.table.TheConstants.{SECOND_NS};
 ghost use Rattle.netdesc.specs.declared.limits.TheConstants.{GREATEST_PROCESSES, GREATEST_PORTS};
 ghost use Rattle.netdesc.specs.Accepted.{ids_of};
 ghost use Rattle.netdesc.specs.Limits.{IsLinkInLimits, IsKindInLimits};
+ghost use Rattle.netdesc.specs.Wiring.{is_end_system};
 ghost use Rattle.netdesc.specs.Trees.{source_of, destinations_of};
 ghost use Rattle.netdesc.specs.Faults.{process_count};
 ghost use Rattle.netdesc.specs.Lines.{lines_of, node_name, line_name, outages_of, departures_of, arrivals_of, place_of_vl};
 
 use crate::numbered::Numbered;
 use crate::tables::Tables;
-use crate::trees::source_among;
+use crate::trees::source_of;
 use crate::vl::VirtualLink;
 use crate::wiring::{Line, Outage, Way};
 use network_rows::{NodeKind, NodeRow};
@@ -196,17 +197,14 @@ impl Network {
         self.numbered.vls[vl].link
     }
 
-    /// Where the frames of a virtual link begin.
-    pub fn source(&self, vl: usize) -> Option<usize>
+    /// Where the frames of a virtual link begin: an end system.
+    pub fn source(&self, vl: usize) -> usize
         requires { vl < length self.now.vls }
-        ensures { option_map source_of (slice_get self.now.vls vl) ≡ Some result }
+        ensures value { option_and_then source_of (slice_get self.now.vls vl) ≡ Some result }
+        ensures node { result < length self.now.nodes }
+        ensures end_system { is_end_system self.now.nodes result ≡ true }
     {
-        let routed = &self.numbered.vls[vl];
-        if routed.a.is_empty() {
-            source_among(&routed.b)
-        } else {
-            source_among(&routed.a)
-        }
+        source_of(&self.numbered.vls[vl]).unwrap()
     }
 
     /// Where the frames of a virtual link end, rising.
