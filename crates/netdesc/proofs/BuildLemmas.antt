@@ -73,7 +73,7 @@ pub behind-none : {X : Type 0} (xs ys : List X) → xs ++ ys ≡ [] → ys ≡ [
 behind-none [] ys h = h
 behind-none (x ∷ xs) ys h = cc
 
-when-none : (test : Bool) (fault : DescFault) → when test fault ≡ [] → test ≡ false
+pub when-none : (test : Bool) (fault : DescFault) → when test fault ≡ [] → test ≡ false
 when-none true fault h = cc
 when-none false fault h = refl
 
@@ -147,22 +147,27 @@ links-below names earlier (row ∷ rows) none =
     let later : each_after (unknown_at_link names) (earlier ++ row ∷ []) rows ≡ [] = behind-none (unknown_at_link names earlier row) _ none in
     ((number_of-below names row.a (when-none _ _ (behind-none _ _ (front-none _ _ here))), number_of-below names row.b (when-none _ _ (behind-none _ _ here))), links-below names (earlier ++ row ∷ []) rows later)
 
--- the lines of a network lead from nodes to nodes
-pub lines-below : (plan : Plan) → IsAccepted plan → All (BothNodes (λ n. n < length plan.nodes)) (lines_of plan)
-lines-below plan accepted =
+-- the links of a network end at nodes
+pub ends-below : (plan : Plan) → IsAccepted plan → AllByRecursion (BothEnds (λ n. n < length plan.nodes)) plan.links
+ends-below plan accepted =
     let rows = accepted.rows in
     let stands = accepted.stands in
     let names = names_of rows.nodes in
     let unknown : unknown_names rows ≡ [] = front-none _ _ (front-none _ _ (front-none _ _ (front-none _ _ stands.none))) in
     let known : each (unknown_at_link names) rows.links ≡ [] = behind-none _ _ (front-none _ _ (front-none _ _ unknown)) in
     let count : length names ≡ length plan.nodes = length-map rows.nodes (λ node. node.name) ∙ sym (length-map rows.nodes node_plan) ∙ ap length (sym stands.nodes) in
-    let links : AllByRecursion (BothEnds (λ n. n < length plan.nodes)) plan.links =
     subst (AllByRecursion (BothEnds (λ n. n < length plan.nodes))) (sym stands.links)
-    (subst (λ m. AllByRecursion (BothEnds (λ n. n < m)) (map (link_plan names) rows.links)) count (links-below names [] rows.links known)) in
-    All-from_recursion (BothNodes (λ n. n < length plan.nodes)) (lines_of plan) (lines-from-links (λ n. n < length plan.nodes) plan.nodes [] plan.links links)
+    (subst (λ m. AllByRecursion (BothEnds (λ n. n < m)) (map (link_plan names) rows.links)) count (links-below names [] rows.links known))
+
+-- the lines of a network lead from nodes to nodes
+pub lines-below : (plan : Plan) → IsAccepted plan → All (BothNodes (λ n. n < length plan.nodes)) (lines_of plan)
+lines-below plan accepted =
+    All-from_recursion (BothNodes (λ n. n < length plan.nodes)) (lines_of plan) (lines-from-links (λ n. n < length plan.nodes) plan.nodes [] plan.links (ends-below plan accepted))
+
+-- what holds of all items holds of the one that is read
+pub read-item : {X : Type 0} (P : X → Type 0) (xs : List X) (i : ℕ) (x : X) → All P xs → slice_get xs i ≡ Some x → P x
+read-item P xs i x all read = subst P (get_or_from_slice_get xs i x x read) (all i x (slice_get_within xs i x read))
 
 -- the line that is read leads from a node to a node
 pub line-read : (plan : Plan) (k : ℕ) (line : Line) → IsAccepted plan → slice_get (lines_of plan) k ≡ Some line → BothNodes (λ n. n < length plan.nodes) line
-line-read plan k line accepted read =
-    let lt = slice_get_within (lines_of plan) k line read in
-    subst (BothNodes (λ n. n < length plan.nodes)) (get_or_from_slice_get (lines_of plan) k line line read) (lines-below plan accepted k line lt)
+line-read plan k line accepted read = read-item (BothNodes (λ n. n < length plan.nodes)) (lines_of plan) k line (lines-below plan accepted) read

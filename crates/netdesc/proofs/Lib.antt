@@ -5,3 +5,7 @@ pub mod JoinLemmas
 pub mod WayLemmas
 pub mod DoubleLemmas
 pub mod BuildLemmas
+pub mod LimitLemmas
+pub mod PortLemmas
+pub mod RisingLemmas
+pub mod SourceLemmas

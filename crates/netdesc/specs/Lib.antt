@@ -11,3 +11,4 @@ pub mod Views
 pub mod Parts
 pub mod Tables
 pub mod Description
+pub mod Limits

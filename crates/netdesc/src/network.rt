@@ -1,13 +1,19 @@
-ghost use Rattle.std.specs.Prelude.{◌≡◌, ◌*◌, ◌<◌, ◌≤◌, Some, length, slice_get};
-ghost use Rattle.std.specs.Option.{option_map};
-ghost use Rattle.netdesc.specs.declared.limits.TheConstants.{GREATEST_PROCESSES};
+ghost use Rattle.std.specs.Prelude.{◌≡◌, ◌*◌, ◌<◌, ◌≤◌, true, Some, length, slice_get};
+ghost use Rattle.std.specs.List.Sorted.{IsStrictlyIncreasing};
+ghost use Rattle.std.specs.Option.{option_map, option_and_then};
+ghost use Rattle.vlink.specs.declared.time.TheConstants.{LATEST_NS};
+ghost use Rattle.network_rows.specs.declared.table.TheConstants.{SECOND_NS};
+ghost use Rattle.netdesc.specs.declared.limits.TheConstants.{GREATEST_PROCESSES, GREATEST_PORTS};
+ghost use Rattle.netdesc.specs.Accepted.{ids_of};
+ghost use Rattle.netdesc.specs.Limits.{IsLinkInLimits, IsKindInLimits};
+ghost use Rattle.netdesc.specs.Wiring.{is_end_system};
 ghost use Rattle.netdesc.specs.Trees.{source_of, destinations_of};
 ghost use Rattle.netdesc.specs.Faults.{process_count};
 ghost use Rattle.netdesc.specs.Lines.{lines_of, node_name, line_name, outages_of, departures_of, arrivals_of, place_of_vl};
 
 use crate::numbered::Numbered;
 use crate::tables::Tables;
-use crate::trees::source_among;
+use crate::trees::source_of;
 use crate::vl::VirtualLink;
 use crate::wiring::{Line, Outage, Way};
 use network_rows::{NodeKind, NodeRow};
@@ -72,7 +78,9 @@ impl Network {
 
     /// The end of a run: its last moment.
     pub fn until(&self) -> Time
-        ensures { result ≡ self.now.until }
+        ensures value { result ≡ self.now.until }
+        ensures least { 1 ≤ result }
+        ensures greatest { result ≤ LATEST_NS }
     {
         self.until
     }
@@ -111,7 +119,8 @@ impl Network {
     /// What a node is.
     pub fn kind(&self, node: usize) -> NodeKind
         requires { node < length self.now.nodes }
-        ensures { option_map (λ node. node.kind) (slice_get self.now.nodes node) ≡ Some result }
+        ensures value { option_map (λ node. node.kind) (slice_get self.now.nodes node) ≡ Some result }
+        ensures limits { IsKindInLimits result }
     {
         self.nodes[node].kind
     }
@@ -146,6 +155,12 @@ impl Network {
         ensures value { slice_get (lines_of self.now) line ≡ Some result }
         ensures from { result.from < length self.now.nodes }
         ensures to { result.to < length self.now.nodes }
+        ensures from_port { result.from_port < GREATEST_PORTS }
+        ensures to_port { result.to_port < GREATEST_PORTS }
+        ensures byte { 1 ≤ result.byte_ns }
+        ensures greatest_byte { result.byte_ns ≤ 800 }
+        ensures propagation { 1 ≤ result.propagation_ns }
+        ensures greatest_propagation { result.propagation_ns ≤ SECOND_NS }
     {
         self.tables.lines[line]
     }
@@ -160,7 +175,8 @@ impl Network {
 
     /// How many virtual links there are. They have the places 0, 1, .. in the order of their numbers.
     pub fn vl_count(&self) -> usize
-        ensures { result ≡ length self.now.vls }
+        ensures value { result ≡ length self.now.vls }
+        ensures rising { IsStrictlyIncreasing (ids_of self.now.vls) }
     {
         self.numbered.vls.len()
     }
@@ -175,22 +191,20 @@ impl Network {
     /// What is agreed of the frames of the virtual link with this place.
     pub fn virtual_link(&self, vl: usize) -> VirtualLink
         requires { vl < length self.now.vls }
-        ensures { option_map (λ vl. vl.link) (slice_get self.now.vls vl) ≡ Some result }
+        ensures value { option_map (λ vl. vl.link) (slice_get self.now.vls vl) ≡ Some result }
+        ensures limits { IsLinkInLimits result }
     {
         self.numbered.vls[vl].link
     }
 
-    /// Where the frames of a virtual link begin.
-    pub fn source(&self, vl: usize) -> Option<usize>
+    /// Where the frames of a virtual link begin: an end system.
+    pub fn source(&self, vl: usize) -> usize
         requires { vl < length self.now.vls }
-        ensures { option_map source_of (slice_get self.now.vls vl) ≡ Some result }
+        ensures value { option_and_then source_of (slice_get self.now.vls vl) ≡ Some result }
+        ensures node { result < length self.now.nodes }
+        ensures end_system { is_end_system self.now.nodes result ≡ true }
     {
-        let routed = &self.numbered.vls[vl];
-        if routed.a.is_empty() {
-            source_among(&routed.b)
-        } else {
-            source_among(&routed.a)
-        }
+        source_of(&self.numbered.vls[vl]).unwrap()
     }
 
     /// Where the frames of a virtual link end, rising.

@@ -4,7 +4,7 @@ ghost use Rattle.std.specs.Option.{option_copied};
 ghost use Rattle.netdesc.specs.Rows.{each};
 ghost use Rattle.netdesc.specs.Plan.{VlPlan, node_plan};
 ghost use Rattle.netdesc.specs.Wiring.{passes, is_end_system, is_switch_of};
-ghost use Rattle.netdesc.specs.Trees.{has_double, inner_of, is_bad_path, source_among, differ, begin_apart, is_no_tree};
+ghost use Rattle.netdesc.specs.Trees.{has_double, inner_of, is_bad_path, source_among, source_of, differ, begin_apart, is_no_tree};
 ghost use Rattle.netdesc.specs.Faults.{no_tree_at_vl};
 ghost use Rattle.netdesc.specs.Finding.{Finds};
 ghost use Rattle.netdesc.specs.Views.{Tests, lists_of, vl_view};
@@ -88,12 +88,23 @@ fn differ(x: Option<usize>, y: Option<usize>) -> bool
 }
 
 /// Where the first path begins.
-pub fn source_among(paths: &Vec<Vec<usize>>) -> Option<usize>
+fn source_among(paths: &Vec<Vec<usize>>) -> Option<usize>
     ensures { result ≡ source_among (lists_of paths.now) }
 {
     match paths.first() {
         Some(path) => path.first().copied(),
         None => None,
+    }
+}
+
+/// Where the frames of a virtual link begin, if it has a path.
+pub fn source_of(vl: &Routed) -> Option<usize>
+    ensures { result ≡ source_of (vl_view vl.now) }
+{
+    if vl.a.is_empty() {
+        source_among(&vl.b)
+    } else {
+        source_among(&vl.a)
     }
 }
 

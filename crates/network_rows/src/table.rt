@@ -21,8 +21,8 @@ macro_rules! rule {
 /// The sections that are lists of tables, in the order of checks.
 pub const LISTS: [Section; 4] = [Section::Node, Section::Link, Section::Outage, Section::Vl];
 
-// The greatest time that something takes, and the greatest jitter, in ns.
-const SECOND_NS: u64 = 1_000_000_000;
+/// The greatest time that something takes, and the greatest jitter, in ns.
+pub const SECOND_NS: u64 = 1_000_000_000;
 
 // The bandwidth allocation gaps, in ms (ARINC 664 Part 7).
 const BAGS_MS: [u64; 8] = [1, 2, 4, 8, 16, 32, 64, 128];

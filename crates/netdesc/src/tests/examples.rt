@@ -43,7 +43,7 @@ fn twenty_virtual_links_on_two_networks(rt: HostRuntime) -> Result<(), Fail> {
     assert_eq!(rt; (network.process_count(), network.vl_count()), (12, 20));
     for place in 0..network.vl_count() {
         assert_eq!(rt; network.virtual_link(place).id.0 as usize, place + 1);
-        assert_eq!(rt; network.source(place), Some(0));
+        assert_eq!(rt; network.source(place), 0);
         assert_eq!(rt; network.destinations(place), [1usize].as_slice());
     }
     Ok(())
@@ -55,7 +55,7 @@ fn a_virtual_link_each_way(rt: HostRuntime) -> Result<(), Fail> {
     let network = read(rt.alloc(), &format!(in rt.alloc(); "{ONE_SWITCH}{back}")?)?;
     assert_eq!(rt; (network.process_count(), network.vl_count()), (7, 2));
     assert!(rt; 1 < network.vl_count());
-    assert_eq!(rt; (network.source(0), network.source(1)), (Some(0), Some(1)));
+    assert_eq!(rt; (network.source(0), network.source(1)), (0, 1));
     assert_eq!(rt; network.destinations(1), [0usize].as_slice());
     Ok(())
 }

@@ -78,7 +78,7 @@ fn a_virtual_link_is_found_by_its_number(rt: HostRuntime) -> Result<(), Fail> {
     assert_eq!(rt; network.place_of(VlId(65535)), None);
     assert!(rt; 0 < network.vl_count());
     assert_eq!(rt; network.virtual_link(0).bag_ms, 1);
-    assert_eq!(rt; network.source(0), Some(0));
+    assert_eq!(rt; network.source(0), 0);
     assert_eq!(rt; network.destinations(0), [1usize].as_slice());
     Ok(())
 }
@@ -101,8 +101,8 @@ fn virtual_links_are_in_the_order_of_their_numbers(rt: HostRuntime) -> Result<()
     assert_eq!(rt; network.place_of(VlId(0)), Some(0));
     assert_eq!(rt; network.place_of(VlId(1)), Some(1));
     assert!(rt; 1 < network.vl_count());
-    assert_eq!(rt; network.source(0), Some(1));
-    assert_eq!(rt; network.source(1), Some(0));
+    assert_eq!(rt; network.source(0), 1);
+    assert_eq!(rt; network.source(1), 0);
     Ok(())
 }
 

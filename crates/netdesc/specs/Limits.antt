@@ -1,0 +1,25 @@
+-- Which numbers a network has, as the limits of the keys of its description leave them. Times are in ns, and the bandwidth allocation gap is in ms.
+use Rattle.std.specs.Prelude.{ℕ, ◌≤◌, ⊤}
+use Rattle.vlink.specs.declared.time.TheConstants.{LATEST_NS}
+use Rattle.network_rows.specs.declared.table.TheConstants.{SECOND_NS}
+use Rattle.network_rows.specs.declared.rows.NodeKind.{NodeKind}
+use Rattle.network_rows.specs.declared.rows.NodeKind.TheVariants.{EndSystem, Switch}
+use Rattle.netdesc.specs.declared.vl.VirtualLink.{VirtualLink}
+
+-- what is agreed of the frames of a virtual link; their sizes are within the limits of all frames
+pub record IsLinkInLimits (link : VirtualLink) : Type 0 where
+  pub least_bag : 1 ≤ link.bag_ms
+  pub greatest_bag : link.bag_ms ≤ 128
+  pub policing_jitter : link.policing_jitter_ns ≤ SECOND_NS
+  pub skew_max : link.skew_max_ns ≤ SECOND_NS
+  pub least_depth : 1 ≤ link.depth
+  pub greatest_depth : link.depth ≤ 1024
+  pub offset : link.offset_ns ≤ LATEST_NS
+  pub least_period : 1000 ≤ link.period_ns
+  pub greatest_period : link.period_ns ≤ LATEST_NS
+  pub jitter : link.jitter_ns ≤ SECOND_NS
+
+-- how long a frame takes through a switch
+abbrev pub IsKindInLimits : NodeKind → Type 0
+IsKindInLimits EndSystem = ⊤
+IsKindInLimits (Switch net latency_ns) = (1 ≤ latency_ns) × (latency_ns ≤ SECOND_NS)
