@@ -1,8 +1,11 @@
 pub mod EndSystem
+pub mod EndSystemUndoing
 pub mod Finding
 pub mod Line
 pub mod Node
+pub mod NodeUndoing
 pub mod Ports
 pub mod Sending
 pub mod Switch
+pub mod SwitchUndoing
 pub mod Undoing

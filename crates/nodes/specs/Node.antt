@@ -6,8 +6,8 @@ use Rattle.nodes.specs.Sending.{Wish, Reply, Sender, sent, after_sending}
 use Rattle.nodes.specs.EndSystem.{EndSystemState, EndSystemOutcome, end_system}
 use Rattle.nodes.specs.Switch.{SwitchState, SwitchOutcome, switch}
 use Rattle.nodes.specs.Line.{LineState, line}
-use Rattle.nodes.specs.declared.node.Part.{Part}
-use Rattle.nodes.specs.declared.node.Part.TheVariants.{EndSystem, Switch, Line}
+use Rattle.nodes.specs.declared.part.Part.{Part}
+use Rattle.nodes.specs.declared.part.Part.TheVariants.{EndSystem, Switch, Line}
 
 -- a process: what it is, and the number of its next message
 pub record NodeState : Type 0 where

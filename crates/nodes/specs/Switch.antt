@@ -7,6 +7,7 @@ use Rattle.vlink.specs.declared.message.Body.{Body}
 use Rattle.vlink.specs.declared.message.Body.TheVariants.{Offer, Release, PortFree, Arrive, Enqueue, Carry}
 use Rattle.vlink.specs.declared.note.Cause.TheVariants.{Unknown, TooLong, Policed}
 use Rattle.policer.specs.Account.{Policing, account}
+use Rattle.policer.specs.declared.account.Arrival.{Arrival}
 use Rattle.policer.specs.declared.account.Verdict.{Verdict}
 use Rattle.policer.specs.declared.account.Verdict.TheVariants as verdict
 use Rattle.output_port.specs.declared.event.PortEvent.{PortEvent}
@@ -65,7 +66,7 @@ transit_at s vl = option_and_then (λ i. transit_with i (slice_get s.transits i)
 -- the account judges the frame
 abbrev pub policed : ℕ → ℕ → Frame → TransitAt → SwitchState → SwitchOutcome
 policed n t frame found s =
-    let arrival = record { at = t; size = frame.size } in
+    let arrival : Arrival = record { at = t; size = frame.size } in
     record {
       state = record s { accounts = slice_set s.accounts found.place (account.after found.account arrival) };
       reply = judged n (t + s.latency) frame (outputs_of found.transit) (account.out found.account arrival);

@@ -1,5 +1,5 @@
 -- The records that are kept of an event at a port of a node, and the ports before it.
-use Rattle.std.specs.Prelude.{◌≡◌, ℕ, ⊤, List, Option, None, Some, slice_get, slice_set}
+use Rattle.std.specs.Prelude.{◌≡◌, ℕ, All, Option, None, Some, slice_get, slice_set}
 use Rattle.output_port.specs.Port.{PortState, port, undone, IsWithinBytes}
 use Rattle.output_port.specs.declared.event.PortEvent.{PortEvent}
 use Rattle.output_port.specs.declared.event.PortRecord.{PortRecord}
@@ -24,14 +24,6 @@ restored_at q ports None p = ports
 abbrev pub restored : ℕ → Option PortRecord → PortsState → PortsState
 restored q kept ports = restored_at q ports kept (slice_get ports.states q)
 
--- what waits at port q is a value of its type
-abbrev pub IsWithin : Option PortState → Type 0
-IsWithin (Some p) = IsWithinBytes p
-IsWithin None = ⊤
-
-abbrev pub IsPortValue : ℕ → PortsState → Type 0
-IsPortValue q ports = IsWithin (slice_get ports.states q)
-
--- the ports now and the record came from this event at port q
+-- the ports now and the record came from this event at port q, where what waited was a value of its type
 abbrev pub PortCameFrom : ℕ → PortEvent → PortsState → Option PortRecord → Type 0
-PortCameFrom q e now kept = (ports : PortsState) × IsPortValue q ports × (now ≡ changed q e ports) × (kept ≡ port_kept q e ports)
+PortCameFrom q e now kept = (ports : PortsState) × All IsWithinBytes ports.states × (now ≡ changed q e ports) × (kept ≡ port_kept q e ports)

@@ -1,8 +1,9 @@
-ghost use Rattle.std.specs.Prelude.{◌≡◌, ◌+◌, ◌<◌, ◌≤◌, IsTrue, length};
+ghost use Rattle.std.specs.Prelude.{◌≡◌, ◌+◌, ◌<◌, ◌≤◌, All, length};
 ghost use Rattle.vlink.specs.Numbering.{greatest_number};
+ghost use Rattle.output_port.specs.Port.{IsWithinBytes};
 ghost use Rattle.nodes.specs.Sending.{replied};
-ghost use Rattle.nodes.specs.Ports.{answered, changed, reply, start, wire_at};
-ghost use Rattle.nodes.specs.Undoing.{port_kept, restored, IsPortValue, PortCameFrom};
+ghost use Rattle.nodes.specs.Ports.{answered, changed, exists, reply, start, wire_at};
+ghost use Rattle.nodes.specs.Undoing.{port_kept, restored, PortCameFrom};
 
 use crate::outbound::Outbound;
 use output_port::{Port, PortAnswer, PortEvent, PortRecord};
@@ -45,6 +46,13 @@ impl Ports {
         }
     }
 
+    /// Whether there is such a port.
+    pub fn exists(&self, port: u8) -> bool
+        ensures { result ≡ exists self.now port }
+    {
+        self.wire(port).is_some()
+    }
+
     /// Asks a port to do something at this moment, and sends and notes what follows. Nothing happens where there is no such port.
     pub fn act(
         &mut self,
@@ -59,7 +67,7 @@ impl Ports {
         ensures state { self.new ≡ changed port event.now self.old }
         ensures reply { out.new ≡ replied out.old (reply out.old.sender.number at port event.now self.old) }
         ensures kept { result ≡ port_kept port event.now self.old }
-        ensures valid { IsPortValue port self.old }
+        ensures valid { All IsWithinBytes self.old.states }
     {
         let wire = self.wire(port)?;
         let state = self.ports.get_mut(usize::from(port))?;

@@ -1,19 +1,22 @@
-ghost use Rattle.std.specs.Prelude.{◌≡◌, ◌+◌, ◌<◌, ◌≤◌, [], length, slice_get};
+ghost use Rattle.std.specs.Prelude.{◌≡◌, ◌+◌, ◌<◌, ◌≤◌, All, [], length, slice_get, IfSome};
+ghost use Rattle.std.specs.Option.{option_map};
 ghost use Rattle.vlink.specs.Numbering.{greatest_number};
-ghost use Rattle.nodes.specs.Sending.{replied, silent};
-ghost use Rattle.nodes.specs.Switch.{SwitchState, arrived, enqueued, forwarded, outputs_of, policed, switch};
-ghost use Rattle.nodes.specs.SwitchUndoing.{kept_of, restored, SwitchCameFrom, IsSwitchValue};
+ghost use Rattle.output_port.specs.Port.{IsWithinBytes};
+ghost use Rattle.policer.specs.Account.{cap};
+ghost use Rattle.nodes.specs.Sending.{replied};
+ghost use Rattle.nodes.specs.Switch.{forwarded, marked_from, outputs_of, switch, taken, put, at_port, TransitAt, transit_at};
+ghost use Rattle.nodes.specs.SwitchUndoing.{taken_kept, put_kept, switch_kept, switch_restored, unported, unpoliced, SwitchCameFrom, IsSwitchValue};
 
 use crate::kept::Kept;
 use crate::numbers::Numbers;
 use crate::outbound::Outbound;
 use crate::ports::Ports;
 use crate::transit::Transit;
-use output_port::PortEvent;
+use output_port::{PortEvent, Priority};
 use policer::{Account, Arrival, Verdict};
 use reverse::Reversible;
 use std::marker::Model;
-use vlink::{Body, Cause, Frame, Message, Time};
+use vlink::{Body, Cause, Frame, Message, Time, VlId};
 
 /// A switch: it polices each frame that comes in, and after its delay puts it to the output ports of its virtual link
 /// (ARINC 664 Part 7; that the delay is one fixed time is this project's profile).
@@ -24,4 +27,124 @@ pub struct Switch {
     transits: Vec<Transit>,
     accounts: Vec<Account>,
     ports: Ports,
+}
+
+impl Model for Switch {
+    ghost use Rattle.std.specs.Prelude.{◌≡◌};
+    ghost use Rattle.nodes.specs.Switch.{SwitchState, numbers_of};
+
+    ghost Value = { SwitchState };
+
+    ghost view = { λ s. record { latency = s.latency_ns; transits = s.transits.items; accounts = s.accounts.items; ports = s.ports } };
+
+    ghost invariant = { λ s. s.numbers ≡ numbers_of s.transits.items };
+}
+
+impl Switch {
+    /// Handles a message, and gives the record by which it is undone.
+    pub fn handle(&mut self, message: &Message, out: &mut Outbound) -> Kept
+        requires messages { out.old.messages ≡ [] }
+        requires notes { out.old.notes ≡ [] }
+        requires numbers { out.old.sender.counter + 24 ≤ greatest_number }
+        ensures state { self.new ≡ (switch out.old.sender.number message.now.time message.now.body self.old).state }
+        ensures reply { out.new ≡ replied out.old (switch out.old.sender.number message.now.time message.now.body self.old).reply }
+        ensures kept { result ≡ switch_kept message.now.time message.now.body self.old }
+        ensures valid { IsSwitchValue self.old }
+    {
+        let at = message.time;
+        match message.body {
+            Body::PortFree { port } => Kept::Port(self.ports.act(at, port, &PortEvent::Free, out)),
+            Body::Arrive { port, frame } if self.ports.exists(port) => {
+                self.take(at, port, &frame, out)
+            }
+            Body::Enqueue { port, frame } if self.ports.exists(port) => {
+                self.put(at, port, &frame, out)
+            }
+            _ => Kept::Nothing,
+        }
+    }
+
+    /// A frame has come to a port.
+    fn take(&mut self, at: Time, port: u8, frame: &Frame, out: &mut Outbound) -> Kept
+        requires messages { out.old.messages ≡ [] }
+        requires notes { out.old.notes ≡ [] }
+        requires numbers { out.old.sender.counter + 24 ≤ greatest_number }
+        ensures state { self.new ≡ (taken out.old.sender.number at port frame.now self.old (transit_at self.old frame.now.vl)).state }
+        ensures reply { out.new ≡ replied out.old (taken out.old.sender.number at port frame.now self.old (transit_at self.old frame.now.vl)).reply }
+        ensures kept { result ≡ taken_kept at port frame.now (transit_at self.old frame.now.vl) }
+    {
+        let Some(place) = self.numbers.place(frame.vl) else {
+            out.lose(Cause::Unknown, frame);
+            return Kept::Nothing;
+        };
+        let transit = match self.transits.get(place) {
+            Some(transit) => *transit,
+            None => {
+                out.lose(Cause::Unknown, frame);
+                return Kept::Nothing;
+            }
+        };
+        let Some(account) = self.accounts.get_mut(place) else {
+            out.lose(Cause::Unknown, frame);
+            return Kept::Nothing;
+        };
+        if transit.input != port {
+            out.lose(Cause::Unknown, frame);
+            return Kept::Nothing;
+        }
+        if frame.size > transit.smax {
+            out.lose(Cause::TooLong, frame);
+            return Kept::Nothing;
+        }
+        let (verdict, kept) = account.apply(&Arrival { at, size: frame.size });
+        match verdict {
+            Verdict::Passed => forward(at.ns() + u64::from(self.latency_ns), frame, &transit, out),
+            Verdict::Refused => out.lose(Cause::Policed, frame),
+        }
+        Kept::Policed(kept)
+    }
+
+    /// A frame is put to a port, with the priority of its virtual link.
+    fn put(&mut self, at: Time, port: u8, frame: &Frame, out: &mut Outbound) -> Kept
+        requires messages { out.old.messages ≡ [] }
+        requires notes { out.old.notes ≡ [] }
+        requires numbers { out.old.sender.counter + 24 ≤ greatest_number }
+        ensures state { self.new ≡ (put out.old.sender.number at port frame.now self.old (transit_at self.old frame.now.vl)).state }
+        ensures reply { out.new ≡ replied out.old (put out.old.sender.number at port frame.now self.old (transit_at self.old frame.now.vl)).reply }
+        ensures kept { result ≡ put_kept port frame.now self.old (transit_at self.old frame.now.vl) }
+    {
+        let Some(priority) = self.priority(frame.vl) else {
+            out.lose(Cause::Unknown, frame);
+            return Kept::Nothing;
+        };
+        let event = PortEvent::Put { frame: *frame, priority };
+        Kept::Port(self.ports.act(at, port, &event, out))
+    }
+
+    /// The priority of a virtual link that goes through the switch.
+    fn priority(&self, vl: VlId) -> Option<Priority>
+        ensures { result ≡ option_map (λ (found : TransitAt). found.transit.priority) (transit_at self.now vl) }
+    {
+        let place = self.numbers.place(vl)?;
+        let transit = self.transits.get(place)?;
+        if place < self.accounts.len() {
+            Some(transit.priority)
+        } else {
+            None
+        }
+    }
+}
+
+/// A frame that has passed is put to the output ports of its virtual link at the moment `ns`, the ports rising.
+fn forward(ns: u64, frame: &Frame, transit: &Transit, out: &mut Outbound)
+    requires messages { out.old.messages ≡ [] }
+    requires numbers { out.old.sender.counter + 24 ≤ greatest_number }
+    ensures { out.new ≡ replied out.old (forwarded out.old.sender.number ns frame.now (outputs_of transit.now)) }
+{
+    let number = out.number();
+    for port in 0..24 {
+        if transit.outputs[usize::from(port)] {
+            out.send(ns, number, Body::Enqueue { port, frame: *frame });
+        }
+    }
 }

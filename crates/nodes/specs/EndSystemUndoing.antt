@@ -1,0 +1,119 @@
+-- What is kept of an event of an end system, and the end system before it.
+use Rattle.std.specs.Prelude.{◌≡◌, ℕ, All, if◌then◌else◌, Option, None, Some, slice_set}
+use Rattle.vlink.specs.declared.frame.Frame.{Frame}
+use Rattle.vlink.specs.declared.frame.VlId.{VlId}
+use Rattle.vlink.specs.declared.frame.Net.{Net}
+use Rattle.vlink.specs.declared.frame.Net.TheVariants.{A, B}
+use Rattle.vlink.specs.declared.message.Body.{Body}
+use Rattle.vlink.specs.declared.message.Body.TheVariants as body
+use Rattle.bag_regulator.specs.Regulator.{Regulator, regulator, undone, IsRegulator}
+use Rattle.bag_regulator.specs.declared.event.RegEvent.{RegEvent}
+use Rattle.bag_regulator.specs.declared.event.RegEvent.TheVariants.{Offer, Release}
+use Rattle.bag_regulator.specs.declared.event.RegAnswer.{RegAnswer}
+use Rattle.bag_regulator.specs.declared.event.RegAnswer.TheVariants as answer
+use Rattle.bag_regulator.specs.declared.event.RegRecord.{RegRecord}
+use Rattle.output_port.specs.Port.{IsWithinBytes}
+use Rattle.output_port.specs.declared.event.PortEvent.TheVariants.{Free}
+use Rattle.output_port.specs.declared.event.PortRecord.{PortRecord}
+use Rattle.integrity.specs.Integrity.{integrity}
+use Rattle.integrity.specs.declared.checking.Check.{Check}
+use Rattle.integrity.specs.declared.checking.Check.TheVariants as check
+use Rattle.nodes.specs.declared.kept.Kept.{Kept}
+use Rattle.nodes.specs.declared.kept.Kept.TheVariants as kept
+use Rattle.nodes.specs.declared.vl_end.VlEnd.{VlEnd}
+use Rattle.nodes.specs.declared.receiving.Receiving.{Receiving}
+use Rattle.nodes.specs.Ports.{PortsState, exists}
+use Rattle.nodes.specs.EndSystem.{EndSystemState, SourceAt, SinkAt, source_at, sink_at, is_on, port_of, copy, copied, check_of, with_check, offered_frame, end_system}
+use Rattle.nodes.specs.Undoing.{port_kept, restored}
+
+-- a copy is put to the port of its network
+abbrev pub copied_kept : VlEnd → Net → Frame → PortsState → Option PortRecord
+copied_kept end net frame ports = if is_on end net then port_kept (port_of net) (copy net frame) ports else None
+
+-- a regulator is asked to do something, and both copies of the frame that it releases go out
+abbrev pub regulated_kept_by : RegRecord → VlEnd → RegAnswer → PortsState → Kept
+regulated_kept_by k end (answer.Released frame) ports =
+    kept.Regulated k (copied_kept end A frame ports) (copied_kept end B frame (copied end A frame ports))
+regulated_kept_by k end answer.Kept ports = kept.Regulated k None None
+regulated_kept_by k end answer.Dropped ports = kept.Regulated k None None
+regulated_kept_by k end answer.Nothing ports = kept.Regulated k None None
+
+abbrev pub regulated_kept : RegEvent → EndSystemState → Option SourceAt → Kept
+regulated_kept e s None = kept.Nothing
+regulated_kept e s (Some source) =
+    regulated_kept_by (regulator.saves source.regulator e) source.end (regulator.out source.regulator e).answer s.ports
+
+-- a frame has come, and the check of its network says this of it
+abbrev pub delivery_kept : Receiving → Check → Option (Option (ℕ × ℕ))
+delivery_kept r check.Refused = None
+delivery_kept r check.Passed = Some r.redundancy.last
+
+abbrev pub taken_kept : Frame → Option SinkAt → Kept
+taken_kept frame None = kept.Nothing
+taken_kept frame (Some sink) =
+    let check = check_of frame.net sink.receiving in
+    kept.Received check (delivery_kept sink.receiving (integrity.out check frame.number))
+
+abbrev pub end_system_kept : ℕ → Body → EndSystemState → Kept
+end_system_kept t (body.Offer vl size) s = regulated_kept (Offer t (offered_frame t vl size)) s (source_at s vl)
+end_system_kept t (body.Release vl) s = regulated_kept (Release t) s (source_at s vl)
+end_system_kept t (body.PortFree q) s = kept.Port (port_kept q Free s.ports)
+end_system_kept t (body.Arrive q frame) s = if exists s.ports q then taken_kept frame (sink_at s frame.vl frame.net) else kept.Nothing
+end_system_kept t (body.Enqueue q frame) s = kept.Nothing
+end_system_kept t (body.Carry frame) s = kept.Nothing
+
+-- the end system before its regulator was asked: the ports, B first, and the regulator
+abbrev pub unregulated_by : RegRecord → Option PortRecord → Option PortRecord → EndSystemState → Option SourceAt → EndSystemState
+unregulated_by k a b s None = s
+unregulated_by k a b s (Some source) = record s {
+  regulators = slice_set s.regulators source.place (undone source.regulator k.change k.last k.sn);
+  ports = restored 0 a (restored 1 b s.ports);
+}
+
+abbrev pub unregulated : VlId → Kept → EndSystemState → EndSystemState
+unregulated vl (kept.Regulated k a b) s = unregulated_by k a b s (source_at s vl)
+unregulated vl kept.Nothing s = s
+unregulated vl (kept.Port k) s = s
+unregulated vl (kept.Received c d) s = s
+unregulated vl (kept.Policed k) s = s
+
+-- before the frame of port q left
+abbrev pub unfreed : ℕ → Kept → EndSystemState → EndSystemState
+unfreed q (kept.Port k) s = record s { ports = restored q k s.ports }
+unfreed q kept.Nothing s = s
+unfreed q (kept.Regulated k a b) s = s
+unfreed q (kept.Received c d) s = s
+unfreed q (kept.Policed k) s = s
+
+-- before a frame came
+abbrev pub unreceived : Net → Option ℕ → Option (Option (ℕ × ℕ)) → Receiving → Receiving
+unreceived net c None r = with_check net c r
+unreceived net c (Some last) r = with_check net c (record r { redundancy = record r.redundancy { last = last } })
+
+abbrev pub untaken_by : Frame → Option ℕ → Option (Option (ℕ × ℕ)) → EndSystemState → Option SinkAt → EndSystemState
+untaken_by frame c d s None = s
+untaken_by frame c d s (Some sink) = record s { receivers = slice_set s.receivers sink.place (unreceived frame.net c d sink.receiving) }
+
+abbrev pub untaken : Frame → Kept → EndSystemState → EndSystemState
+untaken frame (kept.Received c d) s = untaken_by frame c d s (sink_at s frame.vl frame.net)
+untaken frame kept.Nothing s = s
+untaken frame (kept.Regulated k a b) s = s
+untaken frame (kept.Port k) s = s
+untaken frame (kept.Policed k) s = s
+
+abbrev pub end_system_restored : Body → Kept → EndSystemState → EndSystemState
+end_system_restored (body.Offer vl size) k s = unregulated vl k s
+end_system_restored (body.Release vl) k s = unregulated vl k s
+end_system_restored (body.PortFree q) k s = unfreed q k s
+end_system_restored (body.Arrive q frame) k s = untaken frame k s
+end_system_restored (body.Enqueue q frame) k s = s
+end_system_restored (body.Carry frame) k s = s
+
+-- what waits at the regulators and ports are values of their types
+pub record IsEndSystemValue (s : EndSystemState) : Type 0 where
+  pub ports : All IsWithinBytes s.ports.states
+  pub regulators : All IsRegulator s.regulators
+
+-- the end system now and the record came from this message
+abbrev pub EndSystemCameFrom : ℕ → ℕ → Body → EndSystemState → Kept → Type 0
+EndSystemCameFrom n t body now k = (s : EndSystemState) × IsEndSystemValue s × (now ≡ (end_system n t body s).state) × (k ≡ end_system_kept t body s)

@@ -1,0 +1,42 @@
+-- What is kept of an event of a node, and the node before it.
+use Rattle.std.specs.Prelude.{◌≡◌, ℕ, ◌-◌, ⊤, length}
+use Rattle.vlink.specs.declared.message.Message.{Message}
+use Rattle.reverse.specs.declared.sends.Sends.{Sends}
+use Rattle.reverse.specs.Plain.{Plain}
+use Rattle.nodes.specs.declared.kept.Kept.{Kept}
+use Rattle.nodes.specs.declared.kept.Kept.TheVariants as kept
+use Rattle.nodes.specs.declared.node.NodeRecord.{NodeRecord}
+use Rattle.nodes.specs.declared.part.Part.{Part}
+use Rattle.nodes.specs.declared.part.Part.TheVariants.{EndSystem, Switch, Line}
+use Rattle.nodes.specs.EndSystemUndoing.{end_system_kept, end_system_restored, IsEndSystemValue}
+use Rattle.nodes.specs.SwitchUndoing.{switch_kept, switch_restored, IsSwitchValue}
+use Rattle.nodes.specs.Node.{NodeState, after, sends, notes}
+
+-- the records of the elements that a message changes
+abbrev pub part_kept : Message → Part → Kept
+part_kept m (EndSystem s) = end_system_kept m.time m.body s
+part_kept m (Switch s) = switch_kept m.time m.body s
+part_kept m (Line s) = kept.Nothing
+
+abbrev pub part_restored : Message → Kept → Part → Part
+part_restored m k (EndSystem s) = EndSystem (end_system_restored m.body k s)
+part_restored m k (Switch s) = Switch (switch_restored m.time m.body k s)
+part_restored m k (Line s) = Line s
+
+-- what waits in the elements is a value of its type
+abbrev pub IsPartValue : Part → Type 0
+IsPartValue (EndSystem s) = IsEndSystemValue s
+IsPartValue (Switch s) = IsSwitchValue s
+IsPartValue (Line s) = ⊤
+
+-- a node as an actor: its plain step, the record of an event, and the node before it, whose counter goes back by what was sent
+abbrev pub node : Plain NodeState Message Sends NodeRecord
+node = record {
+  after = after;
+  out = λ s m. record { messages = record { items = sends s m }; notes = record { items = notes s m } };
+  saves = λ s m. record { sends = length (sends s m); kept = part_kept m s.part };
+  before = λ s m k. record {
+    sender = record s.sender { counter = s.sender.counter - k.sends };
+    part = part_restored m k.kept s.part;
+  };
+}

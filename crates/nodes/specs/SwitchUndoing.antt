@@ -1,0 +1,72 @@
+-- What is kept of an event of a switch, and the switch before it.
+use Rattle.std.specs.Prelude.{◌≡◌, ℕ, ◌≤◌, ◌==◌, All, if◌then◌else◌, nat_lt, Option, None, Some, slice_set}
+use Rattle.vlink.specs.declared.frame.Frame.{Frame}
+use Rattle.vlink.specs.declared.message.Body.{Body}
+use Rattle.vlink.specs.declared.message.Body.TheVariants.{Offer, Release, PortFree, Arrive, Enqueue, Carry}
+use Rattle.policer.specs.Account.{Policing, account, cap}
+use Rattle.policer.specs.declared.account.Arrival.{Arrival}
+use Rattle.policer.specs.declared.account.AccountRecord.{AccountRecord}
+use Rattle.output_port.specs.Port.{IsWithinBytes}
+use Rattle.output_port.specs.declared.event.PortEvent.TheVariants.{Put, Free}
+use Rattle.nodes.specs.declared.kept.Kept.{Kept}
+use Rattle.nodes.specs.declared.kept.Kept.TheVariants as kept
+use Rattle.nodes.specs.Ports.{exists}
+use Rattle.nodes.specs.Switch.{SwitchState, TransitAt, transit_at, switch}
+use Rattle.nodes.specs.Undoing.{port_kept, restored}
+
+-- a frame has come to port q
+abbrev pub taken_kept : ℕ → ℕ → Frame → Option TransitAt → Kept
+taken_kept t q frame None = kept.Nothing
+taken_kept t q frame (Some found) =
+    if found.transit.input == q
+    then (if nat_lt found.transit.smax frame.size then kept.Nothing else kept.Policed (account.saves found.account (record { at = t; size = frame.size })))
+    else kept.Nothing
+
+-- a frame is put to port q
+abbrev pub put_kept : ℕ → Frame → SwitchState → Option TransitAt → Kept
+put_kept q frame s None = kept.Nothing
+put_kept q frame s (Some found) = kept.Port (port_kept q (Put frame found.transit.priority) s.ports)
+
+abbrev pub switch_kept : ℕ → Body → SwitchState → Kept
+switch_kept t (Offer vl size) s = kept.Nothing
+switch_kept t (Release vl) s = kept.Nothing
+switch_kept t (PortFree q) s = kept.Port (port_kept q Free s.ports)
+switch_kept t (Arrive q frame) s = if exists s.ports q then taken_kept t q frame (transit_at s frame.vl) else kept.Nothing
+switch_kept t (Enqueue q frame) s = if exists s.ports q then put_kept q frame s (transit_at s frame.vl) else kept.Nothing
+switch_kept t (Carry frame) s = kept.Nothing
+
+-- the switch before an event at port q, and before a frame that its account judged
+abbrev pub unported : ℕ → Kept → SwitchState → SwitchState
+unported q (kept.Port k) s = record s { ports = restored q k s.ports }
+unported q kept.Nothing s = s
+unported q (kept.Regulated g a b) s = s
+unported q (kept.Received c d) s = s
+unported q (kept.Policed k) s = s
+
+abbrev pub unjudged : Arrival → AccountRecord → SwitchState → Option TransitAt → SwitchState
+unjudged arrival k s None = s
+unjudged arrival k s (Some found) = record s { accounts = slice_set s.accounts found.place (account.before found.account arrival k) }
+
+abbrev pub unpoliced : ℕ → Frame → Kept → SwitchState → SwitchState
+unpoliced t frame (kept.Policed k) s = unjudged (record { at = t; size = frame.size }) k s (transit_at s frame.vl)
+unpoliced t frame kept.Nothing s = s
+unpoliced t frame (kept.Regulated g a b) s = s
+unpoliced t frame (kept.Port k) s = s
+unpoliced t frame (kept.Received c d) s = s
+
+abbrev pub switch_restored : ℕ → Body → Kept → SwitchState → SwitchState
+switch_restored t (Offer vl size) k s = s
+switch_restored t (Release vl) k s = s
+switch_restored t (PortFree q) k s = unported q k s
+switch_restored t (Arrive q frame) k s = unpoliced t frame k s
+switch_restored t (Enqueue q frame) k s = unported q k s
+switch_restored t (Carry frame) k s = s
+
+-- what waits at the ports, and what the accounts have, are values of their types
+pub record IsSwitchValue (s : SwitchState) : Type 0 where
+  pub ports : All IsWithinBytes s.ports.states
+  pub accounts : All (λ a. a.level ≤ cap a) s.accounts
+
+-- the switch now and the record came from this message
+abbrev pub SwitchCameFrom : ℕ → ℕ → Body → SwitchState → Kept → Type 0
+SwitchCameFrom n t body now k = (s : SwitchState) × IsSwitchValue s × (now ≡ (switch n t body s).state) × (k ≡ switch_kept t body s)

@@ -1,0 +1,26 @@
+use bag_regulator::RegRecord;
+use output_port::PortRecord;
+use policer::AccountRecord;
+use vlink::Time;
+
+/// The records of the elements that an event of a node changed.
+#[derive(Clone, Copy, Debug, PartialEq, Eq)]
+pub enum Kept {
+    /// No element changed.
+    Nothing,
+    /// A regulator, and the ports that the copies of its frame were put to.
+    Regulated {
+        regulator: RegRecord,
+        a: Option<PortRecord>,
+        b: Option<PortRecord>,
+    },
+    /// A port.
+    Port(Option<PortRecord>),
+    /// The integrity check of a network, and redundancy management if the frame passed it.
+    Received {
+        check: Option<u8>,
+        delivery: Option<Option<(u8, Time)>>,
+    },
+    /// An account.
+    Policed(AccountRecord),
+}
