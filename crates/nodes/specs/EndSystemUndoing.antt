@@ -1,5 +1,5 @@
 -- What is kept of an event of an end system, and the end system before it.
-use Rattle.std.specs.Prelude.{◌≡◌, ℕ, All, if◌then◌else◌, Option, None, Some, slice_set}
+use Rattle.std.specs.Prelude.{◌≡◌, ℕ, ⊤, true, if◌then◌else◌, Option, None, Some, slice_set}
 use Rattle.vlink.specs.declared.frame.Frame.{Frame}
 use Rattle.vlink.specs.declared.frame.VlId.{VlId}
 use Rattle.vlink.specs.declared.frame.Net.{Net}
@@ -12,7 +12,6 @@ use Rattle.bag_regulator.specs.declared.event.RegEvent.TheVariants.{Offer, Relea
 use Rattle.bag_regulator.specs.declared.event.RegAnswer.{RegAnswer}
 use Rattle.bag_regulator.specs.declared.event.RegAnswer.TheVariants as answer
 use Rattle.bag_regulator.specs.declared.event.RegRecord.{RegRecord}
-use Rattle.output_port.specs.Port.{IsWithinBytes}
 use Rattle.output_port.specs.declared.event.PortEvent.TheVariants.{Free}
 use Rattle.output_port.specs.declared.event.PortRecord.{PortRecord}
 use Rattle.integrity.specs.Integrity.{integrity}
@@ -24,7 +23,7 @@ use Rattle.nodes.specs.declared.vl_end.VlEnd.{VlEnd}
 use Rattle.nodes.specs.declared.receiving.Receiving.{Receiving}
 use Rattle.nodes.specs.Ports.{PortsState, exists}
 use Rattle.nodes.specs.EndSystem.{EndSystemState, SourceAt, SinkAt, source_at, sink_at, is_on, port_of, copy, copied, check_of, with_check, offered_frame, end_system}
-use Rattle.nodes.specs.Undoing.{port_kept, restored}
+use Rattle.nodes.specs.Undoing.{port_kept, restored, IsPortValue}
 
 -- a copy is put to the port of its network
 abbrev pub copied_kept : VlEnd → Net → Frame → PortsState → Option PortRecord
@@ -109,11 +108,29 @@ end_system_restored (body.Arrive q frame) k s = untaken frame k s
 end_system_restored (body.Enqueue q frame) k s = s
 end_system_restored (body.Carry frame) k s = s
 
--- what waits at the regulators and ports are values of their types
-pub record IsEndSystemValue (s : EndSystemState) : Type 0 where
-  pub ports : All IsWithinBytes s.ports.states
-  pub regulators : All IsRegulator s.regulators
+-- what the elements that a message changes hold is a value of their types
+abbrev pub IsCopyValue : VlEnd → Net → PortsState → Type 0
+IsCopyValue end net ports = is_on end net ≡ true → IsPortValue (port_of net) ports
+
+abbrev pub AreCopiesValues : VlEnd → RegAnswer → PortsState → Type 0
+AreCopiesValues end (answer.Released frame) ports = IsCopyValue end A ports × IsCopyValue end B (copied end A frame ports)
+AreCopiesValues end answer.Kept ports = ⊤
+AreCopiesValues end answer.Dropped ports = ⊤
+AreCopiesValues end answer.Nothing ports = ⊤
+
+abbrev pub IsRegulatedValue : RegEvent → EndSystemState → Option SourceAt → Type 0
+IsRegulatedValue e s None = ⊤
+IsRegulatedValue e s (Some source) =
+    IsRegulator source.regulator × AreCopiesValues source.end (regulator.out source.regulator e).answer s.ports
+
+abbrev pub IsEndSystemValue : ℕ → Body → EndSystemState → Type 0
+IsEndSystemValue t (body.Offer vl size) s = IsRegulatedValue (Offer t (offered_frame t vl size)) s (source_at s vl)
+IsEndSystemValue t (body.Release vl) s = IsRegulatedValue (Release t) s (source_at s vl)
+IsEndSystemValue t (body.PortFree q) s = IsPortValue q s.ports
+IsEndSystemValue t (body.Arrive q frame) s = ⊤
+IsEndSystemValue t (body.Enqueue q frame) s = ⊤
+IsEndSystemValue t (body.Carry frame) s = ⊤
 
 -- the end system now and the record came from this message
 abbrev pub EndSystemCameFrom : ℕ → ℕ → Body → EndSystemState → Kept → Type 0
-EndSystemCameFrom n t body now k = (s : EndSystemState) × IsEndSystemValue s × (now ≡ (end_system n t body s).state) × (k ≡ end_system_kept t body s)
+EndSystemCameFrom n t body now k = (s : EndSystemState) × IsEndSystemValue t body s × (now ≡ (end_system n t body s).state) × (k ≡ end_system_kept t body s)

@@ -24,10 +24,10 @@ part_restored m k (Switch s) = Switch (switch_restored m.time m.body k s)
 part_restored m k (Line s) = Line s
 
 -- what waits in the elements is a value of its type
-abbrev pub IsPartValue : Part → Type 0
-IsPartValue (EndSystem s) = IsEndSystemValue s
-IsPartValue (Switch s) = IsSwitchValue s
-IsPartValue (Line s) = ⊤
+abbrev pub IsPartValue : Message → Part → Type 0
+IsPartValue m (EndSystem s) = IsEndSystemValue m.time m.body s
+IsPartValue m (Switch s) = IsSwitchValue m.body s
+IsPartValue m (Line s) = ⊤
 
 -- a node as an actor: its plain step, the record of an event, and the node before it, whose counter goes back by what was sent
 abbrev pub node : Plain NodeState Message Sends NodeRecord

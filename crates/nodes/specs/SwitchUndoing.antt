@@ -1,18 +1,17 @@
 -- What is kept of an event of a switch, and the switch before it.
-use Rattle.std.specs.Prelude.{◌≡◌, ℕ, ◌≤◌, ◌==◌, All, if◌then◌else◌, nat_lt, Option, None, Some, slice_set}
+use Rattle.std.specs.Prelude.{◌≡◌, ℕ, ◌≤◌, ◌==◌, ⊤, true, if◌then◌else◌, nat_lt, Option, None, Some, slice_set}
 use Rattle.vlink.specs.declared.frame.Frame.{Frame}
 use Rattle.vlink.specs.declared.message.Body.{Body}
 use Rattle.vlink.specs.declared.message.Body.TheVariants.{Offer, Release, PortFree, Arrive, Enqueue, Carry}
 use Rattle.policer.specs.Account.{Policing, account, cap}
 use Rattle.policer.specs.declared.account.Arrival.{Arrival}
 use Rattle.policer.specs.declared.account.AccountRecord.{AccountRecord}
-use Rattle.output_port.specs.Port.{IsWithinBytes}
 use Rattle.output_port.specs.declared.event.PortEvent.TheVariants.{Put, Free}
 use Rattle.nodes.specs.declared.kept.Kept.{Kept}
 use Rattle.nodes.specs.declared.kept.Kept.TheVariants as kept
 use Rattle.nodes.specs.Ports.{exists}
 use Rattle.nodes.specs.Switch.{SwitchState, TransitAt, transit_at, switch}
-use Rattle.nodes.specs.Undoing.{port_kept, restored}
+use Rattle.nodes.specs.Undoing.{port_kept, restored, IsPortValue}
 
 -- a frame has come to port q
 abbrev pub taken_kept : ℕ → ℕ → Frame → Option TransitAt → Kept
@@ -62,11 +61,23 @@ switch_restored t (Arrive q frame) k s = unpoliced t frame k s
 switch_restored t (Enqueue q frame) k s = unported q k s
 switch_restored t (Carry frame) k s = s
 
--- what waits at the ports, and what the accounts have, are values of their types
-pub record IsSwitchValue (s : SwitchState) : Type 0 where
-  pub ports : All IsWithinBytes s.ports.states
-  pub accounts : All (λ a. a.level ≤ cap a) s.accounts
+-- what the elements that a message changes hold is a value of their types
+abbrev pub IsTakenValue : ℕ → Frame → Option TransitAt → Type 0
+IsTakenValue q frame None = ⊤
+IsTakenValue q frame (Some found) = found.transit.input ≡ q → frame.size ≤ found.transit.smax → found.account.level ≤ cap found.account
+
+abbrev pub IsPutValue : ℕ → SwitchState → Option TransitAt → Type 0
+IsPutValue q s None = ⊤
+IsPutValue q s (Some found) = IsPortValue q s.ports
+
+abbrev pub IsSwitchValue : Body → SwitchState → Type 0
+IsSwitchValue (Offer vl size) s = ⊤
+IsSwitchValue (Release vl) s = ⊤
+IsSwitchValue (PortFree q) s = IsPortValue q s.ports
+IsSwitchValue (Arrive q frame) s = exists s.ports q ≡ true → IsTakenValue q frame (transit_at s frame.vl)
+IsSwitchValue (Enqueue q frame) s = exists s.ports q ≡ true → IsPutValue q s (transit_at s frame.vl)
+IsSwitchValue (Carry frame) s = ⊤
 
 -- the switch now and the record came from this message
 abbrev pub SwitchCameFrom : ℕ → ℕ → Body → SwitchState → Kept → Type 0
-SwitchCameFrom n t body now k = (s : SwitchState) × IsSwitchValue s × (now ≡ (switch n t body s).state) × (k ≡ switch_kept t body s)
+SwitchCameFrom n t body now k = (s : SwitchState) × IsSwitchValue body s × (now ≡ (switch n t body s).state) × (k ≡ switch_kept t body s)

@@ -1,9 +1,8 @@
-ghost use Rattle.std.specs.Prelude.{◌≡◌, ◌+◌, ◌<◌, ◌≤◌, All, length};
+ghost use Rattle.std.specs.Prelude.{◌≡◌, ◌+◌, ◌<◌, ◌≤◌, length};
 ghost use Rattle.vlink.specs.Numbering.{greatest_number};
-ghost use Rattle.output_port.specs.Port.{IsWithinBytes};
 ghost use Rattle.nodes.specs.Sending.{replied};
 ghost use Rattle.nodes.specs.Ports.{answered, changed, exists, reply, start, wire_at};
-ghost use Rattle.nodes.specs.Undoing.{port_kept, restored, PortCameFrom};
+ghost use Rattle.nodes.specs.Undoing.{port_kept, restored, IsPortValue, PortCameFrom};
 
 use crate::outbound::Outbound;
 use output_port::{Port, PortAnswer, PortEvent, PortRecord};
@@ -67,7 +66,7 @@ impl Ports {
         ensures state { self.new ≡ changed port event.now self.old }
         ensures reply { out.new ≡ replied out.old (reply out.old.sender.number at port event.now self.old) }
         ensures kept { result ≡ port_kept port event.now self.old }
-        ensures valid { All IsWithinBytes self.old.states }
+        ensures valid { IsPortValue port self.old }
     {
         let wire = self.wire(port)?;
         let state = self.ports.get_mut(usize::from(port))?;

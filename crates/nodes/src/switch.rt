@@ -5,7 +5,7 @@ ghost use Rattle.output_port.specs.Port.{IsWithinBytes};
 ghost use Rattle.policer.specs.Account.{cap};
 ghost use Rattle.nodes.specs.Sending.{replied};
 ghost use Rattle.nodes.specs.Switch.{forwarded, marked_from, outputs_of, switch, taken, put, at_port, TransitAt, transit_at};
-ghost use Rattle.nodes.specs.SwitchUndoing.{taken_kept, put_kept, switch_kept, switch_restored, unported, unpoliced, SwitchCameFrom, IsSwitchValue};
+ghost use Rattle.nodes.specs.SwitchUndoing.{taken_kept, put_kept, switch_kept, switch_restored, unported, unpoliced, SwitchCameFrom, IsSwitchValue, IsTakenValue, IsPutValue};
 
 use crate::kept::Kept;
 use crate::numbers::Numbers;
@@ -49,7 +49,7 @@ impl Switch {
         ensures state { self.new ≡ (switch out.old.sender.number message.now.time message.now.body self.old).state }
         ensures reply { out.new ≡ replied out.old (switch out.old.sender.number message.now.time message.now.body self.old).reply }
         ensures kept { result ≡ switch_kept message.now.time message.now.body self.old }
-        ensures valid { IsSwitchValue self.old }
+        ensures valid { IsSwitchValue message.now.body self.old }
     {
         let at = message.time;
         match message.body {
@@ -72,6 +72,7 @@ impl Switch {
         ensures state { self.new ≡ (taken out.old.sender.number at port frame.now self.old (transit_at self.old frame.now.vl)).state }
         ensures reply { out.new ≡ replied out.old (taken out.old.sender.number at port frame.now self.old (transit_at self.old frame.now.vl)).reply }
         ensures kept { result ≡ taken_kept at port frame.now (transit_at self.old frame.now.vl) }
+        ensures valid { IsTakenValue port frame.now (transit_at self.old frame.now.vl) }
     {
         let Some(place) = self.numbers.place(frame.vl) else {
             out.lose(Cause::Unknown, frame);
@@ -112,6 +113,7 @@ impl Switch {
         ensures state { self.new ≡ (put out.old.sender.number at port frame.now self.old (transit_at self.old frame.now.vl)).state }
         ensures reply { out.new ≡ replied out.old (put out.old.sender.number at port frame.now self.old (transit_at self.old frame.now.vl)).reply }
         ensures kept { result ≡ put_kept port frame.now self.old (transit_at self.old frame.now.vl) }
+        ensures valid { IsPutValue port self.old (transit_at self.old frame.now.vl) }
     {
         let Some(priority) = self.priority(frame.vl) else {
             out.lose(Cause::Unknown, frame);
