@@ -1,0 +1,22 @@
+-- What an event at a port is where there is such a port, and where there is none.
+use Rattle.std.proofs.Common.{◌≡◌, ℕ, List, Option, Some, None, ap, refl, sym, ◌∙◌, slice_get, slice_set, subst}
+use Rattle.output_port.specs.Port.{PortState, port, IsWithinBytes}
+use Rattle.output_port.specs.declared.event.PortEvent.{PortEvent}
+use Rattle.nodes.specs.declared.ports.Wire.{Wire}
+use Rattle.nodes.specs.Sending.{Reply, silent}
+use Rattle.nodes.specs.Ports.{PortsState, wire_at, changed_at, changed, reply_at, reply, answered}
+use Rattle.nodes.specs.Undoing.{kept_at, port_kept, IsThere, IsPortValue}
+
+-- what is there at port q
+module _ (q : ℕ) (e : PortEvent) (ports : PortsState) (w : Option Wire) (p : Option PortState) (is_wire : wire_at ports q ≡ w) (is_port : slice_get ports.states q ≡ p) where
+  pub changed-as : changed q e ports ≡ changed_at q e ports w p
+  changed-as = ap (λ w. changed_at q e ports w (slice_get ports.states q)) is_wire ∙ ap (λ p. changed_at q e ports w p) is_port
+
+  pub reply-as : (n t : ℕ) → reply n t q e ports ≡ reply_at n t q e w p
+  reply-as n t = ap (λ w. reply_at n t q e w (slice_get ports.states q)) is_wire ∙ ap (λ p. reply_at n t q e w p) is_port
+
+  pub kept-as : port_kept q e ports ≡ kept_at e w p
+  kept-as = ap (λ w. kept_at e w (slice_get ports.states q)) is_wire ∙ ap (λ p. kept_at e w p) is_port
+
+  pub value-as : IsThere w p → IsPortValue q ports
+  value-as h = subst (λ w. IsThere w (slice_get ports.states q)) (sym is_wire) (subst (λ p. IsThere w p) (sym is_port) h)
