@@ -1,3 +1,4 @@
 pub mod ListLemmas
 pub mod PortLemmas
 pub mod SendingLemmas
+pub mod SwitchLemmas

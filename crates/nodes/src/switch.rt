@@ -1,11 +1,9 @@
-ghost use Rattle.std.specs.Prelude.{◌≡◌, ◌+◌, ◌<◌, ◌≤◌, All, [], length, slice_get, IfSome};
+ghost use Rattle.std.specs.Prelude.{◌≡◌, ◌+◌, ◌<◌, ◌≤◌, [], Some};
 ghost use Rattle.std.specs.Option.{option_map};
 ghost use Rattle.vlink.specs.Numbering.{greatest_number};
-ghost use Rattle.output_port.specs.Port.{IsWithinBytes};
-ghost use Rattle.policer.specs.Account.{cap};
 ghost use Rattle.nodes.specs.Sending.{replied};
-ghost use Rattle.nodes.specs.Switch.{forwarded, marked_from, outputs_of, switch, taken, put, at_port, TransitAt, transit_at};
-ghost use Rattle.nodes.specs.SwitchUndoing.{taken_kept, put_kept, switch_kept, switch_restored, unported, unpoliced, SwitchCameFrom, IsSwitchValue, IsTakenValue, IsPutValue};
+ghost use Rattle.nodes.specs.Switch.{forwarded, judged, outputs_of, switch, taken, put, TransitAt, transit_at};
+ghost use Rattle.nodes.specs.SwitchUndoing.{taken_kept, put_kept, switch_kept, IsSwitchValue, IsTakenValue, IsPutValue};
 
 use crate::kept::Kept;
 use crate::numbers::Numbers;
@@ -74,21 +72,47 @@ impl Switch {
         ensures kept { result ≡ taken_kept at port frame.now (transit_at self.old frame.now.vl) }
         ensures valid { IsTakenValue port frame.now (transit_at self.old frame.now.vl) }
     {
-        let Some(place) = self.numbers.place(frame.vl) else {
-            out.lose(Cause::Unknown, frame);
-            return Kept::Nothing;
-        };
-        let transit = match self.transits.get(place) {
-            Some(transit) => *transit,
+        match self.find(frame.vl) {
+            Some(place) => self.judge(place, at, port, frame, out),
             None => {
                 out.lose(Cause::Unknown, frame);
-                return Kept::Nothing;
+                Kept::Nothing
             }
-        };
-        let Some(account) = self.accounts.get_mut(place) else {
-            out.lose(Cause::Unknown, frame);
-            return Kept::Nothing;
-        };
+        }
+    }
+
+    /// The place of a virtual link that goes through the switch.
+    fn find(&self, vl: VlId) -> Option<usize>
+        ensures { result ≡ option_map (λ (found : TransitAt). found.place) (transit_at self.now vl) }
+    {
+        let place = self.numbers.place(vl)?;
+        if place < self.transits.len() && place < self.accounts.len() {
+            Some(place)
+        } else {
+            None
+        }
+    }
+
+    /// A frame of the virtual link with this place has come to a port: it is lost where the virtual link does not come in
+    /// there, where it is too long, or where the account refuses it.
+    fn judge(
+        &mut self,
+        place: usize,
+        at: Time,
+        port: u8,
+        frame: &Frame,
+        out: &mut Outbound,
+    ) -> Kept
+        requires place { option_map (λ (found : TransitAt). found.place) (transit_at self.old frame.now.vl) ≡ Some place }
+        requires messages { out.old.messages ≡ [] }
+        requires notes { out.old.notes ≡ [] }
+        requires numbers { out.old.sender.counter + 24 ≤ greatest_number }
+        ensures state { self.new ≡ (taken out.old.sender.number at port frame.now self.old (transit_at self.old frame.now.vl)).state }
+        ensures reply { out.new ≡ replied out.old (taken out.old.sender.number at port frame.now self.old (transit_at self.old frame.now.vl)).reply }
+        ensures kept { result ≡ taken_kept at port frame.now (transit_at self.old frame.now.vl) }
+        ensures valid { IsTakenValue port frame.now (transit_at self.old frame.now.vl) }
+    {
+        let transit = self.transits[place];
         if transit.input != port {
             out.lose(Cause::Unknown, frame);
             return Kept::Nothing;
@@ -97,11 +121,14 @@ impl Switch {
             out.lose(Cause::TooLong, frame);
             return Kept::Nothing;
         }
-        let (verdict, kept) = account.apply(&Arrival { at, size: frame.size });
-        match verdict {
-            Verdict::Passed => forward(at.ns() + u64::from(self.latency_ns), frame, &transit, out),
-            Verdict::Refused => out.lose(Cause::Policed, frame),
-        }
+        let arrival = Arrival {
+            at,
+            size: frame.size,
+        };
+        let account = &mut self.accounts[place];
+        let (verdict, kept) = account.apply(&arrival);
+        let ns = at.ns() + u64::from(self.latency_ns);
+        answer_verdict(ns, frame, &transit, verdict, out);
         Kept::Policed(kept)
     }
 
@@ -134,6 +161,19 @@ impl Switch {
         } else {
             None
         }
+    }
+}
+
+/// A frame that has passed goes on at the moment `ns`, and one that the account refused is lost.
+fn answer_verdict(ns: u64, frame: &Frame, transit: &Transit, verdict: Verdict, out: &mut Outbound)
+    requires messages { out.old.messages ≡ [] }
+    requires notes { out.old.notes ≡ [] }
+    requires numbers { out.old.sender.counter + 24 ≤ greatest_number }
+    ensures { out.new ≡ replied out.old (judged out.old.sender.number ns frame.now (outputs_of transit.now) verdict) }
+{
+    match verdict {
+        Verdict::Passed => forward(ns, frame, transit, out),
+        Verdict::Refused => out.lose(Cause::Policed, frame),
     }
 }
 
