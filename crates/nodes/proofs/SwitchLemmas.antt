@@ -2,7 +2,7 @@
 use Rattle.std.proofs.Common.{◌≡◌, ℕ, ◌<◌, ◌≤◌, ◌==◌, length, Bool, true, false, cond, nat_lt, List, Option, Some, None, ap, refl, sym, ◌∙◌, subst, slice_get, arith}
 use Rattle.std.specs.Option.{option_map, option_and_then}
 use Rattle.std.proofs.lemmas.Bool.{le-ltb, eq-eqb}
-use Rattle.std.proofs.lemmas.Option.{slice_get_within}
+use Rattle.std.proofs.lemmas.Option.{slice_get_within, none-some, same_Some}
 use Rattle.vlink.specs.declared.note.Cause.TheVariants.{TooLong, Unknown}
 use Rattle.vlink.specs.declared.frame.Frame.{Frame}
 use Rattle.vlink.specs.declared.frame.VlId.{VlId}
@@ -15,12 +15,6 @@ use Rattle.nodes.specs.Finding.{place_of}
 use Rattle.nodes.specs.Switch.{SwitchState, SwitchOutcome, TransitAt, transit_with, transit_at, numbers_of, taken, policed}
 use Rattle.nodes.specs.SwitchUndoing.{taken_kept, IsTakenValue}
 
-some-is : {X : Type 0} {x y : X} → Some x ≡ Some y → x ≡ y
-some-is {X} {x} {y} e = ap (λ (o : Option X). elim o [ | None ↦ x | Some z ↦ z ]) e
-
-none-some : (i : ℕ) → None ≡ Some i → ⊥
-none-some i h = cc
-
 -- the virtual link that is found has the place, the route and the account that were read
 pub transit-is : (s : SwitchState) (vl : VlId) (i : ℕ) (t : Transit) (a : Policing) →
     option_map (λ (found : TransitAt). found.place) (transit_at s vl) ≡ Some i → slice_get s.transits i ≡ Some t → slice_get s.accounts i ≡ Some a →
@@ -30,9 +24,9 @@ transit-is s vl i t a is there account_there = go (place_of (numbers_of s.transi
     with : (j : ℕ) (ot : Option Transit) (oa : Option Policing) → slice_get s.transits j ≡ ot → slice_get s.accounts j ≡ oa →
         option_map (λ (found : TransitAt). found.place) (transit_with j ot oa) ≡ Some i → transit_with j ot oa ≡ Some (record { place = i; transit = t; account = a })
     with j (Some u) (Some b) e f h =
-        let same : j ≡ i = some-is h in
-        let tu : u ≡ t = some-is (sym e ∙ ap (λ k. slice_get s.transits k) same ∙ there) in
-        let ab : b ≡ a = some-is (sym f ∙ ap (λ k. slice_get s.accounts k) same ∙ account_there) in
+        let same : j ≡ i = same_Some _ _ h in
+        let tu : u ≡ t = same_Some _ _ (sym e ∙ ap (λ k. slice_get s.transits k) same ∙ there) in
+        let ab : b ≡ a = same_Some _ _ (sym f ∙ ap (λ k. slice_get s.accounts k) same ∙ account_there) in
         ap (λ (k : ℕ). Some (record { place = k; transit = u; account = b })) same
         ∙ ap (λ (v : Transit). Some (record { place = i; transit = v; account = b })) tu
         ∙ ap (λ (v : Policing). Some (record { place = i; transit = t; account = v })) ab
@@ -51,7 +45,7 @@ transit-within s vl i is = go (place_of (numbers_of s.transits) vl.0) is
     with : (j : ℕ) (ot : Option Transit) (oa : Option Policing) → slice_get s.transits j ≡ ot → slice_get s.accounts j ≡ oa →
         option_map (λ (found : TransitAt). found.place) (transit_with j ot oa) ≡ Some i → (i < length s.transits) × (i < length s.accounts)
     with j (Some u) (Some b) e f h =
-        subst (λ k. (k < length s.transits) × (k < length s.accounts)) (some-is h) (slice_get_within s.transits j u e, slice_get_within s.accounts j b f)
+        subst (λ k. (k < length s.transits) × (k < length s.accounts)) (same_Some _ _ h) (slice_get_within s.transits j u e, slice_get_within s.accounts j b f)
     with j (Some u) None e f h = absurd (none-some i h)
     with j None oa e f h = absurd (none-some i h)
 

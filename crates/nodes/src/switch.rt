@@ -1,17 +1,19 @@
-ghost use Rattle.std.specs.Prelude.{◌≡◌, ◌+◌, ◌<◌, ◌≤◌, [], Some};
+ghost use Rattle.std.specs.Prelude.{◌≡◌, ◌+◌, ◌<◌, ◌≤◌, ℕ, [], Some};
 ghost use Rattle.std.specs.Option.{option_map};
 ghost use Rattle.vlink.specs.Numbering.{greatest_number};
+ghost use Rattle.vlink.specs.declared.message.Body.TheVariants as body;
+ghost use Rattle.nodes.specs.declared.kept.Kept.TheVariants as saved;
 ghost use Rattle.nodes.specs.Sending.{replied};
 ghost use Rattle.nodes.specs.Switch.{forwarded, judged, outputs_of, switch, taken, put, TransitAt, transit_at};
-ghost use Rattle.nodes.specs.SwitchUndoing.{taken_kept, put_kept, switch_kept, IsSwitchValue, IsTakenValue, IsPutValue};
+ghost use Rattle.nodes.specs.SwitchUndoing.{taken_kept, put_kept, switch_kept, switch_restored, unported, unpoliced, SwitchCameFrom, IsSwitchValue, IsTakenValue, IsPutValue};
 
 use crate::kept::Kept;
 use crate::numbers::Numbers;
 use crate::outbound::Outbound;
 use crate::ports::Ports;
 use crate::transit::Transit;
-use output_port::{PortEvent, Priority};
-use policer::{Account, Arrival, Verdict};
+use output_port::{PortEvent, PortRecord, Priority};
+use policer::{Account, AccountRecord, Arrival, Verdict};
 use reverse::Reversible;
 use std::marker::Model;
 use vlink::{Body, Cause, Frame, Message, Time, VlId};
@@ -59,6 +61,23 @@ impl Switch {
                 self.put(at, port, &frame, out)
             }
             _ => Kept::Nothing,
+        }
+    }
+
+    /// Takes a message back by the record that was kept of it.
+    pub fn undo(&mut self, message: &Message, kept: Kept)
+        requires { (n : ℕ) × SwitchCameFrom n message.now.time message.now.body self.old kept }
+        ensures { self.new ≡ switch_restored message.now.time message.now.body kept self.old }
+    {
+        match (message.body, kept) {
+            (Body::PortFree { port }, Kept::Port(kept)) => {
+                self.ports.undo(port, &PortEvent::Free, kept)
+            }
+            (Body::Enqueue { port, frame }, Kept::Port(kept)) => self.take_back(port, &frame, kept),
+            (Body::Arrive { port, frame }, Kept::Policed(kept)) => {
+                self.repay(message.time, port, &frame, kept)
+            }
+            _ => {}
         }
     }
 
@@ -148,6 +167,37 @@ impl Switch {
         };
         let event = PortEvent::Put { frame: *frame, priority };
         Kept::Port(self.ports.act(at, port, &event, out))
+    }
+
+    /// A frame that was put to a port leaves it.
+    fn take_back(&mut self, port: u8, frame: &Frame, kept: Option<PortRecord>)
+        requires { (n : ℕ) × (t : ℕ) × SwitchCameFrom n t (body.Enqueue port frame.now) self.old (saved.Port kept) }
+        ensures { self.new ≡ unported port (saved.Port kept) self.old }
+    {
+        let Some(priority) = self.priority(frame.vl) else {
+            return;
+        };
+        let event = PortEvent::Put {
+            frame: *frame,
+            priority,
+        };
+        self.ports.undo(port, &event, kept);
+    }
+
+    /// The account of a frame's virtual link gets back what the frame took.
+    fn repay(&mut self, at: Time, port: u8, frame: &Frame, kept: AccountRecord)
+        requires { (n : ℕ) × SwitchCameFrom n at (body.Arrive port frame.now) self.old (saved.Policed kept) }
+        ensures { self.new ≡ unpoliced at frame.now (saved.Policed kept) self.old }
+    {
+        let Some(place) = self.find(frame.vl) else {
+            return;
+        };
+        let arrival = Arrival {
+            at,
+            size: frame.size,
+        };
+        let account = &mut self.accounts[place];
+        account.undo(&arrival, kept);
     }
 
     /// The priority of a virtual link that goes through the switch.
