@@ -10,6 +10,7 @@ pub mod Places
 pub mod Ports
 pub mod PortsLaws
 pub mod Sending
+pub mod SentLaws
 pub mod Switch
 pub mod SwitchLaws
 pub mod SwitchUndoing
