@@ -81,3 +81,47 @@ impl Reversible for Node {
         self.part.undo(event, kept.kept);
     }
 }
+
+impl Actor for Node {
+    ghost use Rattle.nodes.specs.Placed.{IsPlaced};
+    ghost use Rattle.nodes.specs.NodeLaws.{number-stays, end-stays, sends-own, sends-timely, sends-numbered, sends-counted};
+    ghost use Rattle.nodes.specs.NodeSending.{place-stays, sends-later};
+
+    ghost number = { λ s. s.sender.number };
+
+    ghost end = { λ s. s.sender.until };
+
+    ghost counter = { λ s. s.sender.counter };
+
+    ghost is_placed = { IsPlaced };
+
+    ghost numbers_suffice = { λ s h. h };
+
+    ghost number_stays = { number-stays };
+
+    ghost end_stays = { end-stays };
+
+    ghost place_stays = { λ s e h. place-stays s e h };
+
+    ghost own_sends = { sends-own };
+
+    ghost later_sends = { λ s e h. sends-later s e h };
+
+    ghost timely_sends = { sends-timely };
+
+    ghost numbered_sends = { sends-numbered };
+
+    ghost counted_sends = { sends-counted };
+
+    fn id(&self) -> u16 {
+        self.number
+    }
+
+    fn until(&self) -> Time {
+        self.until
+    }
+
+    fn has_numbers(&self) -> bool {
+        self.counter <= (1 << 62) - 24
+    }
+}
