@@ -4,12 +4,14 @@
 mod end_system;
 mod kept;
 mod line;
+mod networks;
 mod node;
 mod numbers;
 mod outbound;
 mod part;
 mod ports;
 mod receiving;
+mod sending;
 mod switch;
 mod transit;
 mod vl_end;
