@@ -1,11 +1,16 @@
 pub mod EndSystem
+pub mod EndSystemLaws
 pub mod EndSystemUndoing
 pub mod Finding
 pub mod Line
 pub mod Node
+pub mod NodeLaws
 pub mod NodeUndoing
+pub mod Places
 pub mod Ports
+pub mod PortsLaws
 pub mod Sending
 pub mod Switch
+pub mod SwitchLaws
 pub mod SwitchUndoing
 pub mod Undoing
