@@ -37,7 +37,7 @@ with_regulator g source = record source { regulator = g }
 abbrev pub with_receiving : Receiving → SinkAt → SinkAt
 with_receiving r sink = record sink { receiving = r }
 
-source-with : IsFinding source_with (λ source. source.place) (λ source. source.regulator) with_regulator
+pub source-with : IsFinding source_with (λ source. source.place) (λ source. source.regulator) with_regulator
 source-with = record {
   passes = λ end. true;
   made = λ i end g. record { place = i; end = end; regulator = g };
@@ -49,7 +49,7 @@ source-with = record {
   renews = λ i end g new. refl;
 }
 
-sink-with : (net : Net) → IsFinding (sink_with net) (λ sink. sink.place) (λ sink. sink.receiving) with_receiving
+pub sink-with : (net : Net) → IsFinding (sink_with net) (λ sink. sink.place) (λ sink. sink.receiving) with_receiving
 sink-with net = record {
   passes = λ end. is_on end net;
   made = λ i end r. record { place = i; receiving = r };
@@ -62,7 +62,7 @@ sink-with net = record {
 }
 
 -- a copy that was put is taken back
-copied-undone : (end : VlEnd) (net : Net) (frame : Frame) (ports : PortsState) →
+pub copied-undone : (end : VlEnd) (net : Net) (frame : Frame) (ports : PortsState) →
     restored (port_of net) (copied_kept end net frame ports) (copied end net frame ports) ≡ ports
 copied-undone end net frame ports = go (is_on end net)
   where

@@ -13,6 +13,7 @@ mod ports;
 mod receiving;
 mod sending;
 mod switch;
+mod taking_back;
 mod transit;
 mod vl_end;
 

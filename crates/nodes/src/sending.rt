@@ -5,7 +5,7 @@ ghost use Rattle.vlink.specs.declared.frame.Frame.{Frame};
 ghost use Rattle.bag_regulator.specs.declared.event.RegAnswer.TheVariants.{Released};
 ghost use Rattle.bag_regulator.specs.Regulator.{regulator as plain, IsRegulator};
 ghost use Rattle.nodes.specs.Sending.{joined, replied};
-ghost use Rattle.nodes.specs.EndSystem.{asked, copied, copied_reply, full, lost, released_out, released_reply};
+ghost use Rattle.nodes.specs.EndSystem.{asked, copied, copy, copied_reply, full, lost, released_out, released_reply};
 ghost use Rattle.nodes.specs.EndSystemUndoing.{copied_kept, regulated_kept_by, AreCopiesValues, IsCopyValue};
 
 use crate::kept::Kept;
@@ -127,9 +127,15 @@ fn copy_out(
     if !is_on(end, net) {
         return None;
     }
-    let copy = PortEvent::Put {
+    ports.act(at, port_of(net), &copy(net, frame), out)
+}
+
+/// What the port of this network is asked to do with a frame: it is put with low priority (profile).
+pub fn copy(net: Net, frame: &Frame) -> PortEvent
+    ensures { result ≡ copy net frame.now }
+{
+    PortEvent::Put {
         frame: Frame { net, ..*frame },
         priority: Priority::Low,
-    };
-    ports.act(at, port_of(net), &copy, out)
+    }
 }
