@@ -1,11 +1,12 @@
-ghost use Rattle.std.specs.Prelude.{◌≡◌, ◌+◌, ◌<◌, ◌≤◌, [], length};
+ghost use Rattle.std.specs.Prelude.{◌≡◌, ℕ, ◌+◌, ◌<◌, ◌≤◌, [], length};
 ghost use Rattle.std.specs.Option.{option_map};
 ghost use Rattle.vlink.specs.Numbering.{greatest_number};
 ghost use Rattle.vlink.specs.declared.note.Cause.TheVariants.{Unknown};
 ghost use Rattle.bag_regulator.specs.declared.event.RegEvent.TheVariants.{Offer};
 ghost use Rattle.nodes.specs.Sending.{replied};
 ghost use Rattle.nodes.specs.EndSystem.{end_system, lost, offered_frame, regulated, taken, SinkAt, SourceAt, sink_at, source_at};
-ghost use Rattle.nodes.specs.EndSystemUndoing.{end_system_kept, regulated_kept, taken_kept, IsEndSystemValue, IsRegulatedValue};
+ghost use Rattle.nodes.specs.EndSystemUndoing.{end_system_kept, end_system_restored, regulated_kept, taken_kept, unfreed, unregulated, untaken, EndSystemCameFrom, IsEndSystemValue, IsRegulatedValue};
+ghost use Rattle.nodes.specs.EndSystemParts.{ArrivedCameFrom, FreedCameFrom, RegulatedCameFrom};
 
 use crate::kept::Kept;
 use crate::networks::is_on;
@@ -14,6 +15,7 @@ use crate::outbound::Outbound;
 use crate::ports::Ports;
 use crate::receiving::Receiving;
 use crate::sending::{lose_offered, regulate};
+use crate::taking_back::take_back;
 use crate::vl_end::VlEnd;
 use bag_regulator::{BagRegulator, RegEvent};
 use output_port::PortEvent;
@@ -65,6 +67,21 @@ impl EndSystem {
         }
     }
 
+    /// Takes a message back by the record that was kept of it.
+    pub fn undo(&mut self, message: &Message, kept: Kept)
+        requires { (n : ℕ) × EndSystemCameFrom n message.now.time message.now.body self.old kept }
+        ensures { self.new ≡ end_system_restored message.now.body kept self.old }
+    {
+        let at = message.time;
+        match message.body {
+            Body::Offer { vl, size } => self.unregulate(vl, &offer(at, vl, size), kept),
+            Body::Release { vl } => self.unregulate(vl, &RegEvent::Release { at }, kept),
+            Body::PortFree { port } => self.unfree(port, kept),
+            Body::Arrive { port, frame } => self.untake(at, port, &frame, kept),
+            Body::Enqueue { .. } | Body::Carry { .. } => {}
+        }
+    }
+
     /// The regulator of a virtual link is asked to do something. A frame of a virtual link that does not begin here is lost.
     fn regulate(&mut self, at: Time, vl: VlId, event: &RegEvent, out: &mut Outbound) -> Kept
         requires messages { out.old.messages ≡ [] }
@@ -84,6 +101,33 @@ impl EndSystem {
         regulate(at, event, &end, regulator, &mut self.ports, out)
     }
 
+    /// Takes back what the regulator of a virtual link was asked to do.
+    fn unregulate(&mut self, vl: VlId, event: &RegEvent, kept: Kept)
+        requires { (n t : ℕ) × RegulatedCameFrom n t vl event.now self.old kept }
+        ensures { self.new ≡ unregulated vl kept self.old }
+    {
+        let Kept::Regulated { regulator, a, b } = kept else {
+            return;
+        };
+        let Some(place) = self.source(vl) else {
+            return;
+        };
+        let end = self.sources[place];
+        let element = &mut self.regulators[place];
+        take_back(event, &end, &regulator, a, b, element, &mut self.ports);
+    }
+
+    /// Takes back that the frame of a port left.
+    fn unfree(&mut self, port: u8, kept: Kept)
+        requires { (n t : ℕ) × FreedCameFrom n t port self.old kept }
+        ensures { self.new ≡ unfreed port kept self.old }
+    {
+        let Kept::Port(kept) = kept else {
+            return;
+        };
+        self.ports.undo(port, &PortEvent::Free, kept);
+    }
+
     /// A frame has come. It is lost where its virtual link does not end here on its network.
     fn take(&mut self, at: Time, frame: &Frame, out: &mut Outbound) -> Kept
         requires { length out.old.notes < 2 }
@@ -96,6 +140,20 @@ impl EndSystem {
             return Kept::Nothing;
         };
         self.receivers[place].receive(at, frame, out)
+    }
+
+    /// Takes back that a frame came to a port.
+    fn untake(&mut self, at: Time, port: u8, frame: &Frame, kept: Kept)
+        requires { ArrivedCameFrom at port frame.now self.old kept }
+        ensures { self.new ≡ untaken frame.now kept self.old }
+    {
+        let Kept::Received { check, delivery } = kept else {
+            return;
+        };
+        let Some(place) = self.sink(frame.vl, frame.net) else {
+            return;
+        };
+        self.receivers[place].take_back(at, frame, check, delivery);
     }
 
     /// The place of a virtual link among those that the end system sends.

@@ -3,7 +3,8 @@ ghost use Rattle.integrity.specs.Integrity.{integrity};
 ghost use Rattle.integrity.specs.declared.checking.Check.TheVariants.{Passed};
 ghost use Rattle.nodes.specs.Sending.{replied};
 ghost use Rattle.nodes.specs.EndSystem.{check_of, checked, received, received_reply, redundant, with_check};
-ghost use Rattle.nodes.specs.EndSystemUndoing.{delivery_kept};
+ghost use Rattle.nodes.specs.EndSystemUndoing.{delivery_kept, unreceived};
+ghost use Rattle.nodes.specs.EndSystemParts.{ReceivedCameFrom};
 
 use crate::kept::Kept;
 use crate::outbound::Outbound;
@@ -40,6 +41,27 @@ impl Receiving {
             }
         };
         Kept::Received { check, delivery }
+    }
+
+    /// Takes back that a frame came, by the records of the check of its network and of redundancy management.
+    pub fn take_back(
+        &mut self,
+        at: Time,
+        frame: &Frame,
+        check: Option<u8>,
+        delivery: Option<Option<(u8, Time)>>,
+    )
+        requires { ReceivedCameFrom at frame.now self.old check delivery }
+        ensures { self.new ≡ unreceived frame.now.net check delivery self.old }
+    {
+        let number = frame.number;
+        if let Some(last) = delivery {
+            self.redundancy.undo(&Received { number, at }, last);
+        }
+        match frame.net {
+            Net::A => self.a.undo(&number, check),
+            Net::B => self.b.undo(&number, check),
+        }
     }
 
     /// Integrity checking on the network of the frame.

@@ -9,12 +9,7 @@ use Rattle.nodes.proofs.EndSystemLemmas.{source-found}
 use Rattle.nodes.proofs.end_system.EndSystem.regulate.Goals as goal
 
 found : (c : goal.After-self-1) → source_at c.args.self.now c.args.vl ≡ Some (record { place = c.in-Some.place; end = c.index.result.now; regulator = c.index_mut-regulator.result.now })
-found c =
-    let end = c.index.result.now in
-    let g = c.index_mut-regulator.result.now in
-    source-found c.args.self.now c.args.vl c.in-Some.place end g c.in-Some.ensures
-    (subst (λ s. end ≡ slice_index_or s.sources c.in-Some.place end) c.self.view_is c.index.ensures)
-    (subst (λ s. g ≡ slice_index_or s.regulators c.in-Some.place g) c.self.view_is c.index_mut-regulator.ensures.value)
+found c = source-found c.args.vl c.in-Some.place c.index.result.now c.index_mut-regulator.result.now c.self.view_is c.in-Some.ensures c.index.ensures c.index_mut-regulator.ensures.value
 
 pub returns-clause-state : goal.returns-clause-state
 returns-clause-state c =
