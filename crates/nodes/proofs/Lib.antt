@@ -1,3 +1,4 @@
+pub mod EndSystemLemmas
 pub mod ListLemmas
 pub mod PortLemmas
 pub mod SendingLemmas

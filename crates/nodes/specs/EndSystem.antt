@@ -8,6 +8,7 @@ use Rattle.vlink.specs.declared.frame.Net.TheVariants.{A, B}
 use Rattle.vlink.specs.declared.message.Body.{Body}
 use Rattle.vlink.specs.declared.message.Body.TheVariants as body
 use Rattle.vlink.specs.declared.note.Note.TheVariants.{Delivered}
+use Rattle.vlink.specs.declared.note.Cause.{Cause}
 use Rattle.vlink.specs.declared.note.Cause.TheVariants.{QueueFull, Unknown, Integrity, Duplicate}
 use Rattle.bag_regulator.specs.Regulator.{Regulator, regulator}
 use Rattle.bag_regulator.specs.declared.event.RegEvent.{RegEvent}
@@ -87,6 +88,11 @@ released_reply n t end answer.Nothing ports = silent
 abbrev pub asked : ℕ → VlId → Option ℕ → Reply
 asked n vl None = silent
 asked n vl (Some at) = record { wishes = record { time = at; receiver = n; body = body.Release vl } ∷ []; notes = [] }
+
+-- the frame that a regulator is offered is lost for this cause
+abbrev pub lost : Cause → RegEvent → Reply
+lost cause (Offer at frame) = loss cause frame
+lost cause (Release at) = silent
 
 -- a frame that finds the queue full is lost
 abbrev pub full : RegEvent → RegAnswer → Reply

@@ -62,7 +62,7 @@ sink-with net = record {
 }
 
 -- a copy that was put is taken back
-copied-undone : (end : VlEnd) (net : Net) (frame : Frame) (ports : PortsState) →
+pub copied-undone : (end : VlEnd) (net : Net) (frame : Frame) (ports : PortsState) →
     restored (port_of net) (copied_kept end net frame ports) (copied end net frame ports) ≡ ports
 copied-undone end net frame ports = go (is_on end net)
   where

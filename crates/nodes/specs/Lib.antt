@@ -1,5 +1,6 @@
 pub mod EndSystem
 pub mod EndSystemLaws
+pub mod EndSystemParts
 pub mod EndSystemSending
 pub mod EndSystemUndoing
 pub mod Finding

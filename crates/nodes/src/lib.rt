@@ -4,13 +4,16 @@
 mod end_system;
 mod kept;
 mod line;
+mod networks;
 mod node;
 mod numbers;
 mod outbound;
 mod part;
 mod ports;
 mod receiving;
+mod sending;
 mod switch;
+mod taking_back;
 mod transit;
 mod vl_end;
 

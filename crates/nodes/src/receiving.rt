@@ -1,5 +1,17 @@
-use integrity::Integrity;
-use redundancy::Redundancy;
+ghost use Rattle.std.specs.Prelude.{◌≡◌, ◌<◌, length};
+ghost use Rattle.integrity.specs.Integrity.{integrity};
+ghost use Rattle.integrity.specs.declared.checking.Check.TheVariants.{Passed};
+ghost use Rattle.nodes.specs.Sending.{replied};
+ghost use Rattle.nodes.specs.EndSystem.{check_of, checked, received, received_reply, redundant, with_check};
+ghost use Rattle.nodes.specs.EndSystemUndoing.{delivery_kept, unreceived};
+ghost use Rattle.nodes.specs.EndSystemParts.{ReceivedCameFrom};
+
+use crate::kept::Kept;
+use crate::outbound::Outbound;
+use integrity::{Check, Integrity};
+use redundancy::{Delivery, Received, Redundancy};
+use reverse::Reversible;
+use vlink::{Cause, Frame, Net, Note, Time};
 
 /// What checks the frames of one virtual link at a receiver: integrity checking on each network, and then redundancy
 /// management (ARINC 664 Part 7).
@@ -8,4 +20,81 @@ pub struct Receiving {
     pub a: Integrity,
     pub b: Integrity,
     pub redundancy: Redundancy,
+}
+
+impl Receiving {
+    /// A frame has come: it is delivered if it passes the check of its network and redundancy management then lets it
+    /// through, and lost otherwise.
+    pub fn receive(&mut self, at: Time, frame: &Frame, out: &mut Outbound) -> Kept
+        requires { length out.old.notes < 2 }
+        ensures state { self.new ≡ received at frame.now self.old }
+        ensures reply { out.new ≡ replied out.old (received_reply at frame.now self.old) }
+        ensures kept { let check = check_of frame.now.net self.old in
+            result ≡ Kept.Received check (delivery_kept self.old (integrity.out check frame.now.number)) }
+    {
+        let (verdict, check) = self.check(frame);
+        let delivery = match verdict {
+            Check::Passed => Some(self.deliver(at, frame, out)),
+            Check::Refused => {
+                out.lose(Cause::Integrity, frame);
+                None
+            }
+        };
+        Kept::Received { check, delivery }
+    }
+
+    /// Takes back that a frame came, by the records of the check of its network and of redundancy management.
+    pub fn take_back(
+        &mut self,
+        at: Time,
+        frame: &Frame,
+        check: Option<u8>,
+        delivery: Option<Option<(u8, Time)>>,
+    )
+        requires { ReceivedCameFrom at frame.now self.old check delivery }
+        ensures { self.new ≡ unreceived frame.now.net check delivery self.old }
+    {
+        let number = frame.number;
+        if let Some(last) = delivery {
+            self.redundancy.undo(&Received { number, at }, last);
+        }
+        match frame.net {
+            Net::A => self.a.undo(&number, check),
+            Net::B => self.b.undo(&number, check),
+        }
+    }
+
+    /// Integrity checking on the network of the frame.
+    fn check(&mut self, frame: &Frame) -> (Check, Option<u8>)
+        ensures state { self.new ≡ with_check frame.now.net (integrity.after (check_of frame.now.net self.old) frame.now.number) self.old }
+        ensures verdict { result.0 ≡ integrity.out (check_of frame.now.net self.old) frame.now.number }
+        ensures kept { result.1 ≡ check_of frame.now.net self.old }
+    {
+        match frame.net {
+            Net::A => self.a.apply(&frame.number),
+            Net::B => self.b.apply(&frame.number),
+        }
+    }
+
+    /// Redundancy management of a frame that has passed the check of its network. The latency counts from the offer, in ns.
+    fn deliver(&mut self, at: Time, frame: &Frame, out: &mut Outbound) -> Option<(u8, Time)>
+        requires { length out.old.notes < 2 }
+        ensures state { self.new ≡ redundant at frame.now self.old Passed }
+        ensures reply { out.new ≡ replied out.old (checked at frame.now self.old Passed) }
+        ensures kept { result ≡ self.old.redundancy.last }
+    {
+        let received = Received {
+            number: frame.number,
+            at,
+        };
+        let (delivery, last) = self.redundancy.apply(&received);
+        match delivery {
+            Delivery::Delivered => out.note(Note::Delivered {
+                vl: frame.vl,
+                latency: at.ns().saturating_sub(frame.offered.ns()),
+            }),
+            Delivery::Duplicate => out.lose(Cause::Duplicate, frame),
+        }
+        last
+    }
 }

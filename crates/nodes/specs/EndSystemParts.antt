@@ -1,0 +1,78 @@
+-- The parts of an end system now, and the records, that came from an event.
+use Rattle.std.specs.Prelude.{◌≡◌, ℕ, if◌then◌else◌, Option, None, Some}
+use Rattle.vlink.specs.declared.frame.Frame.{Frame}
+use Rattle.vlink.specs.declared.frame.VlId.{VlId}
+use Rattle.vlink.specs.declared.frame.Net.{Net}
+use Rattle.vlink.specs.declared.frame.Net.TheVariants.{A, B}
+use Rattle.vlink.specs.declared.note.Cause.TheVariants.{Unknown}
+use Rattle.bag_regulator.specs.Regulator.{Regulator, regulator, IsRegulator}
+use Rattle.bag_regulator.specs.declared.event.RegEvent.{RegEvent}
+use Rattle.bag_regulator.specs.declared.event.RegEvent.TheVariants.{Offer, Release}
+use Rattle.bag_regulator.specs.declared.event.RegAnswer.{RegAnswer}
+use Rattle.bag_regulator.specs.declared.event.RegAnswer.TheVariants as answer
+use Rattle.bag_regulator.specs.declared.event.RegRecord.{RegRecord}
+use Rattle.bag_regulator.specs.declared.event.RegUndo.{RegUndo}
+use Rattle.bag_regulator.specs.declared.event.RegUndo.TheVariants as undo
+use Rattle.output_port.specs.declared.event.PortEvent.TheVariants.{Free}
+use Rattle.output_port.specs.declared.event.PortRecord.{PortRecord}
+use Rattle.integrity.specs.Integrity.{integrity}
+use Rattle.nodes.specs.declared.kept.Kept.{Kept}
+use Rattle.nodes.specs.declared.kept.Kept.TheVariants as kept
+use Rattle.nodes.specs.declared.vl_end.VlEnd.{VlEnd}
+use Rattle.nodes.specs.declared.receiving.Receiving.{Receiving}
+use Rattle.nodes.specs.Ports.{PortsState, exists}
+use Rattle.nodes.specs.EndSystem.{EndSystemState, source_at, sink_at, copied, released_out, lost, regulated, check_of, received, arrived, freed}
+use Rattle.nodes.specs.Undoing.{port_kept, IsPortValue}
+use Rattle.nodes.specs.EndSystemUndoing.{copied_kept, regulated_kept_by, regulated_kept, delivery_kept, taken_kept, IsCopyValue, AreCopiesValues, IsRegulatedValue}
+
+-- the frame that a regulator released at an event, told by what changed in its list and the number that it was to give
+abbrev pub frame_out : RegEvent → RegUndo → ℕ → Option Frame
+frame_out (Offer at frame) undo.AtOnce sn = Some (record frame { number = sn; released = at })
+frame_out (Release at) (undo.Popped frame) sn = Some (record frame { number = sn; released = at })
+frame_out (Offer at frame) undo.Kept sn = None
+frame_out (Offer at frame) (undo.Popped f) sn = None
+frame_out (Offer at frame) undo.Nothing sn = None
+frame_out (Release at) undo.AtOnce sn = None
+frame_out (Release at) undo.Kept sn = None
+frame_out (Release at) undo.Nothing sn = None
+
+-- the copy of a frame for a network was put
+abbrev pub CopyCameFrom : VlEnd → Net → Frame → PortsState → Option PortRecord → Type 0
+CopyCameFrom end net frame now k =
+    (ports : PortsState) × IsCopyValue end net ports × (now ≡ copied end net frame ports) × (k ≡ copied_kept end net frame ports)
+
+-- both copies of a frame were put, A before B
+abbrev pub CopiesCameFrom : VlEnd → Frame → PortsState → Option PortRecord → Option PortRecord → Type 0
+CopiesCameFrom end frame now a b =
+    (ports : PortsState) × AreCopiesValues end (answer.Released frame) ports × (now ≡ released_out end (answer.Released frame) ports)
+    × (a ≡ copied_kept end A frame ports) × (b ≡ copied_kept end B frame (copied end A frame ports))
+
+-- a regulator was asked to do something, and both copies of the frame that it released went out
+abbrev pub SendingCameFrom : RegEvent → VlEnd → Regulator → PortsState → RegRecord → Option PortRecord → Option PortRecord → Type 0
+SendingCameFrom e end now now_ports k a b =
+    (g : Regulator) × (ports : PortsState) × IsRegulator g × AreCopiesValues end (regulator.out g e).answer ports
+    × (now ≡ regulator.after g e) × (now_ports ≡ released_out end (regulator.out g e).answer ports)
+    × (kept.Regulated k a b ≡ regulated_kept_by (regulator.saves g e) end (regulator.out g e).answer ports)
+
+-- the regulator of a virtual link was asked to do something, if the end system sends it
+abbrev pub RegulatedCameFrom : ℕ → ℕ → VlId → RegEvent → EndSystemState → Kept → Type 0
+RegulatedCameFrom n t vl e now k =
+    (s : EndSystemState) × IsRegulatedValue e s (source_at s vl) × (now ≡ (regulated n t e (lost Unknown e) s (source_at s vl)).state)
+    × (k ≡ regulated_kept e s (source_at s vl))
+
+-- the frame of a port left
+abbrev pub FreedCameFrom : ℕ → ℕ → ℕ → EndSystemState → Kept → Type 0
+FreedCameFrom n t q now k =
+    (s : EndSystemState) × IsPortValue q s.ports × (now ≡ (freed n t q s).state) × (k ≡ kept.Port (port_kept q Free s.ports))
+
+-- a frame went through the checks of its virtual link
+abbrev pub ReceivedCameFrom : ℕ → Frame → Receiving → Option ℕ → Option (Option (ℕ × ℕ)) → Type 0
+ReceivedCameFrom t frame now c d =
+    (r : Receiving) × (now ≡ received t frame r) × (c ≡ check_of frame.net r)
+    × (d ≡ delivery_kept r (integrity.out (check_of frame.net r) frame.number))
+
+-- a frame came to a port
+abbrev pub ArrivedCameFrom : ℕ → ℕ → Frame → EndSystemState → Kept → Type 0
+ArrivedCameFrom t q frame now k =
+    (s : EndSystemState) × (now ≡ (arrived t q frame s).state)
+    × (k ≡ (if exists s.ports q then taken_kept frame (sink_at s frame.vl frame.net) else kept.Nothing))

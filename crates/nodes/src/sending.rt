@@ -1,0 +1,141 @@
+//! What follows when the regulator of a virtual link is asked to do something.
+ghost use Rattle.std.specs.Prelude.{◌≡◌, ◌+◌, ◌<◌, ◌≤◌, [], length};
+ghost use Rattle.vlink.specs.Numbering.{greatest_number};
+ghost use Rattle.vlink.specs.declared.frame.Frame.{Frame};
+ghost use Rattle.bag_regulator.specs.declared.event.RegAnswer.TheVariants.{Released};
+ghost use Rattle.bag_regulator.specs.Regulator.{regulator as plain, IsRegulator};
+ghost use Rattle.nodes.specs.Sending.{joined, replied};
+ghost use Rattle.nodes.specs.EndSystem.{asked, copied, copy, copied_reply, full, lost, released_out, released_reply};
+ghost use Rattle.nodes.specs.EndSystemUndoing.{copied_kept, regulated_kept_by, AreCopiesValues, IsCopyValue};
+
+use crate::kept::Kept;
+use crate::networks::{is_on, port_of};
+use crate::outbound::Outbound;
+use crate::ports::Ports;
+use crate::vl_end::VlEnd;
+use bag_regulator::{BagRegulator, RegAnswer, RegEvent, RegRecord};
+use output_port::{PortEvent, PortRecord, Priority};
+use reverse::Reversible;
+use vlink::{Body, Cause, Frame, Net, Time, VlId};
+
+/// Asks a regulator to do something. A frame that finds its queue full is lost, the Release that it asks for is sent, and
+/// copies of the frame that it releases go out.
+pub fn regulate(
+    at: Time,
+    event: &RegEvent,
+    end: &VlEnd,
+    regulator: &mut BagRegulator,
+    ports: &mut Ports,
+    out: &mut Outbound,
+) -> Kept
+    requires messages { out.old.messages ≡ [] }
+    requires notes { out.old.notes ≡ [] }
+    requires numbers { out.old.sender.counter + 24 ≤ greatest_number }
+    ensures regulator { regulator.new ≡ plain.after regulator.old event.now }
+    ensures ports { ports.new ≡ released_out end.now (plain.out regulator.old event.now).answer ports.old }
+    ensures reply { let told = plain.out regulator.old event.now in
+        out.new ≡ replied out.old (joined (joined (full event.now told.answer) (asked out.old.sender.number end.now.vl told.release_at))
+            (released_reply out.old.sender.number at end.now told.answer ports.old)) }
+    ensures kept { result ≡ regulated_kept_by (plain.saves regulator.old event.now) end.now (plain.out regulator.old event.now).answer ports.old }
+    ensures valid { IsRegulator regulator.old }
+    ensures valid_ports { AreCopiesValues end.now (plain.out regulator.old event.now).answer ports.old }
+{
+    let (told, kept) = regulator.apply(event);
+    lose_if_full(event, told.answer, out);
+    ask(end.vl, told.release_at, out);
+    release(at, kept, end, told.answer, ports, out)
+}
+
+/// A frame that is offered is lost for this cause.
+pub fn lose_offered(cause: Cause, event: &RegEvent, out: &mut Outbound)
+    requires { length out.old.notes < 2 }
+    ensures { out.new ≡ replied out.old (lost cause event.now) }
+{
+    if let RegEvent::Offer { frame, .. } = *event {
+        out.lose(cause, &frame);
+    }
+}
+
+/// A frame that finds the queue full is lost.
+fn lose_if_full(event: &RegEvent, answer: RegAnswer, out: &mut Outbound)
+    requires { length out.old.notes < 2 }
+    ensures { out.new ≡ replied out.old (full event.now answer) }
+{
+    if let RegAnswer::Dropped = answer {
+        lose_offered(Cause::QueueFull, event, out);
+    }
+}
+
+/// Sends the Release that a regulator asks for at the moment `release_at` in ns, if it asks for one.
+fn ask(vl: VlId, release_at: Option<u64>, out: &mut Outbound)
+    requires room { length out.old.messages < 24 }
+    requires numbers { out.old.sender.counter < greatest_number }
+    ensures { out.new ≡ replied out.old (asked out.old.sender.number vl release_at) }
+{
+    if let Some(ns) = release_at {
+        let number = out.number();
+        out.send(ns, number, Body::Release { vl });
+    }
+}
+
+/// Both copies of the frame that a regulator releases go out, A before B.
+fn release(
+    at: Time,
+    regulator: RegRecord,
+    end: &VlEnd,
+    answer: RegAnswer,
+    ports: &mut Ports,
+    out: &mut Outbound,
+) -> Kept
+    requires room { length out.old.messages + 4 ≤ 24 }
+    requires notes { (frame : Frame) → answer ≡ Released frame → out.old.notes ≡ [] }
+    requires numbers { out.old.sender.counter + 4 ≤ greatest_number }
+    ensures ports { ports.new ≡ released_out end.now answer ports.old }
+    ensures reply { out.new ≡ replied out.old (released_reply out.old.sender.number at end.now answer ports.old) }
+    ensures kept { result ≡ regulated_kept_by regulator end.now answer ports.old }
+    ensures valid { AreCopiesValues end.now answer ports.old }
+{
+    let RegAnswer::Released(frame) = answer else {
+        return Kept::Regulated {
+            regulator,
+            a: None,
+            b: None,
+        };
+    };
+    let a = copy_out(at, end, Net::A, &frame, ports, out);
+    let b = copy_out(at, end, Net::B, &frame, ports, out);
+    Kept::Regulated { regulator, a, b }
+}
+
+/// The copy of a frame for this network is put to the network's port, where the virtual link is on it.
+fn copy_out(
+    at: Time,
+    end: &VlEnd,
+    net: Net,
+    frame: &Frame,
+    ports: &mut Ports,
+    out: &mut Outbound,
+) -> Option<PortRecord>
+    requires room { length out.old.messages + 2 ≤ 24 }
+    requires notes { length out.old.notes < 2 }
+    requires numbers { out.old.sender.counter + 2 ≤ greatest_number }
+    ensures ports { ports.new ≡ copied end.now net frame.now ports.old }
+    ensures reply { out.new ≡ replied out.old (copied_reply out.old.sender.number at end.now net frame.now ports.old) }
+    ensures kept { result ≡ copied_kept end.now net frame.now ports.old }
+    ensures valid { IsCopyValue end.now net ports.old }
+{
+    if !is_on(end, net) {
+        return None;
+    }
+    ports.act(at, port_of(net), &copy(net, frame), out)
+}
+
+/// What the port of this network is asked to do with a frame: it is put with low priority (profile).
+pub fn copy(net: Net, frame: &Frame) -> PortEvent
+    ensures { result ≡ copy net frame.now }
+{
+    PortEvent::Put {
+        frame: Frame { net, ..*frame },
+        priority: Priority::Low,
+    }
+}
