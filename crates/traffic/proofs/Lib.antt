@@ -1,0 +1,2 @@
+pub mod DrawingLemmas
+pub mod OfferingLemmas
