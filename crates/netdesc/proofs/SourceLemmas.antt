@@ -63,7 +63,7 @@ all-begin : (nodes : List NodePlan) (earlier vls : List VlPlan) → each_after (
 all-begin nodes earlier [] none = tt
 all-begin nodes earlier (vl ∷ vls) none = (vl-begins nodes earlier vl (front-none _ _ none), all-begin nodes (earlier ++ vl ∷ []) vls (behind-none (no_tree_at_vl nodes earlier vl) _ none))
 
-all-have : (plan : Plan) → IsAccepted plan → All (HasSource plan.nodes) plan.vls
+pub all-have : (plan : Plan) → IsAccepted plan → All (HasSource plan.nodes) plan.vls
 all-have plan accepted =
     let rows = accepted.rows in
     let stands = accepted.stands in

@@ -1,6 +1,7 @@
 //! The offers of one virtual link.
-ghost use Rattle.std.specs.Prelude.{◌≡◌, ℕ, ◌+◌, ◌<◌, ◌≤◌, ◌↔◌, [], ◌∷◌, ◌++◌, IsSome, IfSome, OnOk};
+ghost use Rattle.std.specs.Prelude.{◌≡◌, ℕ, ◌+◌, ◌<◌, ◌≤◌, ◌↔◌, [], ◌∷◌, ◌++◌, IsSome, IfSome, OnOk, OnErr, vec_len, vec_capacity};
 ghost use Rattle.vlink.specs.declared.time.TheConstants.{LATEST_NS};
+ghost use Rattle.netdesc.specs.Limits.{IsLinkInLimits};
 ghost use Rattle.traffic.specs.Offers.{due_of, due_count, sender_of, offer_by, come_until, offers_from};
 
 use netdesc::{GREATEST_PROCESSES, VirtualLink};
@@ -11,7 +12,7 @@ use vlink::{Body, Message, Time, VlId};
 
 /// How many offers of a virtual link are due until then.
 fn due_count(until: Time, link: &VirtualLink) -> u64
-    requires { 0 < link.now.period_ns }
+    requires { IsLinkInLimits link.now }
     ensures value { result ≡ due_count until link.now }
     ensures due { (k : ℕ) → (k < result) ↔ (due_of link.now k ≤ until) }
 {
@@ -50,9 +51,11 @@ fn push_offer(
     number: u64,
     word: u32,
 ) -> Result<(), AllocError>
+    requires limits { IsLinkInLimits link.now }
     requires due { due_of link.now number ≤ until }
     requires until { until ≤ LATEST_NS }
-    ensures { OnOk result (offers.new.items ≡ offers.old.items ++ come_until until (offer_by link.now source number word ∷ [])) }
+    ensures offers { OnOk result (offers.new.items ≡ offers.old.items ++ come_until until (offer_by link.now source number word ∷ [])) }
+    ensures full { OnErr result (vec_capacity offers.old ≤ vec_len offers.old) }
 {
     let due = link.offset_ns + number * link.period_ns;
     let jitter = u64::from(word) % (u64::from(link.jitter_ns) + 1);
@@ -79,7 +82,7 @@ pub fn push_offers(
     link: &VirtualLink,
     source: u16,
 ) -> Result<(), AllocError>
-    requires period { 0 < link.now.period_ns }
+    requires limits { IsLinkInLimits link.now }
     requires until { until ≤ LATEST_NS }
     ensures { OnOk result (offers.new.items ≡ offers.old.items ++ offers_from seed until link.now source) }
 {

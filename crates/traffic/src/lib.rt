@@ -2,8 +2,10 @@
 #![tactic(auto)]
 
 mod drawing;
+mod law;
 mod offering;
 
+pub use law::lawful_offers;
 pub use offering::offers;
 
 #[cfg(test)]

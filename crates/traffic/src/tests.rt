@@ -1,4 +1,4 @@
-use crate::offers;
+use crate::{lawful_offers, offers};
 use netdesc::read;
 use std::alloc::Global;
 use std::test::Fail;
@@ -100,6 +100,7 @@ fn moments(alloc: Global, text: &str) -> Result<Vec<(u64, u64)>, Fail> {
 #[test]
 fn an_offer_is_a_message_to_the_source(rt: HostRuntime) -> Result<(), Fail> {
     let network = read(rt.alloc(), &one_vl(rt.alloc(), &[])?)?;
+    lawful_offers::<(), (), ()>(&network);
     let wanted = [Message {
         time: Time::new(0).ok_or("a moment within the limits")?,
         receiver: 0,
@@ -198,7 +199,7 @@ fn the_receiver_is_the_source(rt: HostRuntime) -> Result<(), Fail> {
 // The network of examples/n2.toml, with its 20 virtual links or with them in falling order.
 fn twenty_vls(alloc: Global, is_falling: bool) -> Result<String, Fail> {
     let mut text = format!(in alloc; "{NODES}{LINKS}{OTHER_SWITCH}")?;
-    for place in 0..20 {
+    for place in 0..20u16 {
         let id = if is_falling { 20 - place } else { place + 1 };
         let vl = changed(alloc, VL, "id = 1", &format!(in alloc; "id = {id}")?)?;
         let on_b = "b = [[\"ES1\", \"SWB\", \"ES2\"]]";

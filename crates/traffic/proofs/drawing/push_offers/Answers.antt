@@ -1,6 +1,4 @@
-use Rattle.std.proofs.Common.{ℕ, append-nil, ap, sym, ◌∙◌}
-use Rattle.rand_pcg.specs.Lcg.{started, increment_of}
-use Rattle.rand_pcg.specs.Pcg.{multiplier_64}
+use Rattle.std.proofs.Common.{append-nil, sym, ◌∙◌}
 use Rattle.traffic.proofs.DrawingLemmas.{generator_at-first, drawn_at, come_until_more}
 use Rattle.traffic.proofs.drawing.push_offers.Goals as goal
 
@@ -14,6 +12,6 @@ pub loop-number-preserved : goal.loop-number-preserved
 loop-number-preserved c =
     let drawn = drawn_at c.args.seed c.args.link.now.id.0 c.loop-number.number _ _ _ c.loop-number.invariant.words c.next_word.ensures in
     record {
-      pushed = come_until_more c.args.seed c.args.until c.args.link.now c.args.source c.loop-number.number _ _ _ _ drawn.0 c.loop-number.invariant.pushed c.in_ok-push_offer.ensures;
+      pushed = come_until_more c.args.seed c.args.until c.args.link.now c.args.source c.loop-number.number _ _ _ _ drawn.0 c.loop-number.invariant.pushed c.in_ok-push_offer.ensures.offers;
       words = drawn.1;
     }
