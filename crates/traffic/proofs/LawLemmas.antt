@@ -24,15 +24,15 @@ use Rattle.traffic.specs.Offers.{sender_of, offer_of, due_count, offers_from, of
 use Rattle.traffic.specs.Lawful.{IsOfNetwork, HasLawfulOffers}
 
 -- the message is an offer of this virtual link of a network
-pub record IsOffered (plan : Plan) (vl : VlPlan) (m : Message) : Type 0 where
-  pub source : ℕ
-  pub k : ℕ
-  pub begins : source_of vl ≡ Some source
-  pub is : m ≡ offer_of plan.seed vl.link source k
-  pub in_time : m.time ≤ plan.until
+record IsOffered (plan : Plan) (vl : VlPlan) (m : Message) : Type 0 where
+  source : ℕ
+  k : ℕ
+  begins : source_of vl ≡ Some source
+  is : m ≡ offer_of plan.seed vl.link source k
+  in_time : m.time ≤ plan.until
 
 -- each number is below those behind it
-abbrev pub AreRising : List VlPlan → Type 0
+abbrev AreRising : List VlPlan → Type 0
 AreRising [] = Unit {0}
 AreRising (vl ∷ vls) = AllByRecursion (λ later. id_of vl < id_of later) vls × AreRising vls
 
@@ -74,7 +74,7 @@ module _ {S K N : Type 0} (r : Rules Message S K N) (O : IsOrder r) (number : (m
 
   -- ---- the offers of all
 
-  pub in-all : (P : VlPlan → Type 0) (vls : List VlPlan) (m : Message) → AllByRecursion P vls → IsIn r m (flat_map (offers_of_vl plan) vls) → (vl : VlPlan) × P vl × IsOffered plan vl m
+  in-all : (P : VlPlan → Type 0) (vls : List VlPlan) (m : Message) → AllByRecursion P vls → IsIn r m (flat_map (offers_of_vl plan) vls) → (vl : VlPlan) × P vl × IsOffered plan vl m
   in-all P [] m all there = absurd (omega arith)
   in-all P (vl ∷ vls) m all there =
       elim (in-append r O m _ _ there) [ inl here ↦ (vl, all.0, in-at vl (source_of vl) m refl here) | inr later ↦ in-all P vls m all.1 later ]
@@ -87,7 +87,7 @@ module _ {S K N : Type 0} (r : Rules Message S K N) (O : IsOrder r) (number : (m
       let same : sender_of (id_of other) ≡ sender_of (id_of vl) = sym (ap (λ (x : Message). x.sender) offered.is) ∙ ap (λ (x : Message). x.sender) own.is in
       omega arith
 
-  pub all-once : (vls : List VlPlan) (m : Message) → AreRising vls → times_in r m (flat_map (offers_of_vl plan) vls) ≤ 1
+  all-once : (vls : List VlPlan) (m : Message) → AreRising vls → times_in r m (flat_map (offers_of_vl plan) vls) ≤ 1
   all-once [] m rising = omega arith
   all-once (vl ∷ vls) m rising =
       let own = offers_of_vl plan vl in
@@ -113,21 +113,37 @@ are-rising (vl ∷ vls) pairs =
 
 -- ---- the laws
 
-pub lawful : {S K N : Type 0} (plan : Plan) (f : Simulation Message S K N) → IsAccepted plan → process_count plan ≤ GREATEST_PROCESSES → IsOfNetwork plan f → HasLawfulOffers f
-lawful {S} {K} {N} plan f accepted few of = record {
-  offered_once = λ m. subst (λ (ms : List Message). times_in f.rules m ms ≤ 1) (sym of.offers) (all-once f.rules of.order of.number plan plan.vls m rising);
-  offered_from = λ m there. (let (vl, has, offered) = found m there in let e = ap (λ (x : Message). x.sender) offered.is in let s = of.sender m in let p = of.processes in omega arith);
-  offered_to = λ m there. (
-      let (vl, has, offered) = found m there in
-      let same : has.node ≡ offered.source = cc in
-      let below = end-system-below plan.nodes has.node has.end_system in
-      let e = ap (λ (x : Message). x.receiver) offered.is in let s = of.receiver m in let p = of.processes in omega arith
-      );
-  offered_in_time = λ m there. (let (vl, has, offered) = found m there in let within = offered.in_time in let t = of.time m in let u = of.until in omega arith);
-}
-  where
-    rising : AreRising plan.vls
-    rising = are-rising plan.vls (AllPairs-from_increasing (ids_of plan.vls) (ids-rise plan accepted))
+module _ {S K N : Type 0} (plan : Plan) (f : Simulation Message S K N) (accepted : IsAccepted plan) (few : process_count plan ≤ GREATEST_PROCESSES) (of : IsOfNetwork plan f) where
+  -- an offer is one of a virtual link that has a source
+  found : (m : Message) → IsIn f.rules m f.offers → (vl : VlPlan) × HasSource plan.nodes vl × IsOffered plan vl m
+  found m there =
+      let all = recursion_from_All (HasSource plan.nodes) plan.vls (all-have plan accepted) in
+      in-all f.rules of.order of.number plan (HasSource plan.nodes) plan.vls m all (subst (IsIn f.rules m) of.offers there)
 
-    found : (m : Message) → IsIn f.rules m f.offers → (vl : VlPlan) × HasSource plan.nodes vl × IsOffered plan vl m
-    found m there = in-all f.rules of.order of.number plan (HasSource plan.nodes) plan.vls m (recursion_from_All (HasSource plan.nodes) plan.vls (all-have plan accepted)) (subst (IsIn f.rules m) of.offers there)
+  once : (m : Message) → times_in f.rules m f.offers ≤ 1
+  once m =
+      let rising : AreRising plan.vls = are-rising plan.vls (AllPairs-from_increasing (ids_of plan.vls) (ids-rise plan accepted)) in
+      subst (λ (ms : List Message). times_in f.rules m ms ≤ 1) (sym of.offers) (all-once f.rules of.order of.number plan plan.vls m rising)
+
+  from : (m : Message) → IsIn f.rules m f.offers → f.processes ≤ f.rules.sender m
+  from m there =
+      let (vl, has, offered) = found m there in
+      let sender : m.sender ≡ sender_of (id_of vl) = ap (λ (x : Message). x.sender) offered.is in
+      omega (arith, of.sender m, of.processes)
+
+  to : (m : Message) → IsIn f.rules m f.offers → f.rules.receiver m < f.processes
+  to m there =
+      let (vl, has, offered) = found m there in
+      let receiver : m.receiver ≡ offered.source = ap (λ (x : Message). x.receiver) offered.is in
+      let source : has.node ≡ offered.source = cc in
+      let below = end-system-below plan.nodes has.node has.end_system in
+      omega (arith, of.receiver m, of.processes)
+
+  in_time : (m : Message) → IsIn f.rules m f.offers → f.rules.time m ≤ f.until
+  in_time m there =
+      let (vl, has, offered) = found m there in
+      let within = offered.in_time in
+      omega (arith, of.time m, of.until)
+
+  pub lawful : HasLawfulOffers f
+  lawful = record { offered_once = once; offered_from = from; offered_to = to; offered_in_time = in_time }
