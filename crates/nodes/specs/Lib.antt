@@ -1,9 +1,12 @@
 pub mod EndSystem
 pub mod EndSystemUndoing
 pub mod Finding
+pub mod Grouping
 pub mod Line
+pub mod Meeting
 pub mod Node
 pub mod NodeUndoing
+pub mod Opening
 pub mod Ports
 pub mod Sending
 pub mod Switch

@@ -4,6 +4,7 @@
 mod end_system;
 mod kept;
 mod line;
+mod meeting;
 mod node;
 mod numbers;
 mod outbound;

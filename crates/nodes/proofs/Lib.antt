@@ -1,0 +1,3 @@
+pub mod GroupLemmas
+pub mod WayLemmas
+pub mod VlLemmas
