@@ -1,3 +1,4 @@
 pub mod GroupLemmas
 pub mod WayLemmas
 pub mod VlLemmas
+pub mod WireLemmas

@@ -14,6 +14,7 @@ mod receiving;
 mod switch;
 mod transit;
 mod vl_end;
+mod wiring;
 
 pub use end_system::EndSystem;
 pub use kept::Kept;
