@@ -4,11 +4,14 @@ pub mod EndSystemParts
 pub mod EndSystemSending
 pub mod EndSystemUndoing
 pub mod Finding
+pub mod Grouping
 pub mod Line
+pub mod Meeting
 pub mod Node
 pub mod NodeLaws
 pub mod NodeSending
 pub mod NodeUndoing
+pub mod Opening
 pub mod Placed
 pub mod Places
 pub mod Ports
