@@ -20,6 +20,7 @@ pub mod RegulatorLaws
 pub mod Replies
 pub mod Sending
 pub mod SentLaws
+pub mod Simulation
 pub mod Switch
 pub mod SwitchLaws
 pub mod SwitchSending
