@@ -4,9 +4,11 @@
 mod end_system;
 mod kept;
 mod line;
+mod making;
 mod meeting;
 mod node;
 mod numbers;
+mod opening;
 mod outbound;
 mod part;
 mod ports;

@@ -32,6 +32,18 @@ impl Model for Node {
 }
 
 impl Node {
+    /// A process that has sent nothing yet.
+    pub(crate) fn of_part(number: u16, until: Time, part: Part) -> Self
+        ensures { result ≡ record { sender = record { number = number; until = until; counter = 0 }; part = part } }
+    {
+        Node {
+            number,
+            until,
+            counter: 0,
+            part,
+        }
+    }
+
     /// The number of the next message that the node sends.
     pub fn counter(&self) -> u64
         ensures { result ≡ self.now.sender.counter }
