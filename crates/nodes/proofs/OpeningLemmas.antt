@@ -1,12 +1,16 @@
 -- End systems and switches made of their parts.
-use Rattle.std.proofs.Common.{◌≡◌, ℕ, List, map, ap, sym, ◌∙◌}
+use Rattle.std.proofs.Common.{◌≡◌, ℕ, ◌-◌, ◌≤◌, List, length, map, ap, sym, ◌∙◌}
+use Rattle.std.specs.Prelude.{slice_get}
+use Rattle.std.proofs.lemmas.Option.{slice_get_past}
 use Rattle.bag_regulator.specs.Regulator.{Regulator}
 use Rattle.policer.specs.Account.{Policing}
 use Rattle.netdesc.specs.declared.limits.TheConstants.{GREATEST_PORTS}
 use Rattle.netdesc.specs.Plan.{Plan}
 use Rattle.netdesc.specs.Accepted.{IsAccepted}
+use Rattle.netdesc.specs.Lines.{lines_of}
 use Rattle.nodes.specs.declared.meeting.Meeting.{Meeting}
 use Rattle.nodes.specs.declared.meeting.Side.TheVariants.{Out, In}
+use Rattle.nodes.specs.declared.part.Part.TheVariants as part
 use Rattle.nodes.specs.declared.receiving.Receiving.{Receiving}
 use Rattle.nodes.specs.declared.transit.Transit.{Transit}
 use Rattle.nodes.specs.declared.vl_end.VlEnd.{VlEnd}
@@ -14,7 +18,8 @@ use Rattle.nodes.specs.Meeting.{ways_at, with_ways, meetings}
 use Rattle.nodes.specs.Ports.{PortsState}
 use Rattle.nodes.specs.EndSystem.{EndSystemState}
 use Rattle.nodes.specs.Switch.{SwitchState}
-use Rattle.nodes.specs.Opening.{regulator_of, receiving_of, account_of, ports_of, end_system_opening, switch_opening}
+use Rattle.nodes.specs.Line.{LineState}
+use Rattle.nodes.specs.Opening.{line_opening, part_opening, regulator_of, receiving_of, account_of, ports_of, end_system_opening, switch_opening}
 use Rattle.nodes.specs.Making.{end_met, transit_met}
 use Rattle.nodes.proofs.MakingLemmas.{regulators-made, receivers-made, accounts-made, ends-made, transits-made}
 
@@ -44,3 +49,9 @@ end_system-made plan n bytes sent received s out_is in_is sources regulators sin
     ∙ ap (λ (x : List VlEnd). record (end_system_opening plan n bytes) { sinks = x; receivers = s.receivers; ports = s.ports }) g
     ∙ ap (λ (x : List Receiving). record (end_system_opening plan n bytes) { receivers = x; ports = s.ports }) h
     ∙ ap (λ (x : PortsState). record (end_system_opening plan n bytes) { ports = x }) ports
+
+-- a process behind the nodes is a line
+pub line-made : (plan : Plan) (p k : ℕ) (s : LineState) → length plan.nodes ≤ p → k ≡ p - length plan.nodes → s ≡ line_opening plan k (slice_get (lines_of plan) k) → part.Line s ≡ part_opening plan p (slice_get plan.nodes p)
+line-made plan p k s behind place made =
+    ap (λ (l : LineState). part.Line l) (made ∙ ap (λ j. line_opening plan j (slice_get (lines_of plan) j)) place)
+    ∙ ap (part_opening plan p) (sym (slice_get_past plan.nodes p behind))
