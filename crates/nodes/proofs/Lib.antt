@@ -7,3 +7,6 @@ pub mod SwitchLemmas
 pub mod VlLemmas
 pub mod WayLemmas
 pub mod WireLemmas
+pub mod MakingLemmas
+pub mod OpeningLaws
+pub mod OpeningLemmas

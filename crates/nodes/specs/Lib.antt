@@ -6,6 +6,7 @@ pub mod EndSystemUndoing
 pub mod Finding
 pub mod Grouping
 pub mod Line
+pub mod Making
 pub mod Meeting
 pub mod Node
 pub mod NodeLaws

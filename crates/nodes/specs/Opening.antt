@@ -13,6 +13,7 @@ use Rattle.output_port.specs.Port.{PortState}
 use Rattle.output_port.specs.declared.event.Priority as waiting
 use Rattle.output_port.specs.declared.event.Priority.TheVariants.{High, Low}
 use Rattle.netdesc.specs.declared.limits.TheConstants.{GREATEST_PORTS}
+use Rattle.netdesc.specs.declared.vl.VirtualLink.{VirtualLink}
 use Rattle.netdesc.specs.declared.wiring.Line.{Line}
 use Rattle.netdesc.specs.declared.wiring.Way.{Way}
 use Rattle.netdesc.specs.Plan.{Plan, NodePlan, VlPlan}
@@ -62,14 +63,14 @@ ports_of plan n count bytes = let wires = wires_of plan n count in record { wire
 abbrev pub end_of : (VlPlan → List Way) → VlPlan → VlEnd
 end_of ways vl = record { vl = vl.link.id; a = is_by (ways vl) 0; b = is_by (ways vl) 1 }
 
-abbrev pub bag_ns : VlPlan → ℕ
-bag_ns vl = vl.link.bag_ms * 1000000
+abbrev pub bag_ns : VirtualLink → ℕ
+bag_ns link = link.bag_ms * 1000000
 
-abbrev pub regulator_of : VlPlan → Regulator
-regulator_of vl = regulator.opening (bag_ns vl) vl.link.depth
+abbrev pub regulator_of : VirtualLink → Regulator
+regulator_of link = regulator.opening (bag_ns link) link.depth
 
-abbrev pub receiving_of : VlPlan → Receiving
-receiving_of vl = record { a = None; b = None; redundancy = record { skew_max = vl.link.skew_max_ns; last = None } }
+abbrev pub receiving_of : VirtualLink → Receiving
+receiving_of link = record { a = None; b = None; redundancy = record { skew_max = link.skew_max_ns; last = None } }
 
 -- end system n, at each of whose ports so many bytes may wait
 abbrev pub end_system_opening : Plan → ℕ → ℕ → EndSystemState
@@ -78,9 +79,9 @@ end_system_opening plan n bytes =
     let received = with_ways (ways_at plan n In) plan.vls in
     record {
       sources = map (end_of (ways_at plan n Out)) sent;
-      regulators = map regulator_of sent;
+      regulators = map (λ vl. regulator_of vl.link) sent;
       sinks = map (end_of (ways_at plan n In)) received;
-      receivers = map receiving_of received;
+      receivers = map (λ vl. receiving_of vl.link) received;
       ports = ports_of plan n 2 bytes;
     }
 
@@ -99,8 +100,8 @@ transit_of plan n vl = record {
   priority = port_priority vl.link.priority;
 }
 
-abbrev pub account_of : VlPlan → Policing
-account_of vl = full vl.link.smax (bag_ns vl) vl.link.policing_jitter_ns
+abbrev pub account_of : VirtualLink → Policing
+account_of link = full link.smax (bag_ns link) link.policing_jitter_ns
 
 -- switch n with this delay, at each of whose ports so many bytes may wait
 abbrev pub switch_opening : Plan → ℕ → ℕ → ℕ → SwitchState
@@ -109,7 +110,7 @@ switch_opening plan n latency bytes =
     record {
       latency = latency;
       transits = map (transit_of plan n) through;
-      accounts = map account_of through;
+      accounts = map (λ vl. account_of vl.link) through;
       ports = ports_of plan n GREATEST_PORTS bytes;
     }
 

@@ -4,7 +4,7 @@ ghost use Rattle.vlink.specs.Numbering.{greatest_number};
 ghost use Rattle.vlink.specs.declared.note.Cause.TheVariants.{Unknown};
 ghost use Rattle.bag_regulator.specs.declared.event.RegEvent.TheVariants.{Offer};
 ghost use Rattle.nodes.specs.Sending.{replied};
-ghost use Rattle.nodes.specs.EndSystem.{end_system, lost, offered_frame, regulated, taken, SinkAt, SourceAt, sink_at, source_at};
+ghost use Rattle.nodes.specs.EndSystem.{end_system, numbers_of, lost, offered_frame, regulated, taken, SinkAt, SourceAt, sink_at, source_at};
 ghost use Rattle.nodes.specs.EndSystemUndoing.{end_system_kept, end_system_restored, regulated_kept, taken_kept, unfreed, unregulated, untaken, EndSystemCameFrom, IsEndSystemValue, IsRegulatedValue};
 ghost use Rattle.nodes.specs.EndSystemParts.{ArrivedCameFrom, FreedCameFrom, RegulatedCameFrom};
 
@@ -47,6 +47,31 @@ impl Model for EndSystem {
 }
 
 impl EndSystem {
+    /// An end system of these parts: for each virtual link its number, and a regulator or what checks its frames.
+    pub(crate) fn new(
+        source_numbers: Numbers,
+        sources: Vec<VlEnd>,
+        regulators: Vec<BagRegulator>,
+        sink_numbers: Numbers,
+        sinks: Vec<VlEnd>,
+        receivers: Vec<Receiving>,
+        ports: Ports,
+    ) -> Self
+        requires sources { source_numbers ≡ numbers_of sources.items }
+        requires sinks { sink_numbers ≡ numbers_of sinks.items }
+        ensures { result ≡ record { sources = sources.items; regulators = regulators.items; sinks = sinks.items; receivers = receivers.items; ports = ports } }
+    {
+        EndSystem {
+            source_numbers,
+            sources,
+            regulators,
+            sink_numbers,
+            sinks,
+            receivers,
+            ports,
+        }
+    }
+
     /// Handles a message, and gives the record by which it is undone.
     pub fn handle(&mut self, message: &Message, out: &mut Outbound) -> Kept
         requires messages { out.old.messages ≡ [] }

@@ -4,10 +4,12 @@
 mod end_system;
 mod kept;
 mod line;
+mod making;
 mod meeting;
 mod networks;
 mod node;
 mod numbers;
+mod opening;
 mod outbound;
 mod part;
 mod ports;

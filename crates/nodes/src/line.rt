@@ -27,6 +27,18 @@ impl Model for Line {
 }
 
 impl Line {
+    /// A line to a port of a node.
+    pub(crate) fn new(to: u16, to_port: u8, propagation_ns: u32, outages: Vec<Outage>) -> Self
+        ensures { result ≡ record { to = to; to_port = to_port; propagation = propagation_ns; outages = outages.items } }
+    {
+        Line {
+            to,
+            to_port,
+            propagation_ns,
+            outages,
+        }
+    }
+
     /// Whether this moment lies in an outage. It looks at each outage of the line.
     fn is_out(&self, at: Time) -> bool
         ensures { result ≡ list_any (is_within at) self.now.outages }

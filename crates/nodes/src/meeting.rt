@@ -2,8 +2,10 @@ ghost use Rattle.std.specs.Prelude.{◌≡◌, ◌<◌, ◌≤◌, ◌++◌, ◌
 ghost use Rattle.std.specs.List.{flat_map};
 ghost use Rattle.netdesc.specs.declared.limits.TheConstants.{GREATEST_PORTS};
 ghost use Rattle.netdesc.specs.Limits.{IsLinkInLimits};
+ghost use Rattle.nodes.specs.Finding.{IsRising};
 ghost use Rattle.nodes.specs.Meeting.{ports_by, ways_at, meetings};
 ghost use Rattle.nodes.specs.Grouping.{groups, met, all_met};
+ghost use Rattle.nodes.specs.Making.{numbers_met};
 
 use netdesc::{Network, VirtualLink, Way};
 use std::alloc::{AllocError, Global};
@@ -110,6 +112,7 @@ pub fn meetings(
 ) -> Result<Vec<Meeting>, AllocError>
     requires { node < length network.now.nodes }
     ensures meetings { IfOk result (λ found. found.items ≡ meetings network.now node side) }
+    ensures rising { IfOk result (λ found. IsRising (numbers_met found.items)) }
     ensures limits { IfOk result (λ found. All (λ m. IsLinkInLimits m.link) found.items) }
 {
     network.accepted();

@@ -1,4 +1,6 @@
-ghost use Rattle.std.specs.Prelude.{◌≡◌};
+ghost use Rattle.std.specs.Prelude.{◌≡◌, ◌<◌};
+ghost use Rattle.vlink.specs.declared.time.TheConstants.{GREATEST_NS};
+ghost use Rattle.nodes.specs.Placed.{IsPlacedPart};
 
 use crate::kept::Kept;
 use crate::outbound::Outbound;
@@ -39,6 +41,20 @@ impl Model for Node {
 }
 
 impl Node {
+    /// A process that has sent nothing yet.
+    pub(crate) fn of_part(number: u16, until: Time, part: Part) -> Self
+        requires placed { IsPlacedPart part }
+        requires until { until < GREATEST_NS }
+        ensures { result ≡ record { sender = record { number = number; until = until; counter = 0 }; part = part } }
+    {
+        Node {
+            number,
+            until,
+            counter: 0,
+            part,
+        }
+    }
+
     /// The number of the next message that the node sends.
     pub fn counter(&self) -> u64
         ensures { result ≡ self.now.sender.counter }

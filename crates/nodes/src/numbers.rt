@@ -1,5 +1,5 @@
 ghost use Rattle.std.specs.Prelude.{◌≡◌};
-ghost use Rattle.nodes.specs.Finding.{place_of};
+ghost use Rattle.nodes.specs.Finding.{place_of, IsRising};
 
 use std::marker::Model;
 use vlink::VlId;
@@ -24,6 +24,14 @@ impl Model for Numbers {
 }
 
 impl Numbers {
+    /// A table of these numbers.
+    pub(crate) fn new(ids: Vec<u16>) -> Self
+        requires { IsRising ids.items }
+        ensures { result ≡ ids.items }
+    {
+        Numbers { ids }
+    }
+
     /// The place of the virtual link with this number, or none where no virtual link at the node has it.
     pub fn place(&self, vl: VlId) -> Option<usize>
         ensures { result ≡ place_of self.now vl.0 }

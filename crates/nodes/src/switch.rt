@@ -4,7 +4,7 @@ ghost use Rattle.vlink.specs.Numbering.{greatest_number};
 ghost use Rattle.vlink.specs.declared.message.Body.TheVariants as body;
 ghost use Rattle.nodes.specs.declared.kept.Kept.TheVariants as saved;
 ghost use Rattle.nodes.specs.Sending.{replied};
-ghost use Rattle.nodes.specs.Switch.{forwarded, judged, outputs_of, switch, taken, put, TransitAt, transit_at};
+ghost use Rattle.nodes.specs.Switch.{numbers_of, forwarded, judged, outputs_of, switch, taken, put, TransitAt, transit_at};
 ghost use Rattle.nodes.specs.SwitchUndoing.{taken_kept, put_kept, switch_kept, switch_restored, unported, unpoliced, SwitchCameFrom, IsSwitchValue, IsTakenValue, IsPutValue};
 
 use crate::kept::Kept;
@@ -41,6 +41,26 @@ impl Model for Switch {
 }
 
 impl Switch {
+    /// A switch of these parts: for each virtual link its number and its account.
+    pub(crate) fn new(
+        latency_ns: u32,
+        numbers: Numbers,
+        transits: Vec<Transit>,
+        accounts: Vec<Account>,
+        ports: Ports,
+    ) -> Self
+        requires { numbers ≡ numbers_of transits.items }
+        ensures { result ≡ record { latency = latency_ns; transits = transits.items; accounts = accounts.items; ports = ports } }
+    {
+        Switch {
+            latency_ns,
+            numbers,
+            transits,
+            accounts,
+            ports,
+        }
+    }
+
     /// Handles a message, and gives the record by which it is undone.
     pub fn handle(&mut self, message: &Message, out: &mut Outbound) -> Kept
         requires messages { out.old.messages ≡ [] }

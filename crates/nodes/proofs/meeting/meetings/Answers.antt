@@ -1,19 +1,33 @@
-use Rattle.std.proofs.Common.{◌≡◌, ◌<◌, List, ap, sym, ◌∙◌, subst}
+use Rattle.std.proofs.Common.{◌≡◌, ℕ, ◌<◌, List, ap, sym, ◌∙◌, subst}
 use Rattle.std.specs.Prelude.{All, IfOk}
 use Rattle.netdesc.specs.declared.limits.TheConstants.{GREATEST_PORTS}
+use Rattle.std.specs.List.{flat_map}
+use Rattle.netdesc.specs.declared.wiring.Way.{Way}
+use Rattle.netdesc.specs.Plan.{Plan}
+use Rattle.netdesc.specs.Accepted.{IsAccepted}
+use Rattle.nodes.specs.declared.meeting.Side.{Side}
 use Rattle.nodes.specs.declared.meeting.Meeting.{Meeting}
-use Rattle.nodes.specs.Meeting.{ways_at}
+use Rattle.nodes.specs.Meeting.{ways_at, meetings}
+use Rattle.nodes.specs.Finding.{IsRising}
+use Rattle.nodes.specs.Making.{numbers_met}
+use Rattle.std.proofs.lemmas.Result.{IfOk-weaker}
 use Rattle.nodes.specs.Grouping.{all_met}
-use Rattle.nodes.proofs.WayLemmas.{ways-own, ways-within, all_met-is}
+use Rattle.nodes.proofs.WayLemmas.{ways-own, ways-within, all_met-is, meetings-rise}
 use Rattle.nodes.proofs.meeting.meetings.Goals as goal
 
 pub all_met-requires : goal.all_met-requires
 all_met-requires c = subst (All (λ way. way.port < GREATEST_PORTS)) (sym c.ways_at.ensures) (ways-within c.args.network.now c.args.node c.args.side c.accepted.ensures)
 
+is-met : (plan : Plan) (n : ℕ) (side : Side) (ways : List Way) → IsAccepted plan → ways ≡ flat_map (ways_at plan n side) plan.vls → all_met plan ways ≡ meetings plan n side
+is-met plan n side ways accepted is = ap (all_met plan) is ∙ all_met-is plan (ways_at plan n side) (ways-own plan n side) accepted
+
 pub returns-clause-meetings : goal.returns-clause-meetings
 returns-clause-meetings c =
-    let plan = c.args.network.now in
-    let n = c.args.node in
-    let side = c.args.side in
-    let is = ap (all_met plan) c.ways_at.ensures ∙ all_met-is plan (ways_at plan n side) (ways-own plan n side) c.accepted.ensures in
+    let is = is-met c.args.network.now c.args.node c.args.side c.ways_at.result.now c.accepted.ensures c.ways_at.ensures in
     subst (λ (ms : List Meeting). IfOk c.all_met.result (λ found. found.items ≡ ms)) is c.all_met.ensures.met
+
+pub returns-clause-rising : goal.returns-clause-rising
+returns-clause-rising c =
+    let is = is-met c.args.network.now c.args.node c.args.side c.ways_at.result.now c.accepted.ensures c.ways_at.ensures in
+    let rise = meetings-rise c.args.network.now c.args.node c.args.side c.accepted.ensures in
+    IfOk-weaker c.all_met.result _ (λ found. IsRising (numbers_met found.items)) (λ found (e : found.items ≡ all_met c.args.network.now c.ways_at.result.now). subst (λ (ms : List Meeting). IsRising (numbers_met ms)) (sym (e ∙ is)) rise) c.all_met.ensures.met

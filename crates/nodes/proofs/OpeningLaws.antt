@@ -1,0 +1,118 @@
+-- Each process of an accepted network begins as the law of virtual time asks: its delays are at least 1 ns, and it sends to processes.
+use Rattle.std.proofs.Common.{◌≡◌, ℕ, zero, suc, ◌+◌, ◌*◌, ◌-◌, ◌<◌, ◌≤◌, Bool, true, false, cond, List, [], ◌∷◌, map, length, Option, Some, None, All, refl, ap, sym, ◌∙◌, subst, arith}
+use Rattle.std.specs.Prelude.{slice_get, IfSome, filter, not}
+use Rattle.std.specs.Option.{option_map}
+use Rattle.bag_regulator.specs.Regulator.{Regulator}
+use Rattle.netdesc.specs.declared.wiring.Way.{Way}
+use Rattle.netdesc.specs.Trees.{is_none}
+use Rattle.nodes.specs.declared.meeting.Side.TheVariants.{Out}
+use Rattle.nodes.specs.Meeting.{ways_at, with_ways}
+use Rattle.std.specs.List.{AllByRecursion, range_with_len}
+use Rattle.std.proofs.lemmas.List.Elements.{All-from_recursion}
+use Rattle.std.proofs.lemmas.Option.{slice_get_within, none-some}
+use Rattle.network_rows.specs.declared.rows.NodeKind.{NodeKind}
+use Rattle.network_rows.specs.declared.rows.NodeKind.TheVariants as kind
+use Rattle.netdesc.specs.declared.wiring.Line.{Line}
+use Rattle.netdesc.specs.declared.limits.TheConstants.{GREATEST_PORTS}
+use Rattle.netdesc.specs.Plan.{Plan, NodePlan, VlPlan}
+use Rattle.netdesc.specs.Accepted.{IsAccepted}
+use Rattle.netdesc.specs.Lines.{lines_of}
+use Rattle.netdesc.specs.Faults.{process_count}
+use Rattle.netdesc.proofs.BuildLemmas.{line-read, length-lines}
+use Rattle.netdesc.proofs.PortLemmas.{line-within}
+use Rattle.netdesc.proofs.LimitLemmas.{kind-read, link-read}
+use Rattle.nodes.specs.declared.ports.Wire.{Wire}
+use Rattle.nodes.specs.declared.part.Part.TheVariants as part
+use Rattle.nodes.specs.Ports.{PortsState}
+use Rattle.nodes.specs.Opening.{leaves_by, wire_among, wires_of, ports_of, regulator_of, node_opening, part_opening, line_opening, opening}
+use Rattle.nodes.specs.Placed.{AllWires, IsPlacedPart, IsPlaced, IsWiredPart, IsWired}
+
+-- what holds of each line, as the wire of a process behind these, holds of the wire that is found
+wire-holds : (P : Wire → Type 0) (n q process : ℕ) (lines : List Line) →
+    ((k : ℕ) (line : Line) → slice_get lines k ≡ Some line → P (record { line = process + k; byte_ns = line.byte_ns })) → IfSome (wire_among n q process lines) P
+wire-holds P n q process [] h = tt
+wire-holds P n q process (line ∷ lines) h =
+    go (leaves_by n q line) (wire-holds P n q (process + 1) lines (λ k other there. subst (λ j. P (record { line = j; byte_ns = other.byte_ns })) (omega arith) (h (suc k) other there)))
+  where
+    go : (b : Bool) → IfSome (wire_among n q (process + 1) lines) P → IfSome (cond b (Some (record { line = process; byte_ns = line.byte_ns })) (wire_among n q (process + 1) lines)) P
+    go true later = subst (λ j. P (record { line = j; byte_ns = line.byte_ns })) (omega arith) (h 0 line refl)
+    go false later = later
+
+all-mapped : {X Y : Type 0} (P : Y → Type 0) (f : X → Y) (xs : List X) → ((x : X) → P (f x)) → AllByRecursion P (map f xs)
+all-mapped P f [] h = tt
+all-mapped P f (x ∷ xs) h = (h x, all-mapped P f xs h)
+
+all-read : {X : Type 0} (P : X → Type 0) (xs : List X) → ((k : ℕ) (x : X) → slice_get xs k ≡ Some x → P x) → AllByRecursion P xs
+all-read P [] h = tt
+all-read P (x ∷ xs) h = (h 0 x refl, all-read P xs (λ k y there. h (suc k) y there))
+
+-- what holds of all holds of what those that pass a test give
+all-passed : {X Y : Type 0} (P : X → Type 0) (Q : Y → Type 0) (f : X → Y) (test : X → Bool) → ((x : X) → P x → Q (f x)) → (xs : List X) → AllByRecursion P xs → AllByRecursion Q (map f (filter test xs))
+all-passed P Q f test gives [] all = tt
+all-passed P Q f test gives (x ∷ xs) all = go (test x) (all-passed P Q f test gives xs all.1)
+  where
+    go : (b : Bool) → AllByRecursion Q (map f (filter test xs)) → AllByRecursion Q (map f (cond b (x ∷ filter test xs) (filter test xs)))
+    go true later = (gives x all.0, later)
+    go false later = later
+
+-- where a list has nothing, it has ended
+none-past : {X : Type 0} (xs : List X) (k : ℕ) → slice_get xs k ≡ None → length xs ≤ k
+none-past [] k e = omega arith
+none-past (x ∷ xs) zero e = absurd (none-some x (sym e))
+none-past (x ∷ xs) (suc k) e = let rest = none-past xs k e in omega arith
+
+module _ (plan : Plan) (accepted : IsAccepted plan) where
+  wires-hold : (P : Wire → Type 0) → ((k : ℕ) (line : Line) → slice_get (lines_of plan) k ≡ Some line → P (record { line = length plan.nodes + k; byte_ns = line.byte_ns })) →
+      (n count bytes : ℕ) → AllWires P (ports_of plan n count bytes)
+  unfolding wires_of
+  wires-hold P h n count bytes =
+      All-from_recursion (λ wire. IfSome wire P) _ (all-mapped (λ wire. IfSome wire P) (λ q. wire_among n q (length plan.nodes) (lines_of plan)) (range_with_len 0 count)
+          (λ q. wire-holds P n q (length plan.nodes) (lines_of plan) h))
+
+  slow-wires : (n count bytes : ℕ) → AllWires (λ wire. 1 ≤ wire.byte_ns) (ports_of plan n count bytes)
+  slow-wires = wires-hold (λ wire. 1 ≤ wire.byte_ns) (λ k line there. (line-within plan k line accepted there).times.byte)
+
+  line-process : (k : ℕ) (line : Line) → slice_get (lines_of plan) k ≡ Some line → length plan.nodes + k < process_count plan
+  line-process k line there = omega (arith, slice_get_within (lines_of plan) k line there, length-lines plan.nodes [] plan.links)
+
+  near-wires : (n count bytes : ℕ) → AllWires (λ wire. wire.line < process_count plan) (ports_of plan n count bytes)
+  near-wires = wires-hold (λ wire. wire.line < process_count plan) line-process
+
+  has-bag : VlPlan → Type 0
+  has-bag vl = 1 ≤ vl.link.bag_ms
+
+  spaced : (ways : VlPlan → List Way) → All (λ (g : Regulator). 1 ≤ g.bag) (map (λ vl. regulator_of vl.link) (with_ways ways plan.vls))
+  unfolding has-bag
+  spaced ways =
+      All-from_recursion (λ (g : Regulator). 1 ≤ g.bag) _ (all-passed has-bag (λ g. 1 ≤ g.bag) (λ vl. regulator_of vl.link) (λ vl. not (is_none (ways vl))) (λ vl h. omega (arith, h)) plan.vls
+          (all-read has-bag plan.vls (λ k vl there. (link-read plan k vl.link accepted (ap (option_map (λ vl. vl.link)) there)).least_bag)))
+
+  node-placed : (n : ℕ) (node : NodePlan) → slice_get plan.nodes n ≡ Some node → (k : NodeKind) → node.kind ≡ k → IsPlacedPart (node_opening plan n node.port_bytes k)
+  node-placed n node there kind.EndSystem e = (slow-wires n 2 node.port_bytes, spaced (ways_at plan n Out))
+  node-placed n node there (kind.Switch net latency_ns) e =
+      (slow-wires n GREATEST_PORTS node.port_bytes, (kind-read plan n (kind.Switch net latency_ns) accepted (ap (option_map (λ node. node.kind)) there ∙ ap Some e)).0)
+
+  node-wired : (n : ℕ) (node : NodePlan) (k : NodeKind) → IsWiredPart (process_count plan) (node_opening plan n node.port_bytes k)
+  node-wired n node kind.EndSystem = near-wires n 2 node.port_bytes
+  node-wired n node (kind.Switch net latency_ns) = near-wires n GREATEST_PORTS node.port_bytes
+
+  -- process p behind the nodes is a line
+  behind : (p : ℕ) → p < process_count plan → slice_get plan.nodes p ≡ None → p - length plan.nodes < length (lines_of plan)
+  behind p lt none = omega (arith, none-past plan.nodes p none, length-lines plan.nodes [] plan.links)
+
+  line-there : (k : ℕ) → k < length (lines_of plan) → (o : Option Line) → slice_get (lines_of plan) k ≡ o →
+      IsPlacedPart (part.Line (line_opening plan k o)) × IsWiredPart (process_count plan) (part.Line (line_opening plan k o))
+  line-there k lt (Some line) there =
+      ((line-within plan k line accepted there).times.propagation, omega (arith, (line-read plan k line accepted there).1))
+  line-there k lt None there = absurd (omega (arith, none-past (lines_of plan) k there))
+
+  part-opens : (p : ℕ) → p < process_count plan → (o : Option NodePlan) → slice_get plan.nodes p ≡ o →
+      IsPlacedPart (part_opening plan p o) × IsWiredPart (process_count plan) (part_opening plan p o)
+  part-opens p lt (Some node) there = (node-placed p node there node.kind refl, node-wired p node node.kind)
+  part-opens p lt None there = let k = p - length plan.nodes in line-there k (behind p lt there) (slice_get (lines_of plan) k) refl
+
+  pub opening-placed : (p : ℕ) → p < process_count plan → IsPlaced (opening plan p)
+  opening-placed p lt = (part-opens p lt (slice_get plan.nodes p) refl).0
+
+  pub opening-wired : (p : ℕ) → p < process_count plan → IsWired (process_count plan) (opening plan p)
+  opening-wired p lt = (lt, (part-opens p lt (slice_get plan.nodes p) refl).1)

@@ -1,0 +1,116 @@
+ghost use Rattle.std.specs.Prelude.{◌≡◌, ◌<◌, length, slice_get, IfOk};
+ghost use Rattle.netdesc.specs.declared.limits.TheConstants.{GREATEST_PORTS};
+ghost use Rattle.netdesc.specs.Faults.{process_count};
+ghost use Rattle.netdesc.specs.Lines.{lines_of};
+ghost use Rattle.nodes.specs.Opening.{end_system_opening, switch_opening, line_opening, part_opening, opening};
+
+use crate::end_system::EndSystem;
+use crate::line::Line;
+use crate::making::{accounts_of, ends_of, numbers_of, receivers_of, regulators_of, transits_of};
+use crate::meeting::{Side, meetings};
+use crate::node::Node;
+use crate::part::Part;
+use crate::switch::Switch;
+use crate::wiring::ports_of;
+use netdesc::{GREATEST_PORTS, Network, NodeKind};
+use std::alloc::{AllocError, Global};
+
+/// An end system at each of whose ports so many bytes may wait.
+fn end_system(
+    alloc: Global,
+    network: &Network,
+    node: u16,
+    bytes: u32,
+) -> Result<EndSystem, AllocError>
+    requires { node < length network.now.nodes }
+    ensures { IfOk result (λ s. s ≡ end_system_opening network.now node bytes) }
+{
+    let sent = meetings(alloc, network, node, Side::Out)?;
+    let received = meetings(alloc, network, node, Side::In)?;
+    Ok(EndSystem::new(
+        numbers_of(alloc, &sent)?,
+        ends_of(alloc, &sent)?,
+        regulators_of(alloc, &sent)?,
+        numbers_of(alloc, &received)?,
+        ends_of(alloc, &received)?,
+        receivers_of(alloc, &received)?,
+        ports_of(alloc, network, node, 2, bytes)?,
+    ))
+}
+
+/// A switch with this delay, at each of whose ports so many bytes may wait.
+fn switch(
+    alloc: Global,
+    network: &Network,
+    node: u16,
+    latency_ns: u32,
+    bytes: u32,
+) -> Result<Switch, AllocError>
+    requires { node < length network.now.nodes }
+    ensures { IfOk result (λ s. s ≡ switch_opening network.now node latency_ns bytes) }
+{
+    network.accepted();
+    let arriving = meetings(alloc, network, node, Side::In)?;
+    let departing = meetings(alloc, network, node, Side::Out)?;
+    Ok(Switch::new(
+        latency_ns,
+        numbers_of(alloc, &arriving)?,
+        transits_of(alloc, &arriving, &departing)?,
+        accounts_of(alloc, &arriving)?,
+        ports_of(alloc, network, node, GREATEST_PORTS, bytes)?,
+    ))
+}
+
+/// A line, with its outages.
+fn line(alloc: Global, network: &Network, line: usize) -> Result<Line, AllocError>
+    requires { line < length (lines_of network.now) }
+    ensures { IfOk result (λ s. s ≡ line_opening network.now line (slice_get (lines_of network.now) line)) }
+{
+    let row = network.line(line);
+    let outages = Vec::from_slice(alloc, network.outages(line))?;
+    Ok(Line::new(row.to, row.to_port as u8, row.propagation_ns, outages))
+}
+
+/// A node.
+fn node(alloc: Global, network: &Network, node: u16) -> Result<Part, AllocError>
+    requires { node < length network.now.nodes }
+    ensures { IfOk result (λ part. part ≡ part_opening network.now node (slice_get network.now.nodes node)) }
+{
+    let place = usize::from(node);
+    let bytes = network.port_bytes(place);
+    match network.kind(place) {
+        NodeKind::EndSystem => Ok(Part::EndSystem(end_system(alloc, network, node, bytes)?)),
+        NodeKind::Switch { latency_ns, .. } => {
+            Ok(Part::Switch(switch(alloc, network, node, latency_ns, bytes)?))
+        }
+    }
+}
+
+/// A node, or a line behind them.
+fn part(alloc: Global, network: &Network, process: u16) -> Result<Part, AllocError>
+    requires { process < process_count network.now }
+    ensures { IfOk result (λ part. part ≡ part_opening network.now process (slice_get network.now.nodes process)) }
+{
+    let nodes = network.node_count();
+    if usize::from(process) < nodes {
+        return node(alloc, network, process);
+    }
+    // Its contract says that there are two lines for each link.
+    let _lines = network.line_count();
+    let place = usize::from(process) - nodes;
+    Ok(Part::Line(line(alloc, network, place)?))
+}
+
+impl Node {
+    /// The process with this number, as it is before any message. All memory is taken here, and want of it is the only error.
+    ///
+    /// It looks at each line of the network, and at each virtual link that meets the node.
+    pub fn new(alloc: Global, network: &Network, process: u16) -> Result<Self, AllocError>
+        requires { process < process_count network.now }
+        ensures { IfOk result (λ node. node ≡ opening network.now process) }
+    {
+        network.accepted();
+        let part = part(alloc, network, process)?;
+        Ok(Node::of_part(process, network.until(), part))
+    }
+}
