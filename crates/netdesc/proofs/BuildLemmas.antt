@@ -1,9 +1,9 @@
 -- What rows without a fault give for the tables of their network.
-use Rattle.std.proofs.Common.{◌≡◌, ℕ, suc, ◌+◌, ◌*◌, ◌<◌, ◌≤◌, Bool, true, false, not, cond, nat_lt, take, List, [], ◌∷◌, ◌++◌, length, map, get_or, Option, Some, None, All, unwrap_or, refl, ap, sym, ◌∙◌, subst, arith, inl, inr}
+use Rattle.std.proofs.Common.{◌≡◌, ℕ, suc, ◌+◌, ◌*◌, ◌<◌, ◌≤◌, Bool, true, false, not, cond, nat_lt, take, List, [], ◌∷◌, ◌++◌, length, map, get_or, Option, Some, None, All, unwrap_or, refl, ap, sym, ◌∙◌, subst, arith}
 use Rattle.std.specs.Option.{option_map}
 use Rattle.std.specs.Str.{bytes_eq}
 use Rattle.network_rows.specs.declared.fault.DescFault.TheVariants.{TooMany}
-use Rattle.std.proofs.lemmas.Bool.{cases_Bool, false≢true}
+use Rattle.std.proofs.lemmas.Bool.{false≢true}
 use Rattle.std.proofs.lemmas.Bool.Decides.{nat_tests}
 use Rattle.std.proofs.lemmas.List.{length-map, get_or-map}
 use Rattle.std.proofs.lemmas.List.Elements.{All-from_recursion, recursion_from_All}
@@ -23,7 +23,7 @@ use Rattle.netdesc.specs.Rows.{each, each_after, when, top, place_by}
 use Rattle.netdesc.specs.Names.{names_of, is_among, number_of}
 use Rattle.netdesc.specs.Plan.{Plan, NodePlan, node_plan, link_plan, plan_of}
 use Rattle.netdesc.specs.Lines.{directions, lines_of}
-use Rattle.netdesc.specs.Faults.{faults_of, unknown_names, double_names, not_links, not_trees, too_many, double_at_link, double_at_node, double_at_vl, unknown_at_link, process_count}
+use Rattle.netdesc.specs.Faults.{faults_of, unknown_names, double_names, not_links, not_trees, too_many, double_at_link, double_at_node, unknown_at_link, process_count}
 use Rattle.netdesc.specs.Accepted.{IsAccepted}
 
 -- a link ends at nodes up to this number; so does a line

@@ -1,5 +1,5 @@
 -- Lists made row by row, and the first fault of them.
-use Rattle.std.proofs.Common.{◌≡◌, ℕ, ◌+◌, ◌<◌, Bool, ◌||◌, cond, add-zero, List, [], ◌∷◌, ◌++◌, length, take, drop, get_or, Option, Some, None, Result, Ok, Err, ◌⊎◌, inl, inr, refl, ap, sym, subst, map, ◌∙◌, arith, append_assoc}
+use Rattle.std.proofs.Common.{◌≡◌, ℕ, ◌+◌, ◌<◌, Bool, ◌||◌, cond, add-zero, List, [], ◌∷◌, ◌++◌, length, take, drop, get_or, Some, inl, inr, refl, ap, sym, subst, map, ◌∙◌, arith, append_assoc}
 use Rattle.std.specs.Prelude.{slice_get}
 use Rattle.std.proofs.lemmas.List.{take_more, append-nil, take-append-drop, drop_more, map-append, length-map, get_or-map, length-take-le}
 use Rattle.std.specs.List.{list_any, count_by}
@@ -8,7 +8,7 @@ use Rattle.std.proofs.lemmas.List.Sums.{count_by_more_yes, count_by_more_no}
 use Rattle.std.proofs.lemmas.List.Folds.{list_any_more}
 use Rattle.network_rows.specs.declared.fault.DescFault.{DescFault}
 use Rattle.netdesc.specs.Rows.{each, each_after}
-use Rattle.netdesc.specs.Finding.{Tells, Finds}
+use Rattle.netdesc.specs.Finding.{Tells}
 
 pub each_after-append : {X Y : Type 0} (f : List X → X → List Y) (earlier xs ys : List X) → each_after f earlier (xs ++ ys) ≡ each_after f earlier xs ++ each_after f (earlier ++ xs) ys
 each_after-append f earlier [] ys = ap (λ e. each_after f e ys) (sym (append-nil earlier))

@@ -1,17 +1,12 @@
 -- A map from two nodes to the link that joins them, one link after another.
-use Rattle.std.proofs.Common.{◌≡◌, ℕ, ◌+◌, ◌<◌, Bool, true, false, cond, ◌==◌, ◌&&◌, ◌||◌, List, [], ◌∷◌, ◌++◌, length, take, get_or, Option, Some, None, is_some, refl, ap, sym, ◌∙◌, arith, inl, inr}
-use Rattle.std.specs.List.{list_any}
+use Rattle.std.proofs.Common.{◌≡◌, ℕ, Bool, true, false, cond, ◌==◌, ◌&&◌, ◌||◌, List, [], ◌∷◌, ◌++◌, length, Some, None, is_some, refl, ap, sym, ◌∙◌, arith}
 use Rattle.std.specs.Ordering.{nat_cmp, ordering_then, is_eq}
 use Rattle.std.specs.declared.cmp.Ordering.{Ordering}
 use Rattle.std.specs.declared.cmp.Ordering.TheVariants.{Less, Equal, Greater}
-use Rattle.std.specs.Cmp.{nat_cmp_is}
 use Rattle.std.specs.BTreeMap.{BTreeMap, get, UpdatesBy}
-use Rattle.std.specs.Bool.{Decides, one_answer}
-use Rattle.std.proofs.lemmas.Bool.{cases_Bool, false≢true}
 use Rattle.std.proofs.lemmas.Bool.Decides.{nat_tests}
-use Rattle.std.proofs.lemmas.Map.Lookups.{exact_unsigned}
 use Rattle.netdesc.specs.declared.wiring.Link.{Link}
-use Rattle.netdesc.specs.Wiring.{goes, joins, link_between, is_linked}
+use Rattle.netdesc.specs.Wiring.{goes, joins, link_between}
 use Rattle.netdesc.specs.Finding.{pair_cmp, AreJoined}
 use Rattle.netdesc.proofs.PlaceLemmas.{or_else, or_else-none, place_by-push, place_by-same, none_of}
 

@@ -1,12 +1,10 @@
 -- The lines of a network without a fault: their times and their ports are within limits.
-use Rattle.std.proofs.Common.{◌≡◌, ℕ, ◌+◌, ◌<◌, ◌≤◌, Bool, true, false, not, cond, nat_lt, ◌==◌, ◌&&◌, ◌||◌, List, [], ◌∷◌, ◌++◌, length, map, take, get_or, count_by, Some, All, refl, ap, sym, ◌∙◌, subst, arith, append_assoc}
+use Rattle.std.proofs.Common.{◌≡◌, ℕ, ◌<◌, ◌≤◌, Bool, true, false, not, cond, nat_lt, ◌==◌, ◌&&◌, ◌||◌, List, [], ◌∷◌, ◌++◌, length, map, take, get_or, count_by, Some, All, refl, sym, ◌∙◌, subst, arith, append_assoc}
 use Rattle.std.specs.Prelude.{slice_get}
 use Rattle.std.specs.List.{AllByRecursion}
-use Rattle.std.proofs.lemmas.Bool.{false≢true}
 use Rattle.std.proofs.lemmas.Bool.Decides.{nat_tests}
 use Rattle.std.proofs.lemmas.List.Elements.{All-from_recursion, recursion_from_All}
 use Rattle.std.proofs.lemmas.List.Sums.{sum_by-append}
-use Rattle.std.proofs.lemmas.Option.{slice_get_within, get_or_from_slice_get}
 use Rattle.vlink.specs.declared.frame.Net.TheVariants.{A}
 use Rattle.network_rows.specs.declared.table.TheConstants.{SECOND_NS}
 use Rattle.network_rows.specs.declared.rows.LinkRow.{LinkRow}
@@ -22,7 +20,7 @@ use Rattle.netdesc.specs.Names.{names_of}
 use Rattle.netdesc.specs.Plan.{Plan, NodePlan, link_plan, byte_ns_of, plan_of}
 use Rattle.netdesc.specs.Wiring.{is_end_system, is_switch_of}
 use Rattle.netdesc.specs.Lines.{port_at, directions, lines_of}
-use Rattle.netdesc.specs.Faults.{faults_of, unknown_names, double_names, not_links, not_trees, too_many, too_many_at_node, touches}
+use Rattle.netdesc.specs.Faults.{unknown_names, double_names, not_links, not_trees, too_many, too_many_at_node, touches}
 use Rattle.netdesc.specs.Accepted.{IsAccepted}
 use Rattle.netdesc.proofs.BuildLemmas.{BothEnds, front-none, behind-none, when-none, ends-below, read-item}
 use Rattle.netdesc.proofs.EachLemmas.{each-at, length-before}

@@ -1,5 +1,5 @@
 -- The virtual links of a network without a fault differ in their numbers, and so these rise.
-use Rattle.std.proofs.Common.{◌≡◌, ℕ, Bool, true, false, ◌==◌, List, [], ◌∷◌, ◌++◌, map, refl, ap, sym, ◌∙◌, subst, arith, inl, inr}
+use Rattle.std.proofs.Common.{◌≡◌, ℕ, false, ◌==◌, List, [], ◌∷◌, ◌++◌, sym, ◌∙◌, arith, inl, inr}
 use Rattle.std.specs.List.{AllByRecursion, IsDistinct, Contains, list_any}
 use Rattle.std.specs.List.Sorted.{IsStrictlyIncreasing}
 use Rattle.std.proofs.lemmas.Bool.{cases_Bool, false≢true}
@@ -10,7 +10,7 @@ use Rattle.std.proofs.lemmas.Map.Keys.{IsDistinct-IsPermutation, IsStrictlyIncre
 use Rattle.std.proofs.Math.Dec.{eqb}
 use Rattle.netdesc.specs.Rows.{each, each_after}
 use Rattle.netdesc.specs.Plan.{Plan, VlPlan, plan_of}
-use Rattle.netdesc.specs.Faults.{unknown_names, double_names, not_links, double_at_vl}
+use Rattle.netdesc.specs.Faults.{unknown_names, double_names, double_at_vl}
 use Rattle.netdesc.specs.Accepted.{IsAccepted, id_of, ids_of}
 use Rattle.netdesc.proofs.BuildLemmas.{front-none, behind-none, when-none}
 use Rattle.netdesc.proofs.WayLemmas.{list_any-contains}

@@ -1,8 +1,8 @@
 -- Each virtual link of a network without a fault begins at an end system.
 use Rattle.std.proofs.Common.{◌≡◌, ℕ, get_or, arith, ◌<◌, Bool, true, false, not, ◌&&◌, ◌||◌, List, [], ◌∷◌, ◌++◌, length, map, Option, Some, None, All, refl, ap, sym, ◌∙◌, subst}
 use Rattle.std.specs.Prelude.{slice_get}
-use Rattle.std.specs.List.{AllByRecursion, list_any}
-use Rattle.std.specs.Option.{option_map, option_and_then}
+use Rattle.std.specs.List.{AllByRecursion}
+use Rattle.std.specs.Option.{option_map}
 use Rattle.std.proofs.lemmas.Bool.{false≢true}
 use Rattle.std.proofs.lemmas.List.Elements.{All-from_recursion}
 use Rattle.std.proofs.lemmas.List.Sorted.{All-permutation}
@@ -11,7 +11,7 @@ use Rattle.std.proofs.lemmas.List.{length-map}
 use Rattle.vlink.specs.declared.frame.Net.{Net}
 use Rattle.vlink.specs.declared.frame.Net.TheVariants.{A, B}
 use Rattle.netdesc.specs.declared.vl.Routed.{Routed}
-use Rattle.netdesc.specs.Rows.{each, each_after}
+use Rattle.netdesc.specs.Rows.{each_after}
 use Rattle.netdesc.specs.Plan.{Plan, NodePlan, VlPlan, plan_of}
 use Rattle.netdesc.specs.Wiring.{passes, is_end_kind, is_end_system}
 use Rattle.netdesc.specs.Trees.{first_of, is_bad_path, is_no_tree, source_among, source_of, differ, is_none}
@@ -63,7 +63,7 @@ all-begin : (nodes : List NodePlan) (earlier vls : List VlPlan) → each_after (
 all-begin nodes earlier [] none = tt
 all-begin nodes earlier (vl ∷ vls) none = (vl-begins nodes earlier vl (front-none _ _ none), all-begin nodes (earlier ++ vl ∷ []) vls (behind-none (no_tree_at_vl nodes earlier vl) _ none))
 
-all-have : (plan : Plan) → IsAccepted plan → All (HasSource plan.nodes) plan.vls
+pub all-have : (plan : Plan) → IsAccepted plan → All (HasSource plan.nodes) plan.vls
 all-have plan accepted =
     let rows = accepted.rows in
     let stands = accepted.stands in

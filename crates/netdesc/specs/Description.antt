@@ -1,10 +1,9 @@
 -- The faults of a text, in the order in which they are tried, and what a text without a fault stands for.
-use Rattle.std.specs.Prelude.{ℕ, ◌≡◌, List, [], ◌++◌, Option, Some}
+use Rattle.std.specs.Prelude.{ℕ, ◌≡◌, List, [], ◌++◌, Some}
 use Rattle.std.specs.Option.{option_map_or}
 use Rattle.toml.specs.Parse.{parse_document}
 use Rattle.toml.specs.Data.{Members}
 use Rattle.network_rows.specs.declared.fault.DescFault.{DescFault}
-use Rattle.network_rows.specs.declared.rows.Rows.{Rows}
 use Rattle.network_rows.specs.Faults.{faults_of_text}
 use Rattle.network_rows.specs.Rows.{rows_of}
 use Rattle.netdesc.specs.Plan.{Plan}

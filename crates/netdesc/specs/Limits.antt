@@ -1,5 +1,5 @@
 -- Which numbers a network has, as the limits of the keys of its description leave them. Times are in ns, and the bandwidth allocation gap is in ms.
-use Rattle.std.specs.Prelude.{ℕ, ◌≤◌, ⊤}
+use Rattle.std.specs.Prelude.{◌≤◌, ⊤}
 use Rattle.vlink.specs.declared.time.TheConstants.{LATEST_NS}
 use Rattle.network_rows.specs.declared.table.TheConstants.{SECOND_NS}
 use Rattle.network_rows.specs.declared.rows.NodeKind.{NodeKind}

@@ -1,5 +1,5 @@
 -- Names of nodes, and their numbers.
-use Rattle.std.specs.Prelude.{ℕ, ◌+◌, Bool, cond, List, [], ◌∷◌, map, length, Option, Some, None, unwrap_or}
+use Rattle.std.specs.Prelude.{ℕ, Bool, List, map, length, Option, unwrap_or}
 use Rattle.std.specs.List.{list_any}
 use Rattle.std.specs.Str.{bytes_eq}
 use Rattle.netdesc.specs.Rows.{place_by}

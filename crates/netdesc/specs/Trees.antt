@@ -1,11 +1,10 @@
 -- The paths of a virtual link: when they make a tree, and where it ends.
-use Rattle.std.specs.Prelude.{ℕ, ◌-◌, ◌==◌, ◌&&◌, ◌||◌, not, Bool, true, false, cond, List, [], ◌∷◌, ◌++◌, length, take, Option, Some, None, slice_get}
+use Rattle.std.specs.Prelude.{ℕ, ◌-◌, ◌==◌, ◌&&◌, ◌||◌, not, Bool, true, false, List, [], ◌∷◌, ◌++◌, length, take, Option, Some, None, slice_get}
 use Rattle.std.specs.List.{list_any, flat_map}
 use Rattle.std.specs.Option.{option_to_list}
 use Rattle.std.specs.Ordering.{nat_cmp}
 use Rattle.std.specs.BTreeSet.{insert_key}
 use Rattle.vlink.specs.declared.frame.Net.{Net}
-use Rattle.vlink.specs.declared.frame.Net.TheVariants.{A, B}
 use Rattle.netdesc.specs.Plan.{NodePlan, VlPlan}
 use Rattle.netdesc.specs.Wiring.{passes, is_end_system, is_switch_of}
 use Rattle.netdesc.specs.declared.wiring.Step.{Step}

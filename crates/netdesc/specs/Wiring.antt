@@ -1,7 +1,6 @@
 -- Nodes and the links between them.
-use Rattle.std.specs.Prelude.{ℕ, ◌+◌, ◌==◌, ◌&&◌, ◌||◌, not, Bool, true, false, cond, List, [], ◌∷◌, Option, Some, None, slice_get, is_some}
+use Rattle.std.specs.Prelude.{ℕ, ◌==◌, ◌&&◌, ◌||◌, Bool, true, false, List, Option, Some, None, slice_get}
 use Rattle.std.specs.List.{list_any}
-use Rattle.std.specs.Option.{option_map}
 use Rattle.vlink.specs.declared.frame.Net.{Net}
 use Rattle.vlink.specs.declared.frame.Net.TheVariants.{A, B}
 use Rattle.network_rows.specs.declared.rows.NodeKind.{NodeKind}

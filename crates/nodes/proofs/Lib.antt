@@ -1,4 +1,9 @@
 pub mod EndSystemLemmas
+pub mod GroupLemmas
 pub mod ListLemmas
 pub mod PortLemmas
 pub mod SendingLemmas
+pub mod SwitchLemmas
+pub mod VlLemmas
+pub mod WayLemmas
+pub mod WireLemmas

@@ -10,7 +10,8 @@ use Rattle.nodes.specs.declared.part.Part.{Part}
 use Rattle.nodes.specs.declared.part.Part.TheVariants.{EndSystem, Switch, Line}
 use Rattle.nodes.specs.EndSystemUndoing.{end_system_kept, end_system_restored, IsEndSystemValue}
 use Rattle.nodes.specs.SwitchUndoing.{switch_kept, switch_restored, IsSwitchValue}
-use Rattle.nodes.specs.Node.{NodeState, after, sends, notes}
+use Rattle.nodes.specs.Placed.{IsPlaced}
+use Rattle.nodes.specs.Node.{NodeState, handled, after, sends, notes}
 
 -- the records of the elements that a message changes
 abbrev pub part_kept : Message → Part → Kept
@@ -28,6 +29,14 @@ abbrev pub IsPartValue : Message → Part → Type 0
 IsPartValue m (EndSystem s) = IsEndSystemValue m.time m.body s
 IsPartValue m (Switch s) = IsSwitchValue m.body s
 IsPartValue m (Line s) = ⊤
+
+-- the part now and the record came from this message at a node with some number
+abbrev pub PartCameFrom : Message → Part → Kept → Type 0
+PartCameFrom m now k = (n : ℕ) × (s : Part) × IsPartValue m s × (now ≡ (handled n m s).part) × (k ≡ part_kept m s)
+
+-- the delays of the node are those of a network, and what the elements that the message changes hold is a value of their types
+abbrev pub IsNodeValue : NodeState → Message → Type 0
+IsNodeValue s m = IsPlaced s × IsPartValue m s.part
 
 -- a node as an actor: its plain step, the record of an event, and the node before it, whose counter goes back by what was sent
 abbrev pub node : Plain NodeState Message Sends NodeRecord

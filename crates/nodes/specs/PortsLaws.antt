@@ -1,12 +1,24 @@
--- Undoing an event at a port gives back the ports.
-use Rattle.std.proofs.Common.{◌≡◌, ℕ, Option, None, Some, slice_get, slice_set, refl, ap, ◌∙◌}
+-- The ports of a node: undoing an event gives back the ports, their lines stay, and what follows from an event.
+use Rattle.std.proofs.Common.{◌≡◌, ℕ, ◌+◌, [], ◌∷◌, Option, None, Some, IfSome, All, slice_get, slice_set, refl, subst, ap, ◌∙◌, arith}
+use Rattle.std.proofs.lemmas.Option.{option_and_then_some}
+use Rattle.std.proofs.lemmas.List.Elements.{All-nil, All-cons}
+use Rattle.vlink.specs.Wire.{last_bit_after, busy_for}
+use Rattle.vlink.specs.declared.frame.Frame.{Frame}
+use Rattle.vlink.specs.declared.message.Body.TheVariants.{Carry, PortFree}
+use Rattle.vlink.specs.declared.note.Cause.TheVariants.{PortFull}
 use Rattle.output_port.specs.Port.{PortState, port}
 use Rattle.output_port.specs.Undoing.{port-undoes}
 use Rattle.output_port.specs.declared.event.PortEvent.{PortEvent}
+use Rattle.output_port.specs.declared.event.PortEvent.TheVariants.{Put, Free}
+use Rattle.output_port.specs.declared.event.PortAnswer.{PortAnswer}
+use Rattle.output_port.specs.declared.event.PortAnswer.TheVariants as answer
 use Rattle.nodes.specs.declared.ports.Wire.{Wire}
-use Rattle.nodes.specs.Ports.{PortsState, changed, changed_at, wire_at}
+use Rattle.nodes.specs.Sending.{Wish, Reply, silent, loss}
+use Rattle.nodes.specs.Ports.{PortsState, changed, changed_at, wire_at, reply, reply_at, answered, start}
 use Rattle.nodes.specs.Undoing.{port_kept, kept_at, restored, restored_at}
-use Rattle.nodes.specs.Places.{get-set, set-back}
+use Rattle.nodes.specs.Placed.{AllWires}
+use Rattle.nodes.specs.Places.{All-there, get-set, set-back}
+use Rattle.nodes.specs.Replies.{IsQuiet, IsFew, silent-quiet, loss-quiet, quiet-all, quiet-few, few-more}
 
 pub ports-undo : (q : ℕ) (e : PortEvent) (ports : PortsState) → restored q (port_kept q e ports) (changed q e ports) ≡ ports
 ports-undo q e ports = go (wire_at ports q) (slice_get ports.states q) refl
@@ -19,3 +31,59 @@ ports-undo q e ports = go (wire_at ports q) (slice_get ports.states q) refl
         ∙ ap (λ xs. record ports { states = xs }) (set-back ports.states q p (port.after p e) h)
     go (Some w) None h = refl
     go None p h = refl
+
+pub wires-stay : (q : ℕ) (e : PortEvent) (ports : PortsState) → (changed q e ports).wires ≡ ports.wires
+wires-stay q e ports = go (wire_at ports q) (slice_get ports.states q)
+  where
+    go : (w : Option Wire) (p : Option PortState) → (changed_at q e ports w p).wires ≡ ports.wires
+    go (Some w) (Some p) = refl
+    go (Some w) None = refl
+    go None p = refl
+
+pub wire-there : (P : Wire → Type 0) (ports : PortsState) (q : ℕ) (wire : Wire) → AllWires P ports → wire_at ports q ≡ Some wire → P wire
+wire-there P ports q wire h e =
+    option_and_then_some (λ w. w) (slice_get ports.wires q) wire e
+    (λ w f g. subst (λ o. IfSome o P) g (All-there (λ o. IfSome o P) ports.wires q w h f))
+
+-- K holds of what follows, if it holds where nothing is sent, and where a frame starts into the line of the port
+pub reply-cases : (K : Reply → Type 0) (n t q : ℕ) (e : PortEvent) (ports : PortsState) → ((r : Reply) → IsQuiet r → K r) →
+    ((wire : Wire) (frame : Frame) → wire_at ports q ≡ Some wire → K (start n t q wire frame)) → K (reply n t q e ports)
+reply-cases K n t q e ports quiet starts = go (wire_at ports q) (slice_get ports.states q) refl
+  where
+    by_answer : (wire : Wire) (e : PortEvent) (a : PortAnswer) → wire_at ports q ≡ Some wire → K (answered n t q wire e a)
+    by_answer wire e (answer.Started frame) h = starts wire frame h
+    by_answer wire (Put frame priority) answer.Dropped h = quiet (loss PortFull frame) (loss-quiet PortFull frame)
+    by_answer wire Free answer.Dropped h = quiet silent silent-quiet
+    by_answer wire e answer.Kept h = quiet silent silent-quiet
+    by_answer wire e answer.Idle h = quiet silent silent-quiet
+    by_answer wire e answer.Nothing h = quiet silent silent-quiet
+
+    go : (w : Option Wire) (p : Option PortState) → wire_at ports q ≡ w → K (reply_at n t q e w p)
+    go (Some wire) (Some p) h = by_answer wire e (port.out p e) h
+    go (Some wire) None h = quiet silent silent-quiet
+    go None p h = quiet silent silent-quiet
+
+-- what a frame that starts asks to be sent: its last bit is carried into the line, and then the port is free
+abbrev pub carrying : ℕ → Wire → Frame → Wish
+carrying t wire frame = record { time = t + last_bit_after frame.size wire.byte_ns; receiver = wire.line; body = Carry frame }
+
+abbrev pub freeing : ℕ → ℕ → ℕ → Wire → Frame → Wish
+freeing n t q wire frame = record { time = t + busy_for frame.size wire.byte_ns; receiver = n; body = PortFree q }
+
+-- both have P, for each frame that starts into this line at moment t
+abbrev pub WireMeets : (Wish → Type 0) → ℕ → ℕ → Wire → Type 0
+WireMeets P n t wire = (q : ℕ) (frame : Frame) → P (carrying t wire frame) × P (freeing n t q wire frame)
+
+pub reply-all : (P : Wish → Type 0) (n t q : ℕ) (e : PortEvent) (ports : PortsState) → AllWires (WireMeets P n t) ports →
+    All P (reply n t q e ports).wishes
+reply-all P n t q e ports h = reply-cases (λ r. All P r.wishes) n t q e ports (quiet-all P) starts
+  where
+    starts : (wire : Wire) (frame : Frame) → wire_at ports q ≡ Some wire → All P (start n t q wire frame).wishes
+    starts wire frame w =
+        let both = wire-there (WireMeets P n t) ports q wire h w q frame in
+        All-cons P (carrying t wire frame) (freeing n t q wire frame ∷ []) both.0 (All-cons P (freeing n t q wire frame) [] both.1 (All-nil P))
+
+pub reply-few : (n t q : ℕ) (e : PortEvent) (ports : PortsState) → IsFew 2 1 (reply n t q e ports)
+reply-few n t q e ports =
+    reply-cases (IsFew 2 1) n t q e ports (λ r h. few-more (quiet-few r h) (omega arith) (omega arith))
+    (λ wire frame w. record { wishes = omega arith; notes = omega arith })

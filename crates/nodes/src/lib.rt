@@ -4,6 +4,7 @@
 mod end_system;
 mod kept;
 mod line;
+mod meeting;
 mod networks;
 mod node;
 mod numbers;
@@ -16,6 +17,7 @@ mod switch;
 mod taking_back;
 mod transit;
 mod vl_end;
+mod wiring;
 
 pub use end_system::EndSystem;
 pub use kept::Kept;

@@ -1,11 +1,11 @@
 ghost use Rattle.std.specs.Prelude.{◌≡◌};
-ghost use Rattle.nodes.specs.Node.{NodeState};
-ghost use Rattle.nodes.specs.NodeUndoing.{node, IsPartValue};
 
 use crate::kept::Kept;
+use crate::outbound::Outbound;
 use crate::part::Part;
+use reverse::{Actor, Reversible, Sends};
 use std::marker::Model;
-use vlink::Time;
+use vlink::{Message, Time};
 
 /// What undoing an event of a node takes: how many messages it sent, and the records of the elements that it changed.
 #[derive(Clone, Copy, Debug, PartialEq, Eq)]
@@ -15,6 +15,8 @@ pub struct NodeRecord {
 }
 
 /// A node of a network, or one direction of a link, as a process that handles messages.
+///
+/// Clauses see its number, the end of the run and the number of its next message, and the state of what it is.
 #[derive(Debug, Drop)]
 pub struct Node {
     number: u16,
@@ -24,11 +26,16 @@ pub struct Node {
 }
 
 impl Model for Node {
+    ghost use Rattle.std.specs.Prelude.{◌<◌};
+    ghost use Rattle.vlink.specs.declared.time.TheConstants.{GREATEST_NS};
     ghost use Rattle.nodes.specs.Node.{NodeState};
+    ghost use Rattle.nodes.specs.Placed.{IsPlaced};
 
     ghost Value = { NodeState };
 
     ghost view = { λ n. record { sender = record { number = n.number; until = n.until; counter = n.counter }; part = n.part } };
+
+    ghost invariant = { λ n. IsPlaced (record { sender = record { number = n.number; until = n.until; counter = n.counter }; part = n.part }) × (n.until < GREATEST_NS) };
 }
 
 impl Node {
@@ -37,5 +44,84 @@ impl Node {
         ensures { result ≡ self.now.sender.counter }
     {
         self.counter
+    }
+}
+
+impl Reversible for Node {
+    ghost use Rattle.std.specs.Prelude.{◌+◌, ◌≤◌};
+    ghost use Rattle.vlink.specs.Numbering.{greatest_number};
+    ghost use Rattle.nodes.specs.NodeUndoing.{node, IsNodeValue};
+    ghost use Rattle.nodes.specs.NodeLaws.{node-undoes};
+
+    type Event = Message;
+
+    type Out = Sends;
+
+    type Record = NodeRecord;
+
+    ghost plain = { node };
+
+    ghost is_value = { IsNodeValue };
+
+    ghost can_apply = { λ s. s.sender.counter + 24 ≤ greatest_number };
+
+    ghost undoes = { node-undoes };
+
+    fn apply(&mut self, event: &Message) -> (Sends, NodeRecord) {
+        let mut out = Outbound::new(self.number, self.until, self.counter);
+        let kept = self.part.handle(event, &mut out);
+        let (sends, counter) = out.close();
+        self.counter = counter;
+        let count = sends.messages.len() as u8;
+        (sends, NodeRecord { sends: count, kept })
+    }
+
+    fn undo(&mut self, event: &Message, kept: NodeRecord) {
+        self.counter -= u64::from(kept.sends);
+        self.part.undo(event, kept.kept);
+    }
+}
+
+impl Actor for Node {
+    ghost use Rattle.nodes.specs.Placed.{IsPlaced};
+    ghost use Rattle.nodes.specs.NodeLaws.{number-stays, end-stays, sends-own, sends-timely, sends-numbered, sends-counted};
+    ghost use Rattle.nodes.specs.NodeSending.{place-stays, sends-later};
+
+    ghost number = { λ s. s.sender.number };
+
+    ghost end = { λ s. s.sender.until };
+
+    ghost counter = { λ s. s.sender.counter };
+
+    ghost is_placed = { IsPlaced };
+
+    ghost numbers_suffice = { λ s h. h };
+
+    ghost number_stays = { number-stays };
+
+    ghost end_stays = { end-stays };
+
+    ghost place_stays = { λ s e h. place-stays s e h };
+
+    ghost own_sends = { sends-own };
+
+    ghost later_sends = { λ s e h. sends-later s e h };
+
+    ghost timely_sends = { sends-timely };
+
+    ghost numbered_sends = { sends-numbered };
+
+    ghost counted_sends = { sends-counted };
+
+    fn id(&self) -> u16 {
+        self.number
+    }
+
+    fn until(&self) -> Time {
+        self.until
+    }
+
+    fn has_numbers(&self) -> bool {
+        self.counter <= (1 << 62) - 24
     }
 }

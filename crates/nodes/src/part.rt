@@ -1,6 +1,15 @@
+ghost use Rattle.std.specs.Prelude.{◌≡◌, ℕ, ◌+◌, ◌≤◌, []};
+ghost use Rattle.vlink.specs.Numbering.{greatest_number};
+ghost use Rattle.nodes.specs.Sending.{replied};
+ghost use Rattle.nodes.specs.Node.{handled};
+ghost use Rattle.nodes.specs.NodeUndoing.{part_kept, part_restored, PartCameFrom, IsPartValue};
+
 use crate::end_system::EndSystem;
+use crate::kept::Kept;
 use crate::line::Line;
+use crate::outbound::Outbound;
 use crate::switch::Switch;
+use vlink::Message;
 
 /// What a node is.
 #[derive(Debug, Drop)]
@@ -8,4 +17,38 @@ pub enum Part {
     EndSystem(EndSystem),
     Switch(Switch),
     Line(Line),
+}
+
+impl Part {
+    /// Handles a message, and gives the record by which it is undone.
+    pub(crate) fn handle(&mut self, message: &Message, out: &mut Outbound) -> Kept
+        requires messages { out.old.messages ≡ [] }
+        requires notes { out.old.notes ≡ [] }
+        requires numbers { out.old.sender.counter + 24 ≤ greatest_number }
+        ensures state { self.new ≡ (handled out.old.sender.number message.now self.old).part }
+        ensures reply { out.new ≡ replied out.old (handled out.old.sender.number message.now self.old).reply }
+        ensures kept { result ≡ part_kept message.now self.old }
+        ensures valid { IsPartValue message.now self.old }
+    {
+        match self {
+            Part::EndSystem(end_system) => end_system.handle(message, out),
+            Part::Switch(switch) => switch.handle(message, out),
+            Part::Line(line) => {
+                line.handle(message, out);
+                Kept::Nothing
+            }
+        }
+    }
+
+    /// Takes a message back by the record that was kept of it.
+    pub(crate) fn undo(&mut self, message: &Message, kept: Kept)
+        requires { PartCameFrom message.now self.old kept }
+        ensures { self.new ≡ part_restored message.now kept self.old }
+    {
+        match self {
+            Part::EndSystem(end_system) => end_system.undo(message, kept),
+            Part::Switch(switch) => switch.undo(message, kept),
+            Part::Line(_) => {}
+        }
+    }
 }

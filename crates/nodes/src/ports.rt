@@ -36,6 +36,13 @@ impl Model for Ports {
 }
 
 impl Ports {
+    /// Ports with these wires: for each one a port.
+    pub(crate) fn new(wires: Vec<Option<Wire>>, ports: Vec<Port>) -> Self
+        ensures { result ≡ record { wires = wires.items; states = ports.items } }
+    {
+        Ports { wires, ports }
+    }
+
     /// The line of a port, if there is such a port.
     pub fn wire(&self, port: u8) -> Option<Wire>
         ensures { result ≡ wire_at self.now port }

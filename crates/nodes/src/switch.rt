@@ -1,10 +1,10 @@
-ghost use Rattle.std.specs.Prelude.{◌≡◌, ◌+◌, ◌<◌, ◌≤◌, All, [], length, slice_get, IfSome};
+ghost use Rattle.std.specs.Prelude.{◌≡◌, ◌+◌, ◌<◌, ◌≤◌, ℕ, [], Some};
 ghost use Rattle.std.specs.Option.{option_map};
 ghost use Rattle.vlink.specs.Numbering.{greatest_number};
-ghost use Rattle.output_port.specs.Port.{IsWithinBytes};
-ghost use Rattle.policer.specs.Account.{cap};
+ghost use Rattle.vlink.specs.declared.message.Body.TheVariants as body;
+ghost use Rattle.nodes.specs.declared.kept.Kept.TheVariants as saved;
 ghost use Rattle.nodes.specs.Sending.{replied};
-ghost use Rattle.nodes.specs.Switch.{forwarded, marked_from, outputs_of, switch, taken, put, at_port, TransitAt, transit_at};
+ghost use Rattle.nodes.specs.Switch.{forwarded, judged, outputs_of, switch, taken, put, TransitAt, transit_at};
 ghost use Rattle.nodes.specs.SwitchUndoing.{taken_kept, put_kept, switch_kept, switch_restored, unported, unpoliced, SwitchCameFrom, IsSwitchValue, IsTakenValue, IsPutValue};
 
 use crate::kept::Kept;
@@ -12,8 +12,8 @@ use crate::numbers::Numbers;
 use crate::outbound::Outbound;
 use crate::ports::Ports;
 use crate::transit::Transit;
-use output_port::{PortEvent, Priority};
-use policer::{Account, Arrival, Verdict};
+use output_port::{PortEvent, PortRecord, Priority};
+use policer::{Account, AccountRecord, Arrival, Verdict};
 use reverse::Reversible;
 use std::marker::Model;
 use vlink::{Body, Cause, Frame, Message, Time, VlId};
@@ -64,6 +64,23 @@ impl Switch {
         }
     }
 
+    /// Takes a message back by the record that was kept of it.
+    pub fn undo(&mut self, message: &Message, kept: Kept)
+        requires { (n : ℕ) × SwitchCameFrom n message.now.time message.now.body self.old kept }
+        ensures { self.new ≡ switch_restored message.now.time message.now.body kept self.old }
+    {
+        match (message.body, kept) {
+            (Body::PortFree { port }, Kept::Port(kept)) => {
+                self.ports.undo(port, &PortEvent::Free, kept)
+            }
+            (Body::Enqueue { port, frame }, Kept::Port(kept)) => self.take_back(port, &frame, kept),
+            (Body::Arrive { port, frame }, Kept::Policed(kept)) => {
+                self.repay(message.time, port, &frame, kept)
+            }
+            _ => {}
+        }
+    }
+
     /// A frame has come to a port.
     fn take(&mut self, at: Time, port: u8, frame: &Frame, out: &mut Outbound) -> Kept
         requires messages { out.old.messages ≡ [] }
@@ -74,21 +91,47 @@ impl Switch {
         ensures kept { result ≡ taken_kept at port frame.now (transit_at self.old frame.now.vl) }
         ensures valid { IsTakenValue port frame.now (transit_at self.old frame.now.vl) }
     {
-        let Some(place) = self.numbers.place(frame.vl) else {
-            out.lose(Cause::Unknown, frame);
-            return Kept::Nothing;
-        };
-        let transit = match self.transits.get(place) {
-            Some(transit) => *transit,
+        match self.find(frame.vl) {
+            Some(place) => self.judge(place, at, port, frame, out),
             None => {
                 out.lose(Cause::Unknown, frame);
-                return Kept::Nothing;
+                Kept::Nothing
             }
-        };
-        let Some(account) = self.accounts.get_mut(place) else {
-            out.lose(Cause::Unknown, frame);
-            return Kept::Nothing;
-        };
+        }
+    }
+
+    /// The place of a virtual link that goes through the switch.
+    fn find(&self, vl: VlId) -> Option<usize>
+        ensures { result ≡ option_map (λ (found : TransitAt). found.place) (transit_at self.now vl) }
+    {
+        let place = self.numbers.place(vl)?;
+        if place < self.transits.len() && place < self.accounts.len() {
+            Some(place)
+        } else {
+            None
+        }
+    }
+
+    /// A frame of the virtual link with this place has come to a port: it is lost where the virtual link does not come in
+    /// there, where it is too long, or where the account refuses it.
+    fn judge(
+        &mut self,
+        place: usize,
+        at: Time,
+        port: u8,
+        frame: &Frame,
+        out: &mut Outbound,
+    ) -> Kept
+        requires place { option_map (λ (found : TransitAt). found.place) (transit_at self.old frame.now.vl) ≡ Some place }
+        requires messages { out.old.messages ≡ [] }
+        requires notes { out.old.notes ≡ [] }
+        requires numbers { out.old.sender.counter + 24 ≤ greatest_number }
+        ensures state { self.new ≡ (taken out.old.sender.number at port frame.now self.old (transit_at self.old frame.now.vl)).state }
+        ensures reply { out.new ≡ replied out.old (taken out.old.sender.number at port frame.now self.old (transit_at self.old frame.now.vl)).reply }
+        ensures kept { result ≡ taken_kept at port frame.now (transit_at self.old frame.now.vl) }
+        ensures valid { IsTakenValue port frame.now (transit_at self.old frame.now.vl) }
+    {
+        let transit = self.transits[place];
         if transit.input != port {
             out.lose(Cause::Unknown, frame);
             return Kept::Nothing;
@@ -97,11 +140,14 @@ impl Switch {
             out.lose(Cause::TooLong, frame);
             return Kept::Nothing;
         }
-        let (verdict, kept) = account.apply(&Arrival { at, size: frame.size });
-        match verdict {
-            Verdict::Passed => forward(at.ns() + u64::from(self.latency_ns), frame, &transit, out),
-            Verdict::Refused => out.lose(Cause::Policed, frame),
-        }
+        let arrival = Arrival {
+            at,
+            size: frame.size,
+        };
+        let account = &mut self.accounts[place];
+        let (verdict, kept) = account.apply(&arrival);
+        let ns = at.ns() + u64::from(self.latency_ns);
+        answer_verdict(ns, frame, &transit, verdict, out);
         Kept::Policed(kept)
     }
 
@@ -123,6 +169,37 @@ impl Switch {
         Kept::Port(self.ports.act(at, port, &event, out))
     }
 
+    /// A frame that was put to a port leaves it.
+    fn take_back(&mut self, port: u8, frame: &Frame, kept: Option<PortRecord>)
+        requires { (n : ℕ) × (t : ℕ) × SwitchCameFrom n t (body.Enqueue port frame.now) self.old (saved.Port kept) }
+        ensures { self.new ≡ unported port (saved.Port kept) self.old }
+    {
+        let Some(priority) = self.priority(frame.vl) else {
+            return;
+        };
+        let event = PortEvent::Put {
+            frame: *frame,
+            priority,
+        };
+        self.ports.undo(port, &event, kept);
+    }
+
+    /// The account of a frame's virtual link gets back what the frame took.
+    fn repay(&mut self, at: Time, port: u8, frame: &Frame, kept: AccountRecord)
+        requires { (n : ℕ) × SwitchCameFrom n at (body.Arrive port frame.now) self.old (saved.Policed kept) }
+        ensures { self.new ≡ unpoliced at frame.now (saved.Policed kept) self.old }
+    {
+        let Some(place) = self.find(frame.vl) else {
+            return;
+        };
+        let arrival = Arrival {
+            at,
+            size: frame.size,
+        };
+        let account = &mut self.accounts[place];
+        account.undo(&arrival, kept);
+    }
+
     /// The priority of a virtual link that goes through the switch.
     fn priority(&self, vl: VlId) -> Option<Priority>
         ensures { result ≡ option_map (λ (found : TransitAt). found.transit.priority) (transit_at self.now vl) }
@@ -134,6 +211,19 @@ impl Switch {
         } else {
             None
         }
+    }
+}
+
+/// A frame that has passed goes on at the moment `ns`, and one that the account refused is lost.
+fn answer_verdict(ns: u64, frame: &Frame, transit: &Transit, verdict: Verdict, out: &mut Outbound)
+    requires messages { out.old.messages ≡ [] }
+    requires notes { out.old.notes ≡ [] }
+    requires numbers { out.old.sender.counter + 24 ≤ greatest_number }
+    ensures { out.new ≡ replied out.old (judged out.old.sender.number ns frame.now (outputs_of transit.now) verdict) }
+{
+    match verdict {
+        Verdict::Passed => forward(ns, frame, transit, out),
+        Verdict::Refused => out.lose(Cause::Policed, frame),
     }
 }
 

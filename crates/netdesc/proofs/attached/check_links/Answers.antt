@@ -1,5 +1,4 @@
 use Rattle.std.proofs.Common.{◌≡◌, ◌<◌, ◌||◌, true, false, length, map, take, get_or, arith, ap, sym, ◌∙◌, refl, inr, Some}
-use Rattle.std.specs.List.{list_any}
 use Rattle.std.proofs.lemmas.List.Folds.{list_any_more}
 use Rattle.vlink.specs.declared.frame.Net.TheVariants.{A, B}
 use Rattle.network_rows.specs.declared.fault.DescFault.TheVariants.{NotALink}

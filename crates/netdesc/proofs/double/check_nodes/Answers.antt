@@ -1,4 +1,4 @@
-use Rattle.std.proofs.Common.{◌≡◌, ◌<◌, ◌≤◌, true, false, length, map, take, get_or, arith, ap, sym, ◌∙◌, refl, inr, Some, unwrap_or}
+use Rattle.std.proofs.Common.{◌≡◌, ◌<◌, true, false, length, take, arith, ap, sym, ◌∙◌, refl, inr, Some}
 use Rattle.std.proofs.lemmas.List.{length-map}
 use Rattle.network_rows.specs.declared.fault.DescFault.TheVariants.{DoubleName}
 use Rattle.netdesc.specs.Names.{names_of, is_among, place_among}

@@ -1,4 +1,4 @@
-use Rattle.std.proofs.Common.{◌≡◌, ℕ, ◌<◌, ◌==◌, ◌&&◌, cond, is_none, length, vec_len, map, take, get_or, None, Some, arith, ap, sym, ◌∙◌}
+use Rattle.std.proofs.Common.{◌<◌, ◌==◌, ◌&&◌, cond, is_none, length, map, take, get_or, None, Some, arith, ap, sym, ◌∙◌}
 use Rattle.netdesc.specs.Lines.{place_of_vl}
 use Rattle.netdesc.specs.Views.{vl_view}
 use Rattle.netdesc.proofs.PlaceLemmas.{or_else, or_else-noted, place_by-push}

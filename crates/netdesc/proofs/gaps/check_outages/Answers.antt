@@ -1,7 +1,6 @@
-use Rattle.std.proofs.Common.{◌≡◌, ◌<◌, Bool, true, false, not, length, take, get_or, arith, ap, sym, ◌∙◌, refl, inr, Some, is_none, is_some}
+use Rattle.std.proofs.Common.{◌≡◌, ◌<◌, true, false, not, length, arith, ap, sym, ◌∙◌, refl, inr, Some, is_some}
 use Rattle.network_rows.specs.declared.fault.DescFault.TheVariants.{NotALink}
 use Rattle.netdesc.specs.declared.wiring.Outage.{Outage}
-use Rattle.netdesc.specs.Wiring.{is_linked}
 use Rattle.netdesc.specs.Faults.{no_link_at_outage}
 use Rattle.netdesc.proofs.EachLemmas.{Tells-each, each-none, length-before}
 use Rattle.netdesc.proofs.gaps.check_outages.Goals as goal

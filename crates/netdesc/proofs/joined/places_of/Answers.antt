@@ -1,9 +1,8 @@
-use Rattle.std.proofs.Common.{◌≡◌, ◌<◌, true, false, [], ◌∷◌, ◌++◌, length, take, get_or, arith, ap, sym, ◌∙◌, refl, inr, Some, is_some}
+use Rattle.std.proofs.Common.{◌≡◌, ◌<◌, true, false, length, take, get_or, arith, ap, sym, ◌∙◌, refl, inr, Some, is_some}
 use Rattle.std.proofs.lemmas.List.{take_more}
 use Rattle.network_rows.specs.declared.fault.DescFault.TheVariants.{DoubleName}
 use Rattle.netdesc.specs.Faults.{double_at_link}
 use Rattle.netdesc.specs.Wiring.{joins, is_linked}
-use Rattle.netdesc.specs.Finding.{AreJoined}
 use Rattle.netdesc.proofs.PlaceLemmas.{is_some-place_by}
 use Rattle.netdesc.proofs.JoinLemmas.{AreJoined-put, no_link}
 use Rattle.netdesc.proofs.EachLemmas.{Tells-each, each-none, length-before}

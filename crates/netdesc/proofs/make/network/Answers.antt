@@ -1,12 +1,11 @@
-use Rattle.std.proofs.Common.{◌≡◌, ℕ, ◌+◌, ◌*◌, ◌≤◌, List, [], length, map, refl, ap, sym, ◌∙◌, subst, arith}
+use Rattle.std.proofs.Common.{◌≡◌, List, length, map, refl, ap, sym, ◌∙◌, subst, arith}
 use Rattle.std.specs.Prelude.{All, IsPermutation}
 use Rattle.std.proofs.lemmas.List.{length-map}
 use Rattle.network_rows.specs.declared.rows.NodeRow.{NodeRow}
-use Rattle.netdesc.specs.declared.wiring.Link.{Link}
 use Rattle.netdesc.specs.Rows.{each}
 use Rattle.netdesc.specs.Names.{names_of}
 use Rattle.netdesc.specs.Plan.{VlPlan, node_plan, link_plan, plan_of}
-use Rattle.netdesc.specs.Faults.{double_at_link, process_count}
+use Rattle.netdesc.specs.Faults.{double_at_link}
 use Rattle.netdesc.specs.Accepted.{IsPlanOf}
 use Rattle.netdesc.specs.Views.{vl_views}
 use Rattle.netdesc.specs.Tables.{plan_with, AreTables}

@@ -1,4 +1,4 @@
-use Rattle.std.proofs.Common.{◌≡◌, ℕ, ◌+◌, ◌<◌, List, [], None, subst, Bool, true, false, not, ◌&&◌, nat_lt, length, map, take, get_or, count_by, arith, ap, sym, ◌∙◌, refl, inr, Some}
+use Rattle.std.proofs.Common.{◌≡◌, ℕ, ◌+◌, ◌<◌, List, [], None, subst, true, false, not, ◌&&◌, nat_lt, length, map, count_by, arith, ap, sym, ◌∙◌, inr, Some}
 use Rattle.std.proofs.lemmas.List.{get_or_read}
 use Rattle.std.specs.Prelude.{slice_get}
 use Rattle.network_rows.specs.declared.key.Section.TheVariants.{Node}

@@ -1,4 +1,4 @@
-use Rattle.std.proofs.Common.{◌≡◌, ◌<◌, length, take, arith, map}
+use Rattle.std.proofs.Common.{◌<◌, length, take, arith, map}
 use Rattle.std.proofs.lemmas.Result.{err_from_is_err_and}
 use Rattle.netdesc.specs.Faults.{too_many_at_vl}
 use Rattle.netdesc.specs.Views.{vl_view}

@@ -1,8 +1,5 @@
-use Rattle.std.proofs.Common.{◌≡◌, ℕ, ◌+◌, ◌<◌, Bool, true, false, [], ◌∷◌, ◌++◌, length, take, get_or, MatchBool, refl, ap, sym, ◌∙◌, subst, arith}
-use Rattle.std.specs.List.{Contains}
+use Rattle.std.proofs.Common.{◌≡◌, ◌<◌, length, take, sym, subst, arith}
 use Rattle.std.proofs.lemmas.List.{take_more, take_all}
-use Rattle.netdesc.specs.declared.wiring.Step.{Step}
-use Rattle.netdesc.specs.Trees.{is_other_way, has_other_way}
 use Rattle.netdesc.specs.Finding.{AreWays}
 use Rattle.netdesc.proofs.WayLemmas.{no-other-way, other-way-at, no_step}
 use Rattle.netdesc.proofs.steps.has_other_way.Goals as goal

@@ -1,4 +1,4 @@
-use Rattle.std.proofs.Common.{◌≡◌, ◌<◌, length, take, arith, rules, refl, ap, inr, Some, sym}
+use Rattle.std.proofs.Common.{◌≡◌, ◌<◌, length, take, arith, refl, ap, inr, Some, sym}
 use Rattle.network_rows.specs.declared.fault.DescFault.TheVariants.{UnknownName}
 use Rattle.netdesc.proofs.EachLemmas.{Tells-read, none-read, length-before}
 use Rattle.netdesc.specs.Faults.{unknown_at_node}

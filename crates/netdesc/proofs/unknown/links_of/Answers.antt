@@ -1,4 +1,4 @@
-use Rattle.std.proofs.Common.{◌≡◌, ◌<◌, length, take, arith, rules, ◌∙◌}
+use Rattle.std.proofs.Common.{◌<◌, length, take, arith}
 use Rattle.std.proofs.lemmas.Result.{err_from_is_err_and}
 use Rattle.netdesc.proofs.EachLemmas.{Tells-read, none-read, map-pushed, length-before}
 use Rattle.netdesc.specs.Names.{names_of}

@@ -1,6 +1,5 @@
-use Rattle.std.proofs.Common.{◌≡◌, true, Some, refl, ap, sym, ◌∙◌, subst}
+use Rattle.std.proofs.Common.{refl, ap, sym, ◌∙◌, subst}
 use Rattle.std.specs.Option.{option_and_then, IsSome}
-use Rattle.netdesc.specs.Wiring.{is_end_system}
 use Rattle.netdesc.specs.Trees.{source_of}
 use Rattle.netdesc.specs.Accepted.{IsAccepted}
 use Rattle.netdesc.proofs.SourceLemmas.{vl-read, end-system-is, end-system-below}

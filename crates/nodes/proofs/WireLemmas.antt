@@ -1,0 +1,38 @@
+-- The wires of a node's ports, one line more.
+use Rattle.std.proofs.Common.{◌≡◌, ℕ, ◌+◌, ◌<◌, ◌&&◌, Bool, true, false, cond, is_none, List, [], ◌∷◌, ◌++◌, length, take, Option, Some, None, refl, ap, sym, ◌∙◌, arith}
+use Rattle.std.specs.Prelude.{slice_get}
+use Rattle.std.proofs.lemmas.List.{length-take-le}
+use Rattle.std.proofs.lemmas.Option.{slice_get_within, get_or_from_slice_get}
+use Rattle.netdesc.specs.declared.wiring.Line.{Line}
+use Rattle.netdesc.proofs.PlaceLemmas.{or_else, or_else-noted}
+use Rattle.netdesc.proofs.EachLemmas.{take-read}
+use Rattle.nodes.specs.declared.ports.Wire.{Wire}
+use Rattle.nodes.specs.Opening.{leaves_by, wire_among}
+
+abbrev wire_of : ℕ → Line → Option Wire
+wire_of process line = Some (record { line = process; byte_ns = line.byte_ns })
+
+wire_among-push : (n q process : ℕ) (lines : List Line) (line : Line) → wire_among n q process (lines ++ line ∷ []) ≡ or_else (wire_among n q process lines) (cond (leaves_by n q line) (wire_of (process + length lines) line) None)
+wire_among-push n q process [] line = ap (λ p. cond (leaves_by n q line) (wire_of p line) None) (let e : process ≡ process + 0 = omega arith in e)
+wire_among-push n q process (first ∷ lines) line =
+    let count : (process + 1) + length lines ≡ process + length (first ∷ lines) = omega arith in
+    go (leaves_by n q first) (wire_among-push n q (process + 1) lines line ∙ ap (λ p. or_else (wire_among n q (process + 1) lines) (cond (leaves_by n q line) (wire_of p line) None)) count)
+  where
+    go : (b : Bool) → wire_among n q (process + 1) (lines ++ line ∷ []) ≡ or_else (wire_among n q (process + 1) lines) (cond (leaves_by n q line) (wire_of (process + length (first ∷ lines)) line) None)
+        → cond b (wire_of process first) (wire_among n q (process + 1) (lines ++ line ∷ [])) ≡ or_else (cond b (wire_of process first) (wire_among n q (process + 1) lines)) (cond (leaves_by n q line) (wire_of (process + length (first ∷ lines)) line) None)
+    go true later = refl
+    go false later = later
+
+-- the line with the place k is noted where there was none yet
+pub wire_among-more : (n q process k number : ℕ) (lines : List Line) (line : Line) (old new : Option Wire) → slice_get lines k ≡ Some line → number ≡ process + k → old ≡ wire_among n q process (take k lines)
+    → new ≡ cond (leaves_by n q line && is_none old) (wire_of number line) old → new ≡ wire_among n q process (take (k + 1) lines)
+wire_among-more n q process k number lines line old new read numbered before noted =
+    let out = leaves_by n q line in
+    let lt : k < length lines = slice_get_within lines k line read in
+    let all : take (k + 1) lines ≡ take k lines ++ line ∷ [] = take-read lines k line lt (sym (get_or_from_slice_get lines k line line read)) in
+    let count : number ≡ process + length (take k lines) = omega (arith, length-take-le k lines (omega arith)) in
+    noted
+    ∙ or_else-noted old out (record { line = number; byte_ns = line.byte_ns })
+    ∙ ap (λ o. or_else o (cond out (wire_of number line) None)) before
+    ∙ ap (λ p. or_else (wire_among n q process (take k lines)) (cond out (wire_of p line) None)) count
+    ∙ sym (ap (wire_among n q process) all ∙ wire_among-push n q process (take k lines) line)

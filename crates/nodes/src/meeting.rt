@@ -1,0 +1,117 @@
+ghost use Rattle.std.specs.Prelude.{◌≡◌, ◌<◌, ◌≤◌, ◌++◌, ◌∷◌, All, length, take, drop, IfOk, OnOk};
+ghost use Rattle.std.specs.List.{flat_map};
+ghost use Rattle.netdesc.specs.declared.limits.TheConstants.{GREATEST_PORTS};
+ghost use Rattle.netdesc.specs.Limits.{IsLinkInLimits};
+ghost use Rattle.nodes.specs.Meeting.{ports_by, ways_at, meetings};
+ghost use Rattle.nodes.specs.Grouping.{groups, met, all_met};
+
+use netdesc::{Network, VirtualLink, Way};
+use std::alloc::{AllocError, Global};
+
+/// Whether virtual links leave a node or come in.
+#[derive(Clone, Copy, Debug, PartialEq, Eq)]
+pub enum Side {
+    Out,
+    In,
+}
+
+/// A virtual link that leaves a node, or comes in there.
+#[derive(Clone, Copy, Debug, PartialEq, Eq)]
+pub struct Meeting {
+    pub link: VirtualLink,
+    /// The first port by which it does so.
+    pub first: u8,
+    /// Whether it does so by the port with this place.
+    pub ports: [bool; 24],
+}
+
+/// How many of these ways the virtual link of the first one has, where its ways stand together.
+fn group_len(ways: &[Way]) -> usize
+    requires { 1 ≤ length ways.now }
+    ensures least { 1 ≤ result }
+    ensures within { result ≤ length ways.now }
+    ensures group { groups ways.now ≡ take result ways.now ∷ groups (drop result ways.now) }
+{
+    let vl = ways[0].vl;
+    for (i, way) in ways.iter().enumerate() {
+        if way.vl != vl {
+            return i;
+        }
+    }
+    ways.len()
+}
+
+/// For each port, whether one of these ways is by it.
+fn ports_by(ways: &[Way]) -> [bool; 24]
+    requires { All (λ way. way.port < GREATEST_PORTS) ways.now }
+    ensures { result ≡ ports_by ways.now }
+{
+    let mut ports = [false; 24];
+    for way in ways {
+        ports[usize::from(way.port)] = true;
+    }
+    ports
+}
+
+/// Puts the virtual link of these ways at the end.
+fn meet(meetings: &mut Vec<Meeting>, network: &Network, ways: &[Way]) -> Result<(), AllocError>
+    requires ports { All (λ way. way.port < GREATEST_PORTS) ways.now }
+    requires limits { All (λ m. IsLinkInLimits m.link) meetings.old.items }
+    ensures met { OnOk result (meetings.new.items ≡ meetings.old.items ++ met network.now ways.now) }
+    ensures limits { OnOk result (All (λ m. IsLinkInLimits m.link) meetings.new.items) }
+{
+    let Some(way) = ways.first() else {
+        return Ok(());
+    };
+    let Some(place) = network.place_of(way.vl) else {
+        return Ok(());
+    };
+    meetings.push(Meeting {
+        link: network.virtual_link(place),
+        first: way.port as u8,
+        ports: ports_by(ways),
+    })?;
+    Ok(())
+}
+
+/// The virtual links of these ways, which stand together by virtual link.
+fn all_met(alloc: Global, network: &Network, ways: &[Way]) -> Result<Vec<Meeting>, AllocError>
+    requires { All (λ way. way.port < GREATEST_PORTS) ways.now }
+    ensures met { IfOk result (λ found. found.items ≡ all_met network.now ways.now) }
+    ensures limits { IfOk result (λ found. All (λ m. IsLinkInLimits m.link) found.items) }
+{
+    let mut found = Vec::new(alloc);
+    let mut rest = ways;
+    while !rest.is_empty() {
+        let (group, later) = rest.split_at(group_len(rest));
+        meet(&mut found, network, group)?;
+        rest = later;
+    }
+    Ok(found)
+}
+
+/// The ways by which virtual links leave a node or come in there.
+fn ways_at(network: &Network, node: u16, side: Side) -> &[Way]
+    requires { node < length network.now.nodes }
+    ensures { result.now ≡ flat_map (ways_at network.now node side) network.now.vls }
+{
+    match side {
+        Side::Out => network.departures(usize::from(node)),
+        Side::In => network.arrivals(usize::from(node)),
+    }
+}
+
+/// The virtual links that leave a node or come in there, by rising number.
+pub fn meetings(
+    alloc: Global,
+    network: &Network,
+    node: u16,
+    side: Side,
+) -> Result<Vec<Meeting>, AllocError>
+    requires { node < length network.now.nodes }
+    ensures meetings { IfOk result (λ found. found.items ≡ meetings network.now node side) }
+    ensures limits { IfOk result (λ found. All (λ m. IsLinkInLimits m.link) found.items) }
+{
+    network.accepted();
+    all_met(alloc, network, ways_at(network, node, side))
+}

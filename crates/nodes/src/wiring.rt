@@ -1,0 +1,79 @@
+ghost use Rattle.std.specs.Prelude.{◌≡◌, ℕ, ◌+◌, ◌<◌, ◌&&◌, None, Some, is_none, if◌then◌else◌, length, map, slice_index_or, vec_len, IfOk};
+ghost use Rattle.netdesc.specs.Lines.{lines_of};
+ghost use Rattle.nodes.specs.Opening.{leaves_by, wires_of, port_of, ports_of};
+
+use crate::ports::{Ports, Wire};
+use netdesc::{Line, Network};
+use output_port::Port;
+use std::alloc::{AllocError, Global};
+
+/// The process of a line.
+fn process_of(network: &Network, line: usize) -> u16
+    requires { line < length (lines_of network.now) }
+    ensures { result ≡ length network.now.nodes + line }
+{
+    // The contracts of these two say that there are few processes.
+    let _processes = network.process_count();
+    let _lines = network.line_count();
+    (network.node_count() + line) as u16
+}
+
+/// Notes the wire of a line at its port, where the line leaves this node and the port has none yet.
+fn note_line(wires: &mut Vec<Option<Wire>>, node: u16, line: Line, wire: Wire)
+    ensures noted { (q : ℕ) → q < vec_len wires.old →
+        slice_index_or wires.new.items q None ≡ (if leaves_by node q line && is_none (slice_index_or wires.old.items q None) then Some wire else slice_index_or wires.old.items q None) }
+    ensures len { vec_len wires.new ≡ vec_len wires.old }
+{
+    let port = usize::from(line.from_port);
+    if line.from == node && port < wires.len() && wires[port].is_none() {
+        wires[port] = Some(wire);
+    }
+}
+
+/// The wires of the first `count` ports of a node. It looks at each line once.
+fn wires_of(
+    alloc: Global,
+    network: &Network,
+    node: u16,
+    count: usize,
+) -> Result<Vec<Option<Wire>>, AllocError>
+    ensures { IfOk result (λ wires. wires.items ≡ wires_of network.now node count) }
+{
+    let mut wires = vec![in alloc; None; count]?;
+    for k in 0..network.line_count() {
+        let line = network.line(k);
+        let wire = Wire {
+            line: process_of(network, k),
+            byte_ns: line.byte_ns,
+        };
+        note_line(&mut wires, node, line, wire);
+    }
+    Ok(wires)
+}
+
+/// A port for each of these wires: where there is none, no bytes may wait.
+fn ports_at(alloc: Global, wires: &[Option<Wire>], bytes: u32) -> Result<Vec<Port>, AllocError>
+    ensures { IfOk result (λ ports. ports.items ≡ map (port_of bytes) wires.now) }
+{
+    let mut ports = Vec::new(alloc);
+    for wire in wires {
+        let room = if wire.is_some() { bytes } else { 0 };
+        ports.push(Port::new(alloc, room)?)?;
+    }
+    Ok(ports)
+}
+
+/// The first `count` ports of a node, at each of which so many bytes may wait.
+pub fn ports_of(
+    alloc: Global,
+    network: &Network,
+    node: u16,
+    count: usize,
+    bytes: u32,
+) -> Result<Ports, AllocError>
+    ensures { IfOk result (λ ports. ports ≡ ports_of network.now node count bytes) }
+{
+    let wires = wires_of(alloc, network, node, count)?;
+    let ports = ports_at(alloc, &wires, bytes)?;
+    Ok(Ports::new(wires, ports))
+}

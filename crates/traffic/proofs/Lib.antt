@@ -1,0 +1,4 @@
+pub mod DrawingLemmas
+pub mod OfferingLemmas
+pub mod LawLemmas
+pub mod Examples

@@ -1,0 +1,94 @@
+//! The offers of one virtual link.
+ghost use Rattle.std.specs.Prelude.{◌≡◌, ℕ, ◌+◌, ◌<◌, ◌≤◌, ◌↔◌, [], ◌∷◌, ◌++◌, IsSome, IfSome, OnOk, OnErr, vec_len, vec_capacity};
+ghost use Rattle.vlink.specs.declared.time.TheConstants.{LATEST_NS};
+ghost use Rattle.netdesc.specs.Limits.{IsLinkInLimits};
+ghost use Rattle.traffic.specs.Offers.{due_of, due_count, sender_of, offer_by, come_until, offers_from};
+
+use netdesc::{GREATEST_PROCESSES, VirtualLink};
+use rand_core::utils::NextWord;
+use rand_pcg::Lcg64Xsh32;
+use std::alloc::AllocError;
+use vlink::{Body, Message, Time, VlId};
+
+/// How many offers of a virtual link are due until then.
+fn due_count(until: Time, link: &VirtualLink) -> u64
+    requires { IsLinkInLimits link.now }
+    ensures value { result ≡ due_count until link.now }
+    ensures due { (k : ℕ) → (k < result) ↔ (due_of link.now k ≤ until) }
+{
+    if until.ns() < link.offset_ns {
+        0
+    } else {
+        (until.ns() - link.offset_ns) / link.period_ns + 1
+    }
+}
+
+/// The moment at `ns` nanoseconds, or none where it is later than `until`.
+fn time_until(until: Time, ns: u64) -> Option<Time>
+    ensures within { IsSome result ↔ (ns ≤ until) }
+    ensures value { IfSome result (λ time. time ≡ ns) }
+{
+    if ns <= until.ns() {
+        Time::new(ns)
+    } else {
+        None
+    }
+}
+
+/// The sender of the offers of a virtual link.
+fn sender_of(vl: VlId) -> u32
+    ensures { result ≡ sender_of vl.0 }
+{
+    GREATEST_PROCESSES as u32 + u32::from(vl.0)
+}
+
+/// Puts the offer with this number and word behind the others, unless it comes after `until`.
+fn push_offer(
+    offers: &mut Vec<Message>,
+    until: Time,
+    link: &VirtualLink,
+    source: u16,
+    number: u64,
+    word: u32,
+) -> Result<(), AllocError>
+    requires limits { IsLinkInLimits link.now }
+    requires due { due_of link.now number ≤ until }
+    requires until { until ≤ LATEST_NS }
+    ensures offers { OnOk result (offers.new.items ≡ offers.old.items ++ come_until until (offer_by link.now source number word ∷ [])) }
+    ensures full { OnErr result (vec_capacity offers.old ≤ vec_len offers.old) }
+{
+    let due = link.offset_ns + number * link.period_ns;
+    let jitter = u64::from(word) % (u64::from(link.jitter_ns) + 1);
+    if let Some(time) = time_until(until, due + jitter) {
+        offers.push(Message {
+            time,
+            receiver: source,
+            sender: sender_of(link.id),
+            number,
+            body: Body::Offer {
+                vl: link.id,
+                size: link.size,
+            },
+        })?;
+    }
+    Ok(())
+}
+
+/// Puts the offers of a virtual link, whose frames begin at the node `source`, behind the others.
+pub fn push_offers(
+    offers: &mut Vec<Message>,
+    seed: u64,
+    until: Time,
+    link: &VirtualLink,
+    source: u16,
+) -> Result<(), AllocError>
+    requires limits { IsLinkInLimits link.now }
+    requires until { until ≤ LATEST_NS }
+    ensures { OnOk result (offers.new.items ≡ offers.old.items ++ offers_from seed until link.now source) }
+{
+    let mut words = Lcg64Xsh32::new(seed, u64::from(link.id.0));
+    for number in 0..due_count(until, link) {
+        push_offer(offers, until, link, source, number, words.next_word())?;
+    }
+    Ok(())
+}

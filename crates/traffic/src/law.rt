@@ -1,0 +1,24 @@
+//! What holds of the offers of every network.
+ghost use Rattle.std.specs.Prelude.{ℕ, ◌<◌, ◌≤◌, ◌↔◌};
+ghost use Rattle.vlink.specs.declared.message.Message.{Message};
+ghost use Rattle.virtual_time.specs.Simulation.{Simulation};
+ghost use Rattle.netdesc.specs.declared.vl.VirtualLink.{VirtualLink};
+ghost use Rattle.netdesc.specs.Limits.{IsLinkInLimits};
+ghost use Rattle.traffic.specs.Offers.{due_of, due_count};
+ghost use Rattle.traffic.specs.Lawful.{IsOfNetwork, HasLawfulOffers};
+
+use netdesc::Network;
+
+/// What the law of virtual time asks of offers: each is there once, comes from no process, goes to a process, and is not
+/// after the end. It holds of every simulation with the messages, processes, end and offers of a network, whatever its
+/// actors do (`laws`). And those that are drawn are just those that are due at or before the end (`due`).
+///
+/// A call does nothing: its caller learns what the clauses say.
+pub fn lawful_offers<S, K, N>(network: &Network)
+    ensures laws { (f : Simulation Message S K N) → IsOfNetwork network.now f → HasLawfulOffers f }
+    ensures due { (link : VirtualLink) → IsLinkInLimits link → (k : ℕ) →
+        (k < due_count network.now.until link) ↔ (due_of link k ≤ network.now.until) }
+{
+    network.accepted();
+    let _few = network.process_count();
+}

@@ -1,0 +1,48 @@
+//! The offers of all virtual links.
+ghost use Rattle.std.specs.Prelude.{◌≡◌, ◌++◌, ◌+◌, ◌<◌, Some, length, slice_get, take, OnOk, IfOk, option_and_then};
+ghost use Rattle.std.specs.List.{flat_map};
+ghost use Rattle.netdesc.specs.Trees.{source_of};
+ghost use Rattle.traffic.specs.Offers.{offers_of_vl, offers_of};
+
+use crate::drawing::push_offers;
+use netdesc::Network;
+use std::alloc::{AllocError, Global};
+use vlink::Message;
+
+/// The process where the frames of the virtual link with this place begin.
+fn source_of(network: &Network, vl: usize) -> u16
+    requires { vl < length network.now.vls }
+    ensures { option_and_then source_of (slice_get network.now.vls vl) ≡ Some result }
+{
+    let _few = network.process_count();
+    network.source(vl) as u16
+}
+
+/// Puts the offers of the virtual link with this place behind those of the ones before it.
+fn push_vl(offers: &mut Vec<Message>, network: &Network, vl: usize) -> Result<(), AllocError>
+    requires place { vl < length network.now.vls }
+    requires before { offers.old.items ≡ flat_map (offers_of_vl network.now) (take vl network.now.vls) }
+    ensures { OnOk result (offers.new.items ≡ flat_map (offers_of_vl network.now) (take (vl + 1) network.now.vls)) }
+{
+    let link = network.virtual_link(vl);
+    let source = source_of(network, vl);
+    push_offers(offers, network.seed(), network.until(), &link, source)
+}
+
+/// All offers of a network, one message each: the virtual links in rising number, and for each of them its offers in
+/// the order of their numbers.
+///
+/// The k-th offer of a virtual link, k from 0, comes at `offset + k * period + (w_k mod (jitter + 1))` ns, where `w_k` is
+/// the k-th word of PCG XSH RR 64/32 with the network's seed as its state and the number of the virtual link as its
+/// stream (profile). An offer that comes after the end of the run is left out; the others keep their k.
+///
+/// Want of memory is the only error.
+pub fn offers(alloc: Global, network: &Network) -> Result<Vec<Message>, AllocError>
+    ensures { IfOk result (λ offers. offers.items ≡ offers_of network.now) }
+{
+    let mut offers = Vec::new(alloc);
+    for vl in 0..network.vl_count() {
+        push_vl(&mut offers, network, vl)?;
+    }
+    Ok(offers)
+}
