@@ -1,4 +1,4 @@
-use Rattle.std.proofs.Common.{◌≡◌, ap, ◌∙◌}
+use Rattle.std.proofs.Common.{ap, ◌∙◌}
 use Rattle.vlink.specs.declared.frame.Net.TheVariants.{A, B}
 use Rattle.nodes.specs.EndSystem.{copied}
 use Rattle.nodes.specs.EndSystemLaws.{copied-undone}

@@ -1,7 +1,7 @@
-use Rattle.std.proofs.Common.{◌≡◌, Some, ap, ◌∙◌, sym, subst, slice_index_or, slice_set}
+use Rattle.std.proofs.Common.{◌≡◌, ap, ◌∙◌, sym, subst, slice_set}
 use Rattle.bag_regulator.specs.Regulator.{undone}
 use Rattle.nodes.specs.Undoing.{restored}
-use Rattle.nodes.specs.EndSystem.{EndSystemState, source_at}
+use Rattle.nodes.specs.EndSystem.{EndSystemState}
 use Rattle.nodes.specs.EndSystemParts.{RegulatedCameFrom, SendingCameFrom}
 use Rattle.nodes.specs.EndSystemUndoing.{unregulated, unregulated_by}
 use Rattle.nodes.proofs.EndSystemLemmas.{source-found, sending-came}
