@@ -69,4 +69,4 @@ sending-came n t vl e now k a b came source found = go (source_at came.0 vl) ref
         let again = found-again source-with s.sources s.regulators (place_of (numbers_of s.sources) vl.0) before after h in
         let same : with_regulator after before ≡ source = same_Some _ source (sym again ∙ ap (λ s. source_at s vl) (sym is_now) ∙ found) in
         subst (λ (source : SourceAt). SendingCameFrom e source.end source.regulator now.ports k a b) same
-            (before.regulator, s.ports, value.0, value.1, refl, ap (λ (s : EndSystemState). s.ports) is_now, is_kept)
+        (before.regulator, s.ports, value.0, value.1, refl, ap (λ (s : EndSystemState). s.ports) is_now, is_kept)

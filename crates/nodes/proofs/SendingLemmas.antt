@@ -1,5 +1,5 @@
 -- Replies, one behind the other.
-use Rattle.std.proofs.Common.{◌≡◌, ℕ, ◌+◌, ◌++◌, Bool, true, false, cond, nat_le, List, [], ◌∷◌, length, ap, refl, sym, ◌∙◌, append_assoc, arith}
+use Rattle.std.proofs.Common.{◌≡◌, ℕ, ◌+◌, ◌++◌, Bool, true, false, cond, nat_le, List, [], ◌∷◌, length, ap, sym, ◌∙◌, append_assoc, arith}
 use Rattle.std.proofs.lemmas.List.{append-nil, length-append}
 use Rattle.vlink.specs.declared.message.Message.{Message}
 use Rattle.vlink.specs.declared.note.Note.{Note}
@@ -26,7 +26,7 @@ sent-append s (wish ∷ rest) second = go (nat_le wish.time s.until) (sent-appen
         → sent s (rest ++ second) ≡ sent s rest ++ sent (after_sending s rest) second
         → cond b (message_of s wish ∷ sent (next s) (rest ++ second)) (sent s (rest ++ second))
         ≡ cond b (message_of s wish ∷ sent (next s) rest) (sent s rest)
-          ++ sent (record s { counter = s.counter + length (cond b (message_of s wish ∷ sent (next s) rest) (sent s rest)) }) second
+        ++ sent (record s { counter = s.counter + length (cond b (message_of s wish ∷ sent (next s) rest) (sent s rest)) }) second
     go true numbered same =
         ap (λ (ms : List Message). message_of s wish ∷ ms) numbered
         ∙ ap (λ (n : ℕ). message_of s wish ∷ (sent (next s) rest ++ sent (record s { counter = n }) second)) (omega arith)
@@ -39,8 +39,8 @@ replied-joined o first second =
     let behind = sent (after_sending o.sender first.wishes) second.wishes in
     let all = sent-append o.sender first.wishes second.wishes in
     let counted : o.sender.counter + length before + length behind ≡ o.sender.counter + length (sent o.sender (joined first second).wishes) =
-        omega (arith, ap length all, length-append before behind) in
+    omega (arith, ap length all, length-append before behind) in
     ap (λ (n : ℕ). record { sender = record o.sender { counter = n }; messages = (o.messages ++ before) ++ behind; notes = (o.notes ++ first.notes) ++ second.notes }) counted
     ∙ ap (λ (ms : List Message). record (replied o (joined first second)) { messages = ms; notes = (o.notes ++ first.notes) ++ second.notes })
-        (append_assoc o.messages before behind ∙ ap (λ (ms : List Message). o.messages ++ ms) (sym all))
+    (append_assoc o.messages before behind ∙ ap (λ (ms : List Message). o.messages ++ ms) (sym all))
     ∙ ap (λ (ns : List Note). record (replied o (joined first second)) { notes = ns }) (append_assoc o.notes first.notes second.notes)

@@ -8,7 +8,6 @@ use Rattle.vlink.specs.declared.note.Cause.TheVariants.{Unknown}
 use Rattle.bag_regulator.specs.Regulator.{Regulator, regulator, IsRegulator}
 use Rattle.bag_regulator.specs.declared.event.RegEvent.{RegEvent}
 use Rattle.bag_regulator.specs.declared.event.RegEvent.TheVariants.{Offer, Release}
-use Rattle.bag_regulator.specs.declared.event.RegAnswer.{RegAnswer}
 use Rattle.bag_regulator.specs.declared.event.RegAnswer.TheVariants as answer
 use Rattle.bag_regulator.specs.declared.event.RegRecord.{RegRecord}
 use Rattle.bag_regulator.specs.declared.event.RegUndo.{RegUndo}

@@ -1,5 +1,5 @@
 -- The output ports of a node, and the lines that they lead into.
-use Rattle.std.specs.Prelude.{ℕ, ◌+◌, Bool, false, List, [], ◌∷◌, Option, None, Some, is_some, slice_get, slice_set}
+use Rattle.std.specs.Prelude.{ℕ, ◌+◌, Bool, false, if◌then◌else◌, List, [], ◌∷◌, Option, None, Some, is_some, slice_get, slice_set}
 use Rattle.std.specs.Option.{option_and_then}
 use Rattle.vlink.specs.declared.frame.Frame.{Frame}
 use Rattle.vlink.specs.declared.message.Body.TheVariants.{Carry, PortFree}
@@ -24,6 +24,10 @@ wire_at ports q = option_and_then (λ wire. wire) (slice_get ports.wires q)
 
 abbrev pub exists : PortsState → ℕ → Bool
 exists ports q = is_some (wire_at ports q)
+
+-- port q, if there is such a port
+abbrev pub port_at : PortsState → ℕ → Option PortState
+port_at ports q = if exists ports q then slice_get ports.states q else None
 
 -- at moment t node n starts the frame at port q: its last bit is carried into the line, and then the port is free
 abbrev pub start : ℕ → ℕ → ℕ → Wire → Frame → Reply

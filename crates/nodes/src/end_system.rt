@@ -1,9 +1,10 @@
 ghost use Rattle.std.specs.Prelude.{◌≡◌, ℕ, ◌+◌, ◌<◌, ◌≤◌, [], length};
-ghost use Rattle.std.specs.Option.{option_map};
+ghost use Rattle.std.specs.Option.{option_copied, option_map};
 ghost use Rattle.vlink.specs.Numbering.{greatest_number};
 ghost use Rattle.vlink.specs.declared.note.Cause.TheVariants.{Unknown};
 ghost use Rattle.bag_regulator.specs.declared.event.RegEvent.TheVariants.{Offer};
 ghost use Rattle.nodes.specs.Sending.{replied};
+ghost use Rattle.nodes.specs.Ports.{port_at};
 ghost use Rattle.nodes.specs.EndSystem.{end_system, numbers_of, lost, offered_frame, regulated, taken, SinkAt, SourceAt, sink_at, source_at};
 ghost use Rattle.nodes.specs.EndSystemUndoing.{end_system_kept, end_system_restored, regulated_kept, taken_kept, unfreed, unregulated, untaken, EndSystemCameFrom, IsEndSystemValue, IsRegulatedValue};
 ghost use Rattle.nodes.specs.EndSystemParts.{ArrivedCameFrom, FreedCameFrom, RegulatedCameFrom};
@@ -18,7 +19,7 @@ use crate::sending::{lose_offered, regulate};
 use crate::taking_back::take_back;
 use crate::vl_end::VlEnd;
 use bag_regulator::{BagRegulator, RegEvent};
-use output_port::PortEvent;
+use output_port::{Port, PortEvent};
 use std::marker::Model;
 use vlink::{Body, Cause, Frame, FrameSize, Message, Net, Time, VlId};
 
@@ -179,6 +180,21 @@ impl EndSystem {
             return;
         };
         self.receivers[place].take_back(at, frame, check, delivery);
+    }
+
+    /// The regulator of a virtual link, if the end system sends it.
+    pub fn regulator(&self, vl: VlId) -> Option<&BagRegulator>
+        ensures { option_copied result ≡ option_map (λ (source : SourceAt). source.regulator) (source_at self.now vl) }
+    {
+        let place = self.source(vl)?;
+        Some(&self.regulators[place])
+    }
+
+    /// A port, if there is such a port.
+    pub fn port(&self, port: u8) -> Option<&Port>
+        ensures { option_copied result ≡ port_at self.now.ports port }
+    {
+        self.ports.port(port)
     }
 
     /// The place of a virtual link among those that the end system sends.

@@ -1,7 +1,8 @@
 ghost use Rattle.std.specs.Prelude.{◌≡◌, ◌+◌, ◌<◌, ◌≤◌, length};
+ghost use Rattle.std.specs.Option.{option_copied};
 ghost use Rattle.vlink.specs.Numbering.{greatest_number};
 ghost use Rattle.nodes.specs.Sending.{replied};
-ghost use Rattle.nodes.specs.Ports.{answered, changed, exists, reply, start, wire_at};
+ghost use Rattle.nodes.specs.Ports.{answered, changed, exists, port_at, reply, start, wire_at};
 ghost use Rattle.nodes.specs.Undoing.{port_kept, restored, IsPortValue, PortCameFrom};
 
 use crate::outbound::Outbound;
@@ -57,6 +58,17 @@ impl Ports {
         ensures { result ≡ exists self.now port }
     {
         self.wire(port).is_some()
+    }
+
+    /// A port, if there is such a port.
+    pub fn port(&self, port: u8) -> Option<&Port>
+        ensures { option_copied result ≡ port_at self.now port }
+    {
+        if self.exists(port) {
+            self.ports.get(usize::from(port))
+        } else {
+            None
+        }
     }
 
     /// Asks a port to do something at this moment, and sends and notes what follows. Nothing happens where there is no such port.

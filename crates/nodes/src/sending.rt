@@ -35,7 +35,7 @@ pub fn regulate(
     ensures ports { ports.new ≡ released_out end.now (plain.out regulator.old event.now).answer ports.old }
     ensures reply { let told = plain.out regulator.old event.now in
         out.new ≡ replied out.old (joined (joined (full event.now told.answer) (asked out.old.sender.number end.now.vl told.release_at))
-            (released_reply out.old.sender.number at end.now told.answer ports.old)) }
+        (released_reply out.old.sender.number at end.now told.answer ports.old)) }
     ensures kept { result ≡ regulated_kept_by (plain.saves regulator.old event.now) end.now (plain.out regulator.old event.now).answer ports.old }
     ensures valid { IsRegulator regulator.old }
     ensures valid_ports { AreCopiesValues end.now (plain.out regulator.old event.now).answer ports.old }
@@ -130,7 +130,7 @@ fn copy_out(
     ports.act(at, port_of(net), &copy(net, frame), out)
 }
 
-/// What the port of this network is asked to do with a frame: it is put with low priority (profile).
+/// What the port of this network is asked to do with a frame: all frames of an end system have low priority there (profile).
 pub fn copy(net: Net, frame: &Frame) -> PortEvent
     ensures { result ≡ copy net frame.now }
 {

@@ -77,13 +77,7 @@ fn take_copies_back(
 }
 
 /// Takes the copy of a frame for this network back.
-fn take_copy_back(
-    end: &VlEnd,
-    net: Net,
-    frame: &Frame,
-    kept: Option<PortRecord>,
-    ports: &mut Ports,
-)
+fn take_copy_back(end: &VlEnd, net: Net, frame: &Frame, kept: Option<PortRecord>, ports: &mut Ports)
     requires { CopyCameFrom end.now net frame.now ports.old kept }
     ensures { ports.new ≡ restored (port_of net) kept ports.old }
 {

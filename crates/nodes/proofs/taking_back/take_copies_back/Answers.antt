@@ -1,4 +1,4 @@
-use Rattle.std.proofs.Common.{◌≡◌, ap, ◌∙◌}
+use Rattle.std.proofs.Common.{ap, ◌∙◌}
 use Rattle.vlink.specs.declared.frame.Net.TheVariants.{A, B}
 use Rattle.nodes.specs.EndSystem.{copied}
 use Rattle.nodes.specs.EndSystemLaws.{copied-undone}
@@ -11,10 +11,12 @@ take_copy_back-requires-2 c =
     let end = c.args.end.now in
     let frame = c.args.frame.now in
     let ports = c.requires.0 in
-    let sent = copied end A frame ports in
-    (ports, c.requires.1.0,
+    let sent = copied end A frame ports in (
+      ports,
+      c.requires.1.0,
       c.take_copy_back.ensures
-      ∙ ap (λ b. restored 1 b c.args.ports.now) c.requires.4
-      ∙ ap (restored 1 (copied_kept end B frame sent)) c.requires.2
-      ∙ copied-undone end B frame sent,
-      c.requires.3)
+          ∙ ap (λ b. restored 1 b c.args.ports.now) c.requires.4
+          ∙ ap (restored 1 (copied_kept end B frame sent)) c.requires.2
+          ∙ copied-undone end B frame sent,
+      c.requires.3,
+    )
