@@ -1,5 +1,5 @@
 -- What a process stands for after it has taken letters, worked and posted.
-use Rattle.std.proofs.Common.{◌≡◌, Bool, true, false, cond, List, [], ◌∷◌, All, Option, Some, None, suc, ◌+◌, ◌<◌, length, reverse, arith, refl, sym, ◌∙◌, subst}
+use Rattle.std.proofs.Common.{◌≡◌, ℕ, Bool, true, false, cond, List, [], ◌∷◌, All, Option, Some, None, suc, reverse, arith, refl, sym, ◌∙◌, subst}
 use Rattle.std.proofs.lemmas.List.Elements.{All-nil, All-append, All-map, All-cons}
 use Rattle.std.proofs.lemmas.List.{reverse-append}
 use Rattle.std.specs.Prelude.{◌≢◌}
@@ -25,9 +25,9 @@ StandsOn {S} r is_value opening part hand = (p : Part Message S) × StandsFor r 
 
 module _ {S K : Type 0} (r : Rules Message S K Note) (is_value : S → Message → Type 0) (opening : S) (old new : Hand S K) where
   -- work commits nothing
-  pub after-work : (part : Part Message S) (steps : List Step) → Works r is_value old new steps → StandsFor r is_value opening part old.queues →
+  pub after-work : (part : Part Message S) (moment : ℕ) (steps : List Step) → Works r is_value moment old new steps → StandsFor r is_value opening part old.queues →
       StandsOn r is_value opening part new
-  after-work part steps w h = (moved r opening steps part, w.process opening part h, moved-commits r opening steps part)
+  after-work part moment steps w h = (moved r opening steps part, w.process opening part h, moved-commits r opening steps part)
 
   -- nor does a post, whether there was something to post or not
   pub after-post : (part : Part Message S) → StandsOn r is_value opening part old →
@@ -83,9 +83,9 @@ module _ {S K : Type 0} (r : Rules Message S K Note) (Q : Message → Type 0) (a
   moved-all opening (Post p ∷ xs) part h = moved-all opening xs part h
 
   -- so work keeps it
-  pub worked-all : (is_value : S → Message → Type 0) (opening : S) (old new : Hand S K) (part : Part Message S) (steps : List Step) → Works r is_value old new steps →
+  pub worked-all : (is_value : S → Message → Type 0) (opening : S) (old new : Hand S K) (part : Part Message S) (moment : ℕ) (steps : List Step) → Works r is_value moment old new steps →
       StandsFor r is_value opening part old.queues → All (λ l. Q l.message) part.outbox → All (λ l. Q l.message) new.queues.outbox
-  worked-all is_value opening old new part steps w h all-old =
+  worked-all is_value opening old new part moment steps w h all-old =
       subst (All (λ l. Q l.message)) (sym (w.process opening part h).outbox) (moved-all opening steps part all-old)
 
 -- letters that come to the tray leave the outbox

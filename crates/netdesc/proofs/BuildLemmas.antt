@@ -127,6 +127,10 @@ lines-from-links : (P : ℕ → Type 0) (nodes : List NodePlan) (earlier links :
 lines-from-links P nodes earlier [] h = h
 lines-from-links P nodes earlier (link ∷ links) h = (h.0, ((h.0.1, h.0.0), lines-from-links P nodes (earlier ++ link ∷ []) links h.1))
 
+pub not-false : (b : Bool) → not b ≡ false → b ≡ true
+not-false true h = refl
+not-false false h = absurd (false≢true (sym h))
+
 -- a known name stands for a number below the count of names
 number_of-below : (names : List (List ℕ)) (name : List ℕ) → not (is_among names name) ≡ false → number_of names name < length names
 number_of-below names name known =
@@ -134,10 +138,6 @@ number_of-below names name known =
     let found = place_by-early (bytes_eq name) names (length names) whole in
     let same : number_of names name ≡ found.0 = ap (λ o. unwrap_or o (length names)) found.1 in
     let lt : found.0 < length names = found.2 in omega (arith, same)
-  where
-    not-false : (b : Bool) → not b ≡ false → b ≡ true
-    not-false true h = refl
-    not-false false h = absurd (false≢true (sym h))
 
 -- the links of rows with known names end at nodes
 links-below : (names : List (List ℕ)) (earlier rows : List LinkRow) → each_after (unknown_at_link names) earlier rows ≡ [] → AllByRecursion (BothEnds (λ n. n < length names)) (map (link_plan names) rows)

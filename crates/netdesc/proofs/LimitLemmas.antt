@@ -30,7 +30,7 @@ pub bounds : (least greatest n : ℕ) → is_within least greatest n ≡ true �
 bounds least greatest n within = let (low, high) = both-true _ _ within in (leb-true least n low, leb-true n greatest high)
 
 -- a number that is one of several, all of them within limits
-pub one-of-bounds : (least greatest n : ℕ) (ms : List ℕ) → list_all (is_within least greatest) ms ≡ true → list_any (λ m. m == n) ms ≡ true → (least ≤ n) × (n ≤ greatest)
+one-of-bounds : (least greatest n : ℕ) (ms : List ℕ) → list_all (is_within least greatest) ms ≡ true → list_any (λ m. m == n) ms ≡ true → (least ≤ n) × (n ≤ greatest)
 one-of-bounds least greatest n [] all any = absurd (false≢true any)
 one-of-bounds least greatest n (m ∷ ms) all any =
     let (here, others) = both-true (is_within least greatest m) (list_all (is_within least greatest) ms) all in

@@ -1,5 +1,5 @@
 -- Each virtual link of a network without a fault begins at an end system.
-use Rattle.std.proofs.Common.{◌≡◌, ℕ, get_or, arith, ◌<◌, Bool, true, false, not, ◌&&◌, ◌||◌, List, [], ◌∷◌, ◌++◌, length, map, Option, Some, None, All, refl, ap, sym, ◌∙◌, subst}
+use Rattle.std.proofs.Common.{◌≡◌, ℕ, get_or, arith, ◌<◌, Bool, true, false, ◌&&◌, ◌||◌, List, [], ◌∷◌, ◌++◌, length, map, Option, Some, None, All, refl, ap, sym, ◌∙◌, subst}
 use Rattle.std.specs.Prelude.{slice_get}
 use Rattle.std.specs.List.{AllByRecursion}
 use Rattle.std.specs.Option.{option_map}
@@ -18,7 +18,7 @@ use Rattle.netdesc.specs.Trees.{first_of, is_bad_path, is_no_tree, source_among,
 use Rattle.netdesc.specs.Faults.{unknown_names, double_names, not_links, not_trees, too_many, no_tree_at_vl}
 use Rattle.netdesc.specs.Accepted.{IsAccepted}
 use Rattle.netdesc.specs.Views.{vl_view}
-use Rattle.netdesc.proofs.BuildLemmas.{front-none, behind-none, when-none, read-item}
+use Rattle.netdesc.proofs.BuildLemmas.{front-none, behind-none, when-none, not-false, read-item}
 
 -- an end system that is there
 pub record IsEndSystem (nodes : List NodePlan) (at : Option ℕ) : Type 0 where
@@ -33,9 +33,9 @@ or-left : (a b : Bool) → (a || b) ≡ false → a ≡ false
 or-left true b h = absurd (false≢true (sym h))
 or-left false b h = refl
 
-not-false : (b : Bool) → not b ≡ false → b ≡ true
-not-false true h = refl
-not-false false h = absurd (false≢true (sym h))
+or-right : (a b : Bool) → (a || b) ≡ false → b ≡ false
+or-right true b h = absurd (false≢true (sym h))
+or-right false b h = h
 
 there : (nodes : List NodePlan) (at : Option ℕ) → passes (is_end_system nodes) at ≡ true → IsEndSystem nodes at
 there nodes None h = absurd (false≢true h)
@@ -50,10 +50,6 @@ tree-begins nodes net path paths tree =
 vl-begins : (nodes : List NodePlan) (earlier : List VlPlan) (vl : VlPlan) → no_tree_at_vl nodes earlier vl ≡ [] → HasSource nodes vl
 vl-begins nodes earlier vl none = go vl.a vl.b (when-none _ _ (front-none _ _ none)) (when-none _ _ (behind-none _ _ none))
   where
-    or-right : (a b : Bool) → (a || b) ≡ false → b ≡ false
-    or-right true b h = absurd (false≢true (sym h))
-    or-right false b h = h
-
     go : (a b : List (List ℕ)) → ((is_none a && is_none b) || is_no_tree nodes A a) ≡ false → (is_no_tree nodes B b || differ (source_among a) (source_among b)) ≡ false → IsEndSystem nodes (source_among (a ++ b))
     go (path ∷ a) b on_a on_b = tree-begins nodes A path a (or-right (is_none (path ∷ a) && is_none b) _ on_a)
     go [] (path ∷ b) on_a on_b = tree-begins nodes B path b (or-left _ _ on_b)

@@ -151,6 +151,21 @@ fn a_tie_from_a_smaller_sender_is_late(rt: HostRuntime) -> Result<(), Fail> {
 }
 
 #[test]
+fn an_antimessage_takes_back_a_message_that_comes_after_it(rt: HostRuntime) -> Result<(), Fail> {
+    let mut process = opened(&rt, rt.alloc());
+    let early = message(&rt, 10, 2);
+    process.deliver(minus(early))?;
+    assert_eq!(rt; process.arrive()?, Some(0));
+    assert_eq!(rt; (process.count(&early), process.next()), (-1, None));
+    process.deliver(plus(early))?;
+    assert_eq!(rt; process.arrive()?, Some(0));
+    assert_eq!(rt; (process.count(&early), process.next()), (0, None));
+    assert_eq!(rt; process.run()?, None);
+    assert_eq!(rt; process.oldest(), None);
+    Ok(())
+}
+
+#[test]
 fn a_message_that_came_twice_stays_done(rt: HostRuntime) -> Result<(), Fail> {
     let mut process = after(&rt, rt.alloc(), &[10])?;
     let twice = message(&rt, 10, 2);

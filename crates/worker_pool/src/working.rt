@@ -49,10 +49,11 @@ fn run_some<R: Actor, G: Gate>(
     until: u64,
     gate: &G,
 ) -> Result<u64, PoolFault>
-    ensures ran { IfOk result (λ count. Works (rules_of R.plain R.counter) R.is_value held.old held.new (replicate count (Run held.old.number))) }
+    ensures ran { IfOk result (λ count. Works (rules_of R.plain R.counter) R.is_value until held.old held.new (replicate count (Run held.old.number))) }
     ensures within { IfOk result (λ count. count ≤ turn) }
     ensures ends { IfOk result (λ count. (count ≡ turn) ⊎ IsIdleBefore until held.new.queues) }
-    ensures some { OnErr result ((count : ℕ) × Works (rules_of R.plain R.counter) R.is_value held.old held.new (replicate count (Run held.old.number))) }
+    ensures some { OnErr result ((count : ℕ) × (count ≤ turn) ×
+        Works (rules_of R.plain R.counter) R.is_value until held.old held.new (replicate count (Run held.old.number))) }
     ensures exhausted { result ≡ Err Exhausted →
         IsSome (next_in held.new.queues) × (greatest_number < R.counter held.new.queues.past.state + 24) }
 {
@@ -77,7 +78,8 @@ fn is_early(message: Option<Message>, until: u64) -> bool
 
 /// The next message, if there is one, is handled; the step joins the block.
 fn run_one<R: Actor, G: Gate>(held: &mut Held<R>, gate: &G) -> Result<(), PoolFault>
-    ensures ran { OnOk result (Works (rules_of R.plain R.counter) R.is_value held.old held.new (Run held.old.number ∷ [])) }
+    ensures ran { OnOk result ((moment : ℕ) → IsSomeAnd (next_in held.old.queues) (λ m. m.time < moment) →
+        Works (rules_of R.plain R.counter) R.is_value moment held.old held.new (Run held.old.number ∷ [])) }
     ensures unchanged { OnErr result (held.new ≡ held.old) }
     ensures exhausted { result ≡ Err Exhausted →
         IsSome (next_in held.new.queues) × (greatest_number < R.counter held.new.queues.past.state + 24) }
@@ -107,11 +109,11 @@ pub fn work<R: Actor, G: Gate>(
     gate: &G,
 ) -> Result<u64, PoolFault>
     ensures worked { IfOk result (λ steps. (count : ℕ) ×
-        Works (rules_of R.plain R.counter) R.is_value held.old held.new (replicate (length held.old.queues.tray) (Arrive held.old.number) ++ replicate count (Run held.old.number)) ×
+        Works (rules_of R.plain R.counter) R.is_value window held.old held.new (replicate (length held.old.queues.tray) (Arrive held.old.number) ++ replicate count (Run held.old.number)) ×
         (steps ≡ length held.old.queues.tray + count) × (count ≤ turn) ×
         ((count ≡ turn) ⊎ IsIdleBefore window held.new.queues)) }
     ensures some { OnErr result ((arrived count : ℕ) ×
-        Works (rules_of R.plain R.counter) R.is_value held.old held.new (replicate arrived (Arrive held.old.number) ++ replicate count (Run held.old.number))) }
+        Works (rules_of R.plain R.counter) R.is_value window held.old held.new (replicate arrived (Arrive held.old.number) ++ replicate count (Run held.old.number))) }
     ensures exhausted { result ≡ Err Exhausted →
         IsSome (next_in held.new.queues) × (greatest_number < R.counter held.new.queues.past.state + 24) }
 {

@@ -14,7 +14,7 @@ returns g c =
     let letters = take c.in_ok-collect.field-0 (letters_for c.in_ok-exchange.held.number c.in_ok-exchange.exchange.mail) in
     let part = delivered_all letters (opened c.args.actor) in
     let taken = c.in_ok-collect.ensures.process c.args.actor (opened c.args.actor) c.in_ok-exchange.ensures.opening in
-    let worked = after-work r v c.args.actor c.collect.new.held c.work.new.held part _ c.in_ok-work.ensures.worked.1 taken in
+    let worked = after-work r v c.args.actor c.collect.new.held c.work.new.held part _ _ c.in_ok-work.ensures.worked.1 taken in
     let posted = after-post r v c.args.actor c.work.new.held c.post.new.held part worked c.in_ok-post.ensures.process c.in_ok-post.ensures.idle in
     record { stands = (posted.0, posted.1, posted.2 ∙ delivered_all-commits letters (opened c.args.actor)) }
 
@@ -26,5 +26,5 @@ post-requires g c =
     let taken = c.in_ok-collect.ensures.process c.args.actor (opened c.args.actor) c.in_ok-exchange.ensures.opening in
     let places : c.collect.new.exchange.processes ≡ c.args.processes = c.in_ok-collect.ensures.processes ∙ c.in_ok-exchange.ensures.processes in
     subst (λ n. All (λ l. l.message.receiver < n) c.work.new.held.queues.outbox) (sym places)
-    (worked-all r (λ m. m.receiver < c.args.processes) c.requires.places g.R.Reversible.is_value c.args.actor c.collect.new.held c.work.new.held part _ c.in_ok-work.ensures.worked.1 taken
+    (worked-all r (λ m. m.receiver < c.args.processes) c.requires.places g.R.Reversible.is_value c.args.actor c.collect.new.held c.work.new.held part _ _ c.in_ok-work.ensures.worked.1 taken
     (subst (All (λ l. l.message.receiver < c.args.processes)) (sym (delivered_all-outbox letters (opened c.args.actor))) (All-nil (λ l. l.message.receiver < c.args.processes))))

@@ -16,8 +16,8 @@ returns-in_err-arrive_all-clause-some g c =
     on-err c.from_residual.result (
       i.0,
       0,
-      works-both (rules_of g.R.Reversible.plain g.R.Actor.counter) g.R.Reversible.is_value c.args.held.now c.arrive_all.new.held c.arrive_all.new.held i.0 0 i.1
-          (runs-none (rules_of g.R.Reversible.plain g.R.Actor.counter) g.R.Reversible.is_value c.arrive_all.new.held),
+      works-both (rules_of g.R.Reversible.plain g.R.Actor.counter) g.R.Reversible.is_value c.args.window c.args.held.now c.arrive_all.new.held c.arrive_all.new.held i.0 0 i.1
+          (runs-none (rules_of g.R.Reversible.plain g.R.Actor.counter) g.R.Reversible.is_value c.args.window c.arrive_all.new.held),
     )
 
 pub returns-in_err-count-clause-some : goal.returns-in_err-count-clause-some
@@ -26,8 +26,8 @@ returns-in_err-count-clause-some g c =
     on-err c.from_residual-in_err-count.result (
       length c.args.held.now.queues.tray,
       i.0,
-      works-both (rules_of g.R.Reversible.plain g.R.Actor.counter) g.R.Reversible.is_value c.args.held.now c.arrive_all.new.held c.run_some.new.held
-          (length c.args.held.now.queues.tray) i.0 c.in_ok-arrive_all.ensures.arrived i.1,
+      works-both (rules_of g.R.Reversible.plain g.R.Actor.counter) g.R.Reversible.is_value c.args.window c.args.held.now c.arrive_all.new.held c.run_some.new.held
+          (length c.args.held.now.queues.tray) i.0 c.in_ok-arrive_all.ensures.arrived i.2,
     )
 
 pub returns-clause-worked : goal.returns-clause-worked
@@ -35,7 +35,7 @@ returns-clause-worked g c =
     let v = ap (λ h. length h.queues.tray) c.held.view_is in
     let b = c.tray_len-letters.ensures.value in (
       c.in_ok-count.count,
-      works-both (rules_of g.R.Reversible.plain g.R.Actor.counter) g.R.Reversible.is_value c.args.held.now c.arrive_all.new.held c.run_some.new.held
+      works-both (rules_of g.R.Reversible.plain g.R.Actor.counter) g.R.Reversible.is_value c.args.window c.args.held.now c.arrive_all.new.held c.run_some.new.held
           (length c.args.held.now.queues.tray) c.in_ok-count.count c.in_ok-arrive_all.ensures.arrived c.in_ok-count.ensures.ran,
       omega arith,
       c.in_ok-count.ensures.within,
