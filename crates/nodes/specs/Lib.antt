@@ -17,6 +17,7 @@ pub mod Placed
 pub mod Places
 pub mod Ports
 pub mod PortsLaws
+pub mod Reading
 pub mod RegulatorLaws
 pub mod Replies
 pub mod Sending

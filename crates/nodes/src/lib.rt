@@ -21,14 +21,5 @@ mod transit;
 mod vl_end;
 mod wiring;
 
-pub use end_system::EndSystem;
 pub use kept::Kept;
-pub use line::Line;
 pub use node::{Node, NodeRecord};
-pub use outbound::Outbound;
-pub use part::Part;
-pub use ports::{Ports, Wire};
-pub use receiving::Receiving;
-pub use switch::Switch;
-pub use transit::Transit;
-pub use vl_end::VlEnd;

@@ -1,13 +1,17 @@
 ghost use Rattle.std.specs.Prelude.{◌≡◌, ◌<◌};
 ghost use Rattle.vlink.specs.declared.time.TheConstants.{GREATEST_NS};
+ghost use Rattle.std.specs.Option.{option_copied};
 ghost use Rattle.nodes.specs.Placed.{IsPlacedPart};
+ghost use Rattle.nodes.specs.Reading.{port_in, regulator_in};
 
 use crate::kept::Kept;
 use crate::outbound::Outbound;
 use crate::part::Part;
 use reverse::{Actor, Reversible, Sends};
+use bag_regulator::BagRegulator;
+use output_port::Port;
 use std::marker::Model;
-use vlink::{Message, Time};
+use vlink::{Message, Time, VlId};
 
 /// What undoing an event of a node takes: how many messages it sent, and the records of the elements that it changed.
 #[derive(Clone, Copy, Debug, PartialEq, Eq)]
@@ -60,6 +64,20 @@ impl Node {
         ensures { result ≡ self.now.sender.counter }
     {
         self.counter
+    }
+
+    /// The regulator of a virtual link, if the node is an end system that sends it.
+    pub fn regulator(&self, vl: VlId) -> Option<&BagRegulator>
+        ensures { option_copied result ≡ regulator_in self.now.part vl }
+    {
+        self.part.regulator(vl)
+    }
+
+    /// The output port with this number, if the node has one. Port 0 of an end system is that of network A, port 1 that of network B.
+    pub fn port(&self, port: u8) -> Option<&Port>
+        ensures { option_copied result ≡ port_in self.now.part port }
+    {
+        self.part.port(port)
     }
 }
 

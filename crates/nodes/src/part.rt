@@ -1,5 +1,7 @@
 ghost use Rattle.std.specs.Prelude.{◌≡◌, ℕ, ◌+◌, ◌≤◌, []};
 ghost use Rattle.vlink.specs.Numbering.{greatest_number};
+ghost use Rattle.std.specs.Option.{option_copied};
+ghost use Rattle.nodes.specs.Reading.{port_in, regulator_in};
 ghost use Rattle.nodes.specs.Sending.{replied};
 ghost use Rattle.nodes.specs.Node.{handled};
 ghost use Rattle.nodes.specs.NodeUndoing.{part_kept, part_restored, PartCameFrom, IsPartValue};
@@ -9,7 +11,9 @@ use crate::kept::Kept;
 use crate::line::Line;
 use crate::outbound::Outbound;
 use crate::switch::Switch;
-use vlink::Message;
+use bag_regulator::BagRegulator;
+use output_port::Port;
+use vlink::{Message, VlId};
 
 /// What a node is.
 #[derive(Debug, Drop)]
@@ -49,6 +53,27 @@ impl Part {
             Part::EndSystem(end_system) => end_system.undo(message, kept),
             Part::Switch(switch) => switch.undo(message, kept),
             Part::Line(_) => {}
+        }
+    }
+
+    /// The regulator of a virtual link that the node sends.
+    pub(crate) fn regulator(&self, vl: VlId) -> Option<&BagRegulator>
+        ensures { option_copied result ≡ regulator_in self.now vl }
+    {
+        match self {
+            Part::EndSystem(end_system) => end_system.regulator(vl),
+            Part::Switch(_) | Part::Line(_) => None,
+        }
+    }
+
+    /// A port, if there is such a port.
+    pub(crate) fn port(&self, port: u8) -> Option<&Port>
+        ensures { option_copied result ≡ port_in self.now port }
+    {
+        match self {
+            Part::EndSystem(end_system) => end_system.port(port),
+            Part::Switch(switch) => switch.port(port),
+            Part::Line(_) => None,
         }
     }
 }

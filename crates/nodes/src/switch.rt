@@ -1,9 +1,10 @@
 ghost use Rattle.std.specs.Prelude.{◌≡◌, ◌+◌, ◌<◌, ◌≤◌, ℕ, [], Some};
-ghost use Rattle.std.specs.Option.{option_map};
+ghost use Rattle.std.specs.Option.{option_copied, option_map};
 ghost use Rattle.vlink.specs.Numbering.{greatest_number};
 ghost use Rattle.vlink.specs.declared.message.Body.TheVariants as body;
 ghost use Rattle.nodes.specs.declared.kept.Kept.TheVariants as saved;
 ghost use Rattle.nodes.specs.Sending.{replied};
+ghost use Rattle.nodes.specs.Ports.{port_at};
 ghost use Rattle.nodes.specs.Switch.{numbers_of, forwarded, judged, outputs_of, switch, taken, put, TransitAt, transit_at};
 ghost use Rattle.nodes.specs.SwitchUndoing.{taken_kept, put_kept, switch_kept, switch_restored, unported, unpoliced, SwitchCameFrom, IsSwitchValue, IsTakenValue, IsPutValue};
 
@@ -12,7 +13,7 @@ use crate::numbers::Numbers;
 use crate::outbound::Outbound;
 use crate::ports::Ports;
 use crate::transit::Transit;
-use output_port::{PortEvent, PortRecord, Priority};
+use output_port::{Port, PortEvent, PortRecord, Priority};
 use policer::{Account, AccountRecord, Arrival, Verdict};
 use reverse::Reversible;
 use std::marker::Model;
@@ -99,6 +100,13 @@ impl Switch {
             }
             _ => {}
         }
+    }
+
+    /// A port, if there is such a port.
+    pub fn port(&self, port: u8) -> Option<&Port>
+        ensures { option_copied result ≡ port_at self.now.ports port }
+    {
+        self.ports.port(port)
     }
 
     /// A frame has come to a port.
