@@ -67,7 +67,7 @@ module _ (plan : Plan) (accepted : IsAccepted plan) where
   unfolding wires_of
   wires-hold P h n count bytes =
       All-from_recursion (λ wire. IfSome wire P) _ (all-mapped (λ wire. IfSome wire P) (λ q. wire_among n q (length plan.nodes) (lines_of plan)) (range_with_len 0 count)
-          (λ q. wire-holds P n q (length plan.nodes) (lines_of plan) h))
+      (λ q. wire-holds P n q (length plan.nodes) (lines_of plan) h))
 
   slow-wires : (n count bytes : ℕ) → AllWires (λ wire. 1 ≤ wire.byte_ns) (ports_of plan n count bytes)
   slow-wires = wires-hold (λ wire. 1 ≤ wire.byte_ns) (λ k line there. (line-within plan k line accepted there).times.byte)
@@ -85,7 +85,7 @@ module _ (plan : Plan) (accepted : IsAccepted plan) where
   unfolding has-bag
   spaced ways =
       All-from_recursion (λ (g : Regulator). 1 ≤ g.bag) _ (all-passed has-bag (λ g. 1 ≤ g.bag) (λ vl. regulator_of vl.link) (λ vl. not (is_none (ways vl))) (λ vl h. omega (arith, h)) plan.vls
-          (all-read has-bag plan.vls (λ k vl there. (link-read plan k vl.link accepted (ap (option_map (λ vl. vl.link)) there)).least_bag)))
+      (all-read has-bag plan.vls (λ k vl there. (link-read plan k vl.link accepted (ap (option_map (λ vl. vl.link)) there)).least_bag)))
 
   node-placed : (n : ℕ) (node : NodePlan) → slice_get plan.nodes n ≡ Some node → (k : NodeKind) → node.kind ≡ k → IsPlacedPart (node_opening plan n node.port_bytes k)
   node-placed n node there kind.EndSystem e = (slow-wires n 2 node.port_bytes, spaced (ways_at plan n Out))

@@ -100,9 +100,9 @@ regulated-undone n t e otherwise s vl = go (source_at s vl) refl
         by_answer : (a : RegAnswer) →
             unregulated vl (regulated_kept_by (regulator.saves source.regulator e) source.end a s.ports) (asked_with e s source (released_out source.end a s.ports)) ≡ s
         by_answer (answer.Released frame) = asked-undone e s vl source h _ _ _ (
-          ap (restored 0 (copied_kept source.end A frame s.ports)) (copied-undone source.end B frame (copied source.end A frame s.ports))
-          ∙ copied-undone source.end A frame s.ports
-        )
+            ap (restored 0 (copied_kept source.end A frame s.ports)) (copied-undone source.end B frame (copied source.end A frame s.ports))
+            ∙ copied-undone source.end A frame s.ports
+            )
         by_answer answer.Kept = asked-undone e s vl source h None None s.ports refl
         by_answer answer.Dropped = asked-undone e s vl source h None None s.ports refl
         by_answer answer.Nothing = asked-undone e s vl source h None None s.ports refl

@@ -103,10 +103,10 @@ end_system-bags P n t b s all = end_system-cases (λ o. All (λ g. P g.bag) o.st
   quiet = λ receivers r q. all;
   frees = λ q. all;
   asks = λ vl e otherwise source m h.
-    let there = found-there source-with s.sources s.regulators (place_of (numbers_of s.sources) vl.0) source h in
-    let bag = All-there (λ g. P g.bag) s.regulators source.place source.regulator all there in
-    All-set (λ g. P g.bag) s.regulators source.place (regulator.after source.regulator e)
-    (subst P (sym (bag-stays source.regulator e)) bag) all;
+      let there = found-there source-with s.sources s.regulators (place_of (numbers_of s.sources) vl.0) source h in
+      let bag = All-there (λ g. P g.bag) s.regulators source.place source.regulator all there in
+      All-set (λ g. P g.bag) s.regulators source.place (regulator.after source.regulator e)
+      (subst P (sym (bag-stays source.regulator e)) bag) all;
 }) b
 
 -- both copies of a frame
@@ -141,18 +141,18 @@ asked-all P n vl (Some at) h = All-cons P _ [] h (All-nil P)
 -- what is sent has P, if what starts into the lines does, and each Release that a regulator asks for at moment t
 pub end_system-all : (P : Wish → Type 0) (n t : ℕ) (b : Body) (s : EndSystemState) → AllWires (WireMeets P n t) s.ports →
     ((vl : VlId) (e : RegEvent) (source : SourceAt) → moment_of e ≡ t → source_at s vl ≡ Some source →
-        IfSome (regulator.out source.regulator e).release_at (λ at. P (record { time = at; receiver = n; body = body.Release source.end.vl }))) →
+    IfSome (regulator.out source.regulator e).release_at (λ at. P (record { time = at; receiver = n; body = body.Release source.end.vl }))) →
     All P (end_system n t b s).reply.wishes
 end_system-all P n t b s wires asks = end_system-cases (λ o. All P o.reply.wishes) n t s (record {
   quiet = λ receivers r q. quiet-all P r q;
   frees = λ q. reply-all P n t q Free s.ports wires;
   asks = λ vl e otherwise source m h.
-    let out = regulator.out source.regulator e in
-    let ask = asked n source.end.vl out.release_at in
-    joined-all P (joined (full e out.answer) ask) (released_reply n t source.end out.answer s.ports)
-    (joined-all P (full e out.answer) ask (quiet-all P (full e out.answer) (full-quiet e out.answer))
-    (asked-all P n source.end.vl out.release_at (asks vl e source m h)))
-    (released_reply-all P n t source.end out.answer s.ports wires);
+      let out = regulator.out source.regulator e in
+      let ask = asked n source.end.vl out.release_at in
+      joined-all P (joined (full e out.answer) ask) (released_reply n t source.end out.answer s.ports)
+      (joined-all P (full e out.answer) ask (quiet-all P (full e out.answer) (full-quiet e out.answer))
+      (asked-all P n source.end.vl out.release_at (asks vl e source m h)))
+      (released_reply-all P n t source.end out.answer s.ports wires);
 }) b
 
 -- at most 5 messages and 2 notes
@@ -193,6 +193,6 @@ end_system-few n t b s = end_system-cases (λ o. IsFew 5 2 o.reply) n t s (recor
   quiet = λ receivers r q. few-more (quiet-few r q) (omega arith) (omega arith);
   frees = λ q. few-more (reply-few n t q Free s.ports) (omega arith) (omega arith);
   asks = λ vl e otherwise source m h.
-    let out = regulator.out source.regulator e in
-    regulated-few n t e source.end.vl out.release_at source.end out.answer s.ports;
+      let out = regulator.out source.regulator e in
+      regulated-few n t e source.end.vl out.release_at source.end out.answer s.ports;
 }) b

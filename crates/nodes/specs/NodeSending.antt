@@ -51,7 +51,7 @@ line-cases K t (Enqueue q frame) s quiet arrives = quiet _ silent-quiet
 abbrev Meets : (Wish → Type 0) → ℕ → ℕ → Part → Type 0
 Meets P n t (EndSystem s) =
     AllWires (WireMeets P n t) s.ports × ((vl : VlId) (e : RegEvent) (source : SourceAt) → moment_of e ≡ t → source_at s vl ≡ Some source →
-        IfSome (regulator.out source.regulator e).release_at (λ at. P (record { time = at; receiver = n; body = Release source.end.vl })))
+    IfSome (regulator.out source.regulator e).release_at (λ at. P (record { time = at; receiver = n; body = Release source.end.vl })))
 Meets P n t (Switch s) = AllWires (WireMeets P n t) s.ports × ((q : ℕ) (frame : Frame) → P (wish_to n (t + s.latency) frame q))
 Meets P n t (Line s) = (frame : Frame) → P (arrival t frame s)
 
@@ -98,9 +98,10 @@ sends-later s m h =
 
 -- and goes to processes that there are
 part-near : (processes n t : ℕ) (p : Part) → n < processes → IsWiredPart processes p → Meets (λ w. w.receiver < processes) n t p
-part-near processes n t (EndSystem s) g h =
-    (wires-weaker (λ wire. wire.line < processes) (WireMeets (λ w. w.receiver < processes) n t) (λ wire l q frame. (l, g)) s.ports h,
-      λ vl e source m found. asks (regulator.out source.regulator e).release_at)
+part-near processes n t (EndSystem s) g h = (
+  wires-weaker (λ wire. wire.line < processes) (WireMeets (λ w. w.receiver < processes) n t) (λ wire l q frame. (l, g)) s.ports h,
+  λ vl e source m found. asks (regulator.out source.regulator e).release_at,
+)
   where
     asks : (ask : Option ℕ) → IfSome ask (λ at. n < processes)
     asks None = tt
@@ -119,9 +120,10 @@ pub place-stays : (s : NodeState) (m : Message) → IsPlaced s → IsPlaced (aft
 place-stays s m = go s.part
   where
     go : (p : Part) → IsPlacedPart p → IsPlacedPart (handled s.sender.number m p).part
-    go (EndSystem s') h =
-        (subst (All (λ w. IfSome w (λ wire. 1 ≤ wire.byte_ns))) (sym (end_system-wires s.sender.number m.time m.body s')) h.0,
-          end_system-bags (λ bag. 1 ≤ bag) s.sender.number m.time m.body s' h.1)
+    go (EndSystem s') h = (
+      subst (All (λ w. IfSome w (λ wire. 1 ≤ wire.byte_ns))) (sym (end_system-wires s.sender.number m.time m.body s')) h.0,
+      end_system-bags (λ bag. 1 ≤ bag) s.sender.number m.time m.body s' h.1,
+    )
     go (Switch s') h =
         let stays = switch-stays s.sender.number m.time m.body s' in
         (subst (All (λ w. IfSome w (λ wire. 1 ≤ wire.byte_ns))) (sym stays.wires) h.0, subst (λ n. 1 ≤ n) (sym stays.latency) h.1)

@@ -31,7 +31,7 @@ pub record IsFinding {X Y Z : Type 0} (found : ℕ → Option X → Option Y →
   pub renews : (i : ℕ) (x : X) (y new : Y) → renewed new (made i x y) ≡ made i x new
 
 module _ {X Y Z : Type 0} {found : ℕ → Option X → Option Y → Option Z} {place : Z → ℕ} {element : Z → Y} {renewed : Y → Z → Z}
-  (is : IsFinding found place element renewed) where
+    (is : IsFinding found place element renewed) where
   -- where z is found: it has the place and the element, and is found renewed with another element
   record IsFound (i : ℕ) (x : Option X) (y : Option Y) (z : Z) : Type 0 where
     at_place : place z ≡ i

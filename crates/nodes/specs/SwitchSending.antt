@@ -84,7 +84,7 @@ switch-all P n t body s wires puts = switch-cases (λ o. All P o.reply.wishes) n
   quiet = λ accounts r q. quiet-all P r q;
   at_ports = λ q e. reply-all P n t q e s.ports wires;
   forwards = λ accounts frame found h.
-    All-map P (wish_to n (t + s.latency) frame) (outputs_of found.transit) (λ k d l. puts _ frame);
+      All-map P (wish_to n (t + s.latency) frame) (outputs_of found.transit) (λ k d l. puts _ frame);
 }) body
 
 -- what holds of each route holds of the one that is found
@@ -112,9 +112,9 @@ switch-wishes n t body s all = switch-cases (λ o. length o.reply.wishes ≤ 24)
   quiet = λ accounts r q. omega (arith, (quiet-few r q).wishes);
   at_ports = λ q e. omega (arith, (reply-few n t q e s.ports).wishes);
   forwards = λ accounts frame found h.
-    let marks = transit-all (λ transit. length transit.outputs ≡ 24) s frame.vl found all h in
-    let few = marked-few 0 found.transit.outputs in
-    omega (arith, marks, few, length-map (outputs_of found.transit) (wish_to n (t + s.latency) frame));
+      let marks = transit-all (λ transit. length transit.outputs ≡ 24) s frame.vl found all h in
+      let few = marked-few 0 found.transit.outputs in
+      omega (arith, marks, few, length-map (outputs_of found.transit) (wish_to n (t + s.latency) frame));
 }) body
 
 pub switch-notes : (n t : ℕ) (body : Body) (s : SwitchState) → length (switch n t body s).reply.notes ≤ 1

@@ -62,7 +62,14 @@ impl Line {
         }
         let ns = at.ns() + u64::from(self.propagation_ns);
         let port = self.to_port;
-        out.send(ns, self.to, Body::Arrive { port, frame: *frame });
+        out.send(
+            ns,
+            self.to,
+            Body::Arrive {
+                port,
+                frame: *frame,
+            },
+        );
     }
 
     /// Handles a message: a frame that it carries arrives after the propagation time, or is lost in an outage.

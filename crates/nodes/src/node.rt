@@ -7,9 +7,9 @@ ghost use Rattle.nodes.specs.Reading.{port_in, regulator_in};
 use crate::kept::Kept;
 use crate::outbound::Outbound;
 use crate::part::Part;
-use reverse::{Actor, Reversible, Sends};
 use bag_regulator::BagRegulator;
 use output_port::Port;
+use reverse::{Actor, Reversible, Sends};
 use std::marker::Model;
 use vlink::{Message, Time, VlId};
 

@@ -23,9 +23,10 @@ impl Model for Outbound {
     ghost Value = { OutboundState };
 
     ghost view = { λ o. record {
-        sender = record { number = o.number; until = o.until; counter = o.counter };
-        messages = o.sends.messages.items;
-        notes = o.sends.notes.items } };
+      sender = record { number = o.number; until = o.until; counter = o.counter };
+      messages = o.sends.messages.items;
+      notes = o.sends.notes.items;
+    } };
 }
 
 impl Outbound {

@@ -142,14 +142,7 @@ impl Switch {
 
     /// A frame of the virtual link with this place has come to a port: it is lost where the virtual link does not come in
     /// there, where it is too long, or where the account refuses it.
-    fn judge(
-        &mut self,
-        place: usize,
-        at: Time,
-        port: u8,
-        frame: &Frame,
-        out: &mut Outbound,
-    ) -> Kept
+    fn judge(&mut self, place: usize, at: Time, port: u8, frame: &Frame, out: &mut Outbound) -> Kept
         requires place { option_map (λ (found : TransitAt). found.place) (transit_at self.old frame.now.vl) ≡ Some place }
         requires messages { out.old.messages ≡ [] }
         requires notes { out.old.notes ≡ [] }
@@ -193,7 +186,10 @@ impl Switch {
             out.lose(Cause::Unknown, frame);
             return Kept::Nothing;
         };
-        let event = PortEvent::Put { frame: *frame, priority };
+        let event = PortEvent::Put {
+            frame: *frame,
+            priority,
+        };
         Kept::Port(self.ports.act(at, port, &event, out))
     }
 
@@ -264,7 +260,14 @@ fn forward(ns: u64, frame: &Frame, transit: &Transit, out: &mut Outbound)
     let number = out.number();
     for port in 0..24 {
         if transit.outputs[usize::from(port)] {
-            out.send(ns, number, Body::Enqueue { port, frame: *frame });
+            out.send(
+                ns,
+                number,
+                Body::Enqueue {
+                    port,
+                    frame: *frame,
+                },
+            );
         }
     }
 }

@@ -7,7 +7,8 @@ use Rattle.nodes.proofs.node.NodeReversible.apply.Goals as goal
 
 pub invariant_of-self : goal.invariant_of-self
 invariant_of-self c =
-    let now : NodeState = record { sender = record { number = c.self.inside.number; until = c.self.inside.until; counter = c.self.inside.counter }; part = c.self.inside.part } in
-    ( subst IsPlacedPart (sym (c.handle-kept.ensures.state ∙ ap (λ (s : Sender). (handled s.number c.args.event.now c.self.inside.part).part) c.new-out.ensures.sender))
-        (place-stays now c.args.event.now c.self.invariant.0)
-    , c.self.invariant.1 )
+    let now : NodeState = record { sender = record { number = c.self.inside.number; until = c.self.inside.until; counter = c.self.inside.counter }; part = c.self.inside.part } in (
+      subst IsPlacedPart (sym (c.handle-kept.ensures.state ∙ ap (λ (s : Sender). (handled s.number c.args.event.now c.self.inside.part).part) c.new-out.ensures.sender))
+          (place-stays now c.args.event.now c.self.invariant.0),
+      c.self.invariant.1,
+    )

@@ -12,8 +12,8 @@ invariant_of-self c =
     let m = c.args.event.now in
     let s = c.requires.0 in
     let back : c.undo.new.self ≡ s.part =
-        c.undo.ensures
-        ∙ ap (λ (now : NodeState). part_restored m c.args.kept.kept now.part) (c.self.view_is ∙ c.requires.2)
-        ∙ ap (λ (k : NodeRecord). part_restored m k.kept (after s m).part) c.requires.3
-        ∙ ap (λ (now : NodeState). now.part) (node-undoes s m) in
+    c.undo.ensures
+    ∙ ap (λ (now : NodeState). part_restored m c.args.kept.kept now.part) (c.self.view_is ∙ c.requires.2)
+    ∙ ap (λ (k : NodeRecord). part_restored m k.kept (after s m).part) c.requires.3
+    ∙ ap (λ (now : NodeState). now.part) (node-undoes s m) in
     (subst IsPlacedPart (sym back) c.requires.1.0, c.self.invariant.1)

@@ -52,6 +52,6 @@ pub returns-clause-state : goal.returns-clause-state
 returns-clause-state c =
     let ports = c.self.inside.ports.items in
     subst (λ (s : PortsState). record { wires = c.self.inside.wires.items; states = slice_set ports c.from.result c.apply-answer.new.self } ≡ record s { states = slice_set s.states c.args.port (port.after c.in_ok-state.state.now c.args.event.now) }) c.self.view_is
-        (ap (λ (i : ℕ). record { wires = c.self.inside.wires.items; states = slice_set ports i c.apply-answer.new.self }) c.from.ensures
-        ∙ ap (λ (p : PortState). record { wires = c.self.inside.wires.items; states = slice_set ports c.args.port p }) c.apply-answer.ensures.state)
+    (ap (λ (i : ℕ). record { wires = c.self.inside.wires.items; states = slice_set ports i c.apply-answer.new.self }) c.from.ensures
+    ∙ ap (λ (p : PortState). record { wires = c.self.inside.wires.items; states = slice_set ports c.args.port p }) c.apply-answer.ensures.state)
     ∙ sym (changed-as c.args.port c.args.event.now c.args.self.now _ _ (is_wire c) (there c))

@@ -42,6 +42,6 @@ returns-clause-reply c =
 pub returns-clause-state : goal.returns-clause-state
 returns-clause-state c =
     subst (λ (s : SwitchState). record { latency = c.self.inside.latency_ns; transits = c.self.inside.transits.items; accounts = slice_set c.self.inside.accounts.items c.args.place c.apply-verdict.new.self; ports = c.self.inside.ports }
-            ≡ record s { accounts = slice_set s.accounts c.args.place (account.after c.index_mut-account.result.now (record { at = c.args.at; size = c.args.frame.now.size })) }) c.self.view_is
-        (ap (λ (a : Policing). record { latency = c.self.inside.latency_ns; transits = c.self.inside.transits.items; accounts = slice_set c.self.inside.accounts.items c.args.place a; ports = c.self.inside.ports }) c.apply-verdict.ensures.state)
+    ≡ record s { accounts = slice_set s.accounts c.args.place (account.after c.index_mut-account.result.now (record { at = c.args.at; size = c.args.frame.now.size })) }) c.self.view_is
+    (ap (λ (a : Policing). record { latency = c.self.inside.latency_ns; transits = c.self.inside.transits.items; accounts = slice_set c.self.inside.accounts.items c.args.place a; ports = c.self.inside.ports }) c.apply-verdict.ensures.state)
     ∙ ap (λ (o : SwitchOutcome). o.state) (sym (taken-judged c.args.out.now.sender.number c.args.at c.args.port c.args.frame.now c.args.self.now (found c) (is c) (input c) (fits c)))
