@@ -29,3 +29,6 @@ pub use receiving::Receiving;
 pub use switch::Switch;
 pub use transit::Transit;
 pub use vl_end::VlEnd;
+
+#[cfg(test)]
+mod tests;

@@ -1,6 +1,5 @@
-use Rattle.std.proofs.Common.{◌≡◌, ◌<◌, Some, None, length, sym, ap, ◌∙◌, arith}
+use Rattle.std.proofs.Common.{sym, ap, ◌∙◌, arith}
 use Rattle.nodes.specs.Finding.{place_of}
-use Rattle.nodes.specs.Making.{numbers_met}
 use Rattle.nodes.proofs.MakingLemmas.{placed-within, ports-placed, ports-nowhere}
 use Rattle.nodes.proofs.making.ports_among.Goals as goal
 
