@@ -41,10 +41,7 @@ pub fn ends_of(alloc: Global, meetings: &[Meeting]) -> Result<Vec<VlEnd>, AllocE
 }
 
 /// A regulator for each virtual link.
-pub fn regulators_of(
-    alloc: Global,
-    meetings: &[Meeting],
-) -> Result<Vec<BagRegulator>, AllocError>
+pub fn regulators_of(alloc: Global, meetings: &[Meeting]) -> Result<Vec<BagRegulator>, AllocError>
     ensures { IfOk result (λ regulators. regulators.items ≡ map (λ m. regulator_of m.link) meetings.now) }
 {
     let mut regulators = Vec::new(alloc);
