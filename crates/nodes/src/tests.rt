@@ -531,3 +531,24 @@ fn undoing_an_offer_leaves_the_node_as_it_was(rt: HostRuntime) -> Result<(), Fai
     assert!(rt; node.regulator(VlId(2)).is_none());
     Ok(())
 }
+
+// How many processes of the network of this description are made.
+fn made(alloc: Global, text: &str) -> Result<usize, Fail> {
+    let network = read(alloc, text)?;
+    let mut made = 0;
+    for process in 0..network.process_count() {
+        let node = Node::new(alloc, &network, process as u16)?;
+        if usize::from(node.id()) == process && node.counter() == 0 {
+            made += 1;
+        }
+    }
+    Ok(made)
+}
+
+#[test]
+fn each_process_of_a_network_is_made(rt: HostRuntime) -> Result<(), Fail> {
+    assert_eq!(rt; made(rt.alloc(), ONE)?, 7);
+    let text = two_switches(rt.alloc())?;
+    assert_eq!(rt; made(rt.alloc(), &text)?, 12);
+    Ok(())
+}

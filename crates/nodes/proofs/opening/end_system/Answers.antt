@@ -1,6 +1,5 @@
-use Rattle.std.proofs.Common.{◌≡◌, List, map, refl, ap, sym, ◌∙◌, subst}
+use Rattle.std.proofs.Common.{◌≡◌, List, map, ap, sym, ◌∙◌}
 use Rattle.nodes.specs.declared.meeting.Meeting.{Meeting}
-use Rattle.nodes.specs.Finding.{IsRising}
 use Rattle.nodes.specs.EndSystem.{numbers_of}
 use Rattle.nodes.specs.Opening.{regulator_of, receiving_of}
 use Rattle.nodes.specs.Making.{numbers_met}

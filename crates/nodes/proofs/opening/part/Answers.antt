@@ -1,4 +1,4 @@
-use Rattle.std.proofs.Common.{◌≡◌, ◌-◌, ◌≤◌, length, ap, ◌∙◌, arith}
+use Rattle.std.proofs.Common.{◌≡◌, ◌-◌, ◌≤◌, length, arith}
 use Rattle.nodes.proofs.OpeningLemmas.{line-made}
 use Rattle.nodes.proofs.opening.part.Goals as goal
 
