@@ -242,9 +242,25 @@ fn what_a_node_does_not_know_changes_nothing(rt: HostRuntime) -> Result<(), Fail
 
 #[test]
 fn a_line_carries_a_frame_to_its_far_end(rt: HostRuntime) -> Result<(), Fail> {
-    let frame = first_frame(&rt);
-    let carried = event(&rt, 5760, 3, Body::Carry { frame });
-    let wanted = [sent(&rt, 5860, 2, 3, 0, Body::Arrive { port: 0, frame })];
+    let carried = event(
+        &rt,
+        5760,
+        3,
+        Body::Carry {
+            frame: first_frame(&rt),
+        },
+    );
+    let wanted = [sent(
+        &rt,
+        5860,
+        2,
+        3,
+        0,
+        Body::Arrive {
+            port: 0,
+            frame: first_frame(&rt),
+        },
+    )];
     let found = answers(rt.alloc(), ONE, 3, &[carried])?;
     assert_eq!(rt; found[0].messages.as_slice(), wanted.as_slice());
     Ok(())
@@ -252,8 +268,6 @@ fn a_line_carries_a_frame_to_its_far_end(rt: HostRuntime) -> Result<(), Fail> {
 
 #[test]
 fn an_outage_contains_its_beginning_and_not_its_end(rt: HostRuntime) -> Result<(), Fail> {
-    let frame = first_frame(&rt);
-    let carried = event(&rt, 5760, 3, Body::Carry { frame });
     let during = one_switch(
         rt.alloc(),
         &[(
@@ -261,12 +275,10 @@ fn an_outage_contains_its_beginning_and_not_its_end(rt: HostRuntime) -> Result<(
             "[[outage]]\nfrom = \"ES1\"\nto = \"SW1\"\nfrom_ns = 5760\nto_ns = 5761\n[[vl]]\n",
         )],
     )?;
-    let found = answers(rt.alloc(), &during, 3, &[carried])?;
+    let found = answers(rt.alloc(), &during, 3, &[last_bit(&rt)])?;
+    let wanted = [lost(&first_frame(&rt), Cause::Outage)];
     assert!(rt; found[0].messages.is_empty());
-    assert_eq!(rt;
-        found[0].notes.as_slice(),
-        [lost(&frame, Cause::Outage)].as_slice()
-    );
+    assert_eq!(rt; found[0].notes.as_slice(), wanted.as_slice());
     let before = one_switch(
         rt.alloc(),
         &[(
@@ -274,9 +286,17 @@ fn an_outage_contains_its_beginning_and_not_its_end(rt: HostRuntime) -> Result<(
             "[[outage]]\nfrom = \"ES1\"\nto = \"SW1\"\nfrom_ns = 0\nto_ns = 5760\n[[vl]]\n",
         )],
     )?;
-    let found = answers(rt.alloc(), &before, 3, &[carried])?;
+    let found = answers(rt.alloc(), &before, 3, &[last_bit(&rt)])?;
     assert_eq!(rt; (found[0].messages.len(), found[0].notes.len()), (1, 0));
     Ok(())
+}
+
+// The last bit of the first frame leaves into the line from ES1.
+fn last_bit(rt: &impl Abort) -> Message {
+    let body = Body::Carry {
+        frame: first_frame(rt),
+    };
+    event(rt, 5760, 3, body)
 }
 
 // The note that this frame is lost.
@@ -532,17 +552,16 @@ fn undoing_an_offer_leaves_the_node_as_it_was(rt: HostRuntime) -> Result<(), Fai
     Ok(())
 }
 
-// How many processes of the network of this description are made.
+// Makes each process of the network of this description, and counts them.
 fn made(alloc: Global, text: &str) -> Result<usize, Fail> {
     let network = read(alloc, text)?;
-    let mut made = 0;
     for process in 0..network.process_count() {
         let node = Node::new(alloc, &network, process as u16)?;
-        if usize::from(node.id()) == process && node.counter() == 0 {
-            made += 1;
+        if usize::from(node.id()) != process || node.counter() != 0 {
+            return Err("a process is another one".into());
         }
     }
-    Ok(made)
+    Ok(network.process_count())
 }
 
 #[test]
