@@ -1,0 +1,4 @@
+pub mod LatencyLemmas
+pub mod ListLemmas
+pub mod DeliveryLemmas
+pub mod DropLemmas

@@ -1,0 +1,5 @@
+pub mod Latencies
+pub mod Losses
+pub mod Tables
+pub mod Delivering
+pub mod Sinking

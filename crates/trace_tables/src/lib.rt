@@ -1,0 +1,16 @@
+//! What a run is told by: tables of latencies and of drops, the trace, and their texts.
+#![tactic(auto)]
+
+mod deliver;
+mod drops;
+mod fault;
+mod latencies;
+mod loss;
+mod sink;
+mod tables;
+
+pub use fault::{OutFault, SinkFault};
+pub use latencies::Latencies;
+pub use loss::Loss;
+pub use sink::Sink;
+pub use tables::Tables;
