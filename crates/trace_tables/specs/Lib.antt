@@ -3,3 +3,5 @@ pub mod Losses
 pub mod Tables
 pub mod Delivering
 pub mod Sinking
+pub mod Text
+pub mod Writing

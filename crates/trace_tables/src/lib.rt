@@ -5,9 +5,13 @@ mod deliver;
 mod drops;
 mod fault;
 mod latencies;
+mod line;
 mod loss;
+mod naming;
 mod sink;
 mod tables;
+mod text;
+mod trace;
 
 pub use fault::{OutFault, SinkFault};
 pub use latencies::Latencies;

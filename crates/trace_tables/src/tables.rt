@@ -1,7 +1,7 @@
 ghost use Rattle.std.specs.Prelude.{◌≡◌, [], map, IfOk};
 ghost use Rattle.std.specs.List.Sorted.{IsStrictlyIncreasing};
 ghost use Rattle.netdesc.specs.Accepted.{ids_of};
-ghost use Rattle.netdesc.specs.Views.{lists_of};
+ghost use Rattle.netdesc.specs.Views.{items_of, lists_of};
 ghost use Rattle.trace_tables.specs.Latencies.{counts_of};
 ghost use Rattle.trace_tables.specs.Tables.{latency_table, tables_of};
 
@@ -70,5 +70,19 @@ impl Tables {
             drop_row(&mut drops, network, row)?;
         }
         Ok(Tables { latencies, drops })
+    }
+
+    /// The latencies of each virtual link at each of its destinations.
+    pub(crate) fn latencies(&self) -> &[Vec<Latencies>]
+        ensures { map items_of result.now ≡ self.now.latencies }
+    {
+        self.latencies.as_slice()
+    }
+
+    /// How often each loss was counted.
+    pub(crate) fn drops(&self) -> &BTreeMap<Loss, u64>
+        ensures { result.now.entries ≡ self.now.drops }
+    {
+        &self.drops
     }
 }
