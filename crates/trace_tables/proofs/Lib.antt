@@ -2,3 +2,4 @@ pub mod LatencyLemmas
 pub mod ListLemmas
 pub mod DeliveryLemmas
 pub mod DropLemmas
+pub mod WritingLemmas

@@ -12,9 +12,11 @@ mod sink;
 mod tables;
 mod text;
 mod trace;
+mod write;
 
 pub use fault::{OutFault, SinkFault};
 pub use latencies::Latencies;
 pub use loss::Loss;
 pub use sink::Sink;
 pub use tables::Tables;
+pub use write::{write_csv, write_trace};

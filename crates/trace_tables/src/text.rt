@@ -1,9 +1,8 @@
-ghost use Rattle.std.specs.Prelude.{◌≡◌, ◌<◌, length, map, OnOk, IfErr, slice_get};
-ghost use Rattle.std.specs.Option.{option_map, option_map_or};
+ghost use Rattle.std.specs.Prelude.{◌≡◌, [], map, OnOk, IfErr, slice_index_or};
 ghost use Rattle.netdesc.specs.Rows.{each};
 ghost use Rattle.netdesc.specs.Views.{items_of};
 ghost use Rattle.trace_tables.specs.declared.fault.OutFault.TheVariants.{OutOfMemory};
-ghost use Rattle.trace_tables.specs.Delivering.{destinations_at};
+ghost use Rattle.trace_tables.specs.Latencies.{counts_of};
 ghost use Rattle.trace_tables.specs.Text.{tables_head, latency_line, latency_after, latency_text, drop_line, drop_text};
 ghost use Rattle.trace_tables.specs.Writing.{Adds};
 
@@ -94,4 +93,73 @@ fn push_drop(
             "".as_bytes(),
         ],
     )
+}
+
+/// The counts at a place; all 0 where there are none.
+fn counts_at(counts: &[Latencies], place: usize) -> Latencies
+    ensures { result ≡ slice_index_or counts.now place (counts_of []) }
+{
+    match counts.get(place) {
+        Some(here) => *here,
+        None => Latencies::none(),
+    }
+}
+
+/// The latencies of a virtual link at these destinations.
+fn push_destinations(
+    out: &mut Writer<Vec<u8>>,
+    network: &Network,
+    vl: VlId,
+    places: &[usize],
+    counts: &[Latencies],
+) -> Result<(), OutFault>
+    ensures text { OnOk result (Adds out.old out.new (each (latency_after network.now vl.0 counts.now) places.now)) }
+    ensures memory { IfErr result (λ fault. fault ≡ OutOfMemory) }
+{
+    for (i, place) in places.iter().enumerate() {
+        let here = counts_at(counts, i);
+        push_latency(out, network, vl, *place, &here)?;
+    }
+    Ok(())
+}
+
+/// The counts of a virtual link; none where there are none.
+fn row_at(table: &[Vec<Latencies>], vl: usize) -> &[Latencies]
+    ensures { result.now ≡ slice_index_or (map items_of table.now) vl [] }
+{
+    match table.get(vl) {
+        Some(row) => row.as_slice(),
+        None => &[],
+    }
+}
+
+/// The latencies of all virtual links.
+pub fn push_latencies(
+    out: &mut Writer<Vec<u8>>,
+    network: &Network,
+    table: &[Vec<Latencies>],
+) -> Result<(), OutFault>
+    ensures text { OnOk result (Adds out.old out.new (latency_text network.now (map items_of table.now))) }
+    ensures memory { IfErr result (λ fault. fault ≡ OutOfMemory) }
+{
+    for vl in 0..network.vl_count() {
+        let id = network.virtual_link(vl).id;
+        push_destinations(out, network, id, network.destinations(vl), row_at(table, vl))?;
+    }
+    Ok(())
+}
+
+/// How many frames were dropped, for each loss.
+pub fn push_drops(
+    out: &mut Writer<Vec<u8>>,
+    network: &Network,
+    drops: &BTreeMap<Loss, u64>,
+) -> Result<(), OutFault>
+    ensures text { OnOk result (Adds out.old out.new (drop_text network.now drops.now.entries)) }
+    ensures memory { IfErr result (λ fault. fault ≡ OutOfMemory) }
+{
+    for (loss, count) in drops.iter() {
+        push_drop(out, network, loss, *count)?;
+    }
+    Ok(())
 }
