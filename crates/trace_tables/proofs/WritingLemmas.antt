@@ -1,6 +1,6 @@
 -- Texts that are written one after another.
 use Rattle.std.proofs.Common.{◌≡◌, ℕ, ◌+◌, ◌<◌, List, [], ◌++◌, length, take, get_or, Option, Some, None, refl, ap, sym, subst, ◌∙◌, append_assoc}
-use Rattle.std.specs.Prelude.{slice_get}
+use Rattle.std.specs.Prelude.{slice_get, IfOk, Result, Ok, Err}
 use Rattle.std.specs.Option.{option_map}
 use Rattle.std.specs.declared.alloc.Global.{Global}
 use Rattle.std.specs.declared.vec.Vec.{Vec}
@@ -38,3 +38,7 @@ pub record Told (o : Option VlPlan) (link : VirtualLink) (places : List ℕ) : T
 pub told : (o : Option VlPlan) (link : VirtualLink) (places : List ℕ) → option_map (λ vl. vl.link) o ≡ Some link → option_map destinations_of o ≡ Some places → Told o link places
 told None link places e d = absurd (cc)
 told (Some one) link places e d = record { vl = one; there = refl; its_link = cc; its_places = cc }
+
+pub if-ok : {X E : Type 0} (P Q : X → Type 0) (r : Result X E) → ((x : X) → P x → Q x) → IfOk r P → IfOk r Q
+if-ok P Q (Ok x) f h = f x h
+if-ok P Q (Err e) f h = h
