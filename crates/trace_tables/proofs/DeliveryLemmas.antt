@@ -83,10 +83,10 @@ at-destinations vl places rows row id l rises is same = go (place_among places r
         let there = place_by-there (λ p. p == row.place) places d found in
         let here : there.0 ≡ row.place = exact_unsigned_eq there.0 row.place there.2 in
         ap (set (map (counted vl rows) places) d)
-            (ap (λ c. with_latency c l) (read-map (counted vl rows) places d there.0 (counts_of []) there.1)
-            ∙ one-more vl there.0 rows row l (one-here vl there.0 row id l is same (sym here)))
+        (ap (λ c. with_latency c l) (read-map (counted vl rows) places d there.0 (counts_of []) there.1)
+        ∙ one-more vl there.0 rows row l (one-here vl there.0 row id l is same (sym here)))
         ∙ set-map (λ p. p) (counted vl rows) (counted vl (rows ++ row ∷ [])) places d there.0 (subst Rises (sym (map-id places)) rises) there.1
-            (λ p differ. agree p (λ e. differ (e ∙ sym here)))
+        (λ p differ. agree p (λ e. differ (e ∙ sym here)))
 
 map-same : {X Y : Type 0} (f g : X → Y) (xs : List X) → ((x : X) → f x ≡ g x) → map f xs ≡ map g xs
 map-same f g [] agree = refl
@@ -109,11 +109,11 @@ delivered vls rows row id l rises is = go (place_of_vl vls id.0) refl
         let same : id_of vl ≡ id.0 = exact_unsigned_eq (id_of vl) id.0 there.2 in
         let places : destinations_at vls v ≡ destinations_of vl = ap (λ o. option_map_or destinations_of o []) there.1 in
         ap (set (map (counted_of rows) vls) v)
-            (ap (λ counts. with_latency_at counts l (place_among (destinations_at vls v) row.place)) (read-map (counted_of rows) vls v vl [] there.1)
-            ∙ ap (λ ps. with_latency_at (counted_of rows vl) l (place_among ps row.place)) places
-            ∙ at-destinations (id_of vl) (destinations_of vl) rows row id l (rising-rises (ends_of vl.a ++ ends_of vl.b)) is (sym same))
+        (ap (λ counts. with_latency_at counts l (place_among (destinations_at vls v) row.place)) (read-map (counted_of rows) vls v vl [] there.1)
+        ∙ ap (λ ps. with_latency_at (counted_of rows vl) l (place_among ps row.place)) places
+        ∙ at-destinations (id_of vl) (destinations_of vl) rows row id l (rising-rises (ends_of vl.a ++ ends_of vl.b)) is (sym same))
         ∙ set-map id_of (counted_of rows) (counted_of (rows ++ row ∷ [])) vls v vl rises there.1
-            (λ other differ. agree other (λ e. differ (e ∙ sym same)))
+        (λ other differ. agree other (λ e. differ (e ∙ sym same)))
 
 -- a drop
 pub dropped : (vls : List VlPlan) (rows : List Row) (row : Row) → ((vl : ℕ) → latency_in vl row.note ≡ []) → latency_table vls rows ≡ latency_table vls (rows ++ row ∷ [])

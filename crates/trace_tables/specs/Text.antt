@@ -24,7 +24,7 @@ line fields = row_text default_writer fields
 abbrev pub place_name : Plan → ℕ → List ℕ
 place_name plan place =
     cond (nat_lt place (length plan.nodes)) (node_name plan.nodes place)
-        (option_map_or (line_name plan.nodes) (slice_get (lines_of plan) (place - length plan.nodes)) [])
+    (option_map_or (line_name plan.nodes) (slice_get (lines_of plan) (place - length plan.nodes)) [])
 
 abbrev pub cause_name : Cause → List ℕ
 cause_name QueueFull = codes "queue_full"

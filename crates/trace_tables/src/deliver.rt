@@ -32,13 +32,7 @@ fn add_at(counts: &mut Vec<Latencies>, latency: u64, at: Option<usize>)
 }
 
 /// A frame of a virtual link was delivered at this process, `latency` ns after its offer.
-fn deliver(
-    table: &mut Vec<Vec<Latencies>>,
-    network: &Network,
-    vl: VlId,
-    place: u16,
-    latency: u64,
-)
+fn deliver(table: &mut Vec<Vec<Latencies>>, network: &Network, vl: VlId, place: u16, latency: u64)
     requires rows { length table.old.items ≡ length network.now.vls }
     requires columns { (v : ℕ) → length (slice_index_or (lists_of table.old) v []) ≡ length (destinations_at network.now.vls v) }
     requires few { (v d : ℕ) → count_at (lists_of table.old) v d < 2 ^ 64 - 1 }

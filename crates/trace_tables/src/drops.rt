@@ -46,8 +46,7 @@ fn vl_of(note: Note) -> VlId
 pub fn is_known(network: &Network, row: &Row) -> bool
     ensures { result ≡ is_known network.now row.now }
 {
-    network.place_of(vl_of(row.note)).is_some()
-        && usize::from(row.place) < network.process_count()
+    network.place_of(vl_of(row.note)).is_some() && usize::from(row.place) < network.process_count()
 }
 
 /// What a row says was lost, if it says so.
@@ -65,7 +64,11 @@ fn loss_of(row: &Row) -> Option<Loss>
 }
 
 /// A row is counted, if it tells a drop of the network.
-pub fn drop_row(drops: &mut BTreeMap<Loss, u64>, network: &Network, row: &Row) -> Result<(), AllocError>
+pub fn drop_row(
+    drops: &mut BTreeMap<Loss, u64>,
+    network: &Network,
+    row: &Row,
+) -> Result<(), AllocError>
     requires { (loss : Loss) → count_in drops.old.entries loss < 2 ^ 64 - 1 }
     ensures { OnOk result (drops.new.entries ≡ with_losses drops.old.entries (known_loss network.now row.now)) }
 {

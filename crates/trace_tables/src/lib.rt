@@ -20,3 +20,6 @@ pub use loss::Loss;
 pub use sink::Sink;
 pub use tables::Tables;
 pub use write::{write_csv, write_trace};
+
+#[cfg(test)]
+mod tests;

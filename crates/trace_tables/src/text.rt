@@ -144,7 +144,13 @@ pub fn push_latencies(
 {
     for vl in 0..network.vl_count() {
         let id = network.virtual_link(vl).id;
-        push_destinations(out, network, id, network.destinations(vl), row_at(table, vl))?;
+        push_destinations(
+            out,
+            network,
+            id,
+            network.destinations(vl),
+            row_at(table, vl),
+        )?;
     }
     Ok(())
 }

@@ -58,12 +58,7 @@ fn push_fields(
 }
 
 /// What a row tells.
-fn push_note(
-    out: &mut Writer<Vec<u8>>,
-    time: u64,
-    place: &str,
-    note: &Note,
-) -> Result<(), OutFault>
+fn push_note(out: &mut Writer<Vec<u8>>, time: u64, place: &str, note: &Note) -> Result<(), OutFault>
     ensures text { OnOk result (Adds out.old out.new (line (decimal time ∷ place.now ∷ note_fields note.now))) }
     ensures memory { IfErr result (λ fault. fault ≡ OutOfMemory) }
 {
@@ -91,11 +86,7 @@ fn push_row(out: &mut Writer<Vec<u8>>, network: &Network, row: &Row) -> Result<(
 }
 
 /// These rows, in their order.
-pub fn push_rows(
-    out: &mut Writer<Vec<u8>>,
-    network: &Network,
-    rows: &[Row],
-) -> Result<(), OutFault>
+pub fn push_rows(out: &mut Writer<Vec<u8>>, network: &Network, rows: &[Row]) -> Result<(), OutFault>
     ensures text { OnOk result (Adds out.old out.new (flat_map (trace_line network.now) rows.now)) }
     ensures memory { IfErr result (λ fault. fault ≡ OutOfMemory) }
 {

@@ -53,6 +53,6 @@ returns-in-Some c =
     c.place_among-at.ensures.value ∙ ap (place_among c.destinations.result.now) c.from.ensures ∙ ap (λ ps. place_among ps c.args.place) (sym places) in
     map-set items_of c.args.table.now.items c.in-Some.v c.add_at.new.counts
     ∙ ap (set (lists_of c.args.table.now) c.in-Some.v)
-        (c.add_at.ensures ∙ ap (λ counts. with_latency_at counts c.args.latency c.place_among-at.result) (sym e)
-        ∙ ap (with_latency_at (get_or (lists_of c.args.table.now) c.in-Some.v []) c.args.latency) at)
+    (c.add_at.ensures ∙ ap (λ counts. with_latency_at counts c.args.latency c.place_among-at.result) (sym e)
+    ∙ ap (with_latency_at (get_or (lists_of c.args.table.now) c.in-Some.v []) c.args.latency) at)
     ∙ ap (λ o. with_delivery_at c.args.network.now.vls (lists_of c.args.table.now) o c.args.place c.args.latency) (sym c.in-Some.is ∙ c.place_of.ensures)

@@ -19,8 +19,8 @@ loop-i-preserved c =
     let counts : c.counts_at-here.result ≡ get_or c.args.counts.now (length (take i places)) (counts_of []) =
     c.counts_at-here.ensures ∙ ap (λ n. get_or c.args.counts.now n (counts_of [])) (sym (length-take-le i places (omega arith))) in
     adds-same c.args.out.now c.push_latency.new.out _ _
-        (ap (λ ys. each write (take i places) ++ ys) (ap (latency_line plan c.args.vl.0 place) counts) ∙ sym (each-next write places i place (slice_get-get_or places i 0 c.loop-i-test.true)))
-        (adds-more c.args.out.now c.loop-i.out c.push_latency.new.out (each write (take i places)) (latency_line plan c.args.vl.0 place c.counts_at-here.result) c.loop-i.invariant c.in_ok-push_latency.ensures.text)
+    (ap (λ ys. each write (take i places) ++ ys) (ap (latency_line plan c.args.vl.0 place) counts) ∙ sym (each-next write places i place (slice_get-get_or places i 0 c.loop-i-test.true)))
+    (adds-more c.args.out.now c.loop-i.out c.push_latency.new.out (each write (take i places)) (latency_line plan c.args.vl.0 place c.counts_at-here.result) c.loop-i.invariant c.in_ok-push_latency.ensures.text)
 
 pub returns-clause-text : goal.returns-clause-text
 returns-clause-text c =

@@ -14,5 +14,5 @@ returns-clause-text c =
     let h5 : c.as_bytes-5.result.now ≡ decimal c.args.count = c.as_bytes-5.ensures.value ∙ c.format-2.ensures.text in
     let h6 = c.as_bytes-6.ensures.value in let h7 = c.as_bytes-7.ensures.value in let h8 = c.as_bytes-8.ensures.value in
     let e : c.as_bytes.result.now ∷ c.as_bytes-2.result.now ∷ c.as_bytes-3.result.now ∷ c.as_bytes-4.result.now ∷ c.as_bytes-5.result.now ∷ c.as_bytes-6.result.now ∷ c.as_bytes-7.result.now ∷ c.as_bytes-8.result.now ∷ []
-        ≡ codes "dropped" ∷ decimal loss.vl.0 ∷ place_name c.args.network.now loss.place ∷ cause_name loss.cause ∷ decimal c.args.count ∷ [] ∷ [] ∷ [] ∷ [] = cc in
+    ≡ codes "dropped" ∷ decimal loss.vl.0 ∷ place_name c.args.network.now loss.place ∷ cause_name loss.cause ∷ decimal c.args.count ∷ [] ∷ [] ∷ [] ∷ [] = cc in
     subst (λ (fields : List (List ℕ)). OnOk c.push.result (Adds c.args.out.now c.push.new.out (line fields))) e c.push.ensures.text

@@ -11,10 +11,13 @@ loop-loss-preserved c =
     let plan = c.args.network.now in
     let done = c.loop-loss.invariant.0 in
     let line = drop_line plan (c.in-Some.loss.now, c.in-Some.count.now) in
-    let rest = rest_more deref_pair c.loop-loss.loss-iterator c.next.new.self c.next.result (c.in-Some.loss, c.in-Some.count) c.in-Some.is c.next.ensures.steps in
-    (done ++ line,
-    (adds-more c.args.out.now c.loop-loss.out c.push_drop.new.out done line c.loop-loss.invariant.1.0 c.in_ok-push_drop.ensures.text,
-    append_assoc done line (drop_text plan c.next.new.self) ∙ ap (λ drops. done ++ drop_text plan drops) (sym rest) ∙ c.loop-loss.invariant.1.1))
+    let rest = rest_more deref_pair c.loop-loss.loss-iterator c.next.new.self c.next.result (c.in-Some.loss, c.in-Some.count) c.in-Some.is c.next.ensures.steps in (
+      done ++ line,
+      (
+        adds-more c.args.out.now c.loop-loss.out c.push_drop.new.out done line c.loop-loss.invariant.1.0 c.in_ok-push_drop.ensures.text,
+        append_assoc done line (drop_text plan c.next.new.self) ∙ ap (λ drops. done ++ drop_text plan drops) (sym rest) ∙ c.loop-loss.invariant.1.1,
+      ),
+    )
 
 pub returns-clause-text : goal.returns-clause-text
 returns-clause-text c =
@@ -22,4 +25,4 @@ returns-clause-text c =
     let done = c.loop-loss.invariant.0 in
     let rest = rest_all deref_pair c.loop-loss.loss-iterator c.next.new.self c.next.result c.in-None.is c.next.ensures.steps in
     adds-same c.args.out.now c.loop-loss.out done (drop_text plan c.args.drops.now.entries)
-        (sym (append-nil done) ∙ ap (λ drops. done ++ drop_text plan drops) (sym rest) ∙ c.loop-loss.invariant.1.1) c.loop-loss.invariant.1.0
+    (sym (append-nil done) ∙ ap (λ drops. done ++ drop_text plan drops) (sym rest) ∙ c.loop-loss.invariant.1.1) c.loop-loss.invariant.1.0

@@ -23,8 +23,8 @@ loop-vl-preserved c =
     ∙ ap (λ counts. each (latency_after plan it.vl.link.id.0 counts) c.destinations.result.now) counts
     ∙ ap (each (latency_after plan it.vl.link.id.0 (get_or table (length (take i vls)) []))) it.its_places in
     adds-same c.args.out.now c.push_destinations.new.out _ _
-        (ap (λ ys. each write (take i vls) ++ ys) here ∙ sym (each-next write vls i it.vl it.there))
-        (adds-more c.args.out.now c.loop-vl.out c.push_destinations.new.out (each write (take i vls)) (each (latency_after plan c.virtual_link.result.id.0 c.row_at.result.now) c.destinations.result.now) c.loop-vl.invariant c.in_ok-push_destinations.ensures.text)
+    (ap (λ ys. each write (take i vls) ++ ys) here ∙ sym (each-next write vls i it.vl it.there))
+    (adds-more c.args.out.now c.loop-vl.out c.push_destinations.new.out (each write (take i vls)) (each (latency_after plan c.virtual_link.result.id.0 c.row_at.result.now) c.destinations.result.now) c.loop-vl.invariant c.in_ok-push_destinations.ensures.text)
 
 pub returns-clause-text : goal.returns-clause-text
 returns-clause-text c =

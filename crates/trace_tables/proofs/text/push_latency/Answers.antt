@@ -15,5 +15,5 @@ returns-clause-text c =
     let h7 : c.as_bytes-7.result.now ≡ decimal c.args.counts.now.greatest = c.as_bytes-7.ensures.value ∙ c.format-4.ensures.text ∙ ap decimal c.greatest.ensures in
     let h8 : c.as_bytes-8.result.now ≡ decimal c.args.counts.now.total = c.as_bytes-8.ensures.value ∙ c.format-5.ensures.text ∙ ap decimal c.sum.ensures in
     let e : c.as_bytes.result.now ∷ c.as_bytes-2.result.now ∷ c.as_bytes-3.result.now ∷ c.as_bytes-4.result.now ∷ c.as_bytes-5.result.now ∷ c.as_bytes-6.result.now ∷ c.as_bytes-7.result.now ∷ c.as_bytes-8.result.now ∷ []
-        ≡ codes "latency" ∷ decimal c.args.vl.0 ∷ place_name c.args.network.now c.args.place ∷ [] ∷ decimal c.args.counts.now.count ∷ decimal c.args.counts.now.least ∷ decimal c.args.counts.now.greatest ∷ decimal c.args.counts.now.total ∷ [] = cc in
+    ≡ codes "latency" ∷ decimal c.args.vl.0 ∷ place_name c.args.network.now c.args.place ∷ [] ∷ decimal c.args.counts.now.count ∷ decimal c.args.counts.now.least ∷ decimal c.args.counts.now.greatest ∷ decimal c.args.counts.now.total ∷ [] = cc in
     subst (λ (fields : List (List ℕ)). OnOk c.push.result (Adds c.args.out.now c.push.new.out (line fields))) e c.push.ensures.text

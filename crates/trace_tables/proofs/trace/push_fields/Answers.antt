@@ -12,5 +12,5 @@ returns-clause-text c =
     let h4 = c.as_bytes-4.ensures.value in
     let h5 : c.as_bytes-5.result.now ≡ decimal c.args.value = c.as_bytes-5.ensures.value ∙ c.format-3.ensures.text in
     let e : c.as_bytes.result.now ∷ c.as_bytes-2.result.now ∷ c.as_bytes-3.result.now ∷ c.as_bytes-4.result.now ∷ c.as_bytes-5.result.now ∷ []
-        ≡ decimal c.args.time ∷ c.args.place.now ∷ decimal c.args.vl.0 ∷ c.args.what.now ∷ decimal c.args.value ∷ [] = cc in
+    ≡ decimal c.args.time ∷ c.args.place.now ∷ decimal c.args.vl.0 ∷ c.args.what.now ∷ decimal c.args.value ∷ [] = cc in
     subst (λ (fields : List (List ℕ)). OnOk c.push.result (Adds c.args.out.now c.push.new.out (line fields))) e c.push.ensures.text

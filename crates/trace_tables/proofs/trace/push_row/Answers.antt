@@ -12,7 +12,7 @@ returns-clause-text c =
     let known : is_known plan row ≡ true = sym c.is_known.ensures ∙ c.if-not-is_known.false in
     let place = c.place_name-place.ensures ∙ ap (place_name plan) c.from.ensures in
     subst (λ (bytes : List ℕ). OnOk c.push_note.result (Adds c.args.out.now c.push_note.new.out bytes))
-        (ap (λ time. line (decimal time ∷ c.place_name-place.result.now ∷ note_fields row.note)) c.ns.ensures.value
-        ∙ ap (λ name. line (decimal row.message.time ∷ name ∷ note_fields row.note)) place
-        ∙ sym (ap (λ b. cond b (line (decimal row.message.time ∷ place_name plan row.place ∷ note_fields row.note)) []) known))
-        c.push_note.ensures.text
+    (ap (λ time. line (decimal time ∷ c.place_name-place.result.now ∷ note_fields row.note)) c.ns.ensures.value
+    ∙ ap (λ name. line (decimal row.message.time ∷ name ∷ note_fields row.note)) place
+    ∙ sym (ap (λ b. cond b (line (decimal row.message.time ∷ place_name plan row.place ∷ note_fields row.note)) []) known))
+    c.push_note.ensures.text

@@ -14,8 +14,8 @@ loop-row-preserved c =
     let write = trace_line c.args.network.now in
     let row = c.row-item.result in
     adds-same c.args.out.now c.push_row.new.out _ _
-        (sym (ap (flat_map write) (take-read rows i row c.loop-row-test.true c.row-item.is) ∙ flat_map-append write (take i rows) (row ∷ []) ∙ ap (λ ys. flat_map write (take i rows) ++ ys) (append-nil (write row))))
-        (adds-more c.args.out.now c.loop-row.out c.push_row.new.out (flat_map write (take i rows)) (write row) c.loop-row.invariant c.in_ok-push_row.ensures.text)
+    (sym (ap (flat_map write) (take-read rows i row c.loop-row-test.true c.row-item.is) ∙ flat_map-append write (take i rows) (row ∷ []) ∙ ap (λ ys. flat_map write (take i rows) ++ ys) (append-nil (write row))))
+    (adds-more c.args.out.now c.loop-row.out c.push_row.new.out (flat_map write (take i rows)) (write row) c.loop-row.invariant c.in_ok-push_row.ensures.text)
 
 pub returns-clause-text : goal.returns-clause-text
 returns-clause-text c =
