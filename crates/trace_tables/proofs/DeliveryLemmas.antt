@@ -1,7 +1,6 @@
 -- One row more changes the table of latencies by one delivery, or not at all.
 use Rattle.std.proofs.Common.{◌≡◌, ◌≢◌, ℕ, zero, suc, ◌+◌, ◌<◌, ◌≤◌, ◌==◌, Bool, true, false, cond, List, [], ◌∷◌, ◌++◌, length, get_or, take, set, map, Option, Some, None, refl, ap, subst, sym, ◌∙◌, arith, ne_eqb, eq-eqb, length-append}
 use Rattle.std.specs.Prelude.{slice_get}
-use Rattle.std.specs.List.{flat_map}
 use Rattle.std.specs.Option.{option_map, option_map_or}
 use Rattle.std.proofs.lemmas.List.{append-nil, map-id, length-map}
 use Rattle.std.proofs.lemmas.Grind.{flat_map-append}
@@ -11,7 +10,6 @@ use Rattle.vlink.specs.declared.note.Note.{Note}
 use Rattle.vlink.specs.declared.note.Note.TheVariants.{Delivered, Dropped}
 use Rattle.vlink.specs.declared.note.Row.{Row}
 use Rattle.netdesc.specs.Plan.{VlPlan}
-use Rattle.netdesc.specs.Rows.{place_by}
 use Rattle.netdesc.specs.Trees.{destinations_of, ends_of}
 use Rattle.netdesc.specs.Lines.{place_of_vl}
 use Rattle.netdesc.specs.Accepted.{id_of, ids_of}

@@ -1,9 +1,9 @@
 -- One more latency at the end of those that are counted.
-use Rattle.std.proofs.Common.{◌≡◌, ℕ, suc, ◌+◌, ◌==◌, cond, min, max, List, [], ◌∷◌, ◌++◌, length, refl, ap, sym, ◌∙◌, arith, length-append}
+use Rattle.std.proofs.Common.{◌≡◌, ℕ, suc, ◌+◌, ◌==◌, cond, min, max, List, [], ◌∷◌, ◌++◌, length, refl, ◌∙◌, arith, length-append}
 use Rattle.std.specs.Prelude.{sum}
 use Rattle.std.proofs.lemmas.Bool.Decides.{nat_tests}
 use Rattle.std.proofs.lemmas.List.Sums.{sum_by-append}
-use Rattle.trace_tables.specs.Latencies.{Counts, counts_of, least_from, least_of, greatest_from, with_latency}
+use Rattle.trace_tables.specs.Latencies.{counts_of, least_from, least_of, greatest_from, with_latency}
 
 least_from-push : (m : ℕ) (ls : List ℕ) (l : ℕ) → least_from m (ls ++ l ∷ []) ≡ min (least_from m ls) l
 least_from-push m [] l = refl

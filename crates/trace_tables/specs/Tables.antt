@@ -1,5 +1,5 @@
 -- The tables of a run: latencies by virtual link and destination, and what was dropped.
-use Rattle.std.specs.Prelude.{ℕ, ◌<◌, ◌&&◌, Bool, cond, is_some, List, [], map, filter}
+use Rattle.std.specs.Prelude.{ℕ, ◌&&◌, Bool, cond, is_some, List, [], map}
 use Rattle.std.specs.List.{flat_map}
 use Rattle.vlink.specs.declared.frame.VlId.{VlId}
 use Rattle.vlink.specs.declared.note.Note.{Note}

@@ -7,7 +7,6 @@ use Rattle.std.specs.declared.alloc.Global.{Global}
 use Rattle.std.specs.declared.vec.Vec.{Vec}
 use Rattle.netdesc.specs.Plan.{VlPlan}
 use Rattle.netdesc.specs.Trees.{destinations_of}
-use Rattle.netdesc.specs.Lines.{place_of_vl}
 use Rattle.netdesc.specs.Views.{items_of, lists_of}
 use Rattle.trace_tables.specs.Latencies.{Counts, counts_of}
 use Rattle.trace_tables.specs.Delivering.{destinations_at, place_among, with_latency_at, with_delivery_at}

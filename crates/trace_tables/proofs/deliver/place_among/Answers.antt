@@ -1,4 +1,4 @@
-use Rattle.std.proofs.Common.{◌≡◌, ◌==◌, ◌≤◌, false, length, take, ap, sym, eq-eqb, ◌∙◌}
+use Rattle.std.proofs.Common.{◌==◌, ap, sym, eq-eqb, ◌∙◌}
 use Rattle.std.specs.List.{list_any}
 use Rattle.std.proofs.lemmas.List.{take_all}
 use Rattle.netdesc.proofs.PlaceLemmas.{place_by-at, is_some-place_by, none_of}

@@ -1,4 +1,4 @@
-use Rattle.std.proofs.Common.{◌≡◌, ◌++◌, ◌∷◌, [], ℕ, map, ap, sym, ◌∙◌, take, add-one}
+use Rattle.std.proofs.Common.{◌++◌, ◌∷◌, [], ap, sym, ◌∙◌, add-one}
 use Rattle.trace_tables.specs.Latencies.{counts_of}
 use Rattle.trace_tables.proofs.DeliveryLemmas.{none-more}
 use Rattle.trace_tables.proofs.tables.no_latencies.Goals as goal

@@ -1,6 +1,6 @@
-use Rattle.std.proofs.Common.{◌≡◌, ◌++◌, ◌∷◌, [], map, ap, sym, ◌∙◌, take, add-one}
+use Rattle.std.proofs.Common.{◌++◌, ◌∷◌, [], map, ap, sym, ◌∙◌, take, add-one}
 use Rattle.std.proofs.lemmas.List.{map-append}
-use Rattle.netdesc.specs.Views.{items_of, lists_of}
+use Rattle.netdesc.specs.Views.{items_of}
 use Rattle.trace_tables.specs.Tables.{latency_table}
 use Rattle.trace_tables.proofs.DeliveryLemmas.{no_rows-more}
 use Rattle.trace_tables.proofs.tables.no_rows.Goals as goal

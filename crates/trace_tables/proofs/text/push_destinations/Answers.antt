@@ -1,11 +1,9 @@
-use Rattle.std.proofs.Common.{◌≡◌, ℕ, ◌+◌, ◌++◌, [], length, take, get_or, refl, ap, sym, ◌∙◌, arith, Some}
-use Rattle.std.specs.Prelude.{slice_get}
+use Rattle.std.proofs.Common.{◌≡◌, ◌++◌, [], length, take, get_or, ap, sym, ◌∙◌, arith}
 use Rattle.std.proofs.lemmas.List.{take_all, length-take-le}
 use Rattle.std.proofs.lemmas.Option.{slice_get-get_or}
 use Rattle.netdesc.specs.Rows.{each}
 use Rattle.trace_tables.specs.Latencies.{counts_of}
 use Rattle.trace_tables.specs.Text.{latency_after, latency_line}
-use Rattle.trace_tables.specs.Writing.{Adds}
 use Rattle.trace_tables.proofs.WritingLemmas.{adds-more, adds-same, each-next}
 use Rattle.trace_tables.proofs.text.push_destinations.Goals as goal
 

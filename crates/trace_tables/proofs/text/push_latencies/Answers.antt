@@ -1,10 +1,9 @@
-use Rattle.std.proofs.Common.{◌≡◌, ℕ, ◌+◌, ◌++◌, [], length, take, get_or, map, refl, ap, sym, ◌∙◌, arith, Some}
+use Rattle.std.proofs.Common.{◌≡◌, ◌++◌, [], length, take, get_or, map, ap, sym, ◌∙◌, arith}
 use Rattle.std.specs.Prelude.{slice_get}
 use Rattle.std.proofs.lemmas.List.{take_all, length-take-le}
 use Rattle.netdesc.specs.Rows.{each}
 use Rattle.netdesc.specs.Views.{items_of}
 use Rattle.trace_tables.specs.Text.{latency_after, latencies_after}
-use Rattle.trace_tables.specs.Writing.{Adds}
 use Rattle.trace_tables.proofs.WritingLemmas.{adds-more, adds-same, each-next, told}
 use Rattle.trace_tables.proofs.text.push_latencies.Goals as goal
 

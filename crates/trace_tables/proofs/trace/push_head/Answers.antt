@@ -1,4 +1,4 @@
-use Rattle.std.proofs.Common.{◌≡◌, ℕ, List, [], ◌∷◌, subst, OnOk, map}
+use Rattle.std.proofs.Common.{◌≡◌, ℕ, List, [], ◌∷◌, subst, OnOk}
 use Rattle.std.specs.Prelude.{codes}
 use Rattle.trace_tables.specs.Text.{line}
 use Rattle.trace_tables.specs.Writing.{Adds}

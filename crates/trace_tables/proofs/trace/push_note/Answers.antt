@@ -1,6 +1,6 @@
-use Rattle.std.proofs.Common.{◌≡◌, ℕ, List, [], ◌∷◌, ap, sym, ◌∙◌, subst, OnOk}
-use Rattle.std.specs.Prelude.{decimal, codes}
-use Rattle.trace_tables.specs.Text.{line, note_fields, cause_name}
+use Rattle.std.proofs.Common.{ℕ, List, [], ◌∷◌, ap, sym, ◌∙◌, subst, OnOk}
+use Rattle.std.specs.Prelude.{decimal}
+use Rattle.trace_tables.specs.Text.{line, note_fields}
 use Rattle.trace_tables.specs.Writing.{Adds}
 use Rattle.trace_tables.proofs.trace.push_note.Goals as goal
 

@@ -1,7 +1,7 @@
 use Rattle.std.proofs.Common.{◌≡◌, ℕ, List, [], ◌∷◌, ap, sym, ◌∙◌, subst, OnOk, cond, true}
 use Rattle.std.specs.Prelude.{decimal}
 use Rattle.trace_tables.specs.Tables.{is_known}
-use Rattle.trace_tables.specs.Text.{line, place_name, note_fields, trace_line}
+use Rattle.trace_tables.specs.Text.{line, place_name, note_fields}
 use Rattle.trace_tables.specs.Writing.{Adds}
 use Rattle.trace_tables.proofs.trace.push_row.Goals as goal
 

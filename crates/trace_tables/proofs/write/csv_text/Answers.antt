@@ -1,5 +1,4 @@
-use Rattle.std.proofs.Common.{◌≡◌, ℕ, List, [], ◌++◌, map, ap, ◌∙◌}
-use Rattle.netdesc.specs.Views.{items_of}
+use Rattle.std.proofs.Common.{◌≡◌, ℕ, List, [], ◌++◌, ap}
 use Rattle.trace_tables.specs.Text.{tables_head, latency_text, drop_text, tables_text}
 use Rattle.trace_tables.specs.Writing.{Holds}
 use Rattle.trace_tables.proofs.WritingLemmas.{adds-more, adds-same, if-ok}

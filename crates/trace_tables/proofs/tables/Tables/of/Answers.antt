@@ -1,10 +1,10 @@
-use Rattle.std.proofs.Common.{◌≡◌, ℕ, ◌-◌, ◌^◌, ◌<◌, ◌≤◌, ◌++◌, ◌∷◌, [], length, get_or, ap, sym, subst, ◌∙◌, take, add-one, arith}
+use Rattle.std.proofs.Common.{◌≡◌, ◌≤◌, [], length, get_or, ap, sym, ◌∙◌, take, arith}
 use Rattle.std.proofs.lemmas.List.{length-take-le}
 use Rattle.std.proofs.lemmas.Map.Keys.{sorted_from_strictly_increasing}
 use Rattle.netdesc.specs.Accepted.{ids_of}
 use Rattle.netdesc.proofs.EachLemmas.{take-read}
 use Rattle.netdesc.specs.Views.{lists_of}
-use Rattle.trace_tables.specs.Delivering.{count_at, with_row, destinations_at}
+use Rattle.trace_tables.specs.Delivering.{count_at, with_row}
 use Rattle.trace_tables.specs.Losses.{count_in, with_losses}
 use Rattle.trace_tables.specs.Tables.{latency_table, drop_table, known_loss}
 use Rattle.trace_tables.proofs.ListLemmas.{Rises, rises-of}
