@@ -1,0 +1,5 @@
+pub mod LatencyLemmas
+pub mod ListLemmas
+pub mod DeliveryLemmas
+pub mod DropLemmas
+pub mod WritingLemmas

@@ -1,0 +1,28 @@
+use Rattle.std.proofs.Common.{◌++◌, ap, sym, ◌∙◌, append_assoc}
+use Rattle.std.specs.Map.Iter.{deref_pair}
+use Rattle.std.proofs.lemmas.List.{append-nil}
+use Rattle.std.proofs.lemmas.Map.Iter.{rest_more, rest_all}
+use Rattle.trace_tables.specs.Text.{drop_line, drop_text}
+use Rattle.trace_tables.proofs.WritingLemmas.{adds-more, adds-same}
+use Rattle.trace_tables.proofs.text.push_drops.Goals as goal
+
+pub loop-loss-preserved : goal.loop-loss-preserved
+loop-loss-preserved c =
+    let plan = c.args.network.now in
+    let done = c.loop-loss.invariant.0 in
+    let line = drop_line plan (c.in-Some.loss.now, c.in-Some.count.now) in
+    let rest = rest_more deref_pair c.loop-loss.loss-iterator c.next.new.self c.next.result (c.in-Some.loss, c.in-Some.count) c.in-Some.is c.next.ensures.steps in (
+      done ++ line,
+      (
+        adds-more c.args.out.now c.loop-loss.out c.push_drop.new.out done line c.loop-loss.invariant.1.0 c.in_ok-push_drop.ensures.text,
+        append_assoc done line (drop_text plan c.next.new.self) ∙ ap (λ drops. done ++ drop_text plan drops) (sym rest) ∙ c.loop-loss.invariant.1.1,
+      ),
+    )
+
+pub returns-clause-text : goal.returns-clause-text
+returns-clause-text c =
+    let plan = c.args.network.now in
+    let done = c.loop-loss.invariant.0 in
+    let rest = rest_all deref_pair c.loop-loss.loss-iterator c.next.new.self c.next.result c.in-None.is c.next.ensures.steps in
+    adds-same c.args.out.now c.loop-loss.out done (drop_text plan c.args.drops.now.entries)
+    (sym (append-nil done) ∙ ap (λ drops. done ++ drop_text plan drops) (sym rest) ∙ c.loop-loss.invariant.1.1) c.loop-loss.invariant.1.0

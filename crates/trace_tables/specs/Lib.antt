@@ -1,0 +1,7 @@
+pub mod Latencies
+pub mod Losses
+pub mod Tables
+pub mod Delivering
+pub mod Sinking
+pub mod Text
+pub mod Writing

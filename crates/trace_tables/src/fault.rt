@@ -1,0 +1,40 @@
+use std::alloc::AllocError;
+use thiserror::Error;
+
+/// A sink refused bytes.
+#[derive(Clone, Copy, Debug, PartialEq, Eq, Error)]
+#[error("cannot write")]
+pub struct SinkFault;
+
+/// Why a text did not go out whole.
+#[derive(Clone, Copy, Debug, PartialEq, Eq, Error)]
+pub enum OutFault {
+    /// The sink failed. What went out is a beginning of the text.
+    #[error("cannot write")]
+    Device,
+    /// A growth was refused. Nothing went out.
+    #[error("out of memory")]
+    OutOfMemory,
+}
+
+impl From<AllocError> for OutFault {
+    ghost use Rattle.std.specs.Prelude.{◌≡◌};
+    ghost use Rattle.trace_tables.specs.declared.fault.OutFault.TheVariants.{OutOfMemory};
+
+    ghost from_gives = { λ _ fault. fault ≡ OutOfMemory };
+
+    fn from(_: AllocError) -> Self {
+        OutFault::OutOfMemory
+    }
+}
+
+impl From<SinkFault> for OutFault {
+    ghost use Rattle.std.specs.Prelude.{◌≡◌};
+    ghost use Rattle.trace_tables.specs.declared.fault.OutFault.TheVariants.{Device};
+
+    ghost from_gives = { λ _ fault. fault ≡ Device };
+
+    fn from(_: SinkFault) -> Self {
+        OutFault::Device
+    }
+}

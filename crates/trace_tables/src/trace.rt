@@ -1,0 +1,97 @@
+ghost use Rattle.std.specs.Prelude.{◌≡◌, [], ◌∷◌, decimal, OnOk, IfErr};
+ghost use Rattle.std.specs.List.{flat_map};
+ghost use Rattle.trace_tables.specs.declared.fault.OutFault.TheVariants.{OutOfMemory};
+ghost use Rattle.trace_tables.specs.Text.{line, trace_head, note_fields, trace_line};
+ghost use Rattle.trace_tables.specs.Writing.{Adds};
+
+use crate::drops::is_known;
+use crate::fault::OutFault;
+use crate::line::push;
+use crate::naming::{cause_name, place_name};
+use csv::Writer;
+use itoa::Buffer;
+use netdesc::Network;
+use vlink::{Note, Row, VlId};
+
+/// The first line of a trace.
+pub fn push_head(out: &mut Writer<Vec<u8>>) -> Result<(), OutFault>
+    ensures text { OnOk result (Adds out.old out.new trace_head) }
+    ensures memory { IfErr result (λ fault. fault ≡ OutOfMemory) }
+{
+    push(
+        out,
+        &[
+            "time_ns".as_bytes(),
+            "where".as_bytes(),
+            "vl".as_bytes(),
+            "what".as_bytes(),
+            "value".as_bytes(),
+        ],
+    )
+}
+
+/// A line of the trace.
+fn push_fields(
+    out: &mut Writer<Vec<u8>>,
+    time: u64,
+    place: &str,
+    vl: VlId,
+    what: &str,
+    value: u64,
+) -> Result<(), OutFault>
+    ensures text { OnOk result (Adds out.old out.new (line (decimal time ∷ place.now ∷ decimal vl.0 ∷ what.now ∷ decimal value ∷ []))) }
+    ensures memory { IfErr result (λ fault. fault ≡ OutOfMemory) }
+{
+    let mut moment = Buffer::new();
+    let mut number = Buffer::new();
+    let mut amount = Buffer::new();
+    push(
+        out,
+        &[
+            moment.format(time).as_bytes(),
+            place.as_bytes(),
+            number.format(vl.0).as_bytes(),
+            what.as_bytes(),
+            amount.format(value).as_bytes(),
+        ],
+    )
+}
+
+/// What a row tells.
+fn push_note(out: &mut Writer<Vec<u8>>, time: u64, place: &str, note: &Note) -> Result<(), OutFault>
+    ensures text { OnOk result (Adds out.old out.new (line (decimal time ∷ place.now ∷ note_fields note.now))) }
+    ensures memory { IfErr result (λ fault. fault ≡ OutOfMemory) }
+{
+    match *note {
+        Note::Delivered { vl, latency } => {
+            push_fields(out, time, place, vl, "delivered", latency)
+        }
+        Note::Dropped { vl, cause, size } => {
+            let bytes = u64::from(size.bytes());
+            push_fields(out, time, place, vl, cause_name(cause), bytes)
+        }
+    }
+}
+
+/// A row, if it is one of the network.
+fn push_row(out: &mut Writer<Vec<u8>>, network: &Network, row: &Row) -> Result<(), OutFault>
+    ensures text { OnOk result (Adds out.old out.new (trace_line network.now row.now)) }
+    ensures memory { IfErr result (λ fault. fault ≡ OutOfMemory) }
+{
+    if !is_known(network, row) {
+        return Ok(());
+    }
+    let place = place_name(network, usize::from(row.place));
+    push_note(out, row.message.time.ns(), place, &row.note)
+}
+
+/// These rows, in their order.
+pub fn push_rows(out: &mut Writer<Vec<u8>>, network: &Network, rows: &[Row]) -> Result<(), OutFault>
+    ensures text { OnOk result (Adds out.old out.new (flat_map (trace_line network.now) rows.now)) }
+    ensures memory { IfErr result (λ fault. fault ≡ OutOfMemory) }
+{
+    for row in rows {
+        push_row(out, network, row)?;
+    }
+    Ok(())
+}
