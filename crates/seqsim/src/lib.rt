@@ -1,0 +1,9 @@
+//! The one-thread run: the first of all waiting messages is handled, until none waits.
+#![tactic(auto)]
+
+mod fault;
+mod running;
+mod waiting;
+
+pub use fault::SimFault;
+pub use running::run_actors;
