@@ -2,8 +2,10 @@
 #![tactic(auto)]
 
 mod fault;
+mod laws;
 mod running;
 mod waiting;
 
 pub use fault::SimFault;
+pub use laws::actor_laws;
 pub use running::run_actors;

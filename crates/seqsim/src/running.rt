@@ -104,7 +104,7 @@ fn take_all_turns<A: Actor>(
     ensures left { OnErr result (AtEach (rules_of A.plain A.counter) actors.old waiting.old rows.old.items
         (λ f n. AreOnTheWay f actors.new)) }
 {
-    while take_turn(actors, waiting, rows)? {}
+    'turns: while take_turn(actors, waiting, rows)? {}
     Ok(())
 }
 

@@ -5,10 +5,10 @@ use Rattle.seqsim.specs.Running.{AtEach, StandsAt}
 use Rattle.seqsim.specs.Load.{load}
 use Rattle.seqsim.proofs.running.take_all_turns.Given as goal
 
-abbrev pub invariant-loop : goal.invariant-loop
-invariant-loop g l =
+abbrev pub invariant-turns : goal.invariant-turns
+invariant-turns g l =
     AtEach (rules_of g.A.Reversible.plain g.A.Actor.counter) l.initial.actors l.initial.waiting l.initial.rows.items
     (λ f n. (k : ℕ) × StandsAt f k l.actors l.waiting l.rows.items)
 
-abbrev pub decreases-loop : goal.decreases-loop
-decreases-loop g l = load GREATEST_NS l.waiting
+abbrev pub decreases-turns : goal.decreases-turns
+decreases-turns g l = load GREATEST_NS l.waiting
