@@ -1,0 +1,4 @@
+pub mod Counting
+pub mod Turning
+pub mod Loading
+pub mod Errors
