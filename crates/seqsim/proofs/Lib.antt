@@ -2,3 +2,4 @@ pub mod Counting
 pub mod Turning
 pub mod Loading
 pub mod Errors
+pub mod NetworkLemmas
