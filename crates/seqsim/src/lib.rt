@@ -13,3 +13,6 @@ pub use laws::actor_laws;
 pub use networks::network_laws;
 pub use running::run_actors;
 pub use simulating::{Finished, run};
+
+#[cfg(test)]
+mod tests;
