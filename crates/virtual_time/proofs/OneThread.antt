@@ -93,7 +93,7 @@ module _ {M S K N : Type 0} (f : Simulation M S K N) (L : Laws f) where
         let c = l.inside in
         omega arith
 
-    times-without : (x : M) → times_in f.rules x (without f.rules m t.waiting) + one_if (same f.rules x m) ≡ times_in f.rules x t.waiting
+    pub times-without : (x : M) → times_in f.rules x (without f.rules m t.waiting) + one_if (same f.rules x m) ≡ times_in f.rules x t.waiting
     times-without x = go (same_cases f.rules L.order x m)
       where
         go : (x ≡ m) ⊎ (same f.rules x m ≡ false) → times_in f.rules x (without f.rules m t.waiting) + one_if (same f.rules x m) ≡ times_in f.rules x t.waiting

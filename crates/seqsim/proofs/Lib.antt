@@ -1,0 +1,5 @@
+pub mod Counting
+pub mod Turning
+pub mod Loading
+pub mod Errors
+pub mod NetworkLemmas

@@ -1,0 +1,67 @@
+use Rattle.std.proofs.Common.{suc, ◌++◌, ◌∙◌, ap, sym, subst, length, List, IsPermutation, arith}
+use Rattle.vlink.specs.declared.message.Message.{Message}
+use Rattle.vlink.specs.declared.time.TheConstants.{GREATEST_NS}
+use Rattle.reverse.specs.Rules.{rules_of}
+use Rattle.seqsim.specs.Running.{simulation_of, StandsAt}
+use Rattle.seqsim.proofs.Turning.{over, is_next, receiver_is, receiver_within, states_after, turned}
+use Rattle.seqsim.proofs.Errors.{after-error}
+use Rattle.seqsim.proofs.Loading.{load-falls}
+use Rattle.seqsim.proofs.running.take_turn.Goals as goal
+
+pub returns-in_default-clause-over : goal.returns-in_default-clause-over
+returns-in_default-clause-over g c = λ e x L n h.
+    let f = simulation_of (rules_of g.A.Reversible.plain g.A.Actor.counter) x in (
+      subst (λ (heap : List Message). StandsAt f n c.args.actors.now heap c.args.rows.now.items) (sym c.in_default.ensures.unchanged) h,
+      over f L n _ _ _ h c.in_default.ensures.none,
+    )
+
+pub act-requires : goal.act-requires
+act-requires g c =
+    let f = simulation_of (rules_of g.A.Reversible.plain g.A.Actor.counter) c.requires.0 in
+    receiver_within f c.requires.1 c.requires.2 _ _ _ c.requires.3 c.in-Some.message c.pop.new.self c.in-Some.ensures.one c.in-Some.ensures.first
+
+pub returns-in_default-act-clause-exhausted : goal.returns-in_default-act-clause-exhausted
+returns-in_default-act-clause-exhausted g c = λ e x L n h.
+    let f = simulation_of (rules_of g.A.Reversible.plain g.A.Actor.counter) x in (
+      c.in-Some.message,
+      is_next f L n _ _ _ h c.in-Some.message c.pop.new.self c.in-Some.ensures.one c.in-Some.ensures.first,
+      c.in_default-act.ensures.exhausted _ (receiver_is f L n _ _ _ h c.in-Some.message c.pop.new.self c.in-Some.ensures.one c.in-Some.ensures.first),
+    )
+
+pub returns-in_err-push_all-clause-left : goal.returns-in_err-push_all-clause-left
+returns-in_err-push_all-clause-left g c = after-error (λ x L n h.
+    let f = simulation_of (rules_of g.A.Reversible.plain g.A.Actor.counter) x in
+    let r = receiver_is f L n _ _ _ h c.in-Some.message c.pop.new.self c.in-Some.ensures.one c.in-Some.ensures.first in (
+      suc n,
+      states_after f L n _ _ _ h c.in-Some.message c.pop.new.self c.in-Some.ensures.one c.in-Some.ensures.first c.act.new.actors (c.in-Some-act.ensures.state _ r),
+    ))
+    c.from_residual.result
+
+pub returns-in_err-note_all-clause-left : goal.returns-in_err-note_all-clause-left
+returns-in_err-note_all-clause-left g c = after-error (λ x L n h.
+    let f = simulation_of (rules_of g.A.Reversible.plain g.A.Actor.counter) x in
+    let r = receiver_is f L n _ _ _ h c.in-Some.message c.pop.new.self c.in-Some.ensures.one c.in-Some.ensures.first in (
+      suc n,
+      states_after f L n _ _ _ h c.in-Some.message c.pop.new.self c.in-Some.ensures.one c.in-Some.ensures.first c.act.new.actors (c.in-Some-act.ensures.state _ r),
+    ))
+    c.from_residual-in_err-note_all.result
+
+pub returns-clause-turned : goal.returns-clause-turned
+returns-clause-turned g c = λ e x L n h.
+    let f = simulation_of (rules_of g.A.Reversible.plain g.A.Actor.counter) x in
+    let r = receiver_is f L n _ _ _ h c.in-Some.message c.pop.new.self c.in-Some.ensures.one c.in-Some.ensures.first in
+    let out = c.in-Some-act.ensures.sends _ r in
+    turned f L n _ _ _ h c.in-Some.message c.pop.new.self c.in-Some.ensures.one c.in-Some.ensures.first
+    c.act.new.actors c.as_slice.result.now c.as_slice-2.result.now c.push_all.new.self c.note_all.new.rows.items
+    (c.in-Some-act.ensures.state _ r)
+    (c.as_slice.ensures.value ∙ ap (λ z. z.messages.items) out)
+    (c.as_slice-2.ensures.value ∙ ap (λ z. z.notes.items) out)
+    c.in_ok-push_all.ensures.more
+    c.in_ok-note_all.ensures.noted
+
+pub returns-clause-smaller : goal.returns-clause-smaller
+returns-clause-smaller g c = λ e.
+    load-falls GREATEST_NS c.in-Some.message _ c.pop.new.self c.in-Some-act.sends.messages.items _ c.in-Some.ensures.one
+    (subst (λ (sent : List Message). IsPermutation (c.pop.new.self ++ sent) c.push_all.new.self) c.as_slice.ensures.value c.in_ok-push_all.ensures.more)
+    c.in-Some-act.ensures.later c.in-Some-act.ensures.in_limits
+    (let a = c.as_slice.ensures.fits in let b = ap length c.as_slice.ensures.value in omega arith)

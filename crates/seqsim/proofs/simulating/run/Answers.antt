@@ -1,0 +1,44 @@
+use Rattle.std.proofs.Common.{◌≡◌, ◌∙◌, Err, List, sym, subst}
+use Rattle.std.proofs.lemmas.Result.{err_from_is_err_and}
+use Rattle.vlink.specs.declared.message.Message.{Message}
+use Rattle.netdesc.specs.Faults.{process_count}
+use Rattle.netdesc.specs.Plan.{Plan}
+use Rattle.traffic.specs.Offers.{offers_of}
+use Rattle.nodes.specs.Node.{NodeState}
+use Rattle.nodes.specs.Opening.{opening}
+use Rattle.seqsim.specs.declared.fault.SimFault.TheVariants.{Exhausted}
+use Rattle.seqsim.specs.Running.{AreInStates, Opens}
+use Rattle.seqsim.specs.Networks.{setting_of}
+use Rattle.seqsim.proofs.simulating.run.Goals as goal
+
+-- the processes of the network open its simulation, from its offers on
+opened : (plan : Plan) (made seen : List NodeState) (offered sent : List Message) → seen ≡ made → sent ≡ offered →
+    AreInStates (process_count plan) (opening plan) made → offered ≡ offers_of plan → Opens (setting_of plan) seen sent
+opened plan made seen offered sent d e nodes offers =
+    record {
+      actors_open = subst (AreInStates (process_count plan) (opening plan)) (sym d) nodes;
+      offered = e ∙ offers;
+    }
+
+pub run_actors-requires : goal.run_actors-requires
+run_actors-requires c = (
+  setting_of c.args.network.now,
+  opened c.args.network.now _ _ _ _ c.deref_mut.ensures.value c.deref.ensures.value c.in_ok-nodes.ensures c.in_ok-offers.ensures,
+  c.network_laws.ensures,
+)
+
+pub returns-in_err-rows-clause-exhausted : goal.returns-in_err-rows-clause-exhausted
+returns-in_err-rows-clause-exhausted c = λ e.
+    let p = err_from_is_err_and c.from_residual-in_err-rows.result c.from_residual-in_err-rows.ensures.1 in
+    let q : p.0 ≡ c.in_err-rows.field-0.0 = p.2 in
+    let w : c.run_actors.result ≡ Err c.in_err-rows.field-0.0 = c.in_err-rows.was in
+    let k : c.run_actors.result ≡ Err Exhausted = cc in
+    c.run_actors.ensures.exhausted k (setting_of c.args.network.now)
+    (opened c.args.network.now _ _ _ _ c.deref_mut.ensures.value c.deref.ensures.value c.in_ok-nodes.ensures c.in_ok-offers.ensures)
+    c.network_laws.ensures
+
+pub returns-clause-whole : goal.returns-clause-whole
+returns-clause-whole c =
+    let (n, ended, rows, states) = c.in_ok-rows.ensures.whole (setting_of c.args.network.now)
+    (opened c.args.network.now _ _ _ _ c.deref_mut.ensures.value c.deref.ensures.value c.in_ok-nodes.ensures c.in_ok-offers.ensures) c.network_laws.ensures in
+    (n, ended, rows)

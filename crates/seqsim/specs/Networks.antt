@@ -1,0 +1,26 @@
+-- The one-thread run of a network: its setting, and what a run of all its events has found.
+use Rattle.std.specs.Prelude.{◌≡◌, ℕ, [], map, List}
+use Rattle.vlink.specs.declared.note.Row.{Row as Noted}
+use Rattle.virtual_time.specs.OneThread.{one}
+use Rattle.netdesc.specs.Plan.{Plan}
+use Rattle.netdesc.specs.Faults.{process_count}
+use Rattle.traffic.specs.Offers.{offers_of}
+use Rattle.nodes.specs.Node.{NodeState}
+use Rattle.nodes.specs.Opening.{opening}
+use Rattle.nodes.specs.Simulation.{simulation_of}
+use Rattle.seqsim.specs.Running.{Setting, seen_row}
+
+-- what a network simulates, but for the rules of its nodes and lines
+abbrev pub setting_of : Plan → Setting NodeState
+setting_of plan =
+    record {
+      processes = process_count plan;
+      until = plan.until;
+      opening = opening plan;
+      offers = offers_of plan;
+    }
+
+-- in the one-thread run of the network, after some number of events nothing waits any more, and these are its rows
+abbrev pub AreRowsOf : Plan → List Noted → Type 0
+AreRowsOf plan rows =
+    (n : ℕ) × ((one (simulation_of plan) n).waiting ≡ []) × (map seen_row rows ≡ (one (simulation_of plan) n).rows)

@@ -1,0 +1,18 @@
+//! The one-thread run: the first of all waiting messages is handled, until none waits. Of any actors, and of a network.
+#![tactic(auto)]
+
+mod fault;
+mod laws;
+mod networks;
+mod running;
+mod simulating;
+mod waiting;
+
+pub use fault::SimFault;
+pub use laws::actor_laws;
+pub use networks::network_laws;
+pub use running::run_actors;
+pub use simulating::{Finished, run};
+
+#[cfg(test)]
+mod tests;

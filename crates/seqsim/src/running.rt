@@ -1,0 +1,132 @@
+//! The run: one message after another.
+ghost use Rattle.std.specs.Prelude.{◌≡◌, [], ℕ, suc, true, false, ◌<◌, ◌≤◌, ◌+◌, ◌++◌, All, length, map, slice_get, Some, Ok, Err, OnOk, OnErr, IfOk, IfErr, IfSome, IfNone};
+ghost use Rattle.std.proofs.Math.ListN.{set};
+ghost use Rattle.vlink.specs.declared.time.TheConstants.{GREATEST_NS};
+ghost use Rattle.vlink.specs.Numbering.{greatest_number};
+ghost use Rattle.virtual_time.specs.Rules.{rows_of};
+ghost use Rattle.virtual_time.specs.OneThread.{one};
+ghost use Rattle.reverse.specs.Rules.{rules_of};
+ghost use Rattle.seqsim.specs.declared.fault.SimFault.TheVariants.{OutOfMemory, Exhausted};
+ghost use Rattle.seqsim.specs.Running.{StandsAt, IsExhaustedAt, IsRunning, AtEach, IsWholeRun, AreOnTheWay, CanRun, OfEach, seen_row};
+ghost use Rattle.seqsim.specs.Load.{load};
+
+use crate::fault::SimFault;
+use crate::waiting::Waiting;
+use reverse::{Actor, Sends, actor_rules};
+use std::alloc::Global;
+use vlink::{GREATEST_NS, Message, Note, Row};
+
+/// What an actor sends is later than its cause, and not after the greatest moment.
+///
+/// A call does nothing: its caller learns what the clauses say.
+fn in_limits<A: Actor>(actor: &A)
+    ensures placed { A.is_placed actor.now }
+    ensures end { A.end actor.now ≤ GREATEST_NS }
+{
+    let _number = actor.id();
+    let _end = actor.until();
+}
+
+/// The receiver handles the message, if it has numbers left for all that it can send.
+fn act<A: Actor>(actors: &mut [A], message: &Message) -> Option<Sends>
+    requires { message.now.receiver < length actors.old }
+    ensures sends { IfSome result (λ sends. (s : A) → slice_get actors.old message.now.receiver ≡ Some s → sends ≡ A.plain.out s message.now) }
+    ensures state { IfSome result (λ sends. (s : A) → slice_get actors.old message.now.receiver ≡ Some s →
+        actors.new ≡ set actors.old message.now.receiver (A.plain.after s message.now)) }
+    ensures later { IfSome result (λ sends. All (λ m. message.now.time < m.time) sends.messages.items) }
+    ensures in_limits { IfSome result (λ sends. All (λ m. m.time ≤ GREATEST_NS) sends.messages.items) }
+    ensures unchanged { IfNone result (actors.new ≡ actors.old) }
+    ensures exhausted { IfNone result ((s : A) → slice_get actors.old message.now.receiver ≡ Some s → greatest_number < A.counter s + 24) }
+{
+    let actor = &mut actors[usize::from(message.receiver)];
+    if !actor.has_numbers() {
+        return None;
+    }
+    in_limits(actor);
+    let (sends, _kept) = actor.apply(message);
+    Some(sends)
+}
+
+/// The notes that the message's event gave go behind the rows.
+fn note_all(rows: &mut Vec<Row>, message: &Message, notes: &[Note]) -> Result<(), SimFault>
+    ensures noted { OnOk result (map seen_row rows.new.items ≡ map seen_row rows.old.items ++ map (λ n. record { message = message.now; place = message.now.receiver; note = n }) notes.now) }
+    ensures memory { IfErr result (λ fault. fault ≡ OutOfMemory) }
+{
+    for note in notes {
+        rows.push(Row {
+            message: *message,
+            place: message.receiver,
+            note: *note,
+        })?;
+    }
+    Ok(())
+}
+
+/// The first waiting message, if there is one, is handled by its receiver: what it sends waits, and rows of what it notes go behind the
+/// others. The answer is whether there was one.
+fn take_turn<A: Actor>(
+    actors: &mut [A],
+    waiting: &mut Waiting,
+    rows: &mut Vec<Row>,
+) -> Result<bool, SimFault>
+    requires { IsRunning (rules_of A.plain A.counter) actors.old waiting.old rows.old.items }
+    ensures turned { result ≡ Ok true → AtEach (rules_of A.plain A.counter) actors.old waiting.old rows.old.items
+        (λ f n. StandsAt f (suc n) actors.new waiting.new rows.new.items) }
+    ensures smaller { result ≡ Ok true → load GREATEST_NS waiting.new < load GREATEST_NS waiting.old }
+    ensures over { result ≡ Ok false → AtEach (rules_of A.plain A.counter) actors.old waiting.old rows.old.items
+        (λ f n. StandsAt f n actors.new waiting.new rows.new.items × ((one f n).waiting ≡ [])) }
+    ensures exhausted { result ≡ Err Exhausted → AtEach (rules_of A.plain A.counter) actors.old waiting.old rows.old.items IsExhaustedAt }
+    ensures left { OnErr result (AtEach (rules_of A.plain A.counter) actors.old waiting.old rows.old.items
+        (λ f n. AreOnTheWay f actors.new)) }
+{
+    let Some(message) = waiting.pop() else {
+        return Ok(false);
+    };
+    let Some(sends) = act(actors, &message) else {
+        return Err(SimFault::Exhausted);
+    };
+    waiting.push_all(sends.messages.as_slice())?;
+    note_all(rows, &message, sends.notes.as_slice())?;
+    Ok(true)
+}
+
+/// The messages are handled, one after another, until none waits.
+fn take_all_turns<A: Actor>(
+    actors: &mut [A],
+    waiting: &mut Waiting,
+    rows: &mut Vec<Row>,
+) -> Result<(), SimFault>
+    requires { IsRunning (rules_of A.plain A.counter) actors.old waiting.old rows.old.items }
+    ensures whole { OnOk result (AtEach (rules_of A.plain A.counter) actors.old waiting.old rows.old.items
+        (λ f n. IsWholeRun f rows.new.items actors.new)) }
+    ensures exhausted { result ≡ Err Exhausted → AtEach (rules_of A.plain A.counter) actors.old waiting.old rows.old.items
+        (λ f n. (k : ℕ) × IsExhaustedAt f k) }
+    ensures left { OnErr result (AtEach (rules_of A.plain A.counter) actors.old waiting.old rows.old.items
+        (λ f n. AreOnTheWay f actors.new)) }
+{
+    'turns: while take_turn(actors, waiting, rows)? {}
+    Ok(())
+}
+
+/// Runs the simulation of these actors, where actor p is process p, from these offers on: the first of all waiting messages is handled
+/// by its receiver, until none waits. The answer has a row for each note, in the order in which the messages were handled. The order of
+/// messages is the derived one: by time in ns, receiver, sender, number and body (profile).
+///
+/// `OutOfMemory` comes only where a growth was refused, and `Exhausted` only where the actor whose turn it is has not enough numbers left.
+/// Either leaves the actors in the states of the run after some number of events.
+pub fn run_actors<A: Actor>(
+    alloc: Global,
+    actors: &mut [A],
+    offers: &[Message],
+) -> Result<Vec<Row>, SimFault>
+    requires { CanRun (rules_of A.plain A.counter) actors.old offers.now }
+    ensures whole { IfOk result (λ rows. OfEach (rules_of A.plain A.counter) actors.old offers.now (λ f. IsWholeRun f rows.items actors.new)) }
+    ensures exhausted { result ≡ Err Exhausted → OfEach (rules_of A.plain A.counter) actors.old offers.now (λ f. (n : ℕ) × IsExhaustedAt f n) }
+    ensures left { OnErr result (OfEach (rules_of A.plain A.counter) actors.old offers.now (λ f. AreOnTheWay f actors.new)) }
+{
+    let mut waiting = Waiting::new(alloc);
+    let mut rows = Vec::new(alloc);
+    waiting.push_all(offers)?;
+    take_all_turns(actors, &mut waiting, &mut rows)?;
+    Ok(rows)
+}

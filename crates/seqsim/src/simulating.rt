@@ -1,0 +1,50 @@
+//! The run of a network.
+ghost use Rattle.std.specs.Prelude.{◌≡◌, ℕ, Err, IfOk};
+ghost use Rattle.netdesc.specs.Faults.{process_count};
+ghost use Rattle.nodes.specs.Opening.{opening};
+ghost use Rattle.nodes.specs.Simulation.{simulation_of};
+ghost use Rattle.seqsim.specs.declared.fault.SimFault.TheVariants.{Exhausted};
+ghost use Rattle.seqsim.specs.Running.{AreInStates, IsExhaustedAt};
+ghost use Rattle.seqsim.specs.Networks.{AreRowsOf};
+
+use crate::fault::SimFault;
+use crate::networks::network_laws;
+use crate::running::run_actors;
+use netdesc::Network;
+use nodes::Node;
+use std::alloc::{AllocError, Global};
+use traffic::offers;
+use vlink::Row;
+
+/// What a run has found: a row for each frame that was delivered or dropped, in the order of the events.
+#[derive(Debug, Drop)]
+pub struct Finished {
+    pub rows: Vec<Row>,
+}
+
+/// All processes of a network, each as it is before any message.
+fn nodes_of(alloc: Global, network: &Network) -> Result<Vec<Node>, AllocError>
+    ensures { IfOk result (λ nodes. AreInStates (process_count network.now) (opening network.now) nodes.items) }
+{
+    let mut nodes = Vec::new(alloc);
+    for process in 0..network.process_count() {
+        nodes.push(Node::new(alloc, network, process as u16)?)?;
+    }
+    Ok(nodes)
+}
+
+/// Simulates a network on one thread: the first of all waiting messages is handled, until none waits. The rows are those of the
+/// one-thread run of the law of virtual time, and after it nothing waits.
+///
+/// `OutOfMemory` comes only where a growth was refused, and `Exhausted` only where the process whose turn it is has not enough numbers
+/// left for what one event can send.
+pub fn run(alloc: Global, network: &Network) -> Result<Finished, SimFault>
+    ensures whole { IfOk result (λ finished. AreRowsOf network.now finished.rows.items) }
+    ensures exhausted { result ≡ Err Exhausted → (n : ℕ) × IsExhaustedAt (simulation_of network.now) n }
+{
+    network_laws(network);
+    let offers = offers(alloc, network)?;
+    let mut nodes = nodes_of(alloc, network)?;
+    let rows = run_actors(alloc, &mut nodes, &offers)?;
+    Ok(Finished { rows })
+}
