@@ -3,6 +3,7 @@ ghost use Rattle.std.specs.Prelude.{◌≡◌, ℕ, Err, IfOk};
 ghost use Rattle.netdesc.specs.Faults.{process_count};
 ghost use Rattle.nodes.specs.Opening.{opening};
 ghost use Rattle.nodes.specs.Simulation.{simulation_of};
+ghost use Rattle.trace_tables.specs.Tables.{tables_of};
 ghost use Rattle.seqsim.specs.declared.fault.SimFault.TheVariants.{Exhausted};
 ghost use Rattle.seqsim.specs.Running.{AreInStates, IsExhaustedAt};
 ghost use Rattle.seqsim.specs.Networks.{AreRowsOf};
@@ -13,12 +14,14 @@ use crate::running::run_actors;
 use netdesc::Network;
 use nodes::Node;
 use std::alloc::{AllocError, Global};
+use trace_tables::Tables;
 use traffic::offers;
 use vlink::Row;
 
-/// What a run has found: a row for each frame that was delivered or dropped, in the order of the events.
-#[derive(Debug, Drop)]
+/// What a run has found: a row for each frame that was delivered or dropped, in the order of the events, and their tables.
+#[derive(Drop)]
 pub struct Finished {
+    pub tables: Tables,
     pub rows: Vec<Row>,
 }
 
@@ -40,11 +43,13 @@ fn nodes_of(alloc: Global, network: &Network) -> Result<Vec<Node>, AllocError>
 /// left for what one event can send.
 pub fn run(alloc: Global, network: &Network) -> Result<Finished, SimFault>
     ensures whole { IfOk result (λ finished. AreRowsOf network.now finished.rows.items) }
+    ensures tables { IfOk result (λ finished. finished.tables ≡ tables_of network.now finished.rows.items) }
     ensures exhausted { result ≡ Err Exhausted → (n : ℕ) × IsExhaustedAt (simulation_of network.now) n }
 {
     network_laws(network);
     let offers = offers(alloc, network)?;
     let mut nodes = nodes_of(alloc, network)?;
     let rows = run_actors(alloc, &mut nodes, &offers)?;
-    Ok(Finished { rows })
+    let tables = Tables::of(alloc, network, &rows)?;
+    Ok(Finished { tables, rows })
 }
