@@ -1,8 +1,6 @@
 -- Networks lay their processes and offers out as the laws of a simulation ask.
-use Rattle.std.proofs.Common.{◌≡◌, ℕ, ◌<◌, refl, sym, subst}
-use Rattle.vlink.specs.declared.message.Message.{Message}
+use Rattle.std.proofs.Common.{ℕ, ◌<◌, refl, sym, subst}
 use Rattle.virtual_time.specs.Rules.{IsOrder}
-use Rattle.virtual_time.specs.Lists.{IsIn}
 use Rattle.virtual_time.specs.Simulation.{IsReached}
 use Rattle.virtual_time.proofs.Reading.{reached-keeps}
 use Rattle.reverse.proofs.Members.{in-all}

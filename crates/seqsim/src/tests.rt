@@ -97,7 +97,10 @@ fn dropped(cause: Cause, bytes: u16) -> Result<Note, Fail> {
 fn a_frame_is_delivered(rt: HostRuntime) -> Result<(), Fail> {
     // 5760 ns on each line, 100 ns over each, and 16000 ns through the switch.
     let text = one_vl(rt.alloc(), &[])?;
-    assert_eq!(rt; found(rt.alloc(), &text)?.as_slice(), [(27720, 1, delivered(27720))].as_slice());
+    assert_eq!(rt;
+        found(rt.alloc(), &text)?.as_slice(),
+        [(27720, 1, delivered(27720))].as_slice()
+    );
     Ok(())
 }
 
