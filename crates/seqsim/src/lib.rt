@@ -16,3 +16,5 @@ pub use simulating::{Finished, run};
 
 #[cfg(test)]
 mod tests;
+#[cfg(test)]
+mod text_tests;

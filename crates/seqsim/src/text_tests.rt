@@ -1,0 +1,220 @@
+//! The texts of small networks, from the description to the tables and the trace.
+use crate::run;
+use netdesc::read;
+use std::alloc::Global;
+use std::test::Fail;
+use trace_tables::{Sink, SinkFault, write_csv, write_trace};
+
+// What the networks of examples/n1.toml and examples/n2.toml have in common.
+const NODES: &str = r#"until_ns = 2000000
+seed = 42
+[[node]]
+name = "ES1"
+kind = "es"
+port_bytes = 4096
+[[node]]
+name = "ES2"
+kind = "es"
+port_bytes = 4096
+[[node]]
+name = "SW1"
+kind = "switch"
+port_bytes = 65536
+net = "A"
+latency_ns = 16000
+"#;
+
+const LINKS: &str = r#"[[link]]
+a = "ES1"
+b = "SW1"
+mbit = 100
+propagation_ns = 100
+[[link]]
+a = "SW1"
+b = "ES2"
+mbit = 100
+propagation_ns = 100
+"#;
+
+const VL: &str = r#"bag_ms = 1
+smax = 64
+priority = "low"
+policing_jitter_ns = 0
+skew_max_ns = 1000000
+depth = 16
+size = 64
+offset_ns = 0
+period_ns = 1000000000000
+jitter_ns = 0
+a = [["ES1", "SW1", "ES2"]]
+"#;
+
+// Network B of the second one.
+const OTHER_SWITCH: &str = r#"[[node]]
+name = "SW2"
+kind = "switch"
+port_bytes = 65536
+net = "B"
+latency_ns = 16000
+"#;
+
+const OTHER_LINKS: &str = r#"[[link]]
+a = "ES1"
+b = "SW2"
+mbit = 100
+propagation_ns = 100
+[[link]]
+a = "SW2"
+b = "ES2"
+mbit = 100
+propagation_ns = 100
+"#;
+
+// A page takes all that is written on it.
+#[derive(Drop)]
+struct Page {
+    bytes: Vec<u8>,
+    failures: u64,
+}
+
+impl Sink for Page {
+    ghost use Rattle.std.specs.Prelude.{None};
+
+    ghost taken = { λ _. None };
+
+    ghost failures = { λ s. s.failures };
+
+    fn write(&mut self, bytes: &[u8]) -> Result<usize, SinkFault> {
+        let _kept = self.bytes.extend_from_slice(bytes);
+        Ok(bytes.len())
+    }
+}
+
+// The texts of the tables and of the trace of a network.
+fn texts(alloc: Global, description: &str) -> Result<(Vec<u8>, Vec<u8>), Fail> {
+    let network = read(alloc, description)?;
+    let finished = run(alloc, &network)?;
+    let mut tables = Page {
+        bytes: Vec::new(alloc),
+        failures: 0,
+    };
+    write_csv(alloc, &network, &finished.tables, &mut tables)?;
+    let mut trace = Page {
+        bytes: Vec::new(alloc),
+        failures: 0,
+    };
+    write_trace(alloc, &network, &finished.rows, &mut trace)?;
+    Ok((tables.bytes, trace.bytes))
+}
+
+// The network of examples/n1.toml, with one part replaced, and one more at its end.
+fn one_vl(alloc: Global, part: &str, by: &str, end: &str) -> Result<String, Fail> {
+    let text = format!(in alloc; "{NODES}{LINKS}[[vl]]\nid = 1\n{VL}b = []\n{end}")?;
+    let (before, after) = text.split_once(part).ok_or("no such part")?;
+    Ok(format!(in alloc; "{before}{by}{after}")?)
+}
+
+// The tables of that network have this one line, and perhaps another.
+fn tables_are(alloc: Global, part: &str, by: &str, end: &str, lines: &str) -> Result<bool, Fail> {
+    let (tables, _) = texts(alloc, &one_vl(alloc, part, by, end)?)?;
+    let wanted = format!(in alloc;
+        "table,vl,where,cause,count,least_ns,greatest_ns,sum_ns\n{lines}"
+    )?;
+    Ok(tables.as_slice() == wanted.as_bytes())
+}
+
+#[test]
+fn one_frame_is_delivered(rt: HostRuntime) -> Result<(), Fail> {
+    let lines = "latency,1,ES2,,1,27720,27720,27720\n";
+    assert!(rt; tables_are(rt.alloc(), "seed = 42", "seed = 42", "", lines)?);
+    let (_, trace) = texts(
+        rt.alloc(),
+        &one_vl(rt.alloc(), "seed = 42", "seed = 42", "")?,
+    )?;
+    let wanted = "time_ns,where,vl,what,value\n27720,ES2,1,delivered,27720\n";
+    assert!(rt; trace.as_slice() == wanted.as_bytes());
+    Ok(())
+}
+
+#[test]
+fn nothing_is_offered(rt: HostRuntime) -> Result<(), Fail> {
+    let lines = "latency,1,ES2,,0,0,0,0\n";
+    assert!(rt;
+        tables_are(
+            rt.alloc(),
+            "offset_ns = 0",
+            "offset_ns = 2000001",
+            "",
+            lines
+        )?
+    );
+    Ok(())
+}
+
+#[test]
+fn a_frame_waits_for_its_gap(rt: HostRuntime) -> Result<(), Fail> {
+    let text = one_vl(
+        rt.alloc(),
+        "period_ns = 1000000000000",
+        "period_ns = 400000",
+        "",
+    )?;
+    let (before, after) = text.split_once("until_ns = 2000000").ok_or("its end")?;
+    let text = format!(in rt.alloc(); "{before}until_ns = 1100000{after}")?;
+    let (tables, _) = texts(rt.alloc(), &text)?;
+    let wanted =
+        "table,vl,where,cause,count,least_ns,greatest_ns,sum_ns\nlatency,1,ES2,,2,27720,627720,655440\n";
+    assert!(rt; tables.as_slice() == wanted.as_bytes());
+    Ok(())
+}
+
+#[test]
+fn a_frame_comes_just_at_its_gap(rt: HostRuntime) -> Result<(), Fail> {
+    let text = one_vl(
+        rt.alloc(),
+        "period_ns = 1000000000000",
+        "period_ns = 1000000",
+        "",
+    )?;
+    let (before, after) = text.split_once("until_ns = 2000000").ok_or("its end")?;
+    let text = format!(in rt.alloc(); "{before}until_ns = 1100000{after}")?;
+    let (tables, _) = texts(rt.alloc(), &text)?;
+    let wanted =
+        "table,vl,where,cause,count,least_ns,greatest_ns,sum_ns\nlatency,1,ES2,,2,27720,27720,55440\n";
+    assert!(rt; tables.as_slice() == wanted.as_bytes());
+    Ok(())
+}
+
+#[test]
+fn frames_are_lost_on_the_way(rt: HostRuntime) -> Result<(), Fail> {
+    let outage = "[[outage]]\nfrom = \"ES1\"\nto = \"SW1\"\nfrom_ns = 5760\nto_ns = 5761\n";
+    let lines = "latency,1,ES2,,0,0,0,0\ndropped,1,ES1>SW1,outage,1,,,\n";
+    assert!(rt; tables_are(rt.alloc(), "seed = 42", "seed = 42", outage, lines)?);
+    let lines = "latency,1,ES2,,0,0,0,0\ndropped,1,SW1,too_long,1,,,\n";
+    assert!(rt; tables_are(rt.alloc(), "\nsize = 64", "\nsize = 65", "", lines)?);
+    Ok(())
+}
+
+#[test]
+fn twenty_virtual_links_on_both_networks(rt: HostRuntime) -> Result<(), Fail> {
+    let mut text = format!(in rt.alloc(); "{NODES}{OTHER_SWITCH}{LINKS}{OTHER_LINKS}")?;
+    let mut wanted = String::from_str(
+        rt.alloc(),
+        "table,vl,where,cause,count,least_ns,greatest_ns,sum_ns\n",
+    )?;
+    for id in 1..=20u64 {
+        text.push_str(&format!(in rt.alloc();
+            "[[vl]]\nid = {id}\n{VL}b = [[\"ES1\", \"SW2\", \"ES2\"]]\n"
+        )?)?;
+        let latency = 21000 + 6720 * id;
+        wanted.push_str(&format!(in rt.alloc();
+            "latency,{id},ES2,,1,{latency},{latency},{latency}\n"
+        )?)?;
+    }
+    for id in 1..=20u64 {
+        wanted.push_str(&format!(in rt.alloc(); "dropped,{id},ES2,duplicate,1,,,\n")?)?;
+    }
+    let (tables, _) = texts(rt.alloc(), &text)?;
+    assert!(rt; tables.as_slice() == wanted.as_bytes());
+    Ok(())
+}
