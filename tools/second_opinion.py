@@ -1,0 +1,231 @@
+#!/usr/bin/env python3
+"""A second opinion on the tables of a network: a plain simulator of one thread, which shares no code with the product.
+
+It reads an accepted description and prints the tables. Its use is to work out what tests expect.
+
+    python3 tools/second_opinion.py NET.toml
+"""
+import heapq
+import sys
+import tomllib
+
+BODIES = ["Offer", "Release", "PortFree", "Arrive", "Enqueue", "Carry"]
+CAUSES = ["queue_full", "port_full", "outage", "unknown", "too_long", "policed", "integrity", "duplicate"]
+
+
+def words(seed, stream):
+    """The words of PCG XSH RR 64/32."""
+    mask = 2**64 - 1
+    increment = (stream << 1 | 1) & mask
+    state = ((seed + increment) * 6364136223846793005 + increment) & mask
+    while True:
+        shifted = ((state >> 18 ^ state) >> 27) & 0xFFFFFFFF
+        turn = state >> 59
+        yield (shifted >> turn | shifted << (32 - turn)) & 0xFFFFFFFF
+        state = (state * 6364136223846793005 + increment) & mask
+
+
+class Simulation:
+    def __init__(self, net):
+        self.net = net
+        self.until = net["until_ns"]
+        nodes = net.get("node", [])
+        self.place = {row["name"]: i for i, row in enumerate(nodes)}
+        self.nodes = nodes
+        self.names = [row["name"] for row in nodes]
+        self.lines = []
+        self.port_of = {}
+        seen = {}
+        for row in net.get("link", []):
+            ends = (row["a"], row["b"])
+            ports = []
+            for here, there in (ends, ends[::-1]):
+                if nodes[self.place[here]]["kind"] == "es":
+                    ports.append("AB".index(nodes[self.place[there]]["net"]))
+                else:
+                    ports.append(seen.get(here, 0))
+                seen[here] = seen.get(here, 0) + 1
+            for (here, there), (out, into) in zip((ends, ends[::-1]), (ports, ports[::-1])):
+                process = len(nodes) + len(self.lines)
+                self.lines.append((here, there, into, 8000 // row["mbit"], row["propagation_ns"]))
+                self.port_of[here, there] = out
+                self.names.append(here + ">" + there)
+                self.out = getattr(self, "out", {})
+                self.out[self.place[here], out] = process
+        self.vls = {row["id"]: row for row in net.get("vl", [])}
+        self.inputs, self.outputs, self.sinks, self.source = {}, {}, {}, {}
+        for vl, row in self.vls.items():
+            for side, key in (("A", "a"), ("B", "b")):
+                for path in row[key]:
+                    self.source[vl] = self.place[path[0]]
+                    self.sinks.setdefault((vl, self.place[path[-1]]), set()).add(side)
+                    for before, here, after in zip(path, path[1:], path[2:]):
+                        self.inputs[vl, self.place[here]] = self.port_of[here, before]
+                        self.outputs.setdefault((vl, self.place[here]), set()).add(self.port_of[here, after])
+        self.regulators = {vl: {"waiting": [], "last": None, "sn": 0} for vl in self.vls}
+        self.ports, self.accounts, self.checks, self.delivered = {}, {}, {}, {}
+        self.counters = {}
+        self.heap, self.rows = [], []
+        for vl in sorted(self.vls):
+            row = self.vls[vl]
+            drawn = words(net["seed"], vl)
+            k = 0
+            while row["offset_ns"] + k * row["period_ns"] <= self.until:
+                time = row["offset_ns"] + k * row["period_ns"] + next(drawn) % (row["jitter_ns"] + 1)
+                if time <= self.until:
+                    self.push(time, self.source[vl], 4096 + vl, k, "Offer", (vl, row["size"]))
+                k += 1
+
+    def push(self, time, receiver, sender, number, kind, fields):
+        heapq.heappush(self.heap, (time, receiver, sender, number, BODIES.index(kind), fields))
+
+    def send(self, time, sender, receiver, kind, fields):
+        if time <= self.until:
+            number = self.counters.get(sender, 0)
+            self.counters[sender] = number + 1
+            self.push(time, receiver, sender, number, kind, fields)
+
+    def note(self, time, place, vl, what, value):
+        self.rows.append((time, place, vl, what, value))
+
+    def lose(self, time, place, frame, cause):
+        self.note(time, place, frame[0], cause, frame[2])
+
+    def start(self, t, p, q, frame):
+        line = self.out[p, q]
+        byte = self.lines[line - len(self.nodes)][3]
+        self.send(t + (frame[2] + 8) * byte, p, line, "Carry", (frame,))
+        self.send(t + (frame[2] + 20) * byte, p, p, "PortFree", (q,))
+
+    def put(self, t, p, q, frame, high):
+        port = self.ports.setdefault((p, q), {"busy": False, "high": [], "low": []})
+        if not port["busy"]:
+            port["busy"] = True
+            self.start(t, p, q, frame)
+        elif sum(f[2] for f in port["high"] + port["low"]) + frame[2] <= self.nodes[p]["port_bytes"]:
+            port["high" if high else "low"].append(frame)
+        else:
+            self.lose(t, p, frame, "port_full")
+
+    def release(self, t, p, vl, frame):
+        """The regulator has let the frame go."""
+        g = self.regulators[vl]
+        out = (vl, g["sn"], frame[2], frame[3], t)
+        g["last"], g["sn"] = t, 1 if g["sn"] == 255 else g["sn"] + 1
+        return out
+
+    def copies(self, t, p, vl, frame):
+        for net, key in (("A", "a"), ("B", "b")):
+            if self.vls[vl][key]:
+                self.put(t, p, "AB".index(net), frame + (net,), False)
+
+    def handle(self, t, p, kind, fields):
+        if p >= len(self.nodes):
+            here, there, port, _, propagation = self.lines[p - len(self.nodes)]
+            (frame,) = fields
+            outages = self.net.get("outage", [])
+            if any(o["from"] == here and o["to"] == there and o["from_ns"] <= t < o["to_ns"] for o in outages):
+                self.lose(t, p, frame, "outage")
+            else:
+                self.send(t + propagation, p, self.place[there], "Arrive", (port, frame))
+        elif kind == "PortFree":
+            (q,) = fields
+            port = self.ports[p, q]
+            for level in ("high", "low"):
+                if port[level]:
+                    self.start(t, p, q, port[level].pop(0))
+                    return
+            port["busy"] = False
+        elif self.nodes[p]["kind"] == "es":
+            self.at_end_system(t, p, kind, fields)
+        else:
+            self.at_switch(t, p, kind, fields)
+
+    def at_end_system(self, t, p, kind, fields):
+        if kind in ("Offer", "Release"):
+            vl = fields[0]
+            g, bag = self.regulators[vl], self.vls[vl]["bag_ms"] * 10**6
+            due = g["last"] is None or t >= g["last"] + bag
+            if kind == "Offer":
+                frame = (vl, 0, fields[1], t, 0)
+                if not g["waiting"] and due:
+                    self.copies(t, p, vl, self.release(t, p, vl, frame))
+                elif len(g["waiting"]) < self.vls[vl]["depth"]:
+                    if not g["waiting"]:
+                        self.send(g["last"] + bag, p, p, "Release", (vl,))
+                    g["waiting"].append(frame)
+                else:
+                    self.lose(t, p, frame, "queue_full")
+            elif g["waiting"] and due:
+                out = self.release(t, p, vl, g["waiting"].pop(0))
+                if g["waiting"]:
+                    self.send(t + bag, p, p, "Release", (vl,))
+                self.copies(t, p, vl, out)
+            return
+        _, frame = fields
+        vl, number, net = frame[0], frame[1], frame[5]
+        before = self.checks.get((vl, p, net))
+        self.checks[vl, p, net] = number
+        after = lambda n: 1 if n == 255 else n + 1
+        if not (before is None or number == 0 or number in (after(before), after(after(before)))):
+            return self.lose(t, p, frame, "integrity")
+        last = self.delivered.get((vl, p))
+        steps = None if last is None else number if last[0] == 0 else (number - last[0]) % 255
+        if last is None or max(0, t - last[1]) > self.vls[vl]["skew_max_ns"] or (number != 0 and 1 <= steps <= 127):
+            self.delivered[vl, p] = (number, t)
+            self.note(t, p, vl, "delivered", max(0, t - frame[3]))
+        else:
+            self.lose(t, p, frame, "duplicate")
+
+    def at_switch(self, t, p, kind, fields):
+        q, frame = fields
+        vl = frame[0]
+        row = self.vls[vl]
+        if kind == "Enqueue":
+            return self.put(t, p, q, frame, row["priority"] == "high")
+        if frame[2] > row["smax"]:
+            return self.lose(t, p, frame, "too_long")
+        bag = row["bag_ms"] * 10**6
+        cap = row["smax"] * (bag + row["policing_jitter_ns"])
+        level, last = self.accounts.get((vl, p), (cap, 0))
+        level = min(cap, level + row["smax"] * max(0, t - last))
+        passes = level >= frame[2] * bag
+        self.accounts[vl, p] = (level - frame[2] * bag if passes else level, t)
+        if not passes:
+            return self.lose(t, p, frame, "policed")
+        for out in sorted(self.outputs[vl, p]):
+            self.send(t + self.nodes[p]["latency_ns"], p, p, "Enqueue", (out, frame))
+
+    def run(self):
+        while self.heap:
+            time, receiver, _, _, kind, fields = heapq.heappop(self.heap)
+            self.handle(time, receiver, BODIES[kind], fields)
+
+    def tables(self):
+        yield "table,vl,where,cause,count,least_ns,greatest_ns,sum_ns"
+        for vl in sorted(self.vls):
+            for place in sorted(p for v, p in self.sinks if v == vl):
+                found = [row[4] for row in self.rows if row[1:4] == (place, vl, "delivered")]
+                numbers = (len(found), min(found, default=0), max(found, default=0), sum(found))
+                yield "latency,%d,%s,,%d,%d,%d,%d" % (vl, self.names[place], *numbers)
+        drops = {}
+        for _, place, vl, what, _ in self.rows:
+            if what != "delivered":
+                key = (vl, place, CAUSES.index(what))
+                drops[key] = drops.get(key, 0) + 1
+        for (vl, place, cause), count in sorted(drops.items()):
+            yield "dropped,%d,%s,%s,%d,,," % (vl, self.names[place], CAUSES[cause], count)
+
+
+def main():
+    if len(sys.argv) != 2:
+        sys.exit(__doc__)
+    with open(sys.argv[1], "rb") as file:
+        simulation = Simulation(tomllib.load(file))
+    simulation.run()
+    for line in simulation.tables():
+        print(line)
+
+
+if __name__ == "__main__":
+    main()
