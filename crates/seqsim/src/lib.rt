@@ -15,6 +15,8 @@ pub use running::run_actors;
 pub use simulating::{Finished, run};
 
 #[cfg(test)]
+mod network_tests;
+#[cfg(test)]
 mod tests;
 #[cfg(test)]
 mod text_tests;

@@ -91,7 +91,7 @@ impl Sink for Page {
 }
 
 // The texts of the tables and of the trace of a network.
-fn texts(alloc: Global, description: &str) -> Result<(Vec<u8>, Vec<u8>), Fail> {
+pub(crate) fn texts(alloc: Global, description: &str) -> Result<(Vec<u8>, Vec<u8>), Fail> {
     let network = read(alloc, description)?;
     let finished = run(alloc, &network)?;
     let mut tables = Page {
