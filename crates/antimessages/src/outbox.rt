@@ -1,7 +1,8 @@
-ghost use Rattle.std.specs.Prelude.{◌≡◌, ◌+◌, ◌<◌, ◌≤◌, [], ◌∷◌, ◌++◌, map, IsOk, OnOk, OnErr};
+ghost use Rattle.std.specs.Prelude.{◌≡◌, ◌+◌, ◌<◌, ◌≤◌, ◌↔◌, [], ◌∷◌, ◌++◌, map, All, IsTrue, IsOk, OnOk, OnErr};
 ghost use Rattle.antimessages.specs.Letters.{signed};
 
 use crate::fault::OutOfMemory;
+use crate::posting::are_within;
 use std::alloc::Global;
 use std::marker::Model;
 use vlink::Letter;
@@ -36,6 +37,13 @@ impl Outbox {
         ensures { map signed result.now ≡ self.now.letters }
     {
         &self.letters
+    }
+
+    /// Whether each letter is for one of the processes 0, 1, .. of which there are so many. Then it can be posted to their mail.
+    pub fn goes_within(&self, processes: usize) -> bool
+        ensures { IsTrue result ↔ All (λ letter. letter.message.receiver < processes) self.now.letters }
+    {
+        are_within(&self.letters, processes)
     }
 
     /// The letter goes to the back. Where there is room this takes no memory and succeeds; a refusal changes nothing.

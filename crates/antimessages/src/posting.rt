@@ -1,5 +1,6 @@
 //! Room for letters with their receivers, and the letters put there.
-ghost use Rattle.std.specs.Prelude.{◌≡◌, ℕ, ◌+◌, ◌<◌, ◌≤◌, ◌==◌, ◌++◌, length, map, filter, All, IsOk, OnOk, OnErr};
+ghost use Rattle.std.specs.Prelude.{◌≡◌, ℕ, ◌+◌, ◌<◌, ◌≤◌, ◌==◌, ◌++◌, nat_lt, length, map, filter, All, IsOk, OnOk, OnErr};
+ghost use Rattle.std.specs.List.{list_all};
 ghost use Rattle.std.specs.VecDeque.{deque_len, deque_capacity};
 ghost use Rattle.virtual_time.specs.Letters.{received_by};
 ghost use Rattle.antimessages.specs.Letters.{message_rules, signed};
@@ -55,6 +56,15 @@ fn count_for(letters: &[Letter], receiver: u16) -> usize
         .iter()
         .filter(|letter| letter.message.receiver == receiver)
         .count()
+}
+
+/// Whether each of the letters is for one of the processes 0, 1, .. of which there are so many.
+pub(crate) fn are_within(letters: &[Letter], processes: usize) -> bool
+    ensures { result ≡ list_all (λ letter. nat_lt letter.message.receiver processes) letters.now }
+{
+    letters
+        .iter()
+        .all(|letter| usize::from(letter.message.receiver) < processes)
 }
 
 /// Each letter goes to the back of the mail of its receiver, in order. There is room for all.

@@ -170,6 +170,7 @@ fn letters_are_posted_in_order_and_taken_by_place(rt: HostRuntime) {
         outbox.letters().first(),
         Some(&letter(&rt, 20, 1, Sign::Plus))
     );
+    assert!(rt; outbox.goes_within(2) && !outbox.goes_within(1));
     post(&rt, &mut mail, &mut outbox);
     assert_eq!(rt; outbox.letters().len(), 0);
     let counts = (mail.count(0), mail.count(1), mail.count(2), mail.count(3));

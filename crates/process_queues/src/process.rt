@@ -1,4 +1,4 @@
-ghost use Rattle.std.specs.Prelude.{◌≡◌, ◌≢◌, ◌+◌, ◌<◌, ◌≤◌, ◌^◌, ◌-◌, [], ◌∷◌, ◌++◌, ℕ, length, map, min, take, drop, OnOk, OnErr, IfOk, IfErr, slice_get};
+ghost use Rattle.std.specs.Prelude.{◌≡◌, ◌≢◌, ◌+◌, ◌<◌, ◌≤◌, ◌^◌, ◌-◌, ◌↔◌, [], ◌∷◌, ◌++◌, ℕ, length, map, min, take, drop, All, IsTrue, OnOk, OnErr, IfOk, IfErr, slice_get};
 ghost use Rattle.std.specs.Option.{option_map};
 ghost use Rattle.std.specs.VecDeque.{deque_len, deque_capacity};
 ghost use Rattle.vlink.specs.declared.message.Message.{Message};
@@ -136,6 +136,14 @@ impl<R: Actor> Process<R> {
         ensures { map signed result.now ≡ self.now.queues.outbox }
     {
         self.outbox.letters()
+    }
+
+    /// Whether each letter of the outbox is for one of the processes 0, 1, .. of which there are so many. Then `post` can be called with
+    /// their mail.
+    pub fn goes_within(&self, processes: usize) -> bool
+        ensures { IsTrue result ↔ All (λ letter. letter.message.receiver < processes) self.now.queues.outbox }
+    {
+        self.outbox.goes_within(processes)
     }
 
     /// How many letters were taken from the mail and have not arrived.

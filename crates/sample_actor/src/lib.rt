@@ -2,7 +2,11 @@
 #![tactic(auto)]
 
 #[cfg(test)]
+mod pool_tests;
+#[cfg(test)]
 mod process_tests;
+#[cfg(test)]
+mod refusal_tests;
 mod summing;
 #[cfg(test)]
 mod tests;

@@ -1,4 +1,4 @@
-ghost use Rattle.std.specs.Prelude.{◌≡◌, ◌≢◌, ◌≤◌, ◌+◌, ℕ, [], ◌∷◌, ◌++◌, All, length, min, drop, take, replicate, slice_get, vec_len, vec_capacity, ◌<◌, OnOk, OnErr, IfOk, IfErr};
+ghost use Rattle.std.specs.Prelude.{◌≡◌, ◌≢◌, ◌≤◌, ◌+◌, ◌↔◌, ℕ, [], ◌∷◌, ◌++◌, All, length, min, drop, take, replicate, slice_get, vec_len, vec_capacity, ◌<◌, IsTrue, OnOk, OnErr, IfOk, IfErr};
 ghost use Rattle.virtual_time.specs.Letters.{received_by};
 ghost use Rattle.antimessages.specs.Letters.{message_rules, signed};
 ghost use Rattle.antimessages.specs.Mailing.{letters_for};
@@ -62,6 +62,14 @@ impl<R: Actor> Held<R> {
         ensures { result ≡ length self.now.block }
     {
         self.block.len() as u64
+    }
+
+    /// Whether each letter of the outbox is for one of the processes 0, 1, .. of which there are so many. Then `post` can be called with
+    /// an exchange for them.
+    pub fn goes_within(&self, processes: u16) -> bool
+        ensures { IsTrue result ↔ All (λ letter. letter.message.receiver < processes) self.now.queues.outbox }
+    {
+        self.process.goes_within(usize::from(processes))
     }
 
     /// Undoes all done events of the process, the newest first, each with its record, and gives the actor back. Nothing is sent.
