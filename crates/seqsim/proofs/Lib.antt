@@ -3,3 +3,4 @@ pub mod Turning
 pub mod Loading
 pub mod Errors
 pub mod NetworkLemmas
+pub mod Waits

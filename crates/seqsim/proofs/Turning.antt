@@ -45,14 +45,14 @@ pub begun : {S K : Type 0} (r : Rules Message S K Note) (x : Setting S) (actors 
 unfolding one
 begun r x actors offers o = (0, o.actors_open)
 
--- before the first event: the offers came into an empty heap, and there is no row
-pub started : {S K : Type 0} (r : Rules Message S K Note) (x : Setting S) (actors : List S) (offers empty heap : List Message) (rows : List Noted) →
-    Opens x actors offers → empty ≡ [] → IsPermutation (empty ++ offers) heap → rows ≡ [] → StandsAt (simulation_of r x) 0 actors heap rows
+-- before the first event: what waits are the offers, and there is no row
+pub started : {S K : Type 0} (r : Rules Message S K Note) (x : Setting S) (actors : List S) (offers heap : List Message) (rows : List Noted) →
+    Opens x actors offers → IsPermutation offers heap → rows ≡ [] → StandsAt (simulation_of r x) 0 actors heap rows
 unfolding one
-started r x actors offers empty heap rows o e p d =
+started r x actors offers heap rows o p d =
     record {
       states = o.actors_open;
-      waiting = λ m. times-permutation r m (empty ++ offers) heap p ∙ (ap (λ ms. times_in r m (ms ++ offers)) e ∙ ap (times_in r m) o.offered);
+      waiting = λ m. times-permutation r m offers heap p ∙ ap (times_in r m) o.offered;
       rows_are = ap (map seen_row) d;
     }
 

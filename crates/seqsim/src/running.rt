@@ -124,9 +124,8 @@ pub fn run_actors<A: Actor>(
     ensures exhausted { result ≡ Err Exhausted → OfEach (rules_of A.plain A.counter) actors.old offers.now (λ f. (n : ℕ) × IsExhaustedAt f n) }
     ensures left { OnErr result (OfEach (rules_of A.plain A.counter) actors.old offers.now (λ f. AreOnTheWay f actors.new)) }
 {
-    let mut waiting = Waiting::new(alloc);
+    let mut waiting = Waiting::with_offers(alloc, offers)?;
     let mut rows = Vec::new(alloc);
-    waiting.push_all(offers)?;
     take_all_turns(actors, &mut waiting, &mut rows)?;
     Ok(rows)
 }

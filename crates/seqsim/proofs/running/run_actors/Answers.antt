@@ -11,11 +11,11 @@ take_all_turns-requires g c = (
   c.requires.0,
   c.requires.2,
   0,
-  started (rules_of g.A.Reversible.plain g.A.Actor.counter) c.requires.0 _ c.args.offers.now _ _ _ c.requires.1 c.new-waiting.ensures c.in_ok-push_all.ensures.more c.new-rows.ensures.items,
+  started (rules_of g.A.Reversible.plain g.A.Actor.counter) c.requires.0 _ c.args.offers.now _ _ c.requires.1 c.in_ok-waiting.ensures.offered c.new-rows.ensures.items,
 )
 
-pub returns-in_err-push_all-clause-left : goal.returns-in_err-push_all-clause-left
-returns-in_err-push_all-clause-left g c = after-error (λ x o L. begun (rules_of g.A.Reversible.plain g.A.Actor.counter) x _ c.args.offers.now o) c.from_residual.result
+pub returns-in_err-waiting-clause-left : goal.returns-in_err-waiting-clause-left
+returns-in_err-waiting-clause-left g c = after-error (λ x o L. begun (rules_of g.A.Reversible.plain g.A.Actor.counter) x _ c.args.offers.now o) c.from_residual.result
 
 pub returns-in_err-take_all_turns-clause-exhausted : goal.returns-in_err-take_all_turns-clause-exhausted
 returns-in_err-take_all_turns-clause-exhausted g c = λ e x o L.
@@ -24,15 +24,15 @@ returns-in_err-take_all_turns-clause-exhausted g c = λ e x o L.
     let w : c.take_all_turns.result ≡ Err c.in_err-take_all_turns.field-0.0 = c.in_err-take_all_turns.was in
     let k : c.take_all_turns.result ≡ Err Exhausted = cc in
     c.take_all_turns.ensures.exhausted k x L 0
-    (started (rules_of g.A.Reversible.plain g.A.Actor.counter) x _ c.args.offers.now _ _ _ o c.new-waiting.ensures c.in_ok-push_all.ensures.more c.new-rows.ensures.items)
+    (started (rules_of g.A.Reversible.plain g.A.Actor.counter) x _ c.args.offers.now _ _ o c.in_ok-waiting.ensures.offered c.new-rows.ensures.items)
 
 pub returns-in_err-take_all_turns-clause-left : goal.returns-in_err-take_all_turns-clause-left
 returns-in_err-take_all_turns-clause-left g c = after-error (λ x o L.
     c.in_err-take_all_turns.ensures.left x L 0
-    (started (rules_of g.A.Reversible.plain g.A.Actor.counter) x _ c.args.offers.now _ _ _ o c.new-waiting.ensures c.in_ok-push_all.ensures.more c.new-rows.ensures.items))
+    (started (rules_of g.A.Reversible.plain g.A.Actor.counter) x _ c.args.offers.now _ _ o c.in_ok-waiting.ensures.offered c.new-rows.ensures.items))
     c.from_residual-in_err-take_all_turns.result
 
 pub returns-clause-whole : goal.returns-clause-whole
 returns-clause-whole g c = λ x o L.
     c.in_ok-take_all_turns.ensures.whole x L 0
-    (started (rules_of g.A.Reversible.plain g.A.Actor.counter) x _ c.args.offers.now _ _ _ o c.new-waiting.ensures c.in_ok-push_all.ensures.more c.new-rows.ensures.items)
+    (started (rules_of g.A.Reversible.plain g.A.Actor.counter) x _ c.args.offers.now _ _ o c.in_ok-waiting.ensures.offered c.new-rows.ensures.items)
