@@ -6,3 +6,6 @@ pub mod WritingLemmas
 pub mod LossOrderLemmas
 pub mod CountedLemmas
 pub mod DropCountLemmas
+pub mod PlaceLemmas
+pub mod GatherLemmas
+pub mod LatencyCountLemmas

@@ -14,7 +14,7 @@ use Rattle.netdesc.specs.Plan.{Plan, VlPlan}
 use Rattle.netdesc.specs.Trees.{destinations_of}
 use Rattle.trace_tables.specs.declared.loss.Loss.{Loss}
 use Rattle.trace_tables.specs.Counting.{is_loss, times_lost, rows_at, gathered}
-use Rattle.trace_tables.specs.Latencies.{counts_of, latency_in, latency_at, latencies_of}
+use Rattle.trace_tables.specs.Latencies.{Counts, counts_of, latency_in, latency_at, latencies_of}
 use Rattle.trace_tables.specs.Losses.{cause_number}
 use Rattle.trace_tables.specs.Tables.{TableLists, is_known, latencies_at, latency_table, drop_table, tables_of}
 use Rattle.trace_tables.proofs.DeliveryLemmas.{map-same}
@@ -29,16 +29,16 @@ flat_map-filter {X} {Y} test f none (x ∷ xs) = go (test x) refl (flat_map-filt
     go true t later = ap (λ (ys : List Y). f x ++ ys) later
     go false t later = ap (λ (ys : List Y). ys ++ flat_map f xs) (none x t) ∙ later
 
+abbrev one_if : Bool → ℕ
+one_if b = cond b 1 0
+
 count_by-filter : {X : Type 0} (test p : X → Bool) → ((x : X) → test x ≡ false → p x ≡ false) → (xs : List X) → count_by p xs ≡ count_by p (filter test xs)
 count_by-filter test p none [] = refl
 count_by-filter {X} test p none (x ∷ xs) = sum_by-cons (λ y. cond (p y) 1 0) x xs ∙ go (test x) refl (count_by-filter test p none xs)
   where
-    one_if : Bool → ℕ
-    one_if b = cond b 1 0
-
     go : (b : Bool) → test x ≡ b → count_by p xs ≡ count_by p (filter test xs) → cond (p x) 1 0 + count_by p xs ≡ count_by p (cond b (x ∷ filter test xs) (filter test xs))
     go true t later = ap (λ (n : ℕ). cond (p x) 1 0 + n) later ∙ sym (sum_by-cons (λ y. cond (p y) 1 0) x (filter test xs))
-    go false t later = let e : cond (p x) 1 0 ≡ 0 = ap (λ b. cond b 1 0) (none x t) in omega arith
+    go false t later = let fails : one_if (p x) ≡ one_if false = ap one_if (none x t) in omega arith
 
 -- the latencies at a process are those that its rows tell
 latencies-here : (vl place : ℕ) (rows : List Row) → latencies_of vl place rows ≡ latencies_of vl place (rows_at place rows)
