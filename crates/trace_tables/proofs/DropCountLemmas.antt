@@ -19,12 +19,10 @@ use Rattle.trace_tables.specs.Tables.{is_known, known_loss, drop_table}
 use Rattle.trace_tables.specs.Counting.{is_loss, times_lost}
 use Rattle.trace_tables.proofs.LossOrderLemmas.{losses_total, exact_losses, is_eq-losses}
 use Rattle.trace_tables.proofs.CountedLemmas.{lookup-insert_entry, sorted-insert_entry, same-entries}
+use Rattle.trace_tables.proofs.ListLemmas.{one_if}
 
 abbrev is_same : Loss → Loss → Bool
 is_same loss other = is_eq (loss_cmp loss other)
-
-abbrev one_if : Bool → ℕ
-one_if b = cond b 1 0
 
 -- one more of a loss is one more of it and of no other
 count-with_loss : (counts : List (Loss × ℕ)) (more loss : Loss) → count_in (with_loss counts more) loss ≡ count_in counts loss + cond (is_same loss more) 1 0

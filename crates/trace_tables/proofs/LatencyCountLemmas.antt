@@ -10,9 +10,7 @@ use Rattle.vlink.specs.declared.note.Note.TheVariants.{Delivered, Dropped}
 use Rattle.vlink.specs.declared.note.Row.{Row}
 use Rattle.trace_tables.specs.Counting.{is_delivery, times_delivered}
 use Rattle.trace_tables.specs.Latencies.{counts_of, least_from, least_of, greatest_from, latency_in, latency_at, latencies_of}
-
-abbrev one_if : Bool → ℕ
-one_if b = cond b 1 0
+use Rattle.trace_tables.proofs.ListLemmas.{one_if}
 
 -- a row tells one latency, or none
 length-in : (vl : ℕ) (note : Note) → length (latency_in vl note) ≡ one_if (is_delivery vl note)

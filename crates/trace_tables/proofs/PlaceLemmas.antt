@@ -19,6 +19,7 @@ use Rattle.trace_tables.specs.Losses.{cause_number}
 use Rattle.trace_tables.specs.Tables.{TableLists, is_known, latencies_at, latency_table, drop_table, tables_of}
 use Rattle.trace_tables.proofs.DeliveryLemmas.{map-same}
 use Rattle.trace_tables.proofs.DropCountLemmas.{same-drops}
+use Rattle.trace_tables.proofs.ListLemmas.{one_if}
 
 -- what is made of a list of which only some elements count is made of those
 flat_map-filter : {X Y : Type 0} (test : X → Bool) (f : X → List Y) → ((x : X) → test x ≡ false → f x ≡ []) → (xs : List X) → flat_map f xs ≡ flat_map f (filter test xs)
@@ -28,9 +29,6 @@ flat_map-filter {X} {Y} test f none (x ∷ xs) = go (test x) refl (flat_map-filt
     go : (b : Bool) → test x ≡ b → flat_map f xs ≡ flat_map f (filter test xs) → f x ++ flat_map f xs ≡ flat_map f (cond b (x ∷ filter test xs) (filter test xs))
     go true t later = ap (λ (ys : List Y). f x ++ ys) later
     go false t later = ap (λ (ys : List Y). ys ++ flat_map f xs) (none x t) ∙ later
-
-abbrev one_if : Bool → ℕ
-one_if b = cond b 1 0
 
 count_by-filter : {X : Type 0} (test p : X → Bool) → ((x : X) → test x ≡ false → p x ≡ false) → (xs : List X) → count_by p xs ≡ count_by p (filter test xs)
 count_by-filter test p none [] = refl

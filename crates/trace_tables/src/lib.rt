@@ -24,4 +24,6 @@ pub use tables::Tables;
 pub use write::{write_csv, write_trace};
 
 #[cfg(test)]
+mod sink_tests;
+#[cfg(test)]
 mod tests;
