@@ -1,5 +1,5 @@
 -- Entries in the order of their keys: one that is put in, and lists of entries with the same look-ups.
-use Rattle.std.proofs.Common.{◌≡◌, ℕ, Bool, true, false, cond, List, [], ◌∷◌, Option, Some, None, refl, ap, sym, ◌∙◌}
+use Rattle.std.proofs.Common.{◌≡◌, Bool, true, false, cond, List, [], ◌∷◌, Option, Some, None, refl, ap, sym, ◌∙◌}
 use Rattle.std.specs.Cmp.{IsTotalOrder}
 use Rattle.std.specs.List.{AllByRecursion}
 use Rattle.std.specs.List.Sorted.{IsStrictlySortedBy}
@@ -66,10 +66,11 @@ sorted-insert_entry {K} {X} {R} o k v (e ∷ es) h = go (R k e.0) refl (sorted-i
     go Less s next = ((s, below-all o k e.0 (keys_of es) s h.0), h)
     go Equal s next = h
     go Greater s next =
-        let above : R e.0 k ≡ Less = o.antisymm e.0 k ∙ ap ordering_reverse s in
-        (recursion_from_All (λ y. R e.0 y ≡ Less) (keys_of (insert_entry R es k v))
-            (All-keys-insert_entry R k v (λ y. R e.0 y ≡ Less) es (All-from_recursion (λ y. R e.0 y ≡ Less) (keys_of es) h.0) above)
-        , next)
+        let above : R e.0 k ≡ Less = o.antisymm e.0 k ∙ ap ordering_reverse s in (
+          recursion_from_All (λ y. R e.0 y ≡ Less) (keys_of (insert_entry R es k v))
+              (All-keys-insert_entry R k v (λ y. R e.0 y ≡ Less) es (All-from_recursion (λ y. R e.0 y ≡ Less) (keys_of es) h.0) above),
+          next,
+        )
 
 -- the first entry is found at its key
 at-head : {K X : Type 0} {R : K → K → Ordering} → IsTotalOrder R → (e : K × X) (es : List (K × X)) → lookup (is_at (R e.0)) (e ∷ es) ≡ Some e.1
@@ -118,7 +119,7 @@ same-entries {K} {X} {R} o exact (e ∷ es) (f ∷ fs) s t same =
         let first : e ≡ f = ap (λ (k : K). (k, e.1)) key ∙ ap (λ (v : X). (f.0, v)) value in
         ap (λ x. x ∷ es) first
         ∙ ap (λ xs. f ∷ xs) (rest (λ q.
-            behind-head o q e es s
-            ∙ ap (cond (is_eq (R q e.0)) None) (same q)
-            ∙ ap (λ k. cond (is_eq (R q k)) None (lookup (is_at (R q)) (f ∷ fs))) key
-            ∙ sym (behind-head o q f fs t)))
+        behind-head o q e es s
+        ∙ ap (cond (is_eq (R q e.0)) None) (same q)
+        ∙ ap (λ k. cond (is_eq (R q k)) None (lookup (is_at (R q)) (f ∷ fs))) key
+        ∙ sym (behind-head o q f fs t)))

@@ -1,11 +1,11 @@
 -- What a table of drops says of its rows.
-use Rattle.std.proofs.Common.{◌≡◌, ℕ, ◌+◌, ◌<◌, ◌==◌, Bool, true, false, cond, List, [], ◌∷◌, ◌++◌, length, get_or, Option, Some, None, refl, ap, sym, ◌∙◌, arith}
+use Rattle.std.proofs.Common.{◌≡◌, ℕ, ◌+◌, ◌<◌, Bool, true, false, cond, List, [], ◌∷◌, Option, Some, None, refl, ap, sym, ◌∙◌, arith}
 use Rattle.std.specs.Prelude.{◌&&◌}
-use Rattle.std.specs.List.{All, count_by, sum_by, flat_map, filter}
+use Rattle.std.specs.List.{All, count_by, flat_map}
 use Rattle.std.specs.List.Sorted.{IsStrictlySortedBy}
 use Rattle.std.specs.Option.{IfSome, option_map_or}
 use Rattle.std.specs.Ordering.{is_eq}
-use Rattle.std.specs.BTreeMap.{insert_entry, is_at}
+use Rattle.std.specs.BTreeMap.{is_at}
 use Rattle.std.specs.Map.{lookup, keys_of, values_of}
 use Rattle.std.proofs.lemmas.List.Sums.{sum_by-append, sum_by-cons}
 use Rattle.std.proofs.lemmas.Map.Views.{All-values-insert_entry, IfSome-lookup_from_All, tells_apart}
@@ -62,9 +62,9 @@ count-rows plan loss (row ∷ rows) =
     let here : count_by (is_same loss) (known_loss plan row) ≡ cond (is_known plan row && is_loss loss row.place row.note) 1 0 = count-known plan loss row in
     let later : count_by (is_same loss) (flat_map (known_loss plan) rows) ≡ times_lost plan loss rows = count-rows plan loss rows in
     let both : count_by (is_same loss) (flat_map (known_loss plan) (row ∷ rows)) ≡ count_by (is_same loss) (known_loss plan row) + count_by (is_same loss) (flat_map (known_loss plan) rows)
-        = sum_by-append (λ x. cond (is_same loss x) 1 0) (known_loss plan row) (flat_map (known_loss plan) rows) in
+    = sum_by-append (λ x. cond (is_same loss x) 1 0) (known_loss plan row) (flat_map (known_loss plan) rows) in
     let all : times_lost plan loss (row ∷ rows) ≡ cond (is_known plan row && is_loss loss row.place row.note) 1 0 + times_lost plan loss rows
-        = sum_by-cons (λ r. cond (is_known plan r && is_loss loss r.place r.note) 1 0) row rows in
+    = sum_by-cons (λ r. cond (is_known plan r && is_loss loss r.place r.note) 1 0) row rows in
     omega arith
 
 -- the count of a loss is the number of rows that tell it
@@ -110,6 +110,6 @@ pub same-drops : (plan : Plan) (xs ys : List Row) → ((loss : Loss) → times_l
 same-drops plan xs ys same =
     same-entries losses_total exact_losses (drop_table plan xs) (drop_table plan ys) (drops-ascending plan xs) (drops-ascending plan ys) (λ loss.
     same-found (lookup (is_at (loss_cmp loss)) (drop_table plan xs)) (lookup (is_at (loss_cmp loss)) (drop_table plan ys))
-        (IfSome-lookup_from_All (λ n. 0 < n) (is_at (loss_cmp loss)) (drop_table plan xs) (drops-positive plan xs))
-        (IfSome-lookup_from_All (λ n. 0 < n) (is_at (loss_cmp loss)) (drop_table plan ys) (drops-positive plan ys))
-        (drops-counted plan xs loss ∙ same loss ∙ sym (drops-counted plan ys loss)))
+    (IfSome-lookup_from_All (λ n. 0 < n) (is_at (loss_cmp loss)) (drop_table plan xs) (drops-positive plan xs))
+    (IfSome-lookup_from_All (λ n. 0 < n) (is_at (loss_cmp loss)) (drop_table plan ys) (drops-positive plan ys))
+    (drops-counted plan xs loss ∙ same loss ∙ sym (drops-counted plan ys loss)))

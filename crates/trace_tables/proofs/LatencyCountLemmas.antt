@@ -1,7 +1,7 @@
 -- What is counted of latencies, by the rows that tell them, and by each latency.
-use Rattle.std.proofs.Common.{◌≡◌, ℕ, ◌+◌, ◌<◌, ◌≤◌, ◌==◌, Bool, true, false, cond, min, max, List, [], ◌∷◌, ◌++◌, length, refl, ap, sym, subst, ◌∙◌, inl, inr, ◌⊎◌, arith, length-append}
+use Rattle.std.proofs.Common.{◌≡◌, ℕ, ◌+◌, ◌<◌, ◌≤◌, ◌==◌, Bool, true, false, cond, min, max, List, [], ◌∷◌, length, refl, sym, inl, inr, ◌⊎◌, arith, length-append}
 use Rattle.std.specs.Prelude.{◌&&◌}
-use Rattle.std.specs.List.{All, AllByRecursion, Contains, count_by, flat_map}
+use Rattle.std.specs.List.{All, AllByRecursion, Contains}
 use Rattle.std.proofs.lemmas.Bool.{cases_lt}
 use Rattle.std.proofs.lemmas.List.Elements.{All-from_recursion, Contains-append_right}
 use Rattle.std.proofs.lemmas.List.Sums.{sum_by-cons}
@@ -9,7 +9,7 @@ use Rattle.vlink.specs.declared.note.Note.{Note}
 use Rattle.vlink.specs.declared.note.Note.TheVariants.{Delivered, Dropped}
 use Rattle.vlink.specs.declared.note.Row.{Row}
 use Rattle.trace_tables.specs.Counting.{is_delivery, times_delivered}
-use Rattle.trace_tables.specs.Latencies.{counts_of, least_from, least_of, greatest_from, latency_in, latency_at, latencies_of}
+use Rattle.trace_tables.specs.Latencies.{least_from, least_of, greatest_from, latency_in, latency_at, latencies_of}
 use Rattle.trace_tables.proofs.ListLemmas.{one_if}
 
 -- a row tells one latency, or none
@@ -36,7 +36,7 @@ latencies-counted vl place (row ∷ rows) =
     let later : length (latencies_of vl place rows) ≡ times_delivered vl place rows = latencies-counted vl place rows in
     let both : length (latencies_of vl place (row ∷ rows)) ≡ length (latency_at vl place row) + length (latencies_of vl place rows) = length-append (latency_at vl place row) (latencies_of vl place rows) in
     let all : times_delivered vl place (row ∷ rows) ≡ one_if ((row.place == place) && is_delivery vl row.note) + times_delivered vl place rows
-        = sum_by-cons (λ r. one_if ((r.place == place) && is_delivery vl r.note)) row rows in
+    = sum_by-cons (λ r. one_if ((r.place == place) && is_delivery vl r.note)) row rows in
     omega arith
 
 least-le-first : (m : ℕ) (ls : List ℕ) → least_from m ls ≤ m

@@ -1,8 +1,8 @@
 -- The order of losses is total, and tells all losses apart.
-use Rattle.std.proofs.Common.{◌≡◌, ℕ, ◌==◌, Bool, true, false, cond, refl, ap, sym, ◌∙◌, arith, ◌<◌, ◌≢◌, ne_eqb, eq-eqb}
+use Rattle.std.proofs.Common.{◌≡◌, ℕ, ◌==◌, cond, refl, ap, sym, ◌∙◌, arith, ◌<◌, ne_eqb, eq-eqb}
 use Rattle.std.specs.Prelude.{◌&&◌}
 use Rattle.std.specs.Cmp.{IsTotalOrder}
-use Rattle.std.specs.Ordering.{nat_cmp, is_eq, ordering_then, MatchOrdering}
+use Rattle.std.specs.Ordering.{nat_cmp, is_eq, ordering_then}
 use Rattle.std.specs.declared.cmp.Ordering.{Ordering}
 use Rattle.std.specs.declared.cmp.Ordering.TheVariants.{Less, Equal, Greater}
 use Rattle.std.proofs.lemmas.Cmp.{nat_cmp_total, on_total, then_total, ranked}
@@ -50,7 +50,7 @@ exact_losses a b e =
     let first = then-equal (nat_cmp a.vl.0 b.vl.0) (ordering_then (nat_cmp a.place b.place) (nat_cmp (cause_number a.cause) (cause_number b.cause))) e in
     let second = then-equal (nat_cmp a.place b.place) (nat_cmp (cause_number a.cause) (cause_number b.cause)) first.1 in
     loss-is a b (exact_unsigned a.vl.0 b.vl.0 first.0) (exact_unsigned a.place b.place second.0)
-        (same_cause a.cause b.cause (exact_unsigned (cause_number a.cause) (cause_number b.cause) second.1))
+    (same_cause a.cause b.cause (exact_unsigned (cause_number a.cause) (cause_number b.cause) second.1))
 
 is_eq-then : (a b : Ordering) → is_eq (ordering_then a b) ≡ (is_eq a && is_eq b)
 is_eq-then Less b = refl
@@ -71,6 +71,6 @@ is_eq-losses a b =
     is_eq-then (nat_cmp a.vl.0 b.vl.0) (ordering_then (nat_cmp a.place b.place) (nat_cmp (cause_number a.cause) (cause_number b.cause)))
     ∙ ap (λ t. t && is_eq (ordering_then (nat_cmp a.place b.place) (nat_cmp (cause_number a.cause) (cause_number b.cause)))) (is_eq-nat a.vl.0 b.vl.0)
     ∙ ap (λ t. (a.vl.0 == b.vl.0) && t) (
-        is_eq-then (nat_cmp a.place b.place) (nat_cmp (cause_number a.cause) (cause_number b.cause))
-        ∙ ap (λ t. t && is_eq (nat_cmp (cause_number a.cause) (cause_number b.cause))) (is_eq-nat a.place b.place)
-        ∙ ap (λ t. (a.place == b.place) && t) (is_eq-nat (cause_number a.cause) (cause_number b.cause)))
+    is_eq-then (nat_cmp a.place b.place) (nat_cmp (cause_number a.cause) (cause_number b.cause))
+    ∙ ap (λ t. t && is_eq (nat_cmp (cause_number a.cause) (cause_number b.cause))) (is_eq-nat a.place b.place)
+    ∙ ap (λ t. (a.place == b.place) && t) (is_eq-nat (cause_number a.cause) (cause_number b.cause)))

@@ -1,19 +1,15 @@
 -- The rows of each process: what they decide, and rows that are put together from them.
-use Rattle.std.proofs.Common.{◌≡◌, ◌≢◌, ℕ, zero, suc, ◌+◌, ◌<◌, ◌≤◌, ◌==◌, Bool, true, false, cond, List, [], ◌∷◌, ◌++◌, refl, ap, sym, ◌∙◌, arith, ne_eqb, eq-eqb}
+use Rattle.std.proofs.Common.{◌≡◌, ℕ, ◌+◌, ◌==◌, Bool, true, false, cond, List, [], ◌∷◌, ◌++◌, refl, ap, sym, ◌∙◌, arith, ne_eqb, eq-eqb}
 use Rattle.std.specs.Prelude.{◌&&◌}
-use Rattle.std.specs.List.{All, AllByRecursion, count_by, flat_map, filter, range_with_len}
-use Rattle.std.proofs.lemmas.Bool.{cases_lt}
-use Rattle.std.proofs.lemmas.List.{append-nil}
-use Rattle.std.proofs.lemmas.List.Elements.{filter-append, filter_passes, recursion_from_All, All-weaker}
+use Rattle.std.specs.List.{count_by, flat_map, filter}
 use Rattle.std.proofs.lemmas.List.Sums.{sum_by-cons}
-use Rattle.std.proofs.lemmas.Map.Views.{exact_unsigned_eq}
 use Rattle.vlink.specs.declared.note.Row.{Row}
 use Rattle.vlink.specs.declared.note.Note.{Note}
 use Rattle.vlink.specs.declared.note.Note.TheVariants.{Delivered, Dropped}
-use Rattle.netdesc.specs.Plan.{Plan, VlPlan}
+use Rattle.netdesc.specs.Plan.{Plan}
 use Rattle.netdesc.specs.Trees.{destinations_of}
 use Rattle.trace_tables.specs.declared.loss.Loss.{Loss}
-use Rattle.trace_tables.specs.Counting.{is_loss, times_lost, rows_at, gathered}
+use Rattle.trace_tables.specs.Counting.{is_loss, times_lost, rows_at}
 use Rattle.trace_tables.specs.Latencies.{Counts, counts_of, latency_in, latency_at, latencies_of}
 use Rattle.trace_tables.specs.Losses.{cause_number}
 use Rattle.trace_tables.specs.Tables.{TableLists, is_known, latencies_at, latency_table, drop_table, tables_of}
