@@ -40,7 +40,8 @@ pub fn latency_counts()
 {}
 
 /// The tables depend on the rows of each process alone, in their order there: how rows of different processes stand to each other makes no
-/// difference. So the tables of a parallel run, whose rows are gathered process by process, are those of a run by one thread.
+/// difference. So a run whose rows are gathered process by process has the tables of the one-thread run, if each process has the rows that
+/// it has there.
 ///
 /// - `by_place`: rows that are the same at each process have the same tables.
 /// - `gathered`: the rows of the first processes, put one process after another, have the tables of all rows, if no others have rows.
