@@ -29,9 +29,10 @@ HasCause text most TooMany = most < length (lines text)
 HasCause text most (BadLine n) = (length (lines text) ≤ most) × IsFirstBad text n
 HasCause text most OutOfMemory = length (lines text) ≤ most
 
--- a result is these steps, or this refusal, unless memory was refused
+-- the result is these steps, unless memory was refused
 abbrev pub AreRead : List Step → Result (Vec Step) LinesFault → Type 0
 AreRead steps result = MatchResult result (λ read. read.items ≡ steps) (λ fault. fault ≡ OutOfMemory)
 
+-- the result is this refusal, unless memory was refused
 abbrev pub IsRefused : LinesFault → Result (Vec Step) LinesFault → Type 0
 IsRefused cause result = MatchResult result (λ read. ⊥) (λ fault. (fault ≡ cause) ⊎ (fault ≡ OutOfMemory))

@@ -31,12 +31,13 @@ fn read_lines(alloc: Global, text: &[u8], count: usize) -> Result<Vec<Step>, Lin
     Ok(steps)
 }
 
-/// The steps of a journal text, one a line, where at most `most` lines are allowed. A line is `T p i`,
-/// `A p`, `R p`, `P p`, `G` or `C p`, with one blank between, numbers from 0 to 4294967295 in decimal digits
-/// without leading zeros, and a line feed at its end. The empty text has no steps.
+/// The steps of a journal text, one a line, where at most `most` lines are allowed. A line is `T p i` (Take),
+/// `A p` (Arrive), `R p` (Run), `P p` (Post), `G` (Gvt) or `C p` (Commit), with one blank between, numbers from
+/// 0 to 4294967295 in decimal digits without leading zeros, and a line feed at its end. The empty text has no steps.
 ///
 /// `TooMany` is tried first, and takes no memory; a last line without a line feed counts as a line.
-/// `BadLine` tells the first line, from 1, that has not this form.
+/// `BadLine` tells the first line, from 1, that has not this form. `OutOfMemory` is told where the steps,
+/// 12 bytes each and one for each line, found no room; it can come before a bad line is met.
 pub fn read_steps(alloc: Global, text: &[u8], most: u64) -> Result<Vec<Step>, LinesFault>
     ensures steps { IfOk result (λ steps. steps_text steps.items ≡ text.now) }
     ensures fits { IfOk result (λ steps. All Fits steps.items) }
