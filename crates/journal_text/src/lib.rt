@@ -1,0 +1,14 @@
+//! The text of a journal: the steps of a run, one a line.
+#![tactic(auto)]
+
+mod counting;
+mod fault;
+mod line;
+mod number;
+mod read;
+
+pub use fault::LinesFault;
+pub use read::read_steps;
+
+#[cfg(test)]
+mod tests;
