@@ -51,7 +51,8 @@ class Run:
     def __init__(self, command, output):
         with open(output, "wb") as out:
             begin = time.monotonic()
-            process = os.posix_spawn(command[0], command, os.environ, file_actions=[(os.POSIX_SPAWN_DUP2, out.fileno(), 1)])
+            to_file = [(os.POSIX_SPAWN_DUP2, out.fileno(), 1)]
+            process = os.posix_spawn(command[0], command, os.environ, file_actions=to_file)
             _, status, usage = os.wait4(process, 0)
             self.seconds = time.monotonic() - begin
         self.mebibytes = usage.ru_maxrss / 1024
@@ -62,8 +63,9 @@ class Run:
 
 def write_description(size, path):
     words, _ = SIZES[size]
+    command = [sys.executable, os.path.join(HERE, "large_network.py"), *words]
     with open(path, "wb") as out:
-        subprocess.run([sys.executable, os.path.join(HERE, "large_network.py"), *words], stdout=out, stderr=subprocess.DEVNULL, check=True)
+        subprocess.run(command, stdout=out, stderr=subprocess.DEVNULL, check=True)
 
 
 def rows_of(tables):
@@ -103,9 +105,10 @@ def print_line(cells):
 
 def main():
     parser = argparse.ArgumentParser(description=__doc__, formatter_class=argparse.RawDescriptionHelpFormatter)
-    parser.add_argument("program", metavar="PROGRAM", help="the program to measure")
-    parser.add_argument("--sizes", default=",".join(SIZES), metavar="NAMES", help="networks, with commas between (default: all three)")
-    parser.add_argument("--reps", type=int, default=5, metavar="N", help="repetitions of each command, at least 1 (default 5)")
+    add = parser.add_argument
+    add("program", metavar="PROGRAM", help="the program to measure")
+    add("--sizes", default=",".join(SIZES), metavar="NAMES", help="networks, with commas between (default: all three)")
+    add("--reps", type=int, default=5, metavar="N", help="repetitions of each command, at least 1 (default 5)")
     words = parser.parse_args()
     sizes = words.sizes.split(",")
     if not set(sizes) <= set(SIZES):

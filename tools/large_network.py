@@ -21,7 +21,15 @@ from fractions import Fraction
 BAG_SHARES = {1: 1, 2: 2, 4: 4, 8: 8, 16: 14, 32: 23, 64: 22, 128: 26}
 
 # Percent of the virtual links with a frame size in bytes from the first number to the second.
-SIZE_SHARES = {(64, 150): 56, (151, 300): 20, (301, 600): 12, (601, 900): 6, (901, 1200): 2, (1201, 1500): 3, (1501, 1518): 1}
+SIZE_SHARES = {
+    (64, 150): 56,
+    (151, 300): 20,
+    (301, 600): 12,
+    (601, 900): 6,
+    (901, 1200): 2,
+    (1201, 1500): 3,
+    (1501, 1518): 1,
+}
 
 PERCENT_HIGH = 30
 MOST_PROCESSES = 4096
@@ -126,11 +134,20 @@ class Wiring:
         """Why the program would refuse the network, or None."""
         ports = max(len(a) + len(b) for a, b in zip(self.attached, self.beside))
         if ports > MOST_PORTS:
-            return f"a switch would have {ports} links, and may have {MOST_PORTS}: take more switches or fewer end systems"
+            return (
+                f"a switch would have {ports} links, and may have {MOST_PORTS}: "
+                "take more switches or fewer end systems"
+            )
         if self.processes() > MOST_PROCESSES:
-            return f"there would be {self.processes()} processes, and may be {MOST_PROCESSES}: take fewer end systems or switches"
+            return (
+                f"there would be {self.processes()} processes, and may be {MOST_PROCESSES}: "
+                "take fewer end systems or switches"
+            )
         if self.longest > MOST_SWITCHES_OF_A_PATH:
-            return f"a path could have {self.longest} switches, and may have {MOST_SWITCHES_OF_A_PATH}: take more columns or fewer switches"
+            return (
+                f"a path could have {self.longest} switches, and may have {MOST_SWITCHES_OF_A_PATH}: "
+                "take more columns or fewer switches"
+            )
         return None
 
 
@@ -270,18 +287,31 @@ def whole(least, greatest):
 
 
 def words_of(arguments=None):
-    parser = argparse.ArgumentParser(description=__doc__, epilog=EXAMPLES, formatter_class=argparse.RawDescriptionHelpFormatter)
-    add = parser.add_argument
-    add("--end-systems", type=whole(2, 800), default=120, metavar="N", help="end systems (default 120)")
-    add("--switches", type=whole(1, 600), default=8, metavar="N", help="switches of each of the two networks (default 8)")
-    add("--columns", type=whole(1, 600), default=2, metavar="N", help="columns of the grid of switches; 1 is a row (default 2)")
-    add("--virtual-links", type=whole(0, MOST_VIRTUAL_LINKS), default=1000, metavar="N", help="virtual links (default 1000)")
-    add("--destinations", type=whole(1, MOST_DESTINATIONS), default=6, metavar="N", help="destinations of a virtual link, as a mean; at most 64 (default 6)")
-    add("--reach", type=whole(0, 100), default=50, metavar="PERCENT", help="chance that a destination is one switch further away, and again for each further one (default 50)")
-    add("--load", type=whole(0, 1000), default=0, metavar="PERCENT", help="greatest load of the busiest line; if it would be higher, all periods are stretched alike. 0: every period is its BAG (default 0)")
-    add("--port-bytes", type=whole(1518, 1048576), default=65536, metavar="BYTES", help="waiting bytes of each port (default 65536)")
-    add("--until", type=whole(1, 10**12), default=10**9, metavar="NS", help="end time in ns (default 1000000000, one second)")
-    add("--seed", type=whole(0, 2**63 - 1), default=1, metavar="N", help="seed of all that is drawn, here and in the run (default 1)")
+    parser = argparse.ArgumentParser(
+        description=__doc__, epilog=EXAMPLES, formatter_class=argparse.RawDescriptionHelpFormatter
+    )
+
+    def number(name, least, greatest, usual, unit, meaning):
+        text = f"{meaning}; {least} to {greatest} (default {usual})"
+        parser.add_argument("--" + name, type=whole(least, greatest), default=usual, metavar=unit, help=text)
+
+    number("end-systems", 2, 800, 120, "N", "end systems")
+    number("switches", 1, 600, 8, "N", "switches of each of the two networks")
+    number("columns", 1, 600, 2, "N", "columns of the grid of switches, 1 for a row")
+    number("virtual-links", 0, MOST_VIRTUAL_LINKS, 1000, "N", "virtual links")
+    number("destinations", 1, MOST_DESTINATIONS, 6, "N", "destinations of a virtual link, as a mean")
+    number(
+        "reach", 0, 100, 50, "PERCENT",
+        "chance that a destination is one switch further away, and again for each further one",
+    )
+    number(
+        "load", 0, 1000, 0, "PERCENT",
+        "greatest load of the busiest line: if it would be higher, all periods are stretched alike. "
+        "0: every period is its BAG",
+    )
+    number("port-bytes", 1518, 1048576, 65536, "BYTES", "waiting bytes of each port")
+    number("until", 1, 10**12, 10**9, "NS", "end time in ns")
+    number("seed", 0, 2**63 - 1, 1, "N", "seed of all that is drawn, here and in the run")
     return parser.parse_args(arguments)
 
 
