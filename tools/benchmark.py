@@ -3,14 +3,15 @@
 
     benchmark.py PROGRAM [--sizes small,aircraft,limit] [--reps 5]
 
-PROGRAM is the built program, which is crates/afdxsim/out/afdxsim after `rt run` there. A table goes to standard output, one line for each
-network and command:
+PROGRAM is the built program: crates/afdxsim/out/afdxsim, once `rt run` was called in crates/afdxsim. A table goes to
+standard output, one line for each network and command:
 
   network    small     16 end systems, 2 x 2 switches, 60 virtual links, 1 simulated second
              aircraft  120 end systems, 2 x 8 switches, 1,000 virtual links, 1 simulated second
              limit     760 end systems, 2 x 38 switches (4,096 processes), 65,536 virtual links, 0.1 simulated seconds
   command    check or seq; the whole run of the program counts, with its start and the reading of the description
-  events     messages handled by seq, counted once by second_opinion.py; they belong to these three networks
+  events     messages handled by seq, counted once by second_opinion.py --events. Empty where large_network.py has been
+             changed, so that its text is no longer the one that was counted
   rows       frames delivered and frames dropped, duplicates among them, as the tables of seq tell. It is the number of
              lines that a trace would have after its first
   seconds    wall time, the median of the repetitions
@@ -28,16 +29,19 @@ import subprocess
 import sys
 import tempfile
 import time
+import zlib
 
 HERE = os.path.dirname(os.path.abspath(__file__))
 
-# The words for large_network.py, and the number of messages that seq handles in that network.
+# For each network the words for large_network.py, the number of messages that seq handles in it, and the CRC-32 of
+# the description, by which a changed description is noticed.
 SIZES = {
-    "small": (["--end-systems", "16", "--switches", "2", "--virtual-links", "60"], 216_571),
-    "aircraft": ([], 4_149_705),
+    "small": (["--end-systems", "16", "--switches", "2", "--virtual-links", "60"], 216_571, 0x9B01492E),
+    "aircraft": ([], 4_149_705, 0x90AD70D9),
     "limit": (
         ["--end-systems", "760", "--switches", "38", "--virtual-links", "65536", "--load", "90", "--until", "100000000"],
         5_383_111,
+        0x7CAF7F5F,
     ),
 }
 
@@ -62,10 +66,20 @@ class Run:
 
 
 def write_description(size, path):
-    words, _ = SIZES[size]
+    words, _, _ = SIZES[size]
     command = [sys.executable, os.path.join(HERE, "large_network.py"), *words]
     with open(path, "wb") as out:
         subprocess.run(command, stdout=out, stderr=subprocess.DEVNULL, check=True)
+
+
+def events_of(size, path):
+    """How many messages seq handles in this network, or None where the description is not the one that was counted."""
+    _, events, counted = SIZES[size]
+    seen = 0
+    with open(path, "rb") as text:
+        while piece := text.read(65536):
+            seen = zlib.crc32(piece, seen)
+    return events if seen == counted else None
 
 
 def rows_of(tables):
@@ -79,11 +93,12 @@ def measure(program, size, folder, reps):
     """The lines of the table for one network."""
     net = os.path.join(folder, size + ".toml")
     write_description(size, net)
+    counted = events_of(size, net)
     for command in COMMANDS:
         output = os.path.join(folder, "output")
         runs = [Run([program, command, net], output) for _ in range(reps)]
         median = statistics.median(run.seconds for run in runs)
-        events = SIZES[size][1] if command == "seq" else None
+        events = counted if command == "seq" else None
         yield [
             size,
             command,
