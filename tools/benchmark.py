@@ -39,7 +39,8 @@ SIZES = {
     "small": (["--end-systems", "16", "--switches", "2", "--virtual-links", "60"], 216_571, 0x9B01492E),
     "aircraft": ([], 4_149_705, 0x90AD70D9),
     "limit": (
-        ["--end-systems", "760", "--switches", "38", "--virtual-links", "65536", "--load", "90", "--until", "100000000"],
+        ["--end-systems", "760", "--switches", "38", "--virtual-links", "65536"]
+        + ["--load", "90", "--until", "100000000"],
         5_383_111,
         0x7CAF7F5F,
     ),
