@@ -12,7 +12,7 @@ use Rattle.bag_regulator.specs.declared.event.RegRecord.{RegRecord}
 use Rattle.output_port.specs.declared.event.PortRecord.{PortRecord}
 use Rattle.nodes.specs.declared.kept.Kept.TheVariants as kept
 use Rattle.nodes.specs.declared.vl_end.VlEnd.{VlEnd}
-use Rattle.nodes.specs.Sending.{silent}
+use Rattle.reverse.specs.Sending.{silent}
 use Rattle.nodes.specs.Finding.{place_of}
 use Rattle.nodes.specs.Places.{found-again}
 use Rattle.nodes.specs.EndSystem.{EndSystemState, SourceAt, asked, full, lost, numbers_of, regulated, source_at, source_with}

@@ -3,7 +3,7 @@ use Rattle.std.proofs.Common.{◌≡◌, ℕ, List, Option, Some, None, ap, refl
 use Rattle.output_port.specs.Port.{PortState, port, IsWithinBytes}
 use Rattle.output_port.specs.declared.event.PortEvent.{PortEvent}
 use Rattle.nodes.specs.declared.ports.Wire.{Wire}
-use Rattle.nodes.specs.Sending.{Reply, silent}
+use Rattle.reverse.specs.Sending.{Reply, silent}
 use Rattle.nodes.specs.Ports.{PortsState, wire_at, changed_at, changed, reply_at, reply, answered}
 use Rattle.nodes.specs.Undoing.{kept_at, port_kept, IsThere, IsPortValue}
 

@@ -3,7 +3,7 @@ use Rattle.std.proofs.Common.{◌≡◌, ℕ, ◌+◌, ◌++◌, Bool, true, fal
 use Rattle.std.proofs.lemmas.List.{append-nil, length-append}
 use Rattle.vlink.specs.declared.message.Message.{Message}
 use Rattle.vlink.specs.declared.note.Note.{Note}
-use Rattle.nodes.specs.Sending.{Wish, Reply, Sender, OutboundState, silent, joined, sent, after_sending, replied, message_of}
+use Rattle.reverse.specs.Sending.{Wish, Reply, Sender, OutboundState, silent, joined, sent, after_sending, replied, message_of}
 
 -- a process with nothing to say
 pub replied-silent : (o : OutboundState) → replied o silent ≡ o

@@ -10,7 +10,7 @@ use Rattle.policer.specs.Account.{Policing, account, cap}
 use Rattle.nodes.specs.declared.kept.Kept.{Kept}
 use Rattle.nodes.specs.declared.kept.Kept.TheVariants as kept
 use Rattle.nodes.specs.declared.transit.Transit.{Transit}
-use Rattle.nodes.specs.Sending.{loss}
+use Rattle.reverse.specs.Sending.{loss}
 use Rattle.nodes.specs.Finding.{place_of}
 use Rattle.nodes.specs.Switch.{SwitchState, SwitchOutcome, TransitAt, transit_with, transit_at, numbers_of, taken, policed}
 use Rattle.nodes.specs.SwitchUndoing.{taken_kept, IsTakenValue}

@@ -26,7 +26,7 @@ use Rattle.redundancy.specs.declared.delivery.Delivery.{Delivery}
 use Rattle.redundancy.specs.declared.delivery.Delivery.TheVariants as delivery
 use Rattle.nodes.specs.declared.vl_end.VlEnd.{VlEnd}
 use Rattle.nodes.specs.declared.receiving.Receiving.{Receiving}
-use Rattle.nodes.specs.Sending.{Wish, Reply, silent, joined, loss}
+use Rattle.reverse.specs.Sending.{Wish, Reply, silent, joined, loss}
 use Rattle.nodes.specs.Ports.{PortsState, changed, exists, reply}
 use Rattle.nodes.specs.Finding.{place_of}
 

@@ -21,7 +21,7 @@ use Rattle.integrity.specs.declared.checking.Check.TheVariants as check
 use Rattle.nodes.specs.declared.kept.Kept.TheVariants as kept
 use Rattle.nodes.specs.declared.vl_end.VlEnd.{VlEnd}
 use Rattle.nodes.specs.declared.receiving.Receiving.{Receiving}
-use Rattle.nodes.specs.Sending.{Reply, silent, loss}
+use Rattle.reverse.specs.Sending.{Reply, silent, loss}
 use Rattle.nodes.specs.Ports.{PortsState, changed, exists}
 use Rattle.nodes.specs.Finding.{place_of}
 use Rattle.nodes.specs.EndSystem.{EndSystemState, SourceAt, SinkAt, source_at, source_with, sink_at, sink_with, numbers_of, is_on, port_of, copy, copied, released_out, regulated, offered_frame, check_of, with_check, received, redundant, taken, arrived, end_system}

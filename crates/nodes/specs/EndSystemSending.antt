@@ -24,7 +24,7 @@ use Rattle.redundancy.specs.declared.delivery.Delivery.{Delivery}
 use Rattle.redundancy.specs.declared.delivery.Delivery.TheVariants as delivery
 use Rattle.nodes.specs.declared.vl_end.VlEnd.{VlEnd}
 use Rattle.nodes.specs.declared.receiving.Receiving.{Receiving}
-use Rattle.nodes.specs.Sending.{Wish, Reply, silent, joined, loss}
+use Rattle.reverse.specs.Sending.{Wish, Reply, silent, joined, loss}
 use Rattle.nodes.specs.Ports.{PortsState, changed, exists, reply}
 use Rattle.nodes.specs.Finding.{place_of}
 use Rattle.nodes.specs.EndSystem.{EndSystemState, EndSystemOutcome, SourceAt, SinkAt, source_at, sink_at, numbers_of, is_on, port_of, copy, copied, copied_reply, released_out, released_reply, asked, full, regulated, offered_frame, check_of, received_reply, checked, delivered, taken, freed, end_system}

@@ -20,7 +20,6 @@ pub mod PortsLaws
 pub mod Reading
 pub mod RegulatorLaws
 pub mod Replies
-pub mod Sending
 pub mod SentLaws
 pub mod Simulation
 pub mod Switch

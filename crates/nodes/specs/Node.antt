@@ -2,7 +2,7 @@
 use Rattle.std.specs.Prelude.{ℕ, List, ◌∷◌}
 use Rattle.vlink.specs.declared.message.Message.{Message}
 use Rattle.vlink.specs.declared.note.Note.{Note}
-use Rattle.nodes.specs.Sending.{Wish, Reply, Sender, sent, after_sending}
+use Rattle.reverse.specs.Sending.{Wish, Reply, Sender, sent, after_sending}
 use Rattle.nodes.specs.EndSystem.{EndSystemState, EndSystemOutcome, end_system}
 use Rattle.nodes.specs.Switch.{SwitchState, SwitchOutcome, switch}
 use Rattle.nodes.specs.Line.{LineState, line}

@@ -14,7 +14,7 @@ use Rattle.bag_regulator.specs.declared.event.RegEvent.{RegEvent}
 use Rattle.nodes.specs.declared.ports.Wire.{Wire}
 use Rattle.nodes.specs.declared.part.Part.{Part}
 use Rattle.nodes.specs.declared.part.Part.TheVariants.{EndSystem, Switch, Line}
-use Rattle.nodes.specs.Sending.{Wish, Reply, loss}
+use Rattle.reverse.specs.Sending.{Wish, Reply, loss}
 use Rattle.nodes.specs.Ports.{PortsState}
 use Rattle.nodes.specs.Finding.{place_of}
 use Rattle.nodes.specs.EndSystem.{SourceAt, source_at, numbers_of}

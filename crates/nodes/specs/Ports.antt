@@ -11,7 +11,7 @@ use Rattle.output_port.specs.declared.event.PortEvent.TheVariants.{Put, Free}
 use Rattle.output_port.specs.declared.event.PortAnswer.{PortAnswer}
 use Rattle.output_port.specs.declared.event.PortAnswer.TheVariants as answer
 use Rattle.nodes.specs.declared.ports.Wire.{Wire}
-use Rattle.nodes.specs.Sending.{Wish, Reply, silent, loss}
+use Rattle.reverse.specs.Sending.{Wish, Reply, silent, loss}
 
 -- for each port number the line that the port leads into, if there is such a port, and the port
 pub record PortsState : Type 0 where

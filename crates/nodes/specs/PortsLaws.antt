@@ -13,7 +13,7 @@ use Rattle.output_port.specs.declared.event.PortEvent.TheVariants.{Put, Free}
 use Rattle.output_port.specs.declared.event.PortAnswer.{PortAnswer}
 use Rattle.output_port.specs.declared.event.PortAnswer.TheVariants as answer
 use Rattle.nodes.specs.declared.ports.Wire.{Wire}
-use Rattle.nodes.specs.Sending.{Wish, Reply, silent, loss}
+use Rattle.reverse.specs.Sending.{Wish, Reply, silent, loss}
 use Rattle.nodes.specs.Ports.{PortsState, changed, changed_at, wire_at, reply, reply_at, answered, start}
 use Rattle.nodes.specs.Undoing.{port_kept, kept_at, restored, restored_at}
 use Rattle.nodes.specs.Placed.{AllWires}

@@ -3,7 +3,7 @@ use Rattle.std.proofs.Common.{◌≡◌, ℕ, ◌+◌, ◌≤◌, [], length, Al
 use Rattle.std.proofs.lemmas.List.Elements.{All-nil, All-append}
 use Rattle.vlink.specs.declared.frame.Frame.{Frame}
 use Rattle.vlink.specs.declared.note.Cause.{Cause}
-use Rattle.nodes.specs.Sending.{Wish, Reply, silent, joined, loss}
+use Rattle.reverse.specs.Sending.{Wish, Reply, silent, joined, loss}
 
 -- nothing is sent, and one thing noted at most
 pub record IsQuiet (r : Reply) : Type 0 where

@@ -8,7 +8,7 @@ use Rattle.policer.specs.Account.{Policing, account}
 use Rattle.policer.specs.declared.account.Arrival.{Arrival}
 use Rattle.output_port.specs.declared.event.PortEvent.TheVariants.{Put, Free}
 use Rattle.nodes.specs.declared.kept.Kept.TheVariants as kept
-use Rattle.nodes.specs.Sending.{silent, loss}
+use Rattle.reverse.specs.Sending.{silent, loss}
 use Rattle.nodes.specs.Ports.{exists}
 use Rattle.nodes.specs.Finding.{place_of}
 use Rattle.nodes.specs.Switch.{SwitchState, TransitAt, transit_at, transit_with, numbers_of, policed, taken, put, switch}

@@ -14,7 +14,7 @@ use Rattle.policer.specs.declared.account.Verdict.TheVariants as verdict
 use Rattle.output_port.specs.declared.event.PortEvent.{PortEvent}
 use Rattle.output_port.specs.declared.event.PortEvent.TheVariants.{Put, Free}
 use Rattle.nodes.specs.declared.transit.Transit.{Transit}
-use Rattle.nodes.specs.Sending.{Wish, Reply, silent, loss}
+use Rattle.reverse.specs.Sending.{Wish, Reply, silent, loss}
 use Rattle.nodes.specs.Ports.{exists}
 use Rattle.nodes.specs.Switch.{SwitchState, SwitchOutcome, TransitAt, transit_at, transit_with, numbers_of, marked_from, outputs_of, forwarded, judged, policed, taken, put, at_port, switch}
 use Rattle.nodes.specs.Finding.{place_of}

@@ -3,7 +3,7 @@ ghost use Rattle.std.specs.Option.{option_copied, option_map};
 ghost use Rattle.vlink.specs.Numbering.{greatest_number};
 ghost use Rattle.vlink.specs.declared.note.Cause.TheVariants.{Unknown};
 ghost use Rattle.bag_regulator.specs.declared.event.RegEvent.TheVariants.{Offer};
-ghost use Rattle.nodes.specs.Sending.{replied};
+ghost use Rattle.reverse.specs.Sending.{replied};
 ghost use Rattle.nodes.specs.Ports.{port_at};
 ghost use Rattle.nodes.specs.EndSystem.{end_system, numbers_of, lost, offered_frame, regulated, taken, SinkAt, SourceAt, sink_at, source_at};
 ghost use Rattle.nodes.specs.EndSystemUndoing.{end_system_kept, end_system_restored, regulated_kept, taken_kept, unfreed, unregulated, untaken, EndSystemCameFrom, IsEndSystemValue, IsRegulatedValue};
@@ -12,7 +12,6 @@ ghost use Rattle.nodes.specs.EndSystemParts.{ArrivedCameFrom, FreedCameFrom, Reg
 use crate::kept::Kept;
 use crate::networks::is_on;
 use crate::numbers::Numbers;
-use crate::outbound::Outbound;
 use crate::ports::Ports;
 use crate::receiving::Receiving;
 use crate::sending::{lose_offered, regulate};
@@ -20,6 +19,7 @@ use crate::taking_back::take_back;
 use crate::vl_end::VlEnd;
 use bag_regulator::{BagRegulator, RegEvent};
 use output_port::{Port, PortEvent};
+use reverse::Outbound;
 use std::marker::Model;
 use vlink::{Body, Cause, Frame, FrameSize, Message, Net, Time, VlId};
 

@@ -10,7 +10,6 @@ mod networks;
 mod node;
 mod numbers;
 mod opening;
-mod outbound;
 mod part;
 mod ports;
 mod receiving;

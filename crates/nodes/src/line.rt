@@ -1,11 +1,11 @@
 ghost use Rattle.std.specs.Prelude.{◌≡◌, ◌+◌, ◌<◌, ◌≤◌, length};
 ghost use Rattle.std.specs.List.{list_any};
 ghost use Rattle.vlink.specs.Numbering.{greatest_number};
-ghost use Rattle.nodes.specs.Sending.{replied};
+ghost use Rattle.reverse.specs.Sending.{replied};
 ghost use Rattle.nodes.specs.Line.{carried, is_within, line};
 
-use crate::outbound::Outbound;
 use netdesc::Outage;
+use reverse::Outbound;
 use std::marker::Model;
 use vlink::{Body, Cause, Frame, Message, Time};
 

@@ -1,15 +1,17 @@
-ghost use Rattle.std.specs.Prelude.{◌≡◌, ◌<◌};
+ghost use Rattle.std.specs.Prelude.{◌≡◌, ◌+◌, ◌<◌, ◌≤◌};
 ghost use Rattle.vlink.specs.declared.time.TheConstants.{GREATEST_NS};
 ghost use Rattle.std.specs.Option.{option_copied};
+ghost use Rattle.vlink.specs.Numbering.{greatest_number};
+ghost use Rattle.nodes.specs.Node.{after, sends, notes};
+ghost use Rattle.nodes.specs.NodeUndoing.{node, IsNodeValue};
 ghost use Rattle.nodes.specs.Placed.{IsPlacedPart};
 ghost use Rattle.nodes.specs.Reading.{port_in, regulator_in};
 
 use crate::kept::Kept;
-use crate::outbound::Outbound;
 use crate::part::Part;
 use bag_regulator::BagRegulator;
 use output_port::Port;
-use reverse::{Actor, Reversible, Sends};
+use reverse::{Actor, Outbound, Reversible, Sends};
 use std::marker::Model;
 use vlink::{Message, Time, VlId};
 
@@ -59,6 +61,25 @@ impl Node {
         }
     }
 
+    /// Handles a message, and leaves in `out` what the node sends and notes, in place of what was there. The answer is the record by which
+    /// the message is taken back.
+    fn step(&mut self, event: &Message, out: &mut Outbound) -> NodeRecord
+        requires { self.old.sender.counter + 24 ≤ greatest_number }
+        ensures state { self.new ≡ after self.old event.now }
+        ensures messages { out.new.messages ≡ sends self.old event.now }
+        ensures notes { out.new.notes ≡ notes self.old event.now }
+        ensures saved { result ≡ node.saves self.old event.now }
+        ensures valid { IsNodeValue self.old event.now }
+    {
+        out.open(self.number, self.until, self.counter);
+        let kept = self.part.handle(event, out);
+        self.counter = out.counter();
+        NodeRecord {
+            sends: out.messages().len() as u8,
+            kept,
+        }
+    }
+
     /// The number of the next message that the node sends.
     pub fn counter(&self) -> u64
         ensures { result ≡ self.now.sender.counter }
@@ -103,11 +124,8 @@ impl Reversible for Node {
 
     fn apply(&mut self, event: &Message) -> (Sends, NodeRecord) {
         let mut out = Outbound::new(self.number, self.until, self.counter);
-        let kept = self.part.handle(event, &mut out);
-        let (sends, counter) = out.close();
-        self.counter = counter;
-        let count = sends.messages.len() as u8;
-        (sends, NodeRecord { sends: count, kept })
+        let kept = self.step(event, &mut out);
+        (out.close(), kept)
     }
 
     fn undo(&mut self, event: &Message, kept: NodeRecord) {
@@ -157,5 +175,9 @@ impl Actor for Node {
 
     fn has_numbers(&self) -> bool {
         self.counter <= (1 << 62) - 24
+    }
+
+    fn handle(&mut self, event: &Message, out: &mut Outbound) -> NodeRecord {
+        self.step(event, out)
     }
 }

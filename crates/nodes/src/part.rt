@@ -2,17 +2,17 @@ ghost use Rattle.std.specs.Prelude.{◌≡◌, ℕ, ◌+◌, ◌≤◌, []};
 ghost use Rattle.vlink.specs.Numbering.{greatest_number};
 ghost use Rattle.std.specs.Option.{option_copied};
 ghost use Rattle.nodes.specs.Reading.{port_in, regulator_in};
-ghost use Rattle.nodes.specs.Sending.{replied};
+ghost use Rattle.reverse.specs.Sending.{replied};
 ghost use Rattle.nodes.specs.Node.{handled};
 ghost use Rattle.nodes.specs.NodeUndoing.{part_kept, part_restored, PartCameFrom, IsPartValue};
 
 use crate::end_system::EndSystem;
 use crate::kept::Kept;
 use crate::line::Line;
-use crate::outbound::Outbound;
 use crate::switch::Switch;
 use bag_regulator::BagRegulator;
 use output_port::Port;
+use reverse::Outbound;
 use vlink::{Message, VlId};
 
 /// What a node is.

@@ -1,13 +1,12 @@
 ghost use Rattle.std.specs.Prelude.{◌≡◌, ◌+◌, ◌<◌, ◌≤◌, length};
 ghost use Rattle.std.specs.Option.{option_copied};
 ghost use Rattle.vlink.specs.Numbering.{greatest_number};
-ghost use Rattle.nodes.specs.Sending.{replied};
+ghost use Rattle.reverse.specs.Sending.{replied};
 ghost use Rattle.nodes.specs.Ports.{answered, changed, exists, port_at, reply, start, wire_at};
 ghost use Rattle.nodes.specs.Undoing.{port_kept, restored, IsPortValue, PortCameFrom};
 
-use crate::outbound::Outbound;
 use output_port::{Port, PortAnswer, PortEvent, PortRecord};
-use reverse::Reversible;
+use reverse::{Outbound, Reversible};
 use std::marker::Model;
 use vlink::{Body, Cause, Frame, Time, busy_ns, last_bit_ns};
 

@@ -1,16 +1,15 @@
 ghost use Rattle.std.specs.Prelude.{◌≡◌, ◌<◌, length};
 ghost use Rattle.integrity.specs.Integrity.{integrity};
 ghost use Rattle.integrity.specs.declared.checking.Check.TheVariants.{Passed};
-ghost use Rattle.nodes.specs.Sending.{replied};
+ghost use Rattle.reverse.specs.Sending.{replied};
 ghost use Rattle.nodes.specs.EndSystem.{check_of, checked, received, received_reply, redundant, with_check};
 ghost use Rattle.nodes.specs.EndSystemUndoing.{delivery_kept, unreceived};
 ghost use Rattle.nodes.specs.EndSystemParts.{ReceivedCameFrom};
 
 use crate::kept::Kept;
-use crate::outbound::Outbound;
 use integrity::{Check, Integrity};
 use redundancy::{Delivery, Received, Redundancy};
-use reverse::Reversible;
+use reverse::{Outbound, Reversible};
 use vlink::{Cause, Frame, Net, Note, Time};
 
 /// What checks the frames of one virtual link at a receiver: integrity checking on each network, and then redundancy

@@ -4,18 +4,17 @@ ghost use Rattle.vlink.specs.Numbering.{greatest_number};
 ghost use Rattle.vlink.specs.declared.frame.Frame.{Frame};
 ghost use Rattle.bag_regulator.specs.declared.event.RegAnswer.TheVariants.{Released};
 ghost use Rattle.bag_regulator.specs.Regulator.{regulator as plain, IsRegulator};
-ghost use Rattle.nodes.specs.Sending.{joined, replied};
+ghost use Rattle.reverse.specs.Sending.{joined, replied};
 ghost use Rattle.nodes.specs.EndSystem.{asked, copied, copy, copied_reply, full, lost, released_out, released_reply};
 ghost use Rattle.nodes.specs.EndSystemUndoing.{copied_kept, regulated_kept_by, AreCopiesValues, IsCopyValue};
 
 use crate::kept::Kept;
 use crate::networks::{is_on, port_of};
-use crate::outbound::Outbound;
 use crate::ports::Ports;
 use crate::vl_end::VlEnd;
 use bag_regulator::{BagRegulator, RegAnswer, RegEvent, RegRecord};
 use output_port::{PortEvent, PortRecord, Priority};
-use reverse::Reversible;
+use reverse::{Outbound, Reversible};
 use vlink::{Body, Cause, Frame, Net, Time, VlId};
 
 /// Asks a regulator to do something. A frame that finds its queue full is lost, the Release that it asks for is sent, and

@@ -3,19 +3,18 @@ ghost use Rattle.std.specs.Option.{option_copied, option_map};
 ghost use Rattle.vlink.specs.Numbering.{greatest_number};
 ghost use Rattle.vlink.specs.declared.message.Body.TheVariants as body;
 ghost use Rattle.nodes.specs.declared.kept.Kept.TheVariants as saved;
-ghost use Rattle.nodes.specs.Sending.{replied};
+ghost use Rattle.reverse.specs.Sending.{replied};
 ghost use Rattle.nodes.specs.Ports.{port_at};
 ghost use Rattle.nodes.specs.Switch.{numbers_of, forwarded, judged, outputs_of, switch, taken, put, TransitAt, transit_at};
 ghost use Rattle.nodes.specs.SwitchUndoing.{taken_kept, put_kept, switch_kept, switch_restored, unported, unpoliced, SwitchCameFrom, IsSwitchValue, IsTakenValue, IsPutValue};
 
 use crate::kept::Kept;
 use crate::numbers::Numbers;
-use crate::outbound::Outbound;
 use crate::ports::Ports;
 use crate::transit::Transit;
 use output_port::{Port, PortEvent, PortRecord, Priority};
 use policer::{Account, AccountRecord, Arrival, Verdict};
-use reverse::Reversible;
+use reverse::{Outbound, Reversible};
 use std::marker::Model;
 use vlink::{Body, Cause, Frame, Message, Time, VlId};
 

@@ -1,5 +1,6 @@
 ghost use Rattle.std.specs.Prelude.{◌≡◌, ◌+◌, ◌<◌, ◌≤◌, ◌-◌, List, [], ◌∷◌, ◌++◌, ◌↔◌, length, map, take, drop, reverse, vec_len, vec_capacity, IsTrue, OnOk, OnErr, IfErr, slice_get};
 ghost use Rattle.std.specs.Option.{option_map, option_copied};
+ghost use Rattle.std.specs.VecDeque.{deque_len, deque_capacity};
 ghost use Rattle.vlink.specs.declared.message.Message.{Message};
 ghost use Rattle.vlink.specs.Numbering.{greatest_number};
 ghost use Rattle.virtual_time.specs.Rules.{reached};
@@ -12,6 +13,7 @@ use crate::order::is_before;
 use antimessages::{OutOfMemory, Outbox};
 use reverse::{Actor, actor_rules};
 use std::alloc::Global;
+use std::collections::VecDeque;
 use std::marker::Model;
 use vlink::{Letter, Message, Note, Row, Sign, Time};
 
@@ -29,8 +31,8 @@ pub(crate) struct Event<K: Copy> {
 #[derive(Drop)]
 pub(crate) struct Past<R: Actor> {
     pub(crate) actor: R,
-    pub(crate) done: Vec<Event<R::Record>>,
-    pub(crate) sends: Vec<Message>,
+    pub(crate) done: VecDeque<Event<R::Record>>,
+    pub(crate) sends: VecDeque<Message>,
     pub(crate) rows: Vec<Row>,
 }
 
@@ -50,8 +52,8 @@ impl<R: Actor> Past<R> {
     {
         Past {
             actor,
-            done: Vec::new(alloc),
-            sends: Vec::new(alloc),
+            done: VecDeque::new(alloc),
+            sends: VecDeque::new(alloc),
             rows: Vec::new(alloc),
         }
     }
@@ -74,14 +76,14 @@ impl<R: Actor> Past<R> {
     pub(crate) fn oldest(&self) -> Option<Event<R::Record>>
         ensures { result ≡ slice_get self.now.done 0 }
     {
-        self.done.first().copied()
+        self.done.front().copied()
     }
 
     /// The moment of the oldest done event, if there is one.
     pub(crate) fn oldest_time(&self) -> Option<Time>
         ensures { result ≡ option_map (λ e. e.message.time) (slice_get self.now.done 0) }
     {
-        match self.done.first() {
+        match self.done.front() {
             Some(event) => Some(event.message.time),
             None => None,
         }
@@ -105,7 +107,7 @@ impl<R: Actor> Past<R> {
     pub(crate) fn newest(&self) -> Option<&Message>
         ensures { option_copied result ≡ newest_of (map (λ e. e.message) self.now.done) }
     {
-        match self.done.last() {
+        match self.done.back() {
             Some(event) => Some(&event.message),
             None => None,
         }
@@ -139,7 +141,7 @@ impl<R: Actor> Past<R> {
         self.rows.reserve(2)?;
         outbox.reserve(24)?;
         let (sends, kept) = self.actor.apply(message);
-        self.done.push_reserved(Event {
+        self.done.push_back_reserved(Event {
             message: *message,
             kept,
             sent: sends.messages.len() as u8,
@@ -162,21 +164,23 @@ impl<R: Actor> Past<R> {
             result ≡ length ((rules_of R.plain R.counter).notes start e) }
         ensures state { self.new.state ≡ self.old.state }
     {
-        let event = self.done.remove(0);
+        let Some(event) = self.done.pop_front() else {
+            return 0;
+        };
         forget_first(&mut self.sends, usize::from(event.sent));
         event.noted
     }
 }
 
 /// The messages go behind those that were sent, and as letters to the outbox. There is room for them.
-fn send_all(sends: &mut Vec<Message>, outbox: &mut Outbox, messages: &[Message])
-    requires room { vec_len sends.old + length messages.now ≤ vec_capacity sends.old }
+fn send_all(sends: &mut VecDeque<Message>, outbox: &mut Outbox, messages: &[Message])
+    requires room { deque_len sends.old + length messages.now ≤ deque_capacity sends.old }
     requires outbox_room { length messages.now ≤ outbox.old.room }
     ensures sends { sends.new.items ≡ sends.old.items ++ messages.now }
     ensures outbox { outbox.new.letters ≡ outbox.old.letters ++ map plus_of messages.now }
 {
     for message in messages {
-        sends.push_reserved(*message);
+        sends.push_back_reserved(*message);
         let _room = outbox.push(Letter {
             message: *message,
             sign: Sign::Plus,
@@ -199,11 +203,11 @@ fn note_all(rows: &mut Vec<Row>, message: &Message, notes: &[Note])
 }
 
 /// The first messages that were sent, so many, are forgotten.
-fn forget_first(sends: &mut Vec<Message>, count: usize)
-    requires { count ≤ vec_len sends.old }
+fn forget_first(sends: &mut VecDeque<Message>, count: usize)
+    requires { count ≤ deque_len sends.old }
     ensures { sends.new.items ≡ drop count sends.old.items }
 {
-    let left = sends.len() - count;
-    sends.rotate_left(count);
-    sends.truncate(left);
+    for forgotten in 0..count {
+        let _message = sends.pop_front();
+    }
 }

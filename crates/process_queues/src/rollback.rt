@@ -1,5 +1,6 @@
 //! Undoing what a process has done, the newest event first.
-ghost use Rattle.std.specs.Prelude.{◌≡◌, ◌+◌, ◌≤◌, ◌-◌, List, [], ◌∷◌, ◌++◌, length, map, take, drop, reverse, vec_len};
+ghost use Rattle.std.specs.Prelude.{◌≡◌, ◌+◌, ◌≤◌, ◌-◌, List, [], ◌∷◌, ◌++◌, length, map, take, drop, reverse};
+ghost use Rattle.std.specs.VecDeque.{deque_len};
 ghost use Rattle.vlink.specs.declared.message.Message.{Message};
 ghost use Rattle.virtual_time.specs.Rules.{reached};
 ghost use Rattle.virtual_time.specs.Letters.{minus_of};
@@ -10,6 +11,7 @@ ghost use Rattle.process_queues.specs.Past.{Rows, IsPastOf, LastDone, BelongsTo}
 use crate::past::Past;
 use antimessages::Outbox;
 use reverse::{Actor, actor_rules};
+use std::collections::VecDeque;
 use vlink::{Letter, Message, Sign};
 
 impl<R: Actor> Past<R> {
@@ -43,7 +45,7 @@ impl<R: Actor> Past<R> {
             mut done,
             ..
         } = self;
-        while let Some(event) = done.pop() {
+        while let Some(event) = done.pop_back() {
             actor.undo(&event.message, event.kept);
         }
         actor
@@ -64,7 +66,7 @@ impl<R: Actor> Past<R> {
         ensures fewer { length self.new.done + 1 ≡ length self.old.done }
     {
         actor_rules::<R>();
-        if let Some(event) = self.done.pop() {
+        if let Some(event) = self.done.pop_back() {
             self.actor.undo(&event.message, event.kept);
             take_back(&mut self.sends, outbox, usize::from(event.sent));
             let rows = self.rows.len() - usize::from(event.noted);
@@ -74,11 +76,11 @@ impl<R: Actor> Past<R> {
 }
 
 /// The last messages that were sent, so many, go to the outbox as antimessages, the last first. There is room for them.
-fn take_back(sends: &mut Vec<Message>, outbox: &mut Outbox, count: usize)
-    requires enough { count ≤ vec_len sends.old }
+fn take_back(sends: &mut VecDeque<Message>, outbox: &mut Outbox, count: usize)
+    requires enough { count ≤ deque_len sends.old }
     requires room { count ≤ outbox.old.room }
-    ensures sends { sends.new.items ≡ take (vec_len sends.old - count) sends.old.items }
-    ensures outbox { outbox.new.letters ≡ outbox.old.letters ++ map minus_of (reverse (drop (vec_len sends.old - count) sends.old.items)) }
+    ensures sends { sends.new.items ≡ take (deque_len sends.old - count) sends.old.items }
+    ensures outbox { outbox.new.letters ≡ outbox.old.letters ++ map minus_of (reverse (drop (deque_len sends.old - count) sends.old.items)) }
     ensures room { outbox.old.room ≤ outbox.new.room + count }
 {
     let all = sends.len();

@@ -3,6 +3,7 @@ ghost use Rattle.vlink.specs.declared.message.Message.{Message};
 ghost use Rattle.vlink.specs.Numbering.{greatest_number};
 ghost use Rattle.virtual_time.specs.Lists.{IsNumbered};
 
+use crate::outbound::Outbound;
 use crate::reversible::Reversible;
 use crate::sends::Sends;
 use vlink::{GREATEST_NS, Message, Time};
@@ -35,6 +36,21 @@ pub trait Actor: Reversible<Event = Message, Out = Sends> {
     /// Whether the sender has numbers left for all that one event can send.
     fn has_numbers(&self) -> bool
         ensures { IsTrue result ↔ (counter self.now + 24 ≤ greatest_number) };
+
+    /// Handles the event just as `apply` does, and leaves in `out` what it sends and notes, in place of what was there. So a caller that
+    /// handles one event after another makes the room for what is sent once.
+    fn handle(&mut self, event: &Message, out: &mut Outbound) -> Self::Record
+        requires { Self.can_apply self.old }
+        ensures state { self.new ≡ Self.plain.after self.old event.now }
+        ensures messages { out.new.messages ≡ (Self.plain.out self.old event.now).messages.items }
+        ensures notes { out.new.notes ≡ (Self.plain.out self.old event.now).notes.items }
+        ensures saved { result ≡ Self.plain.saves self.old event.now }
+        ensures valid { Self.is_value self.old event.now }
+    {
+        let (sends, kept) = self.apply(event);
+        out.hold(sends);
+        kept
+    }
 
     /// Nothing but numbers is asked for.
     ghost numbers_suffice: { (s : Self) → counter s + 24 ≤ greatest_number → Self.can_apply s };

@@ -3,12 +3,14 @@
 
 mod actor;
 mod events;
+mod outbound;
 mod reversible;
 mod rules;
 mod sends;
 
 pub use actor::Actor;
 pub use events::{act_and_undo, forth_and_back};
+pub use outbound::Outbound;
 pub use reversible::Reversible;
 pub use rules::actor_rules;
 pub use sends::Sends;

@@ -12,9 +12,9 @@ ghost use Rattle.seqsim.specs.Load.{load};
 
 use crate::fault::SimFault;
 use crate::waiting::Waiting;
-use reverse::{Actor, Sends, actor_rules};
+use reverse::{Actor, Outbound, actor_rules};
 use std::alloc::Global;
-use vlink::{GREATEST_NS, Message, Note, Row};
+use vlink::{GREATEST_NS, Message, Note, Row, Time};
 
 /// What an actor sends is later than its cause, and not after the greatest moment.
 ///
@@ -27,24 +27,28 @@ fn in_limits<A: Actor>(actor: &A)
     let _end = actor.until();
 }
 
-/// The receiver handles the message, if it has numbers left for all that it can send.
-fn act<A: Actor>(actors: &mut [A], message: &Message) -> Option<Sends>
+/// The receiver handles the message, if it has numbers left for all that it can send: then `out` has what it sends and notes. The answer
+/// is whether it had them.
+fn act<A: Actor>(actors: &mut [A], message: &Message, out: &mut Outbound) -> bool
     requires { message.now.receiver < length actors.old }
-    ensures sends { IfSome result (λ sends. (s : A) → slice_get actors.old message.now.receiver ≡ Some s → sends ≡ A.plain.out s message.now) }
-    ensures state { IfSome result (λ sends. (s : A) → slice_get actors.old message.now.receiver ≡ Some s →
-        actors.new ≡ set actors.old message.now.receiver (A.plain.after s message.now)) }
-    ensures later { IfSome result (λ sends. All (λ m. message.now.time < m.time) sends.messages.items) }
-    ensures in_limits { IfSome result (λ sends. All (λ m. m.time ≤ GREATEST_NS) sends.messages.items) }
-    ensures unchanged { IfNone result (actors.new ≡ actors.old) }
-    ensures exhausted { IfNone result ((s : A) → slice_get actors.old message.now.receiver ≡ Some s → greatest_number < A.counter s + 24) }
+    ensures messages { result ≡ true → (s : A) → slice_get actors.old message.now.receiver ≡ Some s →
+        out.new.messages ≡ (A.plain.out s message.now).messages.items }
+    ensures notes { result ≡ true → (s : A) → slice_get actors.old message.now.receiver ≡ Some s →
+        out.new.notes ≡ (A.plain.out s message.now).notes.items }
+    ensures state { result ≡ true → (s : A) → slice_get actors.old message.now.receiver ≡ Some s →
+        actors.new ≡ set actors.old message.now.receiver (A.plain.after s message.now) }
+    ensures later { result ≡ true → All (λ m. message.now.time < m.time) out.new.messages }
+    ensures in_limits { result ≡ true → All (λ m. m.time ≤ GREATEST_NS) out.new.messages }
+    ensures unchanged { result ≡ false → actors.new ≡ actors.old }
+    ensures exhausted { result ≡ false → (s : A) → slice_get actors.old message.now.receiver ≡ Some s → greatest_number < A.counter s + 24 }
 {
     let actor = &mut actors[usize::from(message.receiver)];
     if !actor.has_numbers() {
-        return None;
+        return false;
     }
     in_limits(actor);
-    let (sends, _kept) = actor.apply(message);
-    Some(sends)
+    let _kept = actor.handle(message, out);
+    true
 }
 
 /// The notes that the message's event gave go behind the rows.
@@ -63,11 +67,12 @@ fn note_all(rows: &mut Vec<Row>, message: &Message, notes: &[Note]) -> Result<()
 }
 
 /// The first waiting message, if there is one, is handled by its receiver: what it sends waits, and rows of what it notes go behind the
-/// others. The answer is whether there was one.
+/// others. `out` is room for what it sends and notes. The answer is whether there was one.
 fn take_turn<A: Actor>(
     actors: &mut [A],
     waiting: &mut Waiting,
     rows: &mut Vec<Row>,
+    out: &mut Outbound,
 ) -> Result<bool, SimFault>
     requires { IsRunning (rules_of A.plain A.counter) actors.old waiting.old rows.old.items }
     ensures turned { result ≡ Ok true → AtEach (rules_of A.plain A.counter) actors.old waiting.old rows.old.items
@@ -82,11 +87,11 @@ fn take_turn<A: Actor>(
     let Some(message) = waiting.pop() else {
         return Ok(false);
     };
-    let Some(sends) = act(actors, &message) else {
+    if !act(actors, &message, out) {
         return Err(SimFault::Exhausted);
-    };
-    waiting.push_all(sends.messages.as_slice())?;
-    note_all(rows, &message, sends.notes.as_slice())?;
+    }
+    waiting.push_all(out.messages())?;
+    note_all(rows, &message, out.notes())?;
     Ok(true)
 }
 
@@ -104,7 +109,8 @@ fn take_all_turns<A: Actor>(
     ensures left { OnErr result (AtEach (rules_of A.plain A.counter) actors.old waiting.old rows.old.items
         (λ f n. AreOnTheWay f actors.new)) }
 {
-    'turns: while take_turn(actors, waiting, rows)? {}
+    let mut out = Outbound::new(0, Time::default(), 0);
+    'turns: while take_turn(actors, waiting, rows, &mut out)? {}
     Ok(())
 }
 

@@ -2,7 +2,7 @@ use Rattle.std.proofs.Common.{◌++◌, List, ap, ◌∙◌}
 use Rattle.std.proofs.lemmas.List.{append-nil}
 use Rattle.vlink.specs.declared.note.Note.{Note}
 use Rattle.bag_regulator.specs.declared.event.RegOut.{RegOut}
-use Rattle.nodes.specs.Sending.{joined, replied, OutboundState}
+use Rattle.reverse.specs.Sending.{joined, replied, OutboundState}
 use Rattle.nodes.specs.EndSystem.{asked, full, released_reply}
 use Rattle.nodes.proofs.SendingLemmas.{replied-joined}
 use Rattle.nodes.proofs.EndSystemLemmas.{full-released, asked-quiet}

@@ -1,6 +1,6 @@
 use Rattle.std.proofs.Common.{ap, ◌∙◌, sym}
 use Rattle.vlink.specs.declared.frame.Net.TheVariants.{A, B}
-use Rattle.nodes.specs.Sending.{OutboundState, replied}
+use Rattle.reverse.specs.Sending.{OutboundState, replied}
 use Rattle.nodes.specs.Ports.{PortsState}
 use Rattle.nodes.specs.EndSystem.{copied_reply, released_reply}
 use Rattle.nodes.proofs.SendingLemmas.{replied-joined}

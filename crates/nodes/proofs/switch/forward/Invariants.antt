@@ -1,6 +1,6 @@
 use Rattle.std.proofs.Common.{◌≡◌, ◌+◌, ◌≤◌, ℕ, length, map, drop, []}
 use Rattle.vlink.specs.declared.message.Body.TheVariants.{Enqueue}
-use Rattle.nodes.specs.Sending.{replied}
+use Rattle.reverse.specs.Sending.{replied}
 use Rattle.nodes.specs.Switch.{forwarded, marked_from}
 use Rattle.nodes.proofs.switch.forward.Given as goal
 

@@ -1,4 +1,4 @@
-use Rattle.std.proofs.Common.{suc, ◌++◌, ◌∙◌, ap, sym, subst, length, List, IsPermutation, arith}
+use Rattle.std.proofs.Common.{refl, suc, ◌++◌, ◌∙◌, ap, sym, subst, length, List, IsPermutation, arith}
 use Rattle.vlink.specs.declared.message.Message.{Message}
 use Rattle.vlink.specs.declared.time.TheConstants.{GREATEST_NS}
 use Rattle.reverse.specs.Rules.{rules_of}
@@ -20,12 +20,12 @@ act-requires g c =
     let f = simulation_of (rules_of g.A.Reversible.plain g.A.Actor.counter) c.requires.0 in
     receiver_within f c.requires.1 c.requires.2 _ _ _ c.requires.3 c.in-Some.message c.pop.new.self c.in-Some.ensures.one c.in-Some.ensures.first
 
-pub returns-in_default-act-clause-exhausted : goal.returns-in_default-act-clause-exhausted
-returns-in_default-act-clause-exhausted g c = λ e x L n h.
+pub returns-then-not-act-clause-exhausted : goal.returns-then-not-act-clause-exhausted
+returns-then-not-act-clause-exhausted g c = λ e x L n h.
     let f = simulation_of (rules_of g.A.Reversible.plain g.A.Actor.counter) x in (
       c.in-Some.message,
       is_next f L n _ _ _ h c.in-Some.message c.pop.new.self c.in-Some.ensures.one c.in-Some.ensures.first,
-      c.in_default-act.ensures.exhausted _ (receiver_is f L n _ _ _ h c.in-Some.message c.pop.new.self c.in-Some.ensures.one c.in-Some.ensures.first),
+      c.if-not-act.ensures.exhausted refl _ (receiver_is f L n _ _ _ h c.in-Some.message c.pop.new.self c.in-Some.ensures.one c.in-Some.ensures.first),
     )
 
 pub returns-in_err-push_all-clause-left : goal.returns-in_err-push_all-clause-left
@@ -33,7 +33,7 @@ returns-in_err-push_all-clause-left g c = after-error (λ x L n h.
     let f = simulation_of (rules_of g.A.Reversible.plain g.A.Actor.counter) x in
     let r = receiver_is f L n _ _ _ h c.in-Some.message c.pop.new.self c.in-Some.ensures.one c.in-Some.ensures.first in (
       suc n,
-      states_after f L n _ _ _ h c.in-Some.message c.pop.new.self c.in-Some.ensures.one c.in-Some.ensures.first c.act.new.actors (c.in-Some-act.ensures.state _ r),
+      states_after f L n _ _ _ h c.in-Some.message c.pop.new.self c.in-Some.ensures.one c.in-Some.ensures.first c.act.new.actors (c.if-not-act.ensures.state refl _ r),
     ))
     c.from_residual.result
 
@@ -42,7 +42,7 @@ returns-in_err-note_all-clause-left g c = after-error (λ x L n h.
     let f = simulation_of (rules_of g.A.Reversible.plain g.A.Actor.counter) x in
     let r = receiver_is f L n _ _ _ h c.in-Some.message c.pop.new.self c.in-Some.ensures.one c.in-Some.ensures.first in (
       suc n,
-      states_after f L n _ _ _ h c.in-Some.message c.pop.new.self c.in-Some.ensures.one c.in-Some.ensures.first c.act.new.actors (c.in-Some-act.ensures.state _ r),
+      states_after f L n _ _ _ h c.in-Some.message c.pop.new.self c.in-Some.ensures.one c.in-Some.ensures.first c.act.new.actors (c.if-not-act.ensures.state refl _ r),
     ))
     c.from_residual-in_err-note_all.result
 
@@ -50,18 +50,17 @@ pub returns-clause-turned : goal.returns-clause-turned
 returns-clause-turned g c = λ e x L n h.
     let f = simulation_of (rules_of g.A.Reversible.plain g.A.Actor.counter) x in
     let r = receiver_is f L n _ _ _ h c.in-Some.message c.pop.new.self c.in-Some.ensures.one c.in-Some.ensures.first in
-    let out = c.in-Some-act.ensures.sends _ r in
     turned f L n _ _ _ h c.in-Some.message c.pop.new.self c.in-Some.ensures.one c.in-Some.ensures.first
-    c.act.new.actors c.as_slice.result.now c.as_slice-2.result.now c.push_all.new.self c.note_all.new.rows.items
-    (c.in-Some-act.ensures.state _ r)
-    (c.as_slice.ensures.value ∙ ap (λ z. z.messages.items) out)
-    (c.as_slice-2.ensures.value ∙ ap (λ z. z.notes.items) out)
+    c.act.new.actors c.messages.result.now c.notes.result.now c.push_all.new.self c.note_all.new.rows.items
+    (c.if-not-act.ensures.state refl _ r)
+    (c.messages.ensures.messages ∙ c.if-not-act.ensures.messages refl _ r)
+    (c.notes.ensures.notes ∙ c.if-not-act.ensures.notes refl _ r)
     c.in_ok-push_all.ensures.more
     c.in_ok-note_all.ensures.noted
 
 pub returns-clause-smaller : goal.returns-clause-smaller
 returns-clause-smaller g c = λ e.
-    load-falls GREATEST_NS c.in-Some.message _ c.pop.new.self c.in-Some-act.sends.messages.items _ c.in-Some.ensures.one
-    (subst (λ (sent : List Message). IsPermutation (c.pop.new.self ++ sent) c.push_all.new.self) c.as_slice.ensures.value c.in_ok-push_all.ensures.more)
-    c.in-Some-act.ensures.later c.in-Some-act.ensures.in_limits
-    (let a = c.as_slice.ensures.fits in let b = ap length c.as_slice.ensures.value in omega arith)
+    load-falls GREATEST_NS c.in-Some.message _ c.pop.new.self c.act.new.out.messages _ c.in-Some.ensures.one
+    (subst (λ (sent : List Message). IsPermutation (c.pop.new.self ++ sent) c.push_all.new.self) c.messages.ensures.messages c.in_ok-push_all.ensures.more)
+    (c.if-not-act.ensures.later refl) (c.if-not-act.ensures.in_limits refl)
+    (let a = c.messages.ensures.few in let b = ap length c.messages.ensures.messages in omega arith)

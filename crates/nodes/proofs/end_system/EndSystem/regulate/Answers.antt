@@ -1,7 +1,7 @@
 use Rattle.std.proofs.Common.{◌≡◌, Some, ap, ◌∙◌, sym, subst, slice_set}
 use Rattle.vlink.specs.declared.note.Cause.TheVariants.{Unknown}
 use Rattle.bag_regulator.specs.Regulator.{regulator}
-use Rattle.nodes.specs.Sending.{joined, replied}
+use Rattle.reverse.specs.Sending.{joined, replied}
 use Rattle.nodes.specs.EndSystem.{EndSystemState, asked, full, lost, regulated, released_out, released_reply, source_at}
 use Rattle.nodes.specs.EndSystemUndoing.{regulated_kept, regulated_kept_by, AreCopiesValues, IsRegulatedValue}
 use Rattle.nodes.proofs.EndSystemLemmas.{source-found}

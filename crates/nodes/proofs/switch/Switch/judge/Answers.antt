@@ -1,6 +1,6 @@
 use Rattle.std.proofs.Common.{◌≡◌, ◌≤◌, ◌<◌, ◌+◌, ℕ, Some, ap, ap₂, sym, ◌∙◌, subst, slice_get, slice_set, length, arith, rules}
 use Rattle.policer.specs.Account.{Policing, account}
-use Rattle.nodes.specs.Sending.{replied}
+use Rattle.reverse.specs.Sending.{replied}
 use Rattle.nodes.specs.Switch.{SwitchState, SwitchOutcome, TransitAt, transit_at, judged, outputs_of}
 use Rattle.nodes.specs.declared.kept.Kept.TheVariants as kept
 use Rattle.nodes.proofs.ListLemmas.{read-there}

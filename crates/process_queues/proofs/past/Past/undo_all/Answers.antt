@@ -21,8 +21,8 @@ undo-requires g c =
     let v = g.R.Reversible.is_value in
     let i = c.loop-event.invariant.some in
     let k = c.loop-event.invariant.left i.0 i.1 i.2 i.3 in
-    let l = has-last r v i.0 k.0 _ c.pop.new.self.items c.in-Some.event c.in-Some.ensures.items k.1 in
-    came-from r v i.0 l.0 [] l.1 _ c.pop.new.self.items c.in-Some.event l.2
+    let l = has-last r v i.0 k.0 _ c.pop_back.new.self.items c.in-Some.event c.in-Some.ensures.items k.1 in
+    came-from r v i.0 l.0 [] l.1 _ c.pop_back.new.self.items c.in-Some.event l.2
 
 pub loop-event-preserved : goal.loop-event-preserved
 loop-event-preserved g c =
@@ -31,8 +31,8 @@ loop-event-preserved g c =
     record {
       left = λ start ms earlier h.
           let k = c.loop-event.invariant.left start ms earlier h in
-          let l = has-last r v start k.0 _ c.pop.new.self.items c.in-Some.event c.in-Some.ensures.items k.1 in
-          (l.0, left-less r v start l.0 l.1 _ c.pop.new.self.items c.in-Some.event l.2 (λ z. c.actor_rules.ensures.undoes z l.1) c.undo.new.self c.undo.ensures);
+          let l = has-last r v start k.0 _ c.pop_back.new.self.items c.in-Some.event c.in-Some.ensures.items k.1 in
+          (l.0, left-less r v start l.0 l.1 _ c.pop_back.new.self.items c.in-Some.event l.2 (λ z. c.actor_rules.ensures.undoes z l.1) c.undo.new.self c.undo.ensures);
       some = c.loop-event.invariant.some;
     }
 

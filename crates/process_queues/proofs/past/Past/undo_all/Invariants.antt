@@ -1,4 +1,5 @@
-use Rattle.std.proofs.Common.{List, [], vec_len}
+use Rattle.std.proofs.Common.{List, []}
+use Rattle.std.specs.VecDeque.{deque_len}
 use Rattle.vlink.specs.declared.message.Message.{Message}
 use Rattle.virtual_time.specs.Rules.{sent, rowed}
 use Rattle.reverse.specs.Rules.{rules_of}
@@ -14,4 +15,4 @@ invariant-loop-event g l = record {
 }
 
 abbrev pub decreases-loop-event : goal.decreases-loop-event
-decreases-loop-event g l = vec_len l.done
+decreases-loop-event g l = deque_len l.done

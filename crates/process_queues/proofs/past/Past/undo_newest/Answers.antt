@@ -11,7 +11,7 @@ undo-requires g c =
     let r = rules_of g.R.Reversible.plain g.R.Actor.counter in
     let v = g.R.Reversible.is_value in
     let i = c.requires.some in
-    let l = came-last r v i.0 i.1 i.3 i.2 _ c.pop.new.self.items c.in-Some.event c.in-Some.ensures.items (subst (IsPastOf r v i.0 (i.1 ++ i.2 ∷ []) i.3) (sym c.self.view_is) i.4) in
+    let l = came-last r v i.0 i.1 i.3 i.2 _ c.pop_back.new.self.items c.in-Some.event c.in-Some.ensures.items (subst (IsPastOf r v i.0 (i.1 ++ i.2 ∷ []) i.3) (sym c.self.view_is) i.4) in
     let e : c.in-Some.event.message ≡ i.2 = ap (λ x. x.message) l.event_is in (
       _,
       subst (v _) (sym e) l.valid,
@@ -24,8 +24,8 @@ take_back-requires-clause-enough g c =
     let r = rules_of g.R.Reversible.plain g.R.Actor.counter in
     let v = g.R.Reversible.is_value in
     let i = c.requires.some in
-    let l = came-last r v i.0 i.1 i.3 i.2 _ c.pop.new.self.items c.in-Some.event c.in-Some.ensures.items (subst (IsPastOf r v i.0 (i.1 ++ i.2 ∷ []) i.3) (sym c.self.view_is) i.4) in
-    let b = (gives-last r v i.0 i.1 i.3 i.2 _ c.pop.new.self.items c.in-Some.event l).sent in
+    let l = came-last r v i.0 i.1 i.3 i.2 _ c.pop_back.new.self.items c.in-Some.event c.in-Some.ensures.items (subst (IsPastOf r v i.0 (i.1 ++ i.2 ∷ []) i.3) (sym c.self.view_is) i.4) in
+    let b = (gives-last r v i.0 i.1 i.3 i.2 _ c.pop_back.new.self.items c.in-Some.event l).sent in
     let n : c.from.result ≡ c.in-Some.event.sent = c.from.ensures in
     omega arith
 
@@ -34,8 +34,8 @@ take_back-requires-clause-room g c =
     let r = rules_of g.R.Reversible.plain g.R.Actor.counter in
     let v = g.R.Reversible.is_value in
     let i = c.requires.some in
-    let l = came-last r v i.0 i.1 i.3 i.2 _ c.pop.new.self.items c.in-Some.event c.in-Some.ensures.items (subst (IsPastOf r v i.0 (i.1 ++ i.2 ∷ []) i.3) (sym c.self.view_is) i.4) in
-    let b = (gives-last r v i.0 i.1 i.3 i.2 _ c.pop.new.self.items c.in-Some.event l).sent in
+    let l = came-last r v i.0 i.1 i.3 i.2 _ c.pop_back.new.self.items c.in-Some.event c.in-Some.ensures.items (subst (IsPastOf r v i.0 (i.1 ++ i.2 ∷ []) i.3) (sym c.self.view_is) i.4) in
+    let b = (gives-last r v i.0 i.1 i.3 i.2 _ c.pop_back.new.self.items c.in-Some.event l).sent in
     let n : c.from.result ≡ c.in-Some.event.sent = c.from.ensures in
     let s = ap (λ p. length p.sends) c.self.view_is in
     omega arith
@@ -45,8 +45,8 @@ overflow_sub-rows g c =
     let r = rules_of g.R.Reversible.plain g.R.Actor.counter in
     let v = g.R.Reversible.is_value in
     let i = c.requires.some in
-    let l = came-last r v i.0 i.1 i.3 i.2 _ c.pop.new.self.items c.in-Some.event c.in-Some.ensures.items (subst (IsPastOf r v i.0 (i.1 ++ i.2 ∷ []) i.3) (sym c.self.view_is) i.4) in
-    let b = (gives-last r v i.0 i.1 i.3 i.2 _ c.pop.new.self.items c.in-Some.event l).noted in
+    let l = came-last r v i.0 i.1 i.3 i.2 _ c.pop_back.new.self.items c.in-Some.event c.in-Some.ensures.items (subst (IsPastOf r v i.0 (i.1 ++ i.2 ∷ []) i.3) (sym c.self.view_is) i.4) in
+    let b = (gives-last r v i.0 i.1 i.3 i.2 _ c.pop_back.new.self.items c.in-Some.event l).noted in
     let n : c.from-in-Some.result ≡ c.in-Some.event.noted = c.from-in-Some.ensures in
     let m = length-map c.self.inside.rows.items seen_row in
     let k : c.len.result ≡ vec_len c.self.inside.rows = c.len.ensures in
@@ -56,12 +56,12 @@ pub returns-in-Some-clause-undone : goal.returns-in-Some-clause-undone
 returns-in-Some-clause-undone g c start ms e earlier h =
     let r = rules_of g.R.Reversible.plain g.R.Actor.counter in
     let v = g.R.Reversible.is_value in
-    let l = came-last r v start ms earlier e _ c.pop.new.self.items c.in-Some.event c.in-Some.ensures.items (subst (IsPastOf r v start (ms ++ e ∷ []) earlier) (sym c.self.view_is) h) in
+    let l = came-last r v start ms earlier e _ c.pop_back.new.self.items c.in-Some.event c.in-Some.ensures.items (subst (IsPastOf r v start (ms ++ e ∷ []) earlier) (sym c.self.view_is) h) in
     let m = length-map c.self.inside.rows.items seen_row in
     let k : c.len.result ≡ vec_len c.self.inside.rows = c.len.ensures in
     let n : c.from-in-Some.result ≡ c.in-Some.event.noted = c.from-in-Some.ensures in
     let s : c.from.result ≡ c.in-Some.event.sent = c.from.ensures in
-    past-less r v start ms earlier e _ _ c.pop.new.self.items c.in-Some.event l (λ z. c.actor_rules.ensures.undoes z e) c.undo.ensures refl
+    past-less r v start ms earlier e _ _ c.pop_back.new.self.items c.in-Some.event l (λ z. c.actor_rules.ensures.undoes z e) c.undo.ensures refl
     (c.take_back.ensures.sends ∙ ap (λ x. take x c.self.inside.sends.items) (omega arith))
     (ap (map seen_row) c.truncate.ensures.items ∙ (sym (take-map seen_row _ c.self.inside.rows.items) ∙
     ap (λ x. take x (map seen_row c.self.inside.rows.items)) (omega arith)))
@@ -70,11 +70,11 @@ pub returns-in-Some-clause-sent : goal.returns-in-Some-clause-sent
 returns-in-Some-clause-sent g c start ms e earlier h =
     let r = rules_of g.R.Reversible.plain g.R.Actor.counter in
     let v = g.R.Reversible.is_value in
-    let l = came-last r v start ms earlier e _ c.pop.new.self.items c.in-Some.event c.in-Some.ensures.items (subst (IsPastOf r v start (ms ++ e ∷ []) earlier) (sym c.self.view_is) h) in
+    let l = came-last r v start ms earlier e _ c.pop_back.new.self.items c.in-Some.event c.in-Some.ensures.items (subst (IsPastOf r v start (ms ++ e ∷ []) earlier) (sym c.self.view_is) h) in
     let s : c.from.result ≡ c.in-Some.event.sent = c.from.ensures in
     c.take_back.ensures.outbox ∙
     ap (λ z. c.args.outbox.now.letters ++ map minus_of (reverse z))
-    (ap (λ x. drop x c.self.inside.sends.items) (omega arith) ∙ (gives-last r v start ms earlier e _ c.pop.new.self.items c.in-Some.event l).sends)
+    (ap (λ x. drop x c.self.inside.sends.items) (omega arith) ∙ (gives-last r v start ms earlier e _ c.pop_back.new.self.items c.in-Some.event l).sends)
 
 pub returns-in_default-clause-undone : goal.returns-in_default-clause-undone
 returns-in_default-clause-undone g c start ms e earlier h =

@@ -1,4 +1,4 @@
--- What a node sends and notes at one event.
+-- What a process sends and notes at one event.
 use Rattle.std.specs.Prelude.{ℕ, ◌+◌, if◌then◌else◌, nat_le, List, [], ◌∷◌, ◌++◌, length}
 use Rattle.vlink.specs.declared.frame.Frame.{Frame}
 use Rattle.vlink.specs.declared.frame.FrameSize.{FrameSize}

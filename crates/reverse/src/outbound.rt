@@ -1,12 +1,13 @@
 ghost use Rattle.std.specs.Prelude.{◌≡◌, ◌+◌, ◌<◌, ◌≤◌, ◌^◌, [], ◌∷◌, ◌++◌, length};
 ghost use Rattle.vlink.specs.Numbering.{greatest_number};
-ghost use Rattle.nodes.specs.Sending.{loss, replied};
+ghost use Rattle.reverse.specs.Sending.{loss, replied};
 
-use reverse::Sends;
+use crate::sends::Sends;
 use std::marker::Model;
 use vlink::{Body, Cause, Frame, Message, Note, Time};
 
-/// What one event makes a process send and note.
+/// What one event makes a process send and note. It can be used again for the next event, so that no event copies the room for all that
+/// one event can send.
 ///
 /// Clauses see the sender, with the number of its next message, and the messages and notes so far.
 #[derive(Drop)]
@@ -18,7 +19,7 @@ pub struct Outbound {
 }
 
 impl Model for Outbound {
-    ghost use Rattle.nodes.specs.Sending.{OutboundState};
+    ghost use Rattle.reverse.specs.Sending.{OutboundState};
 
     ghost Value = { OutboundState };
 
@@ -44,11 +45,56 @@ impl Outbound {
         }
     }
 
+    /// Forgets what was sent and noted, for an event of the process with this number, whose next message has the number `counter`.
+    pub fn open(&mut self, number: u16, until: Time, counter: u64)
+        ensures sender { self.new.sender ≡ record { number = number; until = until; counter = counter } }
+        ensures messages { self.new.messages ≡ [] }
+        ensures notes { self.new.notes ≡ [] }
+    {
+        self.number = number;
+        self.until = until;
+        self.counter = counter;
+        self.sends.messages.clear();
+        self.sends.notes.clear();
+    }
+
+    /// Holds what was sent and noted, in place of what it held.
+    pub fn hold(&mut self, sends: Sends)
+        ensures sender { self.new.sender ≡ self.old.sender }
+        ensures messages { self.new.messages ≡ sends.messages.items }
+        ensures notes { self.new.notes ≡ sends.notes.items }
+    {
+        self.sends = sends;
+    }
+
     /// The number of the process.
     pub fn number(&self) -> u16
         ensures { result ≡ self.now.sender.number }
     {
         self.number
+    }
+
+    /// The number of the next message.
+    pub fn counter(&self) -> u64
+        ensures { result ≡ self.now.sender.counter }
+    {
+        self.counter
+    }
+
+    /// The messages sent, in the order of their numbers.
+    pub fn messages(&self) -> &[Message]
+        ensures messages { result.now ≡ self.now.messages }
+        ensures few { length result.now ≤ 24 }
+    {
+        self.sends.messages.as_slice()
+    }
+
+    /// The notes, in their order.
+    pub fn notes(&self) -> &[Note]
+        ensures notes { result.now ≡ self.now.notes }
+        ensures few { length result.now ≤ 2 }
+    {
+        self.sends.notes.as_slice()
     }
 
     /// Sends a message for the moment `ns`, unless that is after the end of the run.
@@ -91,12 +137,11 @@ impl Outbound {
         });
     }
 
-    /// All that was sent and noted, and the number of the next message.
-    pub fn close(self) -> (Sends, u64)
-        ensures messages { result.0.messages.items ≡ self.messages }
-        ensures notes { result.0.notes.items ≡ self.notes }
-        ensures counter { result.1 ≡ self.sender.counter }
+    /// All that was sent and noted.
+    pub fn close(self) -> Sends
+        ensures messages { result.messages.items ≡ self.messages }
+        ensures notes { result.notes.items ≡ self.notes }
     {
-        (self.sends, self.counter)
+        self.sends
     }
 }
