@@ -2,6 +2,8 @@
 #![tactic(auto)]
 
 #[cfg(test)]
+mod commit_tests;
+#[cfg(test)]
 mod pool_tests;
 #[cfg(test)]
 mod process_tests;
