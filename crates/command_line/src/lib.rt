@@ -1,0 +1,5 @@
+#![tactic(auto)]
+
+mod orders;
+
+pub use orders::{Check, Order, Replay, Run, Seq};
