@@ -5,7 +5,7 @@ use Rattle.std.specs.Result.{result_ok}
 use Rattle.std.specs.Str.Parse.{ParsesUnsigned, digits_value, without_leading_plus}
 use Rattle.clap.specs.Words.{Text}
 use Rattle.clap.specs.Matches.{TriesOne}
-use Rattle.command_line.specs.Ordering.{IsNumberOf}
+use Rattle.command_line.specs.Meaning.{IsNumberOf}
 
 -- a text has been read as a number
 read_number : (E : Type 0) (G : Text → Result ℕ E → Type 0) (text : Text) (found : Option ℕ) →

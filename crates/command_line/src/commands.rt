@@ -1,7 +1,7 @@
 //! The order that a command's values make.
 ghost use Rattle.std.specs.Prelude.{◌≡◌, IfOk, IfSome};
 ghost use Rattle.clap.specs.Words.{found_of, rows_of};
-ghost use Rattle.command_line.specs.Ordering.{HasDefaults, IsWithinLimits, Names, NamesCheck, NamesReplay, NamesRun, NamesSeq, RunDefaults, RunLimits, command_of};
+ghost use Rattle.command_line.specs.Meaning.{HasDefaults, IsWithinLimits, Names, NamesCheck, NamesReplay, NamesRun, NamesSeq, RunDefaults, RunLimits, command_of};
 
 use crate::orders::{Check, Order, Replay, Run, Seq};
 use crate::paces::{

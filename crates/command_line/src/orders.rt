@@ -3,9 +3,13 @@
 /// A command of the program.
 #[derive(Debug, PartialEq, Eq, Drop)]
 pub enum Order {
+    /// `check NET`.
     Check(Check),
+    /// `seq NET [--trace FILE]`.
     Seq(Seq),
+    /// `run NET [--workers N] [--turn N] [--window NS] [--journal FILE] [--trace FILE]`.
     Run(Run),
+    /// `replay NET STEPS`.
     Replay(Replay),
 }
 

@@ -2,7 +2,7 @@
 ghost use Rattle.std.specs.Prelude.{◌≡◌, ◌≤◌, None, IfOk, IfSome, option_map};
 ghost use Rattle.std.specs.String.{string_bytes};
 ghost use Rattle.clap.specs.Words.{found_of, first_of, one_of, rows_of};
-ghost use Rattle.command_line.specs.Ordering.{IsNumberOf};
+ghost use Rattle.command_line.specs.Meaning.{IsNumberOf};
 
 use clap::ArgMatches;
 use std::alloc::{AllocError, Global};

@@ -1,7 +1,7 @@
 //! The words that the program is called with.
 ghost use Rattle.std.specs.Prelude.{◌≡◌, IfOk, Some, map};
 ghost use Rattle.clap.specs.Words.{FailsBy, fault_of};
-ghost use Rattle.command_line.specs.Ordering.{HasDefaults, IsWithinLimits, Names, command_in, command_of, rows_in};
+ghost use Rattle.command_line.specs.Meaning.{HasDefaults, IsWithinLimits, Names, command_in, command_of, rows_in};
 ghost use Rattle.command_line.specs.Program.{program};
 
 use crate::commands::order_of;

@@ -2,7 +2,7 @@ use Rattle.std.proofs.Common.{◌≡◌, ◌∙◌, None, subst}
 use Rattle.std.specs.Str.Parse.{ParsesUnsigned, ExplainsUnsignedError, HasUnsignedDigitsIfOk}
 use Rattle.clap.specs.Words.{found_of, one_text}
 use Rattle.clap.proofs.WalkLemmas.{one_text-rows}
-use Rattle.command_line.specs.Ordering.{IsNumberOf}
+use Rattle.command_line.specs.Meaning.{IsNumberOf}
 use Rattle.command_line.proofs.Reading.{read_argument}
 use Rattle.command_line.proofs.values.number_of.Goals as goal
 

@@ -1,7 +1,7 @@
 use Rattle.std.proofs.Common.{◌≡◌, ◌∙◌, Some, map, sym, ap, subst}
 use Rattle.std.specs.Prelude.{option_map}
 use Rattle.clap.specs.Words.{App, HasKind, app_of, fault_of, found_of, is_simple, is_simple_and_free, rows_of, subcommand_of, subcommand_rows_of}
-use Rattle.command_line.specs.Ordering.{HasDefaults, Names, command_of, rows_in}
+use Rattle.command_line.specs.Meaning.{HasDefaults, Names, command_of, rows_in}
 use Rattle.command_line.specs.Program.{program}
 use Rattle.command_line.proofs.Entering.{hands_on, name_beside, rows_beside}
 use Rattle.command_line.proofs.words.order.Goals as goal
