@@ -43,6 +43,21 @@ fn reads_check(rt: HostRuntime) -> Result<(), Fail> {
 }
 
 #[test]
+fn reads_paths_that_are_empty_or_start_with_a_dash(rt: HostRuntime) -> Result<(), Fail> {
+    for (words, path) in [
+        (&["check", ""][..], ""),
+        (&["check", "-"][..], "-"),
+        (&["check", "--", "-x"][..], "-x"),
+    ] {
+        let net = String::from_str(rt.alloc(), path)?;
+        assert!(rt; ordered(&rt, words, rt.alloc()) == Order::Check(Check { net }));
+    }
+    let kind = mistake(&rt, &["check", "-x"], rt.alloc());
+    assert!(rt; kind == ErrorKind::UnknownArgument);
+    Ok(())
+}
+
+#[test]
 fn reads_seq(rt: HostRuntime) -> Result<(), Fail> {
     for (words, trace) in [
         (&["seq", "n.toml"][..], None),
