@@ -1,0 +1,56 @@
+//! What the program is ordered to do: a command with its values.
+
+/// A command of the program.
+#[derive(Debug, PartialEq, Eq, Drop)]
+pub enum Order {
+    /// `check NET`.
+    Check(Check),
+    /// `seq NET [--trace FILE]`.
+    Seq(Seq),
+    /// `run NET [--workers N] [--turn N] [--window NS] [--journal FILE] [--trace FILE]`.
+    Run(Run),
+    /// `replay NET STEPS`.
+    Replay(Replay),
+}
+
+/// Judge a network.
+#[derive(Debug, PartialEq, Eq, Drop)]
+pub struct Check {
+    /// The path of the network's description.
+    pub net: String,
+}
+
+/// Run a network on one thread.
+#[derive(Debug, PartialEq, Eq, Drop)]
+pub struct Seq {
+    /// The path of the network's description.
+    pub net: String,
+    /// The path of the file that is to get the trace, if one is.
+    pub trace: Option<String>,
+}
+
+/// Run a network by Time Warp on several threads.
+#[derive(Debug, PartialEq, Eq, Drop)]
+pub struct Run {
+    /// The path of the network's description.
+    pub net: String,
+    /// The number of threads, 1 to 64.
+    pub workers: u8,
+    /// The most events that a process handles in one turn, 1 to 256.
+    pub turn: u16,
+    /// How far beyond the GVT a process may handle events, in ns: 1 to 1000000000000.
+    pub window_ns: u64,
+    /// The path of the file that is to get the journal, if one is.
+    pub journal: Option<String>,
+    /// The path of the file that is to get the trace, if one is.
+    pub trace: Option<String>,
+}
+
+/// Run a network by the steps of a journal.
+#[derive(Debug, PartialEq, Eq, Drop)]
+pub struct Replay {
+    /// The path of the network's description.
+    pub net: String,
+    /// The path of the journal's text.
+    pub steps: String,
+}
