@@ -8,3 +8,4 @@ pub mod Reading
 pub mod Rolls
 pub mod Standing
 pub mod Taking
+pub mod Places

@@ -13,6 +13,7 @@ use crate::past::Event;
 use crate::process::Process;
 use antimessages::Tally;
 use reverse::{Actor, actor_rules};
+use std::collections::VecDeque;
 use vlink::{Message, Time};
 
 impl<R: Actor> Process<R> {
@@ -23,7 +24,7 @@ impl<R: Actor> Process<R> {
         ensures stands { (opening : R) (part : Part Message R) → StandsFor (rules_of R.plain R.counter) R.is_value opening part self.now.queues →
             result ≡ committable (rules_of R.plain R.counter) moment part.tally (take most part.done) }
     {
-        committable_of(&self.tally, moment, self.past.first(most))
+        committable_of(&self.tally, moment, self.past.done(), most)
     }
 
     /// Makes room for so many committed events: as long as no other call comes between, so many calls of `seal_oldest` take no memory.
@@ -39,18 +40,22 @@ impl<R: Actor> Process<R> {
     }
 }
 
-/// How many of these events come before the first one that cannot be committed.
-fn committable_of<K: Copy>(tally: &Tally, moment: Time, events: &[Event<K>]) -> usize
-    ensures { result ≡ committable message_rules moment tally.now.letters (map (λ e. e.message) events.now) }
+/// How many of these events, `most` at most, come before the first one that cannot be committed.
+fn committable_of<K: Copy>(
+    tally: &Tally,
+    moment: Time,
+    events: &VecDeque<Event<K>>,
+    most: usize,
+) -> usize
+    ensures { result ≡ committable message_rules moment tally.now.letters (take most (map (λ e. e.message) events.now.items)) }
 {
-    let mut count = 0;
-    for event in events {
-        if !can_commit(tally, moment, &event.message) {
-            return count;
+    let limit = most.min(events.len());
+    for place in 0..limit {
+        if !can_commit(tally, moment, &events[place].message) {
+            return place;
         }
-        count += 1;
     }
-    count
+    limit
 }
 
 /// Whether an event with this message can be committed.

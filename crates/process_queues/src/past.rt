@@ -89,11 +89,11 @@ impl<R: Actor> Past<R> {
         }
     }
 
-    /// The oldest done events, so many or all where there are fewer.
-    pub(crate) fn first(&self, most: usize) -> &[Event<R::Record>]
-        ensures { result.now ≡ take most self.now.done }
+    /// The done events, the oldest at the front.
+    pub(crate) fn done(&self) -> &VecDeque<Event<R::Record>>
+        ensures { result.now.items ≡ self.now.done }
     {
-        &self.done[..most.min(self.done.len())]
+        &self.done
     }
 
     /// How many done events there are.

@@ -9,9 +9,8 @@ use Rattle.process_queues.proofs.process.Process.committable.Goals as goal
 pub returns-clause-committable : goal.returns-clause-committable
 returns-clause-committable g c =
     c.committable_of.ensures ∙
-    (ap (λ es. committable message_rules c.args.moment c.self.inside.tally.letters (map (λ e. e.message) es)) c.first.ensures ∙
-    (ap (committable message_rules c.args.moment c.self.inside.tally.letters) (sym (take-map (λ e. e.message) c.args.most c.self.inside.past.done)) ∙
-    ap (λ p. committable message_rules c.args.moment p.queues.tally (take c.args.most (map (λ e. e.message) p.queues.past.done))) c.self.view_is))
+    (ap (λ es. committable message_rules c.args.moment c.self.inside.tally.letters (take c.args.most (map (λ e. e.message) es))) c.done.ensures ∙
+    ap (λ p. committable message_rules c.args.moment p.queues.tally (take c.args.most (map (λ e. e.message) p.queues.past.done))) c.self.view_is)
 
 pub returns-clause-stands : goal.returns-clause-stands
 returns-clause-stands g c opening part h =

@@ -1,0 +1,51 @@
+-- The events of a queue from a place on, and how many of them can be committed.
+use Rattle.std.proofs.Common.{◌≡◌, ℕ, suc, ◌+◌, ◌<◌, false, true, if◌then◌else◌, List, ◌∷◌, ◌∙◌, map, take, drop, length, get_or, slice_index_or, sym, ap, arith}
+use Rattle.std.proofs.lemmas.List.{length-take, length-map, get_or-take, get_or-map}
+use Rattle.std.proofs.Math.Seq.{drop-cons}
+use Rattle.vlink.specs.declared.message.Message.{Message}
+use Rattle.virtual_time.specs.Letters.{Letter as Signed}
+use Rattle.antimessages.specs.Letters.{message_rules}
+use Rattle.process_queues.specs.Committing.{can_commit, committable}
+
+-- of the first ones of a list, those from place n on
+from-place : {A B : Type 0} (f : A → B) (es : List A) (most n : ℕ) (e : A) → n < most → n < length es → e ≡ slice_index_or es n e →
+    drop n (take most (map f es)) ≡ f e ∷ drop (n + 1) (take most (map f es))
+from-place f es most n e i h p =
+    drop-cons (take most (map f es)) n (f e) within ∙
+    ap (λ x. x ∷ drop (suc n) (take most (map f es))) here ∙
+    ap (λ k. f e ∷ drop k (take most (map f es))) next
+  where
+    within : n < length (take most (map f es))
+    within = let a = length-take most (map f es) in let b = length-map es f in omega arith
+
+    here : get_or (take most (map f es)) n (f e) ≡ f e
+    here = get_or-take most (map f es) n (f e) i ∙ (get_or-map f es n e (f e) h ∙ ap f (sym p))
+
+    next : suc n ≡ n + 1
+    next = omega arith
+
+module _ {A : Type 0} (f : A → Message) (g : ℕ) (tally : List (Signed Message)) (es : List A) (most n : ℕ) (e : A) (i : n < most) (h : n < length es) (p : e ≡ slice_index_or es n e) where
+  pub none-from : false ≡ can_commit message_rules g tally (f e) → committable message_rules g tally (drop n (take most (map f es))) ≡ 0
+  none-from c = go
+    where
+      a : committable message_rules g tally (drop n (take most (map f es))) ≡ committable message_rules g tally (f e ∷ drop (n + 1) (take most (map f es)))
+      a = ap (committable message_rules g tally) (from-place f es most n e i h p)
+
+      b : committable message_rules g tally (f e ∷ drop (n + 1) (take most (map f es))) ≡ 0
+      b = ap (λ can. if can then suc (committable message_rules g tally (drop (n + 1) (take most (map f es)))) else 0) (sym c)
+
+      go : committable message_rules g tally (drop n (take most (map f es))) ≡ 0
+      go = omega (arith, a, b)
+
+  pub one-from : true ≡ can_commit message_rules g tally (f e) →
+      committable message_rules g tally (drop n (take most (map f es))) ≡ committable message_rules g tally (drop (n + 1) (take most (map f es))) + 1
+  one-from c = go
+    where
+      a : committable message_rules g tally (drop n (take most (map f es))) ≡ committable message_rules g tally (f e ∷ drop (n + 1) (take most (map f es)))
+      a = ap (committable message_rules g tally) (from-place f es most n e i h p)
+
+      b : committable message_rules g tally (f e ∷ drop (n + 1) (take most (map f es))) ≡ suc (committable message_rules g tally (drop (n + 1) (take most (map f es))))
+      b = ap (λ can. if can then suc (committable message_rules g tally (drop (n + 1) (take most (map f es)))) else 0) (sym c)
+
+      go : committable message_rules g tally (drop n (take most (map f es))) ≡ committable message_rules g tally (drop (n + 1) (take most (map f es))) + 1
+      go = omega (arith, a, b)
