@@ -1,4 +1,4 @@
-//! The words that all crates speak: moments, virtual links, frames, messages with their order, letters, notes and rows.
+//! The words that all crates speak: moments, virtual links, frames, messages with their order, letters, notes, rows and steps.
 #![tactic(auto)]
 
 mod frame;
@@ -6,6 +6,7 @@ mod message;
 mod note;
 mod numbering;
 mod order;
+mod step;
 mod time;
 mod wire;
 
@@ -14,6 +15,7 @@ pub use message::{Body, Letter, Message, Sign};
 pub use note::{Cause, Note, Row};
 pub use numbering::{next_sn, steps};
 pub use order::message_order;
+pub use step::Step;
 pub use time::{GREATEST_NS, LATEST_NS, Time};
 pub use wire::{busy_ns, last_bit_ns};
 
