@@ -17,7 +17,7 @@ mod write;
 pub use fault::{OutFault, SinkFault};
 pub use latencies::Latencies;
 pub use loss::Loss;
-pub use sink::Sink;
+pub use sink::{Sink, write_all};
 pub use tables::Tables;
 pub use write::{write_csv, write_trace};
 
