@@ -1,5 +1,16 @@
+//! What the words after the program's name order.
 #![tactic(auto)]
 
+mod arguments;
+mod commands;
 mod orders;
+mod paces;
+mod program;
+mod values;
+mod words;
 
 pub use orders::{Check, Order, Replay, Run, Seq};
+pub use words::order;
+
+#[cfg(test)]
+mod tests;

@@ -1,0 +1,12 @@
+use Rattle.std.proofs.Common.{◌∙◌, rules, sym, ap, Some}
+use Rattle.clap.specs.Words.{found_of}
+use Rattle.clap.proofs.WalkLemmas.{first_value-rows}
+use Rattle.command_line.proofs.values.text_of.Goals as goal
+
+pub returns-in_ok-from_str-in-Some : goal.returns-in_ok-from_str-in-Some
+returns-in_ok-from_str-in-Some c =
+    sym (first_value-rows (found_of c.args.values.now) c.args.id.now)
+    ∙ (sym c.in-Some.ensures ∙ ap Some (sym c.in_ok-from_str-in-Some.ensures.ok))
+
+pub returns-in-None : goal.returns-in-None
+returns-in-None c = let rows = first_value-rows (found_of c.args.values.now) c.args.id.now in search (rules, rows)

@@ -1,0 +1,53 @@
+-- The words that the program knows: its commands and their arguments.
+use Rattle.std.specs.Prelude.{ℕ, true, Some, codes}
+use Rattle.clap.specs.Words.{App, Rule, Text, new_app, new_rule, with_rule, with_subcommand}
+use Rattle.clap.specs.Simple.{on_top}
+use Rattle.clap.specs.declared.builder.value_parser.ValueParser.TheVariants.{Unsigned}
+
+-- a word that has to be there, known by its place
+abbrev pub path_rule : Text → Rule
+path_rule id = record (new_rule id) { required = true }
+
+-- a file that may be named: `--id FILE`
+abbrev pub file_rule : Text → Rule
+file_rule id = record (new_rule id) { long = Some id; value_names = 1 }
+
+-- a whole number that may be named, from 1 to the most: `--id N`
+abbrev pub number_rule : Text → ℕ → Rule
+number_rule id most = record (file_rule id) { parser = Some (Unsigned 1 most) }
+
+-- `check NET`
+abbrev pub check_app : App
+check_app = with_rule (new_app (codes "check")) (path_rule (codes "NET"))
+
+-- `seq NET [--trace FILE]`
+abbrev pub seq_app : App
+seq_app = with_rule (with_rule (new_app (codes "seq")) (path_rule (codes "NET"))) (file_rule (codes "trace"))
+
+-- `run NET [--workers N] [--turn N] [--window NS] [--journal FILE] [--trace FILE]`
+abbrev pub run_app : App
+run_app =
+    with_rule
+    (with_rule
+    (with_rule
+    (with_rule
+    (with_rule (with_rule (new_app (codes "run")) (path_rule (codes "NET"))) (number_rule (codes "workers") 64))
+    (number_rule (codes "turn") 256))
+    (number_rule (codes "window") 1000000000000))
+    (file_rule (codes "journal")))
+    (file_rule (codes "trace"))
+
+-- `replay NET STEPS`
+abbrev pub replay_app : App
+replay_app = with_rule (with_rule (new_app (codes "replay")) (path_rule (codes "NET"))) (path_rule (codes "STEPS"))
+
+-- the program without its commands: a command has to be named, and the program's own name is not among the words
+abbrev pub bare_program : App
+bare_program = on_top (λ s. record s { no_binary_name = true; subcommand_required = true }) (new_app (codes "afdxsim"))
+
+-- what the program knows
+abbrev pub program : App
+program =
+    with_subcommand
+    (with_subcommand (with_subcommand (with_subcommand bare_program check_app.top) seq_app.top) run_app.top)
+    replay_app.top

@@ -1,0 +1,42 @@
+//! The arguments of the commands.
+ghost use Rattle.std.specs.Prelude.{◌≡◌, Some, false};
+ghost use Rattle.clap.specs.Words.{new_rule, rule_of};
+ghost use Rattle.command_line.specs.Program.{file_rule, path_rule};
+
+use clap::Arg;
+use clap::builder::ValueParser;
+use std::alloc::Global;
+
+/// A path that has to be there, known by its place.
+pub(crate) fn path<'a>(alloc: Global, id: &'a str, help: &'a str) -> Arg<'a>
+    ensures rule { rule_of result ≡ path_rule id.entry.now }
+    ensures local { result.global ≡ false }
+{
+    Arg::new(alloc, id).required(true).help(help)
+}
+
+/// A file that may be named: `--id FILE`.
+pub(crate) fn file<'a>(alloc: Global, id: &'a str, help: &'a str) -> Arg<'a>
+    ensures rule { rule_of result ≡ file_rule id.entry.now }
+    ensures local { result.global ≡ false }
+{
+    Arg::new(alloc, id).long(id).value_name("FILE").help(help)
+}
+
+/// A number that may be named: `--id UNIT`.
+pub(crate) fn number<'a>(
+    alloc: Global,
+    id: &'a str,
+    unit: &'a str,
+    parser: ValueParser<'a>,
+    help: &'a str,
+) -> Arg<'a>
+    ensures rule { rule_of result ≡ record (file_rule id.entry.now) { parser = Some parser.entry } }
+    ensures local { result.global ≡ false }
+{
+    Arg::new(alloc, id)
+        .long(id)
+        .value_name(unit)
+        .value_parser(parser)
+        .help(help)
+}

@@ -1,0 +1,63 @@
+//! The numbers that set the pace of a run.
+ghost use Rattle.std.specs.Prelude.{◌≡◌, codes, false};
+ghost use Rattle.clap.specs.Words.{rule_of};
+ghost use Rattle.command_line.specs.Program.{number_rule};
+
+use crate::arguments::number;
+use clap::{Arg, value_parser};
+use std::alloc::Global;
+
+/// The greatest number of threads.
+pub(crate) const MOST_WORKERS: u64 = 64;
+/// The number of threads where the words name none.
+pub(crate) const USUAL_WORKERS: u64 = 4;
+/// The greatest number of events in a turn.
+pub(crate) const MOST_TURN: u64 = 256;
+/// The number of events in a turn where the words name none.
+pub(crate) const USUAL_TURN: u64 = 16;
+/// The greatest window, in ns.
+pub(crate) const MOST_WINDOW_NS: u64 = 1_000_000_000_000;
+/// The window, in ns, where the words name none.
+pub(crate) const USUAL_WINDOW_NS: u64 = 1_000_000;
+
+/// `--workers N`.
+pub(crate) fn workers<'a>(alloc: Global) -> Arg<'a>
+    ensures rule { rule_of result ≡ number_rule (codes "workers") 64 }
+    ensures local { result.global ≡ false }
+{
+    number(
+        alloc,
+        "workers",
+        "N",
+        value_parser!(u64).range(1..=MOST_WORKERS as i64),
+        "How many threads simulate: 1 to 64 [default: 4]",
+    )
+}
+
+/// `--turn N`.
+pub(crate) fn turn<'a>(alloc: Global) -> Arg<'a>
+    ensures rule { rule_of result ≡ number_rule (codes "turn") 256 }
+    ensures local { result.global ≡ false }
+{
+    number(
+        alloc,
+        "turn",
+        "N",
+        value_parser!(u64).range(1..=MOST_TURN as i64),
+        "How many events a process handles at most in one turn: 1 to 256 [default: 16]",
+    )
+}
+
+/// `--window NS`.
+pub(crate) fn window<'a>(alloc: Global) -> Arg<'a>
+    ensures rule { rule_of result ≡ number_rule (codes "window") 1000000000000 }
+    ensures local { result.global ≡ false }
+{
+    number(
+        alloc,
+        "window",
+        "NS",
+        value_parser!(u64).range(1..=MOST_WINDOW_NS as i64),
+        "How far a process may be ahead of the global virtual time, in ns: 1 to 1000000000000 [default: 1000000]",
+    )
+}
