@@ -7,7 +7,7 @@ use Rattle.traffic.specs.Offers.{offers_of}
 -- how many processes, virtual links and offers it has
 abbrev pub check_text : Plan → List ℕ
 check_text plan =
-    codes "ok: " ++ decimal (process_count plan)
-    ++ codes " processes, " ++ decimal (length plan.vls)
-    ++ codes " virtual links, " ++ decimal (length (offers_of plan))
-    ++ codes " offers" ++ 10 ∷ []
+    codes "ok: " ++ (decimal (process_count plan)
+    ++ (codes " processes, " ++ (decimal (length plan.vls)
+    ++ (codes " virtual links, " ++ (decimal (length (offers_of plan))
+    ++ (codes " offers" ++ 10 ∷ []))))))

@@ -3,3 +3,4 @@ pub mod SourceSending
 pub mod Words
 pub mod Telling
 pub mod Checking
+pub mod Reading

@@ -1,6 +1,7 @@
 -- What the program says of a fault, on one line of error output, and the status that it then ends with.
 use Rattle.std.specs.Prelude.{◌≡◌, ◌⊎◌, ℕ, List, [], ◌∷◌, ◌++◌, Option, None, Some, codes, decimal}
 use Rattle.std.specs.Option.{option_map_or}
+use Rattle.std.specs.Io.KnownBytes.{append_known}
 use Rattle.network_rows.specs.Keys.{key_text, section_text}
 use Rattle.network_rows.specs.declared.fault.DescFault.{DescFault}
 use Rattle.network_rows.specs.declared.fault.DescFault.TheVariants as desc
@@ -56,6 +57,10 @@ fault_text Exhausted = codes "numbers used up"
 -- the line of a text on error output
 abbrev pub told : List ℕ → List ℕ
 told text = codes "afdxsim: " ++ text ++ 10 ∷ []
+
+-- the line of this fault was added, or that of want of memory, which the line itself may meet
+abbrev pub TellsLine : Option (List ℕ) → Option (List ℕ) → Fault → Type 0
+TellsLine old new fault = (new ≡ append_known old (told (fault_text fault))) ⊎ (new ≡ append_known old (told (codes "out of memory")))
 
 -- 3 for a description, 4 for a file or standard output, 5 for memory and numbers
 abbrev pub status_of : Fault → ℕ

@@ -1,7 +1,4 @@
 //! `check NET`: whether a network's description is accepted.
-ghost use Rattle.std.specs.Prelude.{◌≡◌, IfOk, OnOk, string_bytes};
-ghost use Rattle.std.specs.Io.KnownBytes.{append_known};
-ghost use Rattle.afdxsim.specs.Checking.{check_text};
 
 use crate::fault::Fault;
 use crate::host::Host;
@@ -12,9 +9,7 @@ use trace_tables::{Sink, write_all};
 use traffic::offers;
 
 /// What is said of a network that is accepted: how many processes, virtual links and offers it has.
-fn line_of(alloc: Global, network: &Network) -> Result<String, AllocError>
-    ensures { IfOk result (λ line. string_bytes line ≡ check_text network.now) }
-{
+fn line_of(alloc: Global, network: &Network) -> Result<String, AllocError> {
     let processes = network.process_count();
     let vls = network.vl_count();
     let offers = offers(alloc, network)?.len();
@@ -26,9 +21,7 @@ fn show_counts<O: Sink>(
     alloc: Global,
     network: &Network,
     output: &mut O,
-) -> Result<(), Fault<'static>>
-    ensures text { OnOk result (O.taken output.new ≡ append_known (O.taken output.old) (check_text network.now)) }
-{
+) -> Result<(), Fault<'static>> {
     let line = line_of(alloc, network)?;
     match write_all(output, line.as_bytes()) {
         Ok(()) => Ok(()),

@@ -40,10 +40,22 @@ fn tells_the_first_fault_of_a_text(rt: HostRuntime) -> Result<(), Fail> {
     for (net, fault) in [
         ("", "2 Missing at top until_ns"),
         ("until_ns =", "1 Syntax"),
-        ("until_ns = 2000000\nseed = 42\nnode = 1\n", "3 WrongKind at node 0"),
-        ("until_ns = 2000000\nseed = 42\nnode = [1]\n", "3 WrongKind at node 1"),
-        ("until_ns = 2000000\nseed = \"x\"\n", "3 WrongKind at top seed"),
-        ("until_ns = 2000000\nseed = 42\nspeed = 1\n", "5 UnknownName at top"),
+        (
+            "until_ns = 2000000\nseed = 42\nnode = 1\n",
+            "3 WrongKind at node 0",
+        ),
+        (
+            "until_ns = 2000000\nseed = 42\nnode = [1]\n",
+            "3 WrongKind at node 1",
+        ),
+        (
+            "until_ns = 2000000\nseed = \"x\"\n",
+            "3 WrongKind at top seed",
+        ),
+        (
+            "until_ns = 2000000\nseed = 42\nspeed = 1\n",
+            "5 UnknownName at top",
+        ),
     ] {
         assert!(rt; refuses(rt.alloc(), net, fault)?, "{fault}");
     }
@@ -56,14 +68,22 @@ fn tells_the_fault_of_a_network(rt: HostRuntime) -> Result<(), Fail> {
     for (part, by, fault) in [
         ("bag_ms = 1", "bag_ms = 3", "4 OutOfLimit at vl 1 bag_ms"),
         ("b = \"SW1\"", "b = \"SW7\"", "5 UnknownName at link 1 b"),
-        ("depth = 16", "depth = 16\ndeep = 1", "5 UnknownName at vl 1"),
+        (
+            "depth = 16",
+            "depth = 16\ndeep = 1",
+            "5 UnknownName at vl 1",
+        ),
         ("b = \"ES2\"", "b = \"ES1\"", "6 DoubleName at link 2 b"),
         (
             path,
             "a = [[\"ES1\", \"SW1\", \"SW1\", \"ES2\"]]",
             "7 NotALink at vl 1 a",
         ),
-        (path, "a = [[\"ES1\", \"SW1\"]]", "8 NotATree at vl 1 a"),
+        (
+            path,
+            "a = [[\"ES1\", \"SW1\", \"ES1\"]]",
+            "8 NotATree at vl 1 a",
+        ),
         (path, "a = []", "8 NotATree at vl 1 a"),
     ] {
         let net = one_vl_but(rt.alloc(), part, by)?;

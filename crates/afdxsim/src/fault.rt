@@ -1,10 +1,16 @@
 //! Why the program ends before it has done what it was told to do.
-ghost use Rattle.std.specs.Prelude.{◌≡◌};
+ghost use Rattle.std.specs.Prelude.{◌≡◌, ◌⊎◌};
 ghost use Rattle.afdxsim.specs.Telling.{status_of};
 
 use netdesc::DescFault;
 use seqsim::SimFault;
 use std::alloc::AllocError;
+
+/// The status where all was done.
+pub const DONE: u8 = 0;
+
+/// The status of bad words.
+pub const BAD_WORDS: u8 = 2;
 
 /// Why the program ends before it has done what it was told to do.
 #[derive(Clone, Copy, Debug, PartialEq, Eq)]
@@ -26,7 +32,8 @@ pub enum Fault<'a> {
 impl Fault<'_> {
     /// The status that the program ends with.
     pub fn status(&self) -> u8
-        ensures { result ≡ status_of self.now }
+        ensures value { result ≡ status_of self.now }
+        ensures known { (result ≡ 3) ⊎ (result ≡ 4) ⊎ (result ≡ 5) }
     {
         match self {
             Fault::Description(DescFault::OutOfMemory) => 5,

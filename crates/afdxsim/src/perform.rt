@@ -2,7 +2,7 @@
 ghost use Rattle.afdxsim.specs.Telling.{IsStatus};
 
 use crate::check::check;
-use crate::fault::Fault;
+use crate::fault::{BAD_WORDS, DONE, Fault};
 use crate::first::first;
 use crate::host::Host;
 use crate::seq::seq;
@@ -37,7 +37,7 @@ fn perform_first<S: AsStr, H: Host>(words: &[S], alloc: Global, host: &mut H) ->
 {
     let mut text = String::new(alloc);
     let status = first(words, alloc, &mut text);
-    if status == 0 {
+    if status == DONE {
         return show(text.as_str(), alloc, host);
     }
     let _said = write_all(host.errors(), text.as_bytes());
@@ -68,7 +68,7 @@ fn end<H: Host>(outcome: Result<(), Fault<'_>>, alloc: Global, host: &mut H) -> 
     ensures status { IsStatus result }
 {
     match outcome {
-        Ok(()) => 0,
+        Ok(()) => DONE,
         Err(fault) => tell(alloc, &fault, host.errors()),
     }
 }
@@ -78,7 +78,7 @@ fn lack<H: Host>(line: &str, host: &mut H) -> u8
     ensures status { IsStatus result }
 {
     let _said = write_all(host.errors(), line.as_bytes());
-    2
+    BAD_WORDS
 }
 
 /// Writes the help that the words ask for, or why they are refused.
@@ -94,7 +94,7 @@ fn answer<H: Host>(error: &Error, alloc: Global, host: &mut H) -> u8
         }
         (_, Ok(text)) => {
             let _said = write_all(host.errors(), text.as_bytes());
-            2
+            BAD_WORDS
         }
     }
 }
@@ -104,7 +104,7 @@ fn show<H: Host>(text: &str, alloc: Global, host: &mut H) -> u8
     ensures status { IsStatus result }
 {
     match write_all(host.output(), text.as_bytes()) {
-        Ok(()) => 0,
+        Ok(()) => DONE,
         Err(_) => tell(alloc, &Fault::CannotWrite, host.errors()),
     }
 }

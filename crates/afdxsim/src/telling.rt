@@ -2,7 +2,7 @@
 ghost use Rattle.std.specs.Prelude.{◌≡◌, ◌⊎◌, ◌++◌, [], codes, decimal, OnOk, IfOk, string_bytes};
 ghost use Rattle.std.specs.Option.{option_map_or};
 ghost use Rattle.std.specs.Io.KnownBytes.{append_known};
-ghost use Rattle.afdxsim.specs.Telling.{place_text, place_of, fault_name, description_text, fault_text, told, status_of};
+ghost use Rattle.afdxsim.specs.Telling.{place_text, place_of, fault_name, description_text, fault_text, told, status_of, IsStatus};
 
 use crate::fault::Fault;
 use netdesc::{DescFault, Place};
@@ -107,6 +107,7 @@ fn line_of(alloc: Global, fault: &Fault<'_>) -> Result<String, AllocError>
 /// tells of that in place of the fault. Where error output fails, nothing more is said.
 pub fn tell<E: Sink>(alloc: Global, fault: &Fault<'_>, errors: &mut E) -> u8
     ensures status { (result ≡ status_of fault.now) ⊎ (result ≡ 5) }
+    ensures known { IsStatus result }
 {
     match line_of(alloc, fault) {
         Ok(line) => {

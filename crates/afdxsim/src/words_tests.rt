@@ -19,7 +19,12 @@ fn refuses_bad_words(rt: HostRuntime) -> Result<(), Fail> {
     for words in bad {
         let mut host = MemoryHost::new(rt.alloc(), "".as_bytes())?;
         assert_eq!(rt; perform(words, rt.alloc(), &mut host), 2);
-        assert!(rt; host.errors.bytes.as_slice().starts_with("error: ".as_bytes()));
+        assert!(rt;
+            host.errors
+                .bytes
+                .as_slice()
+                .starts_with("error: ".as_bytes())
+        );
         assert!(rt; host.output.holds(""));
     }
     Ok(())
@@ -32,7 +37,9 @@ fn helps(rt: HostRuntime) -> Result<(), Fail> {
         let mut host = MemoryHost::new(rt.alloc(), "".as_bytes())?;
         assert_eq!(rt; perform(words, rt.alloc(), &mut host), 0);
         assert!(rt; host.errors.holds(""));
-        let text = str::from_utf8(host.output.bytes.as_slice()).ok().ok_or("no text")?;
+        let text = str::from_utf8(host.output.bytes.as_slice())
+            .ok()
+            .ok_or("no text")?;
         assert!(rt; text.contains("Usage: afdxsim"));
     }
     Ok(())
@@ -52,7 +59,16 @@ fn lacks_some_commands(rt: HostRuntime) -> Result<(), Fail> {
     let run = "afdxsim: run is not there yet\n";
     assert!(rt; says(rt.alloc(), "", &["run", "net.toml"], 2, "", run)?);
     let replay = "afdxsim: replay is not there yet\n";
-    assert!(rt; says(rt.alloc(), "", &["replay", "net.toml", "steps"], 2, "", replay)?);
+    assert!(rt;
+        says(
+            rt.alloc(),
+            "",
+            &["replay", "net.toml", "steps"],
+            2,
+            "",
+            replay
+        )?
+    );
     Ok(())
 }
 
