@@ -60,7 +60,7 @@ told text = codes "afdxsim: " ++ text ++ 10 ∷ []
 
 -- the line of this fault was added, or that of want of memory, which the line itself may meet
 abbrev pub TellsLine : Option (List ℕ) → Option (List ℕ) → Fault → Type 0
-TellsLine old new fault = (new ≡ append_known old (told (fault_text fault))) ⊎ (new ≡ append_known old (told (codes "out of memory")))
+TellsLine old new fault = (new ≡ append_known old (told (fault_text fault))) ⊎ (new ≡ append_known old (codes "afdxsim: out of memory\n"))
 
 -- 3 for a description, 4 for a file or standard output, 5 for memory and numbers
 abbrev pub status_of : Fault → ℕ

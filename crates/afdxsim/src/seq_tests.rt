@@ -17,7 +17,7 @@ fn tables_are(alloc: Global, net: &str, lines: &str) -> Result<bool, Fail> {
 fn twenty_tables(alloc: Global) -> Result<String, Fail> {
     let mut wanted = String::from_str(alloc, HEAD)?;
     for id in 1..=20u64 {
-        let latency = 27720 + 6720 * (id - 1);
+        let latency = 21000 + 6720 * id;
         wanted.push_str(&format!(in alloc;
             "latency,{id},ES2,,1,{latency},{latency},{latency}\n"
         )?)?;

@@ -2,7 +2,7 @@
 ghost use Rattle.std.specs.Prelude.{◌≡◌, ◌⊎◌, ◌++◌, [], codes, decimal, OnOk, IfOk, string_bytes};
 ghost use Rattle.std.specs.Option.{option_map_or};
 ghost use Rattle.std.specs.Io.KnownBytes.{append_known};
-ghost use Rattle.afdxsim.specs.Telling.{place_text, place_of, fault_name, description_text, fault_text, told, status_of, IsStatus};
+ghost use Rattle.afdxsim.specs.Telling.{place_text, place_of, fault_name, description_text, fault_text, told, status_of, IsStatus, TellsLine};
 
 use crate::fault::Fault;
 use netdesc::{DescFault, Place};
@@ -108,6 +108,7 @@ fn line_of(alloc: Global, fault: &Fault<'_>) -> Result<String, AllocError>
 pub fn tell<E: Sink>(alloc: Global, fault: &Fault<'_>, errors: &mut E) -> u8
     ensures status { (result ≡ status_of fault.now) ⊎ (result ≡ 5) }
     ensures known { IsStatus result }
+    ensures line { E.failures errors.new ≡ E.failures errors.old → TellsLine (E.taken errors.old) (E.taken errors.new) fault.now }
 {
     match line_of(alloc, fault) {
         Ok(line) => {
