@@ -6,7 +6,7 @@ use crate::fault::{BAD_WORDS, DONE, Fault};
 use crate::first::first;
 use crate::host::Host;
 use crate::seq::seq;
-use crate::telling::tell;
+use crate::telling::{say, tell};
 use clap::Error;
 use clap::error::ErrorKind;
 use command_line::{Order, order};
@@ -40,7 +40,7 @@ fn perform_first<S: AsStr, H: Host>(words: &[S], alloc: Global, host: &mut H) ->
     if status == DONE {
         return show(text.as_str(), alloc, host);
     }
-    let _said = write_all(host.errors(), text.as_bytes());
+    say(text.as_str(), host.errors());
     status
 }
 
@@ -77,7 +77,7 @@ fn end<H: Host>(outcome: Result<(), Fault<'_>>, alloc: Global, host: &mut H) -> 
 fn lack<H: Host>(line: &str, host: &mut H) -> u8
     ensures status { IsStatus result }
 {
-    let _said = write_all(host.errors(), line.as_bytes());
+    say(line, host.errors());
     BAD_WORDS
 }
 
@@ -93,7 +93,7 @@ fn answer<H: Host>(error: &Error, alloc: Global, host: &mut H) -> u8
             show(text.as_str(), alloc, host)
         }
         (_, Ok(text)) => {
-            let _said = write_all(host.errors(), text.as_bytes());
+            say(text.as_str(), host.errors());
             BAD_WORDS
         }
     }

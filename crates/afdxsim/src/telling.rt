@@ -103,6 +103,20 @@ fn line_of(alloc: Global, fault: &Fault<'_>) -> Result<String, AllocError>
     Ok(line)
 }
 
+/// The line that tells of want of memory.
+fn want_of_memory() -> &'static str
+    ensures { result.now ≡ codes "afdxsim: out of memory\n" }
+{
+    "afdxsim: out of memory\n"
+}
+
+/// Writes a line on error output. Where that fails, nothing more is said.
+pub fn say<E: Sink>(line: &str, errors: &mut E)
+    ensures { E.failures errors.new ≡ E.failures errors.old → E.taken errors.new ≡ append_known (E.taken errors.old) line.now }
+{
+    let _said = write_all(errors, line.as_bytes());
+}
+
 /// Tells a fault on error output, by one line, and gives the status that the program ends with. Where the line itself wants memory it
 /// tells of that in place of the fault. Where error output fails, nothing more is said.
 pub fn tell<E: Sink>(alloc: Global, fault: &Fault<'_>, errors: &mut E) -> u8
@@ -112,11 +126,11 @@ pub fn tell<E: Sink>(alloc: Global, fault: &Fault<'_>, errors: &mut E) -> u8
 {
     match line_of(alloc, fault) {
         Ok(line) => {
-            let _said = write_all(errors, line.as_bytes());
+            say(line.as_str(), errors);
             fault.status()
         }
         Err(_) => {
-            let _said = write_all(errors, "afdxsim: out of memory\n".as_bytes());
+            say(want_of_memory(), errors);
             5
         }
     }
