@@ -1,3 +1,6 @@
 pub mod Source
 pub mod SourceSending
 pub mod Words
+pub mod Telling
+pub mod Checking
+pub mod Reading

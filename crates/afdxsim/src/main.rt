@@ -1,16 +1,26 @@
-//! The program: a simulator of AFDX networks. So far it shows one end system with one virtual link.
+//! The program: a simulator of AFDX networks.
 #![tactic(auto)]
 
+mod check;
+mod fault;
 mod first;
+mod host;
 mod once;
+mod perform;
+mod reading;
+mod seq;
 mod source;
+mod system;
+mod telling;
 mod words;
 
 pub use first::{first, first_undone};
 pub use once::{run_once, undo_once};
+pub use perform::perform;
 pub use source::{Source, SourceRecord};
 use std::process::ExitCode;
 use std::{env, io};
+use system::System;
 pub use words::{LATEST_OFFER_NS, offered};
 
 fn main(rt: HostRuntime) -> io::Result<ExitCode> {
@@ -18,15 +28,19 @@ fn main(rt: HostRuntime) -> io::Result<ExitCode> {
     for word in env::args(&rt)?.skip(1) {
         words.push(word)?;
     }
-    let mut text = String::new(rt.alloc());
-    let status = first(&words, rt.alloc(), &mut text);
-    if status == 0 {
-        print!(rt; "{text}")?;
-    } else {
-        eprint!(rt; "{text}")?;
-    }
-    Ok(ExitCode::from(status))
+    let mut system = System::new(rt);
+    Ok(ExitCode::from(perform(&words, rt.alloc(), &mut system)))
 }
 
 #[cfg(test)]
+mod check_tests;
+#[cfg(test)]
+mod memory_host;
+#[cfg(test)]
+mod networks_in_text;
+#[cfg(test)]
+mod seq_tests;
+#[cfg(test)]
 mod tests;
+#[cfg(test)]
+mod words_tests;

@@ -19,7 +19,7 @@ pub use fault::{OutFault, SinkFault};
 pub use latencies::Latencies;
 pub use laws::{drop_counts, latency_counts, tables_by_place};
 pub use loss::Loss;
-pub use sink::Sink;
+pub use sink::{Sink, write_all};
 pub use tables::Tables;
 pub use write::{write_csv, write_trace};
 

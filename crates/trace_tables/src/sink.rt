@@ -23,7 +23,7 @@ pub trait Sink {
 }
 
 /// Writes all these bytes, by as many writes as it takes. Where one fails, a beginning of them went out.
-pub(crate) fn write_all<S: Sink>(sink: &mut S, bytes: &[u8]) -> Result<(), SinkFault>
+pub fn write_all<S: Sink>(sink: &mut S, bytes: &[u8]) -> Result<(), SinkFault>
     ensures took { OnOk result (S.taken sink.new ≡ append_known (S.taken sink.old) bytes.now) }
     ensures went_well { OnOk result (S.failures sink.new ≡ S.failures sink.old) }
     ensures beginning { OnErr result (IsBeginning (S.taken sink.old) (S.taken sink.new) bytes.now) }

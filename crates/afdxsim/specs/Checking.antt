@@ -1,0 +1,14 @@
+-- What the program says of a network that is accepted.
+use Rattle.std.specs.Prelude.{ℕ, List, ◌++◌, length, codes, decimal}
+use Rattle.netdesc.specs.Plan.{Plan}
+use Rattle.netdesc.specs.Faults.{process_count}
+use Rattle.traffic.specs.Offers.{offers_of}
+
+-- the line that tells how many processes, virtual links and offers there are
+abbrev pub counts_text : ℕ → ℕ → ℕ → List ℕ
+counts_text processes vls offers =
+    codes "ok: " ++ (decimal processes ++ (codes " processes, " ++ (decimal vls ++ (codes " virtual links, " ++ (decimal offers ++ codes " offers\n")))))
+
+-- that line of a network
+abbrev pub check_text : Plan → List ℕ
+check_text plan = counts_text (process_count plan) (length plan.vls) (length (offers_of plan))

@@ -1,0 +1,56 @@
+//! `check NET`: whether a network's description is accepted.
+ghost use Rattle.std.specs.Prelude.{◌≡◌, IfOk, OnOk, string_bytes};
+ghost use Rattle.std.specs.Io.KnownBytes.{append_known};
+ghost use Rattle.afdxsim.specs.Checking.{counts_text, check_text};
+
+use crate::fault::Fault;
+use crate::host::Host;
+use crate::reading::network_of;
+use netdesc::Network;
+use std::alloc::{AllocError, Global};
+use trace_tables::{Sink, write_all};
+use traffic::offers;
+
+/// How many processes, virtual links and offers there are.
+fn counts_line(
+    alloc: Global,
+    processes: usize,
+    vls: usize,
+    offers: usize,
+) -> Result<String, AllocError>
+    ensures { IfOk result (λ line. string_bytes line ≡ counts_text processes vls offers) }
+{
+    format!(in alloc; "ok: {processes} processes, {vls} virtual links, {offers} offers\n")
+}
+
+/// What is said of a network that is accepted: how many processes, virtual links and offers it has.
+fn line_of(alloc: Global, network: &Network) -> Result<String, AllocError>
+    ensures { IfOk result (λ line. string_bytes line ≡ check_text network.now) }
+{
+    let processes = network.process_count();
+    let vls = network.vl_count();
+    let offers = offers(alloc, network)?;
+    let line = counts_line(alloc, processes, vls, offers.as_slice().len())?;
+    Ok(line)
+}
+
+/// Writes what is said of a network that is accepted.
+fn show_counts<O: Sink>(
+    alloc: Global,
+    network: &Network,
+    output: &mut O,
+) -> Result<(), Fault<'static>>
+    ensures text { OnOk result (O.taken output.new ≡ append_known (O.taken output.old) (check_text network.now)) }
+{
+    let line = line_of(alloc, network)?;
+    match write_all(output, line.as_bytes()) {
+        Ok(()) => Ok(()),
+        Err(_) => Err(Fault::CannotWrite),
+    }
+}
+
+/// Judges the description in the file with this path, and tells on standard output what it describes.
+pub fn check<'a, H: Host>(alloc: Global, net: &'a str, host: &mut H) -> Result<(), Fault<'a>> {
+    let network = network_of(alloc, net, host)?;
+    show_counts(alloc, &network, host.output())
+}

@@ -1,0 +1,68 @@
+//! Why the program ends before it has done what it was told to do.
+ghost use Rattle.std.specs.Prelude.{◌≡◌, ◌⊎◌};
+ghost use Rattle.afdxsim.specs.Telling.{status_of};
+
+use netdesc::DescFault;
+use seqsim::SimFault;
+use std::alloc::AllocError;
+
+/// The status where all was done.
+pub const DONE: u8 = 0;
+
+/// The status of bad words.
+pub const BAD_WORDS: u8 = 2;
+
+/// Why the program ends before it has done what it was told to do.
+#[derive(Clone, Copy, Debug, PartialEq, Eq)]
+pub enum Fault<'a> {
+    /// The description of the network has this fault.
+    Description(DescFault),
+    /// The file with this path cannot be read.
+    CannotRead(&'a str),
+    /// The file with this path cannot be made or written.
+    CannotWriteFile(&'a str),
+    /// Standard output takes no more.
+    CannotWrite,
+    /// A growth was refused.
+    OutOfMemory,
+    /// A process has not enough numbers left for what one event can send.
+    Exhausted,
+}
+
+impl Fault<'_> {
+    /// The status that the program ends with.
+    pub fn status(&self) -> u8
+        ensures value { result ≡ status_of self.now }
+        ensures known { (result ≡ 3) ⊎ (result ≡ 4) ⊎ (result ≡ 5) }
+    {
+        match self {
+            Fault::Description(DescFault::OutOfMemory) => 5,
+            Fault::Description(_) => 3,
+            Fault::CannotRead(_) => 4,
+            Fault::CannotWriteFile(_) => 4,
+            Fault::CannotWrite => 4,
+            Fault::OutOfMemory => 5,
+            Fault::Exhausted => 5,
+        }
+    }
+}
+
+impl From<AllocError> for Fault<'_> {
+    ghost use Rattle.std.specs.Prelude.{◌≡◌};
+    ghost use Rattle.afdxsim.specs.declared.fault.Fault.TheVariants.{OutOfMemory};
+
+    ghost from_gives = { λ _ fault. fault ≡ OutOfMemory };
+
+    fn from(_: AllocError) -> Self {
+        Fault::OutOfMemory
+    }
+}
+
+impl From<SimFault> for Fault<'_> {
+    fn from(fault: SimFault) -> Self {
+        match fault {
+            SimFault::OutOfMemory => Fault::OutOfMemory,
+            SimFault::Exhausted => Fault::Exhausted,
+        }
+    }
+}

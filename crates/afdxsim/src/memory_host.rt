@@ -1,0 +1,176 @@
+//! A host in memory.
+use crate::host::{Host, ReadFault};
+use crate::perform;
+use std::alloc::Global;
+use std::cell::Cell;
+use std::rc::Rc;
+use std::test::Fail;
+use trace_tables::{Sink, SinkFault};
+
+/// It keeps the bytes, of which it takes at most `most` at a time, and fails after `writes` writes.
+#[derive(Drop)]
+pub struct Page {
+    pub bytes: Vec<u8>,
+    pub most: usize,
+    pub writes: u64,
+    pub failures: u64,
+}
+
+impl Page {
+    /// An empty page that takes all that is written on it.
+    pub fn new(alloc: Global) -> Self {
+        Page {
+            bytes: Vec::new(alloc),
+            most: usize::MAX,
+            writes: u64::MAX,
+            failures: 0,
+        }
+    }
+
+    /// The page holds this text and no more.
+    pub fn holds(&self, text: &str) -> bool {
+        self.bytes.as_slice() == text.as_bytes()
+    }
+}
+
+impl Sink for Page {
+    ghost use Rattle.std.specs.Prelude.{None};
+
+    ghost taken = { λ _. None };
+
+    ghost failures = { λ page. page.failures };
+
+    fn write(&mut self, bytes: &[u8]) -> Result<usize, SinkFault> {
+        if self.writes == 0 && self.failures < u64::MAX {
+            self.failures += 1;
+            return Err(SinkFault);
+        }
+        self.writes = self.writes.saturating_sub(1);
+        let taken = self.most.max(1).min(bytes.len());
+        let _kept = self.bytes.extend_from_slice(&bytes[..taken]);
+        Ok(taken)
+    }
+}
+
+/// A file that is being written. Its bytes are also the host's.
+#[derive(Drop)]
+pub struct Leaf {
+    bytes: Rc<Cell<Vec<u8>>>,
+    takes: bool,
+    failures: u64,
+    alloc: Global,
+}
+
+impl Sink for Leaf {
+    ghost use Rattle.std.specs.Prelude.{None};
+
+    ghost taken = { λ _. None };
+
+    ghost failures = { λ leaf. leaf.failures };
+
+    fn write(&mut self, bytes: &[u8]) -> Result<usize, SinkFault> {
+        if !self.takes && self.failures < u64::MAX {
+            self.failures += 1;
+            return Err(SinkFault);
+        }
+        let mut all = self.bytes.replace(Vec::new(self.alloc));
+        let _kept = all.extend_from_slice(bytes);
+        self.bytes.set(all);
+        Ok(bytes.len())
+    }
+}
+
+/// A host with one file to read and one that can be written.
+#[derive(Drop)]
+pub struct MemoryHost<'a> {
+    /// The path of the file that can be read, and its bytes.
+    path: &'a str,
+    bytes: &'a [u8],
+    /// The path of the file that can be made.
+    made: &'a str,
+    written: Rc<Cell<Vec<u8>>>,
+    /// Whether that file takes what is written.
+    pub takes: bool,
+    pub output: Page,
+    pub errors: Page,
+    alloc: Global,
+}
+
+impl<'a> MemoryHost<'a> {
+    /// A host with the file `net.toml`, where `trace.csv` can be made. The standard streams take all.
+    pub fn new(alloc: Global, bytes: &'a [u8]) -> Result<Self, Fail> {
+        Ok(MemoryHost {
+            path: "net.toml",
+            bytes,
+            made: "trace.csv",
+            written: Rc::new(alloc, Cell::new(Vec::new(alloc)))?,
+            takes: true,
+            output: Page::new(alloc),
+            errors: Page::new(alloc),
+            alloc,
+        })
+    }
+
+    /// The file that was made holds this text and no more.
+    pub fn wrote(&self, text: &str) -> bool {
+        let all = self.written.replace(Vec::new(self.alloc));
+        let holds = all.as_slice() == text.as_bytes();
+        self.written.set(all);
+        holds
+    }
+}
+
+impl Host for MemoryHost<'_> {
+    type File = Leaf;
+
+    type Output = Page;
+
+    type Errors = Page;
+
+    fn read(&mut self, alloc: Global, path: &str) -> Result<Vec<u8>, ReadFault> {
+        if path != self.path {
+            return Err(ReadFault::Device);
+        }
+        match Vec::from_slice(alloc, self.bytes) {
+            Ok(bytes) => Ok(bytes),
+            Err(_) => Err(ReadFault::OutOfMemory),
+        }
+    }
+
+    fn make(&mut self, path: &str) -> Result<Leaf, SinkFault> {
+        if path != self.made {
+            return Err(SinkFault);
+        }
+        match self.written.clone() {
+            Ok(bytes) => Ok(Leaf {
+                bytes,
+                takes: self.takes,
+                failures: 0,
+                alloc: self.alloc,
+            }),
+            Err(_) => Err(SinkFault),
+        }
+    }
+
+    fn output(&mut self) -> &mut Page {
+        &mut self.output
+    }
+
+    fn errors(&mut self) -> &mut Page {
+        &mut self.errors
+    }
+}
+
+/// These words, where `net.toml` has this text, end with this status, and this and no more is on standard output and error output.
+pub fn says(
+    alloc: Global,
+    net: &str,
+    words: &[&str],
+    status: u8,
+    output: &str,
+    errors: &str,
+) -> Result<bool, Fail> {
+    let mut host = MemoryHost::new(alloc, net.as_bytes())?;
+    let ended = perform(words, alloc, &mut host);
+    Ok(ended == status && host.output.holds(output) && host.errors.holds(errors))
+}

@@ -1,0 +1,110 @@
+//! The whole program: from its words to its status.
+ghost use Rattle.afdxsim.specs.Telling.{IsStatus};
+
+use crate::check::check;
+use crate::fault::{BAD_WORDS, DONE, Fault};
+use crate::first::first;
+use crate::host::Host;
+use crate::seq::seq;
+use crate::telling::{say, tell};
+use clap::Error;
+use clap::error::ErrorKind;
+use command_line::{Order, order};
+use std::alloc::Global;
+use std::convert::AsStr;
+use trace_tables::write_all;
+
+/// The whole program. The words are those after its name; the answer is the status that it ends with: 0 done, or help was asked for;
+/// 2 bad words; 3 a bad description; 4 a file or standard output failed; 5 memory or the numbers of a process were wanting.
+///
+/// What the words ask for goes to standard output and into files. A fault is told by one line on error output, bad words by clap's
+/// text; where error output fails, nothing more is said. A fault ends the program at once, and what was written before it stays.
+pub fn perform<S: AsStr, H: Host>(words: &[S], alloc: Global, host: &mut H) -> u8
+    ensures status { IsStatus result }
+{
+    match words.first() {
+        Some(word) if word.as_str() == "first" => perform_first(words, alloc, host),
+        _ => match order(words, alloc) {
+            Ok(order) => obey(&order, alloc, host),
+            Err(error) => answer(&error, alloc, host),
+        },
+    }
+}
+
+/// `first OFFERED`: what it tells goes to standard output, and what it refuses to error output.
+fn perform_first<S: AsStr, H: Host>(words: &[S], alloc: Global, host: &mut H) -> u8
+    ensures status { IsStatus result }
+{
+    let mut text = String::new(alloc);
+    let status = first(words, alloc, &mut text);
+    if status == DONE {
+        return show(text.as_str(), alloc, host);
+    }
+    say(text.as_str(), host.errors());
+    status
+}
+
+/// Does what is ordered.
+fn obey<H: Host>(order: &Order, alloc: Global, host: &mut H) -> u8
+    ensures status { IsStatus result }
+{
+    match order {
+        Order::Check(order) => {
+            let outcome = check(alloc, order.net.as_str(), host);
+            end(outcome, alloc, host)
+        }
+        Order::Seq(order) => {
+            let trace = order.trace.as_ref().map(|path| path.as_str());
+            let outcome = seq(alloc, order.net.as_str(), trace, host);
+            end(outcome, alloc, host)
+        }
+        Order::Run(_) => lack("afdxsim: run is not there yet\n", host),
+        Order::Replay(_) => lack("afdxsim: replay is not there yet\n", host),
+    }
+}
+
+/// Tells a fault, if there was one.
+fn end<H: Host>(outcome: Result<(), Fault<'_>>, alloc: Global, host: &mut H) -> u8
+    ensures status { IsStatus result }
+{
+    match outcome {
+        Ok(()) => DONE,
+        Err(fault) => tell(alloc, &fault, host.errors()),
+    }
+}
+
+/// Says that a command is not there yet.
+fn lack<H: Host>(line: &str, host: &mut H) -> u8
+    ensures status { IsStatus result }
+{
+    say(line, host.errors());
+    BAD_WORDS
+}
+
+/// Writes the help that the words ask for, or why they are refused.
+fn answer<H: Host>(error: &Error, alloc: Global, host: &mut H) -> u8
+    ensures status { IsStatus result }
+{
+    match (error.kind(), error.to_string(alloc)) {
+        (ErrorKind::OutOfMemory, _) | (_, Err(_)) => {
+            tell(alloc, &Fault::OutOfMemory, host.errors())
+        }
+        (ErrorKind::DisplayHelp | ErrorKind::DisplayVersion, Ok(text)) => {
+            show(text.as_str(), alloc, host)
+        }
+        (_, Ok(text)) => {
+            say(text.as_str(), host.errors());
+            BAD_WORDS
+        }
+    }
+}
+
+/// Writes a text on standard output.
+fn show<H: Host>(text: &str, alloc: Global, host: &mut H) -> u8
+    ensures status { IsStatus result }
+{
+    match write_all(host.output(), text.as_bytes()) {
+        Ok(()) => DONE,
+        Err(_) => tell(alloc, &Fault::CannotWrite, host.errors()),
+    }
+}

@@ -1,0 +1,110 @@
+//! The real host: the files and the standard streams of the system.
+ghost use Rattle.std.specs.Prelude.{◌≤◌, length, IfSome};
+
+use crate::host::{Host, ReadFault};
+use std::alloc::Global;
+use std::fs;
+use std::fs::File;
+use std::io::{ErrorKind, Stderr, Stdout, Write};
+use trace_tables::{Sink, SinkFault};
+
+/// A file or a stream of the system. No clause tells what it took.
+#[derive(Drop)]
+pub struct Device<W> {
+    writer: W,
+    failures: u64,
+}
+
+/// Writes some of these bytes, by one system call where none is interrupted, and tells how many. None where the system refuses.
+fn write_some<W: Write>(writer: &mut W, bytes: &[u8]) -> Option<usize>
+    ensures some { IfSome result (λ n. (1 ≤ n) × (n ≤ length bytes.now)) }
+{
+    for _ in 0..u64::MAX {
+        match writer.write(bytes) {
+            Ok(0) => return None,
+            Ok(n) => return Some(n),
+            Err(error) if error.kind() == ErrorKind::Interrupted => {}
+            Err(_) => return None,
+        }
+    }
+    None
+}
+
+impl<W: Write> Sink for Device<W> {
+    ghost use Rattle.std.specs.Prelude.{None};
+
+    ghost taken = { λ _. None };
+
+    ghost failures = { λ device. device.failures };
+
+    // After 2^64 - 1 failures it takes all bytes and drops them.
+    fn write(&mut self, bytes: &[u8]) -> Result<usize, SinkFault> {
+        match write_some(&mut self.writer, bytes) {
+            Some(n) => Ok(n),
+            None if self.failures < u64::MAX => {
+                self.failures += 1;
+                Err(SinkFault)
+            }
+            None => Ok(bytes.len()),
+        }
+    }
+}
+
+/// The system that the program runs on.
+#[derive(Drop)]
+pub struct System {
+    runtime: HostRuntime,
+    output: Device<Stdout>,
+    errors: Device<Stderr>,
+}
+
+impl System {
+    /// The system behind this runtime.
+    pub fn new(runtime: HostRuntime) -> Self {
+        System {
+            runtime,
+            output: Device {
+                writer: runtime.stdout(),
+                failures: 0,
+            },
+            errors: Device {
+                writer: runtime.stderr(),
+                failures: 0,
+            },
+        }
+    }
+}
+
+impl Host for System {
+    type File = Device<File>;
+
+    type Output = Device<Stdout>;
+
+    type Errors = Device<Stderr>;
+
+    fn read(&mut self, alloc: Global, path: &str) -> Result<Vec<u8>, ReadFault> {
+        match fs::read(&self.runtime, path) {
+            Ok(bytes) => Ok(bytes),
+            Err(error) if error.kind() == ErrorKind::OutOfMemory => Err(ReadFault::OutOfMemory),
+            Err(_) => Err(ReadFault::Device),
+        }
+    }
+
+    fn make(&mut self, path: &str) -> Result<Device<File>, SinkFault> {
+        match fs::create(&self.runtime, path) {
+            Ok(writer) => Ok(Device {
+                writer,
+                failures: 0,
+            }),
+            Err(_) => Err(SinkFault),
+        }
+    }
+
+    fn output(&mut self) -> &mut Device<Stdout> {
+        &mut self.output
+    }
+
+    fn errors(&mut self) -> &mut Device<Stderr> {
+        &mut self.errors
+    }
+}
