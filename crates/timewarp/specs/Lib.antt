@@ -1,0 +1,5 @@
+pub mod Faults
+pub mod Replaying
+pub mod Steps
+pub mod Worlds
+pub mod Stepping
