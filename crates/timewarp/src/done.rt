@@ -1,0 +1,8 @@
+/// What became of a step that was not refused.
+#[derive(Clone, Copy, Debug, PartialEq, Eq)]
+pub enum Done {
+    /// It was done.
+    Did,
+    /// It is not enabled, and changed nothing.
+    NotEnabled,
+}
