@@ -86,7 +86,7 @@ at-destinations vl places rows row id l rises is same = go (place_among places r
         ∙ set-map (λ p. p) (counted vl rows) (counted vl (rows ++ row ∷ [])) places d there.0 (subst Rises (sym (map-id places)) rises) there.1
         (λ p differ. agree p (λ e. differ (e ∙ sym here)))
 
-map-same : {X Y : Type 0} (f g : X → Y) (xs : List X) → ((x : X) → f x ≡ g x) → map f xs ≡ map g xs
+pub map-same : {X Y : Type 0} (f g : X → Y) (xs : List X) → ((x : X) → f x ≡ g x) → map f xs ≡ map g xs
 map-same f g [] agree = refl
 map-same f g (x ∷ xs) agree = ap (λ y. y ∷ map f xs) (agree x) ∙ ap (λ ys. g x ∷ ys) (map-same f g xs agree)
 

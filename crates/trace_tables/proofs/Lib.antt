@@ -3,3 +3,9 @@ pub mod ListLemmas
 pub mod DeliveryLemmas
 pub mod DropLemmas
 pub mod WritingLemmas
+pub mod LossOrderLemmas
+pub mod CountedLemmas
+pub mod DropCountLemmas
+pub mod PlaceLemmas
+pub mod GatherLemmas
+pub mod LatencyCountLemmas

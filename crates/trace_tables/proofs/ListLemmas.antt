@@ -23,6 +23,10 @@ abbrev pub Rises : List ℕ → Type 0
 Rises [] = ⊤
 Rises (x ∷ xs) = AllAbove x xs × Rises xs
 
+-- 1 where a test passes, as counts have it
+abbrev pub one_if : Bool → ℕ
+one_if b = cond b 1 0
+
 cons-same : {Y : Type 0} (x y : Y) (xs ys : List Y) → x ≡ y → xs ≡ ys → x ∷ xs ≡ y ∷ ys
 cons-same x y xs ys e d = ap (λ z. z ∷ xs) e ∙ ap (λ zs. y ∷ zs) d
 

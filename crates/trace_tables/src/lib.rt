@@ -5,6 +5,7 @@ mod deliver;
 mod drops;
 mod fault;
 mod latencies;
+mod laws;
 mod line;
 mod loss;
 mod naming;
@@ -16,10 +17,13 @@ mod write;
 
 pub use fault::{OutFault, SinkFault};
 pub use latencies::Latencies;
+pub use laws::{drop_counts, latency_counts, tables_by_place};
 pub use loss::Loss;
 pub use sink::Sink;
 pub use tables::Tables;
 pub use write::{write_csv, write_trace};
 
+#[cfg(test)]
+mod sink_tests;
 #[cfg(test)]
 mod tests;

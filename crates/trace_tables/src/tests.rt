@@ -74,7 +74,7 @@ a = [["ES1", "SW1", "ES2"]]
 b = []
 "#;
 
-const TABLES: &str = "table,vl,where,cause,count,least_ns,greatest_ns,sum_ns
+pub(crate) const TABLES: &str = "table,vl,where,cause,count,least_ns,greatest_ns,sum_ns
 latency,2,ES2,,2,100,27720,27820
 latency,7,ES3,,1,9,9,9
 latency,7,ES2,,0,0,0,0
@@ -83,7 +83,7 @@ dropped,2,ES1>SW1,outage,1,,,
 dropped,7,SW1,too_long,2,,,
 ";
 
-const TRACE: &str = "time_ns,where,vl,what,value
+pub(crate) const TRACE: &str = "time_ns,where,vl,what,value
 27720,ES2,2,delivered,27720
 30000,ES2,2,delivered,100
 30001,ES3,7,delivered,9
@@ -165,7 +165,7 @@ fn dropped(rt: &impl Abort, vl: u16, cause: Cause, bytes: u16) -> Note {
 }
 
 // Deliveries and drops, also of a virtual link and at a process that the network lacks, and where the virtual link does not end.
-fn rows(rt: &impl Abort) -> [Row; 10] {
+pub(crate) fn rows(rt: &impl Abort) -> [Row; 10] {
     [
         row(rt, 27720, 2, delivered(2, 27720)),
         row(rt, 30000, 2, delivered(2, 100)),
@@ -180,7 +180,7 @@ fn rows(rt: &impl Abort) -> [Row; 10] {
     ]
 }
 
-fn network(alloc: Global) -> Result<Network, Fail> {
+pub(crate) fn network(alloc: Global) -> Result<Network, Fail> {
     Ok(read(alloc, NETWORK)?)
 }
 
