@@ -35,11 +35,19 @@ impl Replay {
             IsExhausted (simulation_of self.old.world.plan) (step_of step) (after self.old.world.plan (map step_of steps)) }
     {
         match self.world.step(step) {
-            Ok(Done::Did) => self.did += 1,
-            Ok(Done::NotEnabled) => self.not_enabled += 1,
-            Err(StepFault::NoProcess) => self.refused += 1,
-            Err(fault) => return Err(fault),
+            Ok(Done::Did) => {
+                self.did += 1;
+                Ok(())
+            }
+            Ok(Done::NotEnabled) => {
+                self.not_enabled += 1;
+                Ok(())
+            }
+            Err(StepFault::NoProcess) => {
+                self.refused += 1;
+                Ok(())
+            }
+            Err(fault) => Err(fault),
         }
-        Ok(())
     }
 }

@@ -10,7 +10,6 @@ mod fault;
 mod journal;
 mod laws;
 mod tables;
-mod temp_by_place;
 mod world;
 
 pub use counting::Replay;
@@ -20,3 +19,10 @@ pub use journal::replay;
 pub use laws::world_laws;
 pub use vlink::Step;
 pub use world::World;
+
+#[cfg(test)]
+mod replay_tests;
+#[cfg(test)]
+mod test_networks;
+#[cfg(test)]
+mod world_tests;

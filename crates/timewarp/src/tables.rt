@@ -13,8 +13,7 @@ use crate::fault::StepFault;
 use crate::laws::{layout, world_laws};
 use crate::world::World;
 use std::alloc::{AllocError, Global};
-use crate::temp_by_place::tables_by_place;
-use trace_tables::Tables;
+use trace_tables::{tables_by_place, Tables};
 use vlink::Row;
 
 impl World {

@@ -116,7 +116,8 @@ impl World {
     pub fn is_finished(&self) -> bool
         ensures { (steps : List Stepped) → IsAfter self.now steps → IsTrue result ↔ IsFinished (simulation_of self.now.plan) (after self.now.plan steps) }
     {
-        self.actors.gvt() > self.network.until() && self.actors.all_committed()
+        let is_over = self.gvt().ns() == self.network.until().ns() + 1;
+        is_over && self.actors.all_committed()
     }
 
     /// The letter number `place`, from 0, of the mail of process `process`: the one that the step Take would take. None where there is
