@@ -1,4 +1,5 @@
 pub mod Arriving
+pub mod Commits
 pub mod Counting
 pub mod Newest
 pub mod Next

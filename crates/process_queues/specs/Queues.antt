@@ -20,10 +20,11 @@ pub record Queues (S K : Type 0) : Type 0 where
   pub tray : List (Signed Message)
   pub outbox : List (Signed Message)
 
--- the queues, and for how many more letters the tray has room
+-- the queues, for how many more letters the tray has room, and for how many more committed events there is room
 pub record InHand (S K : Type 0) : Type 0 where
   pub queues : Queues S K
   pub room : ℕ
+  pub committed_room : ℕ
 
 -- the two tallies have the same signed counts
 abbrev pub CountsAgree : {S K : Type 0} → Rules Message S K Note → List (Signed Message) → List (Signed Message) → Type 0

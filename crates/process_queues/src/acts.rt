@@ -1,5 +1,5 @@
 //! What a process does alone: letters arrive, messages are handled, events are committed, and all is undone.
-ghost use Rattle.std.specs.Prelude.{◌≡◌, ◌≢◌, ◌+◌, ◌<◌, ◌↔◌, ◌⊎◌, ℕ, ◌++◌, [], ◌∷◌, false, true, length, drop, All, map, IsTrue, IsSome, MatchOption, OnOk, OnErr, IfOk, IfErr, slice_get, Some};
+ghost use Rattle.std.specs.Prelude.{◌≡◌, ◌≢◌, ◌+◌, ◌<◌, ◌≤◌, ◌↔◌, ◌⊎◌, ℕ, ◌++◌, [], ◌∷◌, false, true, length, drop, All, map, IsTrue, IsSome, MatchOption, OnOk, OnErr, IfOk, IfErr, slice_get, Some};
 ghost use Rattle.std.specs.VecDeque.{deque_len};
 ghost use Rattle.vlink.specs.declared.message.Message.{Message};
 ghost use Rattle.vlink.specs.declared.message.Letter.{Letter as Posted};
@@ -74,13 +74,16 @@ impl<R: Actor> Process<R> {
     }
 
     /// The oldest done event is committed, where its signed count is just 1: it leaves the done events and the counts, and its rows are
-    /// sealed. The answer is whether there was one.
+    /// sealed. The answer is whether there was one. Where there is room for a committed event this takes no memory and succeeds.
     pub fn seal_oldest(&mut self) -> Result<bool, ProcFault>
         ensures sealed { OnOk result (Does (rules_of R.plain R.counter) R.is_value (λ opening. seal_oldest (rules_of R.plain R.counter)) self.old.queues self.new.queues) }
         ensures answer { IfOk result (λ done. (opening : R) (part : Part Message R) →
             StandsFor (rules_of R.plain R.counter) R.is_value opening part self.old.queues → done ≡ can_seal (rules_of R.plain R.counter) part part.done) }
         ensures tray { self.new.queues.tray ≡ self.old.queues.tray }
+        ensures outbox { self.new.queues.outbox ≡ self.old.queues.outbox }
+        ensures room { self.old.committed_room ≤ self.new.committed_room + 1 }
         ensures unchanged { OnErr result (self.new.queues ≡ self.old.queues) }
+        ensures reserved { OnErr result (self.old.committed_room ≡ 0) }
         ensures memory { IfErr result (λ fault. fault ≡ OutOfMemory) }
     {
         actor_rules::<R>();

@@ -3,6 +3,7 @@
 #![tactic(auto)]
 
 mod acts;
+mod committing;
 mod fault;
 mod order;
 mod past;

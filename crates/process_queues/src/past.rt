@@ -87,6 +87,13 @@ impl<R: Actor> Past<R> {
         }
     }
 
+    /// The oldest done events, so many or all where there are fewer.
+    pub(crate) fn first(&self, most: usize) -> &[Event<R::Record>]
+        ensures { result.now ≡ take most self.now.done }
+    {
+        &self.done[..most.min(self.done.len())]
+    }
+
     /// How many done events there are.
     pub(crate) fn done_len(&self) -> usize
         ensures { result ≡ length self.now.done }

@@ -38,7 +38,7 @@ pub struct Process<R: Actor> {
 }
 
 impl<R: Actor> Model for Process<R> {
-    ghost use Rattle.std.specs.Prelude.{◌-◌, length, map};
+    ghost use Rattle.std.specs.Prelude.{◌-◌, length, map, vec_len, vec_capacity};
     ghost use Rattle.std.specs.VecDeque.{deque_len, deque_capacity};
     ghost use Rattle.vlink.specs.declared.message.Message.{Message};
     ghost use Rattle.virtual_time.specs.Part.{Part};
@@ -58,6 +58,7 @@ impl<R: Actor> Model for Process<R> {
         outbox = p.outbox.letters;
       };
       room = deque_capacity p.tray - deque_len p.tray;
+      committed_room = vec_capacity p.committed - vec_len p.committed;
     } };
 
     ghost invariant = { λ p. (opening : R) × (part : Part Message R) × StandsFor (rules_of R.plain R.counter) R.is_value opening part

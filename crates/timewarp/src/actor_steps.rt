@@ -1,14 +1,15 @@
 //! The six steps of a world of any actors.
-ghost use Rattle.std.specs.Prelude.{◌≡◌, ◌≢◌, ◌↔◌, ◌<◌, ℕ, true, false, length, Ok, Err, OnOk, IfOk};
+ghost use Rattle.std.specs.Prelude.{◌≡◌, ◌≢◌, ◌↔◌, ◌<◌, ℕ, true, false, length, Some, Ok, Err, IsTrue, OnOk, IfOk};
 ghost use Rattle.vlink.specs.declared.step.Step.TheVariants.{Gvt as NotedGvt};
 ghost use Rattle.virtual_time.specs.World.{is_enabled, step as stepped};
 ghost use Rattle.virtual_time.specs.World.Step.{Take, Arrive, Run, Post, Gvt, Commit};
 ghost use Rattle.reverse.specs.Rules.{rules_of};
+ghost use Rattle.antimessages.specs.Letters.{signed};
 ghost use Rattle.timewarp.specs.declared.done.Done.TheVariants.{Did, NotEnabled};
 ghost use Rattle.timewarp.specs.declared.fault.StepFault.TheVariants.{NoProcess, OutOfMemory, Exhausted};
 ghost use Rattle.timewarp.specs.Steps.{step_of, names_none};
 ghost use Rattle.timewarp.specs.Worlds.{StandsForWorld, HoldsTheSame, IsExhausted, AtEachWorld, IsAWorld};
-ghost use Rattle.timewarp.specs.Stepping.{IsStepped};
+ghost use Rattle.timewarp.specs.Stepping.{IsStepped, is_moment_before};
 
 use crate::actors::ActorWorld;
 use crate::done::Done;
@@ -16,7 +17,8 @@ use crate::fault::StepFault;
 use seqsim::actor_laws;
 use gvt::{gvt_law, horizon};
 use reverse::Actor;
-use vlink::Step;
+use virtual_time::headline;
+use vlink::{Letter, Message, Note, Step, Time};
 
 impl<R: Actor> ActorWorld<R> {
     /// Does one step. What is held for a world is afterwards what the step makes of that world; a step that is not enabled, and one that
@@ -75,7 +77,7 @@ impl<R: Actor> ActorWorld<R> {
         let Some(letter) = self.mail.look(process, place as usize) else {
             return Ok(Done::NotEnabled);
         };
-        let time = letter.message.time;
+        let time = time_of(&letter);
         self.processes[usize::from(process)].deliver(letter)?;
         let _taken = self.mail.take(process, place as usize);
         self.floors.lower(process, time);
@@ -88,11 +90,10 @@ impl<R: Actor> ActorWorld<R> {
         requires there { process < length self.old.processes }
         ensures { IsStepped (rules_of R.plain R.counter) R.number R.end R.is_placed R.is_value (Arrive process) self.old self.new result }
     {
-        let part = &mut self.processes[usize::from(process)];
-        if part.tray_len() == 0 {
+        if self.processes[usize::from(process)].tray_len() == 0 {
             return Ok(Done::NotEnabled);
         }
-        part.arrive()?;
+        self.processes[usize::from(process)].arrive()?;
         Ok(Done::Did)
     }
 
@@ -102,11 +103,10 @@ impl<R: Actor> ActorWorld<R> {
         requires there { process < length self.old.processes }
         ensures { IsStepped (rules_of R.plain R.counter) R.number R.end R.is_placed R.is_value (Run process) self.old self.new result }
     {
-        let part = &mut self.processes[usize::from(process)];
-        if part.next().is_none() {
+        if self.processes[usize::from(process)].next().is_none() {
             return Ok(Done::NotEnabled);
         }
-        part.run()?;
+        self.processes[usize::from(process)].run()?;
         Ok(Done::Did)
     }
 
@@ -117,9 +117,8 @@ impl<R: Actor> ActorWorld<R> {
         ensures { IsStepped (rules_of R.plain R.counter) R.number R.end R.is_placed R.is_value (Post process) self.old self.new result }
     {
         actor_laws::<R>();
-        let part = &mut self.processes[usize::from(process)];
-        part.post(&mut self.mail)?;
-        let floor = part.floor();
+        self.processes[usize::from(process)].post(&mut self.mail)?;
+        let floor = self.processes[usize::from(process)].floor();
         self.floors.set(process, floor);
         Ok(Done::Did)
     }
@@ -130,6 +129,7 @@ impl<R: Actor> ActorWorld<R> {
         ensures stepped { IsStepped (rules_of R.plain R.counter) R.number R.end R.is_placed R.is_value Gvt self.old self.new (Ok result) }
         ensures did { result ≡ Did }
     {
+        gvt_law::<R, R::Record, Note>();
         self.gvt = horizon(&self.floors, &self.mail);
         Done::Did
     }
@@ -141,12 +141,28 @@ impl<R: Actor> ActorWorld<R> {
         ensures { IsStepped (rules_of R.plain R.counter) R.number R.end R.is_placed R.is_value (Commit process) self.old self.new result }
     {
         actor_laws::<R>();
-        let part = &mut self.processes[usize::from(process)];
-        match part.oldest() {
-            Some(oldest) if oldest < self.gvt => {}
-            _ => return Ok(Done::NotEnabled),
+        headline::<Message, R, R::Record, Note>();
+        if !is_early(self.processes[usize::from(process)].oldest(), self.gvt) {
+            return Ok(Done::NotEnabled);
         }
-        part.seal_oldest()?;
+        self.processes[usize::from(process)].seal_oldest()?;
         Ok(Done::Did)
+    }
+}
+
+/// The time of the letter's message.
+fn time_of(letter: &Letter) -> Time
+    ensures { result ≡ (signed letter.now).message.time }
+{
+    letter.message.time
+}
+
+/// Whether there is a moment, and it is earlier than another.
+fn is_early(moment: Option<Time>, limit: Time) -> bool
+    ensures { result ≡ is_moment_before limit moment }
+{
+    match moment {
+        Some(moment) => moment < limit,
+        None => false,
     }
 }

@@ -18,7 +18,7 @@ use crate::fault::StepFault;
 use antimessages::{Mail, Outbox};
 use gvt::Floors;
 use process_queues::Process;
-use reverse::Actor;
+use reverse::{Actor, actor_rules};
 use std::alloc::Global;
 use std::marker::Model;
 use vlink::{Letter, Message, Row, Sign, Time};
@@ -63,6 +63,7 @@ impl<R: Actor + Drop> ActorWorld<R> {
             StandsForWorld (simulation_of (rules_of R.plain R.counter) x) R.is_value (start (simulation_of (rules_of R.plain R.counter) x)) world) }
         ensures memory { IfErr result (λ fault. fault ≡ OutOfMemory) }
     {
+        actor_rules::<R>();
         let count = actors.len() as u16;
         let mut letters = plus_letters(alloc, offers)?;
         let mut mail = Mail::new(alloc, count)?;
@@ -171,9 +172,9 @@ fn processes_of<R: Actor + Drop>(alloc: Global, actors: Vec<R>) -> Result<Vec<Pr
     ensures processes { IfOk result (λ processes. map (λ process. process.queues) processes.items ≡ map opened_queues actors.items) }
     ensures memory { IfErr result (λ fault. fault ≡ OutOfMemory) }
 {
-    let mut processes = Vec::with_capacity(alloc, actors.len())?;
+    let mut processes = Vec::new(alloc);
     for actor in actors {
-        processes.push_reserved(Process::new(alloc, actor));
+        processes.push(Process::new(alloc, actor))?;
     }
     Ok(processes)
 }

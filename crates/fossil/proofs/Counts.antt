@@ -1,0 +1,89 @@
+-- How many events are committed one after another, counted before the first of them is.
+use Rattle.std.proofs.Common.{◌≡◌, ℕ, zero, suc, ◌+◌, ◌<◌, ◌≤◌, ◌==◌, Bool, true, false, ◌&&◌, cond, if◌then◌else◌, nat_lt, List, [], ◌∷◌, take, Result, Ok, Err, refl, sym, ap, ◌∙◌, subst, arith, add-one}
+use Rattle.std.specs.Prelude.{OnOk, OnErr}
+use Rattle.virtual_time.specs.Rules.{Rules, IsOrder}
+use Rattle.virtual_time.specs.Lists.{IsIn, IsAscending, one_if}
+use Rattle.virtual_time.specs.Letters.{Letter, minus_of, pluses, minuses}
+use Rattle.virtual_time.specs.Part.{Part, can_seal, sealed, seal_oldest}
+use Rattle.virtual_time.proofs.Order.{greater-different}
+use Rattle.virtual_time.proofs.Lists.{in-head}
+use Rattle.virtual_time.proofs.Letters.{counts-other}
+use Rattle.process_queues.specs.Committing.{can_commit, committable}
+use Rattle.fossil.specs.Committed.{is_early, is_ready, sealed_times, committed_below, committed_once}
+
+and-second : (a b : Bool) → (a && b) ≡ true → b ≡ true
+and-second true b h = h
+and-second false b h = cc
+
+-- what holds where a call is not refused, of a call that is refused only where there is no room
+pub on_ok-room : {A E : Type 0} (P : Type 0) (x : Result A E) (room : ℕ) → OnOk x P → OnErr x (room ≡ 0) → 0 < room → P
+on_ok-room P (Ok a) room h n some = h
+on_ok-room P (Err e) room h n some = absurd (omega arith)
+
+module _ {M S K N : Type 0} (r : Rules M S K N) where
+  -- once more
+  pub sealed-last : (n : ℕ) (part : Part M S) → sealed_times r (n + 1) part ≡ seal_oldest r (sealed_times r n part)
+  sealed-last zero part = refl
+  sealed-last (suc n) part = ap (λ k. sealed_times r k part) (add-one (suc n)) ∙ (ap (λ k. sealed_times r k (seal_oldest r part)) (sym (add-one n)) ∙ sealed-last n (seal_oldest r part))
+
+  -- one at most
+  pub once-count : (g : ℕ) (part : Part M S) → committed_below r g 1 part ≡ one_if (is_ready r g part)
+  once-count g part = go (is_ready r g part)
+    where
+      go : (b : Bool) → cond b 1 0 ≡ one_if b
+      go true = refl
+      go false = refl
+
+  pub once-part : (g : ℕ) (part : Part M S) → sealed_times r (committed_below r g 1 part) part ≡ committed_once r g part
+  once-part g part = go (is_ready r g part)
+    where
+      go : (b : Bool) → sealed_times r (cond b 1 0) part ≡ cond b (seal_oldest r part) part
+      go true = refl
+      go false = refl
+
+  pub committable-within : (g : ℕ) (tally : List (Letter M)) (n : ℕ) (ms : List M) → committable r g tally (take n ms) ≤ n
+  committable-within g tally zero ms = omega arith
+  committable-within g tally (suc n) [] = omega arith
+  committable-within g tally (suc n) (m ∷ ms) = go (can_commit r g tally m) (committable-within g tally n ms)
+    where
+      go : (b : Bool) → committable r g tally (take n ms) ≤ n → cond b (suc (committable r g tally (take n ms))) 0 ≤ suc n
+      go true h = omega arith
+      go false h = omega arith
+
+  module _ (O : IsOrder r) (g : ℕ) where
+    -- that m is committed changes nothing for the events behind it
+    can-other : (m x : M) (tally : List (Letter M)) → r.less m x ≡ true → can_commit r g (minus_of m ∷ tally) x ≡ can_commit r g tally x
+    can-other m x tally h =
+        let a = counts-other r O x (minus_of m) tally (greater-different r O x m h) in
+        ap (λ p. nat_lt (r.time x) g && (p == minuses r x (minus_of m ∷ tally) + 1)) a.0 ∙ ap (λ q. nat_lt (r.time x) g && (pluses r x tally == q + 1)) a.1
+
+    committable-other : (m : M) (tally : List (Letter M)) (n : ℕ) (xs : List M) → ((x : M) → IsIn r x xs → r.less m x ≡ true) →
+        committable r g (minus_of m ∷ tally) (take n xs) ≡ committable r g tally (take n xs)
+    committable-other m tally zero xs h = refl
+    committable-other m tally (suc n) [] h = refl
+    committable-other m tally (suc n) (x ∷ xs) h =
+        ap (λ can. if can then suc (committable r g (minus_of m ∷ tally) (take n xs)) else 0) (can-other m x tally (h x (in-head r O x xs))) ∙
+        ap (λ k. if can_commit r g tally x then suc k else 0) (committable-other m tally n xs (λ y j. h y (let k : IsIn r y (x ∷ xs) = omega arith in k)))
+
+    -- as many as come before the first one that cannot be committed
+    pub committable-below : (n : ℕ) (part : Part M S) → IsAscending r part.done → committable r g part.tally (take n part.done) ≡ committed_below r g n part
+    committable-below zero part up = refl
+    committable-below (suc n) part up = go part.done refl (committable-below n)
+      where
+        go : (ms : List M) → part.done ≡ ms → ((p : Part M S) → IsAscending r p.done → committable r g p.tally (take n p.done) ≡ committed_below r g n p) →
+            committable r g part.tally (take (suc n) ms) ≡ cond (is_early r g ms && can_seal r part ms) (suc (committed_below r g n (seal_oldest r part))) 0
+        go [] e ih = refl
+        go (m ∷ rest) e ih = pick (can_commit r g part.tally m) refl
+          where
+            ascends : IsAscending r (m ∷ rest)
+            ascends = subst (IsAscending r) e up
+
+            seals : can_seal r part (m ∷ rest) ≡ true → seal_oldest r part ≡ sealed r part (m ∷ rest)
+            seals h = ap (λ ms. cond (can_seal r part ms) (sealed r part ms) part) e ∙ ap (λ b. cond b (sealed r part (m ∷ rest)) part) h
+
+            pick : (b : Bool) → can_commit r g part.tally m ≡ b →
+                cond b (suc (committable r g part.tally (take n rest))) 0 ≡ cond b (suc (committed_below r g n (seal_oldest r part))) 0
+            pick true h = ap suc
+                (sym (committable-other m part.tally n rest ascends.0) ∙
+                (ih (sealed r part (m ∷ rest)) ascends.1 ∙ ap (committed_below r g n) (sym (seals (and-second (nat_lt (r.time m) g) _ h)))))
+            pick false h = refl

@@ -1,0 +1,45 @@
+use Rattle.std.proofs.Common.{◌≡◌, ◌<◌, ◌≤◌, sym, ap, ◌∙◌, subst, map, arith}
+use Rattle.virtual_time.specs.Part.{seal_oldest}
+use Rattle.reverse.specs.Rules.{rules_of}
+use Rattle.antimessages.specs.Letters.{message_rules}
+use Rattle.process_queues.specs.Queues.{StandsFor, Does}
+use Rattle.fossil.specs.Committed.{sealed_times, committed_below}
+use Rattle.fossil.proofs.Counts.{on_ok-room, sealed-last, once-part, committable-within, committable-below}
+use Rattle.fossil.proofs.collection.commit.Goals as goal
+
+pub loop-sealed-preserved : goal.loop-sealed-preserved
+loop-sealed-preserved g c =
+    let r = rules_of g.R.Reversible.plain g.R.Actor.counter in
+    let v = g.R.Reversible.is_value in
+    let i = c.loop-sealed.invariant in
+    let some : 0 < c.loop-sealed.process.committed_room = omega arith in
+    let seals = on_ok-room (Does r v (λ opening. seal_oldest r) c.loop-sealed.process.queues c.seal_oldest-done.new.self.queues) c.seal_oldest-done.result
+    c.loop-sealed.process.committed_room c.seal_oldest-done.ensures.sealed c.seal_oldest-done.ensures.reserved some in
+    record {
+      committed = λ opening part h. subst (λ z. StandsFor r v opening z c.seal_oldest-done.new.self.queues) (sym (sealed-last r c.loop-sealed.sealed part))
+          (seals opening (sealed_times r c.loop-sealed.sealed part) (i.committed opening part h));
+      room = let room = c.seal_oldest-done.ensures.room in omega arith;
+      none = λ e. absurd (omega arith);
+      tray = c.seal_oldest-done.ensures.tray ∙ i.tray;
+      outbox = c.seal_oldest-done.ensures.outbox ∙ i.outbox;
+    }
+
+pub returns-clause-answer : goal.returns-clause-answer
+returns-clause-answer g c opening part h =
+    c.committable-count.ensures.stands opening part h ∙
+    committable-below (rules_of g.R.Reversible.plain g.R.Actor.counter) c.actor_rules.ensures.order c.args.gvt c.args.n part h.past.ascending
+
+pub returns-clause-one_part : goal.returns-clause-one_part
+returns-clause-one_part g c one opening part h =
+    let r = rules_of g.R.Reversible.plain g.R.Actor.counter in
+    let v = g.R.Reversible.is_value in
+    let all : c.loop-sealed.sealed ≡ c.committable-count.result = omega arith in
+    let count : c.loop-sealed.sealed ≡ committed_below r c.args.gvt 1 part =
+    all ∙ (returns-clause-answer g c opening part h ∙ ap (λ n. committed_below r c.args.gvt n part) one) in
+    subst (λ z. StandsFor r v opening z c.loop-sealed.process.queues) (ap (λ n. sealed_times r n part) count ∙ once-part r c.args.gvt part)
+    (c.loop-sealed.invariant.committed opening part h)
+
+pub returns-clause-within : goal.returns-clause-within
+returns-clause-within g c =
+    subst (λ count. count ≤ c.args.n) (sym c.committable-count.ensures.committable)
+    (committable-within message_rules c.args.gvt c.args.process.now.queues.tally c.args.n (map (λ e. e.message) c.args.process.now.queues.past.done))

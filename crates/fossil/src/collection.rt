@@ -1,0 +1,43 @@
+ghost use Rattle.std.specs.Prelude.{◌≡◌, ◌≤◌, OnOk, OnErr, IfOk};
+ghost use Rattle.vlink.specs.declared.message.Message.{Message};
+ghost use Rattle.virtual_time.specs.Lists.{one_if};
+ghost use Rattle.virtual_time.specs.Part.{Part};
+ghost use Rattle.reverse.specs.Rules.{rules_of};
+ghost use Rattle.process_queues.specs.Queues.{StandsFor, Does};
+ghost use Rattle.fossil.specs.Committed.{is_ready, sealed_times, committed_below, committed_once};
+
+use antimessages::OutOfMemory;
+use process_queues::Process;
+use reverse::{Actor, actor_rules};
+use vlink::Time;
+
+/// Fossil collection (Jefferson, "Virtual Time", ACM TOPLAS 7(3), 1985): done events that are earlier than `gvt`, in ns, are committed,
+/// the oldest first, until `n` are, none is left, or the signed count of one is not 1. The answer is how many. An event at `gvt` itself
+/// is not committed. A refusal commits none.
+///
+/// - `committed`: the part for which the process stands, after so many times its oldest done event was committed.
+/// - `answer`: how many, for each part for which the process stood.
+/// - `one`, `one_part`: of one event at most, whether there was one, and what became of the part.
+pub fn commit<R: Actor>(process: &mut Process<R>, gvt: Time, n: u64) -> Result<u64, OutOfMemory>
+    ensures committed { IfOk result (λ count. Does (rules_of R.plain R.counter) R.is_value (λ opening. sealed_times (rules_of R.plain R.counter) count) process.old.queues process.new.queues) }
+    ensures answer { IfOk result (λ count. (opening : R) (part : Part Message R) →
+        StandsFor (rules_of R.plain R.counter) R.is_value opening part process.old.queues → count ≡ committed_below (rules_of R.plain R.counter) gvt n part) }
+    ensures one { n ≡ 1 → IfOk result (λ count. (opening : R) (part : Part Message R) →
+        StandsFor (rules_of R.plain R.counter) R.is_value opening part process.old.queues → count ≡ one_if (is_ready (rules_of R.plain R.counter) gvt part)) }
+    ensures one_part { n ≡ 1 → OnOk result (Does (rules_of R.plain R.counter) R.is_value (λ opening. committed_once (rules_of R.plain R.counter) gvt) process.old.queues process.new.queues) }
+    ensures within { IfOk result (λ count. count ≤ n) }
+    ensures none { IfOk result (λ count. count ≡ 0 → process.new.queues ≡ process.old.queues) }
+    ensures tray { process.new.queues.tray ≡ process.old.queues.tray }
+    ensures outbox { process.new.queues.outbox ≡ process.old.queues.outbox }
+    ensures unchanged { OnErr result (process.new.queues ≡ process.old.queues) }
+{
+    actor_rules::<R>();
+    let count = process.committable(gvt, n as usize);
+    if process.reserve_rows(count).is_err() {
+        return Err(OutOfMemory);
+    }
+    for sealed in 0..count {
+        let _done = process.seal_oldest();
+    }
+    Ok(count as u64)
+}

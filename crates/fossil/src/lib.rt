@@ -1,0 +1,7 @@
+//! Fossil collection: the events of a process that are earlier than global virtual time (GVT) can be undone no more, and are committed
+//! (Jefferson, "Virtual Time", ACM TOPLAS 7(3), 1985).
+#![tactic(auto)]
+
+mod collection;
+
+pub use collection::commit;

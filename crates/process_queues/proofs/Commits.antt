@@ -1,0 +1,39 @@
+-- How many done events can be committed, by the rules of an actor and by those of messages alone.
+use Rattle.std.proofs.Common.{◌≡◌, ℕ, suc, ◌+◌, ◌==◌, ◌&&◌, if◌then◌else◌, nat_lt, List, [], ◌∷◌, map, take, pos, ◌-ℤ◌, refl, sym, ap, ◌∙◌, arith, eq-eqb}
+use Rattle.std.specs.Cmp.{both_ways}
+use Rattle.std.proofs.lemmas.Bool.{eqb-true}
+use Rattle.std.proofs.lemmas.Int.{ints}
+use Rattle.vlink.specs.declared.message.Message.{Message}
+use Rattle.vlink.specs.declared.note.Note.{Note}
+use Rattle.virtual_time.specs.Rules.{Rules, reached}
+use Rattle.virtual_time.specs.Letters.{Letter as Signed, pluses, minuses}
+use Rattle.virtual_time.specs.Part.{Part}
+use Rattle.antimessages.specs.Letters.{message_rules}
+use Rattle.process_queues.specs.Queues.{Queues, StandsFor, CountsAgree}
+use Rattle.process_queues.specs.Committing.{can_commit, committable}
+use Rattle.process_queues.proofs.Pasts.{messages-of}
+
+-- one letter more of one sign than of the other, by the difference of their numbers
+same-one : (p q p' q' : ℕ) → pos p -ℤ pos q ≡ pos p' -ℤ pos q' → (p == q + 1) ≡ (p' == q' + 1)
+same-one p q p' q' e = both_ways (p == q + 1) (p' == q' + 1)
+    (λ t. eq-eqb p' (q' + 1) (let k = eqb-true p (q + 1) t in omega (arith, ints)))
+    (λ t. eq-eqb p (q + 1) (let k = eqb-true p' (q' + 1) t in omega (arith, ints)))
+
+module _ {S K : Type 0} (r : Rules Message S K Note) (t : (m : Message) → r.time m ≡ m.time) where
+  can_commit-agree : (g : ℕ) (a b : List (Signed Message)) → CountsAgree r a b → (m : Message) → can_commit r g a m ≡ can_commit message_rules g b m
+  can_commit-agree g a b h m =
+      ap (λ time. nat_lt time g && (pluses r m a == minuses r m a + 1)) (t m) ∙
+      ap (λ one. nat_lt m.time g && one) (same-one (pluses r m a) (minuses r m a) (pluses message_rules m b) (minuses message_rules m b) (h m))
+
+  committable-agree : (g : ℕ) (a b : List (Signed Message)) → CountsAgree r a b → (ms : List Message) → committable r g a ms ≡ committable message_rules g b ms
+  committable-agree g a b h [] = refl
+  committable-agree g a b h (m ∷ ms) =
+      ap (λ can. if can then suc (committable r g a ms) else 0) (can_commit-agree g a b h m) ∙
+      ap (λ n. if can_commit message_rules g b m then suc n else 0) (committable-agree g a b h ms)
+
+  pub committable-stands : (is_value : S → Message → Type 0) (opening : S) (part : Part Message S) (q : Queues S K) → StandsFor r is_value opening part q →
+      (g n : ℕ) → committable message_rules g q.tally (take n (map (λ e. e.message) q.past.done)) ≡ committable r g part.tally (take n part.done)
+  committable-stands is_value opening part q h g n =
+      ap (λ ms. committable message_rules g q.tally (take n ms))
+      (ap (map (λ e. e.message)) h.past.past_of.done ∙ messages-of r (reached r opening part.committed) part.done) ∙
+      sym (committable-agree g part.tally q.tally h.counts (take n part.done))
