@@ -40,6 +40,7 @@ impl World {
             tables ≡ tables_of self.now.plan rows) }
         ensures memory { IfErr result (λ fault. fault ≡ OutOfMemory) }
     {
+        layout(&self.network);
         world_laws(&self.network);
         tables_by_place();
         let rows = self.committed_rows(alloc)?;
