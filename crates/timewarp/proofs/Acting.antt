@@ -16,6 +16,8 @@ use Rattle.virtual_time.specs.World.{World, Step, start, run, is_enabled, effect
 use Rattle.virtual_time.specs.World.Step.{Take, Arrive, Run, Post, Gvt, Commit}
 use Rattle.virtual_time.specs.Safe.{Safe}
 use Rattle.virtual_time.proofs.Lists.{in-head}
+use Rattle.fossil.specs.Committed
+use Rattle.fossil.specs.Committed.{is_ready, committed_once}
 use Rattle.process_queues.specs.declared.fault.ProcFault.{ProcFault}
 use Rattle.process_queues.specs.declared.fault.ProcFault.TheVariants as process
 use Rattle.process_queues.specs.Queues.{Queues, StandsFor, Does, next_in}
@@ -63,11 +65,6 @@ module _ {S K : Type 0} (f : Simulation Message S K Note) (is_value : S → Mess
   unfolding effect
   ran q' does ps e = acted (λ opening. run_one f.rules) q' does ps e
 
-  pub sealed : (q' : Queues S K) → Does f.rules is_value (λ opening. seal_oldest f.rules) q q' → (ps : List (Queues S K)) → ps ≡ set old.processes p q' →
-      StandsForWorld f is_value (effect f (Commit p) w) (record { processes = ps; mail = old.mail; floors = old.floors; gvt = old.gvt; until = old.until })
-  unfolding effect
-  sealed q' does ps e = acted (λ opening. seal_oldest f.rules) q' does ps e
-
   early-is : (o : Option ℕ) → o ≡ option_map f.rules.time (slice_get (w.parts p).done 0) → is_moment_before old.gvt o ≡ is_early f w.gvt (w.parts p).done
   early-is o e = go (w.parts p).done e
     where
@@ -78,6 +75,13 @@ module _ {S K : Type 0} (f : Simulation Message S K Note) (is_value : S → Mess
   pub commit-not : (o : Option ℕ) → o ≡ option_map f.rules.time (slice_get (w.parts p).done 0) → is_moment_before old.gvt o ≡ false → is_enabled f (Commit p) w ≡ false
   unfolding is_enabled
   commit-not o e b = rw (lt-ltb p f.processes within, sym (early-is o e) ∙ b) refl
+
+  ready-is : (part : Part Message S) (g : ℕ) → (is_early f g part.done && can_seal f.rules part part.done) ≡ is_ready f.rules g part
+  ready-is part g = go part.done
+    where
+      go : (ms : List Message) → (is_early f g ms && can_seal f.rules part ms) ≡ (Committed.is_early f.rules g ms && can_seal f.rules part ms)
+      go [] = refl
+      go (m ∷ ms) = refl
 
   -- what is earlier than GVT has the signed count 1
   seals : Laws f → Safe f w → (ms : List Message) → (w.parts p).done ≡ ms → is_early f w.gvt ms ≡ true → can_seal f.rules (w.parts p) ms ≡ true
@@ -91,6 +95,19 @@ module _ {S K : Type 0} (f : Simulation Message S K Note) (is_value : S → Mess
   commit-enabled L safe o e b =
       let early : is_early f w.gvt (w.parts p).done ≡ true = sym (early-is o e) ∙ b in
       rw (lt-ltb p f.processes within, early, seals L safe (w.parts p).done refl early) refl
+
+  -- it was committed as far as it is ready, and it is
+  pub sealed : Laws f → Safe f w → (o : Option ℕ) → o ≡ option_map f.rules.time (slice_get (w.parts p).done 0) → is_moment_before old.gvt o ≡ true →
+      (q' : Queues S K) → Does f.rules is_value (λ opening. committed_once f.rules old.gvt) q q' → (ps : List (Queues S K)) → ps ≡ set old.processes p q' →
+      StandsForWorld f is_value (effect f (Commit p) w) (record { processes = ps; mail = old.mail; floors = old.floors; gvt = old.gvt; until = old.until })
+  unfolding effect
+  sealed L safe o e b q' does ps d =
+      let early : is_early f w.gvt (w.parts p).done ≡ true = sym (early-is o e) ∙ b in
+      let ready : is_ready f.rules old.gvt (w.parts p) ≡ true =
+      ap (λ g. is_ready f.rules g (w.parts p)) h.gvt ∙ (sym (ready-is (w.parts p) w.gvt) ∙ rw (early, seals L safe (w.parts p).done refl early) refl) in
+      let same : committed_once f.rules old.gvt (w.parts p) ≡ seal_oldest f.rules (w.parts p) = rw ready refl in
+      subst (λ part. StandsForWorld f is_value (with_part f p part w) (record { processes = ps; mail = old.mail; floors = old.floors; gvt = old.gvt; until = old.until })) same
+      (acted (λ opening. committed_once f.rules old.gvt) q' does ps d)
 
 module _ {S K : Type 0} (r : Rules Message S K Note) (number end : S → ℕ) (is_placed : S → Type 0) (is_value : S → Message → Type 0)
     (old : Held S K) (p : ℕ) (q : Queues S K) (here : slice_get old.processes p ≡ Some q) where
@@ -175,13 +192,14 @@ module _ {S K : Type 0} (r : Rules Message S K Note) (number end : S → ℕ) (i
         let w = run f steps (start f) in
         commit-enabled f is_value w old h p q here (laws x laid) (safe f (laws x laid) steps) o (oldest (f.opening p) (w.parts p) (subst (StandsFor r is_value (f.opening p) (w.parts p)) (sym same) (h.parts p q here))) e
 
-    pub commit-did : is_moment_before old.gvt o ≡ true → (q' : Queues S K) → Does r is_value (λ opening. seal_oldest r) q q' → (ps : List (Queues S K)) → ps ≡ set old.processes p q' →
+    pub commit-did : is_moment_before old.gvt o ≡ true → (q' : Queues S K) → Does r is_value (λ opening. committed_once r old.gvt) q q' → (ps : List (Queues S K)) → ps ≡ set old.processes p q' →
         IsStepped r number end is_placed is_value (Commit p) old (record { processes = ps; mail = old.mail; floors = old.floors; gvt = old.gvt; until = old.until }) (Ok Did)
     commit-did e q' does ps d =
         when-did r number end is_placed is_value (Commit p) old _
         (λ x laid steps h. (
           early e x laid steps h,
-          sealed (simulation_of r x) is_value (run (simulation_of r x) steps (start (simulation_of r x))) old h p q here q' does ps d,
+          sealed (simulation_of r x) is_value (run (simulation_of r x) steps (start (simulation_of r x))) old h p q here (laws x laid) (safe (simulation_of r x) (laws x laid) steps)
+              o (oldest (x.opening p) _ (subst (StandsFor r is_value (x.opening p) _) (sym same) (h.parts p q here))) e q' does ps d,
         ))
 
     pub commit-refused : is_moment_before old.gvt o ≡ true → (ps : List (Queues S K)) → ps ≡ old.processes → (answer : Result Done StepFault) → answer ≡ Err (fault_of process.OutOfMemory) →

@@ -18,7 +18,7 @@ no-first f (x ∷ xs) e = absurd cc
 module _ {S K : Type 0} (vs : List (InHand S K)) where
   pub all-none : ((k : ℕ) (d : InHand S K) → k < length vs → (get_or vs k d).queues.past.done ≡ []) → All (λ (q : Queues S K). q.past.done ≡ []) (map (λ (u : InHand S K). u.queues) vs)
   all-none h k d i =
-      let u : InHand S K = record { queues = d; room = 0 } in
+      let u : InHand S K = record { queues = d; room = 0; committed_room = 0 } in
       let e : get_or (map (λ (u : InHand S K). u.queues) vs) k d ≡ (get_or vs k u).queues = get_or-map (λ (u : InHand S K). u.queues) vs k u in
       ap (λ (q : Queues S K). q.past.done) e ∙ h k u (let a = length-map vs (λ (u : InHand S K). u.queues) in omega arith)
 

@@ -14,9 +14,9 @@ ghost use Rattle.timewarp.specs.Stepping.{IsStepped, is_moment_before};
 use crate::actors::ActorWorld;
 use crate::done::Done;
 use crate::fault::StepFault;
-use seqsim::actor_laws;
 use gvt::{gvt_law, horizon};
 use reverse::Actor;
+use seqsim::actor_laws;
 use virtual_time::headline;
 use vlink::{Letter, Message, Note, Step, Time};
 
@@ -145,7 +145,7 @@ impl<R: Actor> ActorWorld<R> {
         if !is_early(self.processes[usize::from(process)].oldest(), self.gvt) {
             return Ok(Done::NotEnabled);
         }
-        self.processes[usize::from(process)].seal_oldest()?;
+        fossil::commit(&mut self.processes[usize::from(process)], self.gvt, 1)?;
         Ok(Done::Did)
     }
 }

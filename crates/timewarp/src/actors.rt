@@ -168,7 +168,10 @@ fn plus_letters(alloc: Global, messages: &[Message]) -> Result<Outbox, StepFault
 }
 
 /// A process that has done nothing for each actor, in order.
-fn processes_of<R: Actor + Drop>(alloc: Global, actors: Vec<R>) -> Result<Vec<Process<R>>, StepFault>
+fn processes_of<R: Actor + Drop>(
+    alloc: Global,
+    actors: Vec<R>,
+) -> Result<Vec<Process<R>>, StepFault>
     ensures processes { IfOk result (λ processes. map (λ process. process.queues) processes.items ≡ map opened_queues actors.items) }
     ensures memory { IfErr result (λ fault. fault ≡ OutOfMemory) }
 {

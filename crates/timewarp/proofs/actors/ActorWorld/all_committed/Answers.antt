@@ -11,8 +11,7 @@ use Rattle.timewarp.proofs.actors.ActorWorld.all_committed.Goals as goal
 pub returns-then-is_some : goal.returns-then-is_some
 returns-then-is_some g c =
     let items = c.deref-process-items.ensures.value in
-    subst (λ (h : Held g.row.R.Denot g.row.R-Record.Denot). IsTrue false ↔ All (λ (q : Queues g.row.R.Denot g.row.R-Record.Denot). q.past.done ≡ []) h.processes) c.self.view_is
-    (
+    subst (λ (h : Held g.row.R.Denot g.row.R-Record.Denot). IsTrue false ↔ All (λ (q : Queues g.row.R.Denot g.row.R-Record.Denot). q.past.done ≡ []) h.processes) c.self.view_is (
       λ e. absurd cc,
       λ h. absurd (some-first (λ (e : Event g.row.R-Record.Denot). e.message.time) c.process-item.result.queues.past.done (c.if-is_some.ensures ∙ ap (λ o. is_some o) c.oldest.ensures.oldest)
           (none-at _ (rw items h) c.loop-process.process-index c.process-item.result c.loop-process-test.true c.process-item.is)),
@@ -33,8 +32,7 @@ loop-process-preserved g c k d i = go (cases_eq k c.loop-process.process-index)
 pub returns : goal.returns
 returns g c =
     let items = c.deref-process-items.ensures.value in
-    subst (λ (h : Held g.row.R.Denot g.row.R-Record.Denot). IsTrue true ↔ All (λ (q : Queues g.row.R.Denot g.row.R-Record.Denot). q.past.done ≡ []) h.processes) c.self.view_is
-    (
+    subst (λ (h : Held g.row.R.Denot g.row.R-Record.Denot). IsTrue true ↔ All (λ (q : Queues g.row.R.Denot g.row.R-Record.Denot). q.past.done ≡ []) h.processes) c.self.view_is (
       λ e. all-none c.self.inside.processes.items (rw (sym items) (λ k d i. c.loop-process.invariant k d (let a = c.loop-process-test.false in omega arith))),
       λ h. refl,
     )

@@ -1,11 +1,9 @@
-use Rattle.std.proofs.Common.{◌≡◌, ◌<◌, length, map, Ok, Err, refl, sym, ap, ◌∙◌, subst, arith}
+use Rattle.std.proofs.Common.{◌<◌, length, Ok, Err, refl, sym, ap, ◌∙◌, subst}
 use Rattle.std.proofs.lemmas.Result.{err_from_is_err_and}
 use Rattle.virtual_time.specs.World.Step.{Run}
 use Rattle.reverse.specs.Rules.{rules_of}
-use Rattle.process_queues.specs.Queues.{Queues}
 use Rattle.timewarp.specs.declared.done.Done.TheVariants.{NotEnabled}
 use Rattle.timewarp.specs.Worlds.{Held}
-use Rattle.timewarp.specs.Faults.{fault_of}
 use Rattle.timewarp.specs.Stepping.{IsStepped}
 use Rattle.timewarp.proofs.Holding.{queues-at, queues-set, queues-same, same-at, seen-as}
 use Rattle.timewarp.proofs.Acting.{run-none, run-did, run-refused}

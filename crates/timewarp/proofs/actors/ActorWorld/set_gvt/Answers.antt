@@ -1,19 +1,9 @@
-use Rattle.std.proofs.Common.{◌≡◌, ◌<◌, ℕ, min, length, map, slice_get, Ok, Err, refl, sym, ap, ◌∙◌, subst, arith}
-use Rattle.std.specs.Option.{option_map}
-use Rattle.std.proofs.lemmas.Result.{err_from_is_err_and}
-use Rattle.vlink.specs.declared.message.Message.{Message}
-use Rattle.virtual_time.specs.Part.{Part, floor_of}
+use Rattle.std.proofs.Common.{refl, sym, ◌∙◌}
 use Rattle.virtual_time.specs.World.Step.{Gvt}
 use Rattle.reverse.specs.Rules.{rules_of}
-use Rattle.antimessages.specs.Letters.{signed}
-use Rattle.process_queues.specs.Queues.{Queues, InHand, StandsFor}
-use Rattle.timewarp.specs.declared.done.Done.TheVariants.{NotEnabled}
 use Rattle.virtual_time.specs.World.{start, run}
 use Rattle.seqsim.specs.Running.{simulation_of}
-use Rattle.timewarp.specs.Worlds.{Held, IsAWorld}
-use Rattle.timewarp.specs.Faults.{fault_of}
-use Rattle.timewarp.specs.Stepping.{IsStepped}
-use Rattle.timewarp.proofs.Holding.{queues-at, queues-set, queues-same, read-written, seen-as}
+use Rattle.timewarp.proofs.Holding.{seen-as}
 use Rattle.timewarp.proofs.Exchanging.{gvt-did}
 use Rattle.timewarp.proofs.actors.ActorWorld.set_gvt.Goals as goal
 
