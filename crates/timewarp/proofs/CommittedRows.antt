@@ -58,9 +58,9 @@ module _ {M S K N : Type 0} (f : Simulation M S K N) (L : Laws f) where
     -- a process receives its committed events
     committed-here : (q : ℕ) (m : M) → IsIn f.rules m (w.parts q).committed → f.rules.receiver m ≡ q
     committed-here q m h = elim (cases_lt q f.processes) [
-        | inl i ↦ (k.sound q i).here m (let a = times-append f.rules L.order m (w.parts q).committed (w.parts q).done in omega arith)
-        | inr i ↦ absurd (let a = ap (times_in f.rules m) (none-outside q i) in omega arith)
-      ]
+      | inl i ↦ (k.sound q i).here m (let a = times-append f.rules L.order m (w.parts q).committed (w.parts q).done in omega arith)
+      | inr i ↦ absurd (let a = ap (times_in f.rules m) (none-outside q i) in omega arith)
+    ]
 
 -- at the first n processes the rows are those of the committed events, and at no other process is a row
 pub record AreRowsBelow {S K : Type 0} (f : Simulation Message S K Note) (w : World Message S) (n : ℕ) (rows : List Noted) : Type 0 where
@@ -105,24 +105,24 @@ module _ {S K : Type 0} (f : Simulation Message S K Note) (L : Laws f) (steps : 
   pub rows-all : (rows : List Noted) → AreRowsBelow f (run f steps (start f)) f.processes rows → (p : ℕ) →
       rows_at f p (map seen_row rows) ≡ rowed f.rules (f.opening p) ((run f steps (start f)).parts p).committed
   rows-all rows h p = elim (cases_lt p f.processes) [
-      | inl i ↦ h.below p i
-      | inr i ↦ h.above p i ∙ sym (ap (rowed f.rules (f.opening p)) (none-outside f L now kept p i))
-    ]
+    | inl i ↦ h.below p i
+    | inr i ↦ h.above p i ∙ sym (ap (rowed f.rules (f.opening p)) (none-outside f L now kept p i))
+  ]
 
   -- in a finished world the rows of the one-thread run in which nothing waits any more are those of the committed events
   pub rows-whole : IsWhole f (run f steps (start f)) → (rows : List Noted) (n : ℕ) → (one f n).waiting ≡ [] → map seen_row rows ≡ (one f n).rows → (p : ℕ) →
       rows_at f p (map seen_row rows) ≡ rowed f.rules (f.opening p) ((run f steps (start f)).parts p).committed
   rows-whole W rows n ended e p = elim (cases_lt p f.processes) [
-      | inl i ↦ ap (rows_at f p) (e ∙ ap (λ t. t.rows) same) ∙ sym (W.same_rows p i)
-      | inr i ↦ ap (rows_at f p) e ∙ ((right f L n).rows_are p ∙ (ap (rowed f.rules (f.opening p)) (nothing_outside f L (one f n).handled (right f L n).handled_here p i) ∙
+    | inl i ↦ ap (rows_at f p) (e ∙ ap (λ t. t.rows) same) ∙ sym (W.same_rows p i)
+    | inr i ↦ ap (rows_at f p) e ∙ ((right f L n).rows_are p ∙ (ap (rowed f.rules (f.opening p)) (nothing_outside f L (one f n).handled (right f L n).handled_here p i) ∙
         sym (ap (rowed f.rules (f.opening p)) (none-outside f L now kept p i))))
-    ]
+  ]
     where
       same : one f n ≡ one f W.turns
       same = elim (cases_lt n W.turns) [
-          | inl i ↦ sym (over-same f L n W.turns ended (omega arith))
-          | inr i ↦ over-same f L W.turns n W.none_waits i
-        ]
+        | inl i ↦ sym (over-same f L n W.turns ended (omega arith))
+        | inr i ↦ over-same f L W.turns n W.none_waits i
+      ]
 
 -- ---- rows as the law of virtual time sees them, and as tables do
 

@@ -53,10 +53,10 @@ replayed old new x steps enabled unknown same h now e u a b c =
     record {
       after = subst (IsAfter new.world) (sym (map-append step_of steps (x ∷ []))) now;
       did = subst (λ plan. new.did ≡ did (simulation_of plan) (steps ++ x ∷ []) (start (simulation_of plan))) (sym same) (
-        let k = did-push f steps x (start f) in let d = h.did in let i = ap one_if e in omega arith);
+          let k = did-push f steps x (start f) in let d = h.did in let i = ap one_if e in omega arith);
       not_enabled = subst (λ plan. new.not_enabled ≡ not_enabled (simulation_of plan) (steps ++ x ∷ []) (start (simulation_of plan))) (sym same) (
-        let k = not_enabled-push f steps x (start f) in let d = h.not_enabled in
-        let i = ap (λ z. one_if (not (names_none f.processes x) && not z)) e in let j = ap (λ z. one_if (not z && not enabled)) u in omega arith);
+          let k = not_enabled-push f steps x (start f) in let d = h.not_enabled in
+          let i = ap (λ z. one_if (not (names_none f.processes x) && not z)) e in let j = ap (λ z. one_if (not z && not enabled)) u in omega arith);
       refused = subst (λ plan. new.refused ≡ refused (simulation_of plan) (steps ++ x ∷ [])) (sym same) (
-        let k = refused-push f steps x in let d = h.refused in let i = ap one_if u in omega arith);
+          let k = refused-push f steps x in let d = h.refused in let i = ap one_if u in omega arith);
     }

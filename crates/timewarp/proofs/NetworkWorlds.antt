@@ -74,7 +74,7 @@ module _ (plan : Plan) (layout : IsLayout plan) (x : Step) (old new : Held NodeS
 
   pub step-enabled : (answer : Result Done StepFault) →
       IfOk answer (λ done. AtEachWorld (simulation_of plan).rules (λ s. s.sender.number) (λ s. s.sender.until) IsPlaced IsNodeValue old
-        (λ f w. (done ≡ Did) ↔ (is_enabled f x w ≡ true))) →
+      (λ f w. (done ≡ Did) ↔ (is_enabled f x w ≡ true))) →
       IfOk answer (λ done. (steps : List Step) → IsAfter (world plan old) steps → (done ≡ Did) ↔ (is_enabled (simulation_of plan) x (after plan steps) ≡ true))
   step-enabled (Ok done) s = λ steps h. s (setting_of plan) layout steps h
   step-enabled (Err fault) s = tt
@@ -89,7 +89,7 @@ module _ (plan : Plan) (layout : IsLayout plan) (held : Held NodeState NodeRecor
   -- the state that is left when all done events are undone
   pub undone-at : (node : Option NodeState) →
       IfSome node (λ s. AtEachWorld (simulation_of plan).rules (λ s. s.sender.number) (λ s. s.sender.until) IsPlaced IsNodeValue held
-        (λ f w. s ≡ undo_all f.rules (f.opening p) (w.parts p))) →
+      (λ f w. s ≡ undo_all f.rules (f.opening p) (w.parts p))) →
       IfSome node (λ s. (steps : List Step) → IsAfter (world plan held) steps → s ≡ undo_all (simulation_of plan).rules (opening plan p) ((after plan steps).parts p))
   undone-at (Some s) h = λ steps i. h (setting_of plan) layout steps i
   undone-at None h = tt
@@ -97,7 +97,7 @@ module _ (plan : Plan) (layout : IsLayout plan) (held : Held NodeState NodeRecor
   -- is that of the one-thread run after just the committed ones
   pub left-at : ((steps : List Step) → Safe (simulation_of plan) (after plan steps)) → (node : Option NodeState) → (node ≢ None → p < (simulation_of plan).processes) →
       IfSome node (λ s. AtEachWorld (simulation_of plan).rules (λ s. s.sender.number) (λ s. s.sender.until) IsPlaced IsNodeValue held
-        (λ f w. s ≡ undo_all f.rules (f.opening p) (w.parts p))) →
+      (λ f w. s ≡ undo_all f.rules (f.opening p) (w.parts p))) →
       IfSome node (λ s. (steps : List Step) → IsAfter (world plan held) steps → IsLeft (simulation_of plan) p (length ((after plan steps).parts p).committed) s)
   left-at safe (Some s) i h = λ steps k.
       subst (IsLeft (simulation_of plan) p (length ((after plan steps).parts p).committed)) (sym (h (setting_of plan) layout steps k))

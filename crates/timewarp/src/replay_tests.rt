@@ -39,7 +39,7 @@ fn counts(replay: &Replay) -> (u64, u64, u64, u64) {
 }
 
 // The moment and the sign of a letter for the line from ES1 to SW1, and whether it carries a frame.
-fn carried(rt: &HostRuntime, world: &World, place: u32) -> (u64, Sign, bool) {
+fn carried(rt: &impl Abort, world: &World, place: u32) -> (u64, Sign, bool) {
     let letter = world.look(3, place).expect(rt, "a letter");
     let carries = matches!(letter.message.body, Body::Carry { .. });
     (letter.message.time.ns(), letter.sign, carries)
@@ -47,7 +47,7 @@ fn carried(rt: &HostRuntime, world: &World, place: u32) -> (u64, Sign, bool) {
 
 // The state of ES1: the number of its next message; whether virtual link 1 was released, when last in ns, and its next sequence number;
 // and whether its port 0 is busy.
-fn sender_of(rt: &HostRuntime, node: &Node) -> (u64, Option<u64>, u8, bool) {
+fn sender_of(rt: &impl Abort, node: &Node) -> (u64, Option<u64>, u8, bool) {
     let regulator = node.regulator(VlId(1)).expect(rt, "a regulator");
     let last = regulator.last().map(|t| t.ns());
     let port = node.port(0).expect(rt, "a port");
@@ -71,8 +71,7 @@ fn a_journal_that_stops_early(rt: HostRuntime) -> Result<(), Fail> {
     assert!(rt; !found.world.is_finished());
     let tables = found.world.tables(rt.alloc())?;
     let text = text_of(rt.alloc(), found.world.network(), &tables)?;
-    let wanted =
-        "table,vl,where,cause,count,least_ns,greatest_ns,sum_ns\nlatency,1,ES2,,0,0,0,0\n";
+    let wanted = "table,vl,where,cause,count,least_ns,greatest_ns,sum_ns\nlatency,1,ES2,,0,0,0,0\n";
     assert!(rt; text.as_slice() == wanted.as_bytes());
     Ok(())
 }
@@ -81,7 +80,12 @@ fn a_journal_that_stops_early(rt: HostRuntime) -> Result<(), Fail> {
 fn a_whole_journal_has_the_tables_of_the_one_thread_run(rt: HostRuntime) -> Result<(), Fail> {
     let mut steps = Vec::new(rt.alloc());
     for process in [0, 3, 0, 2, 2, 5, 1, 2] {
-        steps.extend_from_slice(&[take(process, 0), arrive(process), run(process), post(process)])?;
+        steps.extend_from_slice(&[
+            take(process, 0),
+            arrive(process),
+            run(process),
+            post(process),
+        ])?;
     }
     steps.push(Step::Gvt)?;
     for process in [0, 0, 3, 2, 2, 2, 5, 1] {
@@ -117,11 +121,7 @@ fn a_late_offer_undoes_an_earlier_run(rt: HostRuntime) -> Result<(), Fail> {
         let node = found.world.undo_all(0).expect(&rt, "ES1");
         assert_eq!(rt; sender_of(&rt, &node), (0, None, 0, false), "{count}");
     }
-    let found = replay(
-        rt.alloc(),
-        n1_with(rt.alloc(), 400000, 1100000)?,
-        &steps,
-    )?;
+    let found = replay(rt.alloc(), n1_with(rt.alloc(), 400000, 1100000)?, &steps)?;
     assert_eq!(rt; counts(&found), (11, 1, 0, 5760));
     assert!(rt; !found.world.is_finished());
     assert_eq!(rt; carried(&rt, &found.world, 0), (405760, Sign::Plus, true));
@@ -163,11 +163,7 @@ fn first_comes_last(alloc: Global) -> Result<Vec<Step>, AllocError> {
 #[test]
 fn ten_thousand_events_are_undone_at_once(rt: HostRuntime) -> Result<(), Fail> {
     let steps = first_comes_last(rt.alloc())?;
-    let found = replay(
-        rt.alloc(),
-        n1_with(rt.alloc(), 1000, 10000000)?,
-        &steps,
-    )?;
+    let found = replay(rt.alloc(), n1_with(rt.alloc(), 1000, 10000000)?, &steps)?;
     assert_eq!(rt; counts(&found), (30004, 0, 0, 0));
     assert!(rt; !found.world.is_finished());
     assert_eq!(rt; carried(&rt, &found.world, 0), (6760, Sign::Plus, true));

@@ -13,7 +13,7 @@ use crate::fault::StepFault;
 use crate::laws::{layout, world_laws};
 use crate::world::World;
 use std::alloc::{AllocError, Global};
-use trace_tables::{tables_by_place, Tables};
+use trace_tables::{Tables, tables_by_place};
 use vlink::Row;
 
 impl World {

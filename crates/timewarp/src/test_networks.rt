@@ -89,11 +89,7 @@ impl Sink for Page {
 }
 
 // The text of tables of a network.
-pub(crate) fn text_of(
-    alloc: Global,
-    network: &Network,
-    tables: &Tables,
-) -> Result<Vec<u8>, Fail> {
+pub(crate) fn text_of(alloc: Global, network: &Network, tables: &Tables) -> Result<Vec<u8>, Fail> {
     let mut page = Page {
         bytes: Vec::new(alloc),
         failures: 0,

@@ -45,8 +45,8 @@ returns-in_err-do_step-clause-exhausted c = λ e.
       x,
       slice_get-get_or steps i (NotedTake 0 0) (omega (arith, c.loop-step-test.true)),
       subst (λ (ys : List Step). IsExhausted (simulation_of c.args.network) (step_of x) (after c.args.network ys)) (sym (take-map step_of i steps))
-      (subst (λ (plan : Plan). IsExhausted (simulation_of plan) (step_of x) (after plan (map step_of (take i steps)))) c.loop-step.invariant.network
-        (c.do_step.ensures.exhausted k (take i steps) c.loop-step.invariant.replayed)),
+          (subst (λ (plan : Plan). IsExhausted (simulation_of plan) (step_of x) (after plan (map step_of (take i steps)))) c.loop-step.invariant.network
+          (c.do_step.ensures.exhausted k (take i steps) c.loop-step.invariant.replayed)),
     )
 
 pub loop-step-preserved : goal.loop-step-preserved
@@ -55,7 +55,7 @@ loop-step-preserved c =
     let i = c.loop-step.step-index in
     record {
       replayed = subst (IsReplayed c.do_step.new.self) (sym (take_more steps i (NotedTake 0 0) (omega (arith, c.loop-step-test.true))))
-        (c.in_ok-do_step.ensures.replayed (take i steps) c.loop-step.invariant.replayed);
+          (c.in_ok-do_step.ensures.replayed (take i steps) c.loop-step.invariant.replayed);
       network = c.do_step.ensures.network ∙ c.loop-step.invariant.network;
       counted = let a = c.in_ok-do_step.ensures.counted in let b = c.loop-step.invariant.counted in omega arith;
     }

@@ -30,7 +30,7 @@ returns-in-Ok-NotEnabled-clause-replayed c = λ steps h.
     replayed old new c.args.step steps false false c.step.ensures.network h
     (c.in-Ok-NotEnabled.ensures.after (map step_of steps) h.after)
     (false_from_ne_true _ (λ e.
-      let k : NotEnabled ≡ Did = sym c.in-Ok-NotEnabled.field-0-is ∙ (c.in-Ok-NotEnabled.ensures.enabled (map step_of steps) h.after).1 e in absurd cc))
+    let k : NotEnabled ≡ Did = sym c.in-Ok-NotEnabled.field-0-is ∙ (c.in-Ok-NotEnabled.ensures.enabled (map step_of steps) h.after).1 e in absurd cc))
     (false_from_ne_true _ (λ e. false≢true (sym (ap is_ok (c.in-Ok-NotEnabled.ensures.no_process.1 e)))))
     (omega arith) refl (omega arith)
 
@@ -44,9 +44,9 @@ returns-in-Err-NoProcess-clause-replayed c = λ steps h.
     subst (λ (plan : Plan). names_none (simulation_of plan).processes c.args.step ≡ true) (sym c.step.ensures.network) unknown in
     replayed old new c.args.step steps false true c.step.ensures.network h
     (stepped-same new.world.plan new.world.held (map step_of steps) (step_of c.args.step)
-      (step-not (simulation_of new.world.plan) (step_of c.args.step) (after new.world.plan (map step_of steps))
-        (unknown-not-enabled (simulation_of new.world.plan) c.args.step (after new.world.plan (map step_of steps)) there))
-      (c.in-Err-NoProcess.ensures.refused (map step_of steps) h.after))
+    (step-not (simulation_of new.world.plan) (step_of c.args.step) (after new.world.plan (map step_of steps))
+    (unknown-not-enabled (simulation_of new.world.plan) c.args.step (after new.world.plan (map step_of steps)) there))
+    (c.in-Err-NoProcess.ensures.refused (map step_of steps) h.after))
     (unknown-not-enabled (simulation_of old.world.plan) c.args.step (after old.world.plan (map step_of steps)) unknown)
     unknown
     (omega arith) (omega arith) refl

@@ -21,7 +21,7 @@ AreFound w n rows = (steps : List Step) → IsAfter w steps → AreRowsBelow (si
 
 next : (w now : NetworkWorld) → w ≡ now → IsLayout w.plan → Laws (simulation_of w.plan) → (n : ℕ) (rows more items : List Noted) →
     AtEachWorld (simulation_of w.plan).rules (λ s. s.sender.number) (λ s. s.sender.until) IsPlaced IsNodeValue w.held
-      (λ f v. map seen_row more ≡ rowed f.rules (f.opening n) (v.parts n).committed) →
+    (λ f v. map seen_row more ≡ rowed f.rules (f.opening n) (v.parts n).committed) →
     items ≡ rows ++ more → AreFound now n rows → AreFound now (n + 1) items
 next w now e layout L n rows more items s d =
     subst (λ (z : NetworkWorld). AreFound z n rows → AreFound z (n + 1) items) e (λ found steps h.

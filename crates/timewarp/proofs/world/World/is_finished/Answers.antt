@@ -13,9 +13,9 @@ over : (w now : NetworkWorld) → w ≡ now → (g : ℕ) → g ≡ w.plan.until
     (steps : List Step) → IsAfter now steps → IsTrue answer ↔ IsFinished (simulation_of now.plan) (after now.plan steps)
 over w now e g past answer all =
     subst (λ (z : NetworkWorld). ((steps : List Step) → IsAfter z steps → g ≡ (after z.plan steps).gvt) →
-      (steps : List Step) → IsAfter z steps → IsTrue answer ↔ IsFinished (simulation_of z.plan) (after z.plan steps)) e (λ told steps h. (
+    (steps : List Step) → IsAfter z steps → IsTrue answer ↔ IsFinished (simulation_of z.plan) (after z.plan steps)) e (λ told steps h. (
       λ t. is-finished (simulation_of w.plan) IsNodeValue (after w.plan steps) w.held h
-        (let a = h.gvt in let b = told steps h in let k : w.held.gvt ≡ suc w.plan.until = omega arith in k) (all.0 t),
+          (let a = h.gvt in let b = told steps h in let k : w.held.gvt ≡ suc w.plan.until = omega arith in k) (all.0 t),
       λ d. all.1 (finished-all (simulation_of w.plan) IsNodeValue (after w.plan steps) w.held h d),
     ))
 

@@ -29,14 +29,14 @@ pub returns-clause-opens : goal.returns-clause-opens
 returns-clause-opens c =
     at-start c.args.network c.in_ok-actors.actors
     (c.in_ok-actors.ensures.opens (setting_of c.args.network)
-      (opened c.args.network _ _ _ c.in_ok-nodes.ensures c.deref.ensures.value c.in_ok-offers.ensures)
-      (sym c.until.ensures.value))
+    (opened c.args.network _ _ _ c.in_ok-nodes.ensures c.deref.ensures.value c.in_ok-offers.ensures)
+    (sym c.until.ensures.value))
 
 pub invariant_of-result : goal.invariant_of-result
 invariant_of-result c = (
   [],
   at-start c.args.network c.in_ok-actors.actors
-  (c.in_ok-actors.ensures.opens (setting_of c.args.network)
-    (opened c.args.network _ _ _ c.in_ok-nodes.ensures c.deref.ensures.value c.in_ok-offers.ensures)
-    (sym c.until.ensures.value)),
+      (c.in_ok-actors.ensures.opens (setting_of c.args.network)
+      (opened c.args.network _ _ _ c.in_ok-nodes.ensures c.deref.ensures.value c.in_ok-offers.ensures)
+      (sym c.until.ensures.value)),
 )

@@ -18,22 +18,22 @@ invariant_of-self c =
 pub returns-clause-after : goal.returns-clause-after
 returns-clause-after c =
     subst (λ (old : NetworkWorld). OnOk c.step.result ((steps : List Step) → IsAfter old steps →
-      IsAfter (world c.self.inside.network c.step.new.self) (steps ++ step_of c.args.step ∷ []))) c.self.view_is
+    IsAfter (world c.self.inside.network c.step.new.self) (steps ++ step_of c.args.step ∷ []))) c.self.view_is
     (step-after c.self.inside.network c.layout.ensures.layout (step_of c.args.step) c.self.inside.actors c.step.new.self
-      c.step.result c.step.ensures.stands)
+    c.step.result c.step.ensures.stands)
 
 pub returns-clause-refused : goal.returns-clause-refused
 returns-clause-refused c =
     subst (λ (old : NetworkWorld). OnErr c.step.result ((steps : List Step) → IsAfter old steps → IsAfter (world c.self.inside.network c.step.new.self) steps)) c.self.view_is
     (step-refused c.self.inside.network c.layout.ensures.layout (step_of c.args.step) c.self.inside.actors c.step.new.self
-      c.step.result c.step.ensures.unchanged)
+    c.step.result c.step.ensures.unchanged)
 
 pub returns-clause-enabled : goal.returns-clause-enabled
 returns-clause-enabled c =
     subst (λ (old : NetworkWorld). IfOk c.step.result (λ done. (steps : List Step) → IsAfter old steps →
-      (done ≡ Did) ↔ (is_enabled (simulation_of old.plan) (step_of c.args.step) (after old.plan steps) ≡ true))) c.self.view_is
+    (done ≡ Did) ↔ (is_enabled (simulation_of old.plan) (step_of c.args.step) (after old.plan steps) ≡ true))) c.self.view_is
     (step-enabled c.self.inside.network c.layout.ensures.layout (step_of c.args.step) c.self.inside.actors c.step.new.self
-      c.step.result c.step.ensures.enabled)
+    c.step.result c.step.ensures.enabled)
 
 pub returns-clause-exhausted : goal.returns-clause-exhausted
 returns-clause-exhausted c = λ e.
