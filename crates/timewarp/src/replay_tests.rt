@@ -5,6 +5,7 @@ use crate::test_networks::{n1, n1_with, text_of, texts};
 use crate::world::World;
 use nodes::Node;
 use std::alloc::{AllocError, Global};
+use std::process::Abort;
 use std::test::Fail;
 use vlink::{Body, Sign, Step, VlId};
 
