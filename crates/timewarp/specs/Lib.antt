@@ -1,5 +1,7 @@
 pub mod Faults
-pub mod Replaying
 pub mod Steps
 pub mod Worlds
 pub mod Stepping
+pub mod Replaying
+pub mod Networks
+pub mod Replayed

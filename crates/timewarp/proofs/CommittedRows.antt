@@ -1,0 +1,152 @@
+-- The rows of committed events, process for process, and those of the one-thread run.
+use Rattle.std.proofs.Common.{◌≡◌, ◌∙◌, ℕ, suc, ◌+◌, ◌<◌, ◌≤◌, ◌==◌, ◌⊎◌, inl, inr, Bool, true, false, cond, List, [], ◌∷◌, ◌++◌, map, filter, length, refl, sym, ap, subst, arith, append-nil, eq-eqb, ne_eqb}
+use Rattle.std.proofs.lemmas.Bool.{cases_eq, cases_lt}
+use Rattle.std.proofs.lemmas.List.{map-append}
+use Rattle.std.proofs.lemmas.List.Elements.{filter-append}
+use Rattle.vlink.specs.declared.message.Message.{Message}
+use Rattle.vlink.specs.declared.note.Note.{Note}
+use Rattle.vlink.specs.declared.note.Row.{Row as Noted}
+use Rattle.virtual_time.specs.Rules.{Row, rowed, rows_of}
+use Rattle.virtual_time.specs.Lists.{IsIn, times_in}
+use Rattle.virtual_time.specs.Simulation.{Simulation, Laws}
+use Rattle.virtual_time.specs.OneThread.{one, rows_at}
+use Rattle.virtual_time.specs.World.{World, Step, start, run}
+use Rattle.virtual_time.specs.Safe.{IsFinished, IsWhole, history}
+use Rattle.virtual_time.proofs.Lists.{in-head, times-append}
+use Rattle.virtual_time.proofs.OneThread.{right, nothing_outside}
+use Rattle.virtual_time.proofs.Turns.{over-same}
+use Rattle.virtual_time.proofs.Kept.{IsKept, start-kept}
+use Rattle.virtual_time.proofs.KeptRun.{run-kept}
+use Rattle.seqsim.specs.Running.{seen_row}
+use Rattle.trace_tables.specs.Counting.{rows_at as noted_at}
+
+left-nothing : {M : Type 0} → (xs ys : List M) → xs ++ ys ≡ [] → xs ≡ []
+left-nothing [] ys e = refl
+left-nothing (x ∷ xs) ys e = absurd (let k = ap length e in omega arith)
+
+module _ {M S K N : Type 0} (f : Simulation M S K N) (L : Laws f) where
+  rows-mine : (q : ℕ) (m : M) → f.rules.receiver m ≡ q → (ns : List N) → rows_at f q (rows_of f.rules m ns) ≡ rows_of f.rules m ns
+  rows-mine q m e [] = refl
+  rows-mine q m e (n ∷ ns) = rw (eq-eqb (f.rules.receiver m) q e) (ap (λ z. record { message = m; place = f.rules.receiver m; note = n } ∷ z) (rows-mine q m e ns))
+
+  rows-other : (q : ℕ) (m : M) → (f.rules.receiver m ≡ q → ⊥) → (ns : List N) → rows_at f q (rows_of f.rules m ns) ≡ []
+  rows-other q m d [] = refl
+  rows-other q m d (n ∷ ns) = rw (ne_eqb (f.rules.receiver m) q d) (rows-other q m d ns)
+
+  -- events that process q receives have all their rows there
+  rowed-mine : (q : ℕ) (s : S) (ms : List M) → ((m : M) → IsIn f.rules m ms → f.rules.receiver m ≡ q) → rows_at f q (rowed f.rules s ms) ≡ rowed f.rules s ms
+  rowed-mine q s [] h = refl
+  rowed-mine q s (m ∷ ms) h =
+      let rest = rowed f.rules (f.rules.after s m) ms in
+      filter-append (λ x. x.place == q) (rows_of f.rules m (f.rules.notes s m)) rest ∙
+      (ap (λ z. z ++ rows_at f q rest) (rows-mine q m (h m (in-head f.rules L.order m ms)) (f.rules.notes s m)) ∙
+      ap (λ z. rows_of f.rules m (f.rules.notes s m) ++ z) (rowed-mine q (f.rules.after s m) ms (λ x i. h x (omega arith))))
+
+  -- and none at another process
+  rowed-other : (p q : ℕ) → (q ≡ p → ⊥) → (s : S) (ms : List M) → ((m : M) → IsIn f.rules m ms → f.rules.receiver m ≡ q) → rows_at f p (rowed f.rules s ms) ≡ []
+  rowed-other p q d s [] h = refl
+  rowed-other p q d s (m ∷ ms) h =
+      let rest = rowed f.rules (f.rules.after s m) ms in
+      filter-append (λ x. x.place == p) (rows_of f.rules m (f.rules.notes s m)) rest ∙
+      (ap (λ z. z ++ rows_at f p rest) (rows-other p m (λ e. d (sym (h m (in-head f.rules L.order m ms)) ∙ e)) (f.rules.notes s m)) ∙
+      rowed-other p q d (f.rules.after s m) ms (λ x i. h x (omega arith)))
+
+  module _ (w : World M S) (k : IsKept f L w) where
+    none-outside : (p : ℕ) → f.processes ≤ p → (w.parts p).committed ≡ []
+    none-outside p i = left-nothing (w.parts p).committed (w.parts p).done (k.outside p i)
+
+    -- a process receives its committed events
+    committed-here : (q : ℕ) (m : M) → IsIn f.rules m (w.parts q).committed → f.rules.receiver m ≡ q
+    committed-here q m h = elim (cases_lt q f.processes) [
+      | inl i ↦ (k.sound q i).here m (let a = times-append f.rules L.order m (w.parts q).committed (w.parts q).done in omega arith)
+      | inr i ↦ absurd (let a = ap (times_in f.rules m) (none-outside q i) in omega arith)
+    ]
+
+-- at the first n processes the rows are those of the committed events, and at no other process is a row
+pub record AreRowsBelow {S K : Type 0} (f : Simulation Message S K Note) (w : World Message S) (n : ℕ) (rows : List Noted) : Type 0 where
+  pub below : (p : ℕ) → p < n → rows_at f p (map seen_row rows) ≡ rowed f.rules (f.opening p) (w.parts p).committed
+  pub above : (p : ℕ) → n ≤ p → rows_at f p (map seen_row rows) ≡ []
+
+-- of no process
+pub rows-none : {S K : Type 0} (f : Simulation Message S K Note) (w : World Message S) → AreRowsBelow f w 0 []
+rows-none f w = record { below = λ p i. absurd (omega arith); above = λ p i. refl }
+
+module _ {S K : Type 0} (f : Simulation Message S K Note) (L : Laws f) (steps : List Step) where
+  abbrev now : World Message S
+  now = run f steps (start f)
+
+  kept : IsKept f L now
+  kept = run-kept f L steps (start f) (start-kept f L)
+
+  split : (p : ℕ) (rows more : List Noted) → rows_at f p (map seen_row (rows ++ more)) ≡ rows_at f p (map seen_row rows) ++ rows_at f p (map seen_row more)
+  split p rows more = ap (rows_at f p) (map-append seen_row rows more) ∙ filter-append (λ x. x.place == p) (map seen_row rows) (map seen_row more)
+
+  -- of one process more
+  pub rows-more : (n : ℕ) (rows more : List Noted) → AreRowsBelow f (run f steps (start f)) n rows →
+      map seen_row more ≡ rowed f.rules (f.opening n) ((run f steps (start f)).parts n).committed → AreRowsBelow f (run f steps (start f)) (n + 1) (rows ++ more)
+  rows-more n rows more h e =
+      record {
+        below = λ p i. elim (cases_eq n p) [
+          | inl d ↦ split p rows more ∙ (ap (λ z. z ++ rows_at f p (map seen_row more)) (h.above p (omega arith)) ∙ mine p d)
+          | inr d ↦ split p rows more ∙ (ap (λ z. rows_at f p (map seen_row rows) ++ z) (other p d) ∙ (append-nil _ ∙ h.below p (omega arith)))
+        ];
+        above = λ p i. split p rows more ∙ (ap (λ z. rows_at f p (map seen_row rows) ++ z) (other p (λ d. absurd (omega arith))) ∙ (append-nil _ ∙ h.above p (omega arith)));
+      }
+    where
+      other : (p : ℕ) → (n ≡ p → ⊥) → rows_at f p (map seen_row more) ≡ []
+      other p d = ap (rows_at f p) e ∙ rowed-other f L p n d (f.opening n) (now.parts n).committed (committed-here f L now kept n)
+
+      mine : (p : ℕ) → n ≡ p → rows_at f p (map seen_row more) ≡ rowed f.rules (f.opening p) (now.parts p).committed
+      mine p d =
+          subst (λ q. rows_at f q (map seen_row more) ≡ rowed f.rules (f.opening q) (now.parts q).committed) d
+          (ap (rows_at f n) e ∙ rowed-mine f L n (f.opening n) (now.parts n).committed (committed-here f L now kept n))
+
+  -- of all processes
+  pub rows-all : (rows : List Noted) → AreRowsBelow f (run f steps (start f)) f.processes rows → (p : ℕ) →
+      rows_at f p (map seen_row rows) ≡ rowed f.rules (f.opening p) ((run f steps (start f)).parts p).committed
+  rows-all rows h p = elim (cases_lt p f.processes) [
+    | inl i ↦ h.below p i
+    | inr i ↦ h.above p i ∙ sym (ap (rowed f.rules (f.opening p)) (none-outside f L now kept p i))
+  ]
+
+  -- in a finished world the rows of the one-thread run in which nothing waits any more are those of the committed events
+  pub rows-whole : IsWhole f (run f steps (start f)) → (rows : List Noted) (n : ℕ) → (one f n).waiting ≡ [] → map seen_row rows ≡ (one f n).rows → (p : ℕ) →
+      rows_at f p (map seen_row rows) ≡ rowed f.rules (f.opening p) ((run f steps (start f)).parts p).committed
+  rows-whole W rows n ended e p = elim (cases_lt p f.processes) [
+    | inl i ↦ ap (rows_at f p) (e ∙ ap (λ t. t.rows) same) ∙ sym (W.same_rows p i)
+    | inr i ↦ ap (rows_at f p) e ∙ ((right f L n).rows_are p ∙ (ap (rowed f.rules (f.opening p)) (nothing_outside f L (one f n).handled (right f L n).handled_here p i) ∙
+        sym (ap (rowed f.rules (f.opening p)) (none-outside f L now kept p i))))
+  ]
+    where
+      same : one f n ≡ one f W.turns
+      same = elim (cases_lt n W.turns) [
+        | inl i ↦ sym (over-same f L n W.turns ended (omega arith))
+        | inr i ↦ over-same f L W.turns n W.none_waits i
+      ]
+
+-- ---- rows as the law of virtual time sees them, and as tables do
+
+noted : Row Message Note → Noted
+noted row = record { message = row.message; place = row.place; note = row.note }
+
+abbrev unseen : List (Row Message Note) → List Noted
+unseen rows = map noted rows
+
+back : (xs : List Noted) → unseen (map seen_row xs) ≡ xs
+unfolding noted
+back [] = refl
+back (x ∷ xs) = ap (λ z. x ∷ z) (back xs)
+
+seen-at : {S K : Type 0} (f : Simulation Message S K Note) (p : ℕ) (xs : List Noted) → rows_at f p (map seen_row xs) ≡ map seen_row (noted_at p xs)
+seen-at f p [] = refl
+seen-at f p (x ∷ xs) = go (x.place == p) (rows_at f p (map seen_row xs)) (seen-at f p xs)
+  where
+    go : (b : Bool) (rest : List (Row Message Note)) → rest ≡ map seen_row (noted_at p xs) → cond b (seen_row x ∷ rest) rest ≡ map seen_row (cond b (x ∷ noted_at p xs) (noted_at p xs))
+    go true rest e = ap (λ z. seen_row x ∷ z) e
+    go false rest e = e
+
+-- rows that are seen the same at each process are the same at each
+pub same-at : {S K : Type 0} (f : Simulation Message S K Note) (xs ys : List Noted) →
+    ((p : ℕ) → rows_at f p (map seen_row xs) ≡ rows_at f p (map seen_row ys)) → (p : ℕ) → noted_at p xs ≡ noted_at p ys
+same-at f xs ys h p =
+    sym (back (noted_at p xs)) ∙ (ap unseen (sym (seen-at f p xs) ∙ (h p ∙ seen-at f p ys)) ∙ back (noted_at p ys))

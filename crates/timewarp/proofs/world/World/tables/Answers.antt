@@ -1,0 +1,35 @@
+use Rattle.std.proofs.Common.{◌≡◌, ◌∙◌, List, sym, ap, subst}
+use Rattle.vlink.specs.declared.note.Row.{Row as Noted}
+use Rattle.virtual_time.specs.Simulation.{Laws}
+use Rattle.virtual_time.specs.Safe.{IsFinished, IsWhole}
+use Rattle.virtual_time.specs.World.{Step}
+use Rattle.netdesc.specs.Plan.{Plan}
+use Rattle.nodes.specs.Simulation.{simulation_of}
+use Rattle.trace_tables.specs.Tables.{tables_of}
+use Rattle.seqsim.specs.Networks.{AreRowsOf}
+use Rattle.timewarp.specs.Networks.{NetworkWorld, after, AreCommittedRows}
+use Rattle.timewarp.proofs.CommittedRows.{rows-whole, same-at}
+use Rattle.timewarp.proofs.world.World.tables.Goals as goal
+
+-- in a finished world the rows of the one-thread run are those of the committed events
+abbrev AreWhole : NetworkWorld → Type 0
+AreWhole w =
+    (steps : List Step) → IsFinished (simulation_of w.plan) (after w.plan steps) → (rows : List Noted) → AreRowsOf w.plan rows → AreCommittedRows w.plan steps rows
+
+whole : (w : NetworkWorld) → Laws (simulation_of w.plan) →
+    ((steps : List Step) → IsFinished (simulation_of w.plan) (after w.plan steps) → IsWhole (simulation_of w.plan) (after w.plan steps)) → AreWhole w
+whole w L law steps d rows r = rows-whole (simulation_of w.plan) L steps (law steps d) rows r.0 r.1 r.2
+
+pub returns-clause-sealed : goal.returns-clause-sealed
+returns-clause-sealed c = λ steps h rows a.
+    let plan = c.args.self.now.plan in
+    let found = c.in_ok-rows.rows.items in
+    c.in_ok-of.ensures ∙
+    (ap (λ (w : NetworkWorld). tables_of w.plan c.deref.result.now) c.self.view_is ∙
+    (ap (tables_of plan) c.deref.ensures.value ∙
+    c.tables_by_place.ensures.by_place plan found rows (same-at (simulation_of plan) found rows (λ p. c.in_ok-rows.ensures steps h p ∙ sym (a p)))))
+
+pub returns-clause-whole : goal.returns-clause-whole
+returns-clause-whole c = λ steps h d rows r.
+    let w : NetworkWorld = record { plan = c.self.inside.network; held = c.self.inside.actors } in
+    returns-clause-sealed c steps h rows (subst AreWhole c.self.view_is (whole w c.layout.ensures.laws c.world_laws.ensures.whole) steps d rows r)

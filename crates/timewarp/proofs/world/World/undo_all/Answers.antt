@@ -1,0 +1,24 @@
+use Rattle.std.proofs.Common.{◌≡◌, ◌<◌, List, length, subst, sym, arith}
+use Rattle.std.specs.Prelude.{IfSome}
+use Rattle.virtual_time.specs.OneThread.{IsLeft}
+use Rattle.virtual_time.specs.Part.{undo_all}
+use Rattle.virtual_time.specs.World.{Step}
+use Rattle.nodes.specs.Opening.{opening}
+use Rattle.nodes.specs.Simulation.{simulation_of}
+use Rattle.timewarp.specs.Networks.{NetworkWorld, after, IsAfter}
+use Rattle.timewarp.proofs.NetworkWorlds.{undone-at, left-at, within}
+use Rattle.timewarp.proofs.world.World.undo_all.Goals as goal
+
+pub returns-clause-undone : goal.returns-clause-undone
+returns-clause-undone c =
+    subst (λ (w : NetworkWorld). IfSome c.undo_all.result (λ node. (steps : List Step) → IsAfter w steps →
+    node ≡ undo_all (simulation_of w.plan).rules (opening w.plan c.args.process) ((after w.plan steps).parts c.args.process))) c.self.view_is
+    (undone-at c.self.inside.network c.layout.ensures.layout c.self.inside.actors c.args.process c.undo_all.result c.undo_all.ensures.undone)
+
+pub returns-clause-left : goal.returns-clause-left
+returns-clause-left c =
+    subst (λ (w : NetworkWorld). IfSome c.undo_all.result (λ node. (steps : List Step) → IsAfter w steps →
+    IsLeft (simulation_of w.plan) c.args.process (length ((after w.plan steps).parts c.args.process).committed) node)) c.self.view_is
+    (left-at c.self.inside.network c.layout.ensures.layout c.self.inside.actors c.args.process c.world_laws.ensures.safe c.undo_all.result
+    (within c.self.inside.actors c.args.process c.self.inside.network c.self.invariant.1.count c.undo_all.result c.undo_all.ensures.none.1)
+    c.undo_all.ensures.undone)

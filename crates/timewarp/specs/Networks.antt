@@ -1,0 +1,33 @@
+-- The worlds of a network: what its simulation makes of steps, when a program holds such a world, and the rows that are committed in one.
+use Rattle.std.specs.Prelude.{◌≡◌, ℕ, ◌<◌, List, [], map}
+use Rattle.vlink.specs.declared.message.Message.{Message}
+use Rattle.vlink.specs.declared.note.Row.{Row as Noted}
+use Rattle.virtual_time.specs.Rules.{rowed}
+use Rattle.virtual_time.specs.OneThread.{rows_at}
+use Rattle.virtual_time.specs.World.{World, Step, start, run}
+use Rattle.netdesc.specs.Plan.{Plan}
+use Rattle.nodes.specs.declared.node.NodeRecord.{NodeRecord}
+use Rattle.nodes.specs.Node.{NodeState}
+use Rattle.nodes.specs.NodeUndoing.{IsNodeValue}
+use Rattle.nodes.specs.Opening.{opening}
+use Rattle.nodes.specs.Simulation.{simulation_of}
+use Rattle.seqsim.specs.Running.{seen_row}
+use Rattle.timewarp.specs.Worlds.{Held, StandsForWorld}
+
+-- a network, and what is held of a world of it
+pub record NetworkWorld : Type 0 where
+  pub plan : Plan
+  pub held : Held NodeState NodeRecord
+
+-- the world of a network after these steps, done one after another from the start
+abbrev pub after : Plan → List Step → World Message NodeState
+after plan steps = run (simulation_of plan) steps (start (simulation_of plan))
+
+-- what is held is the world of the network after these steps
+abbrev pub IsAfter : NetworkWorld → List Step → Type 0
+IsAfter world steps = StandsForWorld (simulation_of world.plan) IsNodeValue (after world.plan steps) world.held
+
+-- at each process the rows are those of its committed events, in their order
+abbrev pub AreCommittedRows : Plan → List Step → List Noted → Type 0
+AreCommittedRows plan steps rows =
+    (p : ℕ) → rows_at (simulation_of plan) p (map seen_row rows) ≡ rowed (simulation_of plan).rules (opening plan p) ((after plan steps).parts p).committed

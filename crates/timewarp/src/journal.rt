@@ -1,0 +1,64 @@
+//! Journals: all their steps in order, and what holds of them.
+ghost use Rattle.std.specs.Prelude.{◌≡◌, ◌≢◌, ◌≤◌, ◌+◌, ℕ, map, take, Err, IfOk, slice_get, Some, length};
+ghost use Rattle.vlink.specs.declared.message.Message.{Message};
+ghost use Rattle.vlink.specs.declared.step.Step.{Step as Noted};
+ghost use Rattle.virtual_time.specs.Lists.{earlier};
+ghost use Rattle.virtual_time.specs.World.{start};
+ghost use Rattle.virtual_time.specs.Safe.{Safe, history, CountLaw, IsFinished, IsWhole};
+ghost use Rattle.nodes.specs.Simulation.{simulation_of};
+ghost use Rattle.timewarp.specs.declared.fault.StepFault.TheVariants.{NoProcess, Exhausted};
+ghost use Rattle.timewarp.specs.Steps.{step_of};
+ghost use Rattle.timewarp.specs.Worlds.{IsExhausted};
+ghost use Rattle.timewarp.specs.Networks.{after, IsAfter};
+ghost use Rattle.timewarp.specs.Replaying.{did, not_enabled, refused};
+
+use crate::counting::Replay;
+use crate::fault::StepFault;
+use crate::laws::world_laws;
+use crate::world::World;
+use netdesc::Network;
+use std::alloc::Global;
+use vlink::Step;
+
+/// Does all steps of a journal on a network, in their order, and counts them. A step that is not enabled, or names a process that there
+/// is not, is counted and passed over: it changes nothing. The first other refusal ends the replay: `OutOfMemory` comes only where a
+/// growth was refused, and `Exhausted` only at `Run` of a process that has not enough numbers left for what one event can send.
+///
+/// Whatever the steps are, and in whatever order, after each beginning of them (clauses `safe` to `balances`):
+/// undoing the events of a process that are not committed, the newest first, gives its state in the one-thread run after just its
+/// committed events, which are the first ones there; its events below GVT are those of the one-thread run, and are never undone; GVT
+/// never falls; and messages and antimessages balance. A run that is finished has the events and the rows of the whole one-thread run.
+pub fn replay(alloc: Global, network: Network, steps: &[Step]) -> Result<Replay, StepFault>
+    ensures network { IfOk result (λ replay. replay.world.plan ≡ network) }
+    ensures after { IfOk result (λ replay. IsAfter replay.world (map step_of steps.now)) }
+    ensures did { IfOk result (λ replay. replay.did ≡ did (simulation_of network) steps.now (start (simulation_of network))) }
+    ensures not_enabled { IfOk result (λ replay. replay.not_enabled ≡ not_enabled (simulation_of network) steps.now (start (simulation_of network))) }
+    ensures refused { IfOk result (λ replay. replay.refused ≡ refused (simulation_of network) steps.now) }
+    ensures all { IfOk result (λ replay. replay.did + replay.not_enabled + replay.refused ≡ length steps.now) }
+    ensures safe { (n : ℕ) → Safe (simulation_of network) (after network (take n (map step_of steps.now))) }
+    ensures rises { (n m : ℕ) → n ≤ m → (after network (take n (map step_of steps.now))).gvt ≤ (after network (take m (map step_of steps.now))).gvt }
+    ensures never_undone { (n m : ℕ) → n ≤ m → (p : ℕ) →
+        earlier (simulation_of network).rules (after network (take n (map step_of steps.now))).gvt
+        (history (simulation_of network) (after network (take m (map step_of steps.now))) p)
+        ≡ earlier (simulation_of network).rules (after network (take n (map step_of steps.now))).gvt
+        (history (simulation_of network) (after network (take n (map step_of steps.now))) p) }
+    ensures whole { (n : ℕ) → IsFinished (simulation_of network) (after network (take n (map step_of steps.now))) →
+        IsWhole (simulation_of network) (after network (take n (map step_of steps.now))) }
+    ensures balances { (n : ℕ) (m : Message) → CountLaw (simulation_of network) (after network (take n (map step_of steps.now))) m }
+    ensures known { result ≢ Err NoProcess }
+    ensures exhausted { result ≡ Err Exhausted → (n : ℕ) × (x : Noted) × (slice_get steps.now n ≡ Some x) ×
+        IsExhausted (simulation_of network) (step_of x) (after network (take n (map step_of steps.now))) }
+{
+    world_laws(&network);
+    let world = World::new(alloc, network)?;
+    let mut replay = Replay {
+        world,
+        did: 0,
+        not_enabled: 0,
+        refused: 0,
+    };
+    for step in steps {
+        replay.do_step(*step)?;
+    }
+    Ok(replay)
+}

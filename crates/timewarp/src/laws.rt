@@ -1,0 +1,62 @@
+//! What holds of every run of a network, whatever its steps.
+ghost use Rattle.std.specs.Prelude.{ℕ, ◌≡◌, ◌≤◌, List, ◌++◌};
+ghost use Rattle.vlink.specs.declared.message.Message.{Message};
+ghost use Rattle.virtual_time.specs.Lists.{earlier, times_in};
+ghost use Rattle.virtual_time.specs.Simulation.{Laws, made};
+ghost use Rattle.virtual_time.specs.OneThread.{IsBelow};
+ghost use Rattle.virtual_time.specs.World.{Step};
+ghost use Rattle.virtual_time.specs.Safe.{Safe, history, CountLaw, IsFinished, IsWhole};
+ghost use Rattle.nodes.specs.Placed.{IsPlaced};
+ghost use Rattle.nodes.specs.Simulation.{simulation_of};
+ghost use Rattle.seqsim.specs.Running.{IsLaidOut};
+ghost use Rattle.seqsim.specs.Networks.{setting_of};
+ghost use Rattle.timewarp.specs.Networks.{after};
+
+use netdesc::Network;
+use nodes::{Node, NodeRecord};
+use reverse::actor_rules;
+use seqsim::network_laws;
+use traffic::lawful_offers;
+use virtual_time::headline;
+use vlink::{Message, Note};
+
+/// The processes and offers of a network are laid out as a world of actors asks. Nothing is done.
+pub(crate) fn layout(network: &Network)
+    ensures layout { IsLaidOut (simulation_of network.now).rules (λ s. s.sender.number) (λ s. s.sender.until) IsPlaced (setting_of network.now) }
+    ensures laws { Laws (simulation_of network.now) }
+{
+    network.accepted();
+    actor_rules::<Node>();
+    lawful_offers::<Node, NodeRecord, Note>(network);
+    network_laws(network);
+}
+
+/// The law of virtual time for a network: what holds after any steps, done in any order. It is the headline of `virtual_time`, for
+/// the simulation of the network, whose one-thread run is that of `seqsim::run`.
+///
+/// - `safe`: at each process the committed events are the first ones of the one-thread run, and undoing all others leaves the state
+///   after just these; with the done events below GVT they are all its events below GVT; nothing that is earlier than GVT waits.
+/// - `counts`: messages and antimessages balance. `once`: no message is made twice. `handled_once`: none is handled twice.
+/// - `seen`: also before any moment that is not above GVT, the events are those of the one-thread run.
+/// - `rises`: GVT never falls. `never_undone`: the events below GVT are the same after all later steps.
+/// - `whole`: in a finished world the committed events and their rows are those of the whole one-thread run.
+///
+/// A call does nothing: its caller learns what the clauses say.
+pub fn world_laws(network: &Network)
+    ensures safe { (steps : List Step) → Safe (simulation_of network.now) (after network.now steps) }
+    ensures counts { (steps : List Step) (m : Message) → CountLaw (simulation_of network.now) (after network.now steps) m }
+    ensures once { (steps : List Step) (m : Message) → made (simulation_of network.now) (history (simulation_of network.now) (after network.now steps)) m ≤ 1 }
+    ensures handled_once { (steps : List Step) (p : ℕ) (m : Message) →
+        times_in (simulation_of network.now).rules m (history (simulation_of network.now) (after network.now steps) p) ≤ 1 }
+    ensures seen { (steps : List Step) (g : ℕ) → g ≤ (after network.now steps).gvt → (p : ℕ) → IsBelow (simulation_of network.now) p g
+        (earlier (simulation_of network.now).rules g (history (simulation_of network.now) (after network.now steps) p)) }
+    ensures rises { (steps more : List Step) → (after network.now steps).gvt ≤ (after network.now (steps ++ more)).gvt }
+    ensures never_undone { (steps more : List Step) (p : ℕ) →
+        earlier (simulation_of network.now).rules (after network.now steps).gvt (history (simulation_of network.now) (after network.now (steps ++ more)) p)
+        ≡ earlier (simulation_of network.now).rules (after network.now steps).gvt (history (simulation_of network.now) (after network.now steps) p) }
+    ensures whole { (steps : List Step) → IsFinished (simulation_of network.now) (after network.now steps) →
+        IsWhole (simulation_of network.now) (after network.now steps) }
+{
+    network_laws(network);
+    headline::<Message, Node, NodeRecord, Note>();
+}

@@ -1,0 +1,148 @@
+//! The world of a network.
+ghost use Rattle.std.specs.Prelude.{◌≡◌, ◌≢◌, ◌↔◌, ◌≤◌, ◌<◌, ℕ, true, [], ◌∷◌, ◌++◌, List, length, slice_get, None, Ok, Err, IsTrue, IsNone, IfOk, IfErr, OnOk, OnErr, IfSome};
+ghost use Rattle.std.specs.Option.{option_map};
+ghost use Rattle.vlink.specs.declared.step.Step.TheVariants.{Gvt as NotedGvt};
+ghost use Rattle.virtual_time.specs.OneThread.{IsLeft};
+ghost use Rattle.virtual_time.specs.Part.{undo_all};
+ghost use Rattle.virtual_time.specs.World.{Step as Stepped, is_enabled};
+ghost use Rattle.virtual_time.specs.Safe.{IsFinished};
+ghost use Rattle.antimessages.specs.Letters.{signed};
+ghost use Rattle.netdesc.specs.Faults.{process_count};
+ghost use Rattle.nodes.specs.Opening.{opening};
+ghost use Rattle.nodes.specs.Simulation.{simulation_of};
+ghost use Rattle.seqsim.specs.Running.{AreInStates};
+ghost use Rattle.timewarp.specs.declared.done.Done.TheVariants.{Did};
+ghost use Rattle.timewarp.specs.declared.fault.StepFault.TheVariants.{NoProcess, OutOfMemory, Exhausted};
+ghost use Rattle.timewarp.specs.Steps.{step_of, names_none};
+ghost use Rattle.timewarp.specs.Worlds.{HoldsTheSame, IsExhausted};
+ghost use Rattle.timewarp.specs.Networks.{after, IsAfter};
+
+use crate::actors::ActorWorld;
+use crate::done::Done;
+use crate::fault::StepFault;
+use crate::laws::{layout, world_laws};
+use netdesc::Network;
+use nodes::Node;
+use std::alloc::{AllocError, Global};
+use std::marker::Model;
+use traffic::offers;
+use vlink::{Letter, Step, Time};
+
+/// A network in a Time Warp run: all its processes with their mail, their floors and GVT, from the start on after some steps.
+///
+/// Clauses see it as the plan of its network and what is held, which is the world of the law of virtual time after those steps.
+#[derive(Drop)]
+pub struct World {
+    pub(crate) network: Network,
+    pub(crate) actors: ActorWorld<Node>,
+}
+
+impl Model for World {
+    ghost use Rattle.std.specs.Prelude.{List};
+    ghost use Rattle.virtual_time.specs.World.{Step};
+    ghost use Rattle.timewarp.specs.Networks.{NetworkWorld, IsAfter};
+
+    ghost Value = { NetworkWorld };
+
+    ghost view = { λ w. record { plan = w.network; held = w.actors } };
+
+    ghost invariant = { λ w. (steps : List Step) × IsAfter (record { plan = w.network; held = w.actors }) steps };
+}
+
+/// All processes of a network, each as it is before any message.
+fn nodes_of(alloc: Global, network: &Network) -> Result<Vec<Node>, AllocError>
+    ensures { IfOk result (λ nodes. AreInStates (process_count network.now) (opening network.now) nodes.items) }
+{
+    let mut nodes = Vec::new(alloc);
+    for process in 0..network.process_count() {
+        nodes.push(Node::new(alloc, network, process as u16)?)?;
+    }
+    Ok(nodes)
+}
+
+impl World {
+    /// The world at the start: the offers are in the mail in their order, each process is in its opening state, every floor is the
+    /// moment after the end, and GVT is 0. It fails only where memory is refused.
+    pub fn new(alloc: Global, network: Network) -> Result<World, StepFault>
+        ensures opens { IfOk result (λ world. IsAfter world []) }
+        ensures network { IfOk result (λ world. world.plan ≡ network) }
+        ensures memory { IfErr result (λ fault. fault ≡ OutOfMemory) }
+    {
+        layout(&network);
+        let offers = offers(alloc, &network)?;
+        let nodes = nodes_of(alloc, &network)?;
+        let actors = ActorWorld::new(alloc, nodes, &offers, network.until())?;
+        Ok(World { network, actors })
+    }
+
+    /// Does one step, if it is enabled. A step that is not enabled, and one that is refused, change nothing.
+    ///
+    /// `NoProcess` comes exactly where the step names a process that there is not. `OutOfMemory` comes only where a growth was refused:
+    /// neither at `Gvt` nor at a step that is not enabled. `Exhausted` comes only at `Run` of a process that has not enough numbers
+    /// left for what one event can send.
+    pub fn step(&mut self, step: Step) -> Result<Done, StepFault>
+        ensures network { self.new.plan ≡ self.old.plan }
+        ensures after { OnOk result ((steps : List Stepped) → IsAfter self.old steps → IsAfter self.new (steps ++ step_of step ∷ [])) }
+        ensures refused { OnErr result ((steps : List Stepped) → IsAfter self.old steps → IsAfter self.new steps) }
+        ensures enabled { IfOk result (λ done. (steps : List Stepped) → IsAfter self.old steps →
+            (done ≡ Did) ↔ (is_enabled (simulation_of self.old.plan) (step_of step) (after self.old.plan steps) ≡ true)) }
+        ensures unchanged { result ≢ Ok Did → HoldsTheSame self.old.held self.new.held }
+        ensures no_process { (result ≡ Err NoProcess) ↔ (names_none (process_count self.old.plan) step ≡ true) }
+        ensures exhausted { result ≡ Err Exhausted → (steps : List Stepped) → IsAfter self.old steps →
+            IsExhausted (simulation_of self.old.plan) (step_of step) (after self.old.plan steps) }
+        ensures memory { result ≡ Err OutOfMemory → (steps : List Stepped) → IsAfter self.old steps →
+            is_enabled (simulation_of self.old.plan) (step_of step) (after self.old.plan steps) ≡ true }
+        ensures gvt { step ≡ NotedGvt → result ≡ Ok Did }
+    {
+        layout(&self.network);
+        self.actors.step(step)
+    }
+
+    /// The network.
+    pub fn network(&self) -> &Network
+        ensures { result.now ≡ self.now.plan }
+    {
+        &self.network
+    }
+
+    /// GVT: the moment below which nothing is undone any more.
+    pub fn gvt(&self) -> Time
+        ensures { (steps : List Stepped) → IsAfter self.now steps → result ≡ (after self.now.plan steps).gvt }
+    {
+        self.actors.gvt()
+    }
+
+    /// Whether the run is finished: GVT is past the end, and every done event is committed.
+    pub fn is_finished(&self) -> bool
+        ensures { (steps : List Stepped) → IsAfter self.now steps → IsTrue result ↔ IsFinished (simulation_of self.now.plan) (after self.now.plan steps) }
+    {
+        let is_over = self.gvt().ns() == self.network.until().ns() + 1;
+        is_over && self.actors.all_committed()
+    }
+
+    /// The letter number `place`, from 0, of the mail of process `process`: the one that the step Take would take. None where there is
+    /// none, or no such process.
+    pub fn look(&self, process: u32, place: u32) -> Option<Letter>
+        ensures letter { process < process_count self.now.plan → (steps : List Stepped) → IsAfter self.now steps →
+            option_map signed result ≡ slice_get ((after self.now.plan steps).mail process) place }
+        ensures none { process_count self.now.plan ≤ process → result ≡ None }
+    {
+        layout(&self.network);
+        self.actors.look(process, place)
+    }
+
+    /// Undoes all done events of process `process`, the newest first, each by its record, and gives its node back; none where there is
+    /// no such process. Nothing is sent, and no memory is taken. What is left is the state of the one-thread run after just the events
+    /// that were committed.
+    pub fn undo_all(self, process: u32) -> Option<Node>
+        ensures none { IsNone result ↔ (process_count self.plan ≤ process) }
+        ensures undone { IfSome result (λ node. (steps : List Stepped) → IsAfter self steps →
+            node ≡ undo_all (simulation_of self.plan).rules (opening self.plan process) ((after self.plan steps).parts process)) }
+        ensures left { IfSome result (λ node. (steps : List Stepped) → IsAfter self steps →
+            IsLeft (simulation_of self.plan) process (length ((after self.plan steps).parts process).committed) node) }
+    {
+        layout(&self.network);
+        world_laws(&self.network);
+        self.actors.undo_all(process)
+    }
+}
