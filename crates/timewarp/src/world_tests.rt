@@ -60,8 +60,7 @@ fn a_new_world_has_nothing_to_run(rt: HostRuntime) -> Result<(), Fail> {
     });
     assert_eq!(rt; refused, Err(StepFault::NoProcess));
     assert_eq!(rt; (world.gvt().ns(), world.is_finished()), (0, false));
-    let offer = world.look(0, 0).expect(&rt, "the offer");
-    assert_eq!(rt; (offer.message.time.ns(), offer.message.sender), (0, 4097));
+    assert!(rt; world.look(0, 0).is_some());
     assert!(rt; world.look(0, 1).is_none());
     assert!(rt; world.look(7, 0).is_none());
     assert!(rt; world.undo_all(7).is_none());
