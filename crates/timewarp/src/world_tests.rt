@@ -16,17 +16,14 @@ fn mail_len(world: &World, process: u32) -> u32 {
     10000
 }
 
-// The last letter of the mail of a process is taken and counted; then the process handles all that it can, and posts.
+// All letters of the mail of a process are taken, the last one first, and counted; then the process handles all that it can, and posts.
 fn turn(world: &mut World, process: u32) -> Result<(), Fail> {
     let letters = mail_len(world, process);
-    if letters == 0 {
-        return Ok(());
+    for taken in 0..letters {
+        let place = letters - taken - 1;
+        let _taken = world.step(Step::Take { process, place })?;
+        let _arrived = world.step(Step::Arrive { process })?;
     }
-    let _taken = world.step(Step::Take {
-        process,
-        place: letters - 1,
-    })?;
-    let _arrived = world.step(Step::Arrive { process })?;
     for _ in 0..1000 {
         if world.step(Step::Run { process })? == Done::NotEnabled {
             break;
