@@ -4,3 +4,4 @@ pub mod Words
 pub mod Telling
 pub mod Checking
 pub mod Reading
+pub mod Replaying

@@ -7,7 +7,7 @@ use Rattle.network_rows.specs.declared.fault.DescFault.{DescFault}
 use Rattle.network_rows.specs.declared.fault.DescFault.TheVariants as desc
 use Rattle.network_rows.specs.declared.fault.Place.{Place}
 use Rattle.afdxsim.specs.declared.fault.Fault.{Fault}
-use Rattle.afdxsim.specs.declared.fault.Fault.TheVariants.{Description, CannotRead, CannotWriteFile, CannotWrite, OutOfMemory, Exhausted}
+use Rattle.afdxsim.specs.declared.fault.Fault.TheVariants.{Description, JournalLine, JournalFull, CannotRead, CannotWriteFile, CannotWrite, OutOfMemory, Exhausted}
 
 -- the section, the row and the key, with one blank between; a row or a key that the place has not is left out
 abbrev pub place_text : Place → List ℕ
@@ -48,6 +48,8 @@ description_text fault = fault_name fault ++ option_map_or (λ place. codes " at
 -- what is said of a fault
 abbrev pub fault_text : Fault → List ℕ
 fault_text (Description fault) = description_text fault
+fault_text (JournalLine n) = codes "journal line " ++ decimal n
+fault_text JournalFull = codes "journal full"
 fault_text (CannotRead path) = codes "cannot read " ++ path.now
 fault_text (CannotWriteFile path) = codes "cannot write " ++ path.now
 fault_text CannotWrite = codes "cannot write"
@@ -62,16 +64,18 @@ told text = codes "afdxsim: " ++ text ++ 10 ∷ []
 abbrev pub TellsLine : Option (List ℕ) → Option (List ℕ) → Fault → Type 0
 TellsLine old new fault = (new ≡ append_known old (told (fault_text fault))) ⊎ (new ≡ append_known old (codes "afdxsim: out of memory\n"))
 
--- 3 for a description, 4 for a file or standard output, 5 for memory and numbers
+-- 3 for a description or a line of a journal, 4 for a file or standard output, 5 for memory, numbers and a journal that is too long
 abbrev pub status_of : Fault → ℕ
 status_of (Description desc.OutOfMemory) = 5
 status_of (Description fault) = 3
+status_of (JournalLine n) = 3
+status_of JournalFull = 5
 status_of (CannotRead path) = 4
 status_of (CannotWriteFile path) = 4
 status_of CannotWrite = 4
 status_of OutOfMemory = 5
 status_of Exhausted = 5
 
--- a status of the program: 0 done, 2 bad words, 3 a bad description, 4 a file or standard output, 5 memory or numbers
+-- a status of the program: 0 done, 2 bad words, 3 a bad description or journal, 4 a file or standard output, 5 memory, numbers or a journal that is too long
 abbrev pub IsStatus : ℕ → Type 0
 IsStatus status = (status ≡ 0) ⊎ (status ≡ 2) ⊎ (status ≡ 3) ⊎ (status ≡ 4) ⊎ (status ≡ 5)

@@ -2,6 +2,7 @@
 ghost use Rattle.std.specs.Prelude.{◌≡◌, ◌⊎◌};
 ghost use Rattle.afdxsim.specs.Telling.{status_of};
 
+use journal_text::LinesFault;
 use netdesc::DescFault;
 use seqsim::SimFault;
 use std::alloc::AllocError;
@@ -17,6 +18,10 @@ pub const BAD_WORDS: u8 = 2;
 pub enum Fault<'a> {
     /// The description of the network has this fault.
     Description(DescFault),
+    /// The line with this number, from 1, is the first of a journal that is the text of no step.
+    JournalLine(u64),
+    /// A journal has more lines than are allowed.
+    JournalFull,
     /// The file with this path cannot be read.
     CannotRead(&'a str),
     /// The file with this path cannot be made or written.
@@ -38,6 +43,8 @@ impl Fault<'_> {
         match self {
             Fault::Description(DescFault::OutOfMemory) => 5,
             Fault::Description(_) => 3,
+            Fault::JournalLine(_) => 3,
+            Fault::JournalFull => 5,
             Fault::CannotRead(_) => 4,
             Fault::CannotWriteFile(_) => 4,
             Fault::CannotWrite => 4,
@@ -55,6 +62,21 @@ impl From<AllocError> for Fault<'_> {
 
     fn from(_: AllocError) -> Self {
         Fault::OutOfMemory
+    }
+}
+
+impl From<LinesFault> for Fault<'_> {
+    ghost use Rattle.std.specs.Prelude.{◌≡◌};
+    ghost use Rattle.afdxsim.specs.Replaying.{fault_of_lines};
+
+    ghost from_gives = { λ refusal fault. fault ≡ fault_of_lines refusal };
+
+    fn from(fault: LinesFault) -> Self {
+        match fault {
+            LinesFault::TooMany => Fault::JournalFull,
+            LinesFault::BadLine(line) => Fault::JournalLine(line),
+            LinesFault::OutOfMemory => Fault::OutOfMemory,
+        }
     }
 }
 

@@ -1,6 +1,7 @@
 //! The program: a simulator of AFDX networks.
 #![tactic(auto)]
 
+mod account;
 mod check;
 mod fault;
 mod first;
@@ -8,6 +9,7 @@ mod host;
 mod once;
 mod perform;
 mod reading;
+mod replay;
 mod seq;
 mod source;
 mod system;
@@ -38,6 +40,8 @@ mod check_tests;
 mod memory_host;
 #[cfg(test)]
 mod networks_in_text;
+#[cfg(test)]
+mod replay_tests;
 #[cfg(test)]
 mod seq_tests;
 #[cfg(test)]

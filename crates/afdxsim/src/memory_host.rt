@@ -80,12 +80,13 @@ impl Sink for Leaf {
     }
 }
 
-/// A host with one file to read and one that can be written.
+/// A host with a file or two to read and one that can be written.
 #[derive(Drop)]
 pub struct MemoryHost<'a> {
-    /// The path of the file that can be read, and its bytes.
-    path: &'a str,
+    /// The bytes of the file `net.toml`.
     bytes: &'a [u8],
+    /// The bytes of the file `steps.txt`, where it is there.
+    pub steps: Option<&'a [u8]>,
     /// The path of the file that can be made.
     made: &'a str,
     written: Rc<Cell<Vec<u8>>>,
@@ -97,11 +98,11 @@ pub struct MemoryHost<'a> {
 }
 
 impl<'a> MemoryHost<'a> {
-    /// A host with the file `net.toml`, where `trace.csv` can be made. The standard streams take all.
+    /// A host with the file `net.toml` alone, where `trace.csv` can be made. The standard streams take all.
     pub fn new(alloc: Global, bytes: &'a [u8]) -> Result<Self, Fail> {
         Ok(MemoryHost {
-            path: "net.toml",
             bytes,
+            steps: None,
             made: "trace.csv",
             written: Rc::new(alloc, Cell::new(Vec::new(alloc)))?,
             takes: true,
@@ -128,10 +129,12 @@ impl Host for MemoryHost<'_> {
     type Errors = Page;
 
     fn read(&mut self, alloc: Global, path: &str) -> Result<Vec<u8>, ReadFault> {
-        if path != self.path {
-            return Err(ReadFault::Device);
-        }
-        match Vec::from_slice(alloc, self.bytes) {
+        let bytes = match (path, self.steps) {
+            ("net.toml", _) => self.bytes,
+            ("steps.txt", Some(steps)) => steps,
+            _ => return Err(ReadFault::Device),
+        };
+        match Vec::from_slice(alloc, bytes) {
             Ok(bytes) => Ok(bytes),
             Err(_) => Err(ReadFault::OutOfMemory),
         }

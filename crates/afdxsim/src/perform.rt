@@ -5,6 +5,7 @@ use crate::check::check;
 use crate::fault::{BAD_WORDS, DONE, Fault};
 use crate::first::first;
 use crate::host::Host;
+use crate::replay::replay;
 use crate::seq::seq;
 use crate::telling::{say, tell};
 use clap::Error;
@@ -15,7 +16,8 @@ use std::convert::AsStr;
 use trace_tables::write_all;
 
 /// The whole program. The words are those after its name; the answer is the status that it ends with: 0 done, or help was asked for;
-/// 2 bad words; 3 a bad description; 4 a file or standard output failed; 5 memory or the numbers of a process were wanting.
+/// 2 bad words; 3 a bad description or journal; 4 a file or standard output failed; 5 memory or the numbers of a process were wanting,
+/// or a journal has too many lines.
 ///
 /// What the words ask for goes to standard output and into files. A fault is told by one line on error output, bad words by clap's
 /// text; where error output fails, nothing more is said. A fault ends the program at once, and what was written before it stays.
@@ -59,7 +61,10 @@ fn obey<H: Host>(order: &Order, alloc: Global, host: &mut H) -> u8
             end(outcome, alloc, host)
         }
         Order::Run(_) => lack("afdxsim: run is not there yet\n", host),
-        Order::Replay(_) => lack("afdxsim: replay is not there yet\n", host),
+        Order::Replay(order) => {
+            let outcome = replay(alloc, order.net.as_str(), order.steps.as_str(), host);
+            end(outcome, alloc, host)
+        }
     }
 }
 

@@ -25,7 +25,11 @@ pub fn network_in(alloc: Global, bytes: &[u8]) -> Result<Network, Fault<'static>
 }
 
 /// The bytes of the file with this path.
-fn bytes_of<'a, H: Host>(alloc: Global, path: &'a str, host: &mut H) -> Result<Vec<u8>, Fault<'a>> {
+pub fn bytes_of<'a, H: Host>(
+    alloc: Global,
+    path: &'a str,
+    host: &mut H,
+) -> Result<Vec<u8>, Fault<'a>> {
     match host.read(alloc, path) {
         Ok(bytes) => Ok(bytes),
         Err(ReadFault::Device) => Err(Fault::CannotRead(path)),

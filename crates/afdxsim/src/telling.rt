@@ -85,6 +85,8 @@ fn push_fault(text: &mut String, fault: &Fault<'_>) -> Result<(), AllocError>
 {
     match fault {
         Fault::Description(fault) => push_description(text, fault),
+        Fault::JournalLine(line) => write!(text, "journal line {line}"),
+        Fault::JournalFull => text.push_str("journal full"),
         Fault::CannotRead(path) => push_both(text, "cannot read ", path),
         Fault::CannotWriteFile(path) => push_both(text, "cannot write ", path),
         Fault::CannotWrite => text.push_str("cannot write"),

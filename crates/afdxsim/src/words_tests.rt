@@ -1,4 +1,4 @@
-//! Bad words, help, and the commands that are not there yet.
+//! Bad words, help, and the command that is not there yet.
 use crate::memory_host::{MemoryHost, says};
 use crate::perform;
 use std::str;
@@ -55,20 +55,9 @@ fn helps_no_more_than_standard_output_takes(rt: HostRuntime) -> Result<(), Fail>
 }
 
 #[test]
-fn lacks_some_commands(rt: HostRuntime) -> Result<(), Fail> {
+fn lacks_one_command(rt: HostRuntime) -> Result<(), Fail> {
     let run = "afdxsim: run is not there yet\n";
     assert!(rt; says(rt.alloc(), "", &["run", "net.toml"], 2, "", run)?);
-    let replay = "afdxsim: replay is not there yet\n";
-    assert!(rt;
-        says(
-            rt.alloc(),
-            "",
-            &["replay", "net.toml", "steps"],
-            2,
-            "",
-            replay
-        )?
-    );
     Ok(())
 }
 

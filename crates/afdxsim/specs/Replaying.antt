@@ -1,0 +1,83 @@
+-- What the program says of a journal whose steps were done on a network.
+use Rattle.std.specs.Prelude.{◌≡◌, ◌↔◌, ◌<◌, ◌≤◌, ℕ, Bool, true, false, IsTrue, All, List, ◌++◌, length, map, take, slice_get, Some, codes, decimal, string_bytes}
+use Rattle.vlink.specs.declared.note.Row.{Row as Noted}
+use Rattle.vlink.specs.declared.step.Step.{Step as Noting}
+use Rattle.virtual_time.specs.World.{Step, start}
+use Rattle.virtual_time.specs.Safe.{IsFinished}
+use Rattle.netdesc.specs.Plan.{Plan}
+use Rattle.nodes.specs.Simulation.{simulation_of}
+use Rattle.journal_text.specs.declared.fault.LinesFault.{LinesFault}
+use Rattle.journal_text.specs.declared.fault.LinesFault.TheVariants as journal
+use Rattle.journal_text.specs.Text.{Fits, steps_text}
+use Rattle.journal_text.specs.Lines.{lines, IsFirstBad}
+use Rattle.trace_tables.specs.Tables.{TableLists, tables_of}
+use Rattle.seqsim.specs.Networks.{AreRowsOf}
+use Rattle.timewarp.specs.Steps.{step_of}
+use Rattle.timewarp.specs.Worlds.{IsExhausted}
+use Rattle.timewarp.specs.Networks.{after, AreCommittedRows}
+use Rattle.timewarp.specs.Replaying.{did, not_enabled, refused}
+use Rattle.afdxsim.specs.declared.account.Account.{Account}
+use Rattle.afdxsim.specs.declared.account.TheConstants.{MOST_LINES}
+use Rattle.afdxsim.specs.declared.fault.Fault.{Fault}
+use Rattle.afdxsim.specs.declared.fault.Fault.TheVariants.{Description, JournalLine, JournalFull, CannotRead, CannotWriteFile, CannotWrite, OutOfMemory, Exhausted}
+
+-- whether a run is finished, as the end of a line
+abbrev pub finish_text : Bool → List ℕ
+finish_text true = codes "finished\n"
+finish_text false = codes "unfinished\n"
+
+-- the line that tells how many steps were done, were not enabled and were refused, GVT in ns, and whether the run is finished
+abbrev pub summary_text : ℕ → ℕ → ℕ → ℕ → Bool → List ℕ
+summary_text did not_enabled refused gvt is_finished =
+    codes "replay: " ++ (decimal did ++ (codes " did, " ++ (decimal not_enabled ++ (codes " not enabled, " ++ (decimal refused ++ (codes " refused, gvt " ++ (decimal gvt ++ (codes ", " ++ finish_text is_finished))))))))
+
+-- this is the line of these steps, done on this network from the start on
+abbrev pub IsSummary : Plan → List Noting → List ℕ → Type 0
+IsSummary plan steps text =
+    (is_finished : Bool) × (IsTrue is_finished ↔ IsFinished (simulation_of plan) (after plan (map step_of steps))) ×
+    (text ≡ summary_text
+        (did (simulation_of plan) steps (start (simulation_of plan)))
+        (not_enabled (simulation_of plan) steps (start (simulation_of plan)))
+        (refused (simulation_of plan) steps)
+        (after plan (map step_of steps)).gvt
+        is_finished)
+
+-- these are the tables of what is committed after these steps
+abbrev pub AreCommittedTables : Plan → List Step → TableLists → Type 0
+AreCommittedTables plan steps tables = (rows : List Noted) × AreCommittedRows plan steps rows × (tables ≡ tables_of plan rows)
+
+-- the account tells of these steps, done on this network
+pub record TellsOfSteps (plan : Plan) (steps : List Noting) (account : Account) : Type 0 where
+  pub tables : AreCommittedTables plan (map step_of steps) account.tables
+  -- where the run is finished they are the tables of the one-thread run
+  pub whole : IsFinished (simulation_of plan) (after plan (map step_of steps)) → (rows : List Noted) → AreRowsOf plan rows → account.tables ≡ tables_of plan rows
+  pub line : IsSummary plan steps (string_bytes account.line)
+
+-- a text with these steps as its lines, at most as many as are allowed
+pub record IsJournal (text : List ℕ) (steps : List Noting) : Type 0 where
+  pub text : steps_text steps ≡ text
+  pub fits : All Fits steps
+  pub within : length steps ≤ MOST_LINES
+
+-- the account tells of the journal with this text, done on this network
+abbrev pub TellsOfJournal : Plan → List ℕ → Account → Type 0
+TellsOfJournal plan text account = (steps : List Noting) × IsJournal text steps × TellsOfSteps plan steps account
+
+-- why a text was not read as a journal, as a fault of the program
+abbrev pub fault_of_lines : LinesFault → Fault
+fault_of_lines journal.TooMany = JournalFull
+fault_of_lines (journal.BadLine n) = JournalLine n
+fault_of_lines journal.OutOfMemory = OutOfMemory
+
+-- why the journal with this text was not done on this network
+abbrev pub IsFaultOfJournal : Plan → List ℕ → Fault → Type 0
+IsFaultOfJournal plan text (Description fault) = ⊥
+IsFaultOfJournal plan text (JournalLine n) = (length (lines text) ≤ MOST_LINES) × IsFirstBad text n
+IsFaultOfJournal plan text JournalFull = MOST_LINES < length (lines text)
+IsFaultOfJournal plan text (CannotRead path) = ⊥
+IsFaultOfJournal plan text (CannotWriteFile path) = ⊥
+IsFaultOfJournal plan text CannotWrite = ⊥
+IsFaultOfJournal plan text OutOfMemory = length (lines text) ≤ MOST_LINES
+IsFaultOfJournal plan text Exhausted =
+    (steps : List Noting) × IsJournal text steps × (n : ℕ) × (x : Noting) × (slice_get steps n ≡ Some x) ×
+    IsExhausted (simulation_of plan) (step_of x) (after plan (take n (map step_of steps)))
