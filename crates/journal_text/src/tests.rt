@@ -1,6 +1,7 @@
 //! Texts of journals, and the steps or the fault that each is read as.
 use crate::{LinesFault, read_steps};
 use std::alloc::Global;
+use std::mem::size_of;
 use std::test::Fail;
 use vlink::Step;
 
@@ -142,4 +143,9 @@ fn faults_are_told_in_words(rt: HostRuntime) -> Result<(), Fail> {
     let many = format!(in rt.alloc(); "{}", LinesFault::TooMany)?;
     assert!(rt; many.as_str() == "too many lines");
     Ok(())
+}
+
+#[test]
+fn a_step_takes_at_most_12_bytes(rt: HostRuntime) {
+    assert!(rt; size_of::<Step>() <= 12);
 }
