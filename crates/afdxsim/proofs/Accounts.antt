@@ -1,5 +1,5 @@
 -- What is told of a journal, of what its steps, their counts and the tables are.
-use Rattle.std.proofs.Common.{◌≡◌, ◌∙◌, ◌↔◌, ℕ, ◌<◌, ◌≤◌, ◌⊎◌, inl, inr, Bool, IsTrue, List, length, map, Result, Ok, Err, refl, sym, ap, subst, arith}
+use Rattle.std.proofs.Common.{◌≡◌, ◌∙◌, ◌↔◌, ℕ, ◌<◌, ◌≤◌, ◌⊎◌, inl, inr, Bool, IsTrue, List, map, Result, Ok, sym, ap, subst, arith}
 use Rattle.std.proofs.lemmas.Bool.{cases_lt}
 use Rattle.std.specs.Prelude.{IsErrOf}
 use Rattle.std.specs.Global.{Vec}
@@ -11,7 +11,7 @@ use Rattle.netdesc.specs.Plan.{Plan}
 use Rattle.nodes.specs.Simulation.{simulation_of}
 use Rattle.journal_text.specs.declared.fault.LinesFault.{LinesFault}
 use Rattle.journal_text.specs.declared.fault.LinesFault.TheVariants as journal
-use Rattle.journal_text.specs.Lines.{lines, HasCause}
+use Rattle.journal_text.specs.Lines.{HasCause}
 use Rattle.trace_tables.specs.Tables.{TableLists, tables_of}
 use Rattle.timewarp.specs.declared.counting.Replay.{Replay}
 use Rattle.timewarp.specs.Steps.{step_of}
@@ -56,16 +56,15 @@ pub summary : (found : Replay) (steps : List Noting) (gvt : ℕ) (is_finished : 
     gvt ≡ (after found.world.plan (map step_of steps)).gvt →
     (IsTrue is_finished ↔ IsFinished (simulation_of found.world.plan) (after found.world.plan (map step_of steps))) →
     text ≡ summary_text found.did found.not_enabled found.refused gvt is_finished → IsSummary found.world.plan steps text
-summary found steps gvt is_finished text is at ends written =
-    (
-      is_finished,
-      ends,
-      written
+summary found steps gvt is_finished text is at ends written = (
+  is_finished,
+  ends,
+  written
       ∙ (ap (λ n. summary_text n found.not_enabled found.refused gvt is_finished) is.did
       ∙ (ap (λ n. summary_text (did (simulation_of found.world.plan) steps (start (simulation_of found.world.plan))) n found.refused gvt is_finished) is.not_enabled
       ∙ (ap (λ n. summary_text (did (simulation_of found.world.plan) steps (start (simulation_of found.world.plan))) (not_enabled (simulation_of found.world.plan) steps (start (simulation_of found.world.plan))) n gvt is_finished) is.refused
       ∙ ap (λ n. summary_text (did (simulation_of found.world.plan) steps (start (simulation_of found.world.plan))) (not_enabled (simulation_of found.world.plan) steps (start (simulation_of found.world.plan))) (refused (simulation_of found.world.plan) steps) n is_finished) at))),
-    )
+)
 
 -- the tables of some rows that are committed
 pub committed : (world : NetworkWorld) (tables : TableLists) (steps : List Step) → IsAfter world steps →

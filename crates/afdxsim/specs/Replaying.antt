@@ -41,11 +41,11 @@ abbrev pub IsSummary : Plan → List Noting → List ℕ → Type 0
 IsSummary plan steps text =
     (is_finished : Bool) × (IsTrue is_finished ↔ IsFinished (simulation_of plan) (after plan (map step_of steps))) ×
     (text ≡ summary_text
-        (did (simulation_of plan) steps (start (simulation_of plan)))
-        (not_enabled (simulation_of plan) steps (start (simulation_of plan)))
-        (refused (simulation_of plan) steps)
-        (after plan (map step_of steps)).gvt
-        is_finished)
+    (did (simulation_of plan) steps (start (simulation_of plan)))
+    (not_enabled (simulation_of plan) steps (start (simulation_of plan)))
+    (refused (simulation_of plan) steps)
+    (after plan (map step_of steps)).gvt
+    is_finished)
 
 -- these are the tables of what is committed after these steps
 abbrev pub AreCommittedTables : Plan → List Step → TableLists → Type 0

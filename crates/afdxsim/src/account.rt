@@ -116,20 +116,20 @@ fn line_of(
 }
 
 /// The line that tells what a replay has found.
-#[tactic(auto, using(crate::proofs::Accounts::summary))]
 fn summary_of(alloc: Global, found: &Replay) -> Result<String, AllocError>
     ensures { IfOk result (λ line. (steps : List Noting) → IsReplayed found.now steps → IsSummary found.now.world.plan steps (string_bytes line)) }
 {
     let gvt = found.world.gvt().ns();
     let is_finished = found.world.is_finished();
-    line_of(
+    let line = line_of(
         alloc,
         found.did,
         found.not_enabled,
         found.refused,
         gvt,
         is_finished,
-    )
+    )?;
+    Ok(line)
 }
 
 /// The tables of what is committed.
@@ -166,11 +166,7 @@ fn told(alloc: Global, found: Replay) -> Result<Account, AllocError>
 /// text of no step. `OutOfMemory` comes only where a growth was refused, and `Exhausted` only at `Run` of a process that has not enough
 /// numbers left for what one event can send.
 #[tactic(auto, using(crate::proofs::Accounts::tells, crate::proofs::Accounts::memory_fault, crate::proofs::Accounts::steps_fault))]
-pub fn account_of(
-    alloc: Global,
-    network: Network,
-    text: &[u8],
-) -> Result<Account, Fault<'static>>
+pub fn account_of(alloc: Global, network: Network, text: &[u8]) -> Result<Account, Fault<'static>>
     ensures told { IfOk result (TellsOfJournal network text.now) }
     ensures network { IfOk result (λ account. account.world.plan ≡ network) }
     ensures fault { IfErr result (IsFaultOfJournal network text.now) }
