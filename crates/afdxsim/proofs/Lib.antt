@@ -1,3 +1,4 @@
 pub mod Asking
 pub mod Committing
 pub mod WordsLemmas
+pub mod Accounts

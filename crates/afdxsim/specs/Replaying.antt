@@ -21,26 +21,31 @@ use Rattle.afdxsim.specs.declared.account.TheConstants.{MOST_LINES}
 use Rattle.afdxsim.specs.declared.fault.Fault.{Fault}
 use Rattle.afdxsim.specs.declared.fault.Fault.TheVariants.{Description, JournalLine, JournalFull, CannotRead, CannotWriteFile, CannotWrite, OutOfMemory, Exhausted}
 
+-- how many steps were done, were not enabled and were refused, and GVT in ns
+abbrev pub counted_text : ℕ → ℕ → ℕ → ℕ → List ℕ
+counted_text did not_enabled refused gvt =
+    codes "replay: " ++ (decimal did ++ (codes " did, " ++ (decimal not_enabled ++ (codes " not enabled, " ++ (decimal refused ++ (codes " refused, gvt " ++ (decimal gvt ++ codes ", ")))))))
+
 -- whether a run is finished, as the end of a line
 abbrev pub finish_text : Bool → List ℕ
 finish_text true = codes "finished\n"
 finish_text false = codes "unfinished\n"
 
--- the line that tells how many steps were done, were not enabled and were refused, GVT in ns, and whether the run is finished
+-- the line that tells this of a replay
 abbrev pub summary_text : ℕ → ℕ → ℕ → ℕ → Bool → List ℕ
 summary_text did not_enabled refused gvt is_finished =
-    codes "replay: " ++ (decimal did ++ (codes " did, " ++ (decimal not_enabled ++ (codes " not enabled, " ++ (decimal refused ++ (codes " refused, gvt " ++ (decimal gvt ++ (codes ", " ++ finish_text is_finished))))))))
+    counted_text did not_enabled refused gvt ++ finish_text is_finished
 
 -- this is the line of these steps, done on this network from the start on
 abbrev pub IsSummary : Plan → List Noting → List ℕ → Type 0
 IsSummary plan steps text =
     (is_finished : Bool) × (IsTrue is_finished ↔ IsFinished (simulation_of plan) (after plan (map step_of steps))) ×
     (text ≡ summary_text
-        (did (simulation_of plan) steps (start (simulation_of plan)))
-        (not_enabled (simulation_of plan) steps (start (simulation_of plan)))
-        (refused (simulation_of plan) steps)
-        (after plan (map step_of steps)).gvt
-        is_finished)
+    (did (simulation_of plan) steps (start (simulation_of plan)))
+    (not_enabled (simulation_of plan) steps (start (simulation_of plan)))
+    (refused (simulation_of plan) steps)
+    (after plan (map step_of steps)).gvt
+    is_finished)
 
 -- these are the tables of what is committed after these steps
 abbrev pub AreCommittedTables : Plan → List Step → TableLists → Type 0
@@ -53,11 +58,11 @@ pub record TellsOfSteps (plan : Plan) (steps : List Noting) (account : Account) 
   pub whole : IsFinished (simulation_of plan) (after plan (map step_of steps)) → (rows : List Noted) → AreRowsOf plan rows → account.tables ≡ tables_of plan rows
   pub line : IsSummary plan steps (string_bytes account.line)
 
--- a text with these steps as its lines, at most as many as are allowed
+-- a text with these steps as its lines, and with at most as many lines as are allowed
 pub record IsJournal (text : List ℕ) (steps : List Noting) : Type 0 where
-  pub text : steps_text steps ≡ text
+  pub written : steps_text steps ≡ text
   pub fits : All Fits steps
-  pub within : length steps ≤ MOST_LINES
+  pub within : length (lines text) ≤ MOST_LINES
 
 -- the account tells of the journal with this text, done on this network
 abbrev pub TellsOfJournal : Plan → List ℕ → Account → Type 0
@@ -69,6 +74,11 @@ fault_of_lines journal.TooMany = JournalFull
 fault_of_lines (journal.BadLine n) = JournalLine n
 fault_of_lines journal.OutOfMemory = OutOfMemory
 
+-- at some step of these the process has not enough numbers left for what one event can send
+abbrev pub IsExhaustedIn : Plan → List Noting → Type 0
+IsExhaustedIn plan steps =
+    (n : ℕ) × (x : Noting) × (slice_get steps n ≡ Some x) × IsExhausted (simulation_of plan) (step_of x) (after plan (take n (map step_of steps)))
+
 -- why the journal with this text was not done on this network
 abbrev pub IsFaultOfJournal : Plan → List ℕ → Fault → Type 0
 IsFaultOfJournal plan text (Description fault) = ⊥
@@ -78,6 +88,4 @@ IsFaultOfJournal plan text (CannotRead path) = ⊥
 IsFaultOfJournal plan text (CannotWriteFile path) = ⊥
 IsFaultOfJournal plan text CannotWrite = ⊥
 IsFaultOfJournal plan text OutOfMemory = length (lines text) ≤ MOST_LINES
-IsFaultOfJournal plan text Exhausted =
-    (steps : List Noting) × IsJournal text steps × (n : ℕ) × (x : Noting) × (slice_get steps n ≡ Some x) ×
-    IsExhausted (simulation_of plan) (step_of x) (after plan (take n (map step_of steps)))
+IsFaultOfJournal plan text Exhausted = (steps : List Noting) × IsJournal text steps × IsExhaustedIn plan steps

@@ -1,13 +1,20 @@
 //! A journal, done on a network, and what is told of it.
-ghost use Rattle.std.specs.Prelude.{◌≡◌, ◌≢◌, List, IfOk, IfErr, string_bytes};
+ghost use Rattle.std.specs.Prelude.{◌≡◌, ◌⊎◌, List, IfOk, IfErr, string_bytes};
+ghost use Rattle.vlink.specs.declared.note.Row.{Row as Noted};
 ghost use Rattle.vlink.specs.declared.step.Step.{Step as Noting};
-ghost use Rattle.timewarp.specs.declared.fault.StepFault.TheVariants as step_fault;
+ghost use Rattle.virtual_time.specs.World.{Step as Stepped};
+ghost use Rattle.virtual_time.specs.Safe.{IsFinished};
+ghost use Rattle.netdesc.specs.Plan.{Plan};
+ghost use Rattle.nodes.specs.Simulation.{simulation_of};
+ghost use Rattle.trace_tables.specs.Tables.{tables_of};
+ghost use Rattle.seqsim.specs.Networks.{AreRowsOf};
+ghost use Rattle.timewarp.specs.Networks.{after, IsAfter};
 ghost use Rattle.timewarp.specs.Replayed.{IsReplayed};
 ghost use Rattle.afdxsim.specs.declared.fault.Fault.TheVariants.{OutOfMemory, Exhausted};
-ghost use Rattle.afdxsim.specs.Replaying.{summary_text, IsSummary, IsJournal, TellsOfSteps, TellsOfJournal, IsFaultOfJournal};
+ghost use Rattle.afdxsim.specs.Replaying.{counted_text, finish_text, summary_text, fault_of_lines, IsSummary, IsJournal, AreCommittedTables, TellsOfSteps, TellsOfJournal, IsExhaustedIn, IsFaultOfJournal};
 
 use crate::fault::Fault;
-use journal_text::read_steps;
+use journal_text::{LinesFault, read_steps};
 use netdesc::Network;
 use std::alloc::{AllocError, Global};
 use timewarp::{Replay, StepFault, World, replay};
@@ -28,11 +35,68 @@ pub struct Account {
     pub line: String,
 }
 
+/// Why a text was not read as a journal.
+fn fault_of(fault: LinesFault) -> Fault<'static>
+    ensures { result ≡ fault_of_lines fault }
+{
+    match fault {
+        LinesFault::TooMany => Fault::JournalFull,
+        LinesFault::BadLine(line) => Fault::JournalLine(line),
+        LinesFault::OutOfMemory => Fault::OutOfMemory,
+    }
+}
+
 /// The steps of the journal with this text.
+#[tactic(auto, using(crate::proofs::Accounts::few_lines, crate::proofs::Accounts::lines_fault))]
 fn steps_of(alloc: Global, text: &[u8]) -> Result<Vec<Step>, Fault<'static>>
     ensures steps { IfOk result (λ steps. IsJournal text.now steps.items) }
+    ensures fault { (plan : Plan) → IfErr result (IsFaultOfJournal plan text.now) }
 {
-    Ok(read_steps(alloc, text, MOST_LINES)?)
+    match read_steps(alloc, text, MOST_LINES) {
+        Ok(steps) => Ok(steps),
+        Err(fault) => Err(fault_of(fault)),
+    }
+}
+
+/// Does these steps on a network.
+#[tactic(auto, using(crate::proofs::Accounts::replayed))]
+fn done(alloc: Global, network: Network, steps: &[Step]) -> Result<Replay, Fault<'static>>
+    ensures replayed { IfOk result (λ found. IsReplayed found steps.now) }
+    ensures network { IfOk result (λ found. found.world.plan ≡ network) }
+    ensures fault { IfErr result (λ fault. (fault ≡ OutOfMemory) ⊎ ((fault ≡ Exhausted) × IsExhaustedIn network steps.now)) }
+{
+    match replay(alloc, network, steps) {
+        Ok(found) => Ok(found),
+        Err(StepFault::OutOfMemory) => Err(Fault::OutOfMemory),
+        Err(StepFault::Exhausted) => Err(Fault::Exhausted),
+        Err(StepFault::NoProcess) => unreachable!(),
+    }
+}
+
+/// Whether a run is finished, as the end of a line.
+fn finish_of(is_finished: bool) -> &'static str
+    ensures { result.now ≡ finish_text is_finished }
+{
+    if is_finished {
+        "finished\n"
+    } else {
+        "unfinished\n"
+    }
+}
+
+/// How many steps were done, were not enabled and were refused, and GVT in ns, as the beginning of a line.
+fn counts_of(
+    alloc: Global,
+    did: u64,
+    not_enabled: u64,
+    refused: u64,
+    gvt: u64,
+) -> Result<String, AllocError>
+    ensures { IfOk result (λ text. string_bytes text ≡ counted_text did not_enabled refused gvt) }
+{
+    format!(in alloc;
+        "replay: {did} did, {not_enabled} not enabled, {refused} refused, gvt {gvt}, "
+    )
 }
 
 /// The line of a replay.
@@ -46,10 +110,9 @@ fn line_of(
 ) -> Result<String, AllocError>
     ensures { IfOk result (λ line. string_bytes line ≡ summary_text did not_enabled refused gvt is_finished) }
 {
-    let finish = if is_finished { "finished" } else { "unfinished" };
-    format!(in alloc;
-        "replay: {did} did, {not_enabled} not enabled, {refused} refused, gvt {gvt}, {finish}\n"
-    )
+    let mut line = counts_of(alloc, did, not_enabled, refused, gvt)?;
+    line.push_str(finish_of(is_finished))?;
+    Ok(line)
 }
 
 /// The line that tells what a replay has found.
@@ -58,20 +121,43 @@ fn summary_of(alloc: Global, found: &Replay) -> Result<String, AllocError>
 {
     let gvt = found.world.gvt().ns();
     let is_finished = found.world.is_finished();
-    line_of(alloc, found.did, found.not_enabled, found.refused, gvt, is_finished)
+    let line = line_of(
+        alloc,
+        found.did,
+        found.not_enabled,
+        found.refused,
+        gvt,
+        is_finished,
+    )?;
+    Ok(line)
 }
 
-/// Why a replay was given up. A step that names no process is no reason.
-fn fault_of(fault: StepFault) -> Fault<'static>
-    requires { fault ≢ step_fault.NoProcess }
-    ensures memory { fault ≡ step_fault.OutOfMemory → result ≡ OutOfMemory }
-    ensures exhausted { fault ≡ step_fault.Exhausted → result ≡ Exhausted }
+/// The tables of what is committed.
+#[tactic(auto, using(crate::proofs::Accounts::committed))]
+fn committed_tables(alloc: Global, world: &World) -> Result<Tables, AllocError>
+    ensures committed { IfOk result (λ tables. (steps : List Stepped) → IsAfter world.now steps → AreCommittedTables world.now.plan steps tables) }
+    ensures whole { IfOk result (λ tables. (steps : List Stepped) → IsAfter world.now steps →
+        IsFinished (simulation_of world.now.plan) (after world.now.plan steps) → (rows : List Noted) → AreRowsOf world.now.plan rows →
+        tables ≡ tables_of world.now.plan rows) }
 {
-    match fault {
-        StepFault::OutOfMemory => Fault::OutOfMemory,
-        StepFault::Exhausted => Fault::Exhausted,
-        StepFault::NoProcess => unreachable!(),
+    match world.tables(alloc) {
+        Ok(tables) => Ok(tables),
+        Err(_) => Err(AllocError),
     }
+}
+
+/// Tells what a replay has found.
+fn told(alloc: Global, found: Replay) -> Result<Account, AllocError>
+    ensures told { IfOk result (λ account. (steps : List Noting) → IsReplayed found steps → TellsOfSteps found.world.plan steps account) }
+    ensures network { IfOk result (λ account. account.world.plan ≡ found.world.plan) }
+{
+    let line = summary_of(alloc, &found)?;
+    let tables = committed_tables(alloc, &found.world)?;
+    Ok(Account {
+        world: found.world,
+        tables,
+        line,
+    })
 }
 
 /// Does the journal with this text on a network, and tells what it came to.
@@ -79,28 +165,13 @@ fn fault_of(fault: StepFault) -> Fault<'static>
 /// `JournalFull` comes exactly where the text has more than 67108864 lines, and `JournalLine` tells the first line, from 1, that is the
 /// text of no step. `OutOfMemory` comes only where a growth was refused, and `Exhausted` only at `Run` of a process that has not enough
 /// numbers left for what one event can send.
-pub fn account_of(
-    alloc: Global,
-    network: Network,
-    text: &[u8],
-) -> Result<Account, Fault<'static>>
+#[tactic(auto, using(crate::proofs::Accounts::tells, crate::proofs::Accounts::memory_fault, crate::proofs::Accounts::steps_fault))]
+pub fn account_of(alloc: Global, network: Network, text: &[u8]) -> Result<Account, Fault<'static>>
     ensures told { IfOk result (TellsOfJournal network text.now) }
     ensures network { IfOk result (λ account. account.world.plan ≡ network) }
     ensures fault { IfErr result (IsFaultOfJournal network text.now) }
 {
     let steps = steps_of(alloc, text)?;
-    let found = match replay(alloc, network, &steps) {
-        Ok(found) => found,
-        Err(fault) => return Err(fault_of(fault)),
-    };
-    let line = summary_of(alloc, &found)?;
-    let tables = match found.world.tables(alloc) {
-        Ok(tables) => tables,
-        Err(_) => return Err(Fault::OutOfMemory),
-    };
-    Ok(Account {
-        world: found.world,
-        tables,
-        line,
-    })
+    let found = done(alloc, network, &steps)?;
+    Ok(told(alloc, found)?)
 }

@@ -2,7 +2,6 @@
 ghost use Rattle.std.specs.Prelude.{◌≡◌, ◌⊎◌};
 ghost use Rattle.afdxsim.specs.Telling.{status_of};
 
-use journal_text::LinesFault;
 use netdesc::DescFault;
 use seqsim::SimFault;
 use std::alloc::AllocError;
@@ -62,21 +61,6 @@ impl From<AllocError> for Fault<'_> {
 
     fn from(_: AllocError) -> Self {
         Fault::OutOfMemory
-    }
-}
-
-impl From<LinesFault> for Fault<'_> {
-    ghost use Rattle.std.specs.Prelude.{◌≡◌};
-    ghost use Rattle.afdxsim.specs.Replaying.{fault_of_lines};
-
-    ghost from_gives = { λ refusal fault. fault ≡ fault_of_lines refusal };
-
-    fn from(fault: LinesFault) -> Self {
-        match fault {
-            LinesFault::TooMany => Fault::JournalFull,
-            LinesFault::BadLine(line) => Fault::JournalLine(line),
-            LinesFault::OutOfMemory => Fault::OutOfMemory,
-        }
     }
 }
 

@@ -19,7 +19,12 @@ pub fn replay<'a, H: Host>(
     let network = network_of(alloc, net, host)?;
     let text = bytes_of(alloc, steps, host)?;
     let account = account_of(alloc, network, text.as_slice())?;
-    show_tables(alloc, account.world.network(), &account.tables, host.output())?;
+    show_tables(
+        alloc,
+        account.world.network(),
+        &account.tables,
+        host.output(),
+    )?;
     say(account.line.as_str(), host.errors());
     Ok(())
 }

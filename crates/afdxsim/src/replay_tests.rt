@@ -94,7 +94,10 @@ fn counts_what_is_not_done(rt: HostRuntime) -> Result<(), Fail> {
         ),
         ("", "0 did, 0 not enabled, 0 refused, gvt 0, unfinished"),
     ] {
-        assert!(rt; tells(rt.alloc(), net.as_str(), steps, NOTHING, line)?, "{line}");
+        assert!(rt;
+            tells(rt.alloc(), net.as_str(), steps, NOTHING, line)?,
+            "{line}"
+        );
     }
     Ok(())
 }
@@ -112,7 +115,10 @@ fn tells_the_first_bad_line(rt: HostRuntime) -> Result<(), Fail> {
     let net = one_vl(rt.alloc())?;
     for steps in ["T 0\n", "G", "A 00\n", "T 0 4294967296\n", "G \n"] {
         let line = "afdxsim: journal line 1\n";
-        assert!(rt; says(rt.alloc(), net.as_str(), steps, 3, "", line)?, "{steps}");
+        assert!(rt;
+            says(rt.alloc(), net.as_str(), steps, 3, "", line)?,
+            "{steps}"
+        );
     }
     let line = "afdxsim: journal line 3\n";
     assert!(rt; says(rt.alloc(), net.as_str(), "G\nC 0\nG 0\nx\n", 3, "", line)?);
