@@ -4,6 +4,7 @@
 mod fault;
 mod laws;
 mod networks;
+mod queued;
 mod running;
 mod simulating;
 mod waiting;
