@@ -7,6 +7,7 @@ mod networks;
 mod queued;
 mod running;
 mod simulating;
+mod tops;
 mod waiting;
 
 pub use fault::SimFault;
