@@ -10,19 +10,19 @@ ghost use Rattle.vlink.specs.contracts.message.MessageOrd.TheImpl.Laws as messag
 use std::cmp::Ordering;
 use vlink::{Message, message_order};
 
-/// Compares two messages. The moments are compared first, and only messages of one moment are compared whole: few are, so that most
-/// comparisons need no call.
+/// Compares two messages. Only messages of one moment are compared whole: most are of two, and need no call.
 pub(crate) fn compare(a: &Message, b: &Message) -> Ordering
     ensures derived { result ≡ ⟦<Message as Ord>⟧.cmp a.now b.now }
 {
     message_order();
     let (first, second) = (a.time.ns(), b.time.ns());
+    if first == second {
+        return a.cmp(b);
+    }
     if first < second {
         Ordering::Less
-    } else if second < first {
-        Ordering::Greater
     } else {
-        a.cmp(b)
+        Ordering::Greater
     }
 }
 
