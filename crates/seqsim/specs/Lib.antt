@@ -1,3 +1,4 @@
 pub mod Running
 pub mod Load
 pub mod Networks
+pub mod Tops

@@ -4,8 +4,10 @@
 mod fault;
 mod laws;
 mod networks;
+mod queued;
 mod running;
 mod simulating;
+mod tops;
 mod waiting;
 
 pub use fault::SimFault;

@@ -12,7 +12,7 @@ returns-in-Some-Some-clause-offer c = λ t.
     let sent = map (λ r. r.0) (heap_items c.args.heap.now) in
     let offer = c.in-Some-Some.offer.now in
     let top = c.in-Some-Some.sent.now.0 in
-    let before : is_before offer top ≡ true = ap is_lt (sym (c.message_order.ensures.written offer top) ∙ sym c.cmp.ensures) ∙ (sym c.is_lt.ensures ∙ t) in
+    let before : is_before offer top ≡ true = ap is_lt (sym (c.message_order.ensures.written offer top) ∙ sym c.compare.ensures.derived) ∙ (sym c.is_lt.ensures ∙ t) in
     subst (λ (o : Option Message). IsSomeAnd o (λ m. NoneBefore m sent)) c.in-Some-Some.ensures.value
     (no-later c.message_order.ensures.total sent top offer
     (first-of _ c.message_order.ensures.written top (heap_items c.args.heap.now) (c.in-Some-Some.ensures'.greatest c.requires))
