@@ -86,7 +86,7 @@ pub struct MemoryHost<'a> {
     /// The bytes of the file `net.toml`.
     bytes: &'a [u8],
     /// The bytes of the file `steps.txt`, where it is there.
-    pub steps: Option<&'a [u8]>,
+    steps: Option<&'a [u8]>,
     /// The path of the file that can be made.
     made: &'a str,
     written: Rc<Cell<Vec<u8>>>,
@@ -100,9 +100,14 @@ pub struct MemoryHost<'a> {
 impl<'a> MemoryHost<'a> {
     /// A host with the file `net.toml` alone, where `trace.csv` can be made. The standard streams take all.
     pub fn new(alloc: Global, bytes: &'a [u8]) -> Result<Self, Fail> {
+        MemoryHost::of(alloc, bytes, None)
+    }
+
+    /// That host with the file `steps.txt` as well, where there are bytes for it.
+    pub fn of(alloc: Global, bytes: &'a [u8], steps: Option<&'a [u8]>) -> Result<Self, Fail> {
         Ok(MemoryHost {
             bytes,
-            steps: None,
+            steps,
             made: "trace.csv",
             written: Rc::new(alloc, Cell::new(Vec::new(alloc)))?,
             takes: true,

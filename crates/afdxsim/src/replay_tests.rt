@@ -21,8 +21,7 @@ fn says(
     output: &str,
     errors: &str,
 ) -> Result<bool, Fail> {
-    let mut host = MemoryHost::new(alloc, net.as_bytes())?;
-    host.steps = Some(steps.as_bytes());
+    let mut host = MemoryHost::of(alloc, net.as_bytes(), Some(steps.as_bytes()))?;
     let ended = perform(&WORDS, alloc, &mut host);
     Ok(ended == status && host.output.holds(output) && host.errors.holds(errors))
 }
@@ -158,8 +157,7 @@ fn tells_of_standard_output_that_fails(rt: HostRuntime) -> Result<(), Fail> {
     let net = one_vl(rt.alloc())?;
     let whole = format!(in rt.alloc(); "{HEAD}{NOTHING}")?;
     for writes in 0..whole.len() {
-        let mut host = MemoryHost::new(rt.alloc(), net.as_bytes())?;
-        host.steps = Some("G\n".as_bytes());
+        let mut host = MemoryHost::of(rt.alloc(), net.as_bytes(), Some(b"G\n"))?;
         host.output.most = 1;
         host.output.writes = writes as u64;
         assert_eq!(rt; perform(&WORDS, rt.alloc(), &mut host), 4);
@@ -172,8 +170,7 @@ fn tells_of_standard_output_that_fails(rt: HostRuntime) -> Result<(), Fail> {
 #[test]
 fn keeps_its_status_where_error_output_fails(rt: HostRuntime) -> Result<(), Fail> {
     let net = one_vl(rt.alloc())?;
-    let mut host = MemoryHost::new(rt.alloc(), net.as_bytes())?;
-    host.steps = Some("".as_bytes());
+    let mut host = MemoryHost::of(rt.alloc(), net.as_bytes(), Some(b""))?;
     host.errors.writes = 0;
     assert_eq!(rt; perform(&WORDS, rt.alloc(), &mut host), 0);
     assert!(rt; host.errors.holds(""));
