@@ -4,7 +4,7 @@ ghost use Rattle.virtual_time.specs.Rules.{IsOrder};
 ghost use Rattle.antimessages.specs.Letters.{message_rules};
 
 use std::cmp::Ordering;
-use vlink::{Letter, Message, message_order};
+use vlink::{Letter, Message, compare, message_order};
 
 /// The order of messages is one that the law of virtual time asks for: total, strict and by time first.
 ///
@@ -20,7 +20,7 @@ pub(crate) fn is_before(first: &Message, second: &Message) -> bool
     ensures { result ≡ message_rules.less first.now second.now }
 {
     message_order();
-    first.cmp(second) == Ordering::Less
+    compare(first, second) == Ordering::Less
 }
 
 /// Whether they are one letter: the same message with the same sign.

@@ -3,12 +3,12 @@ ghost use Rattle.std.specs.Prelude.{◌≡◌};
 ghost use Rattle.reverse.specs.Rules.{is_before};
 
 use std::cmp::Ordering;
-use vlink::{Message, message_order};
+use vlink::{Message, compare, message_order};
 
 /// Whether the first message comes before the second.
 pub(crate) fn is_before(first: &Message, second: &Message) -> bool
     ensures { result ≡ is_before first.now second.now }
 {
     message_order();
-    first.cmp(second) == Ordering::Less
+    compare(first, second) == Ordering::Less
 }

@@ -1,5 +1,4 @@
 //! A message in a heap, whose greatest element comes out first: so the earlier message is the greater one.
-ghost use Rattle.std.specs.Prelude.{◌≡◌};
 ghost use Rattle.std.proofs.Common.{◌∙◌};
 ghost use Rattle.std.specs.Cmp.{on_per, on_equiv, on_po, on_total, back_po, back_total};
 ghost use Rattle.vlink.specs.contracts.message.MessagePartialEq.TheImpl.Laws as message_eq;
@@ -8,23 +7,7 @@ ghost use Rattle.vlink.specs.contracts.message.MessagePartialOrd.TheImpl.Laws as
 ghost use Rattle.vlink.specs.contracts.message.MessageOrd.TheImpl.Laws as message_total;
 
 use std::cmp::Ordering;
-use vlink::{Message, message_order};
-
-/// Compares two messages. Only messages of one moment are compared whole: most are of two, and need no call.
-pub(crate) fn compare(a: &Message, b: &Message) -> Ordering
-    ensures derived { result ≡ ⟦<Message as Ord>⟧.cmp a.now b.now }
-{
-    message_order();
-    let (first, second) = (a.time.ns(), b.time.ns());
-    if first == second {
-        return a.cmp(b);
-    }
-    if first < second {
-        Ordering::Less
-    } else {
-        Ordering::Greater
-    }
-}
+use vlink::{Message, compare};
 
 /// A message, in the opposite of the order of messages.
 #[derive(Clone, Copy)]

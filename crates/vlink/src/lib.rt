@@ -14,7 +14,7 @@ pub use frame::{Frame, FrameSize, Net, VlId};
 pub use message::{Body, Letter, Message, Sign};
 pub use note::{Cause, Note, Row};
 pub use numbering::{next_sn, steps};
-pub use order::message_order;
+pub use order::{compare, message_order};
 pub use step::Step;
 pub use time::{GREATEST_NS, LATEST_NS, Time};
 pub use wire::{busy_ns, last_bit_ns};

@@ -10,6 +10,7 @@ ghost use Rattle.vlink.specs.Order.{net_cmp, frame_cmp, body_cmp, message_cmp};
 
 use crate::frame::{Frame, Net};
 use crate::message::{Body, Message};
+use std::cmp::Ordering;
 
 /// The order of messages that `cmp` computes is `message_cmp`, the order written out: by time, receiver,
 /// sender, number and body. It is total, exact (messages that compare equal are the same message) and by time first.
@@ -23,6 +24,22 @@ pub fn message_order()
 {
     total_of::<Message>();
     body_order();
+}
+
+/// Compares two messages as `cmp` does. Only messages of one moment are compared whole: most are of two, and need no call.
+pub fn compare(a: &Message, b: &Message) -> Ordering
+    ensures derived { result ≡ ⟦<Message as Ord>⟧.cmp a.now b.now }
+{
+    message_order();
+    let (first, second) = (a.time.ns(), b.time.ns());
+    if first == second {
+        return a.cmp(b);
+    }
+    if first < second {
+        Ordering::Less
+    } else {
+        Ordering::Greater
+    }
 }
 
 /// The derived order of bodies is the written one.
