@@ -8,5 +8,6 @@ pub mod VlLemmas
 pub mod WayLemmas
 pub mod WireLemmas
 pub mod MakingLemmas
+pub mod NumberLemmas
 pub mod OpeningLaws
 pub mod OpeningLemmas

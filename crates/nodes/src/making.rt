@@ -23,7 +23,7 @@ pub fn numbers_of(alloc: Global, meetings: &[Meeting]) -> Result<Numbers, AllocE
     ensures { IfOk result (λ numbers. numbers ≡ numbers_met meetings.now) }
 {
     let ids = meetings.iter().map(|m| m.link.id.0).collect(alloc)?;
-    Ok(Numbers::new(ids))
+    Numbers::new(alloc, ids)
 }
 
 /// The virtual links with their networks: port 0 leads to network A and port 1 to network B.
