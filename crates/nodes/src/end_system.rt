@@ -74,6 +74,7 @@ impl EndSystem {
     }
 
     /// Handles a message, and gives the record by which it is undone.
+    #[inline(always)]
     pub fn handle(&mut self, message: &Message, out: &mut Outbound) -> Kept
         requires messages { out.old.messages ≡ [] }
         requires notes { out.old.notes ≡ [] }

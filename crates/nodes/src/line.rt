@@ -73,6 +73,7 @@ impl Line {
     }
 
     /// Handles a message: a frame that it carries arrives after the propagation time, or is lost in an outage.
+    #[inline(always)]
     pub fn handle(&self, message: &Message, out: &mut Outbound)
         requires room { length out.old.messages < 24 }
         requires notes { length out.old.notes < 2 }

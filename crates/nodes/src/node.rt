@@ -63,6 +63,7 @@ impl Node {
 
     /// Handles a message, and leaves in `out` what the node sends and notes, in place of what was there. The answer is the record by which
     /// the message is taken back.
+    #[inline(always)]
     fn step(&mut self, event: &Message, out: &mut Outbound) -> NodeRecord
         requires { self.old.sender.counter + 24 ≤ greatest_number }
         ensures state { self.new ≡ after self.old event.now }

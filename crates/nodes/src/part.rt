@@ -25,6 +25,7 @@ pub enum Part {
 
 impl Part {
     /// Handles a message, and gives the record by which it is undone.
+    #[inline(always)]
     pub(crate) fn handle(&mut self, message: &Message, out: &mut Outbound) -> Kept
         requires messages { out.old.messages ≡ [] }
         requires notes { out.old.notes ≡ [] }

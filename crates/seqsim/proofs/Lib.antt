@@ -4,3 +4,4 @@ pub mod Loading
 pub mod Errors
 pub mod NetworkLemmas
 pub mod Waits
+pub mod StatesLemmas

@@ -14,7 +14,7 @@ pub use fault::SimFault;
 pub use laws::actor_laws;
 pub use networks::network_laws;
 pub use running::run_actors;
-pub use simulating::{Finished, run};
+pub use simulating::{Finished, nodes_of, run};
 
 #[cfg(test)]
 mod network_tests;

@@ -25,8 +25,8 @@ pub struct Finished {
     pub rows: Vec<Row>,
 }
 
-/// All processes of a network, each as it is before any message.
-fn nodes_of(alloc: Global, network: &Network) -> Result<Vec<Node>, AllocError>
+/// All processes of a network, each as it is before any message: process p is in place p. It fails only where memory is refused.
+pub fn nodes_of(alloc: Global, network: &Network) -> Result<Vec<Node>, AllocError>
     ensures { IfOk result (λ nodes. AreInStates (process_count network.now) (opening network.now) nodes.items) }
 {
     let mut nodes = Vec::new(alloc);

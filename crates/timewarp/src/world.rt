@@ -10,7 +10,6 @@ ghost use Rattle.antimessages.specs.Letters.{signed};
 ghost use Rattle.netdesc.specs.Faults.{process_count};
 ghost use Rattle.nodes.specs.Opening.{opening};
 ghost use Rattle.nodes.specs.Simulation.{simulation_of};
-ghost use Rattle.seqsim.specs.Running.{AreInStates};
 ghost use Rattle.timewarp.specs.declared.done.Done.TheVariants.{Did};
 ghost use Rattle.timewarp.specs.declared.fault.StepFault.TheVariants.{NoProcess, OutOfMemory, Exhausted};
 ghost use Rattle.timewarp.specs.Steps.{step_of, names_none};
@@ -23,7 +22,8 @@ use crate::fault::StepFault;
 use crate::laws::{layout, world_laws};
 use netdesc::Network;
 use nodes::Node;
-use std::alloc::{AllocError, Global};
+use seqsim::nodes_of;
+use std::alloc::Global;
 use std::marker::Model;
 use traffic::offers;
 use vlink::{Letter, Step, Time};
@@ -47,17 +47,6 @@ impl Model for World {
     ghost view = { λ w. record { plan = w.network; held = w.actors } };
 
     ghost invariant = { λ w. (steps : List Step) × IsAfter (record { plan = w.network; held = w.actors }) steps };
-}
-
-/// All processes of a network, each as it is before any message.
-fn nodes_of(alloc: Global, network: &Network) -> Result<Vec<Node>, AllocError>
-    ensures { IfOk result (λ nodes. AreInStates (process_count network.now) (opening network.now) nodes.items) }
-{
-    let mut nodes = Vec::new(alloc);
-    for process in 0..network.process_count() {
-        nodes.push(Node::new(alloc, network, process as u16)?)?;
-    }
-    Ok(nodes)
 }
 
 impl World {
