@@ -51,11 +51,22 @@ fn act<A: Actor>(actors: &mut [A], message: &Message, out: &mut Outbound) -> boo
     true
 }
 
-/// The notes that the message's event gave go behind the rows.
+/// The notes that the message's event gave go behind the rows. Most events give none, and need no call.
+fn note_all(rows: &mut Vec<Row>, message: &Message, notes: &[Note]) -> Result<(), SimFault>
+    ensures noted { OnOk result (map seen_row rows.new.items ≡ map seen_row rows.old.items ++ map (λ n. record { message = message.now; place = message.now.receiver; note = n }) notes.now) }
+    ensures memory { IfErr result (λ fault. fault ≡ OutOfMemory) }
+{
+    if notes.is_empty() {
+        return Ok(());
+    }
+    note_each(rows, message, notes)
+}
+
+/// The notes go behind the rows, one after another.
 ///
 /// It stays a call, so that the message is kept whole in memory: in the loop of the run its fields would be copied one by one.
 #[inline(never)]
-fn note_all(rows: &mut Vec<Row>, message: &Message, notes: &[Note]) -> Result<(), SimFault>
+fn note_each(rows: &mut Vec<Row>, message: &Message, notes: &[Note]) -> Result<(), SimFault>
     ensures noted { OnOk result (map seen_row rows.new.items ≡ map seen_row rows.old.items ++ map (λ n. record { message = message.now; place = message.now.receiver; note = n }) notes.now) }
     ensures memory { IfErr result (λ fault. fault ≡ OutOfMemory) }
 {

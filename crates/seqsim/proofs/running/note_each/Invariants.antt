@@ -1,6 +1,6 @@
 use Rattle.std.proofs.Common.{◌≡◌, ◌++◌, map, take}
 use Rattle.seqsim.specs.Running.{seen_row}
-use Rattle.seqsim.proofs.running.note_all.Given as goal
+use Rattle.seqsim.proofs.running.note_each.Given as goal
 
 abbrev pub invariant-loop-note : goal.invariant-loop-note
 invariant-loop-note l =
