@@ -1,26 +1,23 @@
-use Rattle.std.proofs.Common.{◌≡◌, rules, true, false}
-use Rattle.std.specs.List.Sorted.{IsPartitionedBy}
+use Rattle.std.proofs.Common.{◌≡◌, rules, true, false, arith}
 use Rattle.std.proofs.lemmas.List.Sorted.{IsPartitionPoint-from_clause}
 use Rattle.vlink.specs.declared.message.Letter.{Letter}
 use Rattle.antimessages.specs.Letters.{message_rules}
 use Rattle.antimessages.proofs.Elements.{within-take, within-drop}
-use Rattle.antimessages.proofs.Tidy.{tidy-partitioned}
+use Rattle.antimessages.proofs.Places.{parted-before}
 use Rattle.antimessages.proofs.sorted.place_of.Goals as goal
 
 pub returns-clause-before : goal.returns-clause-before
 returns-clause-before c =
-    let ls = c.args.letters.now in
+    let ls = c.args.letters.now.items in
     let m = c.args.message.now in
-    let parted : IsPartitionedBy (λ (l : Letter). message_rules.less l.message m) ls =
-    tidy-partitioned message_rules (λ a. message_rules.less a m) (λ a b k t. c.ordered.ensures.transitive a b m k t) ls c.requires in
-    let point = IsPartitionPoint-from_clause (λ (l : Letter). message_rules.less l.message m) ls _ c.partition_point.ensures.partitioned parted (λ a r q k. search rules) in
-    within-take (λ (l : Letter). message_rules.less l.message m ≡ true) ls _ point.0 c.partition_point.ensures.bound
+    let point = IsPartitionPoint-from_clause (λ (l : Letter). message_rules.less l.message m) ls _ c.partition_point.ensures.partitioned
+    (parted-before message_rules c.ordered.ensures m ls c.requires) (λ a r q k. search rules) in
+    within-take (λ (l : Letter). message_rules.less l.message m ≡ true) ls _ point.0 (omega arith)
 
 pub returns-clause-from_on : goal.returns-clause-from_on
 returns-clause-from_on c =
-    let ls = c.args.letters.now in
+    let ls = c.args.letters.now.items in
     let m = c.args.message.now in
-    let parted : IsPartitionedBy (λ (l : Letter). message_rules.less l.message m) ls =
-    tidy-partitioned message_rules (λ a. message_rules.less a m) (λ a b k t. c.ordered.ensures.transitive a b m k t) ls c.requires in
-    let point = IsPartitionPoint-from_clause (λ (l : Letter). message_rules.less l.message m) ls _ c.partition_point.ensures.partitioned parted (λ a r q k. search rules) in
+    let point = IsPartitionPoint-from_clause (λ (l : Letter). message_rules.less l.message m) ls _ c.partition_point.ensures.partitioned
+    (parted-before message_rules c.ordered.ensures m ls c.requires) (λ a r q k. search rules) in
     within-drop (λ (l : Letter). message_rules.less l.message m ≡ false) ls _ point.1
