@@ -15,7 +15,7 @@ use Rattle.virtual_time.proofs.Order.{same-refl, same_cases, less-different, gre
 use Rattle.virtual_time.proofs.Letters.{counts-other}
 use Rattle.antimessages.specs.Letters.{signed, is_plus, weight}
 use Rattle.antimessages.specs.Counting.{CanPrecede, IsTidy, signed_count}
-use Rattle.antimessages.proofs.Tidy.{tidy-drop, same_letter}
+use Rattle.antimessages.proofs.Tidy.{same_letter}
 
 -- the first letter, if at least one is asked for, has this sign
 abbrev pub HasHeadSign : Bool → ℕ → List Letter → Type 0
@@ -34,24 +34,9 @@ module _ {S K N : Type 0} (r : Rules Message S K N) (O : IsOrder r) where
       let a = counts-other r O m (signed l) (map signed ls) n in
       record { no_plus = a.0 ∙ i.no_plus; no_minus = a.1 ∙ i.no_minus }
 
-  pub absent-before : (m : Message) (ls : List Letter) → AllByRecursion (λ l. r.less l.message m ≡ true) ls → IsAbsent m ls
-  absent-before m [] h = record { no_plus = refl; no_minus = refl }
-  absent-before m (l ∷ ls) h = absent-cons m l ls (greater-different r O m l.message h.0) (absent-before m ls h.1)
-
   pub absent-after : (m : Message) (ls : List Letter) → AllByRecursion (λ l. r.less m l.message ≡ true) ls → IsAbsent m ls
   absent-after m [] h = record { no_plus = refl; no_minus = refl }
   absent-after m (l ∷ ls) h = absent-cons m l ls (less-different r O m l.message h.0) (absent-after m ls h.1)
-
-  -- where the letters in front come before m, the rest has its counts
-  pub counts-rest : (m : Message) (ls : List Letter) (i : ℕ) → AllByRecursion (λ l. r.less l.message m ≡ true) (take i ls) →
-      (pluses r m (map signed ls) ≡ pluses r m (map signed (drop i ls))) × (minuses r m (map signed ls) ≡ minuses r m (map signed (drop i ls)))
-  counts-rest m [] zero h = (refl, refl)
-  counts-rest m [] (suc i) h = (refl, refl)
-  counts-rest m (l ∷ ls) zero h = (refl, refl)
-  counts-rest m (l ∷ ls) (suc i) h =
-      let a = counts-other r O m (signed l) (map signed ls) (greater-different r O m l.message h.0) in
-      let b = counts-rest m ls i h.1 in
-      (a.0 ∙ b.0, a.1 ∙ b.1)
 
   -- the first k letters are of m, and all of one sign
   pub counts-run : (m : Message) (b : Bool) (ls : List Letter) (k : ℕ) → IsTidy r (map signed ls) →
@@ -208,16 +193,6 @@ module _ {S K N : Type 0} (r : Rules Message S K N) (O : IsOrder r) where
   pub count-cancel_other : (m : Message) (ls : List Letter) (i : ℕ) (o : Letter) → slice_get ls i ≡ Some o → m ≢ o.message →
       signed_count r m (map signed (remove ls i)) ≡ signed_count r m (map signed ls)
   count-cancel_other m ls i o h n = sym (count-remove m ls i o h ∙ count-other m o (map signed (remove ls i)) n)
-
-  -- the count by a run of letters that begins at the place of the message
-  pub count-run : (m : Message) (ls : List Letter) (i k : ℕ) (b : Bool) → IsTidy r (map signed ls) →
-      AllByRecursion (λ l. r.less l.message m ≡ true) (take i ls) → AllByRecursion (λ l. r.less l.message m ≡ false) (drop i ls) →
-      AllByRecursion (λ l. r.less m l.message ≡ false) (take k (drop i ls)) → AllByRecursion (λ l. r.less m l.message ≡ true) (drop k (drop i ls)) →
-      k ≤ length (drop i ls) → HasHeadSign b k (drop i ls) → signed_count r m (map signed ls) ≡ pos (cond b k 0) -ℤ pos (cond b 0 k)
-  count-run m ls i k b h before from_on upto after n s =
-      let a = counts-rest m ls i before in
-      let c = counts-run m b (drop i ls) k (tidy-drop r ls i h) from_on upto after n s in
-      λ j. pos ((a.0 ∙ c.0) j) -ℤ pos ((a.1 ∙ c.1) j)
 
   -- what comes before a letter comes before those behind it
   pub all-behind : (m : Message) (l : Letter) → r.less m l.message ≡ true → (zs : List Letter) → AllByRecursion (CanPrecede r (signed l)) (map signed zs) →
