@@ -1,9 +1,8 @@
 -- The mail of all processes: one box of it changed, one letter put there or taken, and the letters that a process receives.
-use Rattle.std.proofs.Common.{◌≡◌, ℕ, zero, suc, ◌+◌, ◌-◌, ◌<◌, ◌≤◌, ◌==◌, ◌⊎◌, inl, inr, Bool, true, false, cond, List, [], ◌∷◌, ◌++◌, map, filter, set, get_or, length, take, drop, slice_get, remove, All, Option, Some, None, Global, refl, sym, ap, ◌∙◌, subst, arith, append_assoc, append-nil, eq-eqb, ne_eqb}
-use Rattle.std.specs.Prelude.{OnSome, IfNone, IsSome}
+use Rattle.std.proofs.Common.{◌≡◌, ℕ, zero, suc, ◌+◌, ◌-◌, ◌<◌, ◌≤◌, ◌==◌, ◌⊎◌, inl, inr, Bool, true, false, cond, List, [], ◌∷◌, ◌++◌, map, filter, set, get_or, length, take, drop, slice_get, remove, All, Some, Global, refl, sym, ap, ◌∙◌, subst, arith, append_assoc, append-nil, eq-eqb, ne_eqb}
 use Rattle.std.specs.declared.collections.VecDeque.{VecDeque}
 use Rattle.std.specs.VecDeque.{deque_len, deque_capacity}
-use Rattle.std.proofs.lemmas.Bool.{cases_eq, cases_lt}
+use Rattle.std.proofs.lemmas.Bool.{cases_eq}
 use Rattle.std.proofs.lemmas.List.{map-append, take_more, at_drop_more, length-map, get_or-map}
 use Rattle.std.proofs.lemmas.List.Elements.{filter-append}
 use Rattle.vlink.specs.declared.message.Message.{Message}
@@ -35,19 +34,6 @@ module _ {X Y : Type 0} (f : X → Y) where
   map-remove [] (suc i) = refl
   map-remove (y ∷ ys) zero = refl
   map-remove (y ∷ ys) (suc i) = ap (λ z. f y ∷ z) (map-remove ys i)
-
-  pub remove-past : (xs : List X) (i : ℕ) → length xs ≤ i → remove xs i ≡ xs
-  remove-past [] zero h = refl
-  remove-past [] (suc i) h = refl
-  remove-past (y ∷ ys) zero h = absurd (omega arith)
-  remove-past (y ∷ ys) (suc i) h = ap (λ z. y ∷ z) (remove-past ys i (omega arith))
-
--- taking a letter out of a box, or none where there is none
-pub taken-items : (o : Option Letter) (old new : VecDeque Letter Global) (i : ℕ) → OnSome o (new.items ≡ remove old.items i) → IfNone o (new ≡ old) →
-    (i < deque_len old → IsSome o) → new.items ≡ remove old.items i
-taken-items (Some x) old new i some none within = some
-taken-items None old new i some none within =
-    ap (λ q. q.items) none ∙ sym (remove-past signed old.items i (elim (cases_lt i old.len) [ inl k ↦ absurd (let n = within k in (cc)) | inr k ↦ let ok = old.ok.0 in omega arith ]))
 
 -- how many letters a process receives
 pub received-filter : (p : ℕ) (ls : List Letter) → received_by message_rules p (map signed ls) ≡ map signed (filter (λ l. l.message.receiver == p) ls)

@@ -1,11 +1,26 @@
 //! Items that come to a deque mostly at its back, and leave it mostly at its front.
-ghost use Rattle.std.specs.Prelude.{◌≡◌, ◌+◌, ◌<◌, ◌≤◌, insert, remove, OnOk, OnErr};
+ghost use Rattle.std.specs.Prelude.{◌≡◌, ◌+◌, ◌<◌, ◌≤◌, insert, remove, slice_get, OnOk, OnErr};
 ghost use Rattle.std.specs.VecDeque.{deque_len, deque_capacity};
 
 use crate::fault::OutOfMemory;
 use std::collections::VecDeque;
 
-/// Takes out the item at this place. The shorter side moves, and nothing where it is the first.
+/// Takes the item at this place, if there is one. The shorter side moves, and nothing where it is the first.
+#[inline]
+pub(crate) fn take_at<T>(items: &mut VecDeque<T>, place: usize) -> Option<T>
+    ensures value { result ≡ slice_get items.old.items place }
+    ensures items { items.new.items ≡ remove items.old.items place }
+    ensures len { place < deque_len items.old → deque_len items.new + 1 ≡ deque_len items.old }
+    ensures capacity { deque_capacity items.new ≡ deque_capacity items.old }
+{
+    if place == 0 {
+        items.pop_front()
+    } else {
+        items.remove(place)
+    }
+}
+
+/// Takes out the item at this place, where there is one.
 #[inline]
 pub(crate) fn take_out<T: Drop>(items: &mut VecDeque<T>, place: usize)
     requires { place < deque_len items.old }
@@ -13,11 +28,7 @@ pub(crate) fn take_out<T: Drop>(items: &mut VecDeque<T>, place: usize)
     ensures len { deque_len items.new + 1 ≡ deque_len items.old }
     ensures capacity { deque_capacity items.new ≡ deque_capacity items.old }
 {
-    if place == 0 {
-        let _first = items.pop_front();
-    } else {
-        let _item = items.remove(place);
-    }
+    let _item = take_at(items, place);
 }
 
 /// Puts an item at this place. The shorter side moves, and nothing where it is to be the last. A refusal changes nothing.

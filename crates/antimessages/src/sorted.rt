@@ -16,10 +16,21 @@ pub(crate) fn place_of(letters: &VecDeque<Letter>, message: &Message, guess: usi
     ensures before { AllByRecursion (λ l. message_rules.less l.message message.now ≡ true) (take result letters.now.items) }
     ensures from_on { AllByRecursion (λ l. message_rules.less l.message message.now ≡ false) (drop result letters.now.items) }
 {
-    ordered();
     if is_place_of(letters, message, guess) {
         return guess;
     }
+    search_place(letters, message)
+}
+
+/// The same place, looked for among all letters.
+#[inline(never)]
+fn search_place(letters: &VecDeque<Letter>, message: &Message) -> usize
+    requires { IsTidy message_rules (map signed letters.now.items) }
+    ensures within { result ≤ length letters.now.items }
+    ensures before { AllByRecursion (λ l. message_rules.less l.message message.now ≡ true) (take result letters.now.items) }
+    ensures from_on { AllByRecursion (λ l. message_rules.less l.message message.now ≡ false) (drop result letters.now.items) }
+{
+    ordered();
     letters.partition_point(|letter| is_before(&letter.message, message))
 }
 
@@ -58,10 +69,21 @@ pub(crate) fn place_after(letters: &VecDeque<Letter>, message: &Message, guess: 
     ensures not_after { AllByRecursion (λ l. message_rules.less message.now l.message ≡ false) (take result letters.now.items) }
     ensures after { AllByRecursion (λ l. message_rules.less message.now l.message ≡ true) (drop result letters.now.items) }
 {
-    ordered();
     if is_place_after(letters, message, guess) {
         return guess;
     }
+    search_place_after(letters, message)
+}
+
+/// The same place, looked for among all letters.
+#[inline(never)]
+fn search_place_after(letters: &VecDeque<Letter>, message: &Message) -> usize
+    requires { IsTidy message_rules (map signed letters.now.items) }
+    ensures within { result ≤ length letters.now.items }
+    ensures not_after { AllByRecursion (λ l. message_rules.less message.now l.message ≡ false) (take result letters.now.items) }
+    ensures after { AllByRecursion (λ l. message_rules.less message.now l.message ≡ true) (drop result letters.now.items) }
+{
+    ordered();
     letters.partition_point(|letter| !is_before(message, &letter.message))
 }
 

@@ -1,4 +1,4 @@
-use Rattle.std.proofs.Common.{◌≡◌, suc, Bool, true, false, not, slice_get, Some, sym, ◌∙◌, refl, subst, add-one}
+use Rattle.std.proofs.Common.{refl, add-one}
 use Rattle.std.proofs.lemmas.Bool.{both_ways, not-true, not_from_false, false_from_ne_true}
 use Rattle.antimessages.specs.Letters.{message_rules}
 use Rattle.antimessages.proofs.Standing.{place-at, count-not_plus, count-one, count-many}

@@ -1,4 +1,4 @@
-use Rattle.std.proofs.Common.{◌≡◌, sym, ◌∙◌, arith}
+use Rattle.std.proofs.Common.{sym, ◌∙◌, arith}
 use Rattle.antimessages.specs.Letters.{message_rules}
 use Rattle.antimessages.proofs.Places.{from-after}
 use Rattle.antimessages.proofs.sorted.is_place_after.Goals as goal

@@ -1,6 +1,5 @@
-use Rattle.std.proofs.Common.{◌≡◌, ℕ, ◌+ℤ◌, pos, List, map, take, drop, remove, slice_get, Some, true, false, sym, ap, ◌∙◌, subst, arith}
+use Rattle.std.proofs.Common.{◌≡◌, ℕ, ◌+ℤ◌, pos, List, map, remove, slice_get, Some, sym, ap, ◌∙◌, subst, arith}
 use Rattle.std.specs.Prelude.{◌<ℤ◌}
-use Rattle.std.specs.List.{AllByRecursion}
 use Rattle.std.proofs.lemmas.Option.{slice_get_within}
 use Rattle.vlink.specs.declared.message.Message.{Message}
 use Rattle.vlink.specs.declared.message.Letter.{Letter}
@@ -8,7 +7,7 @@ use Rattle.vlink.specs.declared.message.Sign.TheVariants.{Plus}
 use Rattle.virtual_time.specs.Rules.{IsOrder}
 use Rattle.virtual_time.specs.Letters.{Letter as Signed}
 use Rattle.antimessages.specs.Letters.{message_rules, signed}
-use Rattle.antimessages.specs.Counting.{signed_count, IsTidy}
+use Rattle.antimessages.specs.Counting.{signed_count}
 use Rattle.antimessages.proofs.Tidy.{tidy-remove}
 use Rattle.antimessages.proofs.Counts.{count-remove, count-mine, count-cancel_other, present-stands, some-plus}
 use Rattle.antimessages.proofs.Standing.{letter_of, IsPlace, place-at}

@@ -5,7 +5,7 @@ use Rattle.vlink.specs.declared.message.Letter.{Letter}
 use Rattle.antimessages.specs.Letters.{message_rules}
 use Rattle.antimessages.proofs.Elements.{within-take, within-drop, all-weaker}
 use Rattle.antimessages.proofs.Places.{parted-not_after}
-use Rattle.antimessages.proofs.sorted.place_after.Goals as goal
+use Rattle.antimessages.proofs.sorted.search_place_after.Goals as goal
 
 pub returns-clause-not_after : goal.returns-clause-not_after
 returns-clause-not_after c =

@@ -4,7 +4,7 @@ use Rattle.vlink.specs.declared.message.Letter.{Letter}
 use Rattle.antimessages.specs.Letters.{message_rules}
 use Rattle.antimessages.proofs.Elements.{within-take, within-drop}
 use Rattle.antimessages.proofs.Places.{parted-before}
-use Rattle.antimessages.proofs.sorted.place_of.Goals as goal
+use Rattle.antimessages.proofs.sorted.search_place.Goals as goal
 
 pub returns-clause-before : goal.returns-clause-before
 returns-clause-before c =
