@@ -1,4 +1,4 @@
-use Rattle.std.proofs.Common.{◌<◌, ◌≤◌, inl, inr, length, ap, ◌∙◌, arith}
+use Rattle.std.proofs.Common.{◌<◌, inl, inr, length, ap, ◌∙◌, arith}
 use Rattle.std.proofs.Math.ListN.{length-set}
 use Rattle.std.proofs.lemmas.Bool.{cases_lt}
 use Rattle.antimessages.proofs.Boxes.{received-none, same-letters, more-room, reserve-next, refused-next}
