@@ -1,4 +1,4 @@
-use Rattle.std.proofs.Common.{◌≡◌, ◌+◌, [], ◌∷◌, length, pos, refl, sym, ap, ◌∙◌, subst}
+use Rattle.std.proofs.Common.{rules, ◌≡◌, ◌+◌, [], ◌∷◌, length, pos, refl, sym, ap, ◌∙◌, subst}
 use Rattle.std.proofs.lemmas.List.{length-append}
 use Rattle.virtual_time.specs.Rules.{reached, rowed}
 use Rattle.virtual_time.specs.Part.{can_seal, seal_oldest}
@@ -34,7 +34,7 @@ returns-clause-sealed g c opening part h =
     let f = first-done r v opening part _ k c.in-Some.event (sym c.oldest.ensures ∙ c.in-Some.is) in
     let b = reached r opening part.committed in
     let p = subst (λ ms. IsPastOf r v b ms (rowed r opening part.committed) c.self.inside.past) f.1 k.past.past_of in
-    let one : signed_count message_rules m c.self.inside.tally.letters ≡ pos 1 = c.if-not-has_one.ensures.0 refl in
+    let one : signed_count message_rules m c.self.inside.tally.letters ≡ pos 1 = c.has_one.ensures.0 (search rules) in
     let seals = ap (can_seal r part) f.1 ∙ one-left r R m part.tally c.self.inside.tally.letters k.counts one in
     let noted : c.from.result ≡ length (r.notes b m) = c.from.ensures ∙ c.forget_oldest-noted.ensures.noted b f.0 m (rowed r opening part.committed) p in
     let more : length c.push_reserved.new.self.items ≡ length c.self.inside.committed.items + 1 =
