@@ -1,9 +1,8 @@
 -- The mail of all processes: one box of it changed, one letter put there or taken, and the letters that a process receives.
-use Rattle.std.proofs.Common.{◌≡◌, ℕ, zero, suc, ◌+◌, ◌-◌, ◌<◌, ◌≤◌, ◌==◌, ◌⊎◌, inl, inr, Bool, true, false, cond, List, [], ◌∷◌, ◌++◌, map, filter, set, get_or, length, take, drop, slice_get, remove, All, Option, Some, None, Global, refl, sym, ap, ◌∙◌, subst, arith, append_assoc, append-nil, eq-eqb, ne_eqb}
-use Rattle.std.specs.Prelude.{OnSome, IfNone, IsSome}
+use Rattle.std.proofs.Common.{◌≡◌, ℕ, zero, suc, ◌+◌, ◌-◌, ◌<◌, ◌≤◌, ◌==◌, ◌⊎◌, inl, inr, Bool, true, false, cond, List, [], ◌∷◌, ◌++◌, map, filter, set, get_or, length, take, drop, slice_get, remove, All, Some, Global, refl, sym, ap, ◌∙◌, subst, arith, append_assoc, append-nil, eq-eqb, ne_eqb}
 use Rattle.std.specs.declared.collections.VecDeque.{VecDeque}
 use Rattle.std.specs.VecDeque.{deque_len, deque_capacity}
-use Rattle.std.proofs.lemmas.Bool.{cases_eq, cases_lt}
+use Rattle.std.proofs.lemmas.Bool.{cases_eq}
 use Rattle.std.proofs.lemmas.List.{map-append, take_more, at_drop_more, length-map, get_or-map}
 use Rattle.std.proofs.lemmas.List.Elements.{filter-append}
 use Rattle.vlink.specs.declared.message.Message.{Message}
@@ -36,19 +35,6 @@ module _ {X Y : Type 0} (f : X → Y) where
   map-remove (y ∷ ys) zero = refl
   map-remove (y ∷ ys) (suc i) = ap (λ z. f y ∷ z) (map-remove ys i)
 
-  pub remove-past : (xs : List X) (i : ℕ) → length xs ≤ i → remove xs i ≡ xs
-  remove-past [] zero h = refl
-  remove-past [] (suc i) h = refl
-  remove-past (y ∷ ys) zero h = absurd (omega arith)
-  remove-past (y ∷ ys) (suc i) h = ap (λ z. y ∷ z) (remove-past ys i (omega arith))
-
--- taking a letter out of a box, or none where there is none
-pub taken-items : (o : Option Letter) (old new : VecDeque Letter Global) (i : ℕ) → OnSome o (new.items ≡ remove old.items i) → IfNone o (new ≡ old) →
-    (i < deque_len old → IsSome o) → new.items ≡ remove old.items i
-taken-items (Some x) old new i some none within = some
-taken-items None old new i some none within =
-    ap (λ q. q.items) none ∙ sym (remove-past signed old.items i (elim (cases_lt i old.len) [ inl k ↦ absurd (let n = within k in (cc)) | inr k ↦ let ok = old.ok.0 in omega arith ]))
-
 -- how many letters a process receives
 pub received-filter : (p : ℕ) (ls : List Letter) → received_by message_rules p (map signed ls) ≡ map signed (filter (λ l. l.message.receiver == p) ls)
 received-filter p [] = refl
@@ -74,22 +60,16 @@ module _ (p : ℕ) (ls : List Letter) (i : ℕ) (l : Letter) (h : i < length ls)
   received-rest = at_drop_more (λ z. received_by message_rules p (map signed z)) ls i l h ∙
       ap (λ z. received_by message_rules p (map signed (z ∷ drop (i + 1) ls))) (sym e)
 
--- a letter that is in a list is received there by its receiver
-pub received-some : (ls : List Letter) (i : ℕ) (l : Letter) → i < length ls → l ≡ get_or ls i l → 0 < length (received_by message_rules l.message.receiver (map signed ls))
-received-some [] i l h e = absurd (omega arith)
-received-some (x ∷ xs) zero l h e =
-    let P : Letter → Type 0 = λ z. 0 < length (received_by message_rules z.message.receiver (map signed (x ∷ xs))) in
-    subst P (sym e) (rw (eq-eqb x.message.receiver x.message.receiver refl) (omega arith))
-received-some (x ∷ xs) (suc i) l h e = go (x.message.receiver == l.message.receiver) (received-some xs i l (omega arith) e)
-  where
-    go : (b : Bool) → 0 < length (received_by message_rules l.message.receiver (map signed xs)) →
-        0 < length (cond b (signed x ∷ received_by message_rules l.message.receiver (map signed xs)) (received_by message_rules l.message.receiver (map signed xs)))
-    go true k = omega arith
-    go false k = k
-
 -- each letter of a list has one of n receivers
 pub receiver-within : (ls : List Letter) (n : ℕ) → All (λ l. l.message.receiver < n) ls → (i : ℕ) (l : Letter) → i < length ls → l ≡ get_or ls i l → l.message.receiver < n
 receiver-within ls n all i l h e = subst (λ x. x.message.receiver < n) (sym e) (all i l h)
+
+-- where each letter has one of n receivers, no other process receives any
+pub received-none : (ls : List Letter) (n p : ℕ) → All (λ l. l.message.receiver < n) ls → n ≤ p → received_by message_rules p (map signed ls) ≡ []
+received-none [] n p all h = refl
+received-none (l ∷ ls) n p all h =
+    let other : l.message.receiver ≡ p → ⊥ = λ e. let k = all 0 l (omega arith) in omega arith in
+    rw (ne_eqb l.message.receiver p other) (received-none ls n p (λ k d inside. all (suc k) d (omega arith)) h)
 
 -- what is said of the receivers of letters, in the words of the law and in those of the code
 pub receivers-inside : (ls now : List Letter) (seen : List (Signed Message)) (boxes : List (VecDeque Letter Global)) (mail : List Store) →
@@ -135,6 +115,29 @@ module _ (boxes : List (VecDeque Letter Global)) (i : ℕ) (old new : VecDeque L
     | inl a ↦ subst (λ z. room_for z (map store_of boxes) ≤ room_for z (map store_of (set boxes i new))) (sym a) (let x = old-room in let y = new-room in omega arith)
     | inr n ↦ let x = other-room p n in omega arith
   ]
+
+  -- this process has room for all letters that it receives, as those before it
+  pub reserve-next : (outbox : List Letter) → deque_len new + length (filter (λ x. x.message.receiver == i) outbox) ≤ deque_capacity new →
+      ((p : ℕ) → p < i → length (received_by message_rules p (map signed outbox)) ≤ room_for p (map store_of boxes)) →
+      (p : ℕ) → p < i + 1 → length (received_by message_rules p (map signed outbox)) ≤ room_for p (map store_of (set boxes i new))
+  reserve-next outbox fits room p below = elim (cases_eq p i) [
+    | inl a ↦
+        let x = ap (λ z. length (received_by message_rules z (map signed outbox))) a in
+        let y = ap length (received-filter i outbox) ∙ length-map (filter (λ x. x.message.receiver == i) outbox) signed in
+        let z = ap (λ z. room_for z (map store_of (set boxes i new))) a ∙ new-room in
+        omega arith
+    | inr n ↦ let x = other-room p n in let y = room p (omega arith) in omega arith
+  ]
+
+  -- a growth is refused only where this process has too little room
+  pub refused-next : (outbox : List Letter) → deque_capacity old < deque_len old + length (filter (λ x. x.message.receiver == i) outbox) →
+      HasRoom (map store_of boxes) (map signed outbox) → ⊥
+  refused-next outbox full room =
+      let x = room i in
+      let fits = old.small.1 in
+      let y = old-room in
+      let a = ap length (received-filter i outbox) ∙ length-map (filter (λ x. x.message.receiver == i) outbox) signed in
+      omega arith
 
   -- one letter more at the back of its receiver's mail, the one at this place of the outbox
   module _ (outbox : List Letter) (k : ℕ) (l : Letter) (within : k < length outbox) (there : l ≡ get_or outbox k l) (mine : i ≡ l.message.receiver) where
@@ -217,14 +220,3 @@ module _ (boxes : List (VecDeque Letter Global)) (i : ℕ) (old new : VecDeque L
             let x = room p (subst (λ z. 0 < length z) e some) in
             let y = other-room p m in
             omega arith
-
-    -- a growth is refused only where this receiver has too little room
-    pub refused-room : deque_capacity old < deque_len old + length (filter (λ x. x.message.receiver == l.message.receiver) outbox) →
-        HasRoom (map store_of boxes) (map signed outbox) → ⊥
-    refused-room full room =
-        let x = room i in
-        let y = old-room in
-        let z = ap (λ z. length (received_by message_rules z (map signed outbox))) mine in
-        let a = ap length (received-filter l.message.receiver outbox) ∙ length-map (filter (λ x. x.message.receiver == l.message.receiver) outbox) signed in
-        let b = received-some outbox k l within there in
-        omega arith

@@ -15,7 +15,7 @@ use Rattle.virtual_time.proofs.Order.{same-refl, same_cases, less-different, gre
 use Rattle.virtual_time.proofs.Letters.{counts-other}
 use Rattle.antimessages.specs.Letters.{signed, is_plus, weight}
 use Rattle.antimessages.specs.Counting.{CanPrecede, IsTidy, signed_count}
-use Rattle.antimessages.proofs.Tidy.{tidy-drop, same_letter}
+use Rattle.antimessages.proofs.Tidy.{same_letter}
 
 -- the first letter, if at least one is asked for, has this sign
 abbrev pub HasHeadSign : Bool → ℕ → List Letter → Type 0
@@ -29,29 +29,14 @@ module _ {S K N : Type 0} (r : Rules Message S K N) (O : IsOrder r) where
     pub no_plus : pluses r m (map signed ls) ≡ 0
     pub no_minus : minuses r m (map signed ls) ≡ 0
 
-  absent-cons : (m : Message) (l : Letter) (ls : List Letter) → same r m l.message ≡ false → IsAbsent m ls → IsAbsent m (l ∷ ls)
+  pub absent-cons : (m : Message) (l : Letter) (ls : List Letter) → same r m l.message ≡ false → IsAbsent m ls → IsAbsent m (l ∷ ls)
   absent-cons m l ls n i =
       let a = counts-other r O m (signed l) (map signed ls) n in
       record { no_plus = a.0 ∙ i.no_plus; no_minus = a.1 ∙ i.no_minus }
 
-  pub absent-before : (m : Message) (ls : List Letter) → AllByRecursion (λ l. r.less l.message m ≡ true) ls → IsAbsent m ls
-  absent-before m [] h = record { no_plus = refl; no_minus = refl }
-  absent-before m (l ∷ ls) h = absent-cons m l ls (greater-different r O m l.message h.0) (absent-before m ls h.1)
-
   pub absent-after : (m : Message) (ls : List Letter) → AllByRecursion (λ l. r.less m l.message ≡ true) ls → IsAbsent m ls
   absent-after m [] h = record { no_plus = refl; no_minus = refl }
   absent-after m (l ∷ ls) h = absent-cons m l ls (less-different r O m l.message h.0) (absent-after m ls h.1)
-
-  -- where the letters in front come before m, the rest has its counts
-  pub counts-rest : (m : Message) (ls : List Letter) (i : ℕ) → AllByRecursion (λ l. r.less l.message m ≡ true) (take i ls) →
-      (pluses r m (map signed ls) ≡ pluses r m (map signed (drop i ls))) × (minuses r m (map signed ls) ≡ minuses r m (map signed (drop i ls)))
-  counts-rest m [] zero h = (refl, refl)
-  counts-rest m [] (suc i) h = (refl, refl)
-  counts-rest m (l ∷ ls) zero h = (refl, refl)
-  counts-rest m (l ∷ ls) (suc i) h =
-      let a = counts-other r O m (signed l) (map signed ls) (greater-different r O m l.message h.0) in
-      let b = counts-rest m ls i h.1 in
-      (a.0 ∙ b.0, a.1 ∙ b.1)
 
   -- the first k letters are of m, and all of one sign
   pub counts-run : (m : Message) (b : Bool) (ls : List Letter) (k : ℕ) → IsTidy r (map signed ls) →
@@ -209,15 +194,14 @@ module _ {S K N : Type 0} (r : Rules Message S K N) (O : IsOrder r) where
       signed_count r m (map signed (remove ls i)) ≡ signed_count r m (map signed ls)
   count-cancel_other m ls i o h n = sym (count-remove m ls i o h ∙ count-other m o (map signed (remove ls i)) n)
 
-  -- the count by a run of letters that begins at the place of the message
-  pub count-run : (m : Message) (ls : List Letter) (i k : ℕ) (b : Bool) → IsTidy r (map signed ls) →
-      AllByRecursion (λ l. r.less l.message m ≡ true) (take i ls) → AllByRecursion (λ l. r.less l.message m ≡ false) (drop i ls) →
-      AllByRecursion (λ l. r.less m l.message ≡ false) (take k (drop i ls)) → AllByRecursion (λ l. r.less m l.message ≡ true) (drop k (drop i ls)) →
-      k ≤ length (drop i ls) → HasHeadSign b k (drop i ls) → signed_count r m (map signed ls) ≡ pos (cond b k 0) -ℤ pos (cond b 0 k)
-  count-run m ls i k b h before from_on upto after n s =
-      let a = counts-rest m ls i before in
-      let c = counts-run m b (drop i ls) k (tidy-drop r ls i h) from_on upto after n s in
-      λ j. pos ((a.0 ∙ c.0) j) -ℤ pos ((a.1 ∙ c.1) j)
+  -- what comes before a letter comes before those behind it
+  pub all-behind : (m : Message) (l : Letter) → r.less m l.message ≡ true → (zs : List Letter) → AllByRecursion (CanPrecede r (signed l)) (map signed zs) →
+      AllByRecursion (λ z. r.less m z.message ≡ true) zs
+  all-behind m l k [] c = tt
+  all-behind m l k (z ∷ zs) c = (
+    elim c.0 [ inl e ↦ O.transitive m l.message z.message k e | inr e ↦ subst (λ x. r.less m x ≡ true) (ap (λ x. x.message) e) k ],
+    all-behind m l k zs c.1,
+  )
 
   -- where the count of a message is above 0, a plus letter of it stands at its place
   pub present-stands : (m : Message) (ls : List Letter) (i : ℕ) → IsTidy r (map signed ls) →
@@ -229,17 +213,10 @@ module _ {S K N : Type 0} (r : Rules Message S K N) (O : IsOrder r) where
       (subst (λ z. 0 < z) (counts-other r O m (signed l) (map signed ls) (greater-different r O m l.message before.0)).0 p)
   present-stands m (l ∷ ls) zero h before from_on p = go (not_less-cases r O l.message m from_on.0)
     where
-      behind : r.less m l.message ≡ true → (zs : List Letter) → AllByRecursion (CanPrecede r (signed l)) (map signed zs) → AllByRecursion (λ z. r.less m z.message ≡ true) zs
-      behind k [] c = tt
-      behind k (z ∷ zs) c = (
-        elim c.0 [ inl e ↦ O.transitive m l.message z.message k e | inr e ↦ subst (λ x. r.less m x ≡ true) (ap (λ x. x.message) e) k ],
-        behind k zs c.1,
-      )
-
       is_there : m ≡ l.message → (b : Bool) → is_plus l.sign ≡ b → Some l ≡ Some (record { message = m; sign = Plus })
       is_there e true s = ap (λ x. Some x) (same_letter l (record { message = m; sign = Plus }) (sym e) s)
       is_there e false s = absurd (let a = front-only m false l ls e s h.0 in let b = rw s at p in omega arith)
 
       go : (m ≡ l.message) ⊎ (r.less m l.message ≡ true) → Some l ≡ Some (record { message = m; sign = Plus })
       go (inl e) = is_there e (is_plus l.sign) refl
-      go (inr k) = absurd (let a = (absent-after m (l ∷ ls) (k, behind k ls h.0)).no_plus in omega arith)
+      go (inr k) = absurd (let a = (absent-after m (l ∷ ls) (k, all-behind m l k ls h.0)).no_plus in omega arith)

@@ -1,7 +1,10 @@
 -- What holds of each element of a list holds of each element of its parts.
-use Rattle.std.proofs.Common.{ℕ, zero, suc, ◌<◌, ◌≤◌, List, [], ◌∷◌, ◌++◌, map, length, take, drop, get_or, arith}
+use Rattle.std.proofs.Common.{◌≡◌, ℕ, zero, suc, ◌+◌, ◌<◌, ◌≤◌, Bool, true, false, sym, ◌∙◌, subst, List, [], ◌∷◌, ◌++◌, map, length, take, drop, get_or, arith}
 use Rattle.std.specs.Prelude.{insert, remove}
 use Rattle.std.specs.List.{AllByRecursion, AllWithin}
+use Rattle.std.specs.List.Sorted.{IsPartitionedBy}
+use Rattle.std.proofs.lemmas.Bool.{false_from_ne_true, both_ways}
+use Rattle.std.proofs.lemmas.List.{get_or_default}
 
 module _ {X : Type 0} where
   pub all-weaker : (P Q : X → Type 0) → ((x : X) → P x → Q x) → (xs : List X) → AllByRecursion P xs → AllByRecursion Q xs
@@ -51,3 +54,16 @@ module _ {X Y : Type 0} (f : X → Y) (P : Y → Type 0) where
   all-remove [] (suc i) h = tt
   all-remove (y ∷ ys) zero h = h.1
   all-remove (y ∷ ys) (suc i) h = (h.0, all-remove ys i h.1)
+
+-- a test that holds of a beginning of the list, seen at one element
+module _ {X : Type 0} (p : X → Bool) (xs : List X) (parted : IsPartitionedBy p xs) (i : ℕ) (x : X) (within : i < length xs) (there : x ≡ get_or xs i x) where
+  pub parted-upto : p x ≡ true → AllByRecursion (λ y. p y ≡ true) (take (i + 1) xs)
+  parted-upto t =
+      within-take (λ y. p y ≡ true) xs (i + 1)
+      (λ k d low high. parted k i d (omega arith) within (subst (λ y. p y ≡ true) (there ∙ get_or_default xs i x d within) t))
+      (omega arith)
+
+  pub parted-from : p x ≡ false → AllByRecursion (λ y. p y ≡ false) (drop i xs)
+  parted-from t =
+      within-drop (λ y. p y ≡ false) xs i
+      (λ k d low high. false_from_ne_true _ (λ u. both_ways _ t (subst (λ y. p y ≡ true) (sym (there ∙ get_or_default xs i x d within)) (parted i k d low high u))))

@@ -1,6 +1,8 @@
 pub mod Elements
 pub mod Tidy
+pub mod Places
 pub mod Counts
+pub mod Standing
 pub mod Changes
 pub mod First
 pub mod Boxes

@@ -22,12 +22,6 @@ pub same_letter : (a b : Letter) → a.message ≡ b.message → is_plus a.sign 
 same_letter a b e s = λ i. record { message = e i; sign = same_sign a.sign b.sign s i }
 
 module _ {S K N : Type 0} (r : Rules Message S K N) where
-  pub tidy-drop : (ls : List Letter) (i : ℕ) → IsTidy r (map signed ls) → IsTidy r (map signed (drop i ls))
-  tidy-drop [] zero h = h
-  tidy-drop [] (suc i) h = h
-  tidy-drop (l ∷ ls) zero h = h
-  tidy-drop (l ∷ ls) (suc i) h = tidy-drop ls i h.1
-
   pub tidy-right : (xs ys : List Letter) → IsTidy r (map signed (xs ++ ys)) → IsTidy r (map signed ys)
   tidy-right [] ys h = h
   tidy-right (x ∷ xs) ys h = tidy-right xs ys h.1

@@ -1,6 +1,8 @@
 //! Messages and antimessages: the signed counts of a process, its outbox, and the mail of all processes.
 #![tactic(auto)]
 
+mod counted;
+mod ends;
 mod fault;
 mod mail;
 mod order;

@@ -4,6 +4,7 @@ ghost use Rattle.virtual_time.specs.Letters.{received_by};
 ghost use Rattle.antimessages.specs.Letters.{message_rules, signed};
 ghost use Rattle.antimessages.specs.Mailing.{letters_for, room_for, HasRoom};
 
+use crate::ends::take_at;
 use crate::fault::OutOfMemory;
 use crate::outbox::Outbox;
 use crate::posting::{put_all, reserve_all};
@@ -80,7 +81,7 @@ impl Mail {
         if usize::from(process) >= self.boxes.len() {
             return None;
         }
-        self.boxes[usize::from(process)].remove(place)
+        take_at(&mut self.boxes[usize::from(process)], place)
     }
 
     /// Makes room, so that `post` of this outbox takes no memory as long as no other call comes between. It is refused only where

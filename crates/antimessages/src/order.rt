@@ -4,7 +4,7 @@ ghost use Rattle.virtual_time.specs.Rules.{IsOrder};
 ghost use Rattle.antimessages.specs.Letters.{message_rules};
 
 use std::cmp::Ordering;
-use vlink::{Letter, Message, compare, message_order};
+use vlink::{Message, compare, message_order};
 
 /// The order of messages is one that the law of virtual time asks for: total, strict and by time first.
 ///
@@ -16,6 +16,7 @@ pub(crate) fn ordered()
 }
 
 /// Whether the first message comes before the second.
+#[inline]
 pub(crate) fn is_before(first: &Message, second: &Message) -> bool
     ensures { result ≡ message_rules.less first.now second.now }
 {
@@ -23,9 +24,10 @@ pub(crate) fn is_before(first: &Message, second: &Message) -> bool
     compare(first, second) == Ordering::Less
 }
 
-/// Whether they are one letter: the same message with the same sign.
-pub(crate) fn is_same(first: &Letter, second: &Letter) -> bool
+/// Whether they are the same message. Most messages differ in their numbers.
+#[inline]
+pub(crate) fn is_same(first: &Message, second: &Message) -> bool
     ensures { IsTrue result ↔ (first.now ≡ second.now) }
 {
-    first == second
+    first.number == second.number && first == second
 }

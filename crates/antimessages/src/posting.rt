@@ -10,7 +10,8 @@ use std::alloc::AllocError;
 use std::collections::VecDeque;
 use vlink::Letter;
 
-/// Makes room in the mail of each receiver for all letters that it receives.
+/// Makes room in the mail of each receiver for all letters that it receives. The letters are looked through for each of them, or for each
+/// process where these are fewer.
 pub(crate) fn reserve_all(
     boxes: &mut Vec<VecDeque<Letter>>,
     letters: &[Letter],
@@ -22,9 +23,46 @@ pub(crate) fn reserve_all(
     ensures no_less { (p : ℕ) → room_for p (map store_of boxes.old.items) ≤ room_for p (map store_of boxes.new.items) }
     ensures reserved { HasRoom (map store_of boxes.old.items) (map signed letters.now) → IsOk result }
 {
+    if letters.len() <= boxes.len() {
+        reserve_by_letters(boxes, letters)
+    } else {
+        reserve_by_receivers(boxes, letters)
+    }
+}
+
+/// The same, process by process.
+fn reserve_by_receivers(
+    boxes: &mut Vec<VecDeque<Letter>>,
+    letters: &[Letter],
+) -> Result<(), AllocError>
+    requires { All (λ letter. letter.message.receiver < length boxes.old.items) letters.now }
+    ensures same { (p : ℕ) → letters_for p (map store_of boxes.new.items) ≡ letters_for p (map store_of boxes.old.items) }
+    ensures processes { length boxes.new.items ≡ length boxes.old.items }
+    ensures room { OnOk result (HasRoom (map store_of boxes.new.items) (map signed letters.now)) }
+    ensures no_less { (p : ℕ) → room_for p (map store_of boxes.old.items) ≤ room_for p (map store_of boxes.new.items) }
+    ensures reserved { HasRoom (map store_of boxes.old.items) (map signed letters.now) → IsOk result }
+{
+    for receiver in 0..boxes.len() {
+        make_room(&mut boxes[receiver], letters, receiver)?;
+    }
+    Ok(())
+}
+
+/// The same, letter by letter.
+fn reserve_by_letters(
+    boxes: &mut Vec<VecDeque<Letter>>,
+    letters: &[Letter],
+) -> Result<(), AllocError>
+    requires { All (λ letter. letter.message.receiver < length boxes.old.items) letters.now }
+    ensures same { (p : ℕ) → letters_for p (map store_of boxes.new.items) ≡ letters_for p (map store_of boxes.old.items) }
+    ensures processes { length boxes.new.items ≡ length boxes.old.items }
+    ensures room { OnOk result (HasRoom (map store_of boxes.new.items) (map signed letters.now)) }
+    ensures no_less { (p : ℕ) → room_for p (map store_of boxes.old.items) ≤ room_for p (map store_of boxes.new.items) }
+    ensures reserved { HasRoom (map store_of boxes.old.items) (map signed letters.now) → IsOk result }
+{
     for letter in letters {
-        let receiver = letter.message.receiver;
-        make_room(&mut boxes[usize::from(receiver)], letters, receiver)?;
+        let receiver = usize::from(letter.message.receiver);
+        make_room(&mut boxes[receiver], letters, receiver)?;
     }
     Ok(())
 }
@@ -34,7 +72,7 @@ pub(crate) fn reserve_all(
 fn make_room(
     mailbox: &mut VecDeque<Letter>,
     letters: &[Letter],
-    receiver: u16,
+    receiver: usize,
 ) -> Result<(), AllocError>
     ensures items { mailbox.new.items ≡ mailbox.old.items }
     ensures len { deque_len mailbox.new ≡ deque_len mailbox.old }
@@ -49,12 +87,12 @@ fn make_room(
 }
 
 /// How many of the letters this process receives.
-fn count_for(letters: &[Letter], receiver: u16) -> usize
+fn count_for(letters: &[Letter], receiver: usize) -> usize
     ensures { result ≡ length (filter (λ letter. letter.message.receiver == receiver) letters.now) }
 {
     letters
         .iter()
-        .filter(|letter| letter.message.receiver == receiver)
+        .filter(|letter| usize::from(letter.message.receiver) == receiver)
         .count()
 }
 

@@ -1,71 +1,115 @@
-//! Letters in the order of their messages: where a message stands, and how often.
-ghost use Rattle.std.specs.Prelude.{◌≡◌, ◌≤◌, length, map, take, drop, true, false, ◌↔◌, IsTrue, slice_get, Some};
-ghost use Rattle.std.specs.List.{AllByRecursion, find};
-ghost use Rattle.std.specs.Option.{option_map};
-ghost use Rattle.antimessages.specs.Letters.{message_rules, signed, is_plus};
-ghost use Rattle.antimessages.specs.Counting.{signed_count, IsTidy};
+//! Letters in the order of their messages: where a message stands.
+ghost use Rattle.std.specs.Prelude.{◌≡◌, ◌≤◌, length, map, take, drop, true, false, IsTrue};
+ghost use Rattle.std.specs.List.{AllByRecursion};
+ghost use Rattle.antimessages.specs.Letters.{message_rules, signed};
+ghost use Rattle.antimessages.specs.Counting.{IsTidy};
 
 use crate::order::{is_before, is_same, ordered};
-use vlink::{Letter, Message, Sign};
+use std::collections::VecDeque;
+use vlink::{Letter, Message};
 
-/// The place of the first letter whose message does not come before this one.
-pub(crate) fn place_of(letters: &[Letter], message: &Message) -> usize
-    requires { IsTidy message_rules (map signed letters.now) }
-    ensures within { result ≤ length letters.now }
-    ensures before { AllByRecursion (λ l. message_rules.less l.message message.now ≡ true) (take result letters.now) }
-    ensures from_on { AllByRecursion (λ l. message_rules.less l.message message.now ≡ false) (drop result letters.now) }
+/// The place of the first letter whose message does not come before this one. It is looked for at `guess` first.
+#[inline]
+pub(crate) fn place_of(letters: &VecDeque<Letter>, message: &Message, guess: usize) -> usize
+    requires { IsTidy message_rules (map signed letters.now.items) }
+    ensures within { result ≤ length letters.now.items }
+    ensures before { AllByRecursion (λ l. message_rules.less l.message message.now ≡ true) (take result letters.now.items) }
+    ensures from_on { AllByRecursion (λ l. message_rules.less l.message message.now ≡ false) (drop result letters.now.items) }
+{
+    if is_place_of(letters, message, guess) {
+        return guess;
+    }
+    search_place(letters, message)
+}
+
+/// The same place, looked for among all letters.
+#[inline(never)]
+fn search_place(letters: &VecDeque<Letter>, message: &Message) -> usize
+    requires { IsTidy message_rules (map signed letters.now.items) }
+    ensures within { result ≤ length letters.now.items }
+    ensures before { AllByRecursion (λ l. message_rules.less l.message message.now ≡ true) (take result letters.now.items) }
+    ensures from_on { AllByRecursion (λ l. message_rules.less l.message message.now ≡ false) (drop result letters.now.items) }
 {
     ordered();
     letters.partition_point(|letter| is_before(&letter.message, message))
 }
 
-/// The place of the first letter whose message comes after this one.
-pub(crate) fn place_after(letters: &[Letter], message: &Message) -> usize
-    requires { IsTidy message_rules (map signed letters.now) }
-    ensures within { result ≤ length letters.now }
-    ensures not_after { AllByRecursion (λ l. message_rules.less message.now l.message ≡ false) (take result letters.now) }
-    ensures after { AllByRecursion (λ l. message_rules.less message.now l.message ≡ true) (drop result letters.now) }
+/// Whether the message has this place, as its two neighbours tell it: the letter in front comes before it, and one of its own stands
+/// there, if any does.
+#[inline]
+fn is_place_of(letters: &VecDeque<Letter>, message: &Message, place: usize) -> bool
+    requires { IsTidy message_rules (map signed letters.now.items) }
+    ensures within { IsTrue result → place ≤ length letters.now.items }
+    ensures before { IsTrue result → AllByRecursion (λ l. message_rules.less l.message message.now ≡ true) (take place letters.now.items) }
+    ensures from_on { IsTrue result → AllByRecursion (λ l. message_rules.less l.message message.now ≡ false) (drop place letters.now.items) }
+{
+    ordered();
+    if place > letters.len() || !front_is_before(letters, message, place) {
+        return false;
+    }
+    place == letters.len() || is_same(&letters[place].message, message)
+}
+
+/// Whether the letters in front of this place come before the message, by the last of them.
+#[inline]
+fn front_is_before(letters: &VecDeque<Letter>, message: &Message, place: usize) -> bool
+    requires tidy { IsTidy message_rules (map signed letters.now.items) }
+    requires within { place ≤ length letters.now.items }
+    ensures { IsTrue result → AllByRecursion (λ l. message_rules.less l.message message.now ≡ true) (take place letters.now.items) }
+{
+    ordered();
+    place == 0 || is_before(&letters[place - 1].message, message)
+}
+
+/// The place of the first letter whose message comes after this one. It is looked for at `guess` first.
+#[inline]
+pub(crate) fn place_after(letters: &VecDeque<Letter>, message: &Message, guess: usize) -> usize
+    requires { IsTidy message_rules (map signed letters.now.items) }
+    ensures within { result ≤ length letters.now.items }
+    ensures not_after { AllByRecursion (λ l. message_rules.less message.now l.message ≡ false) (take result letters.now.items) }
+    ensures after { AllByRecursion (λ l. message_rules.less message.now l.message ≡ true) (drop result letters.now.items) }
+{
+    if is_place_after(letters, message, guess) {
+        return guess;
+    }
+    search_place_after(letters, message)
+}
+
+/// The same place, looked for among all letters.
+#[inline(never)]
+fn search_place_after(letters: &VecDeque<Letter>, message: &Message) -> usize
+    requires { IsTidy message_rules (map signed letters.now.items) }
+    ensures within { result ≤ length letters.now.items }
+    ensures not_after { AllByRecursion (λ l. message_rules.less message.now l.message ≡ false) (take result letters.now.items) }
+    ensures after { AllByRecursion (λ l. message_rules.less message.now l.message ≡ true) (drop result letters.now.items) }
 {
     ordered();
     letters.partition_point(|letter| !is_before(message, &letter.message))
 }
 
-/// The signed count of the message: so many letters of it stand side by side, all of one sign.
-pub(crate) fn count_of(letters: &[Letter], message: &Message) -> i128
-    requires { IsTidy message_rules (map signed letters.now) }
-    ensures { result ≡ signed_count message_rules message.now (map signed letters.now) }
+/// Whether the letters after the message begin at this place, as its two neighbours tell it: the letter in front is one of the
+/// message's own, if there is any, and the one that stands there comes after it.
+#[inline]
+fn is_place_after(letters: &VecDeque<Letter>, message: &Message, place: usize) -> bool
+    requires { IsTidy message_rules (map signed letters.now.items) }
+    ensures within { IsTrue result → place ≤ length letters.now.items }
+    ensures not_after { IsTrue result → AllByRecursion (λ l. message_rules.less message.now l.message ≡ false) (take place letters.now.items) }
+    ensures after { IsTrue result → AllByRecursion (λ l. message_rules.less message.now l.message ≡ true) (drop place letters.now.items) }
 {
     ordered();
-    let rest = &letters[place_of(letters, message)..];
-    let many = place_after(rest, message) as i128;
-    match rest.first() {
-        Some(letter) => match letter.sign {
-            Sign::Plus => many,
-            Sign::Minus => -many,
-        },
-        None => 0,
+    if place > letters.len() || !front_ends_with(letters, message, place) {
+        return false;
     }
+    place == letters.len() || is_before(message, &letters[place].message)
 }
 
-/// Whether this letter stands at the place.
-pub(crate) fn stands_at(letters: &[Letter], place: usize, letter: &Letter) -> bool
-    ensures { IsTrue result ↔ (slice_get letters.now place ≡ Some letter.now) }
+/// Whether the last letter in front of this place, if there is one, is one of the message. Then none there comes after it.
+#[inline]
+fn front_ends_with(letters: &VecDeque<Letter>, message: &Message, place: usize) -> bool
+    requires tidy { IsTidy message_rules (map signed letters.now.items) }
+    requires within { place ≤ length letters.now.items }
+    ensures { IsTrue result → AllByRecursion (λ l. message_rules.less message.now l.message ≡ false) (take place letters.now.items) }
 {
-    match letters.get(place) {
-        Some(other) => is_same(other, letter),
-        None => false,
-    }
-}
-
-/// The message of the first plus letter.
-pub(crate) fn first_plus(letters: &[Letter]) -> Option<Message>
-    ensures { result ≡ option_map (λ l. l.message) (find (λ l. is_plus l.sign) letters.now) }
-{
-    for letter in letters {
-        match letter.sign {
-            Sign::Plus => return Some(letter.message),
-            Sign::Minus => {}
-        }
-    }
-    None
+    ordered();
+    place == 0 || is_same(&letters[place - 1].message, message)
 }

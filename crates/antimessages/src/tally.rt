@@ -1,15 +1,18 @@
-ghost use Rattle.std.specs.Prelude.{◌≡◌, ◌≢◌, ◌+◌, ◌<◌, ◌≤◌, pos, ◌+ℤ◌, ◌-ℤ◌, ◌<ℤ◌, [], not, IsOk, OnOk, OnErr, IfOk};
+ghost use Rattle.std.specs.Prelude.{◌≡◌, ◌≢◌, ◌+◌, ◌<◌, ◌≤◌, ◌↔◌, IsTrue, pos, ◌+ℤ◌, ◌-ℤ◌, ◌<ℤ◌, [], IsOk, OnOk, OnErr, IfOk};
 ghost use Rattle.std.specs.Option.{option_copied};
 ghost use Rattle.vlink.specs.declared.message.Message.{Message};
-ghost use Rattle.antimessages.specs.Letters.{message_rules, signed, is_plus, weight};
+ghost use Rattle.antimessages.specs.Letters.{message_rules, signed, weight};
 ghost use Rattle.antimessages.specs.Counting.{signed_count, change_by, present_after};
 
+use crate::counted::{change_at, count_of, first_plus, is_one, opposite, stands_at};
+use crate::ends::{put_in, take_out};
 use crate::fault::OutOfMemory;
 use crate::order::ordered;
-use crate::sorted::{count_of, first_plus, place_after, place_of, stands_at};
+use crate::sorted::{place_after, place_of};
 use std::alloc::Global;
+use std::collections::VecDeque;
 use std::marker::Model;
-use vlink::{Letter, Message, Sign};
+use vlink::{Letter, Message};
 
 /// What a letter makes of its message in a tally. A message is present where its signed count is above 0.
 #[derive(Clone, Copy, Debug, PartialEq, Eq)]
@@ -25,21 +28,23 @@ pub enum Change {
 /// The signed count of each message: how many plus letters of it arrived, less the minus letters. Clauses see it as a list of
 /// letters with these counts.
 ///
-/// A first form: the letters in the order of their messages, without opposite pairs. A message whose count is 3 has three plus
-/// letters there, one whose count is -2 two minus letters. So no number bounds a count, and to add a letter moves those behind it.
+/// The letters stand in the order of their messages, without opposite pairs. A message whose count is 3 has three plus letters there,
+/// one whose count is -2 two minus letters. So no number bounds a count. Messages arrive near the back and are committed at the front:
+/// a letter that enters or leaves moves those on the shorter side of it.
 #[derive(Drop)]
 pub struct Tally {
-    letters: Vec<Letter>,
+    letters: VecDeque<Letter>,
 }
 
 impl Model for Tally {
-    ghost use Rattle.std.specs.Prelude.{◌-◌, map, vec_len, vec_capacity};
+    ghost use Rattle.std.specs.Prelude.{◌-◌, map};
+    ghost use Rattle.std.specs.VecDeque.{deque_len, deque_capacity};
     ghost use Rattle.antimessages.specs.Letters.{Store, signed, message_rules};
     ghost use Rattle.antimessages.specs.Counting.{IsTidy};
 
     ghost Value = { Store };
 
-    ghost view = { λ t. record { letters = map signed t.letters.items; room = vec_capacity t.letters - vec_len t.letters } };
+    ghost view = { λ t. record { letters = map signed t.letters.items; room = deque_capacity t.letters - deque_len t.letters } };
 
     ghost invariant = { λ t. IsTidy message_rules (map signed t.letters.items) };
 }
@@ -50,7 +55,7 @@ impl Tally {
         ensures { result.letters ≡ [] }
     {
         Tally {
-            letters: Vec::new(alloc),
+            letters: VecDeque::new(alloc),
         }
     }
 
@@ -61,38 +66,35 @@ impl Tally {
         count_of(&self.letters, message)
     }
 
+    /// Whether the signed count of a message is just 1. This is quickest where `guess` letters of the tally come before the message,
+    /// and the answer is the same for any other guess.
+    pub fn has_one(&self, message: &Message, guess: usize) -> bool
+        ensures { IsTrue result ↔ (signed_count message_rules message.now self.now.letters ≡ pos 1) }
+    {
+        let place = place_of(&self.letters, message, guess);
+        is_one(&self.letters, place, message)
+    }
+
     /// What `add` of this letter would answer.
     pub fn change_by(&self, letter: &Letter) -> Change
         ensures { result ≡ change_by message_rules (signed letter.now) self.now.letters }
     {
-        ordered();
-        let count = self.count(&letter.message);
-        match letter.sign {
-            Sign::Plus => {
-                if count == 0 {
-                    Change::BecamePresent
-                } else {
-                    Change::Same
-                }
-            }
-            Sign::Minus => {
-                if count == 1 {
-                    Change::BecameAbsent
-                } else {
-                    Change::Same
-                }
-            }
-        }
+        let place = place_of(&self.letters, &letter.message, self.letters.len());
+        change_at(&self.letters, place, letter)
     }
 
-    /// The first present message of those that come after `newest`, or of all where none is given; none where there is none.
-    pub fn present_after(&self, newest: Option<&Message>) -> Option<Message>
+    /// The first present message of those that come after `newest`, or of all where none is given; none where there is none. This is
+    /// quickest where `guess` letters of the tally do not come after `newest`, and the answer is the same for any other guess.
+    pub fn present_after(&self, newest: Option<&Message>, guess: usize) -> Option<Message>
         ensures { result ≡ present_after message_rules (option_copied newest.entry) self.now.letters }
     {
         ordered();
         match newest {
-            Some(newest) => first_plus(&self.letters[place_after(&self.letters, newest)..]),
-            None => first_plus(&self.letters),
+            Some(newest) => {
+                let place = place_after(&self.letters, newest, guess);
+                first_plus(&self.letters, place)
+            }
+            None => first_plus(&self.letters, 0),
         }
     }
 
@@ -122,12 +124,18 @@ impl Tally {
         ensures room { self.old.room ≤ self.new.room + 1 }
     {
         ordered();
-        let change = self.change_by(&letter);
-        let place = place_of(&self.letters, &letter.message);
-        if stands_at(&self.letters, place, &opposite_of(&letter)) {
-            self.letters.remove(place);
+        let last = self.letters.len();
+        let place = place_of(&self.letters, &letter.message, last);
+        let change = change_at(&self.letters, place, &letter);
+        if stands_at(&self.letters, place, &letter.message, opposite(letter.sign)) {
+            take_out(&mut self.letters, place);
         } else {
-            self.letters.insert(place, letter)?;
+            // Written out again: the kit's borrow checker does not cover moving on the letter itself.
+            let counted = Letter {
+                message: letter.message,
+                sign: letter.sign,
+            };
+            put_in(&mut self.letters, place, counted)?;
         }
         Ok(change)
     }
@@ -140,21 +148,7 @@ impl Tally {
         ensures room { self.new.room ≡ self.old.room + 1 }
     {
         ordered();
-        let place = place_of(&self.letters, message);
-        self.letters.remove(place);
-    }
-}
-
-/// The letter of the same message with the other sign.
-fn opposite_of(letter: &Letter) -> Letter
-    ensures message { result.message ≡ letter.now.message }
-    ensures sign { is_plus result.sign ≡ not (is_plus letter.now.sign) }
-{
-    Letter {
-        message: letter.message,
-        sign: match letter.sign {
-            Sign::Plus => Sign::Minus,
-            Sign::Minus => Sign::Plus,
-        },
+        let place = place_of(&self.letters, message, 0);
+        take_out(&mut self.letters, place);
     }
 }

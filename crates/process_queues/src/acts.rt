@@ -90,7 +90,7 @@ impl<R: Actor> Process<R> {
         let Some(event) = self.past.oldest() else {
             return Ok(false);
         };
-        if self.tally.count(&event.message) != 1 {
+        if !self.tally.has_one(&event.message, 0) {
             return Ok(false);
         }
         self.committed.reserve(1)?;
@@ -135,10 +135,7 @@ fn undoes_nothing<R: Actor>(past: &Past<R>, tally: &Tally, letter: &Letter) -> b
         (is_after (rules_of R.plain R.counter) (newest_of (map (λ e. e.message) past.now.done)) letter.now.message ≡ true) }
     ensures something { result ≡ false → change_by message_rules (signed letter.now) tally.now.letters ≢ Same }
 {
-    match tally.change_by(letter) {
-        Change::Same => true,
-        Change::BecamePresent | Change::BecameAbsent => past.is_before(&letter.message),
-    }
+    past.is_before(&letter.message) || matches!(tally.change_by(letter), Change::Same)
 }
 
 /// The front letter leaves the tray and is counted. There is one, and the tally has room for it.

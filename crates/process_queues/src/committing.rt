@@ -51,16 +51,16 @@ fn committable_of<K: Copy>(
 {
     let limit = most.min(events.len());
     for place in 0..limit {
-        if !can_commit(tally, moment, &events[place].message) {
+        if !can_commit(tally, moment, &events[place].message, place) {
             return place;
         }
     }
     limit
 }
 
-/// Whether an event with this message can be committed.
-fn can_commit(tally: &Tally, moment: Time, message: &Message) -> bool
+/// Whether an event with this message can be committed. The guess is how many letters of the tally come before the message.
+fn can_commit(tally: &Tally, moment: Time, message: &Message, guess: usize) -> bool
     ensures { result ≡ can_commit message_rules moment tally.now.letters message.now }
 {
-    message.time < moment && tally.count(message) == 1
+    message.time < moment && tally.has_one(message, guess)
 }

@@ -162,7 +162,8 @@ impl<R: Actor> Process<R> {
             result ≡ next_of (rules_of R.plain R.counter) part }
     {
         actor_rules::<R>();
-        self.tally.present_after(self.past.newest())
+        let done = self.past.done_len();
+        self.tally.present_after(self.past.newest(), done)
     }
 
     /// A moment that nothing in hand is earlier than, as a post sets it: the least time of the tray's letters and of the present messages

@@ -1,5 +1,4 @@
-use Rattle.std.proofs.Common.{sym, ap, ◌∙◌, refl, map, take}
-use Rattle.std.proofs.lemmas.List.{take-map}
+use Rattle.std.proofs.Common.{ap, ◌∙◌, refl, map, take}
 use Rattle.reverse.specs.Rules.{rules_of}
 use Rattle.antimessages.specs.Letters.{message_rules}
 use Rattle.process_queues.specs.Committing.{committable}

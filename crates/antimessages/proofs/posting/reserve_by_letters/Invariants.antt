@@ -2,7 +2,7 @@ use Rattle.std.proofs.Common.{◌≡◌, ℕ, ◌<◌, ◌≤◌, length, map, t
 use Rattle.virtual_time.specs.Letters.{received_by}
 use Rattle.antimessages.specs.Letters.{message_rules, signed}
 use Rattle.antimessages.specs.Mailing.{letters_for, room_for, store_of}
-use Rattle.antimessages.proofs.posting.reserve_all.Given as goal
+use Rattle.antimessages.proofs.posting.reserve_by_letters.Given as goal
 
 abbrev pub invariant-loop-letter : goal.invariant-loop-letter
 invariant-loop-letter l = record {

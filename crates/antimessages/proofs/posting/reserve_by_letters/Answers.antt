@@ -4,8 +4,8 @@ use Rattle.std.proofs.lemmas.Bool.{cases_lt}
 use Rattle.std.proofs.lemmas.List.{take_all}
 use Rattle.virtual_time.specs.Letters.{received_by}
 use Rattle.antimessages.specs.Letters.{message_rules, signed}
-use Rattle.antimessages.proofs.Boxes.{receiver-within, same-letters, more-room, reserve-room, refused-room}
-use Rattle.antimessages.proofs.posting.reserve_all.Goals as goal
+use Rattle.antimessages.proofs.Boxes.{receiver-within, same-letters, more-room, reserve-room, refused-next}
+use Rattle.antimessages.proofs.posting.reserve_by_letters.Goals as goal
 
 pub loop-letter-init : goal.loop-letter-init
 loop-letter-init c = record { processes = refl; same = λ p. refl; no_less = λ p. omega arith; room = λ p some. absurd (omega arith) }
@@ -13,24 +13,24 @@ loop-letter-init c = record { processes = refl; same = λ p. refl; no_less = λ 
 pub index_mut-requires : goal.index_mut-requires
 index_mut-requires c =
     let within = receiver-within c.args.letters.now _ c.requires c.loop-letter.letter-index c.letter-item.result c.loop-letter-test.true c.letter-item.is in
-    omega (arith, c.from.ensures, c.loop-letter.invariant.processes, c.loop-letter.boxes.ok.0)
+    omega (arith, c.from-receiver.ensures, c.loop-letter.invariant.processes, c.loop-letter.boxes.ok.0)
 
 pub returns-in_err-make_room-clause-same : goal.returns-in_err-make_room-clause-same
 returns-in_err-make_room-clause-same c = λ p.
     let boxes = c.loop-letter.boxes.items in
     let inv = c.loop-letter.invariant in
     let within = receiver-within c.args.letters.now _ c.requires c.loop-letter.letter-index c.letter-item.result c.loop-letter-test.true c.letter-item.is in
-    let h : c.from.result < length boxes = omega (arith, c.from.ensures, inv.processes) in
-    same-letters boxes c.from.result c.index_mut.result.now c.make_room.new.mailbox h c.index_mut.ensures.value c.make_room.ensures.items p ∙ inv.same p
+    let h : c.from-receiver.result < length boxes = omega (arith, c.from-receiver.ensures, inv.processes) in
+    same-letters boxes c.from-receiver.result c.index_mut.result.now c.make_room.new.mailbox h c.index_mut.ensures.value c.make_room.ensures.items p ∙ inv.same p
 
 pub returns-in_err-make_room-clause-no_less : goal.returns-in_err-make_room-clause-no_less
 returns-in_err-make_room-clause-no_less c = λ p.
     let boxes = c.loop-letter.boxes.items in
     let inv = c.loop-letter.invariant in
     let within = receiver-within c.args.letters.now _ c.requires c.loop-letter.letter-index c.letter-item.result c.loop-letter-test.true c.letter-item.is in
-    let h : c.from.result < length boxes = omega (arith, c.from.ensures, inv.processes) in
+    let h : c.from-receiver.result < length boxes = omega (arith, c.from-receiver.ensures, inv.processes) in
     let a = inv.no_less p in
-    let b = more-room boxes c.from.result c.index_mut.result.now c.make_room.new.mailbox h c.index_mut.ensures.value c.make_room.ensures.len c.make_room.ensures.capacity p in
+    let b = more-room boxes c.from-receiver.result c.index_mut.result.now c.make_room.new.mailbox h c.index_mut.ensures.value c.make_room.ensures.len c.make_room.ensures.capacity p in
     omega arith
 
 pub returns-in_err-make_room-clause-reserved : goal.returns-in_err-make_room-clause-reserved
@@ -38,20 +38,20 @@ returns-in_err-make_room-clause-reserved c = λ room.
     let boxes = c.loop-letter.boxes.items in
     let inv = c.loop-letter.invariant in
     let within = receiver-within c.args.letters.now _ c.requires c.loop-letter.letter-index c.letter-item.result c.loop-letter-test.true c.letter-item.is in
-    let h : c.from.result < length boxes = omega (arith, c.from.ensures, inv.processes) in
-    absurd (refused-room boxes c.from.result c.index_mut.result.now c.make_room.new.mailbox h c.index_mut.ensures.value
-    c.args.letters.now c.loop-letter.letter-index c.letter-item.result c.loop-letter-test.true c.letter-item.is c.from.ensures c.in_err-make_room.ensures.full
+    let h : c.from-receiver.result < length boxes = omega (arith, c.from-receiver.ensures, inv.processes) in
+    absurd (refused-next boxes c.from-receiver.result c.index_mut.result.now c.make_room.new.mailbox h c.index_mut.ensures.value
+    c.args.letters.now c.in_err-make_room.ensures.full
     (λ p. let a = room p in let b = inv.no_less p in omega arith))
 
 pub loop-letter-preserved : goal.loop-letter-preserved
 loop-letter-preserved c =
     let boxes = c.loop-letter.boxes.items in
-    let i = c.from.result in
+    let i = c.from-receiver.result in
     let old = c.index_mut.result.now in
     let new = c.make_room.new.mailbox in
     let inv = c.loop-letter.invariant in
     let within = receiver-within c.args.letters.now _ c.requires c.loop-letter.letter-index c.letter-item.result c.loop-letter-test.true c.letter-item.is in
-    let h : i < length boxes = omega (arith, c.from.ensures, inv.processes) in
+    let h : i < length boxes = omega (arith, c.from-receiver.ensures, inv.processes) in
     record {
       processes = length-set boxes i new ∙ inv.processes;
       same = λ p. same-letters boxes i old new h c.index_mut.ensures.value c.make_room.ensures.items p ∙ inv.same p;
@@ -60,8 +60,8 @@ loop-letter-preserved c =
           let b = more-room boxes i old new h c.index_mut.ensures.value c.make_room.ensures.len c.make_room.ensures.capacity p in
           omega arith;
       room = reserve-room boxes i old new h c.index_mut.ensures.value
-          c.args.letters.now c.loop-letter.letter-index c.letter-item.result c.loop-letter-test.true c.letter-item.is c.from.ensures
-          c.make_room.ensures.len c.make_room.ensures.capacity c.in_ok-make_room.ensures.ok inv.room;
+          c.args.letters.now c.loop-letter.letter-index c.letter-item.result c.loop-letter-test.true c.letter-item.is c.from-receiver.ensures
+          c.make_room.ensures.len c.make_room.ensures.capacity (rw c.from-receiver.ensures at c.in_ok-make_room.ensures.ok) inv.room;
     }
 
 pub returns-clause-same : goal.returns-clause-same

@@ -1,0 +1,117 @@
+//! Letters in the order of their messages: how often a message is counted.
+ghost use Rattle.std.specs.Prelude.{◌≡◌, ◌≤◌, ◌↔◌, length, map, take, drop, pos, true, false, not, IsTrue, slice_get, Some};
+ghost use Rattle.std.specs.List.{AllByRecursion, find};
+ghost use Rattle.std.specs.Option.{option_map};
+ghost use Rattle.antimessages.specs.Letters.{message_rules, signed, is_plus};
+ghost use Rattle.antimessages.specs.Counting.{signed_count, change_by, IsTidy};
+
+use crate::order::{is_same, ordered};
+use crate::sorted::{place_after, place_of};
+use crate::tally::Change;
+use std::collections::VecDeque;
+use vlink::{Letter, Message, Sign};
+
+/// Whether a letter of this message and sign stands at the place.
+#[inline]
+pub(crate) fn stands_at(
+    letters: &VecDeque<Letter>,
+    place: usize,
+    message: &Message,
+    sign: Sign,
+) -> bool
+    ensures { IsTrue result ↔ (slice_get letters.now.items place ≡ Some (record { message = message.now; sign = sign })) }
+{
+    match letters.get(place) {
+        Some(letter) => letter.sign == sign && is_same(&letter.message, message),
+        None => false,
+    }
+}
+
+/// The other sign.
+#[inline]
+pub(crate) fn opposite(sign: Sign) -> Sign
+    ensures { is_plus result ≡ not (is_plus sign) }
+{
+    match sign {
+        Sign::Plus => Sign::Minus,
+        Sign::Minus => Sign::Plus,
+    }
+}
+
+/// The signed count of the message: so many letters of it stand side by side, all of one sign.
+pub(crate) fn count_of(letters: &VecDeque<Letter>, message: &Message) -> i128
+    requires { IsTidy message_rules (map signed letters.now.items) }
+    ensures { result ≡ signed_count message_rules message.now (map signed letters.now.items) }
+{
+    ordered();
+    let place = place_of(letters, message, 0);
+    let many = place_after(letters, message, place).saturating_sub(place) as i128;
+    if stands_at(letters, place, message, Sign::Plus) {
+        many
+    } else {
+        -many
+    }
+}
+
+/// Whether the count of the message, which has this place, is 1: a plus letter of it stands there, and no second one behind.
+#[inline]
+pub(crate) fn is_one(letters: &VecDeque<Letter>, place: usize, message: &Message) -> bool
+    requires tidy { IsTidy message_rules (map signed letters.now.items) }
+    requires within { place ≤ length letters.now.items }
+    requires before { AllByRecursion (λ l. message_rules.less l.message message.now ≡ true) (take place letters.now.items) }
+    requires from_on { AllByRecursion (λ l. message_rules.less l.message message.now ≡ false) (drop place letters.now.items) }
+    ensures { IsTrue result ↔ (signed_count message_rules message.now (map signed letters.now.items) ≡ pos 1) }
+{
+    ordered();
+    if !stands_at(letters, place, message, Sign::Plus) {
+        return false;
+    }
+    !stands_at(letters, place + 1, message, Sign::Plus)
+}
+
+/// What the letter, whose message has this place, makes of its message.
+#[inline]
+pub(crate) fn change_at(letters: &VecDeque<Letter>, place: usize, letter: &Letter) -> Change
+    requires tidy { IsTidy message_rules (map signed letters.now.items) }
+    requires within { place ≤ length letters.now.items }
+    requires before { AllByRecursion (λ l. message_rules.less l.message letter.now.message ≡ true) (take place letters.now.items) }
+    requires from_on { AllByRecursion (λ l. message_rules.less l.message letter.now.message ≡ false) (drop place letters.now.items) }
+    ensures { result ≡ change_by message_rules (signed letter.now) (map signed letters.now.items) }
+{
+    ordered();
+    let message = &letter.message;
+    match letter.sign {
+        Sign::Plus => {
+            if stands_at(letters, place, message, Sign::Plus) {
+                return Change::Same;
+            }
+            if stands_at(letters, place, message, Sign::Minus) {
+                return Change::Same;
+            }
+            Change::BecamePresent
+        }
+        Sign::Minus => {
+            if is_one(letters, place, message) {
+                Change::BecameAbsent
+            } else {
+                Change::Same
+            }
+        }
+    }
+}
+
+/// The message of the first plus letter from this place on.
+#[inline]
+pub(crate) fn first_plus(letters: &VecDeque<Letter>, from: usize) -> Option<Message>
+    requires { from ≤ length letters.now.items }
+    ensures { result ≡ option_map (λ l. l.message) (find (λ l. is_plus l.sign) (drop from letters.now.items)) }
+{
+    for place in from..letters.len() {
+        let letter = &letters[place];
+        match letter.sign {
+            Sign::Plus => return Some(letter.message),
+            Sign::Minus => {}
+        }
+    }
+    None
+}
