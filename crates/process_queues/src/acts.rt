@@ -20,9 +20,9 @@ use crate::fault::ProcFault;
 use crate::past::Past;
 use crate::process::Process;
 use antimessages::{Change, Mail, Tally};
-use reverse::{Actor, actor_rules};
+use reverse::{Actor, Outbound, actor_rules};
 use std::collections::VecDeque;
-use vlink::{Letter, Message};
+use vlink::{Letter, Message, Time};
 
 impl<R: Actor> Process<R> {
     /// The front letter of the tray is counted. Where its message became present or absent by that, every done event that does not come
@@ -62,6 +62,21 @@ impl<R: Actor> Process<R> {
             IsSome (next_in self.old.queues) × (greatest_number < R.counter self.old.queues.past.state + 24) }
         ensures unchanged { OnErr result (self.new.queues ≡ self.old.queues) }
     {
+        let mut out = Outbound::new(0, Time::default(), 0);
+        self.run_with(&mut out)
+    }
+
+    /// Does what `run` does. `out` is room for what the event sends and notes: a caller that handles one event after another makes it once.
+    pub fn run_with(&mut self, out: &mut Outbound) -> Result<Option<Message>, ProcFault>
+        ensures ran { OnOk result (Does (rules_of R.plain R.counter) R.is_value (λ opening. run_one (rules_of R.plain R.counter)) self.old.queues self.new.queues) }
+        ensures handled { IfOk result (λ message. (opening : R) (part : Part Message R) →
+            StandsFor (rules_of R.plain R.counter) R.is_value opening part self.old.queues → message ≡ next_of (rules_of R.plain R.counter) part) }
+        ensures next { IfOk result (λ message. message ≡ next_in self.old.queues) }
+        ensures tray { self.new.queues.tray ≡ self.old.queues.tray }
+        ensures exhausted { (result ≡ Err Exhausted) ↔
+            IsSome (next_in self.old.queues) × (greatest_number < R.counter self.old.queues.past.state + 24) }
+        ensures unchanged { OnErr result (self.new.queues ≡ self.old.queues) }
+    {
         actor_rules::<R>();
         let Some(message) = self.next() else {
             return Ok(None);
@@ -69,7 +84,7 @@ impl<R: Actor> Process<R> {
         if !self.past.actor().has_numbers() {
             return Err(ProcFault::Exhausted);
         }
-        self.past.handle(&message, &mut self.outbox)?;
+        self.past.handle(&message, out, &mut self.outbox)?;
         Ok(Some(message))
     }
 

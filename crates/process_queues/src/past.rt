@@ -11,7 +11,7 @@ ghost use Rattle.process_queues.specs.Past.{Past, Rows, IsPastOf, handled_past, 
 
 use crate::order::is_before;
 use antimessages::{OutOfMemory, Outbox};
-use reverse::{Actor, actor_rules};
+use reverse::{Actor, Outbound, actor_rules};
 use std::alloc::Global;
 use std::collections::VecDeque;
 use std::marker::Model;
@@ -130,10 +130,11 @@ impl<R: Actor> Past<R> {
         }
     }
 
-    /// The actor handles the message; what it sends goes to the outbox. A refusal changes nothing.
+    /// The actor handles the message; what it sends goes to the outbox. `out` is room for what it sends and notes. A refusal changes nothing.
     pub(crate) fn handle(
         &mut self,
         message: &Message,
+        out: &mut Outbound,
         outbox: &mut Outbox,
     ) -> Result<(), OutOfMemory>
         requires { R.counter self.old.state + 24 ≤ greatest_number }
@@ -147,15 +148,15 @@ impl<R: Actor> Past<R> {
         self.sends.reserve(24)?;
         self.rows.reserve(2)?;
         outbox.reserve(24)?;
-        let (sends, kept) = self.actor.apply(message);
+        let kept = self.actor.handle(message, out);
         self.done.push_back_reserved(Event {
             message: *message,
             kept,
-            sent: sends.messages.len() as u8,
-            noted: sends.notes.len() as u8,
+            sent: out.messages().len() as u8,
+            noted: out.notes().len() as u8,
         });
-        send_all(&mut self.sends, outbox, sends.messages.as_slice());
-        note_all(&mut self.rows, message, sends.notes.as_slice());
+        send_all(&mut self.sends, outbox, out.messages());
+        note_all(&mut self.rows, message, out.notes());
         Ok(())
     }
 
