@@ -1,5 +1,5 @@
 //! What a process does alone: letters arrive, messages are handled, events are committed, and all is undone.
-ghost use Rattle.std.specs.Prelude.{◌≡◌, ◌≢◌, ◌+◌, ◌<◌, ◌≤◌, ◌↔◌, ◌⊎◌, ℕ, ◌++◌, [], ◌∷◌, false, true, length, drop, All, map, IsTrue, IsSome, MatchOption, OnOk, OnErr, IfOk, IfErr, slice_get, Some};
+ghost use Rattle.std.specs.Prelude.{◌≡◌, ◌≢◌, ◌+◌, ◌<◌, ◌≤◌, ◌↔◌, ◌⊎◌, ℕ, ◌++◌, [], ◌∷◌, false, true, length, drop, All, map, IsTrue, IsSome, None, Ok, MatchOption, OnOk, OnErr, IfOk, IfErr, slice_get, Some};
 ghost use Rattle.std.specs.VecDeque.{deque_len};
 ghost use Rattle.vlink.specs.declared.message.Message.{Message};
 ghost use Rattle.vlink.specs.declared.message.Letter.{Letter as Posted};
@@ -60,6 +60,9 @@ impl<R: Actor> Process<R> {
         ensures tray { self.new.queues.tray ≡ self.old.queues.tray }
         ensures exhausted { (result ≡ Err Exhausted) ↔
             IsSome (next_in self.old.queues) × (greatest_number < R.counter self.old.queues.past.state + 24) }
+        ensures idle { result ≡ Ok None → self.new.queues ≡ self.old.queues }
+        ensures refused { OnErr result ((opening : R) (part : Part Message R) →
+            StandsFor (rules_of R.plain R.counter) R.is_value opening part self.old.queues → IsSome (next_of (rules_of R.plain R.counter) part)) }
         ensures unchanged { OnErr result (self.new.queues ≡ self.old.queues) }
     {
         let mut out = Outbound::new(0, Time::default(), 0);
@@ -75,6 +78,9 @@ impl<R: Actor> Process<R> {
         ensures tray { self.new.queues.tray ≡ self.old.queues.tray }
         ensures exhausted { (result ≡ Err Exhausted) ↔
             IsSome (next_in self.old.queues) × (greatest_number < R.counter self.old.queues.past.state + 24) }
+        ensures idle { result ≡ Ok None → self.new.queues ≡ self.old.queues }
+        ensures refused { OnErr result ((opening : R) (part : Part Message R) →
+            StandsFor (rules_of R.plain R.counter) R.is_value opening part self.old.queues → IsSome (next_of (rules_of R.plain R.counter) part)) }
         ensures unchanged { OnErr result (self.new.queues ≡ self.old.queues) }
     {
         actor_rules::<R>();
@@ -98,6 +104,9 @@ impl<R: Actor> Process<R> {
         ensures outbox { self.new.queues.outbox ≡ self.old.queues.outbox }
         ensures room { self.old.committed_room ≤ self.new.committed_room + 1 }
         ensures unchanged { OnErr result (self.new.queues ≡ self.old.queues) }
+        ensures idle { result ≡ Ok false → self.new.queues ≡ self.old.queues }
+        ensures refused { OnErr result ((opening : R) (part : Part Message R) →
+            StandsFor (rules_of R.plain R.counter) R.is_value opening part self.old.queues → can_seal (rules_of R.plain R.counter) part part.done ≡ true) }
         ensures reserved { OnErr result (self.old.committed_room ≡ 0) }
         ensures memory { IfErr result (λ fault. fault ≡ OutOfMemory) }
     {
@@ -144,16 +153,14 @@ impl<R: Actor> Process<R> {
     }
 }
 
-/// Whether a letter undoes nothing as it is counted: its message becomes neither present nor absent, or comes after all done events.
+/// Whether a letter undoes nothing as it is counted: its message becomes neither present nor absent, or comes after all done events. The
+/// latter is most often so, and is asked first, since it needs no count.
 fn undoes_nothing<R: Actor>(past: &Past<R>, tally: &Tally, letter: &Letter) -> bool
     ensures nothing { IsTrue result → (change_by message_rules (signed letter.now) tally.now.letters ≡ Same) ⊎
         (is_after (rules_of R.plain R.counter) (newest_of (map (λ e. e.message) past.now.done)) letter.now.message ≡ true) }
     ensures something { result ≡ false → change_by message_rules (signed letter.now) tally.now.letters ≢ Same }
 {
-    match tally.change_by(letter) {
-        Change::Same => true,
-        Change::BecamePresent | Change::BecameAbsent => past.is_before(&letter.message),
-    }
+    past.is_before(&letter.message) || tally.change_by(letter) == Change::Same
 }
 
 /// The front letter leaves the tray and is counted. There is one, and the tally has room for it.

@@ -10,10 +10,22 @@ use Rattle.process_queues.specs.Queues.{StandsFor}
 use Rattle.process_queues.proofs.Counting.{of-messages, one-left, counts-less}
 use Rattle.process_queues.proofs.Reading.{first-done}
 use Rattle.process_queues.proofs.Standing.{sealed-stands}
+use Rattle.process_queues.proofs.Taking.{err-gives}
 use Rattle.process_queues.proofs.process.Process.seal_oldest.Goals as goal
 
 pub invariant_of-self : goal.invariant_of-self
 invariant_of-self g c = rw c.in_err-reserve.ensures.items c.self.invariant
+
+pub returns-in_err-reserve-clause-refused : goal.returns-in_err-reserve-clause-refused
+returns-in_err-reserve-clause-refused g c = err-gives c.from_residual.result (λ opening part h.
+    let r = rules_of g.R.Reversible.plain g.R.Actor.counter in
+    let v = g.R.Reversible.is_value in
+    let R = of-messages g.R.Reversible.plain g.R.Actor.counter c.actor_rules.ensures.order c.actor_rules.ensures.undoes in
+    let k = subst (λ q. StandsFor r v opening part q.queues) (sym c.self.view_is) h in
+    let m = c.in-Some.event.message in
+    let f = first-done r v opening part _ k c.in-Some.event (sym c.oldest.ensures ∙ c.in-Some.is) in
+    let is_one : c.count.result ≡ pos 1 = search rules in
+    ap (can_seal r part) f.1 ∙ one-left r R m part.tally c.self.inside.tally.letters k.counts (sym c.count.ensures ∙ is_one))
 
 pub forget_oldest-noted-requires : goal.forget_oldest-noted-requires
 forget_oldest-noted-requires g c =
