@@ -18,7 +18,7 @@ use crate::fault::StepFault;
 use antimessages::{Mail, Outbox};
 use gvt::Floors;
 use process_queues::Process;
-use reverse::{Actor, actor_rules};
+use reverse::{Actor, Outbound, actor_rules};
 use std::alloc::Global;
 use std::marker::Model;
 use vlink::{Letter, Message, Row, Sign, Time};
@@ -30,6 +30,8 @@ pub(crate) struct ActorWorld<R: Actor> {
     pub(crate) mail: Mail,
     pub(crate) floors: Floors,
     pub(crate) gvt: Time,
+    /// Room for what one event sends and notes.
+    pub(crate) out: Outbound,
 }
 
 impl<R: Actor> Model for ActorWorld<R> {
@@ -75,6 +77,7 @@ impl<R: Actor + Drop> ActorWorld<R> {
             mail,
             floors,
             gvt: Time::default(),
+            out: Outbound::new(0, until, 0),
         })
     }
 
