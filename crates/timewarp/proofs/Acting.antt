@@ -1,31 +1,26 @@
 -- The steps of one process alone: Arrive, Run and Commit.
-use Rattle.std.proofs.Common.{◌≡◌, ◌≢◌, ℕ, ◌+◌, ◌<◌, ◌≤◌, ◌==◌, ◌&&◌, Bool, true, false, nat_lt, List, [], ◌∷◌, map, length, slice_get, Option, Some, None, Result, Ok, Err, refl, sym, ap, ◌∙◌, subst, arith, eq-eqb}
+use Rattle.std.proofs.Common.{◌≡◌, ℕ, ◌+◌, ◌<◌, ◌&&◌, Bool, true, false, List, [], ◌∷◌, length, slice_get, Option, Some, None, Result, Ok, Err, refl, sym, ap, ◌∙◌, subst}
 use Rattle.std.specs.Prelude.{is_some, IsSome}
-use Rattle.std.specs.Option.{option_map}
 use Rattle.std.proofs.Math.ListN.{set}
-use Rattle.std.proofs.lemmas.Bool.{lt-ltb, ltb-true}
+use Rattle.std.proofs.lemmas.Bool.{lt-ltb}
 use Rattle.vlink.specs.declared.message.Message.{Message}
 use Rattle.vlink.specs.declared.note.Note.{Note}
 use Rattle.vlink.specs.Numbering.{greatest_number}
 use Rattle.virtual_time.specs.Rules.{Rules}
-use Rattle.virtual_time.specs.Lists.{times_in}
-use Rattle.virtual_time.specs.Letters.{pluses, minuses}
 use Rattle.virtual_time.specs.Part.{Part, arrive, run_one, next_of, can_seal, seal_oldest}
-use Rattle.virtual_time.specs.Simulation.{Simulation, Laws}
-use Rattle.virtual_time.specs.World.{World, Step, start, run, is_enabled, effect, with_part, is_early}
-use Rattle.virtual_time.specs.World.Step.{Take, Arrive, Run, Post, Gvt, Commit}
-use Rattle.virtual_time.specs.Safe.{Safe}
-use Rattle.virtual_time.proofs.Lists.{in-head}
+use Rattle.virtual_time.specs.Simulation.{Simulation}
+use Rattle.virtual_time.specs.World.{World, start, run, is_enabled, effect, with_part, is_early}
+use Rattle.virtual_time.specs.World.Step.{Arrive, Run, Commit}
 use Rattle.fossil.specs.Committed
 use Rattle.fossil.specs.Committed.{is_ready, committed_once}
 use Rattle.process_queues.specs.declared.fault.ProcFault.{ProcFault}
 use Rattle.process_queues.specs.declared.fault.ProcFault.TheVariants as process
-use Rattle.process_queues.specs.Queues.{Queues, StandsFor, Does, next_in}
+use Rattle.process_queues.specs.Queues.{Queues, StandsFor, Does}
 use Rattle.timewarp.specs.declared.done.Done.{Done}
 use Rattle.timewarp.specs.declared.done.Done.TheVariants.{Did, NotEnabled}
 use Rattle.timewarp.specs.declared.fault.StepFault.{StepFault}
 use Rattle.timewarp.specs.Faults.{fault_of}
-use Rattle.seqsim.specs.Running.{Setting, simulation_of, IsLaidOut}
+use Rattle.seqsim.specs.Running.{simulation_of}
 use Rattle.timewarp.specs.Worlds.{Held, StandsForWorld, AtEachWorld}
 use Rattle.timewarp.specs.Stepping.{IsStepped}
 use Rattle.timewarp.proofs.Holding.{process-within, with_part-stands, when-did, when-not_enabled, when-no_memory, when-exhausted, the_same, the_same-when}

@@ -15,7 +15,7 @@ returns-in_err-committed g c =
     let there = subst (λ (h : Held g.row.R.Denot g.row.R-Record.Denot). p < length h.processes) (sym c.self.view_is) c.requires.there in
     let now = queues-at vs p c.from.result c.index_mut.result.now c.from.ensures there c.index_mut.ensures.value in
     let e = err_from_is_err_and c.from_residual.result c.from_residual.ensures.1 in
-    let unchanged = queues-same vs c.from.result c.index_mut.result.now c.commit_oldest-committed.new.process c.index_mut.ensures.value c.in_err-committed.ensures.unchanged in
+    let unchanged = queues-same vs c.from.result c.index_mut.result.now c.commit_oldest.new.process c.index_mut.ensures.value c.in_err-committed.ensures.unchanged in
     seen-as r g.R.Actor.number g.R.Actor.end g.R.Actor.is_placed g.R.Reversible.is_value (Commit p) _ _ _ _ c.self.view_is
     (commit-refused r g.R.Actor.number g.R.Actor.end g.R.Actor.is_placed g.R.Reversible.is_value _ p _ now c.in_err-committed.ensures.refused _ unchanged _ (e.1 ∙ ap (λ z. Err z) e.2))
 
@@ -27,7 +27,7 @@ returns-then-not-committed g c =
     let there = subst (λ (h : Held g.row.R.Denot g.row.R-Record.Denot). p < length h.processes) (sym c.self.view_is) c.requires.there in
     let now = queues-at vs p c.from.result c.index_mut.result.now c.from.ensures there c.index_mut.ensures.value in
     let none = c.if-not-committed.true in
-    let unchanged = queues-same vs c.from.result c.index_mut.result.now c.commit_oldest-committed.new.process c.index_mut.ensures.value (c.commit_oldest-committed.ensures.none (c.in_ok-committed.was ∙ ap (λ z. Ok z) none)) in
+    let unchanged = queues-same vs c.from.result c.index_mut.result.now c.commit_oldest.new.process c.index_mut.ensures.value (c.commit_oldest.ensures.none (c.in_ok-committed.was ∙ ap (λ z. Ok z) none)) in
     seen-as r g.R.Actor.number g.R.Actor.end g.R.Actor.is_placed g.R.Reversible.is_value (Commit p) _ _ _ _ c.self.view_is
     (commit-none r g.R.Actor.number g.R.Actor.end g.R.Actor.is_placed g.R.Reversible.is_value _ p _ now (λ opening part h. sym none ∙ c.in_ok-committed.ensures.answer opening part h) _ unchanged)
 
@@ -40,4 +40,4 @@ returns g c =
     let now = queues-at vs p c.from.result c.index_mut.result.now c.from.ensures there c.index_mut.ensures.value in
     seen-as r g.R.Actor.number g.R.Actor.end g.R.Actor.is_placed g.R.Reversible.is_value (Commit p) _ _ _ _ c.self.view_is
     (commit-did r g.R.Actor.number g.R.Actor.end g.R.Actor.is_placed g.R.Reversible.is_value _ p _ now (λ opening part h. sym c.if-not-committed.false ∙ c.in_ok-committed.ensures.answer opening part h)
-    _ c.in_ok-committed.ensures.committed _ (queues-set vs p c.from.result c.commit_oldest-committed.new.process c.from.ensures))
+    _ c.in_ok-committed.ensures.committed _ (queues-set vs p c.from.result c.commit_oldest.new.process c.from.ensures))
