@@ -17,13 +17,14 @@ use std::collections::VecDeque;
 use std::marker::Model;
 use vlink::{Letter, Message, Note, Row, Sign, Time};
 
-/// What is kept of a done event: its message, the record by which it is undone, how many messages it sent, and how many rows it gave.
+/// What is kept of a done event: its message, how many messages it sent, how many rows it gave, and the record by which it is undone.
+/// The record, which can be large, comes last, since an event that is committed needs it no more.
 #[derive(Clone, Copy)]
 pub(crate) struct Event<K: Copy> {
     pub(crate) message: Message,
-    pub(crate) kept: K,
     pub(crate) sent: u8,
     pub(crate) noted: u8,
+    pub(crate) kept: K,
 }
 
 /// The actor with the events that it has done and not committed, oldest first, and all that they sent, in order. The rows are those of
@@ -73,10 +74,10 @@ impl<R: Actor> Past<R> {
     }
 
     /// The oldest done event, if there is one.
-    pub(crate) fn oldest(&self) -> Option<Event<R::Record>>
-        ensures { result ≡ slice_get self.now.done 0 }
+    pub(crate) fn oldest(&self) -> Option<&Event<R::Record>>
+        ensures { option_copied result ≡ slice_get self.now.done 0 }
     {
-        self.done.front().copied()
+        self.done.front()
     }
 
     /// The moment of the oldest done event, if there is one.
@@ -151,9 +152,9 @@ impl<R: Actor> Past<R> {
         let kept = self.actor.handle(message, out);
         self.done.push_back_reserved(Event {
             message: *message,
-            kept,
             sent: out.messages().len() as u8,
             noted: out.notes().len() as u8,
+            kept,
         });
         send_all(&mut self.sends, outbox, out.messages());
         note_all(&mut self.rows, message, out.notes());

@@ -1,5 +1,6 @@
 use Rattle.std.proofs.Common.{rules, ◌≡◌, ◌+◌, [], ◌∷◌, length, pos, refl, sym, ap, ◌∙◌, subst}
 use Rattle.std.proofs.lemmas.List.{length-append}
+use Rattle.std.specs.Option.{option_copied}
 use Rattle.virtual_time.specs.Rules.{reached, rowed}
 use Rattle.virtual_time.specs.Part.{can_seal, seal_oldest}
 use Rattle.reverse.specs.Rules.{rules_of}
@@ -22,8 +23,8 @@ returns-in_err-reserve-clause-refused g c = err-gives c.from_residual.result (λ
     let v = g.R.Reversible.is_value in
     let R = of-messages g.R.Reversible.plain g.R.Actor.counter c.actor_rules.ensures.order c.actor_rules.ensures.undoes in
     let k = subst (λ q. StandsFor r v opening part q.queues) (sym c.self.view_is) h in
-    let m = c.in-Some.event.message in
-    let f = first-done r v opening part _ k c.in-Some.event (sym c.oldest.ensures ∙ c.in-Some.is) in
+    let m = c.in-Some.event.now.message in
+    let f = first-done r v opening part _ k c.in-Some.event.now (sym c.oldest.ensures ∙ ap option_copied c.in-Some.is) in
     let is_one : c.count.result ≡ pos 1 = search rules in
     ap (can_seal r part) f.1 ∙ one-left r R m part.tally c.self.inside.tally.letters k.counts (sym c.count.ensures ∙ is_one))
 
@@ -32,9 +33,9 @@ forget_oldest-noted-requires g c =
     let r = rules_of g.R.Reversible.plain g.R.Actor.counter in
     let v = g.R.Reversible.is_value in
     let i = c.self.invariant in
-    let f = first-done r v i.0 i.1 _ i.2 c.in-Some.event (sym c.oldest.ensures ∙ c.in-Some.is) in
+    let f = first-done r v i.0 i.1 _ i.2 c.in-Some.event.now (sym c.oldest.ensures ∙ ap option_copied c.in-Some.is) in
     let b = reached r i.0 (i.1).committed in
-    (b, f.0, c.in-Some.event.message, rowed r i.0 (i.1).committed, subst (λ ms. IsPastOf r v b ms (rowed r i.0 (i.1).committed) c.self.inside.past) f.1 (i.2).past.past_of)
+    (b, f.0, c.in-Some.event.now.message, rowed r i.0 (i.1).committed, subst (λ ms. IsPastOf r v b ms (rowed r i.0 (i.1).committed) c.self.inside.past) f.1 (i.2).past.past_of)
 
 pub returns-clause-sealed : goal.returns-clause-sealed
 returns-clause-sealed g c opening part h =
@@ -42,8 +43,8 @@ returns-clause-sealed g c opening part h =
     let v = g.R.Reversible.is_value in
     let R = of-messages g.R.Reversible.plain g.R.Actor.counter c.actor_rules.ensures.order c.actor_rules.ensures.undoes in
     let k = subst (λ q. StandsFor r v opening part q.queues) (sym c.self.view_is) h in
-    let m = c.in-Some.event.message in
-    let f = first-done r v opening part _ k c.in-Some.event (sym c.oldest.ensures ∙ c.in-Some.is) in
+    let m = c.in-Some.event.now.message in
+    let f = first-done r v opening part _ k c.in-Some.event.now (sym c.oldest.ensures ∙ ap option_copied c.in-Some.is) in
     let b = reached r opening part.committed in
     let p = subst (λ ms. IsPastOf r v b ms (rowed r opening part.committed) c.self.inside.past) f.1 k.past.past_of in
     let is_one : c.count.result ≡ pos 1 = search rules in
