@@ -67,9 +67,8 @@ impl<R: Actor + Drop> ActorWorld<R> {
     {
         actor_rules::<R>();
         let count = actors.len() as u16;
-        let mut letters = plus_letters(alloc, offers)?;
-        let mut mail = Mail::new(alloc, count)?;
-        mail.post(&mut letters)?;
+        let letters = plus_letters(alloc, offers)?;
+        let mail = Mail::with_letters(alloc, count, &letters)?;
         let floors = Floors::new(alloc, count, until)?;
         let processes = processes_of(alloc, actors)?;
         Ok(ActorWorld {
