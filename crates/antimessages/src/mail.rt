@@ -7,7 +7,7 @@ ghost use Rattle.antimessages.specs.Mailing.{letters_for, room_for, HasRoom};
 use crate::ends::take_at;
 use crate::fault::OutOfMemory;
 use crate::outbox::Outbox;
-use crate::posting::{put_all, reserve_all};
+use crate::posting::{push_all, put_all, reserve_all};
 use std::alloc::Global;
 use std::collections::VecDeque;
 use std::marker::Model;
@@ -40,6 +40,18 @@ impl Mail {
         for process in 0..processes {
             boxes.push_reserved(VecDeque::new(alloc));
         }
+        Ok(Mail { boxes })
+    }
+
+    /// The mail of so many processes to which the letters of the outbox were posted. Its time goes by the number of letters, however many
+    /// they are; `post` is made for the few letters of one event.
+    pub fn with_letters(alloc: Global, processes: u16, outbox: &Outbox) -> Result<Self, OutOfMemory>
+        requires { All (λ letter. letter.message.receiver < processes) outbox.now.letters }
+        ensures processes { IfOk result (λ mail. length mail ≡ processes) }
+        ensures letters { IfOk result (λ mail. (p : ℕ) → letters_for p mail ≡ received_by message_rules p outbox.now.letters) }
+    {
+        let Mail { mut boxes } = Mail::new(alloc, processes)?;
+        push_all(&mut boxes, &outbox.letters)?;
         Ok(Mail { boxes })
     }
 

@@ -1,5 +1,5 @@
 //! Room for letters with their receivers, and the letters put there.
-ghost use Rattle.std.specs.Prelude.{◌≡◌, ℕ, ◌+◌, ◌<◌, ◌≤◌, ◌==◌, ◌++◌, nat_lt, length, map, filter, All, IsOk, OnOk, OnErr};
+ghost use Rattle.std.specs.Prelude.{◌≡◌, ℕ, [], ◌∷◌, ◌+◌, ◌<◌, ◌≤◌, ◌==◌, ◌++◌, nat_lt, length, map, filter, All, IsOk, OnOk, OnErr};
 ghost use Rattle.std.specs.List.{list_all};
 ghost use Rattle.std.specs.VecDeque.{deque_len, deque_capacity};
 ghost use Rattle.virtual_time.specs.Letters.{received_by};
@@ -116,4 +116,30 @@ pub(crate) fn put_all(boxes: &mut Vec<VecDeque<Letter>>, letters: &[Letter])
     for letter in letters {
         boxes[usize::from(letter.message.receiver)].push_back_reserved(*letter);
     }
+}
+
+/// Each letter goes to the back of the mail of its receiver, in order, and room for it is made there. Unlike `reserve_all` and `put_all`
+/// this takes a time by the number of letters alone; but a refusal leaves some of the letters there.
+pub(crate) fn push_all(
+    boxes: &mut Vec<VecDeque<Letter>>,
+    letters: &[Letter],
+) -> Result<(), AllocError>
+    requires { All (λ letter. letter.message.receiver < length boxes.old.items) letters.now }
+    ensures put { OnOk result ((p : ℕ) → letters_for p (map store_of boxes.new.items)
+        ≡ letters_for p (map store_of boxes.old.items) ++ received_by message_rules p (map signed letters.now)) }
+    ensures processes { length boxes.new.items ≡ length boxes.old.items }
+{
+    for letter in letters {
+        push(&mut boxes[usize::from(letter.message.receiver)], *letter)?;
+    }
+    Ok(())
+}
+
+/// The item goes to the back of the queue.
+fn push<T: Copy>(queue: &mut VecDeque<T>, item: T) -> Result<(), AllocError>
+    ensures { OnOk result (queue.new.items ≡ queue.old.items ++ item ∷ []) }
+{
+    queue.reserve(1)?;
+    queue.push_back_reserved(item);
+    Ok(())
 }

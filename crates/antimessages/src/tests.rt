@@ -208,3 +208,20 @@ fn a_reserved_outbox_is_posted_without_memory(rt: HostRuntime) {
     assert_eq!(rt; posted, Ok(()));
     assert_eq!(rt; mail.count(1), 2);
 }
+
+#[test]
+fn mail_can_be_made_with_letters(rt: HostRuntime) {
+    let mut outbox = Outbox::new(rt.alloc());
+    push(&rt, &mut outbox, letter(&rt, 10, 1, Sign::Plus));
+    push(&rt, &mut outbox, letter(&rt, 20, 0, Sign::Plus));
+    push(&rt, &mut outbox, letter(&rt, 30, 1, Sign::Minus));
+    assert!(rt; outbox.goes_within(2));
+    let mail = match Mail::with_letters(rt.alloc(), 2, &outbox) {
+        Ok(mail) => mail,
+        Err(OutOfMemory) => {
+            Mail::with_letters(rt.alloc(), 2, &outbox).expect(&rt, "memory at the second try")
+        }
+    };
+    assert_eq!(rt; (mail.count(0), mail.count(1)), (1, 2));
+    assert_eq!(rt; mail.look(1, 1), Some(letter(&rt, 30, 1, Sign::Minus)));
+}

@@ -1,7 +1,12 @@
 -- Events earlier than GVT are committed, one after another, the oldest first.
-use Rattle.std.specs.Prelude.{ℕ, zero, suc, Bool, false, ◌&&◌, if◌then◌else◌, nat_lt, List, [], ◌∷◌}
+use Rattle.std.specs.Prelude.{ℕ, zero, suc, Bool, false, ◌&&◌, if◌then◌else◌, nat_lt, List, [], ◌∷◌, Option, Some, None}
 use Rattle.virtual_time.specs.Rules.{Rules}
 use Rattle.virtual_time.specs.Part.{Part, can_seal, seal_oldest}
+
+-- the moment, if there is one, is earlier than another
+abbrev pub is_moment_before : ℕ → Option ℕ → Bool
+is_moment_before g None = false
+is_moment_before g (Some t) = nat_lt t g
 
 module _ {M S K N : Type 0} (r : Rules M S K N) where
   -- the oldest of these done events is earlier than g

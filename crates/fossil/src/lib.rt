@@ -4,4 +4,4 @@
 
 mod collection;
 
-pub use collection::commit;
+pub use collection::{commit, commit_oldest};

@@ -1,6 +1,6 @@
 -- The last of a list are taken, one after another.
 use Rattle.std.proofs.Common.{◌≡◌, ℕ, zero, suc, ◌+◌, ◌<◌, List, [], ◌∷◌, ◌++◌, map, reverse, take, drop, length, get_or, refl, sym, ap, ◌∙◌, arith, append_assoc, Result, Ok, Err, OnOk}
-use Rattle.std.specs.Prelude.{IsOk}
+use Rattle.std.specs.Prelude.{IsOk, OnErr}
 use Rattle.std.proofs.lemmas.List.{map-append, reverse-append}
 use Rattle.std.proofs.Math.Seq.{drop-cons}
 
@@ -40,6 +40,11 @@ split-last (x ∷ (y ∷ ys)) h = let k = split-last (y ∷ ys) (omega arith) in
 pub ok-gives : {T E P : Type 0} (r : Result T E) → IsOk r → OnOk r P → P
 ok-gives (Ok x) i p = p
 ok-gives (Err e) i p = cc
+
+-- what holds at all holds where a call is refused
+pub err-gives : {T E P : Type 0} (r : Result T E) → P → OnErr r P
+err-gives (Ok x) p = tt
+err-gives (Err e) p = p
 
 -- one more from the front
 pub take-next : {A : Type 0} (xs : List A) (i : ℕ) → take i xs ++ take 1 (drop i xs) ≡ take (i + 1) xs

@@ -1,5 +1,5 @@
 //! What a process does alone: letters arrive, messages are handled, events are committed, and all is undone.
-ghost use Rattle.std.specs.Prelude.{◌≡◌, ◌≢◌, ◌+◌, ◌<◌, ◌≤◌, ◌↔◌, ◌⊎◌, ℕ, ◌++◌, [], ◌∷◌, false, true, length, drop, All, map, IsTrue, IsSome, MatchOption, OnOk, OnErr, IfOk, IfErr, slice_get, Some};
+ghost use Rattle.std.specs.Prelude.{◌≡◌, ◌≢◌, ◌+◌, ◌<◌, ◌≤◌, ◌↔◌, ◌⊎◌, ℕ, ◌++◌, [], ◌∷◌, false, true, length, drop, All, map, IsTrue, IsSome, None, Ok, MatchOption, OnOk, OnErr, IfOk, IfErr, slice_get, Some};
 ghost use Rattle.std.specs.VecDeque.{deque_len};
 ghost use Rattle.vlink.specs.declared.message.Message.{Message};
 ghost use Rattle.vlink.specs.declared.message.Letter.{Letter as Posted};
@@ -20,9 +20,9 @@ use crate::fault::ProcFault;
 use crate::past::Past;
 use crate::process::Process;
 use antimessages::{Change, Mail, Tally};
-use reverse::{Actor, actor_rules};
+use reverse::{Actor, Outbound, actor_rules};
 use std::collections::VecDeque;
-use vlink::{Letter, Message};
+use vlink::{Letter, Message, Time};
 
 impl<R: Actor> Process<R> {
     /// The front letter of the tray is counted. Where its message became present or absent by that, every done event that does not come
@@ -60,6 +60,27 @@ impl<R: Actor> Process<R> {
         ensures tray { self.new.queues.tray ≡ self.old.queues.tray }
         ensures exhausted { (result ≡ Err Exhausted) ↔
             IsSome (next_in self.old.queues) × (greatest_number < R.counter self.old.queues.past.state + 24) }
+        ensures idle { result ≡ Ok None → self.new.queues ≡ self.old.queues }
+        ensures refused { OnErr result ((opening : R) (part : Part Message R) →
+            StandsFor (rules_of R.plain R.counter) R.is_value opening part self.old.queues → IsSome (next_of (rules_of R.plain R.counter) part)) }
+        ensures unchanged { OnErr result (self.new.queues ≡ self.old.queues) }
+    {
+        let mut out = Outbound::new(0, Time::default(), 0);
+        self.run_with(&mut out)
+    }
+
+    /// Does what `run` does. `out` is room for what the event sends and notes: a caller that handles one event after another makes it once.
+    pub fn run_with(&mut self, out: &mut Outbound) -> Result<Option<Message>, ProcFault>
+        ensures ran { OnOk result (Does (rules_of R.plain R.counter) R.is_value (λ opening. run_one (rules_of R.plain R.counter)) self.old.queues self.new.queues) }
+        ensures handled { IfOk result (λ message. (opening : R) (part : Part Message R) →
+            StandsFor (rules_of R.plain R.counter) R.is_value opening part self.old.queues → message ≡ next_of (rules_of R.plain R.counter) part) }
+        ensures next { IfOk result (λ message. message ≡ next_in self.old.queues) }
+        ensures tray { self.new.queues.tray ≡ self.old.queues.tray }
+        ensures exhausted { (result ≡ Err Exhausted) ↔
+            IsSome (next_in self.old.queues) × (greatest_number < R.counter self.old.queues.past.state + 24) }
+        ensures idle { result ≡ Ok None → self.new.queues ≡ self.old.queues }
+        ensures refused { OnErr result ((opening : R) (part : Part Message R) →
+            StandsFor (rules_of R.plain R.counter) R.is_value opening part self.old.queues → IsSome (next_of (rules_of R.plain R.counter) part)) }
         ensures unchanged { OnErr result (self.new.queues ≡ self.old.queues) }
     {
         actor_rules::<R>();
@@ -69,7 +90,7 @@ impl<R: Actor> Process<R> {
         if !self.past.actor().has_numbers() {
             return Err(ProcFault::Exhausted);
         }
-        self.past.handle(&message, &mut self.outbox)?;
+        self.past.handle(&message, out, &mut self.outbox)?;
         Ok(Some(message))
     }
 
@@ -83,6 +104,9 @@ impl<R: Actor> Process<R> {
         ensures outbox { self.new.queues.outbox ≡ self.old.queues.outbox }
         ensures room { self.old.committed_room ≤ self.new.committed_room + 1 }
         ensures unchanged { OnErr result (self.new.queues ≡ self.old.queues) }
+        ensures idle { result ≡ Ok false → self.new.queues ≡ self.old.queues }
+        ensures refused { OnErr result ((opening : R) (part : Part Message R) →
+            StandsFor (rules_of R.plain R.counter) R.is_value opening part self.old.queues → can_seal (rules_of R.plain R.counter) part part.done ≡ true) }
         ensures reserved { OnErr result (self.old.committed_room ≡ 0) }
         ensures memory { IfErr result (λ fault. fault ≡ OutOfMemory) }
     {
@@ -129,7 +153,8 @@ impl<R: Actor> Process<R> {
     }
 }
 
-/// Whether a letter undoes nothing as it is counted: its message becomes neither present nor absent, or comes after all done events.
+/// Whether a letter undoes nothing as it is counted: its message becomes neither present nor absent, or comes after all done events. The
+/// latter is most often so, and is asked first, since it needs no count.
 fn undoes_nothing<R: Actor>(past: &Past<R>, tally: &Tally, letter: &Letter) -> bool
     ensures nothing { IsTrue result → (change_by message_rules (signed letter.now) tally.now.letters ≡ Same) ⊎
         (is_after (rules_of R.plain R.counter) (newest_of (map (λ e. e.message) past.now.done)) letter.now.message ≡ true) }

@@ -11,19 +11,20 @@ ghost use Rattle.process_queues.specs.Past.{Past, Rows, IsPastOf, handled_past, 
 
 use crate::order::is_before;
 use antimessages::{OutOfMemory, Outbox};
-use reverse::{Actor, actor_rules};
+use reverse::{Actor, Outbound, actor_rules};
 use std::alloc::Global;
 use std::collections::VecDeque;
 use std::marker::Model;
 use vlink::{Letter, Message, Note, Row, Sign, Time};
 
-/// What is kept of a done event: its message, the record by which it is undone, how many messages it sent, and how many rows it gave.
+/// What is kept of a done event: its message, how many messages it sent, how many rows it gave, and the record by which it is undone.
+/// The record, which can be large, comes last, since an event that is committed needs it no more.
 #[derive(Clone, Copy)]
 pub(crate) struct Event<K: Copy> {
     pub(crate) message: Message,
-    pub(crate) kept: K,
     pub(crate) sent: u8,
     pub(crate) noted: u8,
+    pub(crate) kept: K,
 }
 
 /// The actor with the events that it has done and not committed, oldest first, and all that they sent, in order. The rows are those of
@@ -73,10 +74,10 @@ impl<R: Actor> Past<R> {
     }
 
     /// The oldest done event, if there is one.
-    pub(crate) fn oldest(&self) -> Option<Event<R::Record>>
-        ensures { result ≡ slice_get self.now.done 0 }
+    pub(crate) fn oldest(&self) -> Option<&Event<R::Record>>
+        ensures { option_copied result ≡ slice_get self.now.done 0 }
     {
-        self.done.front().copied()
+        self.done.front()
     }
 
     /// The moment of the oldest done event, if there is one.
@@ -130,10 +131,11 @@ impl<R: Actor> Past<R> {
         }
     }
 
-    /// The actor handles the message; what it sends goes to the outbox. A refusal changes nothing.
+    /// The actor handles the message; what it sends goes to the outbox. `out` is room for what it sends and notes. A refusal changes nothing.
     pub(crate) fn handle(
         &mut self,
         message: &Message,
+        out: &mut Outbound,
         outbox: &mut Outbox,
     ) -> Result<(), OutOfMemory>
         requires { R.counter self.old.state + 24 ≤ greatest_number }
@@ -147,15 +149,15 @@ impl<R: Actor> Past<R> {
         self.sends.reserve(24)?;
         self.rows.reserve(2)?;
         outbox.reserve(24)?;
-        let (sends, kept) = self.actor.apply(message);
+        let kept = self.actor.handle(message, out);
         self.done.push_back_reserved(Event {
             message: *message,
+            sent: out.messages().len() as u8,
+            noted: out.notes().len() as u8,
             kept,
-            sent: sends.messages.len() as u8,
-            noted: sends.notes.len() as u8,
         });
-        send_all(&mut self.sends, outbox, sends.messages.as_slice());
-        note_all(&mut self.rows, message, sends.notes.as_slice());
+        send_all(&mut self.sends, outbox, out.messages());
+        note_all(&mut self.rows, message, out.notes());
         Ok(())
     }
 

@@ -1,5 +1,5 @@
 -- The rows of committed events, process for process, and those of the one-thread run.
-use Rattle.std.proofs.Common.{◌≡◌, ◌∙◌, ℕ, suc, ◌+◌, ◌<◌, ◌≤◌, ◌==◌, ◌⊎◌, inl, inr, Bool, true, false, cond, List, [], ◌∷◌, ◌++◌, map, filter, length, refl, sym, ap, subst, arith, append-nil, eq-eqb, ne_eqb}
+use Rattle.std.proofs.Common.{◌≡◌, ◌∙◌, ℕ, ◌+◌, ◌<◌, ◌≤◌, ◌==◌, inl, inr, Bool, true, false, cond, List, [], ◌∷◌, ◌++◌, map, length, refl, sym, ap, subst, arith, append-nil, eq-eqb, ne_eqb}
 use Rattle.std.proofs.lemmas.Bool.{cases_eq, cases_lt}
 use Rattle.std.proofs.lemmas.List.{map-append}
 use Rattle.std.proofs.lemmas.List.Elements.{filter-append}
@@ -11,7 +11,7 @@ use Rattle.virtual_time.specs.Lists.{IsIn, times_in}
 use Rattle.virtual_time.specs.Simulation.{Simulation, Laws}
 use Rattle.virtual_time.specs.OneThread.{one, rows_at}
 use Rattle.virtual_time.specs.World.{World, Step, start, run}
-use Rattle.virtual_time.specs.Safe.{IsFinished, IsWhole, history}
+use Rattle.virtual_time.specs.Safe.{IsWhole}
 use Rattle.virtual_time.proofs.Lists.{in-head, times-append}
 use Rattle.virtual_time.proofs.OneThread.{right, nothing_outside}
 use Rattle.virtual_time.proofs.Turns.{over-same}

@@ -1,5 +1,5 @@
 -- What one step more makes of the counts of a replay.
-use Rattle.std.proofs.Common.{◌≡◌, ◌∙◌, ℕ, ◌+◌, Bool, true, false, not, ◌&&◌, nat_lt, List, [], ◌∷◌, ◌++◌, map, refl, sym, ap, subst, arith}
+use Rattle.std.proofs.Common.{◌≡◌, ◌+◌, Bool, true, false, not, ◌&&◌, nat_lt, List, [], ◌∷◌, ◌++◌, map, refl, sym, ap, subst, arith}
 use Rattle.std.proofs.lemmas.Bool.{not-true}
 use Rattle.std.proofs.lemmas.List.{map-append}
 use Rattle.vlink.specs.declared.step.Step.{Step as Noted}
@@ -7,7 +7,6 @@ use Rattle.vlink.specs.declared.step.Step.TheVariants.{Take as NotedTake, Arrive
 use Rattle.virtual_time.specs.Lists.{one_if}
 use Rattle.virtual_time.specs.Simulation.{Simulation}
 use Rattle.virtual_time.specs.World.{World, is_enabled, step, run, start}
-use Rattle.netdesc.specs.Plan.{Plan}
 use Rattle.nodes.specs.Simulation.{simulation_of}
 use Rattle.timewarp.specs.declared.counting.Replay.{Replay}
 use Rattle.timewarp.specs.Steps.{step_of, names_none}

@@ -1,22 +1,22 @@
 -- The steps at which a process and the world exchange letters, Take and Post; and Gvt.
-use Rattle.std.proofs.Common.{◌≡◌, ◌≢◌, ℕ, suc, ◌+◌, ◌<◌, ◌≤◌, ◌⊎◌, inl, inr, ◌++◌, min, Bool, true, false, nat_lt, All, List, [], ◌∷◌, map, length, get_or, slice_get, remove, Option, Some, None, Result, Ok, Err, refl, sym, ap, ◌∙◌, subst, arith}
+use Rattle.std.proofs.Common.{◌≡◌, ℕ, ◌<◌, ◌≤◌, inl, inr, ◌++◌, min, true, false, All, List, [], ◌∷◌, length, slice_get, remove, Some, None, Result, Ok, Err, refl, sym, ap, ◌∙◌, subst, arith}
 use Rattle.std.specs.Option.{option_map}
 use Rattle.std.proofs.Math.ListN.{set}
-use Rattle.std.proofs.lemmas.Bool.{lt-ltb, le-ltb, cases_lt}
+use Rattle.std.proofs.lemmas.Bool.{lt-ltb, le-ltb}
 use Rattle.std.proofs.lemmas.List.{length-set}
 use Rattle.std.proofs.lemmas.List.Elements.{All-nil, All-cons}
 use Rattle.std.proofs.lemmas.Option.{slice_get_cases, slice_get_within}
 use Rattle.vlink.specs.declared.message.Message.{Message}
 use Rattle.vlink.specs.declared.note.Note.{Note}
-use Rattle.virtual_time.specs.Rules.{Rules, IsOrder, reached}
+use Rattle.virtual_time.specs.Rules.{Rules, IsOrder}
 use Rattle.virtual_time.specs.Letters.{Letter as Signed, IsNamed, received_by}
 use Rattle.virtual_time.specs.Part.{Part, delivered, emptied, floor_of}
-use Rattle.virtual_time.specs.Simulation.{Simulation, Laws, put}
-use Rattle.virtual_time.specs.World.{World, Step, start, run, is_enabled, effect, taken, posted, gvt_over}
-use Rattle.virtual_time.specs.World.Step.{Take, Arrive, Run, Post, Gvt, Commit}
+use Rattle.virtual_time.specs.Simulation.{Simulation, Laws}
+use Rattle.virtual_time.specs.World.{World, start, run, is_enabled, effect, taken, gvt_over}
+use Rattle.virtual_time.specs.World.Step.{Take, Post, Gvt}
 use Rattle.virtual_time.proofs.Letters.{named-head}
 use Rattle.virtual_time.proofs.Reading.{reached-keeps}
-use Rattle.virtual_time.proofs.Kept.{IsKept, put_elim, start-kept}
+use Rattle.virtual_time.proofs.Kept.{put_elim, start-kept}
 use Rattle.virtual_time.proofs.KeptRun.{run-kept}
 use Rattle.antimessages.specs.Letters.{Store}
 use Rattle.antimessages.specs.Mailing.{letters_for}
@@ -28,7 +28,7 @@ use Rattle.timewarp.specs.declared.done.Done.TheVariants.{Did, NotEnabled}
 use Rattle.timewarp.specs.declared.fault.StepFault.{StepFault}
 use Rattle.timewarp.specs.Faults.{fault_of}
 use Rattle.seqsim.specs.Running.{Setting, simulation_of, IsLaidOut}
-use Rattle.timewarp.specs.Worlds.{Held, StandsForWorld, HoldsTheSame, AtEachWorld, IsAWorld}
+use Rattle.timewarp.specs.Worlds.{Held, StandsForWorld, AtEachWorld, IsAWorld}
 use Rattle.timewarp.specs.Stepping.{IsStepped}
 use Rattle.timewarp.proofs.Holding.{process-within, parts-set, when-did, when-not_enabled, when-no_memory, the_same, the_same-when}
 

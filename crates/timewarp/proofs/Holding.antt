@@ -1,5 +1,5 @@
 -- What one step leaves, by its answer; and what is held when one process is another.
-use Rattle.std.proofs.Common.{◌≡◌, ◌≢◌, ℕ, ◌<◌, ◌≤◌, ◌⊎◌, inl, inr, true, false, List, [], ◌∷◌, map, length, get_or, slice_get, Option, Some, None, Result, Ok, Err, refl, sym, ap, ◌∙◌, subst, arith, eq-eqb, ne_eqb}
+use Rattle.std.proofs.Common.{◌≡◌, ℕ, ◌<◌, ◌⊎◌, inl, inr, true, false, List, map, length, get_or, slice_get, Some, Result, Ok, Err, refl, sym, ap, ◌∙◌, subst, arith, eq-eqb, ne_eqb}
 use Rattle.std.proofs.Math.ListN.{set}
 use Rattle.std.proofs.Math.Seq.{map-set_same}
 use Rattle.std.proofs.lemmas.Bool.{cases_eq}
@@ -11,14 +11,12 @@ use Rattle.vlink.specs.declared.note.Note.{Note}
 use Rattle.virtual_time.specs.Rules.{Rules}
 use Rattle.virtual_time.specs.Part.{Part}
 use Rattle.virtual_time.specs.Simulation.{Simulation, put}
-use Rattle.virtual_time.specs.World.{World, Step, start, run, is_enabled, effect, with_part}
-use Rattle.antimessages.specs.Letters.{Store}
-use Rattle.process_queues.specs.Queues.{Queues, InHand, StandsFor, Does}
+use Rattle.virtual_time.specs.World.{World, Step, is_enabled, effect, with_part}
+use Rattle.process_queues.specs.Queues.{Queues, InHand, StandsFor}
 use Rattle.timewarp.specs.declared.done.Done.{Done}
 use Rattle.timewarp.specs.declared.done.Done.TheVariants.{Did, NotEnabled}
 use Rattle.timewarp.specs.declared.fault.StepFault.{StepFault}
-use Rattle.timewarp.specs.declared.fault.StepFault.TheVariants.{NoProcess, OutOfMemory, Exhausted}
-use Rattle.seqsim.specs.Running.{Setting, simulation_of, IsLaidOut}
+use Rattle.timewarp.specs.declared.fault.StepFault.TheVariants.{OutOfMemory, Exhausted}
 use Rattle.timewarp.specs.Worlds.{Held, StandsForWorld, HoldsTheSame, IsExhausted, AtEachWorld}
 use Rattle.timewarp.specs.Stepping.{IsStepped}
 

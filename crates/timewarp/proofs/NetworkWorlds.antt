@@ -1,9 +1,7 @@
 -- What is held of a world of a network, and what a step makes of it.
-use Rattle.std.proofs.Common.{◌≡◌, ◌≢◌, ◌↔◌, ◌∙◌, ◌++◌, ℕ, ◌<◌, ◌≤◌, ◌⊎◌, inl, inr, true, List, [], ◌∷◌, Result, Ok, Err, OnOk, OnErr, IfOk, length, refl, sym, ap, subst, arith}
+use Rattle.std.proofs.Common.{◌≡◌, ◌≢◌, ◌↔◌, ◌++◌, ℕ, ◌<◌, ◌≤◌, inl, inr, true, List, [], ◌∷◌, Result, Ok, Err, OnOk, OnErr, IfOk, length, refl, sym, ap, subst, arith}
 use Rattle.std.specs.Prelude.{is_ok, Option, Some, None, IfSome, IsNone}
 use Rattle.std.proofs.lemmas.Bool.{false≢true, cases_lt}
-use Rattle.vlink.specs.declared.message.Message.{Message}
-use Rattle.virtual_time.specs.Rules.{reached}
 use Rattle.virtual_time.specs.Simulation.{Simulation}
 use Rattle.virtual_time.specs.OneThread.{IsLeft}
 use Rattle.virtual_time.specs.Part.{undo_all}

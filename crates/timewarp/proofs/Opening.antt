@@ -1,5 +1,5 @@
 -- The world at the start: processes that have done nothing, and the offers in the mail.
-use Rattle.std.proofs.Common.{◌≡◌, ℕ, suc, ◌+◌, ◌<◌, ◌++◌, All, List, [], ◌∷◌, map, length, slice_get, Option, Some, None, refl, sym, ap, ◌∙◌, subst, arith}
+use Rattle.std.proofs.Common.{◌≡◌, ℕ, suc, ◌<◌, All, List, [], ◌∷◌, map, length, slice_get, Some, sym, ap, ◌∙◌, subst, arith}
 use Rattle.std.specs.Option.{option_map}
 use Rattle.std.proofs.lemmas.List.{length-map}
 use Rattle.std.proofs.lemmas.List.Elements.{All-nil, All-cons}
@@ -16,8 +16,8 @@ use Rattle.antimessages.specs.Letters.{Store}
 use Rattle.antimessages.specs.Mailing.{letters_for}
 use Rattle.process_queues.specs.Queues.{Queues, StandsFor}
 use Rattle.process_queues.proofs.Standing.{opened-stands}
-use Rattle.seqsim.specs.Running.{Setting, simulation_of, Opens, IsLaidOut}
-use Rattle.timewarp.specs.Worlds.{Held, opened_queues, StandsForWorld, CanOpen}
+use Rattle.seqsim.specs.Running.{Setting, simulation_of, Opens}
+use Rattle.timewarp.specs.Worlds.{opened_queues, StandsForWorld, CanOpen}
 
 -- messages to processes of which there are so many
 messages-go : {S K : Type 0} (r : Rules Message S K Note) (O : IsOrder r) (n : ℕ) (ms : List Message) → ((m : Message) → IsIn r m ms → r.receiver m < n) →

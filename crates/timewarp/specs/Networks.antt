@@ -1,5 +1,5 @@
 -- The worlds of a network: what its simulation makes of steps, when a program holds such a world, and the rows that are committed in one.
-use Rattle.std.specs.Prelude.{◌≡◌, ℕ, ◌<◌, List, [], map}
+use Rattle.std.specs.Prelude.{◌≡◌, ℕ, List, map}
 use Rattle.vlink.specs.declared.message.Message.{Message}
 use Rattle.vlink.specs.declared.note.Row.{Row as Noted}
 use Rattle.virtual_time.specs.Rules.{rowed}

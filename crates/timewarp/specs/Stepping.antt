@@ -1,5 +1,5 @@
 -- What one step does to what is held of a world.
-use Rattle.std.specs.Prelude.{◌≡◌, ◌≢◌, ℕ, Bool, true, false, nat_lt, Option, Some, None, Result, Ok, Err}
+use Rattle.std.specs.Prelude.{◌≡◌, ◌≢◌, ℕ, true, false, Result, Ok, Err}
 use Rattle.vlink.specs.declared.message.Message.{Message}
 use Rattle.vlink.specs.declared.note.Note.{Note}
 use Rattle.virtual_time.specs.Rules.{Rules}
@@ -9,11 +9,6 @@ use Rattle.timewarp.specs.declared.done.Done.TheVariants.{Did, NotEnabled}
 use Rattle.timewarp.specs.declared.fault.StepFault.{StepFault}
 use Rattle.timewarp.specs.declared.fault.StepFault.TheVariants.{NoProcess, OutOfMemory, Exhausted}
 use Rattle.timewarp.specs.Worlds.{Held, StandsForWorld, HoldsTheSame, IsExhausted, AtEachWorld}
-
--- the moment, if there is one, is earlier than another
-abbrev pub is_moment_before : ℕ → Option ℕ → Bool
-is_moment_before g None = false
-is_moment_before g (Some t) = nat_lt t g
 
 module _ {S K : Type 0} (r : Rules Message S K Note) (number end : S → ℕ) (is_placed : S → Type 0) (is_value : S → Message → Type 0) where
   -- the step of a process that there is was answered so, and left this

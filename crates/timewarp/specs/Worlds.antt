@@ -1,5 +1,5 @@
 -- What a program holds of a world, and when that stands for a world of the law of virtual time.
-use Rattle.std.specs.Prelude.{◌≡◌, ℕ, ◌+◌, ◌<◌, List, [], map, length, slice_get, Some, IsSome}
+use Rattle.std.specs.Prelude.{◌≡◌, ℕ, ◌+◌, ◌<◌, List, [], length, slice_get, Some, IsSome}
 use Rattle.vlink.specs.declared.message.Message.{Message}
 use Rattle.vlink.specs.declared.note.Note.{Note}
 use Rattle.vlink.specs.Numbering.{greatest_number}
@@ -7,7 +7,7 @@ use Rattle.virtual_time.specs.Rules.{Rules}
 use Rattle.virtual_time.specs.Part.{next_of}
 use Rattle.virtual_time.specs.Simulation.{Simulation}
 use Rattle.virtual_time.specs.World.{World, Step, start, run}
-use Rattle.virtual_time.specs.World.Step.{Take, Arrive, Run, Post, Gvt, Commit}
+use Rattle.virtual_time.specs.World.Step.{Run}
 use Rattle.antimessages.specs.Letters.{Store}
 use Rattle.antimessages.specs.Mailing.{letters_for}
 use Rattle.process_queues.specs.Queues.{Queues, StandsFor}

@@ -9,7 +9,7 @@ ghost use Rattle.timewarp.specs.declared.done.Done.TheVariants.{Did, NotEnabled}
 ghost use Rattle.timewarp.specs.declared.fault.StepFault.TheVariants.{NoProcess, OutOfMemory, Exhausted};
 ghost use Rattle.timewarp.specs.Steps.{step_of, names_none};
 ghost use Rattle.timewarp.specs.Worlds.{StandsForWorld, HoldsTheSame, IsExhausted, AtEachWorld, IsAWorld};
-ghost use Rattle.timewarp.specs.Stepping.{IsStepped, is_moment_before};
+ghost use Rattle.timewarp.specs.Stepping.{IsStepped};
 
 use crate::actors::ActorWorld;
 use crate::done::Done;
@@ -17,8 +17,7 @@ use crate::fault::StepFault;
 use gvt::{gvt_law, horizon};
 use reverse::Actor;
 use seqsim::actor_laws;
-use virtual_time::headline;
-use vlink::{Letter, Message, Note, Step, Time};
+use vlink::{Letter, Note, Step, Time};
 
 impl<R: Actor> ActorWorld<R> {
     /// Does one step. What is held for a world is afterwards what the step makes of that world; a step that is not enabled, and one that
@@ -103,10 +102,9 @@ impl<R: Actor> ActorWorld<R> {
         requires there { process < length self.old.processes }
         ensures { IsStepped (rules_of R.plain R.counter) R.number R.end R.is_placed R.is_value (Run process) self.old self.new result }
     {
-        if self.processes[usize::from(process)].next().is_none() {
+        let Some(_message) = self.processes[usize::from(process)].run_with(&mut self.out)? else {
             return Ok(Done::NotEnabled);
-        }
-        self.processes[usize::from(process)].run()?;
+        };
         Ok(Done::Did)
     }
 
@@ -134,18 +132,16 @@ impl<R: Actor> ActorWorld<R> {
         Done::Did
     }
 
-    /// The process's oldest done event is committed, if it is earlier than GVT.
+    /// The process's oldest done event is committed, if it is earlier than GVT and its signed count is 1.
     fn commit(&mut self, process: u16) -> Result<Done, StepFault>
         requires world { IsAWorld (rules_of R.plain R.counter) R.number R.end R.is_placed R.is_value self.old }
         requires there { process < length self.old.processes }
         ensures { IsStepped (rules_of R.plain R.counter) R.number R.end R.is_placed R.is_value (Commit process) self.old self.new result }
     {
-        actor_laws::<R>();
-        headline::<Message, R, R::Record, Note>();
-        if !is_early(self.processes[usize::from(process)].oldest(), self.gvt) {
+        let committed = fossil::commit_oldest(&mut self.processes[usize::from(process)], self.gvt)?;
+        if !committed {
             return Ok(Done::NotEnabled);
         }
-        fossil::commit(&mut self.processes[usize::from(process)], self.gvt, 1)?;
         Ok(Done::Did)
     }
 }
@@ -155,14 +151,4 @@ fn time_of(letter: &Letter) -> Time
     ensures { result ≡ (signed letter.now).message.time }
 {
     letter.message.time
-}
-
-/// Whether there is a moment, and it is earlier than another.
-fn is_early(moment: Option<Time>, limit: Time) -> bool
-    ensures { result ≡ is_moment_before limit moment }
-{
-    match moment {
-        Some(moment) => moment < limit,
-        None => false,
-    }
 }

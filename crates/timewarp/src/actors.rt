@@ -18,7 +18,7 @@ use crate::fault::StepFault;
 use antimessages::{Mail, Outbox};
 use gvt::Floors;
 use process_queues::Process;
-use reverse::{Actor, actor_rules};
+use reverse::{Actor, Outbound, actor_rules};
 use std::alloc::Global;
 use std::marker::Model;
 use vlink::{Letter, Message, Row, Sign, Time};
@@ -30,6 +30,8 @@ pub(crate) struct ActorWorld<R: Actor> {
     pub(crate) mail: Mail,
     pub(crate) floors: Floors,
     pub(crate) gvt: Time,
+    /// Room for what one event sends and notes.
+    pub(crate) out: Outbound,
 }
 
 impl<R: Actor> Model for ActorWorld<R> {
@@ -65,9 +67,8 @@ impl<R: Actor + Drop> ActorWorld<R> {
     {
         actor_rules::<R>();
         let count = actors.len() as u16;
-        let mut letters = plus_letters(alloc, offers)?;
-        let mut mail = Mail::new(alloc, count)?;
-        mail.post(&mut letters)?;
+        let letters = plus_letters(alloc, offers)?;
+        let mail = Mail::with_letters(alloc, count, &letters)?;
         let floors = Floors::new(alloc, count, until)?;
         let processes = processes_of(alloc, actors)?;
         Ok(ActorWorld {
@@ -75,6 +76,7 @@ impl<R: Actor + Drop> ActorWorld<R> {
             mail,
             floors,
             gvt: Time::default(),
+            out: Outbound::new(0, until, 0),
         })
     }
 

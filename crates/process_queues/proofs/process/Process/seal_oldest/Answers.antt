@@ -1,5 +1,6 @@
 use Rattle.std.proofs.Common.{rules, ◌≡◌, ◌+◌, [], ◌∷◌, length, pos, refl, sym, ap, ◌∙◌, subst}
 use Rattle.std.proofs.lemmas.List.{length-append}
+use Rattle.std.specs.Option.{option_copied}
 use Rattle.virtual_time.specs.Rules.{reached, rowed}
 use Rattle.virtual_time.specs.Part.{can_seal, seal_oldest}
 use Rattle.reverse.specs.Rules.{rules_of}
@@ -10,19 +11,31 @@ use Rattle.process_queues.specs.Queues.{StandsFor}
 use Rattle.process_queues.proofs.Counting.{of-messages, one-left, counts-less}
 use Rattle.process_queues.proofs.Reading.{first-done}
 use Rattle.process_queues.proofs.Standing.{sealed-stands}
+use Rattle.process_queues.proofs.Taking.{err-gives}
 use Rattle.process_queues.proofs.process.Process.seal_oldest.Goals as goal
 
 pub invariant_of-self : goal.invariant_of-self
 invariant_of-self g c = rw c.in_err-reserve.ensures.items c.self.invariant
+
+pub returns-in_err-reserve-clause-refused : goal.returns-in_err-reserve-clause-refused
+returns-in_err-reserve-clause-refused g c = err-gives c.from_residual.result (λ opening part h.
+    let r = rules_of g.R.Reversible.plain g.R.Actor.counter in
+    let v = g.R.Reversible.is_value in
+    let R = of-messages g.R.Reversible.plain g.R.Actor.counter c.actor_rules.ensures.order c.actor_rules.ensures.undoes in
+    let k = subst (λ q. StandsFor r v opening part q.queues) (sym c.self.view_is) h in
+    let m = c.in-Some.event.now.message in
+    let f = first-done r v opening part _ k c.in-Some.event.now (sym c.oldest.ensures ∙ ap option_copied c.in-Some.is) in
+    let one : signed_count message_rules m c.self.inside.tally.letters ≡ pos 1 = c.if-not-has_one.ensures.0 refl in
+    ap (can_seal r part) f.1 ∙ one-left r R m part.tally c.self.inside.tally.letters k.counts one)
 
 pub forget_oldest-noted-requires : goal.forget_oldest-noted-requires
 forget_oldest-noted-requires g c =
     let r = rules_of g.R.Reversible.plain g.R.Actor.counter in
     let v = g.R.Reversible.is_value in
     let i = c.self.invariant in
-    let f = first-done r v i.0 i.1 _ i.2 c.in-Some.event (sym c.oldest.ensures ∙ c.in-Some.is) in
+    let f = first-done r v i.0 i.1 _ i.2 c.in-Some.event.now (sym c.oldest.ensures ∙ ap option_copied c.in-Some.is) in
     let b = reached r i.0 (i.1).committed in
-    (b, f.0, c.in-Some.event.message, rowed r i.0 (i.1).committed, subst (λ ms. IsPastOf r v b ms (rowed r i.0 (i.1).committed) c.self.inside.past) f.1 (i.2).past.past_of)
+    (b, f.0, c.in-Some.event.now.message, rowed r i.0 (i.1).committed, subst (λ ms. IsPastOf r v b ms (rowed r i.0 (i.1).committed) c.self.inside.past) f.1 (i.2).past.past_of)
 
 pub returns-clause-sealed : goal.returns-clause-sealed
 returns-clause-sealed g c opening part h =
@@ -30,8 +43,8 @@ returns-clause-sealed g c opening part h =
     let v = g.R.Reversible.is_value in
     let R = of-messages g.R.Reversible.plain g.R.Actor.counter c.actor_rules.ensures.order c.actor_rules.ensures.undoes in
     let k = subst (λ q. StandsFor r v opening part q.queues) (sym c.self.view_is) h in
-    let m = c.in-Some.event.message in
-    let f = first-done r v opening part _ k c.in-Some.event (sym c.oldest.ensures ∙ c.in-Some.is) in
+    let m = c.in-Some.event.now.message in
+    let f = first-done r v opening part _ k c.in-Some.event.now (sym c.oldest.ensures ∙ ap option_copied c.in-Some.is) in
     let b = reached r opening part.committed in
     let p = subst (λ ms. IsPastOf r v b ms (rowed r opening part.committed) c.self.inside.past) f.1 k.past.past_of in
     let one : signed_count message_rules m c.self.inside.tally.letters ≡ pos 1 = c.has_one.ensures.0 (search rules) in

@@ -1,4 +1,4 @@
-use Rattle.std.proofs.Common.{◌≡◌, ◌↔◌, ◌∙◌, ◌+◌, ℕ, suc, Bool, List, [], All, IsTrue, sym, subst, arith}
+use Rattle.std.proofs.Common.{◌≡◌, ◌↔◌, ◌+◌, ℕ, suc, Bool, List, [], All, IsTrue, subst, arith}
 use Rattle.virtual_time.specs.Safe.{IsFinished}
 use Rattle.virtual_time.specs.World.{Step}
 use Rattle.nodes.specs.NodeUndoing.{IsNodeValue}

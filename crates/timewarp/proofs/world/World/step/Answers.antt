@@ -1,9 +1,8 @@
-use Rattle.std.proofs.Common.{◌≡◌, ◌↔◌, ◌++◌, true, List, [], ◌∷◌, Err, OnOk, OnErr, IfOk, subst}
+use Rattle.std.proofs.Common.{◌≡◌, ◌↔◌, ◌++◌, true, List, [], ◌∷◌, OnOk, OnErr, IfOk, subst}
 use Rattle.virtual_time.specs.World.{Step, is_enabled}
 use Rattle.nodes.specs.Simulation.{simulation_of}
 use Rattle.seqsim.specs.Networks.{setting_of}
 use Rattle.timewarp.specs.declared.done.Done.TheVariants.{Did}
-use Rattle.timewarp.specs.declared.fault.StepFault.TheVariants.{OutOfMemory, Exhausted}
 use Rattle.timewarp.specs.Steps.{step_of}
 use Rattle.timewarp.specs.Worlds.{IsExhausted}
 use Rattle.timewarp.specs.Networks.{NetworkWorld, after, IsAfter}

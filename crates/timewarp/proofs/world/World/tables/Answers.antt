@@ -1,9 +1,8 @@
-use Rattle.std.proofs.Common.{◌≡◌, ◌∙◌, List, sym, ap, subst}
+use Rattle.std.proofs.Common.{◌∙◌, List, sym, ap, subst}
 use Rattle.vlink.specs.declared.note.Row.{Row as Noted}
 use Rattle.virtual_time.specs.Simulation.{Laws}
 use Rattle.virtual_time.specs.Safe.{IsFinished, IsWhole}
 use Rattle.virtual_time.specs.World.{Step}
-use Rattle.netdesc.specs.Plan.{Plan}
 use Rattle.nodes.specs.Simulation.{simulation_of}
 use Rattle.trace_tables.specs.Tables.{tables_of}
 use Rattle.seqsim.specs.Networks.{AreRowsOf}

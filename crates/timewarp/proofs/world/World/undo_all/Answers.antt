@@ -1,4 +1,4 @@
-use Rattle.std.proofs.Common.{◌≡◌, ◌<◌, List, length, subst, sym, arith}
+use Rattle.std.proofs.Common.{◌≡◌, List, length, subst}
 use Rattle.std.specs.Prelude.{IfSome}
 use Rattle.virtual_time.specs.OneThread.{IsLeft}
 use Rattle.virtual_time.specs.Part.{undo_all}

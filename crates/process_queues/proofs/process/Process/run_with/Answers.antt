@@ -4,7 +4,7 @@ use Rattle.reverse.specs.Rules.{rules_of}
 use Rattle.process_queues.specs.Queues.{StandsFor}
 use Rattle.process_queues.proofs.Counting.{of-messages}
 use Rattle.process_queues.proofs.Standing.{ran-stands}
-use Rattle.process_queues.proofs.process.Process.run.Goals as goal
+use Rattle.process_queues.proofs.process.Process.run_with.Goals as goal
 
 pub invariant_of-self : goal.invariant_of-self
 invariant_of-self g c = rw (c.in_err-handle.ensures.unchanged, c.in_err-handle.ensures.kept) c.self.invariant

@@ -1,0 +1,37 @@
+use Rattle.std.proofs.Common.{◌<◌, ◌++◌, length, map, refl, sym, ap, ◌∙◌, append-nil, arith}
+use Rattle.std.proofs.Math.ListN.{length-set}
+use Rattle.std.proofs.lemmas.List.{take_all}
+use Rattle.virtual_time.specs.Letters.{received_by}
+use Rattle.antimessages.specs.Letters.{message_rules, signed}
+use Rattle.antimessages.specs.Mailing.{letters_for, store_of}
+use Rattle.antimessages.proofs.Boxes.{receiver-within, put-letters}
+use Rattle.antimessages.proofs.posting.push_all.Goals as goal
+
+pub loop-letter-init : goal.loop-letter-init
+loop-letter-init c = record { processes = refl; put = λ p. sym (append-nil _) }
+
+pub index_mut-requires : goal.index_mut-requires
+index_mut-requires c =
+    let within = receiver-within c.args.letters.now _ c.requires c.loop-letter.letter-index c.letter-item.result c.loop-letter-test.true c.letter-item.is in
+    omega (arith, c.from.ensures, c.loop-letter.invariant.processes, c.loop-letter.boxes.ok.0)
+
+pub loop-letter-preserved : goal.loop-letter-preserved
+loop-letter-preserved c =
+    let boxes = c.loop-letter.boxes.items in
+    let i = c.from.result in
+    let old = c.index_mut.result.now in
+    let new = c.push.new.queue in
+    let inv = c.loop-letter.invariant in
+    let within = receiver-within c.args.letters.now _ c.requires c.loop-letter.letter-index c.letter-item.result c.loop-letter-test.true c.letter-item.is in
+    let h : i < length boxes = omega (arith, c.from.ensures, inv.processes) in
+    record {
+      processes = length-set boxes i new ∙ inv.processes;
+      put = put-letters boxes i old new h c.index_mut.ensures.value
+          c.args.letters.now c.loop-letter.letter-index c.letter-item.result c.loop-letter-test.true c.letter-item.is c.from.ensures
+          c.args.boxes.now.items c.in_ok-push.ensures inv.put;
+    }
+
+pub returns-clause-put : goal.returns-clause-put
+returns-clause-put c = λ p.
+    c.loop-letter.invariant.put p ∙
+    ap (λ z. letters_for p (map store_of c.args.boxes.now.items) ++ received_by message_rules p (map signed z)) (take_all c.loop-letter.letter-index c.args.letters.now c.loop-letter-test.false)
