@@ -3,6 +3,7 @@
 
 mod check;
 mod fault;
+mod held;
 mod key;
 mod kind;
 mod name;
