@@ -8,6 +8,7 @@ use crate::host::Host;
 use crate::reading::network_of;
 use netdesc::Network;
 use std::alloc::{AllocError, Global};
+use std::mem::forget;
 use trace_tables::{Sink, write_all};
 use traffic::offers;
 
@@ -52,5 +53,8 @@ fn show_counts<O: Sink>(
 /// Judges the description in the file with this path, and tells on standard output what it describes.
 pub fn check<'a, H: Host>(alloc: Global, net: &'a str, host: &mut H) -> Result<(), Fault<'a>> {
     let network = network_of(alloc, net, host)?;
-    show_counts(alloc, &network, host.output())
+    let shown = show_counts(alloc, &network, host.output());
+    // The process ends here, and the system takes the network at once.
+    forget(network);
+    shown
 }

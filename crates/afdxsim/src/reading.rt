@@ -5,8 +5,9 @@ ghost use Rattle.afdxsim.specs.Reading.{TellsOf};
 
 use crate::fault::Fault;
 use crate::host::{Host, ReadFault};
-use netdesc::{DescFault, Network, read};
+use netdesc::{DescFault, Network, read_with_remains};
 use std::alloc::Global;
+use std::mem::forget;
 use std::str;
 
 /// The network that these bytes describe.
@@ -16,8 +17,12 @@ pub fn network_in(alloc: Global, bytes: &[u8]) -> Result<Network, Fault<'static>
     ensures fault { IfErr result (TellsOf bytes.now) }
 {
     match str::from_utf8(bytes) {
-        Ok(text) => match read(alloc, text) {
-            Ok(network) => Ok(network),
+        Ok(text) => match read_with_remains(alloc, text) {
+            Ok((network, remains)) => {
+                // The system takes it at the end of the process at once. Piece by piece that takes longer than the tables did.
+                forget(remains);
+                Ok(network)
+            }
             Err(fault) => Err(Fault::Description(fault)),
         },
         Err(_) => Err(Fault::Description(DescFault::Syntax)),

@@ -9,6 +9,7 @@ use crate::reading::network_of;
 use netdesc::Network;
 use seqsim::{Finished, run};
 use std::alloc::Global;
+use std::mem::forget;
 use trace_tables::{OutFault, Sink, Tables, write_csv, write_trace};
 use vlink::Row;
 
@@ -72,5 +73,8 @@ pub fn seq<'a, H: Host>(
     if let Some(path) = trace {
         keep_trace(alloc, &network, finished.rows.as_slice(), path, host)?;
     }
-    show_tables(alloc, &network, &finished.tables, host.output())
+    let shown = show_tables(alloc, &network, &finished.tables, host.output());
+    // The process ends here, and the system takes the network at once.
+    forget(network);
+    shown
 }

@@ -1,14 +1,19 @@
 -- A map from two nodes to the link that joins them, one link after another.
-use Rattle.std.proofs.Common.{◌≡◌, ℕ, Bool, true, false, cond, ◌==◌, ◌&&◌, ◌||◌, List, [], ◌∷◌, ◌++◌, length, Some, None, is_some, refl, ap, sym, ◌∙◌, arith}
+use Rattle.std.proofs.Common.{◌≡◌, ℕ, ◌+◌, ◌<◌, take, drop, get_or, Bool, true, false, cond, ◌==◌, ◌&&◌, ◌||◌, List, [], ◌∷◌, ◌++◌, length, Some, None, is_some, refl, ap, sym, ◌∙◌, arith}
 use Rattle.std.specs.Ordering.{nat_cmp, ordering_then, is_eq}
 use Rattle.std.specs.declared.cmp.Ordering.{Ordering}
 use Rattle.std.specs.declared.cmp.Ordering.TheVariants.{Less, Equal, Greater}
 use Rattle.std.specs.BTreeMap.{BTreeMap, get, UpdatesBy}
 use Rattle.std.proofs.lemmas.Bool.Decides.{nat_tests}
 use Rattle.netdesc.specs.declared.wiring.Link.{Link}
-use Rattle.netdesc.specs.Wiring.{goes, joins, link_between}
+use Rattle.netdesc.specs.Wiring.{goes, joins, is_linked, link_between}
 use Rattle.netdesc.specs.Finding.{pair_cmp, AreJoined}
-use Rattle.netdesc.proofs.PlaceLemmas.{or_else, or_else-none, place_by-push, place_by-same, none_of}
+use Rattle.std.specs.List.{list_any}
+use Rattle.network_rows.specs.declared.fault.DescFault.{DescFault}
+use Rattle.netdesc.specs.Rows.{each, each_after, when}
+use Rattle.netdesc.specs.Faults.{double_at_link}
+use Rattle.netdesc.proofs.PlaceLemmas.{or_else, or_else-none, place_by-push, place_by-same, place_by-at, none_of}
+use Rattle.netdesc.proofs.EachLemmas.{each-at}
 
 is_eq-then : (o p : Ordering) → is_eq (ordering_then o p) ≡ (is_eq o && is_eq p)
 is_eq-then Less p = refl
@@ -71,6 +76,42 @@ AreJoined-put old mid new links l i are absent back there at_end = λ x y.
         let none : link_between links x y ≡ None = link_between-flip links x y ∙ ap (λ n. link_between links n x) (sym same.0) ∙ ap (λ n. link_between links l.a n) (sym same.1) ∙ fresh in
         rw none (ap Some at_end)
     found x y false false e f = sym (or_else-none (link_between links x y))
+
+-- ---- the place of a link that joins two nodes, where no two links join the same ones
+
+middle_empty : {X : Type 0} (xs ys zs : List X) → xs ++ (ys ++ zs) ≡ [] → ys ≡ []
+middle_empty [] [] zs e = refl
+middle_empty [] (y ∷ ys) zs e = cc
+middle_empty (x ∷ xs) ys zs e = cc
+
+when-none : (test : Bool) (fault : DescFault) → when test fault ≡ [] → test ≡ false
+when-none true fault e = cc
+when-none false fault e = refl
+
+-- no link before it joins the nodes of a link
+apart_before : (links : List Link) (i : ℕ) (l : Link) → i < length links → each double_at_link links ≡ [] → is_linked (take i links) (get_or links i l).a (get_or links i l).b ≡ false
+apart_before links i l lt none =
+    when-none _ _ (middle_empty (each double_at_link (take i links)) (double_at_link (take i links) (get_or links i l)) (each_after double_at_link (take i links ++ get_or links i l ∷ []) (drop (i + 1) links))
+    (sym (each-at double_at_link links i l lt) ∙ none))
+
+-- links join the nodes of a link as they join two nodes that it joins
+joins-same : (x y : ℕ) (l m : Link) → joins x y l ≡ true → joins l.a l.b m ≡ joins x y m
+joins-same x y l m h = go (goes x y l) (goes y x l) refl refl h
+  where
+    go : (one two : Bool) → goes x y l ≡ one → goes y x l ≡ two → (one || two) ≡ true → joins l.a l.b m ≡ joins x y m
+    go true two e f k = let same = goes-true x y l e in rw (same.0, same.1) refl
+    go false true e f k = let same = goes-true y x l f in rw (same.0, same.1) (||-flip (goes y x m) (goes x y m))
+    go false false e f k = cc
+
+list_any-same : {X : Type 0} (p q : X → Bool) (xs : List X) → ((x : X) → p x ≡ q x) → list_any p xs ≡ list_any q xs
+list_any-same p q [] h = refl
+list_any-same p q (x ∷ xs) h = ap (λ b. b || list_any p xs) (h x) ∙ ap (λ b. q x || b) (list_any-same p q xs h)
+
+pub link_between-at : (links : List Link) (x y i : ℕ) (l : Link) → i < length links → l ≡ get_or links i l → joins x y l ≡ true → each double_at_link links ≡ [] → link_between links x y ≡ Some i
+link_between-at links x y i l lt read joined none =
+    let before : is_linked (take i links) l.a l.b ≡ false = rw read (apart_before links i l lt none) in
+    place_by-at (joins x y) links i l lt (ap (joins x y) (sym read) ∙ joined)
+    (sym (list_any-same (joins l.a l.b) (joins x y) (take i links) (λ m. joins-same x y l m joined)) ∙ before)
 
 -- what is read where there is no link
 abbrev pub no_link : Link

@@ -1,5 +1,5 @@
 -- What checks answer, and what maps of numbers hold.
-use Rattle.std.specs.Prelude.{ℕ, ◌≡◌, ◌⊎◌, List, [], Some, Result, Ok, Err, slice_get, Contains}
+use Rattle.std.specs.Prelude.{ℕ, ◌≡◌, ◌⊎◌, List, [], Option, None, Some, Result, Ok, Err, slice_get, slice_index_or, Contains}
 use Rattle.std.specs.Cmp.Lexicographic.{slice_cmp}
 use Rattle.std.specs.Ordering.{nat_cmp, ordering_then}
 use Rattle.std.specs.declared.cmp.Ordering.{Ordering}
@@ -28,6 +28,10 @@ Finds (Err fault) faults = Tells fault faults
 -- the map has the number of each name
 abbrev pub AreNumbers : BTreeMap (Bor (List ℕ)) ℕ → List (List ℕ) → Type 0
 AreNumbers numbers names = (name : List ℕ) → get_by (λ k. slice_cmp nat_cmp name k.now) numbers ≡ place_among names name
+
+-- each of these numbers is that of the first node with its name
+abbrev pub AreFirsts : List (Option ℕ) → List (List ℕ) → Type 0
+AreFirsts numbers names = (k n : ℕ) → slice_index_or numbers k None ≡ Some n → place_among names (slice_index_or names n []) ≡ Some n
 
 -- pairs of numbers, by the first and then by the second
 abbrev pub pair_cmp : ℕ × ℕ → ℕ × ℕ → Ordering

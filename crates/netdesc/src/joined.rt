@@ -1,12 +1,13 @@
-ghost use Rattle.std.specs.Prelude.{◌≡◌, [], MatchResult, is_some, OnOk, IfErr};
+ghost use Rattle.std.specs.Prelude.{◌≡◌, ◌<◌, [], Some, MatchResult, is_some, OnOk, IfErr, IfSome};
 ghost use Rattle.netdesc.specs.Rows.{each};
-ghost use Rattle.netdesc.specs.Wiring.{link_between, is_linked};
+ghost use Rattle.netdesc.specs.Wiring.{joins, link_between, is_linked};
 ghost use Rattle.netdesc.specs.Faults.{double_at_link};
 ghost use Rattle.netdesc.specs.Finding.{AreJoined, Tells, pair_cmp};
 ghost use Rattle.std.specs.BTreeMap.{Updates};
 ghost use Rattle.network_rows.specs.declared.fault.DescFault.TheVariants.{OutOfMemory};
 ghost use Rattle.netdesc.specs.Views.{Gives};
 
+use crate::counts::no_counts;
 use crate::memory::refused;
 use crate::place::key_at;
 use crate::wiring::Link;
@@ -14,11 +15,18 @@ use network_rows::{DescFault, Key, Section};
 use std::alloc::Global;
 use std::collections::BTreeMap;
 
+/// How many places are kept near.
+const NEAR: usize = 16384;
+
 /// Links, with the place of the link for each two nodes that one joins.
+///
+/// Most look-ups end with `near`: a place for each slot of two nodes, which is right where the link there joins them.
 #[derive(Drop)]
 pub struct Joined<'a> {
     pub links: &'a [Link],
+    near: Vec<usize>,
     places: BTreeMap<(usize, usize), usize>,
+    ghost apart: { each double_at_link links.now ≡ [] },
     ghost placed: { AreJoined places links.now },
 }
 
@@ -28,7 +36,12 @@ impl<'a> Joined<'a> {
         ensures { Gives (λ joined. joined.links.now) result (each double_at_link links.now) links.now }
     {
         let places = places_of(alloc, links)?;
-        Ok(Joined { links, places })
+        let near = near_of(alloc, links)?;
+        Ok(Joined {
+            links,
+            near,
+            places,
+        })
     }
 
     /// The place of the link that joins these nodes, or none where no link does.
@@ -36,8 +49,50 @@ impl<'a> Joined<'a> {
         ensures place { result ≡ link_between self.now.links.now x y }
         ensures linked { is_some result ≡ is_linked self.now.links.now x y }
     {
-        self.places.get(&(x, y)).copied()
+        match self.near_place(x, y) {
+            Some(place) => Some(place),
+            None => self.places.get(&(x, y)).copied(),
+        }
     }
+
+    /// The place that is kept near for these nodes, if the link there joins them.
+    fn near_place(&self, x: usize, y: usize) -> Option<usize>
+        ensures { IfSome result (λ place. link_between self.now.links.now x y ≡ Some place) }
+    {
+        let place = *self.near.get(slot(x, y))?;
+        let link = self.links.get(place)?;
+        if joins(x, y, *link) {
+            Some(place)
+        } else {
+            None
+        }
+    }
+}
+
+/// Where a place is kept near for these nodes.
+fn slot(x: usize, y: usize) -> usize
+    ensures { result < NEAR }
+{
+    x.wrapping_mul(1031).wrapping_add(y) % NEAR
+}
+
+/// The link joins these nodes.
+fn joins(x: usize, y: usize, link: Link) -> bool
+    ensures { result ≡ joins x y link }
+{
+    (link.a == x && link.b == y) || (link.a == y && link.b == x)
+}
+
+/// For each slot the place of a link between nodes that have it, if there is one.
+fn near_of(alloc: Global, links: &[Link]) -> Result<Vec<usize>, DescFault>
+    ensures memory { IfErr result (λ fault. fault ≡ OutOfMemory) }
+{
+    let mut near = no_counts(alloc, NEAR)?;
+    for (i, link) in links.iter().enumerate() {
+        near[slot(link.a, link.b)] = i;
+        near[slot(link.b, link.a)] = i;
+    }
+    Ok(near)
 }
 
 /// The place of the link for each two nodes that one joins, unless two links join the same nodes.

@@ -34,9 +34,10 @@ mod ways;
 mod wiring;
 
 pub use limits::{GREATEST_DESTINATIONS, GREATEST_OUTAGES, GREATEST_PORTS, GREATEST_PROCESSES};
+pub use make::Remains;
 pub use network::Network;
 pub use network_rows::{DescFault, Key, NodeKind, Place, Priority, Section};
-pub use reading::read;
+pub use reading::{read, read_with_remains};
 pub use vl::VirtualLink;
 pub use wiring::{Line, Outage, Way};
 

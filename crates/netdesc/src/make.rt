@@ -12,7 +12,7 @@ use crate::memory::refused;
 use crate::network::Network;
 use crate::tabling::tables_of;
 use crate::vl::Routed;
-use network_rows::{DescFault, Rows};
+use network_rows::{DescFault, LinkRow, OutageRow, Rows, Sequence, VlRow};
 use std::alloc::Global;
 
 /// Puts virtual links into the order of their numbers.
@@ -27,10 +27,18 @@ fn sort_vls(vls: &mut Vec<Routed>) -> Result<(), DescFault>
     }
 }
 
-/// The network of these rows.
-pub fn network(alloc: Global, rows: Rows) -> Result<Network, DescFault>
+/// What is left of the rows of a network once it is made of them: of no more use, and many small pieces, which take time to give back.
+#[derive(Debug, Drop)]
+pub struct Remains {
+    links: Sequence<LinkRow>,
+    outages: Sequence<OutageRow>,
+    vls: Sequence<VlRow>,
+}
+
+/// The network of these rows, and what is left of them.
+pub fn network(alloc: Global, rows: Rows) -> Result<(Network, Remains), DescFault>
     requires { AreWithin rows }
-    ensures { MatchResult result (IsPlanOf rows) (λ fault. Tells fault (faults_of rows)) }
+    ensures { MatchResult result (λ made. IsPlanOf rows made.0) (λ fault. Tells fault (faults_of rows)) }
 {
     let mut numbered = checked(alloc, &rows)?;
     sort_vls(&mut numbered.vls)?;
@@ -38,9 +46,18 @@ pub fn network(alloc: Global, rows: Rows) -> Result<Network, DescFault>
         until,
         seed,
         nodes,
+        links,
+        outages,
+        vls,
         ..
     } = rows;
     let nodes = nodes.into_vec();
     let tables = tables_of(alloc, nodes.as_slice(), &numbered)?;
-    Ok(Network::new(until, seed, nodes, numbered, tables))
+    let network = Network::new(until, seed, nodes, numbered, tables);
+    let remains = Remains {
+        links,
+        outages,
+        vls,
+    };
+    Ok((network, remains))
 }

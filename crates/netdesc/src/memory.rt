@@ -1,10 +1,11 @@
-ghost use Rattle.std.specs.Prelude.{◌≡◌, [], ◌∷◌, ◌++◌, IfErr, OnOk, ℕ, ◌||◌, ◌==◌, ◌<◌, vec_len, slice_set, slice_index_or};
+ghost use Rattle.std.specs.Prelude.{◌≡◌, [], ◌∷◌, ◌++◌, IfOk, IfErr, OnOk, ℕ, ◌||◌, ◌==◌, ◌<◌, vec_len, slice_set, slice_index_or};
 ghost use Rattle.netdesc.specs.Views.{lists_of};
 ghost use Rattle.std.specs.Ordering.{nat_cmp};
 ghost use Rattle.std.specs.BTreeSet.{contains, insert_key};
 ghost use Rattle.network_rows.specs.declared.fault.DescFault.TheVariants.{OutOfMemory};
 
 use network_rows::DescFault;
+use std::alloc::Global;
 use std::collections::BTreeSet;
 
 /// What a refused growth is in a description.
@@ -12,6 +13,17 @@ pub fn refused<E: Drop>(_error: E) -> DescFault
     ensures { result ≡ OutOfMemory }
 {
     DescFault::OutOfMemory
+}
+
+/// An empty list with room for so many values.
+pub fn with_room<T>(alloc: Global, room: usize) -> Result<Vec<T>, DescFault>
+    ensures empty { IfOk result (λ list. list.items ≡ []) }
+    ensures memory { IfErr result (λ fault. fault ≡ OutOfMemory) }
+{
+    match Vec::with_capacity(alloc, room) {
+        Ok(list) => Ok(list),
+        Err(error) => Err(refused(error)),
+    }
 }
 
 /// Puts a value at the end of a list.

@@ -1,16 +1,25 @@
-ghost use Rattle.std.specs.Prelude.{◌≡◌, IfOk, IfSome, is_some};
+ghost use Rattle.std.specs.Prelude.{◌≡◌, ◌<◌, ℕ, None, Some, IfOk, IfSome, is_some, slice_index_or, vec_len};
 ghost use Rattle.netdesc.specs.Names.{names_of, is_among, place_among, number_of};
-ghost use Rattle.netdesc.specs.Finding.{AreNumbers};
+ghost use Rattle.netdesc.specs.Finding.{AreNumbers, AreFirsts};
+ghost use Rattle.netdesc.specs.declared.names.TheConstants.{NEAR};
 
 use network_rows::NodeRow;
 use std::alloc::{AllocError, Global};
 use std::collections::BTreeMap;
 
+/// How many numbers are kept near.
+const NEAR: usize = 16384;
+
 /// Nodes, with the number of each name.
+///
+/// Most look-ups end with `near`: a number for each slot of a name, which is right where the node there has the name.
 #[derive(Drop)]
 pub struct Names<'a> {
     pub nodes: &'a [NodeRow],
+    near: Vec<Option<usize>>,
     numbers: BTreeMap<&'a str, usize>,
+    ghost wide: { vec_len near ≡ NEAR },
+    ghost firsts: { AreFirsts near.items (names_of nodes.now) },
     ghost numbered: { AreNumbers numbers (names_of nodes.now) },
 }
 
@@ -20,7 +29,12 @@ impl<'a> Names<'a> {
         ensures { IfOk result (λ names. names.nodes.now ≡ nodes.now) }
     {
         let numbers = numbers_of(alloc, nodes)?;
-        Ok(Names { nodes, numbers })
+        let near = near_of(alloc, nodes, &numbers)?;
+        Ok(Names {
+            nodes,
+            near,
+            numbers,
+        })
     }
 
     /// The number of the first node with this name, or none where no node has it.
@@ -29,8 +43,55 @@ impl<'a> Names<'a> {
         ensures known { is_some result ≡ is_among (names_of self.now.nodes.now) name.now }
         ensures value { IfSome result (λ n. n ≡ number_of (names_of self.now.nodes.now) name.now) }
     {
-        self.numbers.get(name).copied()
+        match self.near_number(name) {
+            Some(number) => Some(number),
+            None => self.numbers.get(name).copied(),
+        }
     }
+
+    /// The number that is kept near for this name, if the node there has it.
+    fn near_number(&self, name: &str) -> Option<usize>
+        ensures { IfSome result (λ n. place_among (names_of self.now.nodes.now) name.now ≡ Some n) }
+    {
+        let kept = self.near[slot(name)];
+        let number = kept?;
+        let node = self.nodes.get(number)?;
+        if node.name.as_str() == name {
+            Some(number)
+        } else {
+            None
+        }
+    }
+}
+
+/// Where a number is kept near for this name.
+fn slot(name: &str) -> usize
+    ensures { result < NEAR }
+{
+    let mut sum: usize = 0;
+    for byte in name.as_bytes() {
+        sum = sum.wrapping_mul(31).wrapping_add(usize::from(*byte));
+    }
+    sum % NEAR
+}
+
+/// For each slot the number of the first node with a name that has it, if there is one.
+fn near_of(
+    alloc: Global,
+    nodes: &[NodeRow],
+    numbers: &BTreeMap<&str, usize>,
+) -> Result<Vec<Option<usize>>, AllocError>
+    requires { AreNumbers numbers.now (names_of nodes.now) }
+    ensures wide { IfOk result (λ near. vec_len near ≡ NEAR) }
+    ensures firsts { IfOk result (λ near. AreFirsts near.items (names_of nodes.now)) }
+{
+    let mut near = no_numbers(alloc, NEAR)?;
+    for node in nodes {
+        let name = node.name.as_str();
+        let first = numbers.get(name).copied();
+        near[slot(name)] = first;
+    }
+    Ok(near)
 }
 
 /// The number of each name: that of the first node with the name.
@@ -48,4 +109,12 @@ fn numbers_of<'a>(
         }
     }
     Ok(numbers)
+}
+
+/// No number in so many slots.
+fn no_numbers(alloc: Global, count: usize) -> Result<Vec<Option<usize>>, AllocError>
+    ensures none { IfOk result (λ near. (k : ℕ) → slice_index_or near.items k None ≡ None) }
+    ensures len { IfOk result (λ near. vec_len near ≡ count) }
+{
+    vec![in alloc; None; count]
 }

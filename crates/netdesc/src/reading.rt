@@ -2,7 +2,7 @@ ghost use Rattle.std.specs.Prelude.{◌≡◌, [], OnOk, IfOk, IfErr};
 ghost use Rattle.netdesc.specs.Finding.{Tells};
 ghost use Rattle.netdesc.specs.Description.{faults_of_description, Describes};
 
-use crate::make::network;
+use crate::make::{Remains, network};
 use crate::network::Network;
 use network_rows::{DescFault, read_rows};
 use std::alloc::Global;
@@ -14,6 +14,17 @@ pub fn read(alloc: Global, text: &str) -> Result<Network, DescFault>
     // What is read has no fault, and what has no fault is read, unless memory is refused.
     ensures sound { OnOk result (faults_of_description text.now ≡ []) }
     ensures network { IfOk result (Describes text.now) }
+    ensures fault { IfErr result (λ fault. Tells fault (faults_of_description text.now)) }
+{
+    let (network, _remains) = read_with_remains(alloc, text)?;
+    Ok(network)
+}
+
+/// Reads a network description as `read` does, and tells with the network what is left of its rows, which the caller gives back when
+/// there is time for it.
+pub fn read_with_remains(alloc: Global, text: &str) -> Result<(Network, Remains), DescFault>
+    ensures sound { OnOk result (faults_of_description text.now ≡ []) }
+    ensures network { IfOk result (λ made. Describes text.now made.0) }
     ensures fault { IfErr result (λ fault. Tells fault (faults_of_description text.now)) }
 {
     let rows = read_rows(alloc, text)?;

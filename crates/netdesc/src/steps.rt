@@ -1,10 +1,12 @@
 ghost use Rattle.std.specs.Prelude.{◌≡◌, ◌++◌, [], ◌∷◌, true, List, Contains, MatchBool, IfOk, OnOk, IfErr};
+ghost use Rattle.std.specs.List.{list_any};
 ghost use Rattle.network_rows.specs.declared.fault.DescFault.TheVariants.{OutOfMemory};
 ghost use Rattle.netdesc.specs.declared.wiring.Step.{Step};
 ghost use Rattle.netdesc.specs.Trees.{steps_of, steps_after, all_steps, is_other_way, has_other_way};
 ghost use Rattle.netdesc.specs.Views.{Tests, lists_of};
 ghost use Rattle.netdesc.specs.Finding.{AreWays};
 
+use crate::ends::FEW;
 use crate::memory::{push, refused};
 use crate::wiring::Step;
 use network_rows::DescFault;
@@ -61,8 +63,33 @@ fn is_other_way(ways: &mut BTreeMap<usize, usize>, step: Step) -> Result<bool, D
     }
 }
 
+/// The two steps lead to one node from different ones.
+fn are_apart(s: Step, t: Step) -> bool
+    ensures { result ≡ is_other_way s t }
+{
+    s.to == t.to && s.from != t.from
+}
+
+/// One of these steps leads to the node of another step from a different one.
+fn is_apart(s: Step, steps: &[Step]) -> bool
+    ensures { result ≡ list_any (is_other_way s) steps.now }
+{
+    steps.iter().any(|t| are_apart(s, *t))
+}
+
 /// Two of these steps lead to one node from different ones.
 pub fn has_other_way(alloc: Global, steps: &[Step]) -> Result<bool, DescFault>
+    ensures { Tests result (has_other_way steps.now) }
+{
+    if steps.len() <= FEW {
+        Ok(steps.iter().any(|s| is_apart(*s, steps)))
+    } else {
+        has_other_way_of_many(alloc, steps)
+    }
+}
+
+/// Two of these steps lead to one node from different ones, by a map of the ways that were found.
+fn has_other_way_of_many(alloc: Global, steps: &[Step]) -> Result<bool, DescFault>
     ensures { Tests result (has_other_way steps.now) }
 {
     let mut ways = BTreeMap::new(alloc);

@@ -4,12 +4,12 @@ ghost use Rattle.std.specs.Option.{option_copied};
 ghost use Rattle.netdesc.specs.Rows.{each};
 ghost use Rattle.netdesc.specs.Plan.{VlPlan, node_plan};
 ghost use Rattle.netdesc.specs.Wiring.{passes, is_end_system, is_switch_of};
-ghost use Rattle.netdesc.specs.Trees.{has_double, inner_of, is_bad_path, source_among, source_of, differ, begin_apart, is_no_tree};
+ghost use Rattle.netdesc.specs.Trees.{inner_of, is_bad_path, source_among, source_of, differ, begin_apart, is_no_tree};
 ghost use Rattle.netdesc.specs.Faults.{no_tree_at_vl};
 ghost use Rattle.netdesc.specs.Finding.{Finds};
 ghost use Rattle.netdesc.specs.Views.{Tests, lists_of, vl_view};
 
-use crate::ends::{has_repeat, push_ends};
+use crate::ends::{has_double, has_repeat, push_ends};
 use crate::kinds::{is_end_system, is_switch_of};
 use crate::place::key_at;
 use crate::steps::{has_other_way, push_all};
@@ -17,20 +17,6 @@ use crate::vl::Routed;
 use network_rows::{DescFault, Key, NodeRow, Section};
 use std::alloc::Global;
 use vlink::Net;
-
-/// A number is there twice.
-fn has_double(numbers: &[usize]) -> bool
-    ensures { result ≡ has_double numbers.now }
-{
-    let mut rest = numbers;
-    while let Some((first, others)) = rest.split_first() {
-        if others.contains(first) {
-            return true;
-        }
-        rest = others;
-    }
-    false
-}
 
 /// There is a node, and it is an end system.
 fn is_at_end_system(nodes: &[NodeRow], node: Option<&usize>) -> bool

@@ -1,10 +1,12 @@
 -- The items of an array, read one by one.
-use Rattle.std.proofs.Common.{◌≡◌, ℕ, suc, Bool, true, false, ◌&&◌, cond, List, [], ◌∷◌, length, map, Option, Some, None, option_map, option_and_then, is_some, unwrap_or, refl, ap, ◌∙◌}
+use Rattle.std.proofs.Common.{◌≡◌, ℕ, suc, ◌<◌, get_or, inl, inr, Bool, true, false, ◌&&◌, cond, List, [], ◌∷◌, length, map, Option, Some, None, option_map, option_and_then, is_some, unwrap_or, refl, ap, sym, ◌∙◌}
+use Rattle.std.proofs.lemmas.Bool.{cases_Bool, false≢true}
+use Rattle.std.proofs.lemmas.List.Folds.{list_all_at}
 use Rattle.std.specs.List.{list_all}
-use Rattle.toml.specs.Data.{Data}
+use Rattle.toml.specs.Data.{Data, as_array, as_str}
 use Rattle.toml.specs.View.{view, items_view}
 use Rattle.toml.specs.declared.value.Value.{Value}
-use Rattle.network_rows.specs.Values.{passes, all_as, list_of}
+use Rattle.network_rows.specs.Values.{passes, all_as, as_list, text_of, path_of, list_of}
 
 none_of : {X : Type 0} (o : Option X) → is_some o ≡ false → o ≡ None
 none_of None e = refl
@@ -88,3 +90,18 @@ list_of-items_view (v ∷ vs) = ap (λ ds. view v ∷ ds) (list_of-items_view vs
 pub map-list_of : {X : Type 0} (make : Data → X) (vs : List Value) → map make (list_of (items_view vs)) ≡ map (λ v. make (view v)) vs
 map-list_of make [] = refl
 map-list_of make (v ∷ vs) = ap (λ xs. make (view v) ∷ xs) (map-list_of make vs)
+
+-- a test that each passes is passed at each place
+pub passes_at : {X : Type 0} (test : X → Bool) (xs : List X) (i : ℕ) (d : X) → i < length xs → list_all test xs ≡ true → test (get_or xs i d) ≡ true
+passes_at test xs i d lt all = elim (cases_Bool (test (get_or xs i d))) [
+  | inl passed ↦ passed
+  | inr failed ↦ absurd (false≢true (sym (list_all_at test xs i d lt failed) ∙ all))
+]
+
+-- the path that a value is, name by name
+pub path_of-names : (v : Value) (names : List Value) → Some (items_view names) ≡ as_array (view v) → is_some (as_list as_str (view v)) ≡ true
+    → path_of (view v) ≡ map (λ n. text_of (view n)) names
+path_of-names v names is all =
+    let some : is_some (all_as as_str (items_view names)) ≡ true = rw (← is) at all in
+    let each : list_all (λ n. is_some (as_str (view n))) names ≡ true = sym (is_some-all_as as_str names) ∙ some in
+    rw (← is, unwrap_or-all_as as_str [] names, each) refl

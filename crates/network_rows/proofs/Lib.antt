@@ -1,4 +1,6 @@
 pub mod Items
+pub mod HeldLemmas
+pub mod Removed
 pub mod Firsts
 pub mod Names
 pub mod Empty

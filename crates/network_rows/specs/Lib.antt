@@ -4,3 +4,4 @@ pub mod Kinds
 pub mod Faults
 pub mod Rows
 pub mod Within
+pub mod Held

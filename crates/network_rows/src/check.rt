@@ -6,6 +6,7 @@ ghost use Rattle.network_rows.specs.Faults.{keys_of, applies, fails, failing_key
 ghost use Rattle.toml.specs.Data.{as_table};
 
 use crate::fault::{DescFault, Place};
+use crate::held::is_held;
 use crate::key::{Key, Section, Word};
 use crate::rule::{Check, Presence, Rule};
 use crate::table::{LINK_KEYS, LISTS, NODE_KEYS, OUTAGE_KEYS, TOP_KEYS, VL_KEYS};
@@ -153,6 +154,9 @@ fn failing(check: Check, document: &Table) -> Option<Place>
 pub fn first_fault(document: &Table) -> Option<DescFault>
     ensures { result ≡ first (faults_of_document (table_view document.now)) }
 {
+    if is_held(document) {
+        return None;
+    }
     if let Some(place) = failing(Check::OfPresence, document) {
         return Some(DescFault::Missing(place));
     }

@@ -3,12 +3,15 @@
 
 mod check;
 mod fault;
+mod held;
 mod key;
 mod kind;
 mod name;
+mod paths;
 mod read;
 mod read_row;
 mod read_value;
+mod read_vl;
 mod rows;
 mod rule;
 mod sequence;
@@ -19,8 +22,9 @@ mod value;
 pub use fault::{DescFault, Place};
 pub use key::{Key, Section};
 pub use name::Name;
+pub use paths::{Path, Paths};
 pub use read::read_rows;
-pub use rows::{LinkRow, NodeKind, NodeRow, OutageRow, Path, Priority, Rate, Rows, VlRow};
+pub use rows::{LinkRow, NodeKind, NodeRow, OutageRow, Priority, Rate, Rows, VlRow};
 pub use sequence::Sequence;
 
 #[cfg(test)]

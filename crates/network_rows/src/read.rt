@@ -26,7 +26,7 @@ pub fn read_rows(alloc: Global, text: &str) -> Result<Rows, DescFault>
     if let Some(fault) = first_fault(&document) {
         return Err(fault);
     }
-    match rows(alloc, &document) {
+    match rows(alloc, document) {
         Ok(rows) => Ok(rows),
         Err(_) => Err(DescFault::OutOfMemory),
     }

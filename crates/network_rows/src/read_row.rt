@@ -3,31 +3,35 @@ ghost use Rattle.std.specs.Prelude.{◌≡◌, map, Some, IfOk};
 ghost use Rattle.toml.specs.Data.{Members, get_member};
 ghost use Rattle.toml.specs.View.{view, table_view};
 ghost use Rattle.network_rows.specs.Keys.{section_text};
-ghost use Rattle.network_rows.specs.Rows.{node_kind_of, rate_of, priority_of, node_row_of, link_row_of, outage_row_of, vl_row_of, table_of, values_of, rows_of};
+ghost use Rattle.network_rows.specs.Rows.{node_kind_of, rate_of, node_row_of, link_row_of, outage_row_of, table_of, values_of, rows_of};
 
 use crate::key::{Key, Section, Word};
-use crate::read_value::{name_at, number_at, paths_at};
-use crate::rows::{LinkRow, NodeKind, NodeRow, OutageRow, Priority, Rate, Rows, VlRow};
+use crate::read_value::{name_at, number_at};
+use crate::read_vl::vls_in;
+use crate::rows::{LinkRow, NodeKind, NodeRow, OutageRow, Rate, Rows};
 use crate::sequence::Sequence;
 use crate::table;
 use crate::unknown::has_unknown_key;
 use crate::value::{has_word, list_at};
 use std::alloc::{AllocError, Global};
 use toml::{Table, Value};
-use vlink::{FrameSize, Net, Time, VlId};
+use vlink::{Net, Time};
 
 /// The rows of a document.
-pub fn rows(alloc: Global, document: &Table) -> Result<Rows, AllocError>
-    ensures { IfOk result (λ made. made ≡ rows_of (table_view document.now)) }
+pub fn rows(alloc: Global, document: Table) -> Result<Rows, AllocError>
+    ensures { IfOk result (λ made. made ≡ rows_of (table_view document)) }
 {
+    let nodes = rows_in(alloc, Section::Node, &document)?;
+    let links = rows_in(alloc, Section::Link, &document)?;
+    let outages = rows_in(alloc, Section::Outage, &document)?;
     Ok(Rows {
-        until: Time::new(number_at(table::UNTIL_NS, document)).unwrap(),
-        seed: number_at(table::SEED, document),
-        nodes: rows_in(alloc, Section::Node, document)?,
-        links: rows_in(alloc, Section::Link, document)?,
-        outages: rows_in(alloc, Section::Outage, document)?,
-        vls: rows_in(alloc, Section::Vl, document)?,
-        has_unknown_key: has_unknown_key(Section::Top, document),
+        until: Time::new(number_at(table::UNTIL_NS, &document)).unwrap(),
+        seed: number_at(table::SEED, &document),
+        nodes,
+        links,
+        outages,
+        has_unknown_key: has_unknown_key(Section::Top, &document),
+        vls: vls_in(alloc, document)?,
     })
 }
 
@@ -127,29 +131,6 @@ impl ReadRow for OutageRow {
     }
 }
 
-impl ReadRow for VlRow {
-    ghost row_of = { vl_row_of };
-
-    fn read(alloc: Global, row: &Table) -> Result<Self, AllocError> {
-        Ok(VlRow {
-            id: VlId(number_at(table::ID, row) as u16),
-            bag_ms: number_at(table::BAG_MS, row) as u8,
-            smax: FrameSize::new(number_at(table::SMAX, row) as u16).unwrap(),
-            priority: priority(row),
-            policing_jitter_ns: number_at(table::POLICING_JITTER_NS, row) as u32,
-            skew_max_ns: number_at(table::SKEW_MAX_NS, row) as u32,
-            depth: number_at(table::DEPTH, row) as u16,
-            size: FrameSize::new(number_at(table::SIZE, row) as u16).unwrap(),
-            offset_ns: number_at(table::OFFSET_NS, row),
-            period_ns: number_at(table::PERIOD_NS, row),
-            jitter_ns: number_at(table::JITTER_NS, row) as u32,
-            a: paths_at(alloc, row, Key::A)?,
-            b: paths_at(alloc, row, Key::B)?,
-            has_unknown_key: has_unknown_key(Section::Vl, row),
-        })
-    }
-}
-
 // What the node of a row is.
 fn node_kind(row: &Table) -> NodeKind
     ensures { result ≡ node_kind_of (table_view row.now) }
@@ -176,16 +157,5 @@ fn rate(row: &Table) -> Rate
         Rate::Mbit100
     } else {
         Rate::Mbit10
-    }
-}
-
-// Where the frames of the virtual link of a row wait.
-fn priority(row: &Table) -> Priority
-    ensures { result ≡ priority_of (table_view row.now) }
-{
-    if has_word(row, Key::Priority, Word::High) {
-        Priority::High
-    } else {
-        Priority::Low
     }
 }

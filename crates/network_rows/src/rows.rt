@@ -1,4 +1,5 @@
 use crate::name::Name;
+use crate::paths::Paths;
 use crate::sequence::Sequence;
 use vlink::{FrameSize, Net, Time, VlId};
 
@@ -23,9 +24,6 @@ pub enum Priority {
     High,
     Low,
 }
-
-/// The names of the nodes that a path goes through, the source first.
-pub type Path = Sequence<Name>;
 
 /// A row of the section `node`.
 #[derive(Debug, Drop)]
@@ -76,9 +74,9 @@ pub struct VlRow {
     pub period_ns: u64,
     pub jitter_ns: u32,
     /// The paths on network A.
-    pub a: Sequence<Path>,
+    pub a: Paths,
     /// The paths on network B.
-    pub b: Sequence<Path>,
+    pub b: Paths,
     /// Whether the row has a key that such a row has not.
     pub has_unknown_key: bool,
 }

@@ -1,6 +1,6 @@
 //! Descriptions without a fault, and their rows.
 use super::{ONE_SWITCH, changed};
-use crate::{NodeKind, Priority, Rate, read_rows};
+use crate::{NodeKind, Paths, Priority, Rate, read_rows};
 use std::test::Fail;
 use vlink::Net;
 
@@ -120,16 +120,19 @@ fn reads_the_keys_of_a_virtual_link(rt: HostRuntime) -> Result<(), Fail> {
     );
     assert_eq!(rt; (vl.size.bytes(), vl.offset_ns, vl.jitter_ns), (64, 0, 0));
     assert_eq!(rt; vl.period_ns, 1_000_000_000_000);
-    let [path] = vl.a.as_slice() else {
-        return Err("one path".into());
-    };
-    let [source, switch, destination] = path.as_slice() else {
-        return Err("three names".into());
-    };
-    assert!(rt; source.as_str() == "ES1" && switch.as_str() == "SW1");
-    assert!(rt; destination.as_str() == "ES2");
-    assert!(rt; vl.b.as_slice().is_empty() && !vl.has_unknown_key);
+    assert!(rt; is_only_path(&vl.a, ["ES1", "SW1", "ES2"]) && vl.b.len() == 0);
+    assert!(rt; !vl.has_unknown_key);
     Ok(())
+}
+
+// Whether there is one path, and it goes through these nodes.
+fn is_only_path(paths: &Paths, names: [&str; 3]) -> bool {
+    if paths.len() != 1 {
+        return false;
+    }
+    let path = paths.path(0);
+    let [first, second, third] = names;
+    path.len() == 3 && path.name(0) == first && path.name(1) == second && path.name(2) == third
 }
 
 #[test]
@@ -165,14 +168,8 @@ fn reads_a_second_virtual_link_the_other_way(rt: HostRuntime) -> Result<(), Fail
     let [_, vl] = rows.vls.as_slice() else {
         return Err("two virtual links".into());
     };
-    let [path] = vl.a.as_slice() else {
-        return Err("one path".into());
-    };
-    let [source, _, destination] = path.as_slice() else {
-        return Err("three names".into());
-    };
     assert_eq!(rt; vl.id.0, 2);
-    assert!(rt; source.as_str() == "ES2" && destination.as_str() == "ES1");
+    assert!(rt; is_only_path(&vl.a, ["ES2", "SW1", "ES1"]));
     Ok(())
 }
 

@@ -31,8 +31,8 @@ pub tables_of-requires-clause-apart : goal.tables_of-requires-clause-apart
 tables_of-requires-clause-apart c =
     ap (λ parts. each double_at_link parts.links) c.in_ok-numbered.ensures.1 ∙ links-apart c.args.rows c.in_ok-numbered.ensures.0
 
-pub new-requires-clause-tables : goal.new-requires-clause-tables
-new-requires-clause-tables c =
+pub new-network-requires-clause-tables : goal.new-network-requires-clause-tables
+new-network-requires-clause-tables c =
     subst (λ (nodes : List NodeRow). AreTables (plan_with c.args.rows.until c.args.rows.seed nodes (record { links = c.in_ok-numbered.numbered.links; outages = c.in_ok-numbered.numbered.outages; vls = c.sort_vls.new.vls })) c.in_ok-tables.tables)
     c.as_slice.ensures.value (c.in_ok-tables.ensures.tables c.args.rows.until c.args.rows.seed)
 
@@ -40,7 +40,7 @@ pub returns : goal.returns
 returns c =
     let rows = c.args.rows in
     let parts = c.in_ok-numbered.ensures.1 in
-    subst (IsPlanOf rows) (sym c.new.ensures) (record {
+    subst (IsPlanOf rows) (sym c.new-network.ensures) (record {
       none = c.in_ok-numbered.ensures.0;
       until = refl;
       seed = refl;

@@ -4,8 +4,8 @@ use Rattle.netdesc.specs.Names.{names_of, number_of}
 use Rattle.netdesc.specs.Faults.{is_unknown}
 use Rattle.netdesc.proofs.routes.path_of.Given as goal
 
-abbrev pub invariant-loop-name : goal.invariant-loop-name
-invariant-loop-name l = record {
-  known : list_any (is_unknown (names_of l.names.nodes.now)) (take l.name-index l.path) ≡ false;
-  made : l.numbers.items ≡ map (number_of (names_of l.names.nodes.now)) (take l.name-index l.path);
+abbrev pub invariant-loop-k : goal.invariant-loop-k
+invariant-loop-k l = record {
+  known : list_any (is_unknown (names_of l.names.nodes.now)) (take l.k l.path) ≡ false;
+  made : l.numbers.items ≡ map (number_of (names_of l.names.nodes.now)) (take l.k l.path);
 }

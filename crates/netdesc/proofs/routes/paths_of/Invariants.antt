@@ -6,8 +6,8 @@ use Rattle.netdesc.specs.Faults.{is_unknown}
 use Rattle.netdesc.specs.Views.{items_of}
 use Rattle.netdesc.proofs.routes.paths_of.Given as goal
 
-abbrev pub invariant-loop-path : goal.invariant-loop-path
-invariant-loop-path l = record {
-  known : list_any (λ path. list_any (is_unknown (names_of l.names.nodes.now)) path) (take l.path-index l.paths) ≡ false;
-  made : map items_of l.numbered.items ≡ map (path_numbers (names_of l.names.nodes.now)) (take l.path-index l.paths);
+abbrev pub invariant-loop-k : goal.invariant-loop-k
+invariant-loop-k l = record {
+  known : list_any (λ path. list_any (is_unknown (names_of l.names.nodes.now)) path) (take l.k l.paths) ≡ false;
+  made : map items_of l.numbered.items ≡ map (path_numbers (names_of l.names.nodes.now)) (take l.k l.paths);
 }

@@ -12,7 +12,7 @@ returns-in_err-vl c =
     let rows = c.args.rows.now in
     let i = c.loop-i.i in
     let lt : i < length rows = omega arith in
-    let p = err_from_is_err_and c.from_residual.result c.from_residual.ensures.1 in
+    let p = err_from_is_err_and c.from_residual-in_err-vl.result c.from_residual-in_err-vl.ensures.1 in
     rw (p.1, p.2) (Tells-read (unknown_at_vl (names_of c.args.names.now.nodes.now)) rows i c.index-rows-i.result _ lt c.index-rows-i.is c.loop-i.invariant.none
     (c.in_err-vl.ensures (take i rows) (length-before rows i lt)))
 

@@ -3,7 +3,7 @@ use Rattle.std.specs.List.{list_any}
 use Rattle.std.specs.Ordering.{nat_cmp}
 use Rattle.std.specs.BTreeSet.{contains}
 use Rattle.netdesc.specs.Trees.{has_double}
-use Rattle.netdesc.proofs.ends.has_repeat.Given as goal
+use Rattle.netdesc.proofs.ends.has_repeat_of_many.Given as goal
 
 abbrev pub invariant-loop-n : goal.invariant-loop-n
 invariant-loop-n l = record {

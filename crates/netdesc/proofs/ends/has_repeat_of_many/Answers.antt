@@ -2,7 +2,7 @@ use Rattle.std.proofs.Common.{◌≡◌, ◌+◌, ◌<◌, true, false, ◌==◌
 use Rattle.std.specs.List.{list_any}
 use Rattle.std.proofs.lemmas.List.Folds.{list_any_more}
 use Rattle.netdesc.proofs.DoubleLemmas.{has_double-more, has_double-taken}
-use Rattle.netdesc.proofs.ends.has_repeat.Goals as goal
+use Rattle.netdesc.proofs.ends.has_repeat_of_many.Goals as goal
 
 pub returns-then-contains : goal.returns-then-contains
 returns-then-contains c =

@@ -2,7 +2,7 @@ use Rattle.std.proofs.Common.{◌≡◌, ◌<◌, length, take, sym, subst, arit
 use Rattle.std.proofs.lemmas.List.{take_more, take_all}
 use Rattle.netdesc.specs.Finding.{AreWays}
 use Rattle.netdesc.proofs.WayLemmas.{no-other-way, other-way-at, no_step}
-use Rattle.netdesc.proofs.steps.has_other_way.Goals as goal
+use Rattle.netdesc.proofs.steps.has_other_way_of_many.Goals as goal
 
 pub returns-then-branch : goal.returns-then-branch
 returns-then-branch c =

@@ -1,0 +1,12 @@
+use Rattle.std.proofs.Common.{◌≡◌, refl}
+use Rattle.toml.specs.View.{table_view}
+use Rattle.network_rows.specs.declared.key.Key.TheVariants as key
+use Rattle.network_rows.specs.Rows.{paths_at}
+use Rattle.network_rows.proofs.read_vl.vl_of_row.Goals as goal
+
+pub returns : goal.returns
+returns c =
+    let row = table_view c.args.row in
+    let a : c.paths_of.result ≡ paths_at key.A row = rw c.take.ensures.value at c.paths_of.ensures in
+    let b : c.paths_of-2.result ≡ paths_at key.B row = rw (c.take-2.ensures.value, c.take.ensures.others key.B refl) at c.paths_of-2.ensures in
+    rw (c.without_paths-vl.ensures, a, b) refl

@@ -1,0 +1,8 @@
+use Rattle.toml.proofs.Views.{view-Array}
+use Rattle.network_rows.specs.Rows.{vl_row_of, table_of}
+use Rattle.network_rows.proofs.Items.{map-list_of}
+use Rattle.network_rows.proofs.read_vl.vls_of_list.Goals as goal
+
+pub returns-in-Array : goal.returns-in-Array
+returns-in-Array c =
+    rw (c.in-Array.is, view-Array c.in-Array.rows, map-list_of (λ d. vl_row_of (table_of d)) c.in-Array.rows.items) c.vls_of_values.ensures

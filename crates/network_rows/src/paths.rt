@@ -1,0 +1,121 @@
+//! The paths of a virtual link as the description has them: no name in them is copied.
+ghost use Rattle.std.specs.Prelude.{◌≡◌, ◌<◌, [], length, slice_index_or, unwrap_or};
+ghost use Rattle.toml.specs.Data.{as_str};
+ghost use Rattle.toml.specs.View.{view, items_view};
+ghost use Rattle.network_rows.specs.Values.{all_as, as_list, as_paths};
+
+use crate::value::are_each_path;
+use std::alloc::Global;
+use std::marker::Model;
+use toml::Value;
+
+/// A path: the names of the nodes that it goes through, the source first.
+///
+/// Clauses see it as their list, each name as its bytes.
+#[derive(Debug, Drop)]
+pub struct Path<'a> {
+    names: &'a [Value],
+}
+
+impl<'a> Model for Path<'a> {
+    ghost use Rattle.std.specs.Prelude.{ℕ, List, map};
+    ghost use Rattle.network_rows.specs.Values.{text_of};
+    ghost use Rattle.toml.specs.View.{view as data_of};
+
+    ghost Value = { List (List ℕ) };
+
+    ghost view = { λ path. map (λ v. text_of (data_of v)) path.names.now };
+}
+
+impl<'a> Path<'a> {
+    /// How many names it has.
+    pub fn len(&self) -> usize
+        ensures { result ≡ length self.now }
+    {
+        self.names.len()
+    }
+
+    /// The name at a place; behind the last one the empty text.
+    pub fn name(&self, place: usize) -> &'a str
+        ensures { result.now ≡ slice_index_or self.now place [] }
+    {
+        match self.names.get(place) {
+            Some(name) => name.as_str().unwrap_or(""),
+            None => "",
+        }
+    }
+}
+
+/// The paths of a virtual link on one network.
+///
+/// Clauses see them as their list.
+#[derive(Debug, Drop)]
+pub struct Paths {
+    paths: Vec<Value>,
+}
+
+impl Model for Paths {
+    ghost use Rattle.std.specs.Prelude.{◌≡◌, ℕ, true, List, map, is_some};
+    ghost use Rattle.std.specs.List.{list_all};
+    ghost use Rattle.toml.specs.Data.{as_str};
+    ghost use Rattle.toml.specs.View.{view as data_of};
+    ghost use Rattle.network_rows.specs.Values.{as_list, path_of};
+
+    ghost Value = { List (List (List ℕ)) };
+
+    ghost view = { λ paths. map (λ v. path_of (data_of v)) paths.paths.items };
+
+    ghost invariant = { λ paths. list_all (λ v. is_some (as_list as_str (data_of v))) paths.paths.items ≡ true };
+}
+
+impl Paths {
+    /// No paths.
+    pub(crate) fn none(alloc: Global) -> Self
+        ensures { result ≡ [] }
+    {
+        Paths {
+            paths: Vec::new(alloc),
+        }
+    }
+
+    /// The paths that these values are, if each is a path; else none.
+    fn of_each(alloc: Global, paths: Vec<Value>) -> Self
+        ensures { result ≡ unwrap_or (all_as (as_list as_str) (items_view paths.items)) [] }
+    {
+        if are_each_path(paths.as_slice()) {
+            Paths { paths }
+        } else {
+            Paths::none(alloc)
+        }
+    }
+
+    /// The paths that a value is a list of; of another value none.
+    pub(crate) fn from_value(alloc: Global, value: Value) -> Self
+        ensures { result ≡ unwrap_or (as_paths (view value)) [] }
+    {
+        match value {
+            Value::Array(paths) => Paths::of_each(alloc, paths),
+            _ => Paths::none(alloc),
+        }
+    }
+
+    /// How many paths there are.
+    pub fn len(&self) -> usize
+        ensures { result ≡ length self.now }
+    {
+        self.paths.len()
+    }
+
+    /// The path at a place.
+    pub fn path(&self, place: usize) -> Path<'_>
+        requires { place < length self.now }
+        ensures { result ≡ slice_index_or self.now place [] }
+    {
+        match self.paths[place].as_array() {
+            Some(names) => Path {
+                names: names.as_slice(),
+            },
+            None => Path { names: &[] },
+        }
+    }
+}

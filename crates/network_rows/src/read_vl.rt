@@ -1,0 +1,125 @@
+//! The rows of virtual links. They are most of a large document, so their paths are moved out of it.
+ghost use Rattle.std.specs.Prelude.{◌≡◌, [], false, Some, map, option_map, unwrap_or, option_and_then, IfOk};
+ghost use Rattle.toml.specs.Data.{same_key};
+ghost use Rattle.toml.specs.View.{view, table_view};
+ghost use Rattle.network_rows.specs.declared.key.Section.TheVariants.{Vl};
+ghost use Rattle.network_rows.specs.declared.key.Key.{Key};
+ghost use Rattle.network_rows.specs.Keys.{key_text};
+ghost use Rattle.network_rows.specs.Values.{value_at, as_paths};
+ghost use Rattle.network_rows.specs.Rows.{priority_of, vl_row_of, table_of, values_of, rows_in};
+
+use crate::key::{Key, Section, Word};
+use crate::paths::Paths;
+use crate::read_value::number_at;
+use crate::rows::{Priority, VlRow};
+use crate::sequence::Sequence;
+use crate::table;
+use crate::unknown::has_unknown_key;
+use crate::value::has_word;
+use std::alloc::{AllocError, Global};
+use toml::{Table, Value};
+use vlink::{FrameSize, VlId};
+
+/// The rows of the virtual links of a document.
+pub fn vls_in(alloc: Global, document: Table) -> Result<Sequence<VlRow>, AllocError>
+    ensures { IfOk result (λ rows. rows ≡ rows_in vl_row_of Vl (table_view document)) }
+{
+    let mut document = document;
+    match document.remove(Section::Vl.text()) {
+        Some(value) => vls_of_list(alloc, value),
+        None => Ok(Sequence::from_vec(Vec::new(alloc))),
+    }
+}
+
+// The rows of a list.
+fn vls_of_list(alloc: Global, value: Value) -> Result<Sequence<VlRow>, AllocError>
+    ensures { IfOk result (λ rows. rows ≡ map (λ d. vl_row_of (table_of d)) (values_of (Some (view value)))) }
+{
+    match value {
+        Value::Array(rows) => vls_of_values(alloc, rows),
+        _ => Ok(Sequence::from_vec(Vec::new(alloc))),
+    }
+}
+
+// The rows that these values are.
+fn vls_of_values(alloc: Global, values: Vec<Value>) -> Result<Sequence<VlRow>, AllocError>
+    ensures { IfOk result (λ rows. rows ≡ map (λ v. vl_row_of (table_of (view v))) values.items) }
+{
+    let mut rows = Vec::with_capacity(alloc, values.len())?;
+    for value in values {
+        rows.push(vl_of_value(alloc, value))?;
+    }
+    Ok(Sequence::from_vec(rows))
+}
+
+// The row that a value is. What is no table counts as an empty one.
+fn vl_of_value(alloc: Global, value: Value) -> VlRow
+    ensures { result ≡ vl_row_of (table_of (view value)) }
+{
+    match value {
+        Value::Table(row) => vl_of_row(alloc, row),
+        _ => vl_of_row(alloc, Table::new(alloc)),
+    }
+}
+
+// The virtual link of a row.
+fn vl_of_row(alloc: Global, row: Table) -> VlRow
+    ensures { result ≡ vl_row_of (table_view row) }
+{
+    let mut row = row;
+    let mut vl = without_paths(alloc, &row);
+    vl.a = paths_of(alloc, take(&mut row, Key::A));
+    vl.b = paths_of(alloc, take(&mut row, Key::B));
+    vl
+}
+
+// The virtual link of a row, before it has its paths.
+fn without_paths(alloc: Global, row: &Table) -> VlRow
+    ensures { result ≡ record (vl_row_of (table_view row.now)) { a = []; b = [] } }
+{
+    VlRow {
+        id: VlId(number_at(table::ID, row) as u16),
+        bag_ms: number_at(table::BAG_MS, row) as u8,
+        smax: FrameSize::new(number_at(table::SMAX, row) as u16).unwrap(),
+        priority: priority(row),
+        policing_jitter_ns: number_at(table::POLICING_JITTER_NS, row) as u32,
+        skew_max_ns: number_at(table::SKEW_MAX_NS, row) as u32,
+        depth: number_at(table::DEPTH, row) as u16,
+        size: FrameSize::new(number_at(table::SIZE, row) as u16).unwrap(),
+        offset_ns: number_at(table::OFFSET_NS, row),
+        period_ns: number_at(table::PERIOD_NS, row),
+        jitter_ns: number_at(table::JITTER_NS, row) as u32,
+        a: Paths::none(alloc),
+        b: Paths::none(alloc),
+        has_unknown_key: has_unknown_key(Section::Vl, row),
+    }
+}
+
+// Where the frames of the virtual link of a row wait.
+fn priority(row: &Table) -> Priority
+    ensures { result ≡ priority_of (table_view row.now) }
+{
+    if has_word(row, Key::Priority, Word::High) {
+        Priority::High
+    } else {
+        Priority::Low
+    }
+}
+
+// Takes the value at a key out of a row.
+fn take(row: &mut Table, key: Key) -> Option<Value>
+    ensures value { option_map view result ≡ value_at key (table_view row.old) }
+    ensures others { (other : Key) → same_key (key_text key) (key_text other) ≡ false → value_at other (table_view row.new) ≡ value_at other (table_view row.old) }
+{
+    row.remove(key.text())
+}
+
+// The paths that a value is a list of, if there is one.
+fn paths_of(alloc: Global, value: Option<Value>) -> Paths
+    ensures { result ≡ unwrap_or (option_and_then as_paths (option_map view value)) [] }
+{
+    match value {
+        Some(value) => Paths::from_value(alloc, value),
+        None => Paths::none(alloc),
+    }
+}
