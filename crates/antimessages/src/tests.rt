@@ -135,8 +135,10 @@ fn the_first_present_message_is_found_by_the_order(rt: HostRuntime) {
     assert_eq!(rt; tally.present_after(newest.as_ref(), 2), None);
     let first = letter(&rt, 10, 0, Sign::Plus).message;
     assert_eq!(rt; tally.count(&first), 1);
+    assert!(rt; tally.has_one(&first, 1) && tally.has_one(&first, 7));
     tally.remove_one(&first);
     assert_eq!(rt; tally.count(&first), 0);
+    assert!(rt; !tally.has_one(&first, 1) && !tally.has_one(&first, 7));
     assert_eq!(rt; tally.count(&letter(&rt, 20, 0, Sign::Plus).message), 2);
 }
 
