@@ -178,6 +178,7 @@ impl Actor for Node {
         self.counter <= (1 << 62) - 24
     }
 
+    #[inline(always)]
     fn handle(&mut self, event: &Message, out: &mut Outbound) -> NodeRecord {
         self.step(event, out)
     }
