@@ -11,6 +11,7 @@ states-more {S} k states actors more s were pushed is = record { count = count; 
   where
     count : length more ≡ k + 1
     count = ap length pushed ∙ length_push actors s ∙ ap (λ n. n + 1) were.count
+
     each : (p : ℕ) → p < k + 1 → slice_get more p ≡ Some (states p)
     each p h =
         let there : p < length more = omega (count, arith) in
