@@ -1,3 +1,4 @@
 pub mod Text
 pub mod Lines
 pub mod Fronts
+pub mod Journals

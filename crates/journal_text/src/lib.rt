@@ -3,11 +3,13 @@
 
 mod counting;
 mod fault;
+mod journal;
 mod line;
 mod number;
 mod read;
 
 pub use fault::LinesFault;
+pub use journal::Journal;
 pub use read::read_steps;
 
 #[cfg(test)]

@@ -1,8 +1,12 @@
 //! What a replay has found, step by step.
-ghost use Rattle.std.specs.Prelude.{◌≡◌, ◌≢◌, ◌<◌, ◌+◌, ◌^◌, List, ◌∷◌, ◌++◌, [], map, Err, OnOk};
+ghost use Rattle.std.specs.Prelude.{◌≡◌, ◌≢◌, ◌<◌, ◌≤◌, ◌+◌, ◌^◌, ℕ, List, ◌∷◌, ◌++◌, [], map, Err, OnOk, OnErr, IfOk, IfErr};
+ghost use Rattle.vlink.specs.declared.message.Message.{Message};
 ghost use Rattle.vlink.specs.declared.step.Step.{Step as Noted};
+ghost use Rattle.virtual_time.specs.Lists.{earlier};
+ghost use Rattle.virtual_time.specs.World.{Step as Stepped};
+ghost use Rattle.virtual_time.specs.Safe.{Safe, history, CountLaw, IsFinished, IsWhole};
 ghost use Rattle.nodes.specs.Simulation.{simulation_of};
-ghost use Rattle.timewarp.specs.declared.fault.StepFault.TheVariants.{NoProcess, Exhausted};
+ghost use Rattle.timewarp.specs.declared.fault.StepFault.TheVariants.{NoProcess, OutOfMemory, Exhausted};
 ghost use Rattle.timewarp.specs.Steps.{step_of};
 ghost use Rattle.timewarp.specs.Worlds.{IsExhausted};
 ghost use Rattle.timewarp.specs.Networks.{after};
@@ -10,7 +14,10 @@ ghost use Rattle.timewarp.specs.Replayed.{IsReplayed};
 
 use crate::done::Done;
 use crate::fault::StepFault;
+use crate::laws::world_laws;
 use crate::world::World;
+use netdesc::Network;
+use std::alloc::Global;
 use vlink::Step;
 
 /// What a replay has found: the world after the steps, and how many of them were done, were not enabled, and named a process that
@@ -24,12 +31,44 @@ pub struct Replay {
 }
 
 impl Replay {
-    /// Does one more step, and counts it.
-    pub(crate) fn do_step(&mut self, step: Step) -> Result<(), StepFault>
+    /// A replay that has done no step yet. It fails only where memory is refused.
+    ///
+    /// Whatever steps `do_step` is given, and in whatever order, after each of them (clauses `safe` to `balances`): undoing the events of a
+    /// process that are not committed, the newest first, gives its state in the one-thread run after just its committed events, which are
+    /// the first ones there; its events below GVT are those of the one-thread run, and are never undone; GVT never falls; and messages and
+    /// antimessages balance. A run that is finished has the events and the rows of the whole one-thread run.
+    pub fn new(alloc: Global, network: Network) -> Result<Self, StepFault>
+        ensures network { IfOk result (λ replay. replay.world.plan ≡ network) }
+        ensures replayed { IfOk result (λ replay. IsReplayed replay []) }
+        ensures counted { IfOk result (λ replay. replay.did + replay.not_enabled + replay.refused ≡ 0) }
+        ensures memory { IfErr result (λ fault. fault ≡ OutOfMemory) }
+        ensures safe { (steps : List Stepped) → Safe (simulation_of network) (after network steps) }
+        ensures rises { (steps more : List Stepped) → (after network steps).gvt ≤ (after network (steps ++ more)).gvt }
+        ensures never_undone { (steps more : List Stepped) (p : ℕ) →
+            earlier (simulation_of network).rules (after network steps).gvt (history (simulation_of network) (after network (steps ++ more)) p)
+            ≡ earlier (simulation_of network).rules (after network steps).gvt (history (simulation_of network) (after network steps) p) }
+        ensures whole { (steps : List Stepped) → IsFinished (simulation_of network) (after network steps) → IsWhole (simulation_of network) (after network steps) }
+        ensures balances { (steps : List Stepped) (m : Message) → CountLaw (simulation_of network) (after network steps) m }
+    {
+        world_laws(&network);
+        let world = World::new(alloc, network)?;
+        Ok(Replay {
+            world,
+            did: 0,
+            not_enabled: 0,
+            refused: 0,
+        })
+    }
+
+    /// Does one more step, and counts it. A step that is not enabled, or names a process that there is not, is counted and passed over: it
+    /// changes nothing. `OutOfMemory` comes only where a growth was refused, and `Exhausted` only at `Run` of a process that has not enough
+    /// numbers left for what one event can send; both leave the world and the counts as they were.
+    pub fn do_step(&mut self, step: Step) -> Result<(), StepFault>
         requires { self.old.did + self.old.not_enabled + self.old.refused < 2 ^ 63 }
         ensures replayed { OnOk result ((steps : List Noted) → IsReplayed self.old steps → IsReplayed self.new (steps ++ step ∷ [])) }
         ensures counted { OnOk result (self.new.did + self.new.not_enabled + self.new.refused ≡ self.old.did + self.old.not_enabled + self.old.refused + 1) }
         ensures network { self.new.world.plan ≡ self.old.world.plan }
+        ensures refused { OnErr result ((steps : List Noted) → IsReplayed self.old steps → IsReplayed self.new steps) }
         ensures known { result ≢ Err NoProcess }
         ensures exhausted { result ≡ Err Exhausted → (steps : List Noted) → IsReplayed self.old steps →
             IsExhausted (simulation_of self.old.world.plan) (step_of step) (after self.old.world.plan (map step_of steps)) }

@@ -15,7 +15,6 @@ ghost use Rattle.timewarp.specs.Replaying.{did, not_enabled, refused};
 use crate::counting::Replay;
 use crate::fault::StepFault;
 use crate::laws::world_laws;
-use crate::world::World;
 use netdesc::Network;
 use std::alloc::Global;
 use vlink::Step;
@@ -50,13 +49,7 @@ pub fn replay(alloc: Global, network: Network, steps: &[Step]) -> Result<Replay,
         IsExhausted (simulation_of network) (step_of x) (after network (take n (map step_of steps.now))) }
 {
     world_laws(&network);
-    let world = World::new(alloc, network)?;
-    let mut replay = Replay {
-        world,
-        did: 0,
-        not_enabled: 0,
-        refused: 0,
-    };
+    let mut replay = Replay::new(alloc, network)?;
     for step in steps {
         replay.do_step(*step)?;
     }

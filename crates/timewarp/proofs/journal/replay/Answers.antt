@@ -14,11 +14,11 @@ use Rattle.timewarp.specs.Steps.{step_of}
 use Rattle.timewarp.proofs.Beginnings.{beginnings-rise, beginnings-stay}
 use Rattle.timewarp.proofs.journal.replay.Goals as goal
 
-pub returns-in_err-world-clause-rises : goal.returns-in_err-world-clause-rises
-returns-in_err-world-clause-rises c = beginnings-rise c.args.network c.world_laws.ensures.rises (map step_of c.args.steps.now)
+pub returns-in_err-replay-clause-rises : goal.returns-in_err-replay-clause-rises
+returns-in_err-replay-clause-rises c = beginnings-rise c.args.network c.world_laws.ensures.rises (map step_of c.args.steps.now)
 
-pub returns-in_err-world-clause-never_undone : goal.returns-in_err-world-clause-never_undone
-returns-in_err-world-clause-never_undone c = beginnings-stay c.args.network c.world_laws.ensures.never_undone (map step_of c.args.steps.now)
+pub returns-in_err-replay-clause-never_undone : goal.returns-in_err-replay-clause-never_undone
+returns-in_err-replay-clause-never_undone c = beginnings-stay c.args.network c.world_laws.ensures.never_undone (map step_of c.args.steps.now)
 
 pub returns-in_err-do_step-clause-rises : goal.returns-in_err-do_step-clause-rises
 returns-in_err-do_step-clause-rises c = beginnings-rise c.args.network c.world_laws.ensures.rises (map step_of c.args.steps.now)
