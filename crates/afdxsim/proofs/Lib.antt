@@ -2,3 +2,4 @@ pub mod Asking
 pub mod Committing
 pub mod WordsLemmas
 pub mod Accounts
+pub mod GivingUp

@@ -14,15 +14,11 @@ ghost use Rattle.afdxsim.specs.declared.fault.Fault.TheVariants.{OutOfMemory, Ex
 ghost use Rattle.afdxsim.specs.Replaying.{counted_text, finish_text, summary_text, fault_of_lines, IsSummary, IsJournal, AreCommittedTables, TellsOfSteps, TellsOfJournal, IsExhaustedIn, IsFaultOfJournal};
 
 use crate::fault::Fault;
-use journal_text::{LinesFault, read_steps};
+use crate::stepping::done;
 use netdesc::Network;
 use std::alloc::{AllocError, Global};
-use timewarp::{Replay, StepFault, World, replay};
+use timewarp::{Replay, World};
 use trace_tables::Tables;
-use vlink::Step;
-
-/// The most lines of a journal.
-pub const MOST_LINES: u64 = 67_108_864;
 
 /// What is told of a journal that was done on a network.
 #[derive(Drop)]
@@ -33,44 +29,6 @@ pub struct Account {
     pub tables: Tables,
     /// The line that tells how many steps were done, were not enabled and were refused, GVT in ns, and whether the run is finished.
     pub line: String,
-}
-
-/// Why a text was not read as a journal.
-fn fault_of(fault: LinesFault) -> Fault<'static>
-    ensures { result ≡ fault_of_lines fault }
-{
-    match fault {
-        LinesFault::TooMany => Fault::JournalFull,
-        LinesFault::BadLine(line) => Fault::JournalLine(line),
-        LinesFault::OutOfMemory => Fault::OutOfMemory,
-    }
-}
-
-/// The steps of the journal with this text.
-#[tactic(auto, using(crate::proofs::Accounts::few_lines, crate::proofs::Accounts::lines_fault))]
-fn steps_of(alloc: Global, text: &[u8]) -> Result<Vec<Step>, Fault<'static>>
-    ensures steps { IfOk result (λ steps. IsJournal text.now steps.items) }
-    ensures fault { (plan : Plan) → IfErr result (IsFaultOfJournal plan text.now) }
-{
-    match read_steps(alloc, text, MOST_LINES) {
-        Ok(steps) => Ok(steps),
-        Err(fault) => Err(fault_of(fault)),
-    }
-}
-
-/// Does these steps on a network.
-#[tactic(auto, using(crate::proofs::Accounts::replayed))]
-fn done(alloc: Global, network: Network, steps: &[Step]) -> Result<Replay, Fault<'static>>
-    ensures replayed { IfOk result (λ found. IsReplayed found steps.now) }
-    ensures network { IfOk result (λ found. found.world.plan ≡ network) }
-    ensures fault { IfErr result (λ fault. (fault ≡ OutOfMemory) ⊎ ((fault ≡ Exhausted) × IsExhaustedIn network steps.now)) }
-{
-    match replay(alloc, network, steps) {
-        Ok(found) => Ok(found),
-        Err(StepFault::OutOfMemory) => Err(Fault::OutOfMemory),
-        Err(StepFault::Exhausted) => Err(Fault::Exhausted),
-        Err(StepFault::NoProcess) => unreachable!(),
-    }
 }
 
 /// Whether a run is finished, as the end of a line.
@@ -171,7 +129,6 @@ pub fn account_of(alloc: Global, network: Network, text: &[u8]) -> Result<Accoun
     ensures network { IfOk result (λ account. account.world.plan ≡ network) }
     ensures fault { IfErr result (IsFaultOfJournal network text.now) }
 {
-    let steps = steps_of(alloc, text)?;
-    let found = done(alloc, network, &steps)?;
+    let found = done(alloc, network, text)?;
     Ok(told(alloc, found)?)
 }

@@ -12,6 +12,7 @@ mod reading;
 mod replay;
 mod seq;
 mod source;
+mod stepping;
 mod system;
 mod telling;
 mod words;
