@@ -6,10 +6,10 @@ use Rattle.std.specs.Char.{digit_value, is_ascii_digit}
 use Rattle.std.specs.Int.{IsInRange}
 use Rattle.std.specs.Str.Parse.{AllDigits, digits_value}
 use Rattle.std.proofs.lemmas.Bool.{cases_lt, lt-ltb, le-ltb}
-use Rattle.std.proofs.lemmas.List.{append_cancel_left, take-append-drop, drop_more, drop_all}
+use Rattle.std.proofs.lemmas.List.{append_cancel_left, length-take, take-append-drop, drop_more, drop_all}
 use Rattle.std.proofs.lemmas.Bool.Decides.{nat_tests}
 use Rattle.std.proofs.lemmas.Int.Digits.{digits_value_more}
-use Rattle.std.proofs.lemmas.Str.Parse.{IsNumeralModel, numerals_by_value, tells_digits, digit_at, digits_value_short, digits_value-take-le}
+use Rattle.std.proofs.lemmas.Str.Parse.{IsNumeralModel, numerals_by_value, tells_digits, digits_value_short, digit_from_value}
 use Rattle.std.proofs.lemmas.Fmt.{decimal_is_IsNumeral, digits_value-decimal, decimal_nonempty, length-decimal-le, decimal_digit, first_decimal, decimal-digits_value}
 use Rattle.journal_text.specs.Text.{number_then}
 use Rattle.journal_text.specs.Fronts.{IsShort, BeginsWithNone}
@@ -70,15 +70,15 @@ decimal_short n h = record {
     go long zero (inl some) = omega (arith, first_decimal n some (omega arith), zero)
     go long zero (inr none) = (omega (arith, ap length (decimal_digit n (omega arith)), long))
 
-pub value_small : (ds : List ℕ) (i : ℕ) → AllDigits 10 ds → length ds ≤ 10 → digits_value 10 (take i ds) < 10 ^ 10
-value_small ds i h few = omega (arith, digits_value-take-le 10 ds i (omega arith), digits_value_short numerals ds 10 h few)
+pub front_small : (text : List ℕ) (i : ℕ) → AllDigits 10 (take i text) → i ≤ 10 → digits_value 10 (take i text) < 10 ^ 10
+front_small text i h few = digits_value_short numerals (take i text) 10 h (omega (arith, length-take i text))
 
 digit_value-is : (c : ℕ) → IsInRange 48 57 c → digit_value c ≡ c - 48
 digit_value-is c h = grind (arith, nat_tests)
 
 -- one digit more
-pub value_more : (ds : List ℕ) (i : ℕ) → AllDigits 10 ds → i < length ds → digits_value 10 (take (i + 1) ds) ≡ digits_value 10 (take i ds) * 10 + (get_or ds i 0 - 48)
-value_more ds i h lt = omega (arith, digits_value_more 10 ds i lt, digit_value-is (get_or ds i 0) (digit_at ds i h lt))
+pub value_more : (text : List ℕ) (i : ℕ) → digit_value (get_or text i 0) < 10 → i < length text → digits_value 10 (take (i + 1) text) ≡ digits_value 10 (take i text) * 10 + (get_or text i 0 - 48)
+value_more text i digit lt = omega (arith, digits_value_more 10 text i lt, digit_value-is (get_or text i 0) (digit_from_value (get_or text i 0) digit))
 
 -- digits without leading zeros are those of their value
 pub value_written : (ds : List ℕ) → AllDigits 10 ds → IsShort ds → decimal (digits_value 10 ds) ≡ ds

@@ -1,20 +1,25 @@
 ghost use Rattle.std.specs.Prelude.{ℕ, List, ◌∷◌, ◌≡◌, ◌≢◌, ◌<◌, ◌≤◌, ◌^◌, ◌++◌, ◌↔◌, IsTrue, false, decimal, length, take, slice_index, IfSome, IfNone};
 ghost use Rattle.std.specs.Char.{digit_value, is_ascii_digit};
-ghost use Rattle.std.specs.Str.Parse.{AllDigits};
+ghost use Rattle.std.specs.Str.Parse.{AllDigits, digits_value};
 ghost use Rattle.journal_text.specs.Text.{number_then};
 ghost use Rattle.journal_text.specs.Fronts.{IsShort, BeginsWithNone};
 
-/// How many decimal digits stand at the front of a text.
-fn digits_at_front(text: &[u8]) -> usize
-    ensures within { result ≤ length text.now }
-    ensures digits { AllDigits 10 (take result text.now) }
-    ensures end { result < length text.now → 10 ≤ digit_value (slice_index text.now result) }
+/// How many decimal digits stand at the front of a text, and, where they are at most ten, the number that they write.
+fn digits_at_front(text: &[u8]) -> (usize, u64)
+    ensures within { result.0 ≤ length text.now }
+    ensures digits { AllDigits 10 (take result.0 text.now) }
+    ensures end { result.0 < length text.now → 10 ≤ digit_value (slice_index text.now result.0) }
+    ensures value { result.0 ≤ 10 → result.1 ≡ digits_value 10 (take result.0 text.now) }
 {
     let mut count = 0;
+    let mut value = 0;
     while count < text.len() && text[count].is_ascii_digit() {
+        if count < 10 {
+            value = value * 10 + u64::from(text[count] - b'0');
+        }
         count += 1;
     }
-    count
+    (count, value)
 }
 
 /// From one to ten digits stand here, without leading zeros.
@@ -28,18 +33,15 @@ fn is_short(digits: &[u8]) -> bool
     }
 }
 
-/// The number that these digits write without leading zeros, if it is below 2^32.
-fn value_of(digits: &[u8]) -> Option<u32>
-    requires { AllDigits 10 digits.now }
+/// The number that these digits write without leading zeros, if it is below 2^32. They write `value`, where they are at most ten.
+fn value_of(digits: &[u8], value: u64) -> Option<u32>
+    requires digits { AllDigits 10 digits.now }
+    requires value { length digits.now ≤ 10 → value ≡ digits_value 10 digits.now }
     ensures found { IfSome result (λ n. (n < 2 ^ 32) × (digits.now ≡ decimal n)) }
     ensures none { IfNone result ((n : ℕ) → n < 2 ^ 32 → digits.now ≢ decimal n) }
 {
     if !is_short(digits) {
         return None;
-    }
-    let mut value: u64 = 0;
-    for digit in digits {
-        value = value * 10 + u64::from(*digit - b'0');
     }
     u32::try_from(value).ok()
 }
@@ -61,8 +63,9 @@ pub fn read_number(text: &[u8], end: u8) -> Option<(u32, &[u8])>
     ensures found { IfSome result (λ r. (r.0 < 2 ^ 32) × (text.now ≡ number_then end r.0 ++ r.1.now)) }
     ensures none { IfNone result (BeginsWithNone (λ n. n < 2 ^ 32) (number_then end) text.now) }
 {
-    let (digits, behind) = text.split_at(digits_at_front(text));
-    let number = value_of(digits)?;
+    let (count, value) = digits_at_front(text);
+    let (digits, behind) = text.split_at(count);
+    let number = value_of(digits, value)?;
     let rest = behind_byte(behind, end)?;
     Some((number, rest))
 }
