@@ -1,12 +1,12 @@
 //! Letters in the order of their messages: how often a message is counted.
 ghost use Rattle.std.specs.Prelude.{◌≡◌, ◌≤◌, ◌↔◌, length, map, take, drop, pos, true, false, not, IsTrue, slice_get, Some};
 ghost use Rattle.std.specs.List.{AllByRecursion, find};
-ghost use Rattle.std.specs.Option.{option_map};
+ghost use Rattle.std.specs.Option.{option_copied, option_map};
 ghost use Rattle.antimessages.specs.Letters.{message_rules, signed, is_plus};
 ghost use Rattle.antimessages.specs.Counting.{signed_count, change_by, IsTidy};
 
 use crate::order::{is_same, ordered};
-use crate::sorted::{place_after, place_of};
+use crate::sorted::{front_is_before, place_after, place_of};
 use crate::tally::Change;
 use std::collections::VecDeque;
 use vlink::{Letter, Message, Sign};
@@ -69,6 +69,19 @@ pub(crate) fn is_one(letters: &VecDeque<Letter>, place: usize, message: &Message
     !stands_at(letters, place + 1, message, Sign::Plus)
 }
 
+/// Whether the message has the place `guess` and its count is 1, as the letters there tell it. Where it has another place the answer is no.
+#[inline]
+pub(crate) fn is_one_at(letters: &VecDeque<Letter>, guess: usize, message: &Message) -> bool
+    requires { IsTidy message_rules (map signed letters.now.items) }
+    ensures { IsTrue result → signed_count message_rules message.now (map signed letters.now.items) ≡ pos 1 }
+{
+    ordered();
+    if !stands_at(letters, guess, message, Sign::Plus) || !front_is_before(letters, message, guess) {
+        return false;
+    }
+    !stands_at(letters, guess + 1, message, Sign::Plus)
+}
+
 /// What the letter, whose message has this place, makes of its message.
 #[inline]
 pub(crate) fn change_at(letters: &VecDeque<Letter>, place: usize, letter: &Letter) -> Change
@@ -102,14 +115,14 @@ pub(crate) fn change_at(letters: &VecDeque<Letter>, place: usize, letter: &Lette
 
 /// The message of the first plus letter from this place on.
 #[inline]
-pub(crate) fn first_plus(letters: &VecDeque<Letter>, from: usize) -> Option<Message>
+pub(crate) fn first_plus(letters: &VecDeque<Letter>, from: usize) -> Option<&Message>
     requires { from ≤ length letters.now.items }
-    ensures { result ≡ option_map (λ l. l.message) (find (λ l. is_plus l.sign) (drop from letters.now.items)) }
+    ensures { option_copied result ≡ option_map (λ l. l.message) (find (λ l. is_plus l.sign) (drop from letters.now.items)) }
 {
     for place in from..letters.len() {
         let letter = &letters[place];
         match letter.sign {
-            Sign::Plus => return Some(letter.message),
+            Sign::Plus => return Some(&letter.message),
             Sign::Minus => {}
         }
     }

@@ -6,7 +6,7 @@ use crate::fault::OutOfMemory;
 use std::collections::VecDeque;
 
 /// Takes the item at this place, if there is one. The shorter side moves, and nothing where it is the first.
-#[inline]
+#[inline(always)]
 pub(crate) fn take_at<T>(items: &mut VecDeque<T>, place: usize) -> Option<T>
     ensures value { result ≡ slice_get items.old.items place }
     ensures items { items.new.items ≡ remove items.old.items place }

@@ -52,7 +52,7 @@ fn is_place_of(letters: &VecDeque<Letter>, message: &Message, place: usize) -> b
 
 /// Whether the letters in front of this place come before the message, by the last of them.
 #[inline]
-fn front_is_before(letters: &VecDeque<Letter>, message: &Message, place: usize) -> bool
+pub(crate) fn front_is_before(letters: &VecDeque<Letter>, message: &Message, place: usize) -> bool
     requires tidy { IsTidy message_rules (map signed letters.now.items) }
     requires within { place ≤ length letters.now.items }
     ensures { IsTrue result → AllByRecursion (λ l. message_rules.less l.message message.now ≡ true) (take place letters.now.items) }

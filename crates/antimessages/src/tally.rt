@@ -4,7 +4,7 @@ ghost use Rattle.vlink.specs.declared.message.Message.{Message};
 ghost use Rattle.antimessages.specs.Letters.{message_rules, signed, weight};
 ghost use Rattle.antimessages.specs.Counting.{signed_count, change_by, present_after};
 
-use crate::counted::{change_at, count_of, first_plus, is_one, opposite, stands_at};
+use crate::counted::{change_at, count_of, first_plus, is_one, is_one_at, opposite, stands_at};
 use crate::ends::{put_in, take_out};
 use crate::fault::OutOfMemory;
 use crate::order::ordered;
@@ -71,6 +71,9 @@ impl Tally {
     pub fn has_one(&self, message: &Message, guess: usize) -> bool
         ensures { IsTrue result ↔ (signed_count message_rules message.now self.now.letters ≡ pos 1) }
     {
+        if is_one_at(&self.letters, guess, message) {
+            return true;
+        }
         let place = place_of(&self.letters, message, guess);
         is_one(&self.letters, place, message)
     }
@@ -85,8 +88,8 @@ impl Tally {
 
     /// The first present message of those that come after `newest`, or of all where none is given; none where there is none. This is
     /// quickest where `guess` letters of the tally do not come after `newest`, and the answer is the same for any other guess.
-    pub fn present_after(&self, newest: Option<&Message>, guess: usize) -> Option<Message>
-        ensures { result ≡ present_after message_rules (option_copied newest.entry) self.now.letters }
+    pub fn present_after(&self, newest: Option<&Message>, guess: usize) -> Option<&Message>
+        ensures { option_copied result ≡ present_after message_rules (option_copied newest.entry) self.now.letters }
     {
         ordered();
         match newest {

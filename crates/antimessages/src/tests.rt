@@ -93,7 +93,7 @@ fn a_minus_before_its_plus_counts_below_0(rt: HostRuntime) {
     assert_eq!(rt; tally.count(&plus.message), -1);
     assert_eq!(rt; add(&rt, &mut tally, plus), Change::Same);
     assert_eq!(rt; tally.count(&plus.message), 0);
-    assert_eq!(rt; tally.present_after(None, 0), None);
+    assert_eq!(rt; tally.present_after(None, 0).copied(), None);
 }
 
 #[test]
@@ -129,10 +129,10 @@ fn the_first_present_message_is_found_by_the_order(rt: HostRuntime) {
     }
     let mut newest = None;
     for ns in [10, 20, 30] {
-        newest = tally.present_after(newest.as_ref(), 2);
+        newest = tally.present_after(newest.as_ref(), 2).copied();
         assert_eq!(rt; newest, Some(letter(&rt, ns, 0, Sign::Plus).message));
     }
-    assert_eq!(rt; tally.present_after(newest.as_ref(), 2), None);
+    assert_eq!(rt; tally.present_after(newest.as_ref(), 2).copied(), None);
     let first = letter(&rt, 10, 0, Sign::Plus).message;
     assert_eq!(rt; tally.count(&first), 1);
     assert!(rt; tally.has_one(&first, 1) && tally.has_one(&first, 7));

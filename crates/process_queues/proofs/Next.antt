@@ -11,7 +11,7 @@ use Rattle.virtual_time.proofs.Lists.{times-none}
 use Rattle.virtual_time.proofs.Presence.{present-true, present-from}
 use Rattle.virtual_time.proofs.Reading.{next-from, none-next_from}
 use Rattle.antimessages.specs.Letters.{message_rules}
-use Rattle.antimessages.specs.Counting.{is_after}
+use Rattle.antimessages.specs.Counting.{is_after, present_after}
 use Rattle.antimessages.proofs.After.{first_after-is, first_after-none}
 use Rattle.process_queues.specs.Past.{newest_of}
 use Rattle.process_queues.specs.Queues.{Queues, StandsFor, next_in}
@@ -73,3 +73,9 @@ module _ {S K : Type 0} (r : Rules Message S K Note) (R : OfMessages r) (is_valu
             not_done = after-not_done m (sym (after-here m) ∙ f.after);
             first = λ x present z. R.less_one x m ∙ f.first x (here x present) (after-here x ∙ not_done-after x present z);
           })
+
+-- what was found in the tally after the newest done event is the message that is handled next
+pub found-next : {S K : Type 0} (r : Rules Message S K Note) → OfMessages r → (is_value : S → Message → Type 0) (opening : S) (part : Part Message S) (q : Queues S K) (newest found : Option Message) →
+    StandsFor r is_value opening part q → found ≡ present_after message_rules newest q.tally → newest ≡ newest_of (map (λ e. e.message) q.past.done) → found ≡ next_of r part
+found-next r R is_value opening part q newest found h is at =
+    is ∙ (ap (λ o. present_after message_rules o q.tally) at ∙ sym (next-stands r R is_value opening part q h))

@@ -84,14 +84,16 @@ impl<R: Actor> Process<R> {
         ensures unchanged { OnErr result (self.new.queues ≡ self.old.queues) }
     {
         actor_rules::<R>();
-        let Some(message) = self.next() else {
+        let done = self.past.done_len();
+        // It is handled where it stands among the counted letters: a copy of it would cost as much as the search.
+        let Some(message) = self.tally.present_after(self.past.newest(), done) else {
             return Ok(None);
         };
         if !self.past.actor().has_numbers() {
             return Err(ProcFault::Exhausted);
         }
-        self.past.handle(&message, out, &mut self.outbox)?;
-        Ok(Some(message))
+        self.past.handle(message, out, &mut self.outbox)?;
+        Ok(Some(*message))
     }
 
     /// The oldest done event is committed, where its signed count is just 1: it leaves the done events and the counts, and its rows are

@@ -163,7 +163,7 @@ impl<R: Actor> Process<R> {
     {
         actor_rules::<R>();
         let done = self.past.done_len();
-        self.tally.present_after(self.past.newest(), done)
+        self.tally.present_after(self.past.newest(), done).copied()
     }
 
     /// A moment that nothing in hand is earlier than, as a post sets it: the least time of the tray's letters and of the present messages
