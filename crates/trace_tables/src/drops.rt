@@ -10,25 +10,13 @@ use std::alloc::AllocError;
 use std::collections::BTreeMap;
 use vlink::{Note, Row, VlId};
 
-/// How often a loss is counted.
-fn count_of(drops: &BTreeMap<Loss, u64>, loss: &Loss) -> u64
-    ensures { result ≡ count_in drops.now.entries loss.now }
-{
-    loss_order();
-    match drops.get(loss) {
-        Some(count) => *count,
-        None => 0,
-    }
-}
-
 /// One more of a loss.
 fn add(drops: &mut BTreeMap<Loss, u64>, loss: Loss) -> Result<(), AllocError>
     requires { count_in drops.old.entries loss < 2 ^ 64 - 1 }
     ensures { OnOk result (drops.new.entries ≡ with_loss drops.old.entries loss) }
 {
     loss_order();
-    let count = count_of(drops, &loss);
-    drops.insert(loss, count + 1)?;
+    *drops.entry(loss)?.or_insert(0) += 1;
     Ok(())
 }
 
