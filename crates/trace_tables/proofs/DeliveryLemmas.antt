@@ -5,6 +5,10 @@ use Rattle.std.specs.Option.{option_map, option_map_or}
 use Rattle.std.proofs.lemmas.List.{append-nil, map-id, length-map}
 use Rattle.std.proofs.lemmas.Grind.{flat_map-append}
 use Rattle.std.proofs.lemmas.Map.Views.{exact_unsigned_eq}
+use Rattle.std.proofs.lemmas.Option.{slice_get_read}
+use Rattle.std.specs.declared.alloc.Global.{Global}
+use Rattle.std.specs.declared.vec.Vec.{Vec}
+use Rattle.netdesc.specs.Views.{items_of}
 use Rattle.vlink.specs.declared.frame.VlId.{VlId}
 use Rattle.vlink.specs.declared.note.Note.{Note}
 use Rattle.vlink.specs.declared.note.Note.TheVariants.{Delivered, Dropped}
@@ -60,6 +64,10 @@ pub read-map : {X Y : Type 0} (f : X → Y) (xs : List X) (i : ℕ) (x : X) (d :
 read-map f [] i x d at = absurd (cc)
 read-map f (y ∷ xs) zero x d at = let e : y ≡ x = cc in ap f e
 read-map f (y ∷ xs) (suc i) x d at = read-map f xs i x d at
+
+-- a vector that is read from a table is a list of the table
+pub column : {X : Type 0} (rows : List (Vec X Global)) (v : ℕ) (row : Vec X Global) → v < length rows → row ≡ get_or rows v row → get_or (map items_of rows) v [] ≡ row.items
+column rows v row lt read = read-map items_of rows v row [] (slice_get_read rows (length rows) v row refl lt read)
 
 abbrev counted : ℕ → List Row → ℕ → Counts
 counted vl rows p = counts_of (latencies_of vl p rows)

@@ -5,7 +5,7 @@ use Rattle.std.specs.List.{All, count_by, flat_map}
 use Rattle.std.specs.List.Sorted.{IsStrictlySortedBy}
 use Rattle.std.specs.Option.{IfSome, option_map_or}
 use Rattle.std.specs.Ordering.{is_eq}
-use Rattle.std.specs.BTreeMap.{is_at}
+use Rattle.std.specs.BTreeMap.{insert_entry, is_at}
 use Rattle.std.specs.Map.{lookup, keys_of, values_of}
 use Rattle.std.proofs.lemmas.List.Sums.{sum_by-append, sum_by-cons}
 use Rattle.std.proofs.lemmas.Map.Views.{All-values-insert_entry, IfSome-lookup_from_All, tells_apart}
@@ -21,16 +21,19 @@ use Rattle.trace_tables.proofs.LossOrderLemmas.{losses_total, exact_losses, is_e
 use Rattle.trace_tables.proofs.CountedLemmas.{lookup-insert_entry, sorted-insert_entry, same-entries}
 use Rattle.trace_tables.proofs.ListLemmas.{one_if}
 
-abbrev is_same : Loss → Loss → Bool
+abbrev pub is_same : Loss → Loss → Bool
 is_same loss other = is_eq (loss_cmp loss other)
 
--- one more of a loss is one more of it and of no other
-count-with_loss : (counts : List (Loss × ℕ)) (more loss : Loss) → count_in (with_loss counts more) loss ≡ count_in counts loss + cond (is_same loss more) 1 0
-count-with_loss counts more loss = ap (λ o. option_map_or (λ n. n) o 0) (lookup-insert_entry losses_total more (count_in counts more + 1) loss counts) ∙ go (is_same loss more) refl
+-- so many more of a loss are as many more of it, and none more of any other
+pub count-put : (counts : List (Loss × ℕ)) (more : Loss) (k : ℕ) (loss : Loss) → count_in (insert_entry loss_cmp counts more (count_in counts more + k)) loss ≡ count_in counts loss + cond (is_same loss more) k 0
+count-put counts more k loss = ap (λ o. option_map_or (λ n. n) o 0) (lookup-insert_entry losses_total more (count_in counts more + k) loss counts) ∙ go (is_same loss more) refl
   where
-    go : (b : Bool) → is_same loss more ≡ b → option_map_or (λ n. n) (cond b (Some (count_in counts more + 1)) (lookup (is_at (loss_cmp loss)) counts)) 0 ≡ count_in counts loss + cond b 1 0
-    go true same = let e : loss ≡ more = tells_apart exact_losses loss more same in ap (λ (x : Loss). count_in counts x + 1) (sym e)
+    go : (b : Bool) → is_same loss more ≡ b → option_map_or (λ n. n) (cond b (Some (count_in counts more + k)) (lookup (is_at (loss_cmp loss)) counts)) 0 ≡ count_in counts loss + cond b k 0
+    go true same = let e : loss ≡ more = tells_apart exact_losses loss more same in ap (λ (x : Loss). count_in counts x + k) (sym e)
     go false differ = omega arith
+
+count-with_loss : (counts : List (Loss × ℕ)) (more loss : Loss) → count_in (with_loss counts more) loss ≡ count_in counts loss + cond (is_same loss more) 1 0
+count-with_loss counts more loss = count-put counts more 1 loss
 
 -- and of each of these
 count-with_losses : (losses : List Loss) (counts : List (Loss × ℕ)) (loss : Loss) → count_in (with_losses counts losses) loss ≡ count_in counts loss + count_by (is_same loss) losses
@@ -49,14 +52,14 @@ count-in loss place (Dropped vl cause size) =
     let same : one_if (is_same loss other) ≡ one_if (is_loss loss place (Dropped vl cause size)) = ap one_if (is_eq-losses loss other) in
     omega arith
 
-count-known : (plan : Plan) (loss : Loss) (row : Row) → count_by (is_same loss) (known_loss plan row) ≡ cond (is_known plan row && is_loss loss row.place row.note) 1 0
+pub count-known : (plan : Plan) (loss : Loss) (row : Row) → count_by (is_same loss) (known_loss plan row) ≡ cond (is_known plan row && is_loss loss row.place row.note) 1 0
 count-known plan loss row = go (is_known plan row)
   where
     go : (b : Bool) → count_by (is_same loss) (cond b (loss_of row) []) ≡ cond (b && is_loss loss row.place row.note) 1 0
     go true = count-in loss row.place row.note
     go false = refl
 
-count-rows : (plan : Plan) (loss : Loss) (rows : List Row) → count_by (is_same loss) (flat_map (known_loss plan) rows) ≡ times_lost plan loss rows
+pub count-rows : (plan : Plan) (loss : Loss) (rows : List Row) → count_by (is_same loss) (flat_map (known_loss plan) rows) ≡ times_lost plan loss rows
 count-rows plan loss [] = refl
 count-rows plan loss (row ∷ rows) =
     let here : count_by (is_same loss) (known_loss plan row) ≡ cond (is_known plan row && is_loss loss row.place row.note) 1 0 = count-known plan loss row in
@@ -105,11 +108,16 @@ same-found None (Some n) h k e = absurd (omega arith)
 same-found (Some m) None h k e = absurd (omega arith)
 same-found (Some m) (Some n) h k e = ap Some e
 
+-- ascending counts above 0 that have each loss as often as rows tell it are the table of drops
+pub is-drops : (plan : Plan) (rows : List Row) (counts : List (Loss × ℕ)) → IsStrictlySortedBy loss_cmp (keys_of counts) → ArePositive counts
+    → ((loss : Loss) → count_in counts loss ≡ times_lost plan loss rows) → counts ≡ drop_table plan rows
+is-drops plan rows counts ascending positive same =
+    same-entries losses_total exact_losses counts (drop_table plan rows) ascending (drops-ascending plan rows) (λ loss.
+    same-found (lookup (is_at (loss_cmp loss)) counts) (lookup (is_at (loss_cmp loss)) (drop_table plan rows))
+    (IfSome-lookup_from_All (λ n. 0 < n) (is_at (loss_cmp loss)) counts positive)
+    (IfSome-lookup_from_All (λ n. 0 < n) (is_at (loss_cmp loss)) (drop_table plan rows) (drops-positive plan rows))
+    (same loss ∙ sym (drops-counted plan rows loss)))
+
 -- rows that tell each loss as often have the same table of drops
 pub same-drops : (plan : Plan) (xs ys : List Row) → ((loss : Loss) → times_lost plan loss xs ≡ times_lost plan loss ys) → drop_table plan xs ≡ drop_table plan ys
-same-drops plan xs ys same =
-    same-entries losses_total exact_losses (drop_table plan xs) (drop_table plan ys) (drops-ascending plan xs) (drops-ascending plan ys) (λ loss.
-    same-found (lookup (is_at (loss_cmp loss)) (drop_table plan xs)) (lookup (is_at (loss_cmp loss)) (drop_table plan ys))
-    (IfSome-lookup_from_All (λ n. 0 < n) (is_at (loss_cmp loss)) (drop_table plan xs) (drops-positive plan xs))
-    (IfSome-lookup_from_All (λ n. 0 < n) (is_at (loss_cmp loss)) (drop_table plan ys) (drops-positive plan ys))
-    (drops-counted plan xs loss ∙ same loss ∙ sym (drops-counted plan ys loss)))
+same-drops plan xs ys same = is-drops plan ys (drop_table plan xs) (drops-ascending plan xs) (drops-positive plan xs) (λ loss. drops-counted plan xs loss ∙ same loss)

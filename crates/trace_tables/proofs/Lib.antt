@@ -1,11 +1,12 @@
 pub mod LatencyLemmas
 pub mod ListLemmas
 pub mod DeliveryLemmas
-pub mod DropLemmas
 pub mod WritingLemmas
 pub mod LossOrderLemmas
 pub mod CountedLemmas
 pub mod DropCountLemmas
+pub mod DuplicateLemmas
+pub mod LossRowLemmas
 pub mod PlaceLemmas
 pub mod GatherLemmas
 pub mod LatencyCountLemmas

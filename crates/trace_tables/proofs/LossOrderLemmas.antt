@@ -40,7 +40,8 @@ then-equal Less b e = absurd (cc)
 then-equal Equal b e = (refl, e)
 then-equal Greater b e = absurd (cc)
 
-loss-is : (a b : Loss) → a.vl.0 ≡ b.vl.0 → a.place ≡ b.place → a.cause ≡ b.cause → a ≡ b
+-- losses are the same where their three parts are
+pub loss-is : (a b : Loss) → a.vl.0 ≡ b.vl.0 → a.place ≡ b.place → a.cause ≡ b.cause → a ≡ b
 loss-is a b v p c =
     let made = λ (v : ℕ) (p : ℕ) (c : Cause). (let vl : VlId = record { 0 = v } in let loss : Loss = record { vl = vl; place = p; cause = c } in loss) in
     ap (λ (v : ℕ). made v a.place a.cause) v ∙ ap (λ (p : ℕ). made b.vl.0 p a.cause) p ∙ ap (λ (c : Cause). made b.vl.0 b.place c) c

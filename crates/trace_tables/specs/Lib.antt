@@ -3,6 +3,7 @@ pub mod Losses
 pub mod Tables
 pub mod Counting
 pub mod Delivering
+pub mod Duplicates
 pub mod Sinking
 pub mod Text
 pub mod Writing

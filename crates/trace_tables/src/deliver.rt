@@ -8,7 +8,7 @@ use netdesc::Network;
 use vlink::{Note, Row, VlId};
 
 /// Where a process stands among destinations.
-fn place_among(destinations: &[usize], place: usize) -> Option<usize>
+pub fn place_among(destinations: &[usize], place: usize) -> Option<usize>
     ensures value { result ≡ place_among destinations.now place }
     ensures within { IfSome result (λ d. d < length destinations.now) }
 {

@@ -1,35 +1,40 @@
-ghost use Rattle.std.specs.Prelude.{◌≡◌, ◌-◌, ◌^◌, ◌<◌, OnOk};
-ghost use Rattle.std.specs.Option.{option_to_list};
+ghost use Rattle.std.specs.Prelude.{◌≡◌, ◌+◌, ◌-◌, ◌^◌, ◌<◌, ◌++◌, ◌∷◌, [], List, None, cond, nat_lt, OnOk};
+ghost use Rattle.vlink.specs.declared.note.Row.{Row};
+ghost use Rattle.netdesc.specs.Faults.{process_count};
+ghost use Rattle.netdesc.specs.Lines.{place_of_vl};
+ghost use Rattle.netdesc.specs.Views.{lists_of};
 ghost use Rattle.trace_tables.specs.declared.loss.Loss.{Loss};
-ghost use Rattle.trace_tables.specs.Losses.{count_in, with_loss, with_losses, loss_of};
-ghost use Rattle.trace_tables.specs.Tables.{vl_of, is_known, known_loss};
+ghost use Rattle.trace_tables.specs.Duplicates.{AreCounted, HasColumns, losses_among, times_in, with_more};
+ghost use Rattle.trace_tables.specs.Losses.{count_in, loss_of};
+ghost use Rattle.trace_tables.specs.Tables.{vl_of, is_known};
 
+use crate::duplicates::add_duplicate;
 use crate::loss::{Loss, loss_order};
 use netdesc::Network;
 use std::alloc::AllocError;
 use std::collections::BTreeMap;
-use vlink::{Note, Row, VlId};
+use vlink::{Cause, Note, Row, VlId};
 
-/// How often a loss is counted.
-fn count_of(drops: &BTreeMap<Loss, u64>, loss: &Loss) -> u64
-    ensures { result ≡ count_in drops.now.entries loss.now }
+/// So many more of a loss.
+pub fn add(drops: &mut BTreeMap<Loss, u64>, loss: Loss, more: u64) -> Result<(), AllocError>
+    requires some { 0 < more }
+    requires few { count_in drops.old.entries loss + more < 2 ^ 64 }
+    ensures { OnOk result (drops.new.entries ≡ with_more drops.old.entries loss more) }
 {
     loss_order();
-    match drops.get(loss) {
-        Some(count) => *count,
-        None => 0,
-    }
+    *drops.entry(loss)?.or_insert(0) += more;
+    Ok(())
 }
 
-/// One more of a loss.
-fn add(drops: &mut BTreeMap<Loss, u64>, loss: Loss) -> Result<(), AllocError>
-    requires { count_in drops.old.entries loss < 2 ^ 64 - 1 }
-    ensures { OnOk result (drops.new.entries ≡ with_loss drops.old.entries loss) }
+/// The place of this virtual link, if the network has it and this process.
+fn place_in(network: &Network, vl: VlId, place: u16) -> Option<usize>
+    ensures { result ≡ cond (nat_lt place (process_count network.now)) (place_of_vl network.now.vls vl.0) None }
 {
-    loss_order();
-    let count = count_of(drops, &loss);
-    drops.insert(loss, count + 1)?;
-    Ok(())
+    if usize::from(place) < network.process_count() {
+        network.place_of(vl)
+    } else {
+        None
+    }
 }
 
 /// The virtual link of a note.
@@ -46,37 +51,49 @@ fn vl_of(note: Note) -> VlId
 pub fn is_known(network: &Network, row: &Row) -> bool
     ensures { result ≡ is_known network.now row.now }
 {
-    network.place_of(vl_of(row.note)).is_some() && usize::from(row.place) < network.process_count()
+    place_in(network, vl_of(row.note), row.place).is_some()
 }
 
-/// What a row says was lost, if it says so.
-fn loss_of(row: &Row) -> Option<Loss>
-    ensures { option_to_list result ≡ loss_of row.now }
+/// A loss is counted, if the network has its virtual link and process.
+fn drop_frame(
+    table: &mut Vec<Vec<u64>>,
+    others: &mut BTreeMap<Loss, u64>,
+    network: &Network,
+    loss: Loss,
+) -> Result<(), AllocError>
+    requires columns { HasColumns network.now.vls (lists_of table.old) }
+    requires few { (more : Loss) → count_in others.old.entries more + times_in (losses_among network.now.vls (lists_of table.old)) more < 2 ^ 64 - 1 }
+    ensures { OnOk result ((rows : List Row) (row : Row) → loss_of row ≡ loss ∷ [] → AreCounted network.now rows (lists_of table.old) others.old.entries → AreCounted network.now (rows ++ row ∷ []) (lists_of table.new) others.new.entries) }
 {
-    match row.note {
-        Note::Delivered { .. } => None,
-        Note::Dropped { vl, cause, .. } => Some(Loss {
-            vl,
-            place: row.place,
-            cause,
-        }),
+    let Some(vl) = place_in(network, loss.vl, loss.place) else {
+        return Ok(());
+    };
+    if add_duplicate(table, network, vl, loss) {
+        return Ok(());
     }
+    add(others, loss, 1)
 }
 
 /// A row is counted, if it tells a drop of the network.
 pub fn drop_row(
-    drops: &mut BTreeMap<Loss, u64>,
+    table: &mut Vec<Vec<u64>>,
+    others: &mut BTreeMap<Loss, u64>,
     network: &Network,
     row: &Row,
 ) -> Result<(), AllocError>
-    requires { (loss : Loss) → count_in drops.old.entries loss < 2 ^ 64 - 1 }
-    ensures { OnOk result (drops.new.entries ≡ with_losses drops.old.entries (known_loss network.now row.now)) }
+    requires columns { HasColumns network.now.vls (lists_of table.old) }
+    requires few { (loss : Loss) → count_in others.old.entries loss + times_in (losses_among network.now.vls (lists_of table.old)) loss < 2 ^ 64 - 1 }
+    ensures { OnOk result ((rows : List Row) → AreCounted network.now rows (lists_of table.old) others.old.entries → AreCounted network.now (rows ++ row.now ∷ []) (lists_of table.new) others.new.entries) }
 {
-    if !is_known(network, row) {
-        return Ok(());
-    }
-    match loss_of(row) {
-        Some(loss) => add(drops, loss),
-        None => Ok(()),
+    match row.note {
+        Note::Delivered { .. } => Ok(()),
+        Note::Dropped { vl, cause, .. } => {
+            let loss = Loss {
+                vl,
+                place: row.place,
+                cause,
+            };
+            drop_frame(table, others, network, loss)
+        }
     }
 }

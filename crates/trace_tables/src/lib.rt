@@ -3,6 +3,7 @@
 
 mod deliver;
 mod drops;
+mod duplicates;
 mod fault;
 mod latencies;
 mod laws;

@@ -7,6 +7,7 @@ ghost use Rattle.trace_tables.specs.Tables.{latency_table, tables_of};
 
 use crate::deliver::deliver_row;
 use crate::drops::drop_row;
+use crate::duplicates::{gather, no_duplicates};
 use crate::latencies::Latencies;
 use crate::loss::Loss;
 use netdesc::Network;
@@ -64,11 +65,13 @@ impl Tables {
         ensures { IfOk result (λ tables. tables ≡ tables_of network.now rows.now) }
     {
         let mut latencies = no_rows(alloc, network)?;
+        let mut duplicates = no_duplicates(alloc, network)?;
         let mut drops = BTreeMap::new(alloc);
         for row in rows {
             deliver_row(&mut latencies, network, row);
-            drop_row(&mut drops, network, row)?;
+            drop_row(&mut duplicates, &mut drops, network, row)?;
         }
+        gather(&mut drops, network, duplicates.as_slice())?;
         Ok(Tables { latencies, drops })
     }
 

@@ -1,17 +1,14 @@
-use Rattle.std.proofs.Common.{ℕ, ◌-◌, ◌^◌, refl, None, IfSome, ◌≡◌, ◌==◌, ◌<◌, length, get_or, set, map, [], List, Option, Some, ap, subst, sym, ◌∙◌, arith}
+use Rattle.std.proofs.Common.{ℕ, ◌-◌, ◌^◌, None, IfSome, ◌≡◌, ◌==◌, ◌<◌, length, get_or, set, [], List, Option, Some, ap, subst, sym, ◌∙◌, arith}
 use Rattle.std.specs.Prelude.{slice_get}
 use Rattle.std.specs.Option.{option_map, option_map_or}
 use Rattle.std.proofs.lemmas.List.{map-set}
-use Rattle.std.proofs.lemmas.Option.{slice_get_read}
-use Rattle.std.specs.declared.alloc.Global.{Global}
-use Rattle.std.specs.declared.vec.Vec.{Vec}
 use Rattle.netdesc.specs.Plan.{VlPlan}
 use Rattle.netdesc.specs.Trees.{destinations_of}
 use Rattle.netdesc.specs.Views.{items_of, lists_of}
 use Rattle.trace_tables.specs.Latencies.{Counts, counts_of}
 use Rattle.trace_tables.specs.Delivering.{destinations_at, place_among, with_latency_at, with_delivery_at}
 use Rattle.trace_tables.proofs.ListLemmas.{place_by-below}
-use Rattle.trace_tables.proofs.DeliveryLemmas.{read-map}
+use Rattle.trace_tables.proofs.DeliveryLemmas.{column}
 use Rattle.trace_tables.proofs.deliver.deliver.Goals as goal
 
 pub destinations-requires : goal.destinations-requires
@@ -21,10 +18,6 @@ pub index_mut-requires : goal.index_mut-requires
 index_mut-requires c =
     let lt : c.in-Some.v < length c.args.network.now.vls = place_by-below (λ vl. vl.link.id.0 == c.args.vl.0) c.args.network.now.vls c.in-Some.v (sym c.place_of.ensures ∙ c.in-Some.is) in
     omega (arith, c.requires.rows, c.args.table.now.ok.0)
-
--- the vector that is lent is that of the table
-column : {X : Type 0} (rows : List (Vec X Global)) (v : ℕ) (row : Vec X Global) → v < length rows → row ≡ get_or rows v row → get_or (map items_of rows) v [] ≡ row.items
-column rows v row lt read = read-map items_of rows v row [] (slice_get_read rows (length rows) v row refl lt read)
 
 destinations : (o : Option VlPlan) (places : List ℕ) → option_map destinations_of o ≡ Some places → option_map_or destinations_of o [] ≡ places
 destinations None places e = absurd (cc)
