@@ -88,7 +88,7 @@ impl EndSystem {
         match message.body {
             Body::Offer { vl, size } => self.regulate(at, vl, &offer(at, vl, size), out),
             Body::Release { vl } => self.regulate(at, vl, &RegEvent::Release { at }, out),
-            Body::PortFree { port } => Kept::Port(self.ports.act(at, port, &PortEvent::Free, out)),
+            Body::PortFree { port } => Kept::Port(self.ports.free(at, port, out)),
             Body::Arrive { port, frame } if self.ports.exists(port) => self.take(at, &frame, out),
             _ => Kept::Nothing,
         }

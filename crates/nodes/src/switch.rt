@@ -74,7 +74,7 @@ impl Switch {
     {
         let at = message.time;
         match message.body {
-            Body::PortFree { port } => Kept::Port(self.ports.act(at, port, &PortEvent::Free, out)),
+            Body::PortFree { port } => Kept::Port(self.ports.free(at, port, out)),
             Body::Arrive { port, frame } if self.ports.exists(port) => {
                 self.take(at, port, &frame, out)
             }
@@ -186,11 +186,8 @@ impl Switch {
             out.lose(Cause::Unknown, frame);
             return Kept::Nothing;
         };
-        let event = PortEvent::Put {
-            frame: *frame,
-            priority,
-        };
-        Kept::Port(self.ports.act(at, port, &event, out))
+        let kept = self.ports.put(at, port, frame, priority, out);
+        Kept::Port(kept.map(PortRecord::Put))
     }
 
     /// A frame that was put to a port leaves it.
