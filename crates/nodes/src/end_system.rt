@@ -156,6 +156,7 @@ impl EndSystem {
     }
 
     /// A frame has come. It is lost where its virtual link does not end here on its network.
+    #[inline(always)]
     fn take(&mut self, at: Time, frame: &Frame, out: &mut Outbound) -> Kept
         requires { length out.old.notes < 2 }
         ensures state { self.new ≡ (taken at frame.now self.old (sink_at self.old frame.now.vl frame.now.net)).state }

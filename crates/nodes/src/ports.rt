@@ -98,6 +98,7 @@ impl Ports {
     }
 
     /// Frees a port at this moment, and sends what follows. Nothing happens where there is no such port.
+    #[inline(always)]
     pub fn free(&mut self, at: Time, port: u8, out: &mut Outbound) -> Option<PortRecord>
         requires room { length out.old.messages + 2 ≤ 24 }
         requires notes { length out.old.notes < 2 }

@@ -110,6 +110,7 @@ impl Switch {
     }
 
     /// A frame has come to a port.
+    #[inline(always)]
     fn take(&mut self, at: Time, port: u8, frame: &Frame, out: &mut Outbound) -> Kept
         requires messages { out.old.messages ≡ [] }
         requires notes { out.old.notes ≡ [] }
@@ -173,6 +174,7 @@ impl Switch {
     }
 
     /// A frame is put to a port, with the priority of its virtual link.
+    #[inline(always)]
     fn put(&mut self, at: Time, port: u8, frame: &Frame, out: &mut Outbound) -> Kept
         requires messages { out.old.messages ≡ [] }
         requires notes { out.old.notes ≡ [] }
