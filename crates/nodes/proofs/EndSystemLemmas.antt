@@ -9,7 +9,7 @@ use Rattle.bag_regulator.specs.declared.event.RegEvent.{RegEvent}
 use Rattle.bag_regulator.specs.declared.event.RegEvent.TheVariants.{Offer, Release}
 use Rattle.bag_regulator.specs.declared.event.RegAnswer.TheVariants.{Released}
 use Rattle.bag_regulator.specs.declared.event.RegRecord.{RegRecord}
-use Rattle.output_port.specs.declared.event.PortRecord.{PortRecord}
+use Rattle.output_port.specs.declared.event.PutRecord.{PutRecord}
 use Rattle.nodes.specs.declared.kept.Kept.TheVariants as kept
 use Rattle.nodes.specs.declared.vl_end.VlEnd.{VlEnd}
 use Rattle.reverse.specs.Sending.{silent}
@@ -55,7 +55,7 @@ source-found {read} {s} vl i end g is e h k =
     go (Some j) e h k = at j (slice_get s.sources j) (slice_get s.regulators j) refl refl e h k
 
 -- a virtual link whose regulator was asked is found with that regulator, and the records are those of the asking
-pub sending-came : (n t : ℕ) (vl : VlId) (e : RegEvent) (now : EndSystemState) (k : RegRecord) (a b : Option PortRecord) →
+pub sending-came : (n t : ℕ) (vl : VlId) (e : RegEvent) (now : EndSystemState) (k : RegRecord) (a b : Option PutRecord) →
     RegulatedCameFrom n t vl e now (kept.Regulated k a b) → (source : SourceAt) → source_at now vl ≡ Some source →
     SendingCameFrom e source.end source.regulator now.ports k a b
 sending-came n t vl e now k a b came source found = go (source_at came.0 vl) refl came.1 came.2 came.3

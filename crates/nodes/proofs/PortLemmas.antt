@@ -1,11 +1,12 @@
 -- What an event at a port is where there is such a port, and where there is none.
-use Rattle.std.proofs.Common.{◌≡◌, ℕ, List, Option, Some, None, ap, refl, sym, ◌∙◌, slice_get, slice_set, subst}
-use Rattle.output_port.specs.Port.{PortState, port, IsWithinBytes}
+use Rattle.std.proofs.Common.{◌≡◌, ℕ, Option, ap, sym, ◌∙◌, slice_get, subst}
+use Rattle.output_port.specs.Port.{PortState}
+use Rattle.vlink.specs.declared.frame.Frame.{Frame}
 use Rattle.output_port.specs.declared.event.PortEvent.{PortEvent}
+use Rattle.output_port.specs.declared.event.Priority.{Priority}
 use Rattle.nodes.specs.declared.ports.Wire.{Wire}
-use Rattle.reverse.specs.Sending.{Reply, silent}
-use Rattle.nodes.specs.Ports.{PortsState, wire_at, changed_at, changed, reply_at, reply, answered}
-use Rattle.nodes.specs.Undoing.{kept_at, port_kept, IsThere, IsPortValue}
+use Rattle.nodes.specs.Ports.{PortsState, wire_at, changed_at, changed, reply_at, reply}
+use Rattle.nodes.specs.Undoing.{kept_at, port_kept, put_kept_at, port_put_kept, IsThere, IsPortValue}
 
 -- what is there at port q
 module _ (q : ℕ) (e : PortEvent) (ports : PortsState) (w : Option Wire) (p : Option PortState) (is_wire : wire_at ports q ≡ w) (is_port : slice_get ports.states q ≡ p) where
@@ -17,6 +18,9 @@ module _ (q : ℕ) (e : PortEvent) (ports : PortsState) (w : Option Wire) (p : O
 
   pub kept-as : port_kept q e ports ≡ kept_at e w p
   kept-as = ap (λ w. kept_at e w (slice_get ports.states q)) is_wire ∙ ap (λ p. kept_at e w p) is_port
+
+  pub put-kept-as : (frame : Frame) (priority : Priority) → port_put_kept q frame priority ports ≡ put_kept_at frame priority w p
+  put-kept-as frame priority = ap (λ w. put_kept_at frame priority w (slice_get ports.states q)) is_wire ∙ ap (λ p. put_kept_at frame priority w p) is_port
 
   pub value-as : IsThere w p → IsPortValue q ports
   value-as h = subst (λ w. IsThere w (slice_get ports.states q)) (sym is_wire) (subst (λ p. IsThere w p) (sym is_port) h)

@@ -14,7 +14,8 @@ use Rattle.bag_regulator.specs.declared.event.RegEvent.TheVariants.{Offer, Relea
 use Rattle.bag_regulator.specs.declared.event.RegAnswer.{RegAnswer}
 use Rattle.bag_regulator.specs.declared.event.RegAnswer.TheVariants as answer
 use Rattle.output_port.specs.declared.event.PortEvent.TheVariants.{Free}
-use Rattle.output_port.specs.declared.event.PortRecord.{PortRecord}
+use Rattle.output_port.specs.declared.event.Priority.TheVariants.{Low}
+use Rattle.output_port.specs.declared.event.PutRecord.{PutRecord}
 use Rattle.integrity.specs.Integrity.{integrity}
 use Rattle.integrity.specs.declared.checking.Check.{Check}
 use Rattle.integrity.specs.declared.checking.Check.TheVariants as check
@@ -26,9 +27,9 @@ use Rattle.nodes.specs.Ports.{PortsState, changed, exists}
 use Rattle.nodes.specs.Finding.{place_of}
 use Rattle.nodes.specs.EndSystem.{EndSystemState, SourceAt, SinkAt, source_at, source_with, sink_at, sink_with, numbers_of, is_on, port_of, copy, copied, released_out, regulated, offered_frame, check_of, with_check, received, redundant, taken, arrived, end_system}
 use Rattle.nodes.specs.EndSystemUndoing.{copied_kept, regulated_kept, regulated_kept_by, delivery_kept, taken_kept, end_system_kept, end_system_restored, unregulated, unregulated_by, unreceived, untaken, untaken_by}
-use Rattle.nodes.specs.Undoing.{port_kept, restored}
+use Rattle.nodes.specs.Undoing.{port_put_kept, unput}
 use Rattle.nodes.specs.Places.{IsFinding, found-again, found-back}
-use Rattle.nodes.specs.PortsLaws.{ports-undo}
+use Rattle.nodes.specs.PortsLaws.{ports-undo, unput-undoes}
 
 -- a source with another regulator, and a sink with other checks
 abbrev pub with_regulator : Regulator → SourceAt → SourceAt
@@ -63,11 +64,11 @@ sink-with net = record {
 
 -- a copy that was put is taken back
 pub copied-undone : (end : VlEnd) (net : Net) (frame : Frame) (ports : PortsState) →
-    restored (port_of net) (copied_kept end net frame ports) (copied end net frame ports) ≡ ports
+    unput (port_of net) (copied_kept end net frame ports) (copied end net frame ports) ≡ ports
 copied-undone end net frame ports = go (is_on end net)
   where
-    go : (b : Bool) → restored (port_of net) (cond b (port_kept (port_of net) (copy net frame) ports) None) (cond b (changed (port_of net) (copy net frame) ports) ports) ≡ ports
-    go true = ports-undo (port_of net) (copy net frame) ports
+    go : (b : Bool) → unput (port_of net) (cond b (port_put_kept (port_of net) (record frame { net = net }) Low ports) None) (cond b (changed (port_of net) (copy net frame) ports) ports) ≡ ports
+    go true = unput-undoes (port_of net) (record frame { net = net }) Low ports
     go false = refl
 
 -- the end system after its regulator was asked, with these ports
@@ -75,7 +76,7 @@ abbrev asked_with : RegEvent → EndSystemState → SourceAt → PortsState → 
 asked_with e s source ports = record s { regulators = slice_set s.regulators source.place (regulator.after source.regulator e); ports = ports }
 
 asked-undone : (e : RegEvent) (s : EndSystemState) (vl : VlId) (source : SourceAt) → source_at s vl ≡ Some source →
-    (a b : Option PortRecord) (ports : PortsState) → restored 0 a (restored 1 b ports) ≡ s.ports →
+    (a b : Option PutRecord) (ports : PortsState) → unput 0 a (unput 1 b ports) ≡ s.ports →
     unregulated_by (regulator.saves source.regulator e) a b (asked_with e s source ports) (source_at (asked_with e s source ports) vl) ≡ s
 asked-undone e s vl source h a b ports p =
     ap (unregulated_by (regulator.saves source.regulator e) a b (asked_with e s source ports))
@@ -100,7 +101,7 @@ regulated-undone n t e otherwise s vl = go (source_at s vl) refl
         by_answer : (a : RegAnswer) →
             unregulated vl (regulated_kept_by (regulator.saves source.regulator e) source.end a s.ports) (asked_with e s source (released_out source.end a s.ports)) ≡ s
         by_answer (answer.Released frame) = asked-undone e s vl source h _ _ _ (
-            ap (restored 0 (copied_kept source.end A frame s.ports)) (copied-undone source.end B frame (copied source.end A frame s.ports))
+            ap (unput 0 (copied_kept source.end A frame s.ports)) (copied-undone source.end B frame (copied source.end A frame s.ports))
             ∙ copied-undone source.end A frame s.ports
             )
         by_answer answer.Kept = asked-undone e s vl source h None None s.ports refl

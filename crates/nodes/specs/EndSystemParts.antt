@@ -1,53 +1,25 @@
 -- The parts of an end system now, and the records, that came from an event.
-use Rattle.std.specs.Prelude.{◌≡◌, ℕ, if◌then◌else◌, Option, None, Some}
+use Rattle.std.specs.Prelude.{◌≡◌, ℕ, if◌then◌else◌, Option}
 use Rattle.vlink.specs.declared.frame.Frame.{Frame}
 use Rattle.vlink.specs.declared.frame.VlId.{VlId}
-use Rattle.vlink.specs.declared.frame.Net.{Net}
-use Rattle.vlink.specs.declared.frame.Net.TheVariants.{A, B}
 use Rattle.vlink.specs.declared.note.Cause.TheVariants.{Unknown}
 use Rattle.bag_regulator.specs.Regulator.{Regulator, regulator, IsRegulator}
 use Rattle.bag_regulator.specs.declared.event.RegEvent.{RegEvent}
-use Rattle.bag_regulator.specs.declared.event.RegEvent.TheVariants.{Offer, Release}
-use Rattle.bag_regulator.specs.declared.event.RegAnswer.TheVariants as answer
 use Rattle.bag_regulator.specs.declared.event.RegRecord.{RegRecord}
-use Rattle.bag_regulator.specs.declared.event.RegUndo.{RegUndo}
-use Rattle.bag_regulator.specs.declared.event.RegUndo.TheVariants as undo
 use Rattle.output_port.specs.declared.event.PortEvent.TheVariants.{Free}
-use Rattle.output_port.specs.declared.event.PortRecord.{PortRecord}
+use Rattle.output_port.specs.declared.event.PutRecord.{PutRecord}
 use Rattle.integrity.specs.Integrity.{integrity}
 use Rattle.nodes.specs.declared.kept.Kept.{Kept}
 use Rattle.nodes.specs.declared.kept.Kept.TheVariants as kept
 use Rattle.nodes.specs.declared.vl_end.VlEnd.{VlEnd}
 use Rattle.nodes.specs.declared.receiving.Receiving.{Receiving}
 use Rattle.nodes.specs.Ports.{PortsState, exists}
-use Rattle.nodes.specs.EndSystem.{EndSystemState, source_at, sink_at, copied, released_out, lost, regulated, check_of, received, arrived, freed}
+use Rattle.nodes.specs.EndSystem.{EndSystemState, source_at, sink_at, released_out, lost, regulated, check_of, received, arrived, freed}
 use Rattle.nodes.specs.Undoing.{port_kept, IsPortValue}
-use Rattle.nodes.specs.EndSystemUndoing.{copied_kept, regulated_kept_by, regulated_kept, delivery_kept, taken_kept, IsCopyValue, AreCopiesValues, IsRegulatedValue}
-
--- the frame that a regulator released at an event, told by what changed in its list and the number that it was to give
-abbrev pub frame_out : RegEvent → RegUndo → ℕ → Option Frame
-frame_out (Offer at frame) undo.AtOnce sn = Some (record frame { number = sn; released = at })
-frame_out (Release at) (undo.Popped frame) sn = Some (record frame { number = sn; released = at })
-frame_out (Offer at frame) undo.Kept sn = None
-frame_out (Offer at frame) (undo.Popped f) sn = None
-frame_out (Offer at frame) undo.Nothing sn = None
-frame_out (Release at) undo.AtOnce sn = None
-frame_out (Release at) undo.Kept sn = None
-frame_out (Release at) undo.Nothing sn = None
-
--- the copy of a frame for a network was put
-abbrev pub CopyCameFrom : VlEnd → Net → Frame → PortsState → Option PortRecord → Type 0
-CopyCameFrom end net frame now k =
-    (ports : PortsState) × IsCopyValue end net ports × (now ≡ copied end net frame ports) × (k ≡ copied_kept end net frame ports)
-
--- both copies of a frame were put, A before B
-abbrev pub CopiesCameFrom : VlEnd → Frame → PortsState → Option PortRecord → Option PortRecord → Type 0
-CopiesCameFrom end frame now a b =
-    (ports : PortsState) × AreCopiesValues end (answer.Released frame) ports × (now ≡ released_out end (answer.Released frame) ports)
-    × (a ≡ copied_kept end A frame ports) × (b ≡ copied_kept end B frame (copied end A frame ports))
+use Rattle.nodes.specs.EndSystemUndoing.{regulated_kept_by, regulated_kept, delivery_kept, taken_kept, AreCopiesValues, IsRegulatedValue}
 
 -- a regulator was asked to do something, and both copies of the frame that it released went out
-abbrev pub SendingCameFrom : RegEvent → VlEnd → Regulator → PortsState → RegRecord → Option PortRecord → Option PortRecord → Type 0
+abbrev pub SendingCameFrom : RegEvent → VlEnd → Regulator → PortsState → RegRecord → Option PutRecord → Option PutRecord → Type 0
 SendingCameFrom e end now now_ports k a b =
     (g : Regulator) × (ports : PortsState) × IsRegulator g × AreCopiesValues end (regulator.out g e).answer ports
     × (now ≡ regulator.after g e) × (now_ports ≡ released_out end (regulator.out g e).answer ports)

@@ -6,14 +6,15 @@ use Rattle.vlink.specs.declared.frame.Net.{Net}
 use Rattle.vlink.specs.declared.frame.Net.TheVariants.{A, B}
 use Rattle.vlink.specs.declared.message.Body.{Body}
 use Rattle.vlink.specs.declared.message.Body.TheVariants as body
-use Rattle.bag_regulator.specs.Regulator.{Regulator, regulator, undone, IsRegulator}
+use Rattle.bag_regulator.specs.Regulator.{regulator, undone, IsRegulator}
 use Rattle.bag_regulator.specs.declared.event.RegEvent.{RegEvent}
 use Rattle.bag_regulator.specs.declared.event.RegEvent.TheVariants.{Offer, Release}
 use Rattle.bag_regulator.specs.declared.event.RegAnswer.{RegAnswer}
 use Rattle.bag_regulator.specs.declared.event.RegAnswer.TheVariants as answer
 use Rattle.bag_regulator.specs.declared.event.RegRecord.{RegRecord}
 use Rattle.output_port.specs.declared.event.PortEvent.TheVariants.{Free}
-use Rattle.output_port.specs.declared.event.PortRecord.{PortRecord}
+use Rattle.output_port.specs.declared.event.Priority.TheVariants.{Low}
+use Rattle.output_port.specs.declared.event.PutRecord.{PutRecord}
 use Rattle.integrity.specs.Integrity.{integrity}
 use Rattle.integrity.specs.declared.checking.Check.{Check}
 use Rattle.integrity.specs.declared.checking.Check.TheVariants as check
@@ -22,12 +23,12 @@ use Rattle.nodes.specs.declared.kept.Kept.TheVariants as kept
 use Rattle.nodes.specs.declared.vl_end.VlEnd.{VlEnd}
 use Rattle.nodes.specs.declared.receiving.Receiving.{Receiving}
 use Rattle.nodes.specs.Ports.{PortsState, exists}
-use Rattle.nodes.specs.EndSystem.{EndSystemState, SourceAt, SinkAt, source_at, sink_at, is_on, port_of, copy, copied, check_of, with_check, offered_frame, end_system}
-use Rattle.nodes.specs.Undoing.{port_kept, restored, IsPortValue}
+use Rattle.nodes.specs.EndSystem.{EndSystemState, SourceAt, SinkAt, source_at, sink_at, is_on, port_of, copied, check_of, with_check, offered_frame, end_system}
+use Rattle.nodes.specs.Undoing.{port_kept, port_put_kept, restored, unput, IsPortValue}
 
 -- a copy is put to the port of its network
-abbrev pub copied_kept : VlEnd → Net → Frame → PortsState → Option PortRecord
-copied_kept end net frame ports = if is_on end net then port_kept (port_of net) (copy net frame) ports else None
+abbrev pub copied_kept : VlEnd → Net → Frame → PortsState → Option PutRecord
+copied_kept end net frame ports = if is_on end net then port_put_kept (port_of net) (record frame { net = net }) Low ports else None
 
 -- a regulator is asked to do something, and both copies of the frame that it releases go out
 abbrev pub regulated_kept_by : RegRecord → VlEnd → RegAnswer → PortsState → Kept
@@ -62,11 +63,11 @@ end_system_kept t (body.Enqueue q frame) s = kept.Nothing
 end_system_kept t (body.Carry frame) s = kept.Nothing
 
 -- the end system before its regulator was asked: the ports, B first, and the regulator
-abbrev pub unregulated_by : RegRecord → Option PortRecord → Option PortRecord → EndSystemState → Option SourceAt → EndSystemState
+abbrev pub unregulated_by : RegRecord → Option PutRecord → Option PutRecord → EndSystemState → Option SourceAt → EndSystemState
 unregulated_by k a b s None = s
 unregulated_by k a b s (Some source) = record s {
   regulators = slice_set s.regulators source.place (undone source.regulator k.change k.last k.sn);
-  ports = restored 0 a (restored 1 b s.ports);
+  ports = unput 0 a (unput 1 b s.ports);
 }
 
 abbrev pub unregulated : VlId → Kept → EndSystemState → EndSystemState

@@ -1,5 +1,5 @@
 -- The ports of a node: undoing an event gives back the ports, their lines stay, and what follows from an event.
-use Rattle.std.proofs.Common.{◌≡◌, ℕ, ◌+◌, [], ◌∷◌, Option, None, Some, IfSome, All, slice_get, slice_set, refl, subst, ap, ◌∙◌, arith}
+use Rattle.std.proofs.Common.{◌≡◌, ℕ, ◌+◌, [], ◌∷◌, Option, None, Some, IfSome, All, slice_get, slice_set, option_map, refl, sym, subst, ap, ◌∙◌, arith}
 use Rattle.std.proofs.lemmas.Option.{option_and_then_some}
 use Rattle.std.proofs.lemmas.List.Elements.{All-nil, All-cons}
 use Rattle.vlink.specs.Wire.{last_bit_after, busy_for}
@@ -7,7 +7,9 @@ use Rattle.vlink.specs.declared.frame.Frame.{Frame}
 use Rattle.vlink.specs.declared.message.Body.TheVariants.{Carry, PortFree}
 use Rattle.vlink.specs.declared.note.Cause.TheVariants.{PortFull}
 use Rattle.output_port.specs.Port.{PortState, port}
-use Rattle.output_port.specs.Undoing.{port-undoes}
+use Rattle.output_port.specs.Undoing.{port-undoes, put-saves}
+use Rattle.output_port.specs.declared.event.Priority.{Priority}
+use Rattle.output_port.specs.declared.event.PortRecord.TheVariants as saved
 use Rattle.output_port.specs.declared.event.PortEvent.{PortEvent}
 use Rattle.output_port.specs.declared.event.PortEvent.TheVariants.{Put, Free}
 use Rattle.output_port.specs.declared.event.PortAnswer.{PortAnswer}
@@ -15,7 +17,7 @@ use Rattle.output_port.specs.declared.event.PortAnswer.TheVariants as answer
 use Rattle.nodes.specs.declared.ports.Wire.{Wire}
 use Rattle.reverse.specs.Sending.{Wish, Reply, silent, loss}
 use Rattle.nodes.specs.Ports.{PortsState, changed, changed_at, wire_at, reply, reply_at, answered, start}
-use Rattle.nodes.specs.Undoing.{port_kept, kept_at, restored, restored_at}
+use Rattle.nodes.specs.Undoing.{port_kept, kept_at, port_put_kept, put_kept_at, restored, restored_at, unput}
 use Rattle.nodes.specs.Placed.{AllWires}
 use Rattle.nodes.specs.Places.{All-there, get-set, set-back}
 use Rattle.nodes.specs.Replies.{IsQuiet, IsFew, silent-quiet, loss-quiet, quiet-all, quiet-few, few-more}
@@ -31,6 +33,21 @@ ports-undo q e ports = go (wire_at ports q) (slice_get ports.states q) refl
         ∙ ap (λ xs. record ports { states = xs }) (set-back ports.states q p (port.after p e) h)
     go (Some w) None h = refl
     go None p h = refl
+
+-- the record of a frame put is what is kept of the event
+pub put-kept : (q : ℕ) (frame : Frame) (priority : Priority) (ports : PortsState) →
+    option_map (λ k. saved.Put k) (port_put_kept q frame priority ports) ≡ port_kept q (Put frame priority) ports
+put-kept q frame priority ports = go (wire_at ports q) (slice_get ports.states q)
+  where
+    go : (w : Option Wire) (p : Option PortState) → option_map (λ k. saved.Put k) (put_kept_at frame priority w p) ≡ kept_at (Put frame priority) w p
+    go (Some w) (Some p) = ap (λ k. Some k) (sym (put-saves p frame priority))
+    go (Some w) None = refl
+    go None p = refl
+
+pub unput-undoes : (q : ℕ) (frame : Frame) (priority : Priority) (ports : PortsState) →
+    unput q (port_put_kept q frame priority ports) (changed q (Put frame priority) ports) ≡ ports
+unput-undoes q frame priority ports =
+    ap (λ kept. restored q kept (changed q (Put frame priority) ports)) (put-kept q frame priority ports) ∙ ports-undo q (Put frame priority) ports
 
 pub wires-stay : (q : ℕ) (e : PortEvent) (ports : PortsState) → (changed q e ports).wires ≡ ports.wires
 wires-stay q e ports = go (wire_at ports q) (slice_get ports.states q)

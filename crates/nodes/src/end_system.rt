@@ -88,7 +88,7 @@ impl EndSystem {
         match message.body {
             Body::Offer { vl, size } => self.regulate(at, vl, &offer(at, vl, size), out),
             Body::Release { vl } => self.regulate(at, vl, &RegEvent::Release { at }, out),
-            Body::PortFree { port } => Kept::Port(self.ports.act(at, port, &PortEvent::Free, out)),
+            Body::PortFree { port } => Kept::Port(self.ports.free(at, port, out)),
             Body::Arrive { port, frame } if self.ports.exists(port) => self.take(at, &frame, out),
             _ => Kept::Nothing,
         }
@@ -156,6 +156,7 @@ impl EndSystem {
     }
 
     /// A frame has come. It is lost where its virtual link does not end here on its network.
+    #[inline(always)]
     fn take(&mut self, at: Time, frame: &Frame, out: &mut Outbound) -> Kept
         requires { length out.old.notes < 2 }
         ensures state { self.new ≡ (taken at frame.now self.old (sink_at self.old frame.now.vl frame.now.net)).state }

@@ -1,5 +1,5 @@
 use bag_regulator::RegRecord;
-use output_port::PortRecord;
+use output_port::{PortRecord, PutRecord};
 use policer::AccountRecord;
 use vlink::Time;
 
@@ -11,8 +11,8 @@ pub enum Kept {
     /// A regulator, and the ports that the copies of its frame were put to.
     Regulated {
         regulator: RegRecord,
-        a: Option<PortRecord>,
-        b: Option<PortRecord>,
+        a: Option<PutRecord>,
+        b: Option<PutRecord>,
     },
     /// A port.
     Port(Option<PortRecord>),

@@ -3,9 +3,12 @@ ghost use Rattle.std.specs.Option.{option_copied};
 ghost use Rattle.vlink.specs.Numbering.{greatest_number};
 ghost use Rattle.reverse.specs.Sending.{replied};
 ghost use Rattle.nodes.specs.Ports.{answered, changed, exists, port_at, reply, start, wire_at};
-ghost use Rattle.nodes.specs.Undoing.{port_kept, restored, IsPortValue, PortCameFrom};
+ghost use Rattle.output_port.specs.Port.{free_answer, put_answer};
+ghost use Rattle.output_port.specs.declared.event.Priority.{Priority};
+ghost use Rattle.output_port.specs.declared.event.PortEvent.TheVariants.{Put, Free};
+ghost use Rattle.nodes.specs.Undoing.{port_kept, port_put_kept, restored, unput, IsPortValue, PortCameFrom};
 
-use output_port::{Port, PortAnswer, PortEvent, PortRecord};
+use output_port::{FreeRecord, Port, PortEvent, PortRecord, Priority, PutRecord};
 use reverse::{Outbound, Reversible};
 use std::marker::Model;
 use vlink::{Body, Cause, Frame, Time, busy_ns, last_bit_ns};
@@ -70,27 +73,56 @@ impl Ports {
         }
     }
 
-    /// Asks a port to do something at this moment, and sends and notes what follows. Nothing happens where there is no such port.
-    pub fn act(
+    /// Puts a frame to a port at this moment, and sends and notes what follows. Nothing happens where there is no such port.
+    pub fn put(
         &mut self,
         at: Time,
         port: u8,
-        event: &PortEvent,
+        frame: &Frame,
+        priority: Priority,
         out: &mut Outbound,
-    ) -> Option<PortRecord>
+    ) -> Option<PutRecord>
         requires room { length out.old.messages + 2 ≤ 24 }
         requires notes { length out.old.notes < 2 }
         requires numbers { out.old.sender.counter + 2 ≤ greatest_number }
-        ensures state { self.new ≡ changed port event.now self.old }
-        ensures reply { out.new ≡ replied out.old (reply out.old.sender.number at port event.now self.old) }
-        ensures kept { result ≡ port_kept port event.now self.old }
+        ensures state { self.new ≡ changed port (Put frame.now priority) self.old }
+        ensures reply { out.new ≡ replied out.old (reply out.old.sender.number at port (Put frame.now priority) self.old) }
+        ensures kept { result ≡ port_put_kept port frame.now priority self.old }
         ensures valid { IsPortValue port self.old }
     {
         let wire = self.wire(port)?;
         let state = self.ports.get_mut(usize::from(port))?;
-        let (answer, kept) = state.apply(event);
-        answer_event(out, at, port, wire, event, answer);
+        let kept = state.put(frame, priority);
+        answer_put(out, at, port, wire, frame, kept);
         Some(kept)
+    }
+
+    /// Frees a port at this moment, and sends what follows. Nothing happens where there is no such port.
+    #[inline(always)]
+    pub fn free(&mut self, at: Time, port: u8, out: &mut Outbound) -> Option<PortRecord>
+        requires room { length out.old.messages + 2 ≤ 24 }
+        requires notes { length out.old.notes < 2 }
+        requires numbers { out.old.sender.counter + 2 ≤ greatest_number }
+        ensures state { self.new ≡ changed port Free self.old }
+        ensures reply { out.new ≡ replied out.old (reply out.old.sender.number at port Free self.old) }
+        ensures kept { result ≡ port_kept port Free self.old }
+        ensures valid { IsPortValue port self.old }
+    {
+        let wire = self.wire(port)?;
+        let state = self.ports.get_mut(usize::from(port))?;
+        let kept = state.free();
+        answer_free(out, at, port, wire, &kept);
+        Some(PortRecord::Free(kept))
+    }
+
+    /// Takes back that a frame was put to a port.
+    pub fn undo_put(&mut self, port: u8, kept: Option<PutRecord>)
+        ensures { self.new ≡ unput port kept self.old }
+    {
+        let Some(kept) = kept else { return };
+        if let Some(state) = self.ports.get_mut(usize::from(port)) {
+            state.undo_put(kept);
+        }
     }
 
     /// Takes an event at a port back.
@@ -105,41 +137,44 @@ impl Ports {
     }
 }
 
-/// Sends and notes what follows from a port's answer.
-fn answer_event(
-    out: &mut Outbound,
-    at: Time,
-    port: u8,
-    wire: Wire,
-    event: &PortEvent,
-    answer: PortAnswer,
-)
+/// Sends and notes what follows from a port's answer to a frame put.
+fn answer_put(out: &mut Outbound, at: Time, port: u8, wire: Wire, frame: &Frame, kept: PutRecord)
     requires room { length out.old.messages + 2 ≤ 24 }
     requires notes { length out.old.notes < 2 }
     requires numbers { out.old.sender.counter + 2 ≤ greatest_number }
-    ensures { out.new ≡ replied out.old (answered out.old.sender.number at port wire event.now answer) }
+    ensures { (priority : Priority) → out.new ≡ replied out.old (answered out.old.sender.number at port wire (Put frame.now priority) (put_answer frame.now kept)) }
 {
-    match answer {
-        PortAnswer::Started(frame) => start(out, at, port, wire, frame),
-        PortAnswer::Dropped => {
-            if let PortEvent::Put { frame, .. } = *event {
-                out.lose(Cause::PortFull, &frame);
-            }
-        }
-        PortAnswer::Kept | PortAnswer::Idle | PortAnswer::Nothing => {}
+    match kept {
+        PutRecord::AtOnce => start(out, at, port, wire, frame),
+        PutRecord::Kept(_) => {}
+        PutRecord::Nothing => out.lose(Cause::PortFull, frame),
+    }
+}
+
+/// Sends what follows from a port's answer to a Free.
+fn answer_free(out: &mut Outbound, at: Time, port: u8, wire: Wire, kept: &FreeRecord)
+    requires room { length out.old.messages + 2 ≤ 24 }
+    requires numbers { out.old.sender.counter + 2 ≤ greatest_number }
+    ensures { out.new ≡ replied out.old (answered out.old.sender.number at port wire Free (free_answer kept.now)) }
+{
+    if let FreeRecord::Popped(_, frame) = kept {
+        start(out, at, port, wire, frame);
     }
 }
 
 /// The frame starts: its last bit is carried into the line, and then the port is free.
-fn start(out: &mut Outbound, at: Time, port: u8, wire: Wire, frame: Frame)
+fn start(out: &mut Outbound, at: Time, port: u8, wire: Wire, frame: &Frame)
     requires room { length out.old.messages + 2 ≤ 24 }
     requires numbers { out.old.sender.counter + 2 ≤ greatest_number }
-    ensures { out.new ≡ replied out.old (start out.old.sender.number at port wire frame) }
+    ensures { out.new ≡ replied out.old (start out.old.sender.number at port wire frame.now) }
 {
     let byte_ns = u32::from(wire.byte_ns);
-    let last_bit = at.ns() + last_bit_ns(frame.size, byte_ns);
-    let free = at.ns() + busy_ns(frame.size, byte_ns);
+    let size = frame.size;
+    // Its contract says that this is at most 1518 bytes.
+    let _bytes = size.bytes();
+    let last_bit = at.ns() + last_bit_ns(size, byte_ns);
+    let free = at.ns() + busy_ns(size, byte_ns);
     let number = out.number();
-    out.send(last_bit, wire.line, Body::Carry { frame });
+    out.send(last_bit, wire.line, Body::Carry { frame: *frame });
     out.send(free, number, Body::PortFree { port });
 }

@@ -5,7 +5,7 @@ ghost use Rattle.vlink.specs.declared.frame.Frame.{Frame};
 ghost use Rattle.bag_regulator.specs.declared.event.RegAnswer.TheVariants.{Released};
 ghost use Rattle.bag_regulator.specs.Regulator.{regulator as plain, IsRegulator};
 ghost use Rattle.reverse.specs.Sending.{joined, replied};
-ghost use Rattle.nodes.specs.EndSystem.{asked, copied, copy, copied_reply, full, lost, released_out, released_reply};
+ghost use Rattle.nodes.specs.EndSystem.{asked, copied, copied_reply, full, lost, released_out, released_reply};
 ghost use Rattle.nodes.specs.EndSystemUndoing.{copied_kept, regulated_kept_by, AreCopiesValues, IsCopyValue};
 
 use crate::kept::Kept;
@@ -13,7 +13,7 @@ use crate::networks::{is_on, port_of};
 use crate::ports::Ports;
 use crate::vl_end::VlEnd;
 use bag_regulator::{BagRegulator, RegAnswer, RegEvent, RegRecord};
-use output_port::{PortEvent, PortRecord, Priority};
+use output_port::{Priority, PutRecord};
 use reverse::{Outbound, Reversible};
 use vlink::{Body, Cause, Frame, Net, Time, VlId};
 
@@ -114,7 +114,7 @@ fn copy_out(
     frame: &Frame,
     ports: &mut Ports,
     out: &mut Outbound,
-) -> Option<PortRecord>
+) -> Option<PutRecord>
     requires room { length out.old.messages + 2 ≤ 24 }
     requires notes { length out.old.notes < 2 }
     requires numbers { out.old.sender.counter + 2 ≤ greatest_number }
@@ -126,15 +126,13 @@ fn copy_out(
     if !is_on(end, net) {
         return None;
     }
-    ports.act(at, port_of(net), &copy(net, frame), out)
+    let copy = copy(net, frame);
+    ports.put(at, port_of(net), &copy, Priority::Low, out)
 }
 
-/// What the port of this network is asked to do with a frame: all frames of an end system have low priority there (profile).
-pub fn copy(net: Net, frame: &Frame) -> PortEvent
-    ensures { result ≡ copy net frame.now }
+/// The copy of a frame for this network. All frames of an end system have low priority at its ports (profile).
+fn copy(net: Net, frame: &Frame) -> Frame
+    ensures { result ≡ record frame.now { net = net } }
 {
-    PortEvent::Put {
-        frame: Frame { net, ..*frame },
-        priority: Priority::Low,
-    }
+    Frame { net, ..*frame }
 }

@@ -74,7 +74,7 @@ impl Switch {
     {
         let at = message.time;
         match message.body {
-            Body::PortFree { port } => Kept::Port(self.ports.act(at, port, &PortEvent::Free, out)),
+            Body::PortFree { port } => Kept::Port(self.ports.free(at, port, out)),
             Body::Arrive { port, frame } if self.ports.exists(port) => {
                 self.take(at, port, &frame, out)
             }
@@ -110,6 +110,7 @@ impl Switch {
     }
 
     /// A frame has come to a port.
+    #[inline(always)]
     fn take(&mut self, at: Time, port: u8, frame: &Frame, out: &mut Outbound) -> Kept
         requires messages { out.old.messages ≡ [] }
         requires notes { out.old.notes ≡ [] }
@@ -173,6 +174,7 @@ impl Switch {
     }
 
     /// A frame is put to a port, with the priority of its virtual link.
+    #[inline(always)]
     fn put(&mut self, at: Time, port: u8, frame: &Frame, out: &mut Outbound) -> Kept
         requires messages { out.old.messages ≡ [] }
         requires notes { out.old.notes ≡ [] }
@@ -186,11 +188,8 @@ impl Switch {
             out.lose(Cause::Unknown, frame);
             return Kept::Nothing;
         };
-        let event = PortEvent::Put {
-            frame: *frame,
-            priority,
-        };
-        Kept::Port(self.ports.act(at, port, &event, out))
+        let kept = self.ports.put(at, port, frame, priority, out);
+        Kept::Port(kept.map(PortRecord::Put))
     }
 
     /// A frame that was put to a port leaves it.

@@ -1,8 +1,9 @@
 //! What nodes of small networks do with messages, worked out by hand; each event is undone afterwards.
-use crate::Node;
+use crate::{Node, NodeRecord};
 use netdesc::read;
 use reverse::{Actor, Reversible, Sends, act_and_undo};
 use std::alloc::Global;
+use std::mem::size_of;
 use std::process::Abort;
 use std::test::Fail;
 use vlink::{Body, Cause, Frame, FrameSize, Message, Net, Note, Time, VlId};
@@ -547,6 +548,13 @@ fn a_receiver_checks_and_delivers_the_first_copy(rt: HostRuntime) -> Result<(), 
         assert!(rt; answer.messages.is_empty());
         assert_eq!(rt; answer.notes.as_slice(), [*note].as_slice());
     }
+    Ok(())
+}
+
+// A record is kept of each event that may be undone.
+#[test]
+fn a_record_is_small(rt: HostRuntime) -> Result<(), Fail> {
+    assert!(rt; size_of::<NodeRecord>() <= 88);
     Ok(())
 }
 

@@ -8,8 +8,7 @@ use Rattle.output_port.specs.declared.event.Priority.{Priority}
 use Rattle.output_port.specs.declared.event.Priority.TheVariants.{High, Low}
 use Rattle.output_port.specs.declared.event.PortEvent.{PortEvent}
 use Rattle.output_port.specs.declared.event.PortEvent.TheVariants.{Put, Free}
-use Rattle.output_port.specs.declared.event.PortAnswer.TheVariants.{Dropped, Nothing}
-use Rattle.output_port.specs.Port.{PortState, port, waiting_bytes, IsWithinBytes, keeping, unchanged, at_once, may_wait, next}
+use Rattle.output_port.specs.Port.{PortState, port, waiting_bytes, IsWithinBytes, keeping, dropping, still_idle, at_once, may_wait, next}
 
 bytes_of-cons : (frame : Frame) (frames : List Frame) → bytes_of (frame ∷ frames) ≡ frame.size + bytes_of frames
 bytes_of-cons frame frames = sum_by-cons (λ (f : Frame). f.size) frame frames
@@ -32,15 +31,15 @@ next-within busy [] [] bytes within = within
 pub stays_within : (p : PortState) (e : PortEvent) → IsWithinBytes p → IsWithinBytes (port.after p e)
 stays_within p (Put frame to) within = go p.busy
   where
-    wait : (b : Bool) → may_wait p frame ≡ b → IsWithinBytes (cond b (keeping p frame to) (unchanged p Dropped)).state
+    wait : (b : Bool) → may_wait p frame ≡ b → IsWithinBytes (cond b (keeping p frame to) (dropping p)).state
     wait true fits = keeping-within p frame to (leb-true _ _ fits)
     wait false fits = within
 
-    go : (b : Bool) → IsWithinBytes (cond b (cond (may_wait p frame) (keeping p frame to) (unchanged p Dropped)) (at_once p frame)).state
+    go : (b : Bool) → IsWithinBytes (cond b (cond (may_wait p frame) (keeping p frame to) (dropping p)) (at_once p frame)).state
     go true = wait (may_wait p frame) refl
     go false = within
 stays_within p Free within = go p.busy
   where
-    go : (b : Bool) → IsWithinBytes (cond b (next p p.high p.low) (unchanged p Nothing)).state
+    go : (b : Bool) → IsWithinBytes (cond b (next p p.high p.low) (still_idle p)).state
     go true = next-within p.busy p.high p.low p.bytes within
     go false = within

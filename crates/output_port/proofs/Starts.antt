@@ -5,8 +5,7 @@ use Rattle.output_port.specs.declared.event.Priority.{Priority}
 use Rattle.output_port.specs.declared.event.Priority.TheVariants.{High, Low}
 use Rattle.output_port.specs.declared.event.PortEvent.{PortEvent}
 use Rattle.output_port.specs.declared.event.PortEvent.TheVariants.{Put, Free}
-use Rattle.output_port.specs.declared.event.PortAnswer.TheVariants.{Dropped, Nothing}
-use Rattle.output_port.specs.Port.{PortState, Outcome, port, waiting, keeping, unchanged, at_once, may_wait, next}
+use Rattle.output_port.specs.Port.{PortState, Outcome, port, waiting, keeping, dropping, still_idle, at_once, may_wait, next}
 use Rattle.output_port.specs.StrictPriority.{kept_frame, started_frame, kept_frames, started_frames, reached}
 
 -- what waited of a priority, and what this outcome of the event keeps, is what it starts and what waits then
@@ -21,7 +20,7 @@ keeping-ordered High p frame Low = append-nil p.high
 keeping-ordered Low p frame High = append-nil p.low
 keeping-ordered Low p frame Low = refl
 
-dropping-ordered : (priority : Priority) (p : PortState) (frame : Frame) (to : Priority) → IsOrdered priority p (Put frame to) (unchanged p Dropped)
+dropping-ordered : (priority : Priority) (p : PortState) (frame : Frame) (to : Priority) → IsOrdered priority p (Put frame to) (dropping p)
 unfolding IsOrdered
 dropping-ordered High p frame High = append-nil p.high
 dropping-ordered High p frame Low = append-nil p.high
@@ -35,7 +34,7 @@ at_once-ordered High p frame Low = append-nil p.high
 at_once-ordered Low p frame High = append-nil p.low
 at_once-ordered Low p frame Low = append-nil p.low
 
-nothing-ordered : (priority : Priority) (p : PortState) → IsOrdered priority p Free (unchanged p Nothing)
+nothing-ordered : (priority : Priority) (p : PortState) → IsOrdered priority p Free (still_idle p)
 unfolding IsOrdered
 nothing-ordered High p = append-nil p.high
 nothing-ordered Low p = append-nil p.low
@@ -58,16 +57,16 @@ event-ordered : (priority : Priority) (p : PortState) (e : PortEvent) →
 unfolding IsOrdered state
 event-ordered priority p (Put frame to) = go p.busy
   where
-    wait : (b : Bool) → IsOrdered priority p (Put frame to) (cond b (keeping p frame to) (unchanged p Dropped))
+    wait : (b : Bool) → IsOrdered priority p (Put frame to) (cond b (keeping p frame to) (dropping p))
     wait true = keeping-ordered priority p frame to
     wait false = dropping-ordered priority p frame to
 
-    go : (b : Bool) → IsOrdered priority p (Put frame to) (cond b (cond (may_wait p frame) (keeping p frame to) (unchanged p Dropped)) (at_once p frame))
+    go : (b : Bool) → IsOrdered priority p (Put frame to) (cond b (cond (may_wait p frame) (keeping p frame to) (dropping p)) (at_once p frame))
     go true = wait (may_wait p frame)
     go false = at_once-ordered priority p frame to
 event-ordered priority p Free = go p.busy
   where
-    go : (b : Bool) → IsOrdered priority p Free (cond b (next p p.high p.low) (unchanged p Nothing))
+    go : (b : Bool) → IsOrdered priority p Free (cond b (next p p.high p.low) (still_idle p))
     go true = next-ordered priority p.busy p.high p.low p.bytes
     go false = nothing-ordered priority p
 

@@ -11,6 +11,10 @@ use Rattle.output_port.specs.declared.event.PortAnswer.{PortAnswer}
 use Rattle.output_port.specs.declared.event.PortAnswer.TheVariants.{Started, Kept, Dropped, Idle, Nothing}
 use Rattle.output_port.specs.declared.event.PortRecord.{PortRecord}
 use Rattle.output_port.specs.declared.event.PortRecord.TheVariants as saved
+use Rattle.output_port.specs.declared.event.PutRecord.{PutRecord}
+use Rattle.output_port.specs.declared.event.PutRecord.TheVariants as of_put
+use Rattle.output_port.specs.declared.event.FreeRecord.{FreeRecord}
+use Rattle.output_port.specs.declared.event.FreeRecord.TheVariants as of_free
 
 pub record PortState : Type 0 where
   -- a frame is in transmission
@@ -49,13 +53,17 @@ pub record Outcome : Type 0 where
   pub answer : PortAnswer
   pub kept : PortRecord
 
--- nothing changes
-abbrev pub unchanged : PortState → PortAnswer → Outcome
-unchanged p answer = record { state = p; answer = answer; kept = saved.Nothing }
+-- the frame put is dropped: nothing changes
+abbrev pub dropping : PortState → Outcome
+dropping p = record { state = p; answer = Dropped; kept = saved.Put of_put.Nothing }
+
+-- an idle port has nothing to free: nothing changes
+abbrev pub still_idle : PortState → Outcome
+still_idle p = record { state = p; answer = Nothing; kept = saved.Free of_free.Nothing }
 
 -- the frame put starts, and takes no waiting bytes
 abbrev pub at_once : PortState → Frame → Outcome
-at_once p frame = record { state = record p { busy = true }; answer = Started frame; kept = saved.AtOnce }
+at_once p frame = record { state = record p { busy = true }; answer = Started frame; kept = saved.Put of_put.AtOnce }
 
 -- the frame put goes to the back of its list
 abbrev pub keeping : PortState → Frame → Priority → Outcome
@@ -63,7 +71,7 @@ keeping p frame priority =
     record {
       state = with_waiting priority (waiting priority p ++ frame ∷ []) p;
       answer = Kept;
-      kept = saved.Kept priority;
+      kept = saved.Put (of_put.Kept priority);
     }
 
 -- the first frame of a list starts, and these wait on in that list
@@ -72,14 +80,14 @@ starting p priority frame rest =
     record {
       state = with_waiting priority rest p;
       answer = Started frame;
-      kept = saved.Popped priority frame;
+      kept = saved.Free (of_free.Popped priority frame);
     }
 
 -- a frame is put: it starts if the port is idle; else it waits, if the bytes allow that, or is dropped
 abbrev pub put : PortState → Frame → Priority → Outcome
 put p frame priority =
     if p.busy
-    then (if may_wait p frame then keeping p frame priority else unchanged p Dropped)
+    then (if may_wait p frame then keeping p frame priority else dropping p)
     else at_once p frame
 
 -- the line is free, while these wait, high and low: the first high one starts, or if there is none the first low one,
@@ -87,11 +95,29 @@ put p frame priority =
 abbrev pub next : PortState → List Frame → List Frame → Outcome
 next p (frame ∷ rest) low = starting p High frame rest
 next p [] (frame ∷ rest) = starting p Low frame rest
-next p [] [] = record { state = record p { busy = false }; answer = Idle; kept = saved.Idle }
+next p [] [] = record { state = record p { busy = false }; answer = Idle; kept = saved.Free of_free.Idle }
 
 -- the line is free: at an idle port that changes nothing
 abbrev pub free : PortState → Outcome
-free p = if p.busy then next p p.high p.low else unchanged p Nothing
+free p = if p.busy then next p p.high p.low else still_idle p
+
+-- what is kept of a frame put
+abbrev pub put_kept : PortState → Frame → Priority → PutRecord
+put_kept p frame priority =
+    if p.busy
+    then (if may_wait p frame then of_put.Kept priority else of_put.Nothing)
+    else of_put.AtOnce
+
+-- the records tell the answers
+abbrev pub put_answer : Frame → PutRecord → PortAnswer
+put_answer frame of_put.AtOnce = Started frame
+put_answer frame (of_put.Kept priority) = Kept
+put_answer frame of_put.Nothing = Dropped
+
+abbrev pub free_answer : FreeRecord → PortAnswer
+free_answer (of_free.Popped priority frame) = Started frame
+free_answer of_free.Idle = Idle
+free_answer of_free.Nothing = Nothing
 
 abbrev pub outcome : PortState → PortEvent → Outcome
 outcome p (Put frame priority) = put p frame priority
@@ -105,11 +131,12 @@ without_last (x ∷ (y ∷ ys)) = x ∷ without_last (y ∷ ys)
 
 -- the state before an event, from the state after it and the record that was kept of it
 abbrev pub undone : PortState → PortRecord → PortState
-undone p saved.AtOnce = record p { busy = false }
-undone p (saved.Kept priority) = with_waiting priority (without_last (waiting priority p)) p
-undone p (saved.Popped priority frame) = with_waiting priority (frame ∷ waiting priority p) p
-undone p saved.Idle = record p { busy = true }
-undone p saved.Nothing = p
+undone p (saved.Put of_put.AtOnce) = record p { busy = false }
+undone p (saved.Put (of_put.Kept priority)) = with_waiting priority (without_last (waiting priority p)) p
+undone p (saved.Put of_put.Nothing) = p
+undone p (saved.Free (of_free.Popped priority frame)) = with_waiting priority (frame ∷ waiting priority p) p
+undone p (saved.Free of_free.Idle) = record p { busy = true }
+undone p (saved.Free of_free.Nothing) = p
 
 -- the output port
 abbrev pub port : Plain PortState PortEvent PortAnswer PortRecord

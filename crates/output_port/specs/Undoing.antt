@@ -5,8 +5,9 @@ use Rattle.reverse.specs.Plain.{IsReversible}
 use Rattle.output_port.specs.declared.event.Priority.{Priority}
 use Rattle.output_port.specs.declared.event.Priority.TheVariants.{High, Low}
 use Rattle.output_port.specs.declared.event.PortEvent.TheVariants.{Put, Free}
-use Rattle.output_port.specs.declared.event.PortAnswer.TheVariants.{Dropped, Nothing}
-use Rattle.output_port.specs.Port.{PortState, Outcome, port, without_last, undone, keeping, unchanged, at_once, may_wait, next}
+use Rattle.output_port.specs.declared.event.PortRecord.TheVariants as saved
+use Rattle.output_port.specs.declared.event.PutRecord.TheVariants as of_put
+use Rattle.output_port.specs.Port.{PortState, Outcome, port, put_kept, without_last, undone, keeping, dropping, still_idle, at_once, may_wait, next}
 
 pub without_last-push : (xs : List Frame) (x : Frame) → without_last (xs ++ x ∷ []) ≡ xs
 without_last-push [] x = refl
@@ -32,16 +33,26 @@ pub port-undoes : IsReversible port
 unfolding IsUndone
 port-undoes p (Put frame priority) = go p.busy refl
   where
-    wait : (b : Bool) → IsUndone p (cond b (keeping p frame priority) (unchanged p Dropped))
+    wait : (b : Bool) → IsUndone p (cond b (keeping p frame priority) (dropping p))
     wait true = keeping-undone p frame priority
     wait false = refl
 
     go : (b : Bool) → p.busy ≡ b →
-        IsUndone p (cond b (cond (may_wait p frame) (keeping p frame priority) (unchanged p Dropped)) (at_once p frame))
+        IsUndone p (cond b (cond (may_wait p frame) (keeping p frame priority) (dropping p)) (at_once p frame))
     go true e = wait (may_wait p frame)
     go false e = ap (λ y. record p { busy = y }) (sym e)
 port-undoes p Free = go p.busy refl
   where
-    go : (b : Bool) → p.busy ≡ b → IsUndone p (cond b (next p p.high p.low) (unchanged p Nothing))
+    go : (b : Bool) → p.busy ≡ b → IsUndone p (cond b (next p p.high p.low) (still_idle p))
     go true e = next-undone p p.high p.low refl refl e
     go false e = refl
+
+-- the record of a frame put is what is kept of it
+pub put-saves : (p : PortState) (frame : Frame) (priority : Priority) → port.saves p (Put frame priority) ≡ saved.Put (put_kept p frame priority)
+put-saves p frame priority = go p.busy (may_wait p frame)
+  where
+    go : (b c : Bool) → (cond b (cond c (keeping p frame priority) (dropping p)) (at_once p frame)).kept
+        ≡ saved.Put (cond b (cond c (of_put.Kept priority) of_put.Nothing) of_put.AtOnce)
+    go true true = refl
+    go true false = refl
+    go false c = refl

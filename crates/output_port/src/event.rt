@@ -31,17 +31,31 @@ pub enum PortAnswer {
     Nothing,
 }
 
-/// What undoing an event takes: what it changed.
+/// What undoing a frame put takes: what became of it.
 #[derive(Clone, Copy, Debug, PartialEq, Eq)]
-pub enum PortRecord {
+pub enum PutRecord {
     /// The frame put started at once: the port became busy.
     AtOnce,
     /// The frame put went to the back of the list of this priority.
     Kept(Priority),
+    /// The frame put is dropped: nothing changed.
+    Nothing,
+}
+
+/// What undoing a Free takes: what it changed.
+#[derive(Clone, Copy, Debug, PartialEq, Eq)]
+pub enum FreeRecord {
     /// This frame left the front of the list of this priority.
     Popped(Priority, Frame),
     /// The port became idle.
     Idle,
     /// Nothing changed.
     Nothing,
+}
+
+/// What undoing an event takes.
+#[derive(Clone, Copy, Debug, PartialEq, Eq)]
+pub enum PortRecord {
+    Put(PutRecord),
+    Free(FreeRecord),
 }

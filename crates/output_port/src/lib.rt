@@ -7,6 +7,6 @@ mod strict_priority;
 #[cfg(test)]
 mod tests;
 
-pub use event::{PortAnswer, PortEvent, PortRecord, Priority};
+pub use event::{FreeRecord, PortAnswer, PortEvent, PortRecord, Priority, PutRecord};
 pub use port::Port;
 pub use strict_priority::order;

@@ -1,10 +1,9 @@
 ghost use Rattle.std.specs.Prelude.{◌≡◌, ◌+◌, ◌*◌, ◌≤◌, ◌++◌, [], ◌∷◌, length, ⊤, IfOk};
-ghost use Rattle.output_port.specs.Port.{PortState, opening, port, IsWithinBytes, put, free, waiting, with_waiting, waiting_bytes, may_wait, without_last};
-ghost use Rattle.output_port.specs.declared.event.PortAnswer.TheVariants.{Started};
+ghost use Rattle.output_port.specs.Port.{PortState, opening, port, IsWithinBytes, put, put_answer, put_kept, free, free_answer, undone, waiting, with_waiting, waiting_bytes, may_wait, without_last};
 ghost use Rattle.output_port.specs.declared.event.PortRecord.TheVariants as saved;
-ghost use Rattle.output_port.specs.Undoing.{port-undoes};
+ghost use Rattle.output_port.specs.Undoing.{port-undoes, put-saves};
 
-use crate::event::{PortAnswer, PortEvent, PortRecord, Priority};
+use crate::event::{FreeRecord, PortAnswer, PortEvent, PortRecord, Priority, PutRecord};
 use frame_ring::FrameRing;
 use reverse::Reversible;
 use std::alloc::{AllocError, Global};
@@ -119,52 +118,80 @@ impl Port {
         };
     }
 
-    /// A frame is put to the port.
-    fn put(&mut self, frame: Frame, priority: Priority) -> (PortAnswer, PortRecord)
-        ensures state { self.new ≡ (put self.old frame priority).state }
-        ensures answer { result.0 ≡ (put self.old frame priority).answer }
-        ensures kept { result.1 ≡ (put self.old frame priority).kept }
+    /// A frame is put to the port: it starts at once, waits or is dropped, as the record tells.
+    pub fn put(&mut self, frame: &Frame, priority: Priority) -> PutRecord
+        ensures state { self.new ≡ (put self.old frame.now priority).state }
+        ensures answer { put_answer frame.now result ≡ (put self.old frame.now priority).answer }
+        ensures kept { result ≡ put_kept self.old frame.now priority }
+        ensures within { IsWithinBytes self.old }
     {
+        // Its contract says that the bytes waiting lie within their limit.
+        let _waiting = self.waiting_bytes();
         if !self.busy {
             self.busy = true;
-            return (PortAnswer::Started(frame), PortRecord::AtOnce);
+            return PutRecord::AtOnce;
         }
-        if !self.may_wait(&frame) {
-            return (PortAnswer::Dropped, PortRecord::Nothing);
+        if !self.may_wait(frame) {
+            return PutRecord::Nothing;
         }
-        self.keep(frame, priority);
-        (PortAnswer::Kept, PortRecord::Kept(priority))
+        self.keep(*frame, priority);
+        PutRecord::Kept(priority)
     }
 
-    /// The line is free.
-    fn free(&mut self) -> (PortAnswer, PortRecord)
+    /// The line is free: the record tells the frame that starts, if one does.
+    pub fn free(&mut self) -> FreeRecord
         ensures state { self.new ≡ (free self.old).state }
-        ensures answer { result.0 ≡ (free self.old).answer }
-        ensures kept { result.1 ≡ (free self.old).kept }
+        ensures answer { free_answer result ≡ (free self.old).answer }
+        ensures kept { saved.Free result ≡ (free self.old).kept }
+        ensures within { IsWithinBytes self.old }
     {
+        // Its contract says that the bytes waiting lie within their limit.
+        let _waiting = self.waiting_bytes();
         if !self.busy {
-            return (PortAnswer::Nothing, PortRecord::Nothing);
+            return FreeRecord::Nothing;
         }
         if let Some(frame) = self.high.pop_front() {
-            return started(Priority::High, &frame);
+            return FreeRecord::Popped(Priority::High, frame);
         }
         if let Some(frame) = self.low.pop_front() {
-            return started(Priority::Low, &frame);
+            return FreeRecord::Popped(Priority::Low, frame);
         }
         self.busy = false;
-        (PortAnswer::Idle, PortRecord::Idle)
+        FreeRecord::Idle
+    }
+
+    /// Undoes that a frame was put, by the record that was kept of it.
+    pub fn undo_put(&mut self, kept: PutRecord)
+        ensures { self.new ≡ undone self.old (saved.Put kept) }
+    {
+        match kept {
+            PutRecord::AtOnce => self.busy = false,
+            PutRecord::Kept(priority) => self.take_last(priority),
+            PutRecord::Nothing => {}
+        }
     }
 }
 
-/// This frame, the first of the list of this priority, starts.
-fn started(priority: Priority, frame: &Frame) -> (PortAnswer, PortRecord)
-    ensures answer { result.0 ≡ Started frame.now }
-    ensures kept { result.1 ≡ saved.Popped priority frame.now }
+/// The answer to a frame put.
+fn put_answer(frame: &Frame, kept: PutRecord) -> PortAnswer
+    ensures { result ≡ put_answer frame.now kept }
 {
-    (
-        PortAnswer::Started(*frame),
-        PortRecord::Popped(priority, *frame),
-    )
+    match kept {
+        PutRecord::AtOnce => PortAnswer::Started(*frame),
+        PutRecord::Kept(_) => PortAnswer::Kept,
+        PutRecord::Nothing => PortAnswer::Dropped,
+    }
+}
+
+/// The answer to a Free.
+fn free_answer(kept: &FreeRecord) -> PortAnswer
+    ensures { result ≡ free_answer kept.now }
+{
+    match *kept {
+        FreeRecord::Popped(_, frame) => PortAnswer::Started(frame),
+        FreeRecord::Idle => PortAnswer::Idle,
+        FreeRecord::Nothing => PortAnswer::Nothing,
+    }
 }
 
 impl Reversible for Port {
@@ -183,21 +210,24 @@ impl Reversible for Port {
     ghost undoes = { port-undoes };
 
     fn apply(&mut self, event: &PortEvent) -> (PortAnswer, PortRecord) {
-        // Its contract says that the bytes waiting lie within their limit.
-        let _waiting = self.waiting_bytes();
         match *event {
-            PortEvent::Put { frame, priority } => self.put(frame, priority),
-            PortEvent::Free => self.free(),
+            PortEvent::Put { frame, priority } => {
+                let kept = self.put(&frame, priority);
+                (put_answer(&frame, kept), PortRecord::Put(kept))
+            }
+            PortEvent::Free => {
+                let kept = self.free();
+                (free_answer(&kept), PortRecord::Free(kept))
+            }
         }
     }
 
     fn undo(&mut self, event: &PortEvent, kept: PortRecord) {
         match kept {
-            PortRecord::AtOnce => self.busy = false,
-            PortRecord::Kept(priority) => self.take_last(priority),
-            PortRecord::Popped(priority, frame) => self.put_back(priority, frame),
-            PortRecord::Idle => self.busy = true,
-            PortRecord::Nothing => {}
+            PortRecord::Put(kept) => self.undo_put(kept),
+            PortRecord::Free(FreeRecord::Popped(priority, frame)) => self.put_back(priority, frame),
+            PortRecord::Free(FreeRecord::Idle) => self.busy = true,
+            PortRecord::Free(FreeRecord::Nothing) => {}
         }
     }
 }

@@ -1,6 +1,7 @@
-use crate::{Port, PortAnswer, PortEvent, Priority};
+use crate::{FreeRecord, Port, PortAnswer, PortEvent, Priority, PutRecord};
 use reverse::Reversible;
 use std::alloc::{AllocError, Global};
+use std::mem::size_of;
 use std::process::Abort;
 use std::test::Fail;
 use vlink::{Frame, FrameSize, busy_ns};
@@ -89,6 +90,35 @@ fn drops_what_is_beyond_its_bytes_and_undoes_both(rt: HostRuntime) -> Result<(),
     assert!(rt; port.is_busy());
     assert_eq!(rt; port.waiting_bytes(), 0);
     assert_eq!(rt; free(&mut port), PortAnswer::Idle);
+    Ok(())
+}
+
+#[test]
+fn puts_and_frees_by_the_record_alone(rt: HostRuntime) -> Result<(), Fail> {
+    let mut port = port_with(rt.alloc(), 100)?;
+    let first = frame(&rt, 1, 64);
+    let second = frame(&rt, 2, 80);
+    assert_eq!(rt; port.put(&first, Priority::Low), PutRecord::AtOnce);
+    assert_eq!(rt;
+        port.put(&second, Priority::Low),
+        PutRecord::Kept(Priority::Low)
+    );
+    assert_eq!(rt; port.put(&first, Priority::High), PutRecord::Nothing);
+    port.undo_put(PutRecord::Nothing);
+    assert_eq!(rt; port.waiting_bytes(), 80);
+    port.undo_put(PutRecord::Kept(Priority::Low));
+    assert_eq!(rt; port.waiting_bytes(), 0);
+    assert_eq!(rt;
+        port.put(&second, Priority::High),
+        PutRecord::Kept(Priority::High)
+    );
+    assert_eq!(rt; port.free(), FreeRecord::Popped(Priority::High, second));
+    assert_eq!(rt; port.free(), FreeRecord::Idle);
+    assert_eq!(rt; port.free(), FreeRecord::Nothing);
+    port.put(&first, Priority::Low);
+    port.undo_put(PutRecord::AtOnce);
+    assert!(rt; !port.is_busy());
+    assert!(rt; size_of::<PutRecord>() <= 2);
     Ok(())
 }
 

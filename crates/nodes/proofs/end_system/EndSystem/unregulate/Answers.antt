@@ -1,6 +1,6 @@
 use Rattle.std.proofs.Common.{◌≡◌, ap, ◌∙◌, sym, subst, slice_set}
 use Rattle.bag_regulator.specs.Regulator.{undone}
-use Rattle.nodes.specs.Undoing.{restored}
+use Rattle.nodes.specs.Undoing.{unput}
 use Rattle.nodes.specs.EndSystem.{EndSystemState}
 use Rattle.nodes.specs.EndSystemParts.{RegulatedCameFrom, SendingCameFrom}
 use Rattle.nodes.specs.EndSystemUndoing.{unregulated, unregulated_by}
@@ -36,7 +36,7 @@ returns c =
     let found = source-found c.args.vl place end g c.self.view_is c.in-Some.ensures c.index.ensures c.index_mut-element.ensures.value in
     subst (λ (s : EndSystemState).
     record { sources = i.sources.items; regulators = slice_set i.regulators.items place c.take_back.new.regulator; sinks = i.sinks.items; receivers = i.receivers.items; ports = c.take_back.new.ports }
-    ≡ record s { regulators = slice_set s.regulators place (undone g k.change k.last k.sn); ports = restored 0 a (restored 1 b s.ports) }) c.self.view_is
+    ≡ record s { regulators = slice_set s.regulators place (undone g k.change k.last k.sn); ports = unput 0 a (unput 1 b s.ports) }) c.self.view_is
     (λ t. record {
       sources = i.sources.items;
       regulators = slice_set i.regulators.items place (c.take_back.ensures.regulator t);
