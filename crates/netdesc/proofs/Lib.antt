@@ -9,3 +9,4 @@ pub mod LimitLemmas
 pub mod PortLemmas
 pub mod RisingLemmas
 pub mod SourceLemmas
+pub mod OrderLemmas

@@ -22,6 +22,7 @@ mod network;
 mod numbered;
 mod place;
 mod reading;
+mod rising;
 mod routes;
 mod steps;
 mod table;

@@ -4,9 +4,9 @@ ghost use Rattle.network_rows.specs.declared.fault.DescFault.TheVariants.{OutOfM
 ghost use Rattle.netdesc.specs.Lines.{line_between, lines_over, route_over};
 ghost use Rattle.netdesc.specs.Views.{vl_view};
 
-use crate::ends::rising;
 use crate::joined::Joined;
 use crate::memory::push;
+use crate::rising::rising;
 use crate::steps::push_all;
 use crate::vl::Routed;
 use crate::wiring::Step;

@@ -22,7 +22,7 @@ impl Rule {
             return true;
         }
         match value_at(row, self.key) {
-            Some(value) => self.kind.has(value) && self.kind.keeps_limit(row, value),
+            Some(value) => self.kind.admits(row, value),
             None => false,
         }
     }

@@ -7,7 +7,7 @@ ghost use Rattle.network_rows.specs.Values.{all_as, as_list, as_paths};
 use crate::value::are_each_path;
 use std::alloc::Global;
 use std::marker::Model;
-use toml::Value;
+use toml::{Table, Value};
 
 /// A path: the names of the nodes that it goes through, the source first.
 ///
@@ -52,6 +52,8 @@ impl<'a> Path<'a> {
 #[derive(Debug, Drop)]
 pub struct Paths {
     paths: Vec<Value>,
+    // What is left of the row that they were read from: many small pieces, which are given back with the paths.
+    rest: Option<Table>,
 }
 
 impl Model for Paths {
@@ -75,6 +77,7 @@ impl Paths {
     {
         Paths {
             paths: Vec::new(alloc),
+            rest: None,
         }
     }
 
@@ -83,7 +86,7 @@ impl Paths {
         ensures { result ≡ unwrap_or (all_as (as_list as_str) (items_view paths.items)) [] }
     {
         if are_each_path(paths.as_slice()) {
-            Paths { paths }
+            Paths { paths, rest: None }
         } else {
             Paths::none(alloc)
         }
@@ -96,6 +99,16 @@ impl Paths {
         match value {
             Value::Array(paths) => Paths::of_each(alloc, paths),
             _ => Paths::none(alloc),
+        }
+    }
+
+    /// The same paths, with what is left of their row.
+    pub(crate) fn with_rest(self, rest: Table) -> Self
+        ensures { result ≡ self }
+    {
+        Paths {
+            paths: self.paths,
+            rest: Some(rest),
         }
     }
 

@@ -69,7 +69,8 @@ fn vl_of_row(alloc: Global, row: Table) -> VlRow
     let mut row = row;
     let mut vl = without_paths(alloc, &row);
     vl.a = paths_of(alloc, take(&mut row, Key::A));
-    vl.b = paths_of(alloc, take(&mut row, Key::B));
+    let b = paths_of(alloc, take(&mut row, Key::B));
+    vl.b = b.with_rest(row);
     vl
 }
 

@@ -8,5 +8,5 @@ pub returns : goal.returns
 returns c =
     let row = table_view c.args.row in
     let a : c.paths_of.result ≡ paths_at key.A row = rw c.take.ensures.value at c.paths_of.ensures in
-    let b : c.paths_of-2.result ≡ paths_at key.B row = rw (c.take-2.ensures.value, c.take.ensures.others key.B refl) at c.paths_of-2.ensures in
-    rw (c.without_paths-vl.ensures, a, b) refl
+    let b : c.paths_of-b.result ≡ paths_at key.B row = rw (c.take-2.ensures.value, c.take.ensures.others key.B refl) at c.paths_of-b.ensures in
+    rw (c.without_paths-vl.ensures, a, c.with_rest.ensures, b) refl
