@@ -52,14 +52,14 @@ count-in loss place (Dropped vl cause size) =
     let same : one_if (is_same loss other) ≡ one_if (is_loss loss place (Dropped vl cause size)) = ap one_if (is_eq-losses loss other) in
     omega arith
 
-pub count-known : (plan : Plan) (loss : Loss) (row : Row) → count_by (is_same loss) (known_loss plan row) ≡ cond (is_known plan row && is_loss loss row.place row.note) 1 0
+count-known : (plan : Plan) (loss : Loss) (row : Row) → count_by (is_same loss) (known_loss plan row) ≡ cond (is_known plan row && is_loss loss row.place row.note) 1 0
 count-known plan loss row = go (is_known plan row)
   where
     go : (b : Bool) → count_by (is_same loss) (cond b (loss_of row) []) ≡ cond (b && is_loss loss row.place row.note) 1 0
     go true = count-in loss row.place row.note
     go false = refl
 
-pub count-rows : (plan : Plan) (loss : Loss) (rows : List Row) → count_by (is_same loss) (flat_map (known_loss plan) rows) ≡ times_lost plan loss rows
+count-rows : (plan : Plan) (loss : Loss) (rows : List Row) → count_by (is_same loss) (flat_map (known_loss plan) rows) ≡ times_lost plan loss rows
 count-rows plan loss [] = refl
 count-rows plan loss (row ∷ rows) =
     let here : count_by (is_same loss) (known_loss plan row) ≡ cond (is_known plan row && is_loss loss row.place row.note) 1 0 = count-known plan loss row in

@@ -1,16 +1,15 @@
 -- Second copies that are counted by place, as counts of losses.
-use Rattle.std.proofs.Common.{◌≡◌, ℕ, zero, suc, ◌+◌, ◌<◌, ◌≤◌, ◌==◌, Bool, true, false, cond, List, [], ◌∷◌, ◌++◌, length, get_or, set, take, replicate, map, Option, Some, None, refl, ap, sym, ◌∙◌, subst, inl, inr, ◌⊎◌, arith, ne_eqb, eq-eqb, append_assoc}
+use Rattle.std.proofs.Common.{◌≡◌, ℕ, zero, suc, ◌+◌, ◌<◌, ◌≤◌, ◌==◌, Bool, true, false, cond, List, [], ◌∷◌, ◌++◌, length, get_or, set, take, replicate, map, Option, Some, refl, ap, sym, ◌∙◌, subst, inl, inr, ◌⊎◌, arith, ne_eqb, eq-eqb, append_assoc}
 use Rattle.std.proofs.lemmas.Bool.{cases_lt}
 use Rattle.std.proofs.lemmas.Cmp.{tied_itself}
 use Rattle.std.specs.Prelude.{slice_get}
-use Rattle.std.specs.List.{sum_by}
 use Rattle.std.specs.List.Sorted.{IsStrictlySortedBy}
 use Rattle.std.specs.Map.{keys_of}
 use Rattle.std.specs.BTreeMap.{insert_entry}
 use Rattle.std.proofs.lemmas.List.Sums.{sum_by-append, sum_by-cons, sum_by_push, sum_by-take-le}
 use Rattle.std.proofs.lemmas.Map.Views.{All-values-insert_entry, exact_unsigned_eq}
 use Rattle.vlink.specs.declared.frame.VlId.{VlId}
-use Rattle.netdesc.specs.Plan.{Plan, VlPlan}
+use Rattle.netdesc.specs.Plan.{VlPlan}
 use Rattle.netdesc.specs.Trees.{destinations_of}
 use Rattle.netdesc.specs.Accepted.{id_of}
 use Rattle.netdesc.specs.Lines.{place_of_vl}
@@ -24,7 +23,7 @@ use Rattle.trace_tables.specs.declared.loss.Loss.{Loss}
 use Rattle.trace_tables.specs.Losses.{loss_cmp, count_in}
 use Rattle.trace_tables.specs.Duplicates.{duplicate_at, losses_at, losses_among, HasColumns, times_in, spot_for, spot_of, with_one_at, with_more, with_all}
 use Rattle.trace_tables.proofs.ListLemmas.{one_if, place_by-there, place_by-below}
-use Rattle.trace_tables.proofs.LossOrderLemmas.{losses_total, loss-is, is_eq-losses}
+use Rattle.trace_tables.proofs.LossOrderLemmas.{losses_total, loss-is}
 use Rattle.trace_tables.proofs.CountedLemmas.{sorted-insert_entry}
 use Rattle.trace_tables.proofs.DropCountLemmas.{ArePositive, is_same, count-put}
 

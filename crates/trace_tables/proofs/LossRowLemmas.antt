@@ -1,26 +1,23 @@
 -- One row more adds what it says was lost to the counts, and the counts of all rows are the table of drops.
-use Rattle.std.proofs.Common.{◌≡◌, ℕ, ◌+◌, ◌<◌, ◌≤◌, ◌==◌, Bool, true, false, cond, is_some, nat_lt, List, [], ◌∷◌, ◌++◌, length, get_or, set, Option, Some, None, refl, ap, sym, ◌∙◌, subst, inl, inr, ◌⊎◌, arith}
+use Rattle.std.proofs.Common.{◌≡◌, ℕ, ◌+◌, ◌<◌, ◌≤◌, ◌==◌, Bool, true, false, cond, is_some, nat_lt, List, [], ◌∷◌, ◌++◌, length, Option, Some, None, refl, ap, sym, ◌∙◌, subst, inl, inr, ◌⊎◌, arith}
 use Rattle.std.proofs.lemmas.Bool.{cases_lt, ltb-true}
-use Rattle.std.specs.Prelude.{◌&&◌, slice_get}
-use Rattle.std.specs.List.{All, sum_by}
-use Rattle.std.specs.List.Sorted.{IsStrictlySortedBy}
-use Rattle.std.specs.Map.{keys_of, values_of}
+use Rattle.std.specs.Prelude.{◌&&◌}
 use Rattle.std.proofs.lemmas.List.Sums.{sum_by_push, sum_by-cons, count_by-le-length}
 use Rattle.std.proofs.lemmas.Map.Views.{exact_unsigned_eq}
 use Rattle.vlink.specs.declared.note.Note.{Note}
 use Rattle.vlink.specs.declared.note.Note.TheVariants.{Delivered, Dropped}
 use Rattle.vlink.specs.declared.note.Row.{Row}
-use Rattle.netdesc.specs.Plan.{Plan, VlPlan}
+use Rattle.netdesc.specs.Plan.{Plan}
 use Rattle.netdesc.specs.Faults.{process_count}
 use Rattle.netdesc.specs.Lines.{place_of_vl}
 use Rattle.trace_tables.specs.declared.loss.Loss.{Loss}
 use Rattle.trace_tables.specs.Counting.{is_loss, times_lost}
-use Rattle.trace_tables.specs.Losses.{cause_number, loss_cmp, loss_in, loss_of, count_in}
+use Rattle.trace_tables.specs.Losses.{cause_number, loss_in, loss_of, count_in}
 use Rattle.trace_tables.specs.Tables.{vl_of, is_known, drop_table}
 use Rattle.trace_tables.specs.Duplicates.{HasColumns, losses_among, times_in, spot_of, with_one_at, with_more, with_all, AreCounted}
 use Rattle.trace_tables.proofs.ListLemmas.{one_if}
 use Rattle.trace_tables.proofs.LossOrderLemmas.{is_eq-losses}
-use Rattle.trace_tables.proofs.DropCountLemmas.{ArePositive, is_same, drops-ascending, drops-positive, is-drops}
+use Rattle.trace_tables.proofs.DropCountLemmas.{is_same, drops-ascending, drops-positive, is-drops}
 use Rattle.trace_tables.proofs.DuplicateLemmas.{count-with_more, ascending-with_more, positive-with_more, count-with_all, ascending-with_all, positive-with_all, one-more}
 
 -- the network has the virtual link and the process of a loss

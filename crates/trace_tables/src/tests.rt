@@ -83,6 +83,18 @@ dropped,2,ES1>SW1,outage,1,,,
 dropped,7,SW1,too_long,2,,,
 ";
 
+const SECOND_COPIES: &str = "table,vl,where,cause,count,least_ns,greatest_ns,sum_ns
+latency,2,ES2,,0,0,0,0
+latency,7,ES3,,0,0,0,0
+latency,7,ES2,,0,0,0,0
+dropped,2,ES3,duplicate,1,,,
+dropped,2,ES2,duplicate,1,,,
+dropped,7,ES3,duplicate,1,,,
+dropped,7,ES2,integrity,1,,,
+dropped,7,ES2,duplicate,2,,,
+dropped,7,SW1,duplicate,1,,,
+";
+
 pub(crate) const TRACE: &str = "time_ns,where,vl,what,value
 27720,ES2,2,delivered,27720
 30000,ES2,2,delivered,100
@@ -191,6 +203,28 @@ fn the_tables_of_some_rows(rt: HostRuntime) -> Result<(), Fail> {
     let mut spool = make_spool(rt.alloc(), 4096, 100);
     write_csv(rt.alloc(), &network, &tables, &mut spool)?;
     assert!(rt; holds(&spool, TABLES));
+    Ok(())
+}
+
+// Second copies where their virtual link ends and where it does not, and other losses beside them.
+#[test]
+fn second_copies(rt: HostRuntime) -> Result<(), Fail> {
+    let network = network(rt.alloc())?;
+    let rows = [
+        row(&rt, 1000, 2, dropped(&rt, 7, Cause::Duplicate, 64)),
+        row(&rt, 2000, 3, dropped(&rt, 7, Cause::Duplicate, 64)),
+        row(&rt, 3000, 1, dropped(&rt, 7, Cause::Duplicate, 64)),
+        row(&rt, 4000, 2, dropped(&rt, 7, Cause::Integrity, 64)),
+        row(&rt, 5000, 2, dropped(&rt, 7, Cause::Duplicate, 64)),
+        row(&rt, 6000, 2, dropped(&rt, 2, Cause::Duplicate, 64)),
+        row(&rt, 7000, 1, dropped(&rt, 2, Cause::Duplicate, 64)),
+        row(&rt, 8000, 10, dropped(&rt, 2, Cause::Duplicate, 64)),
+        row(&rt, 9000, 2, dropped(&rt, 9, Cause::Duplicate, 64)),
+    ];
+    let tables = Tables::of(rt.alloc(), &network, &rows)?;
+    let mut spool = make_spool(rt.alloc(), 4096, 100);
+    write_csv(rt.alloc(), &network, &tables, &mut spool)?;
+    assert!(rt; holds(&spool, SECOND_COPIES));
     Ok(())
 }
 

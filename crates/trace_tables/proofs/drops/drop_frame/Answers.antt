@@ -2,10 +2,9 @@ use Rattle.std.proofs.Common.{◌≡◌, ℕ, ◌+◌, ◌-◌, ◌^◌, ◌<◌
 use Rattle.std.proofs.lemmas.Result.{on_ok_weaker}
 use Rattle.netdesc.specs.Trees.{destinations_of}
 use Rattle.netdesc.specs.Views.{lists_of}
-use Rattle.vlink.specs.declared.note.Row.{Row}
 use Rattle.trace_tables.specs.declared.loss.Loss.{Loss}
 use Rattle.trace_tables.specs.Losses.{count_in}
-use Rattle.trace_tables.specs.Duplicates.{AreCounted, duplicate_at, losses_among, times_in, spot_of, with_one_at, with_more}
+use Rattle.trace_tables.specs.Duplicates.{AreCounted, duplicate_at, losses_among, times_in, spot_of, with_one_at}
 use Rattle.trace_tables.proofs.ListLemmas.{place_by-there, place_by-below}
 use Rattle.trace_tables.proofs.DuplicateLemmas.{count-le}
 use Rattle.trace_tables.proofs.LossRowLemmas.{known-of, loss-by-place, loss-by-itself}

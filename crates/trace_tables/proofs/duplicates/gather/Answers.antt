@@ -1,12 +1,11 @@
-use Rattle.std.proofs.Common.{◌≡◌, ℕ, suc, ◌+◌, ◌^◌, ◌<◌, ◌≤◌, List, ◌++◌, ◌∷◌, [], map, length, get_or, take, refl, ap, subst, sym, ◌∙◌, arith, add-one}
+use Rattle.std.proofs.Common.{◌≡◌, ℕ, suc, ◌+◌, ◌^◌, ◌<◌, ◌≤◌, List, ◌++◌, [], map, length, get_or, take, ap, sym, ◌∙◌, arith, add-one}
 use Rattle.std.specs.Prelude.{slice_get}
-use Rattle.std.proofs.lemmas.List.{take_all, length-map}
+use Rattle.std.proofs.lemmas.List.{length-map}
 use Rattle.netdesc.specs.declared.vl.VirtualLink.{VirtualLink}
 use Rattle.netdesc.specs.Faults.{process_count}
 use Rattle.netdesc.specs.declared.limits.TheConstants.{GREATEST_PROCESSES}
 use Rattle.netdesc.specs.Trees.{destinations_of}
 use Rattle.netdesc.specs.Views.{items_of}
-use Rattle.trace_tables.specs.declared.loss.Loss.{Loss}
 use Rattle.trace_tables.specs.Losses.{count_in}
 use Rattle.trace_tables.specs.Duplicates.{duplicate_at, losses_at, losses_among, times_in, with_all}
 use Rattle.trace_tables.proofs.DeliveryLemmas.{column}

@@ -1,4 +1,4 @@
-use Rattle.std.proofs.Common.{◌≡◌, ℕ, List, ◌++◌, ◌∷◌, [], map, replicate, ap, subst, sym, ◌∙◌, take, add-one, length, arith}
+use Rattle.std.proofs.Common.{◌≡◌, ◌++◌, ◌∷◌, [], map, replicate, ap, subst, sym, ◌∙◌, take, add-one, length, arith}
 use Rattle.std.proofs.lemmas.List.{map-append, take_all}
 use Rattle.netdesc.specs.Views.{items_of, lists_of}
 use Rattle.trace_tables.specs.Duplicates.{HasColumns, losses_among, times_in}

@@ -1,4 +1,4 @@
-use Rattle.std.proofs.Common.{◌≡◌, ℕ, List, map, ◌<◌, ◌+◌, ◌≤◌, subst, [], length, get_or, ap, sym, ◌∙◌, take, arith}
+use Rattle.std.proofs.Common.{◌≡◌, ℕ, List, map, ◌+◌, ◌≤◌, subst, [], length, get_or, ap, sym, ◌∙◌, take, arith}
 use Rattle.std.proofs.lemmas.List.{length-take-le, take_all}
 use Rattle.std.proofs.lemmas.Map.Keys.{sorted_from_strictly_increasing}
 use Rattle.netdesc.specs.Accepted.{ids_of}
