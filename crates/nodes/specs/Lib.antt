@@ -22,6 +22,7 @@ pub mod RegulatorLaws
 pub mod Replies
 pub mod SentLaws
 pub mod Simulation
+pub mod Outputs
 pub mod Switch
 pub mod SwitchLaws
 pub mod SwitchSending

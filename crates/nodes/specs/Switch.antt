@@ -16,6 +16,7 @@ use Rattle.nodes.specs.declared.transit.Transit.{Transit}
 use Rattle.reverse.specs.Sending.{Wish, Reply, silent, loss}
 use Rattle.nodes.specs.Ports.{PortsState, changed, exists, reply}
 use Rattle.nodes.specs.Finding.{place_of}
+use Rattle.nodes.specs.Outputs.{marked_from}
 
 -- the delay from a frame's arrival to its output ports; the virtual links that go through, with an account each; and the ports
 pub record SwitchState : Type 0 where
@@ -30,12 +31,6 @@ pub record SwitchOutcome : Type 0 where
 
 abbrev pub numbers_of : List Transit → List ℕ
 numbers_of transits = map (λ transit. transit.vl.0) transits
-
--- the ports that are marked, from port q on, rising
-abbrev pub marked_from : ℕ → List Bool → List ℕ
-marked_from q [] = []
-marked_from q (true ∷ marks) = q ∷ marked_from (q + 1) marks
-marked_from q (false ∷ marks) = marked_from (q + 1) marks
 
 -- the output ports of a virtual link, rising
 abbrev pub outputs_of : Transit → List ℕ

@@ -16,8 +16,9 @@ use Rattle.output_port.specs.declared.event.PortEvent.TheVariants.{Put, Free}
 use Rattle.nodes.specs.declared.transit.Transit.{Transit}
 use Rattle.reverse.specs.Sending.{Wish, Reply, silent, loss}
 use Rattle.nodes.specs.Ports.{exists}
-use Rattle.nodes.specs.Switch.{SwitchState, SwitchOutcome, TransitAt, transit_at, transit_with, numbers_of, marked_from, outputs_of, forwarded, judged, policed, taken, put, at_port, switch}
+use Rattle.nodes.specs.Switch.{SwitchState, SwitchOutcome, TransitAt, transit_at, transit_with, numbers_of, outputs_of, forwarded, judged, policed, taken, put, at_port, switch}
 use Rattle.nodes.specs.Finding.{place_of}
+use Rattle.nodes.specs.Outputs.{marked_from}
 use Rattle.nodes.specs.Placed.{AllWires}
 use Rattle.nodes.specs.Places.{All-there}
 use Rattle.nodes.specs.Replies.{IsQuiet, silent-quiet, loss-quiet, quiet-all, quiet-few}

@@ -110,6 +110,7 @@ impl EndSystem {
     }
 
     /// The regulator of a virtual link is asked to do something. A frame of a virtual link that does not begin here is lost.
+    #[inline(always)]
     fn regulate(&mut self, at: Time, vl: VlId, event: &RegEvent, out: &mut Outbound) -> Kept
         requires messages { out.old.messages ≡ [] }
         requires notes { out.old.notes ≡ [] }

@@ -10,6 +10,7 @@ mod networks;
 mod node;
 mod numbers;
 mod opening;
+mod outputs;
 mod part;
 mod ports;
 mod receiving;

@@ -6,6 +6,7 @@ ghost use Rattle.nodes.specs.Making.{numbers_met, end_met, ports_among, transit_
 
 use crate::meeting::Meeting;
 use crate::numbers::Numbers;
+use crate::outputs::Outputs;
 use crate::receiving::Receiving;
 use crate::transit::Transit;
 use crate::vl_end::VlEnd;
@@ -134,7 +135,7 @@ pub fn transits_of(
         transits.push(Transit {
             vl: m.link.id,
             input: m.first,
-            outputs: ports_among(&numbers, departing, m.link.id),
+            outputs: Outputs::new(ports_among(&numbers, departing, m.link.id)),
             smax: m.link.smax,
             priority: port_priority(m.link.priority),
         })?;

@@ -24,6 +24,7 @@ pub struct Receiving {
 impl Receiving {
     /// A frame has come: it is delivered if it passes the check of its network and redundancy management then lets it
     /// through, and lost otherwise.
+    #[inline(always)]
     pub fn receive(&mut self, at: Time, frame: &Frame, out: &mut Outbound) -> Kept
         requires { length out.old.notes < 2 }
         ensures state { self.new ≡ received at frame.now self.old }

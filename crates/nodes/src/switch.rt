@@ -143,6 +143,7 @@ impl Switch {
 
     /// A frame of the virtual link with this place has come to a port: it is lost where the virtual link does not come in
     /// there, where it is too long, or where the account refuses it.
+    #[inline(always)]
     fn judge(&mut self, place: usize, at: Time, port: u8, frame: &Frame, out: &mut Outbound) -> Kept
         requires place { option_map (λ (found : TransitAt). found.place) (transit_at self.old frame.now.vl) ≡ Some place }
         requires messages { out.old.messages ≡ [] }
@@ -153,7 +154,7 @@ impl Switch {
         ensures kept { result ≡ taken_kept at port frame.now (transit_at self.old frame.now.vl) }
         ensures valid { IsTakenValue port frame.now (transit_at self.old frame.now.vl) }
     {
-        let transit = self.transits[place];
+        let transit = &self.transits[place];
         if transit.input != port {
             out.lose(Cause::Unknown, frame);
             return Kept::Nothing;
@@ -169,7 +170,7 @@ impl Switch {
         let account = &mut self.accounts[place];
         let (verdict, kept) = account.apply(&arrival);
         let ns = at.ns() + u64::from(self.latency_ns);
-        answer_verdict(ns, frame, &transit, verdict, out);
+        answer_verdict(ns, frame, transit, verdict, out);
         Kept::Policed(kept)
     }
 
@@ -257,16 +258,14 @@ fn forward(ns: u64, frame: &Frame, transit: &Transit, out: &mut Outbound)
     ensures { out.new ≡ replied out.old (forwarded out.old.sender.number ns frame.now (outputs_of transit.now)) }
 {
     let number = out.number();
-    for port in 0..24 {
-        if transit.outputs[usize::from(port)] {
-            out.send(
-                ns,
-                number,
-                Body::Enqueue {
-                    port,
-                    frame: *frame,
-                },
-            );
-        }
+    for port in transit.outputs.ports() {
+        out.send(
+            ns,
+            number,
+            Body::Enqueue {
+                port: *port,
+                frame: *frame,
+            },
+        );
     }
 }

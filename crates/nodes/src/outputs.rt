@@ -1,0 +1,48 @@
+ghost use Rattle.std.specs.Prelude.{◌≡◌, ◌≤◌, length};
+ghost use Rattle.nodes.specs.Outputs.{marked_from};
+
+use arrayvec::ArrayVec;
+use std::marker::Model;
+
+/// The output ports of a virtual link at a switch. They stand also in a list, so that a frame goes to each without a look at the others.
+///
+/// Clauses see them as a mark for each port.
+#[derive(Debug, Drop)]
+pub struct Outputs {
+    ports: ArrayVec<u8, 24>,
+    marks: [bool; 24],
+}
+
+impl Model for Outputs {
+    ghost use Rattle.std.specs.Prelude.{◌≡◌, Bool, List};
+    ghost use Rattle.nodes.specs.Outputs.{marked_from};
+
+    ghost Value = { List Bool };
+
+    ghost view = { λ o. o.marks };
+
+    ghost invariant = { λ o. o.ports.items ≡ marked_from 0 o.marks };
+}
+
+impl Outputs {
+    /// The ports with these marks.
+    pub(crate) fn new(marks: [bool; 24]) -> Self
+        ensures { result ≡ marks }
+    {
+        let mut ports = ArrayVec::new();
+        for port in 0..24 {
+            if marks[usize::from(port)] {
+                ports.push(port);
+            }
+        }
+        Outputs { ports, marks }
+    }
+
+    /// The ports that are marked, rising.
+    pub(crate) fn ports(&self) -> &[u8]
+        ensures ports { result.now ≡ marked_from 0 self.now }
+        ensures few { length result.now ≤ 24 }
+    {
+        self.ports.as_slice()
+    }
+}
