@@ -76,7 +76,9 @@ pub(crate) fn is_one_at(letters: &VecDeque<Letter>, guess: usize, message: &Mess
     ensures { IsTrue result → signed_count message_rules message.now (map signed letters.now.items) ≡ pos 1 }
 {
     ordered();
-    if !stands_at(letters, guess, message, Sign::Plus) || !front_is_before(letters, message, guess) {
+    if !stands_at(letters, guess, message, Sign::Plus)
+        || !front_is_before(letters, message, guess)
+    {
         return false;
     }
     !stands_at(letters, guess + 1, message, Sign::Plus)

@@ -19,8 +19,10 @@ pub loop-count-preserved : goal.loop-count-preserved
 loop-count-preserved c = record {
   within = omega arith;
   digits = digits_more 10 c.args.text.now c.loop-count.count c.loop-count-test.true c.loop-count.invariant.digits c.if-is_ascii_digit.ensures.bound;
-  value = λ few. elim c.if-count-lt10.branch [ then-count-lt10 w ↦
-          w.value-is ∙ (let is = c.loop-count.invariant.value (omega (arith, few)) in
-          let more = value_more c.args.text.now c.loop-count.count c.if-is_ascii_digit.ensures.bound c.loop-count-test.true in omega (arith, is, more, w.from.ensures))
-      | else-count-lt10 w ↦ absurd (omega (arith, few, w.if-count-lt10.false)) ];
+  value = λ few. elim c.if-count-lt10.branch [
+    | then-count-lt10 w ↦
+        w.value-is ∙ (let is = c.loop-count.invariant.value (omega (arith, few)) in
+        let more = value_more c.args.text.now c.loop-count.count c.if-is_ascii_digit.ensures.bound c.loop-count-test.true in omega (arith, is, more, w.from.ensures))
+    | else-count-lt10 w ↦ absurd (omega (arith, few, w.if-count-lt10.false))
+  ];
 }
