@@ -1,5 +1,5 @@
 -- A number put at its place among rising ones; and how many numbers there are, once each is there once.
-use Rattle.std.proofs.Common.{◌≡◌, ℕ, suc, ◌+◌, ◌<◌, ◌≤◌, Bool, true, false, cond, nat_lt, ◌==◌, List, [], ◌∷◌, ◌++◌, length, refl, ap, sym, ◌∙◌, arith, inl, inr, Option, None, Some}
+use Rattle.std.proofs.Common.{◌≡◌, ℕ, suc, ◌+◌, ◌≤◌, true, false, cond, nat_lt, ◌==◌, List, [], ◌∷◌, ◌++◌, length, refl, ap, sym, ◌∙◌, arith, inl, inr, Option, None, Some}
 use Rattle.std.specs.Prelude.{slice_get}
 use Rattle.std.specs.List.{insert, prefix_len}
 use Rattle.std.specs.Ordering.{nat_cmp, match_ordering}

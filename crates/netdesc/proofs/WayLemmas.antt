@@ -1,5 +1,5 @@
 -- A map from nodes to where they are reached from, one step after another.
-use Rattle.std.proofs.Common.{◌≡◌, ℕ, ◌<◌, Bool, true, false, cond, ◌==◌, List, [], ◌∷◌, ◌++◌, length, take, get_or, Some, None, refl, ap, sym, ◌∙◌, subst, arith, inl, inr}
+use Rattle.std.proofs.Common.{◌≡◌, ℕ, ◌<◌, Bool, true, false, cond, ◌==◌, List, [], ◌∷◌, ◌++◌, length, take, get_or, Option, Some, None, refl, ap, sym, ◌∙◌, subst, arith, inl, inr}
 use Rattle.std.specs.List.{list_any, Contains}
 use Rattle.std.specs.Ordering.{nat_cmp}
 use Rattle.std.specs.BTreeMap.{BTreeMap, get, UpdatesBy}
@@ -10,7 +10,7 @@ use Rattle.std.proofs.lemmas.List.Elements.{Contains-append_left, Contains-push,
 use Rattle.std.proofs.lemmas.List.Folds.{list_any_none, list_any-from_Any}
 use Rattle.netdesc.specs.declared.wiring.Step.{Step}
 use Rattle.netdesc.specs.Trees.{is_other_way, has_other_way}
-use Rattle.netdesc.specs.Finding.{AreWays}
+use Rattle.netdesc.specs.Finding.{AreWaysBy, AreWays, AreWaysIn, way_to}
 use Rattle.netdesc.proofs.JoinLemmas.{is_eq-nat_cmp}
 
 -- a test that one element passes
@@ -21,58 +21,76 @@ pub none-contains : {X : Type 0} (p : X → Bool) (xs : List X) → ((x : X) →
 none-contains p xs h = list_any_none p xs (λ k d lt. h (get_or xs k d) (Contains-get_or xs k d lt))
 
 -- a step that leads to a node from where it was reached already
-pub AreWays-kept : (ways : BTreeMap ℕ ℕ) (steps : List Step) (t : Step) → AreWays ways steps → get nat_cmp ways t.to ≡ Some t.from → AreWays ways (steps ++ t ∷ [])
+pub AreWays-kept : (ways : ℕ → Option ℕ) (steps : List Step) (t : Step) → AreWaysBy ways steps → ways t.to ≡ Some t.from → AreWaysBy ways (steps ++ t ∷ [])
 AreWays-kept ways steps t are here = (
-  (λ s there. elim (Contains-push_cases steps t s there) [ inl old ↦ are.0 s old | inr same ↦ subst (λ (u : Step). get nat_cmp ways u.to ≡ Some u.from) same here ]),
+  (λ s there. elim (Contains-push_cases steps t s there) [ inl old ↦ are.0 s old | inr same ↦ subst (λ (u : Step). ways u.to ≡ Some u.from) same here ]),
   (λ to from found. Contains-append_left steps (t ∷ []) _ (are.1 to from found)),
 )
 
 -- a step to a node that was not reached
-pub AreWays-put : (old new : BTreeMap ℕ ℕ) (steps : List Step) (t : Step) → AreWays old steps → get nat_cmp old t.to ≡ None → UpdatesBy nat_cmp (nat_cmp t.to) old new (Some t.from) → AreWays new (steps ++ t ∷ [])
-AreWays-put old new steps t are absent put = (first, second)
+pub AreWays-more : (old new : ℕ → Option ℕ) (steps : List Step) (t : Step) → AreWaysBy old steps → old t.to ≡ None
+    → ((to : ℕ) → new to ≡ cond (t.to == to) (Some t.from) (old to)) → AreWaysBy new (steps ++ t ∷ [])
+AreWays-more old new steps t are absent at = (first, second)
   where
-    at : (to : ℕ) → get nat_cmp new to ≡ cond (t.to == to) (Some t.from) (get nat_cmp old to)
-    at to = put.0 to ∙ ap (λ b. cond b (Some t.from) (get nat_cmp old to)) (is_eq-nat_cmp t.to to)
-
-    new_here : get nat_cmp new t.to ≡ Some t.from
+    new_here : new t.to ≡ Some t.from
     new_here = let same : (t.to == t.to) ≡ true = grind (arith, nat_tests) in at t.to ∙ rw same refl
 
-    first : (s : Step) → Contains (steps ++ t ∷ []) s → get nat_cmp new s.to ≡ Some s.from
+    first : (s : Step) → Contains (steps ++ t ∷ []) s → new s.to ≡ Some s.from
     first s there = elim (Contains-push_cases steps t s there) [
       | inl before ↦ elim (cases_Bool (t.to == s.to)) [
         | inl same ↦ (let equal : t.to ≡ s.to = grind (arith, nat_tests) in
-            let gone : Some s.from ≡ None = sym (are.0 s before) ∙ ap (get nat_cmp old) (sym equal) ∙ absent in cc)
+            let gone : Some s.from ≡ None = sym (are.0 s before) ∙ ap old (sym equal) ∙ absent in cc)
         | inr apart ↦ at s.to ∙ rw apart (are.0 s before)
       ]
-      | inr same ↦ subst (λ (u : Step). get nat_cmp new u.to ≡ Some u.from) same new_here
+      | inr same ↦ subst (λ (u : Step). new u.to ≡ Some u.from) same new_here
     ]
 
-    second : (to from : ℕ) → get nat_cmp new to ≡ Some from → Contains (steps ++ t ∷ []) (record { from = from; to = to })
+    second : (to from : ℕ) → new to ≡ Some from → Contains (steps ++ t ∷ []) (record { from = from; to = to })
     second to from found = elim (cases_Bool (t.to == to)) [
       | inl same ↦ (let to_is : t.to ≡ to = grind (arith, nat_tests) in
           let here : Some t.from ≡ Some from = sym (at to ∙ rw same refl) ∙ found in
           let from_is : t.from ≡ from = cc in
           let is_t : t ≡ record { from = from; to = to } = ap (λ n. record { from = n; to = t.to }) from_is ∙ ap (λ n. record { from = from; to = n }) to_is in
           subst (λ (u : Step). Contains (steps ++ t ∷ []) u) is_t (Contains-push steps t))
-      | inr apart ↦ (let before : get nat_cmp old to ≡ Some from = sym (at to ∙ rw apart refl) ∙ found in Contains-append_left steps (t ∷ []) _ (are.1 to from before))
+      | inr apart ↦ (let before : old to ≡ Some from = sym (at to ∙ rw apart refl) ∙ found in Contains-append_left steps (t ∷ []) _ (are.1 to from before))
     ]
 
+pub AreWays-put : (old new : BTreeMap ℕ ℕ) (steps : List Step) (t : Step) → AreWays old steps → get nat_cmp old t.to ≡ None → UpdatesBy nat_cmp (nat_cmp t.to) old new (Some t.from) → AreWays new (steps ++ t ∷ [])
+AreWays-put old new steps t are absent put =
+    AreWays-more (get nat_cmp old) (get nat_cmp new) steps t are absent (λ to. put.0 to ∙ ap (λ b. cond b (Some t.from) (get nat_cmp old to)) (is_eq-nat_cmp t.to to))
+
+-- a way more at the end, to a node that no way leads to
+way_to-push : (ways : List Step) (t : Step) (to : ℕ) → way_to ways t.to ≡ None → way_to (ways ++ t ∷ []) to ≡ cond (t.to == to) (Some t.from) (way_to ways to)
+way_to-push [] t to absent = refl
+way_to-push (way ∷ ways) t to absent = elim (cases_Bool (way.to == t.to)) [
+  | inl same ↦ (let gone : Some way.from ≡ None = sym (ap (λ b. cond b (Some way.from) (way_to ways t.to)) same) ∙ absent in cc)
+  | inr apart ↦ (let behind : way_to ways t.to ≡ None = sym (ap (λ b. cond b (Some way.from) (way_to ways t.to)) apart) ∙ absent in
+      ap (λ r. cond (way.to == to) (Some way.from) r) (way_to-push ways t to behind)
+      ∙ elim (cases_Bool (way.to == to)) [
+        | inl here ↦ (let other : (t.to == to) ≡ false = grind (arith, nat_tests) in rw (here, other) refl)
+        | inr there ↦ rw there refl
+      ])
+]
+
+pub AreWaysIn-push : (ways steps : List Step) (t : Step) → AreWaysIn ways steps → way_to ways t.to ≡ None → AreWaysIn (ways ++ t ∷ []) (steps ++ t ∷ [])
+AreWaysIn-push ways steps t are absent = AreWays-more (way_to ways) (way_to (ways ++ t ∷ [])) steps t are absent (λ to. way_to-push ways t to absent)
+
 -- a step that leads to a node from another one than it was reached from
-pub other-way : (ways : BTreeMap ℕ ℕ) (steps : List Step) (t : Step) (from : ℕ) → AreWays ways steps → get nat_cmp ways t.to ≡ Some from → (from == t.from) ≡ false
+pub other-way : (ways : ℕ → Option ℕ) (steps : List Step) (t : Step) (from : ℕ) → AreWaysBy ways steps → ways t.to ≡ Some from → (from == t.from) ≡ false
     → (s : Step) × Contains steps s × (is_other_way s t ≡ true)
 other-way ways steps t from are found apart =
     let same : (t.to == t.to) ≡ true = grind (arith, nat_tests) in
     (record { from = from; to = t.to }, are.1 t.to from found, rw (same, apart) refl)
 
 -- where all steps agree with the map, no two of them lead to one node from different ones
-pub no-other-way : (ways : BTreeMap ℕ ℕ) (steps : List Step) → AreWays ways steps → has_other_way steps ≡ false
+pub no-other-way : (ways : ℕ → Option ℕ) (steps : List Step) → AreWaysBy ways steps → has_other_way steps ≡ false
 no-other-way ways steps are =
     none-contains (λ s. list_any (is_other_way s) steps) steps (λ s s_there. none-contains (is_other_way s) steps (λ t t_there. agree s t s_there t_there))
   where
     agree : (s t : Step) → Contains steps s → Contains steps t → is_other_way s t ≡ false
     agree s t s_there t_there = elim (cases_Bool (s.to == t.to)) [
       | inl same ↦ (let equal : s.to ≡ t.to = grind (arith, nat_tests) in
-          let both : Some s.from ≡ Some t.from = sym (are.0 s s_there) ∙ ap (get nat_cmp ways) equal ∙ are.0 t t_there in
+          let both : Some s.from ≡ Some t.from = sym (are.0 s s_there) ∙ ap ways equal ∙ are.0 t t_there in
           let from_is : s.from ≡ t.from = cc in
           let test : (s.from == t.from) ≡ true = grind (arith, nat_tests) in rw (same, test) refl)
       | inr apart ↦ rw apart refl

@@ -1,5 +1,5 @@
 -- What checks answer, and what maps of numbers hold.
-use Rattle.std.specs.Prelude.{ℕ, ◌≡◌, ◌⊎◌, List, [], Option, None, Some, Result, Ok, Err, slice_get, slice_index_or, Contains}
+use Rattle.std.specs.Prelude.{ℕ, ◌≡◌, ◌⊎◌, ◌==◌, cond, List, [], ◌∷◌, Option, None, Some, Result, Ok, Err, slice_get, slice_index_or, Contains}
 use Rattle.std.specs.Cmp.Lexicographic.{slice_cmp}
 use Rattle.std.specs.Ordering.{nat_cmp, ordering_then}
 use Rattle.std.specs.declared.cmp.Ordering.{Ordering}
@@ -45,7 +45,20 @@ AreJoined places links = (x y : ℕ) → get pair_cmp places (x, y) ≡ link_bet
 abbrev pub AreAttached : List NodePlan → Net → BTreeSet ℕ → List Link → Type 0
 AreAttached nodes net attached links = (n : ℕ) → contains nat_cmp attached n ≡ list_any (leads nodes net n) links
 
--- the map has, for each node that one of these steps leads to, the node that all of them lead there from
+-- for each node that one of these steps leads to, the node that all of them lead there from
+abbrev pub AreWaysBy : (ℕ → Option ℕ) → List Step → Type 0
+AreWaysBy from_of steps = ((s : Step) → Contains steps s → from_of s.to ≡ Some s.from)
+    × ((to from : ℕ) → from_of to ≡ Some from → Contains steps (record { from = from; to = to }))
+
+-- the map has them
 abbrev pub AreWays : BTreeMap ℕ ℕ → List Step → Type 0
-AreWays ways steps = ((s : Step) → Contains steps s → get nat_cmp ways s.to ≡ Some s.from)
-    × ((to from : ℕ) → get nat_cmp ways to ≡ Some from → Contains steps (record { from = from; to = to }))
+AreWays ways steps = AreWaysBy (get nat_cmp ways) steps
+
+-- where the first of these ways to a node leads from
+abbrev pub way_to : List Step → ℕ → Option ℕ
+way_to [] to = None
+way_to (way ∷ ways) to = cond (way.to == to) (Some way.from) (way_to ways to)
+
+-- the list has them
+abbrev pub AreWaysIn : List Step → List Step → Type 0
+AreWaysIn ways steps = AreWaysBy (way_to ways) steps

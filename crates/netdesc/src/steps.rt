@@ -1,13 +1,12 @@
 ghost use Rattle.std.specs.Prelude.{◌≡◌, ◌++◌, [], ◌∷◌, true, List, Contains, MatchBool, IfOk, OnOk, IfErr};
-ghost use Rattle.std.specs.List.{list_any};
 ghost use Rattle.network_rows.specs.declared.fault.DescFault.TheVariants.{OutOfMemory};
 ghost use Rattle.netdesc.specs.declared.wiring.Step.{Step};
 ghost use Rattle.netdesc.specs.Trees.{steps_of, steps_after, all_steps, is_other_way, has_other_way};
 ghost use Rattle.netdesc.specs.Views.{Tests, lists_of};
-ghost use Rattle.netdesc.specs.Finding.{AreWays};
+ghost use Rattle.netdesc.specs.Finding.{AreWays, AreWaysIn, way_to};
 
-use crate::ends::FEW;
-use crate::memory::{push, refused};
+use crate::memory::{push, refused, with_room};
+use crate::rising::SOME;
 use crate::wiring::Step;
 use network_rows::DescFault;
 use std::alloc::Global;
@@ -37,6 +36,15 @@ fn push_steps(steps: &mut Vec<Step>, path: &[usize]) -> Result<(), DescFault>
     }
 }
 
+/// How many nodes these paths go through, each counted as often as a path does: so many steps and more have room.
+pub fn node_count(paths: &Vec<Vec<usize>>) -> usize {
+    let mut count: usize = 0;
+    for path in paths {
+        count = count.saturating_add(path.len());
+    }
+    count
+}
+
 /// Puts the steps of these paths at the end, path by path.
 pub fn push_all(steps: &mut Vec<Step>, paths: &Vec<Vec<usize>>) -> Result<(), DescFault>
     ensures steps { OnOk result (steps.new.items ≡ steps.old.items ++ all_steps (lists_of paths.now)) }
@@ -63,29 +71,55 @@ fn is_other_way(ways: &mut BTreeMap<usize, usize>, step: Step) -> Result<bool, D
     }
 }
 
-/// The two steps lead to one node from different ones.
-fn are_apart(s: Step, t: Step) -> bool
-    ensures { result ≡ is_other_way s t }
+/// Where the first of these ways to a node leads from, if one leads to it.
+fn way_to(ways: &[Step], to: usize) -> Option<usize>
+    ensures { result ≡ way_to ways.now to }
 {
-    s.to == t.to && s.from != t.from
+    for way in ways {
+        if way.to == to {
+            return Some(way.from);
+        }
+    }
+    None
 }
 
-/// One of these steps leads to the node of another step from a different one.
-fn is_apart(s: Step, steps: &[Step]) -> bool
-    ensures { result ≡ list_any (is_other_way s) steps.now }
+/// The same by a list of the ways that were found.
+fn is_other_way_of_some(ways: &mut Vec<Step>, step: Step) -> Result<bool, DescFault>
+    ensures other { (steps : List Step) → AreWaysIn ways.old.items steps → IfOk result (λ other. MatchBool other
+        ((s : Step) × Contains steps s × (is_other_way s step ≡ true)) (AreWaysIn ways.new.items (steps ++ step ∷ []))) }
+    ensures memory { IfErr result (λ fault. fault ≡ OutOfMemory) }
 {
-    steps.iter().any(|t| are_apart(s, *t))
+    match way_to(ways, step.to) {
+        Some(from) => Ok(from != step.from),
+        None => match push(ways, step) {
+            Ok(()) => Ok(false),
+            Err(fault) => Err(fault),
+        },
+    }
 }
 
 /// Two of these steps lead to one node from different ones.
 pub fn has_other_way(alloc: Global, steps: &[Step]) -> Result<bool, DescFault>
     ensures { Tests result (has_other_way steps.now) }
 {
-    if steps.len() <= FEW {
-        Ok(steps.iter().any(|s| is_apart(*s, steps)))
+    if steps.len() <= SOME {
+        has_other_way_of_some(alloc, steps)
     } else {
         has_other_way_of_many(alloc, steps)
     }
+}
+
+/// Two of these steps lead to one node from different ones, by a list of the ways that were found.
+fn has_other_way_of_some(alloc: Global, steps: &[Step]) -> Result<bool, DescFault>
+    ensures { Tests result (has_other_way steps.now) }
+{
+    let mut ways = with_room(alloc, steps.len())?;
+    for step in steps {
+        if is_other_way_of_some(&mut ways, *step)? {
+            return Ok(true);
+        }
+    }
+    Ok(false)
 }
 
 /// Two of these steps lead to one node from different ones, by a map of the ways that were found.

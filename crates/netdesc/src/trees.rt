@@ -11,8 +11,9 @@ ghost use Rattle.netdesc.specs.Views.{Tests, lists_of, vl_view};
 
 use crate::ends::{has_double, has_repeat, push_ends};
 use crate::kinds::{is_end_system, is_switch_of};
+use crate::memory::with_room;
 use crate::place::key_at;
-use crate::steps::{has_other_way, push_all};
+use crate::steps::{has_other_way, node_count, push_all};
 use crate::vl::Routed;
 use network_rows::{DescFault, Key, NodeRow, Section};
 use std::alloc::Global;
@@ -138,12 +139,12 @@ fn is_no_tree(
     if has_bad_path(nodes, net, paths) {
         return Ok(true);
     }
-    let mut ends = Vec::new(alloc);
+    let mut ends = with_room(alloc, paths.len())?;
     push_ends(&mut ends, paths)?;
     if has_repeat(alloc, &ends)? {
         return Ok(true);
     }
-    let mut steps = Vec::new(alloc);
+    let mut steps = with_room(alloc, node_count(paths))?;
     push_all(&mut steps, paths)?;
     has_other_way(alloc, &steps)
 }

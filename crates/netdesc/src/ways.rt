@@ -5,9 +5,9 @@ ghost use Rattle.netdesc.specs.Lines.{line_between, lines_over, route_over};
 ghost use Rattle.netdesc.specs.Views.{vl_view};
 
 use crate::joined::Joined;
-use crate::memory::push;
+use crate::memory::{push, with_room};
 use crate::rising::rising;
-use crate::steps::push_all;
+use crate::steps::{node_count, push_all};
 use crate::vl::Routed;
 use crate::wiring::Step;
 use network_rows::DescFault;
@@ -42,7 +42,7 @@ fn lines_over(alloc: Global, joined: &Joined, steps: &[Step]) -> Result<Vec<usiz
     ensures lines { IfOk result (λ lines. lines.items ≡ flat_map (lines_over joined.now.links.now) steps.now) }
     ensures memory { IfErr result (λ fault. fault ≡ OutOfMemory) }
 {
-    let mut lines = Vec::new(alloc);
+    let mut lines = with_room(alloc, steps.len())?;
     for step in steps {
         push_line(&mut lines, joined, *step)?;
     }
@@ -55,7 +55,7 @@ pub fn route_of(alloc: Global, joined: &Joined, vl: &Routed) -> Result<Vec<usize
     ensures route { IfOk result (λ route. route.items ≡ route_over joined.now.links.now (vl_view vl.now)) }
     ensures memory { IfErr result (λ fault. fault ≡ OutOfMemory) }
 {
-    let mut steps = Vec::new(alloc);
+    let mut steps = with_room(alloc, node_count(&vl.a).saturating_add(node_count(&vl.b)))?;
     push_all(&mut steps, &vl.a)?;
     push_all(&mut steps, &vl.b)?;
     let lines = lines_over(alloc, joined, &steps)?;

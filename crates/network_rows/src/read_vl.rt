@@ -17,6 +17,7 @@ use crate::table;
 use crate::unknown::has_unknown_key;
 use crate::value::has_word;
 use std::alloc::{AllocError, Global};
+use std::mem::replace;
 use toml::{Table, Value};
 use vlink::{FrameSize, VlId};
 
@@ -107,12 +108,15 @@ fn priority(row: &Table) -> Priority
     }
 }
 
-// Takes the value at a key out of a row.
+// Takes the value at a key out of a row, which keeps the key.
 fn take(row: &mut Table, key: Key) -> Option<Value>
     ensures value { option_map view result ≡ value_at key (table_view row.old) }
     ensures others { (other : Key) → same_key (key_text key) (key_text other) ≡ false → value_at other (table_view row.new) ≡ value_at other (table_view row.old) }
 {
-    row.remove(key.text())
+    match row.get_mut(key.text()) {
+        Some(value) => Some(replace(value, Value::Boolean(false))),
+        None => None,
+    }
 }
 
 // The paths that a value is a list of, if there is one.

@@ -1,5 +1,7 @@
 use Rattle.std.proofs.Common.{◌≡◌, ◌<◌, length, take, sym, subst, arith}
 use Rattle.std.proofs.lemmas.List.{take_more, take_all}
+use Rattle.std.specs.Ordering.{nat_cmp}
+use Rattle.std.specs.BTreeMap.{get}
 use Rattle.netdesc.specs.Finding.{AreWays}
 use Rattle.netdesc.proofs.WayLemmas.{no-other-way, other-way-at, no_step}
 use Rattle.netdesc.proofs.steps.has_other_way_of_many.Goals as goal
@@ -24,4 +26,4 @@ pub returns : goal.returns
 returns c =
     let steps = c.args.steps.now in
     let all : take c.loop-step.step-index steps ≡ steps = take_all c.loop-step.step-index steps (omega arith) in
-    sym (no-other-way c.loop-step.ways steps (subst (AreWays c.loop-step.ways) all c.loop-step.invariant))
+    sym (no-other-way (get nat_cmp c.loop-step.ways) steps (subst (AreWays c.loop-step.ways) all c.loop-step.invariant))

@@ -12,8 +12,8 @@ returns-in-Some-clause-other c = λ steps are.
     let step = c.args.step in
     let found : get nat_cmp c.args.ways.now step.to ≡ Some from = sym c.in-Some.ensures.value in
     elim (cases_Bool (from == step.from)) [
-      | inl same ↦ (let equal : from ≡ step.from = grind (arith, nat_tests) in rw same (AreWays-kept c.args.ways.now steps step are (found ∙ ap Some equal)))
-      | inr apart ↦ rw apart (other-way c.args.ways.now steps step from are found apart)
+      | inl same ↦ (let equal : from ≡ step.from = grind (arith, nat_tests) in rw same (AreWays-kept (get nat_cmp c.args.ways.now) steps step are (found ∙ ap Some equal)))
+      | inr apart ↦ rw apart (other-way (get nat_cmp c.args.ways.now) steps step from are found apart)
     ]
 
 pub returns-in-Ok-clause-other : goal.returns-in-Ok-clause-other
