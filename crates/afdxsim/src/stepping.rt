@@ -42,7 +42,9 @@ fn journal_of(text: &[u8]) -> Result<Journal<'_>, Fault<'static>>
     }
 }
 
-/// The step of the next line of a journal; none where all lines were read.
+/// The step of the next line of a journal; none where all lines were read. It is a part of its callers, so that no fault is made room for at
+/// each line.
+#[inline(always)]
 fn next_of(journal: &mut Journal<'_>) -> Result<Option<Step>, Fault<'static>>
     ensures text { journal.new.text ≡ journal.old.text }
     ensures step { (step : Noting) → result ≡ Ok (Some step) → (steps : List Noting) → AreReadOf journal.old steps → AreReadOf journal.new (steps ++ step ∷ []) }
