@@ -4,8 +4,9 @@
     python3 tools/make_journal.py NET.toml [--commit-every EVENTS] > steps.txt
 
 The events are done in their order. For each event its process takes all letters of its mail, lets them arrive, handles the first message
-and posts what it sends. After so many events (all, unless told) GVT is set anew and the events below it are committed. At the end GVT is
-past the end, and every event is committed, so that the run is finished.
+and posts what it sends. After so many events (1,000, unless told) GVT is set anew and the events below it are committed, as a parallel run
+does again and again, so that it need not keep all of them. At the end GVT is past the end, and every event is committed, so that the run is
+finished.
 
 The events are found by tools/second_opinion.py, which shares no code with the product.
 """
@@ -52,7 +53,7 @@ class Journal(Simulation):
 def main():
     words = argparse.ArgumentParser(description=__doc__, formatter_class=argparse.RawDescriptionHelpFormatter)
     words.add_argument("net", help="the network description (TOML)")
-    words.add_argument("--commit-every", type=int, default=0, metavar="EVENTS", help="how many events are done before GVT is set anew (default: all)")
+    words.add_argument("--commit-every", type=int, default=1000, metavar="EVENTS", help="how many events are done before GVT is set anew; 0: all of them (default: 1000)")
     given = words.parse_args()
     with open(given.net, "rb") as file:
         journal = Journal(tomllib.load(file))
