@@ -7,3 +7,4 @@ pub mod Empty
 pub mod Sound
 pub mod Limits
 pub mod Examples
+pub mod PathsThere
