@@ -7,7 +7,7 @@ use Rattle.network_rows.specs.declared.key.Section.TheVariants.{Top}
 use Rattle.network_rows.specs.declared.key.Key.{Key}
 use Rattle.network_rows.specs.declared.key.Key.TheVariants as key
 use Rattle.network_rows.specs.declared.rule.Rule.{Rule}
-use Rattle.network_rows.specs.declared.table.TheConstants.{LISTS}
+use Rattle.network_rows.specs.declared.table.TheConstants.{LISTS, VL_KEYS}
 use Rattle.network_rows.specs.Keys.{section_text}
 use Rattle.network_rows.specs.Values.{value_at, passes, as_paths, list_of}
 use Rattle.network_rows.specs.Kinds.{has_kind, keeps_limit}
@@ -37,3 +37,10 @@ has_paths_at key row = passes (λ d. is_some (as_paths d)) (value_at key row)
 
 abbrev pub has_paths : Members → Bool
 has_paths row = has_paths_at key.A row && has_paths_at key.B row
+
+-- it has a value at each key of such a row; and paths at two of them
+unfoldable pub has_keys : Members → Bool
+has_keys row = list_all (λ rule. is_some (value_at rule.key row)) VL_KEYS
+
+abbrev pub is_whole : Members → Bool
+is_whole row = has_keys row && has_paths row

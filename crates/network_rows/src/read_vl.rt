@@ -8,8 +8,8 @@ ghost use Rattle.network_rows.specs.declared.key.Key.{Key};
 ghost use Rattle.network_rows.specs.Keys.{key_text};
 ghost use Rattle.network_rows.specs.Values.{value_at, passes, as_paths};
 ghost use Rattle.network_rows.specs.Faults.{faults_of_document};
-ghost use Rattle.network_rows.specs.Held.{has_paths};
-ghost use Rattle.network_rows.specs.Rows.{priority_of, vl_row_of, table_of, values_of, rows_in};
+ghost use Rattle.network_rows.specs.Held.{has_keys, is_whole};
+ghost use Rattle.network_rows.specs.Rows.{has_unknown_key, priority_of, vl_row_of, table_of, values_of, rows_in};
 
 use crate::key::{Key, Section, Word};
 use crate::paths::Paths;
@@ -38,7 +38,7 @@ pub fn vls_in(alloc: Global, document: Table) -> Result<Sequence<VlRow>, AllocEr
 
 // The rows of a list.
 fn vls_of_list(alloc: Global, value: Value) -> Result<Sequence<VlRow>, AllocError>
-    requires { list_all (λ d. has_paths (table_of d)) (values_of (Some (view value))) ≡ true }
+    requires { list_all (λ d. is_whole (table_of d)) (values_of (Some (view value))) ≡ true }
     ensures { IfOk result (λ rows. rows ≡ map (λ d. vl_row_of (table_of d)) (values_of (Some (view value)))) }
 {
     match value {
@@ -49,7 +49,7 @@ fn vls_of_list(alloc: Global, value: Value) -> Result<Sequence<VlRow>, AllocErro
 
 // The rows that these values are.
 fn vls_of_values(alloc: Global, values: Vec<Value>) -> Result<Sequence<VlRow>, AllocError>
-    requires { list_all (λ v. has_paths (table_of (view v))) values.items ≡ true }
+    requires { list_all (λ v. is_whole (table_of (view v))) values.items ≡ true }
     ensures { IfOk result (λ rows. rows ≡ map (λ v. vl_row_of (table_of (view v))) values.items) }
 {
     let mut rows = Vec::with_capacity(alloc, values.len())?;
@@ -61,7 +61,7 @@ fn vls_of_values(alloc: Global, values: Vec<Value>) -> Result<Sequence<VlRow>, A
 
 // The row that a value is. What is no table counts as an empty one.
 fn vl_of_value(alloc: Global, value: Value) -> VlRow
-    requires { has_paths (table_of (view value)) ≡ true }
+    requires { is_whole (table_of (view value)) ≡ true }
     ensures { result ≡ vl_row_of (table_of (view value)) }
 {
     match value {
@@ -72,7 +72,7 @@ fn vl_of_value(alloc: Global, value: Value) -> VlRow
 
 // The virtual link of a row.
 fn vl_of_row(alloc: Global, row: Table) -> VlRow
-    requires { has_paths (table_view row) ≡ true }
+    requires { is_whole (table_view row) ≡ true }
     ensures { result ≡ vl_row_of (table_view row) }
 {
     let mut row = row;
@@ -85,6 +85,7 @@ fn vl_of_row(alloc: Global, row: Table) -> VlRow
 
 // The virtual link of a row, before it has its paths.
 fn without_paths(alloc: Global, row: &Table) -> VlRow
+    requires { has_keys (table_view row.now) ≡ true }
     ensures { result ≡ record (vl_row_of (table_view row.now)) { a = []; b = [] } }
 {
     VlRow {
@@ -101,8 +102,16 @@ fn without_paths(alloc: Global, row: &Table) -> VlRow
         jitter_ns: number_at(table::JITTER_NS, row) as u32,
         a: Paths::none(alloc),
         b: Paths::none(alloc),
-        has_unknown_key: has_unknown_key(Section::Vl, row),
+        has_unknown_key: has_more_keys(row),
     }
+}
+
+// Whether the row has a key that such a row has not. It has each key of such a row, so it has another one only where it has more.
+fn has_more_keys(row: &Table) -> bool
+    requires { has_keys (table_view row.now) ≡ true }
+    ensures { result ≡ has_unknown_key Vl (table_view row.now) }
+{
+    row.len() > table::VL_KEYS.len() && has_unknown_key(Section::Vl, row)
 }
 
 // Where the frames of the virtual link of a row wait.
