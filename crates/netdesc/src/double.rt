@@ -1,17 +1,18 @@
-ghost use Rattle.std.specs.Prelude.{◌≡◌, map};
+ghost use Rattle.std.specs.Prelude.{◌≡◌, ℕ, ◌<◌, false, ◌==◌, ◌||◌, map, vec_len, slice_index_or, IfOk, IfErr};
+ghost use Rattle.network_rows.specs.declared.fault.DescFault.TheVariants.{OutOfMemory};
 ghost use Rattle.netdesc.specs.Rows.{each};
 ghost use Rattle.netdesc.specs.Plan.{node_plan};
 ghost use Rattle.netdesc.specs.Faults.{double_at_node, double_at_vl};
 ghost use Rattle.netdesc.specs.Finding.{Finds};
 ghost use Rattle.netdesc.specs.Views.{vl_view};
 
-use crate::memory::add;
+use crate::finding::VL_NUMBERS;
+use crate::memory::refused;
 use crate::names::Names;
 use crate::place::key_at;
 use crate::vl::Routed;
 use network_rows::{DescFault, Key, Section};
 use std::alloc::Global;
-use std::collections::BTreeSet;
 
 /// No two nodes have one name: the number of each name is that of its own node.
 pub fn check_nodes(names: &Names) -> Result<(), DescFault>
@@ -26,17 +27,38 @@ pub fn check_nodes(names: &Names) -> Result<(), DescFault>
     Ok(())
 }
 
-/// No two virtual links have one number.
+/// None of so many numbers is marked.
+fn no_marks(alloc: Global, count: usize) -> Result<Vec<bool>, DescFault>
+    ensures none { IfOk result (λ marks. (n : ℕ) → slice_index_or marks.items n false ≡ false) }
+    ensures len { IfOk result (λ marks. vec_len marks ≡ count) }
+    ensures memory { IfErr result (λ fault. fault ≡ OutOfMemory) }
+{
+    match vec![in alloc; false; count] {
+        Ok(marks) => Ok(marks),
+        Err(error) => Err(refused(error)),
+    }
+}
+
+/// Marks a number.
+fn mark(marks: &mut Vec<bool>, id: usize)
+    requires { id < vec_len marks.old }
+    ensures marked { (n : ℕ) → n < vec_len marks.old → slice_index_or marks.new.items n false ≡ (slice_index_or marks.old.items n false || (id == n)) }
+    ensures len { vec_len marks.new ≡ vec_len marks.old }
+{
+    marks[id] = true;
+}
+
+/// No two virtual links have one number: each is marked, and none was marked before.
 pub fn check_vls(alloc: Global, vls: &[Routed]) -> Result<(), DescFault>
     ensures { Finds result (each double_at_vl (map vl_view vls.now)) }
 {
-    let mut ids = BTreeSet::new(alloc);
+    let mut marks = no_marks(alloc, VL_NUMBERS)?;
     for (i, vl) in vls.iter().enumerate() {
         let id = usize::from(vl.link.id.0);
-        if ids.contains(&id) {
+        if marks[id] {
             return Err(DescFault::DoubleName(key_at(Section::Vl, i, Key::Id)));
         }
-        add(&mut ids, id)?;
+        mark(&mut marks, id);
     }
     Ok(())
 }

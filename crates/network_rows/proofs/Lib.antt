@@ -7,3 +7,5 @@ pub mod Empty
 pub mod Sound
 pub mod Limits
 pub mod Examples
+pub mod Whole
+pub mod Known

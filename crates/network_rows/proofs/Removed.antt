@@ -11,7 +11,7 @@ use Rattle.toml.specs.View.{view, members_view}
 use Rattle.toml.specs.declared.value.Value.{Value}
 use Rattle.toml.proofs.Views.{Entry, at_text}
 
-passed_by : (o : Ordering) (rest found : Option Data) → is_eq o ≡ false → match_ordering o rest found rest ≡ rest
+pub passed_by : (o : Ordering) (rest found : Option Data) → is_eq o ≡ false → match_ordering o rest found rest ≡ rest
 passed_by Less rest found e = refl
 passed_by Equal rest found e = absurd (false≢true (sym e))
 passed_by Greater rest found e = refl

@@ -71,7 +71,7 @@ module _ (section : Section) (P : Members → Type 0) (made : (row : Members) �
   sound_items None none = tt
   sound_items (Some items) none = sound_rows 1 (list_of items) none
 
-  sound_list : (o : Option Data) → ((check : Check) → failing_in_list check section o ≡ []) → AllByRecursion (λ d. P (table_of d)) (values_of o)
+  pub sound_list : (o : Option Data) → ((check : Check) → failing_in_list check section o ≡ []) → AllByRecursion (λ d. P (table_of d)) (values_of o)
   sound_list None none = tt
   sound_list (Some d) none = sound_items (as_array d) none
 

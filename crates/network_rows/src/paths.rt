@@ -1,10 +1,10 @@
 //! The paths of a virtual link as the description has them: no name in them is copied.
-ghost use Rattle.std.specs.Prelude.{◌≡◌, ◌<◌, [], length, slice_index_or, unwrap_or};
+ghost use Rattle.std.specs.Prelude.{◌≡◌, ◌<◌, true, [], length, is_some, slice_index_or, unwrap_or};
+ghost use Rattle.std.specs.List.{list_all};
 ghost use Rattle.toml.specs.Data.{as_str};
 ghost use Rattle.toml.specs.View.{view, items_view};
 ghost use Rattle.network_rows.specs.Values.{all_as, as_list, as_paths};
 
-use crate::value::are_each_path;
 use std::alloc::Global;
 use std::marker::Model;
 use toml::{Table, Value};
@@ -81,23 +81,21 @@ impl Paths {
         }
     }
 
-    /// The paths that these values are, if each is a path; else none.
-    fn of_each(alloc: Global, paths: Vec<Value>) -> Self
+    /// The paths that these values are. It does not look through them.
+    fn of_each(paths: Vec<Value>) -> Self
+        requires { list_all (λ v. is_some (as_list as_str (view v))) paths.items ≡ true }
         ensures { result ≡ unwrap_or (all_as (as_list as_str) (items_view paths.items)) [] }
     {
-        if are_each_path(paths.as_slice()) {
-            Paths { paths, rest: None }
-        } else {
-            Paths::none(alloc)
-        }
+        Paths { paths, rest: None }
     }
 
-    /// The paths that a value is a list of; of another value none.
+    /// The paths that a value is a list of. It does not look through them.
     pub(crate) fn from_value(alloc: Global, value: Value) -> Self
+        requires { is_some (as_paths (view value)) ≡ true }
         ensures { result ≡ unwrap_or (as_paths (view value)) [] }
     {
         match value {
-            Value::Array(paths) => Paths::of_each(alloc, paths),
+            Value::Array(paths) => Paths::of_each(paths),
             _ => Paths::none(alloc),
         }
     }

@@ -1,8 +1,9 @@
 //! The rows of a document, made once it is known to have no fault of a key.
-ghost use Rattle.std.specs.Prelude.{◌≡◌, map, Some, IfOk};
+ghost use Rattle.std.specs.Prelude.{◌≡◌, [], map, Some, IfOk};
 ghost use Rattle.toml.specs.Data.{Members, get_member};
 ghost use Rattle.toml.specs.View.{view, table_view};
 ghost use Rattle.network_rows.specs.Keys.{section_text};
+ghost use Rattle.network_rows.specs.Faults.{faults_of_document};
 ghost use Rattle.network_rows.specs.Rows.{node_kind_of, rate_of, node_row_of, link_row_of, outage_row_of, table_of, values_of, rows_of};
 
 use crate::key::{Key, Section, Word};
@@ -17,8 +18,9 @@ use std::alloc::{AllocError, Global};
 use toml::{Table, Value};
 use vlink::{Net, Time};
 
-/// The rows of a document.
+/// The rows of a document without a fault of a key.
 pub fn rows(alloc: Global, document: Table) -> Result<Rows, AllocError>
+    requires { faults_of_document (table_view document) ≡ [] }
     ensures { IfOk result (λ made. made ≡ rows_of (table_view document)) }
 {
     let nodes = rows_in(alloc, Section::Node, &document)?;

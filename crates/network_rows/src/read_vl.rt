@@ -1,12 +1,15 @@
 //! The rows of virtual links. They are most of a large document, so their paths are moved out of it.
-ghost use Rattle.std.specs.Prelude.{◌≡◌, [], false, Some, map, option_map, unwrap_or, option_and_then, IfOk};
+ghost use Rattle.std.specs.Prelude.{◌≡◌, [], true, false, Some, map, is_some, option_map, unwrap_or, option_and_then, IfOk};
+ghost use Rattle.std.specs.List.{list_all};
 ghost use Rattle.toml.specs.Data.{same_key};
 ghost use Rattle.toml.specs.View.{view, table_view};
 ghost use Rattle.network_rows.specs.declared.key.Section.TheVariants.{Vl};
 ghost use Rattle.network_rows.specs.declared.key.Key.{Key};
 ghost use Rattle.network_rows.specs.Keys.{key_text};
-ghost use Rattle.network_rows.specs.Values.{value_at, as_paths};
-ghost use Rattle.network_rows.specs.Rows.{priority_of, vl_row_of, table_of, values_of, rows_in};
+ghost use Rattle.network_rows.specs.Values.{value_at, passes, as_paths};
+ghost use Rattle.network_rows.specs.Faults.{faults_of_document};
+ghost use Rattle.network_rows.specs.Held.{has_keys, is_whole};
+ghost use Rattle.network_rows.specs.Rows.{has_unknown_key, priority_of, vl_row_of, table_of, values_of, rows_in};
 
 use crate::key::{Key, Section, Word};
 use crate::paths::Paths;
@@ -23,6 +26,7 @@ use vlink::{FrameSize, VlId};
 
 /// The rows of the virtual links of a document.
 pub fn vls_in(alloc: Global, document: Table) -> Result<Sequence<VlRow>, AllocError>
+    requires { faults_of_document (table_view document) ≡ [] }
     ensures { IfOk result (λ rows. rows ≡ rows_in vl_row_of Vl (table_view document)) }
 {
     let mut document = document;
@@ -34,6 +38,7 @@ pub fn vls_in(alloc: Global, document: Table) -> Result<Sequence<VlRow>, AllocEr
 
 // The rows of a list.
 fn vls_of_list(alloc: Global, value: Value) -> Result<Sequence<VlRow>, AllocError>
+    requires { list_all (λ d. is_whole (table_of d)) (values_of (Some (view value))) ≡ true }
     ensures { IfOk result (λ rows. rows ≡ map (λ d. vl_row_of (table_of d)) (values_of (Some (view value)))) }
 {
     match value {
@@ -44,6 +49,7 @@ fn vls_of_list(alloc: Global, value: Value) -> Result<Sequence<VlRow>, AllocErro
 
 // The rows that these values are.
 fn vls_of_values(alloc: Global, values: Vec<Value>) -> Result<Sequence<VlRow>, AllocError>
+    requires { list_all (λ v. is_whole (table_of (view v))) values.items ≡ true }
     ensures { IfOk result (λ rows. rows ≡ map (λ v. vl_row_of (table_of (view v))) values.items) }
 {
     let mut rows = Vec::with_capacity(alloc, values.len())?;
@@ -55,6 +61,7 @@ fn vls_of_values(alloc: Global, values: Vec<Value>) -> Result<Sequence<VlRow>, A
 
 // The row that a value is. What is no table counts as an empty one.
 fn vl_of_value(alloc: Global, value: Value) -> VlRow
+    requires { is_whole (table_of (view value)) ≡ true }
     ensures { result ≡ vl_row_of (table_of (view value)) }
 {
     match value {
@@ -65,6 +72,7 @@ fn vl_of_value(alloc: Global, value: Value) -> VlRow
 
 // The virtual link of a row.
 fn vl_of_row(alloc: Global, row: Table) -> VlRow
+    requires { is_whole (table_view row) ≡ true }
     ensures { result ≡ vl_row_of (table_view row) }
 {
     let mut row = row;
@@ -77,6 +85,7 @@ fn vl_of_row(alloc: Global, row: Table) -> VlRow
 
 // The virtual link of a row, before it has its paths.
 fn without_paths(alloc: Global, row: &Table) -> VlRow
+    requires { has_keys (table_view row.now) ≡ true }
     ensures { result ≡ record (vl_row_of (table_view row.now)) { a = []; b = [] } }
 {
     VlRow {
@@ -93,8 +102,16 @@ fn without_paths(alloc: Global, row: &Table) -> VlRow
         jitter_ns: number_at(table::JITTER_NS, row) as u32,
         a: Paths::none(alloc),
         b: Paths::none(alloc),
-        has_unknown_key: has_unknown_key(Section::Vl, row),
+        has_unknown_key: has_more_keys(row),
     }
+}
+
+// Whether the row has a key that such a row has not. It has each key of such a row, so it has another one only where it has more.
+fn has_more_keys(row: &Table) -> bool
+    requires { has_keys (table_view row.now) ≡ true }
+    ensures { result ≡ has_unknown_key Vl (table_view row.now) }
+{
+    row.len() > table::VL_KEYS.len() && has_unknown_key(Section::Vl, row)
 }
 
 // Where the frames of the virtual link of a row wait.
@@ -121,6 +138,7 @@ fn take(row: &mut Table, key: Key) -> Option<Value>
 
 // The paths that a value is a list of, if there is one.
 fn paths_of(alloc: Global, value: Option<Value>) -> Paths
+    requires { passes (λ d. is_some (as_paths d)) (option_map view value) ≡ true }
     ensures { result ≡ unwrap_or (option_and_then as_paths (option_map view value)) [] }
 {
     match value {

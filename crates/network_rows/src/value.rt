@@ -90,8 +90,8 @@ pub fn are_paths(value: &Value) -> bool
     }
 }
 
-/// Whether each of these is a path.
-pub fn are_each_path(paths: &[Value]) -> bool
+// Whether each of these is a path.
+fn are_each_path(paths: &[Value]) -> bool
     ensures { result ≡ list_all (λ v. is_some (as_list as_str (view v))) paths.now }
 {
     paths.iter().all(|path| is_path(path))
