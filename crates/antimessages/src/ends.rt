@@ -4,6 +4,7 @@ ghost use Rattle.std.specs.VecDeque.{deque_len, deque_capacity};
 
 use crate::fault::OutOfMemory;
 use std::collections::VecDeque;
+use std::mem::replace;
 
 /// Takes the item at this place, if there is one. The shorter side moves, and nothing where it is the first.
 #[inline(always)]
@@ -29,6 +30,7 @@ pub(crate) fn take_out<T: Drop>(items: &mut VecDeque<T>, place: usize)
     ensures capacity { deque_capacity items.new ≡ deque_capacity items.old }
 {
     let _item = take_at(items, place);
+    rewind(items);
 }
 
 /// Puts an item at this place. The shorter side moves, and nothing where it is to be the last. A refusal changes nothing.
@@ -52,4 +54,18 @@ pub(crate) fn put_in<T: Drop>(
         items.insert(place, item)?;
     }
     Ok(())
+}
+
+/// A deque without items begins at the front of its room again, so that the same few places are used again and again, and stay near
+/// the processor. No item moves, and no memory is taken.
+pub fn rewind<T: Drop>(items: &mut VecDeque<T>)
+    ensures items { items.new.items ≡ items.old.items }
+    ensures len { deque_len items.new ≡ deque_len items.old }
+    ensures capacity { deque_capacity items.new ≡ deque_capacity items.old }
+{
+    if items.is_empty() {
+        let alloc = *items.allocator();
+        let empty = replace(items, VecDeque::new(alloc));
+        *items = VecDeque::from_vec(empty.into_vec());
+    }
 }

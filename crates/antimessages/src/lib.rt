@@ -11,6 +11,7 @@ mod posting;
 mod sorted;
 mod tally;
 
+pub use ends::rewind;
 pub use fault::OutOfMemory;
 pub use mail::Mail;
 pub use outbox::Outbox;

@@ -22,6 +22,24 @@ pub(crate) fn place_of(letters: &VecDeque<Letter>, message: &Message, guess: usi
     search_place(letters, message)
 }
 
+/// The same place, for a message that most likely enters there. It is looked for behind all letters first, and then at `guess`.
+#[inline]
+pub(crate) fn place_to_enter(letters: &VecDeque<Letter>, message: &Message, guess: usize) -> usize
+    requires { IsTidy message_rules (map signed letters.now.items) }
+    ensures within { result ≤ length letters.now.items }
+    ensures before { AllByRecursion (λ l. message_rules.less l.message message.now ≡ true) (take result letters.now.items) }
+    ensures from_on { AllByRecursion (λ l. message_rules.less l.message message.now ≡ false) (drop result letters.now.items) }
+{
+    let last = letters.len();
+    if is_place_of(letters, message, last) {
+        return last;
+    }
+    if is_between(letters, message, guess) {
+        return guess;
+    }
+    search_place(letters, message)
+}
+
 /// The same place, looked for among all letters.
 #[inline(never)]
 fn search_place(letters: &VecDeque<Letter>, message: &Message) -> usize
@@ -48,6 +66,21 @@ fn is_place_of(letters: &VecDeque<Letter>, message: &Message, place: usize) -> b
         return false;
     }
     place == letters.len() || is_same(&letters[place].message, message)
+}
+
+/// Whether the message has this place, since it comes between the two letters there.
+#[inline]
+fn is_between(letters: &VecDeque<Letter>, message: &Message, place: usize) -> bool
+    requires { IsTidy message_rules (map signed letters.now.items) }
+    ensures within { IsTrue result → place ≤ length letters.now.items }
+    ensures before { IsTrue result → AllByRecursion (λ l. message_rules.less l.message message.now ≡ true) (take place letters.now.items) }
+    ensures from_on { IsTrue result → AllByRecursion (λ l. message_rules.less l.message message.now ≡ false) (drop place letters.now.items) }
+{
+    ordered();
+    if place >= letters.len() || !is_before(message, &letters[place].message) {
+        return false;
+    }
+    front_is_before(letters, message, place)
 }
 
 /// Whether the letters in front of this place come before the message, by the last of them.

@@ -8,7 +8,7 @@ use crate::counted::{change_at, count_of, first_plus, is_one, is_one_at, opposit
 use crate::ends::{put_in, take_out};
 use crate::fault::OutOfMemory;
 use crate::order::ordered;
-use crate::sorted::{place_after, place_of};
+use crate::sorted::{place_after, place_of, place_to_enter};
 use std::alloc::Global;
 use std::collections::VecDeque;
 use std::marker::Model;
@@ -115,8 +115,9 @@ impl Tally {
 
     /// The letter is counted: its message's count rises by 1 for a plus and falls by 1 for a minus, also below 0. The answer tells
     /// whether the message became present or absent by that. Where there is room this takes no memory and succeeds; a refusal
-    /// changes nothing.
-    pub fn add(&mut self, letter: Letter) -> Result<Change, OutOfMemory>
+    /// changes nothing. This is quickest where the message comes after all others or where `guess` letters of the tally come before
+    /// it, and the answer is the same for any other guess.
+    pub fn add(&mut self, letter: Letter, guess: usize) -> Result<Change, OutOfMemory>
         ensures count { OnOk result (signed_count message_rules letter.message self.new.letters
             ≡ signed_count message_rules letter.message self.old.letters +ℤ weight letter.sign) }
         ensures others { OnOk result ((m : Message) → m ≢ letter.message →
@@ -127,8 +128,7 @@ impl Tally {
         ensures room { self.old.room ≤ self.new.room + 1 }
     {
         ordered();
-        let last = self.letters.len();
-        let place = place_of(&self.letters, &letter.message, last);
+        let place = place_to_enter(&self.letters, &letter.message, guess);
         let change = change_at(&self.letters, place, &letter);
         if stands_at(&self.letters, place, &letter.message, opposite(letter.sign)) {
             take_out(&mut self.letters, place);

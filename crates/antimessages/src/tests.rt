@@ -25,11 +25,11 @@ fn letter(rt: &impl Abort, ns: u64, receiver: u16, sign: Sign) -> Letter
 // Adds the letter. Where that is refused the count is as before, and the letter is added at the second try.
 fn add(rt: &impl Abort, tally: &mut Tally, letter: Letter) -> Change {
     let count = tally.count(&letter.message);
-    match tally.add(letter) {
+    match tally.add(letter, 0) {
         Ok(change) => change,
         Err(OutOfMemory) => {
             assert_eq!(rt; tally.count(&letter.message), count, "a refused letter");
-            tally.add(letter).expect(rt, "memory at the second try")
+            tally.add(letter, 0).expect(rt, "memory at the second try")
         }
     }
 }
@@ -153,7 +153,7 @@ fn letters_are_counted_and_pushed_in_room_made_before(rt: HostRuntime) {
         outbox.reserve(2).expect(&rt, "memory at the second try");
     }
     for ns in [10, 20] {
-        let counted = tally.add(letter(&rt, ns, 0, Sign::Plus));
+        let counted = tally.add(letter(&rt, ns, 0, Sign::Plus), 0);
         assert_eq!(rt; counted, Ok(Change::BecamePresent));
         let pushed = outbox.push(letter(&rt, ns, 0, Sign::Plus));
         assert_eq!(rt; pushed, Ok(()));

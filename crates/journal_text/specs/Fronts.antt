@@ -1,11 +1,10 @@
 -- What stands at the front of a text.
-use Rattle.std.specs.Prelude.{ℕ, ◌≢◌, ◌<◌, ◌≤◌, ◌++◌, List, length, slice_index}
+use Rattle.std.specs.Prelude.{ℕ, ◌≢◌, ◌≤◌, ◌++◌, List, [], ◌∷◌}
 
--- from one to ten digits, without leading zeros
-pub record IsShort (digits : List ℕ) : Type 0 where
-  pub some : 0 < length digits
-  pub few : length digits ≤ 10
-  pub plain : 1 < length digits → slice_index digits 0 ≢ 48
+-- a digit other than 0 stands first
+abbrev pub LeadingDigit : List ℕ → Type 0
+LeadingDigit [] = ⊥
+LeadingDigit (c ∷ cs) = (49 ≤ c) × (c ≤ 57)
 
 -- no value that fits has its text at the front of this one
 abbrev pub BeginsWithNone : {A : Type 0} → (A → Type 0) → (A → List ℕ) → List ℕ → Type 0

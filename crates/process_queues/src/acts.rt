@@ -41,12 +41,13 @@ impl<R: Actor> Process<R> {
             return Ok(None);
         };
         self.tally.reserve(1)?;
+        let done = self.past.done_len();
         if undoes_nothing(&self.past, &self.tally, &letter) {
-            count_front::<R>(&mut self.tray, &mut self.tally);
+            count_front::<R>(&mut self.tray, &mut self.tally, done);
             return Ok(Some(0));
         }
         self.outbox.reserve(self.past.sent())?;
-        count_front::<R>(&mut self.tray, &mut self.tally);
+        count_front::<R>(&mut self.tray, &mut self.tally, done);
         Ok(Some(self.past.roll_back(&letter.message, &mut self.outbox)))
     }
 
@@ -165,8 +166,9 @@ fn undoes_nothing<R: Actor>(past: &Past<R>, tally: &Tally, letter: &Letter) -> b
     past.is_before(&letter.message) || matches!(tally.change_by(letter), Change::Same)
 }
 
-/// The front letter leaves the tray and is counted. There is one, and the tally has room for it.
-fn count_front<R: Actor>(tray: &mut VecDeque<Letter>, tally: &mut Tally)
+/// The front letter leaves the tray and is counted. There is one, and the tally has room for it. The letters of so many done events most
+/// often come before it, and no others.
+fn count_front<R: Actor>(tray: &mut VecDeque<Letter>, tally: &mut Tally, done: usize)
     requires some { 0 < deque_len tray.old }
     requires room { 0 < tally.old.room }
     ensures tray { tray.new.items ≡ drop 1 tray.old.items }
@@ -175,6 +177,6 @@ fn count_front<R: Actor>(tray: &mut VecDeque<Letter>, tally: &mut Tally)
 {
     actor_rules::<R>();
     if let Some(letter) = tray.pop_front() {
-        let _change = tally.add(letter);
+        let _change = tally.add(letter, done);
     }
 }

@@ -10,7 +10,7 @@ ghost use Rattle.antimessages.specs.Counting.{is_after};
 ghost use Rattle.process_queues.specs.Past.{Past, Rows, IsPastOf, handled_past, newest_of, seen_row, rows_by, FirstDone};
 
 use crate::order::is_before;
-use antimessages::{OutOfMemory, Outbox};
+use antimessages::{OutOfMemory, Outbox, rewind};
 use reverse::{Actor, Outbound, actor_rules};
 use std::alloc::Global;
 use std::collections::VecDeque;
@@ -177,6 +177,8 @@ impl<R: Actor> Past<R> {
             return 0;
         };
         forget_first(&mut self.sends, usize::from(event.sent));
+        rewind(&mut self.done);
+        rewind(&mut self.sends);
         event.noted
     }
 }

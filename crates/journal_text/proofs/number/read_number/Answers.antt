@@ -1,18 +1,20 @@
-use Rattle.std.proofs.Common.{◌<◌, ◌^◌, subst, sym}
+use Rattle.std.proofs.Common.{◌≡◌, ◌<◌, ◌^◌, ◌∙◌, true, false, sym, subst, arith}
 use Rattle.std.specs.Prelude.{IfNone}
 use Rattle.journal_text.specs.Text.{number_then}
 use Rattle.journal_text.specs.Fronts.{BeginsWithNone}
-use Rattle.journal_text.proofs.DigitLemmas.{no_number_at}
+use Rattle.journal_text.proofs.DigitLemmas.{no_digit_first, zero_is_cut, zero_is_read}
 use Rattle.journal_text.proofs.number.read_number.Goals as goal
 
-pub returns-in_err-number-clause-none : goal.returns-in_err-number-clause-none
-returns-in_err-number-clause-none c =
+pub returns-in_err-behind-clause-none : goal.returns-in_err-behind-clause-none
+returns-in_err-behind-clause-none c =
     subst (λ o. IfNone o (BeginsWithNone (λ n. n < 2 ^ 32) (number_then c.args.end) c.args.text.now)) (sym c.from_residual.ensures)
-    (no_number_at c.args.end c.args.text.now c.digits_at_front-count.result.0 c.split_at.result.0.now c.split_at.result.1.now c.requires
-    c.split_at.ensures.front c.split_at.ensures.back c.digits_at_front-count.ensures.digits c.digits_at_front-count.ensures.end (λ n small e rest k. c.in_err-number.ensures.none n small e))
+    (no_digit_first c.args.end c.args.text.now (λ leading. (let bad : true ≡ false = sym (c.is_leading.ensures.1 leading) ∙ c.if-is_leading.false in cc)) c.in_err-behind.ensures.none)
 
 pub returns-in_err-rest-clause-none : goal.returns-in_err-rest-clause-none
 returns-in_err-rest-clause-none c =
     subst (λ o. IfNone o (BeginsWithNone (λ n. n < 2 ^ 32) (number_then c.args.end) c.args.text.now)) (sym c.from_residual-in_err-rest.ensures)
-    (no_number_at c.args.end c.args.text.now c.digits_at_front-count.result.0 c.split_at.result.0.now c.split_at.result.1.now c.requires
-    c.split_at.ensures.front c.split_at.ensures.back c.digits_at_front-count.ensures.digits c.digits_at_front-count.ensures.end (λ n small e rest k. c.in_err-rest.ensures.none rest k))
+    (zero_is_cut c.args.end c.args.text.now c.in_ok-behind.behind.now c.in_ok-behind.ensures.found c.in_err-rest.ensures.none)
+
+pub returns-clause-found : goal.returns-clause-found
+returns-clause-found c =
+    (omega arith, zero_is_read c.args.end c.args.text.now c.in_ok-behind.behind.now c.in_ok-rest.rest.now c.in_ok-behind.ensures.found c.in_ok-rest.ensures.found)

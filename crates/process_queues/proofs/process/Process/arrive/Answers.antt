@@ -52,6 +52,9 @@ returns-then-undoes_nothing-clause-answer g c opening part h =
 pub invariant_of-self-in_err-reserve-2 : goal.invariant_of-self-in_err-reserve-2
 invariant_of-self-in_err-reserve-2 g c = rw (c.in_ok-reserve.ensures.same, c.in_err-reserve-2.ensures.same) c.self.invariant
 
+pub roll_back-requires-clause-some : goal.roll_back-requires-clause-some
+roll_back-requires-clause-some g c = let i = c.self.invariant in (i.0, i.1, i.2.past)
+
 pub returns-clause-arrived : goal.returns-clause-arrived
 returns-clause-arrived g c opening part h =
     let r = rules_of g.R.Reversible.plain g.R.Actor.counter in
