@@ -9,3 +9,5 @@ pub mod Limits
 pub mod Examples
 pub mod Whole
 pub mod Known
+pub mod Next
+pub mod Turned

@@ -5,3 +5,4 @@ pub mod Faults
 pub mod Rows
 pub mod Within
 pub mod Held
+pub mod InOrder

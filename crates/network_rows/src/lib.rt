@@ -4,6 +4,7 @@
 mod check;
 mod fault;
 mod held;
+mod in_order;
 mod key;
 mod kind;
 mod name;

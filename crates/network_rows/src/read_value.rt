@@ -2,7 +2,7 @@
 ghost use Rattle.std.specs.Prelude.{◌≡◌, IfOk};
 ghost use Rattle.toml.specs.View.{table_view};
 ghost use Rattle.network_rows.specs.Kinds.{least_of};
-ghost use Rattle.network_rows.specs.Rows.{number_at, text_at};
+ghost use Rattle.network_rows.specs.Rows.{number_or_least, number_at, text_at};
 
 use crate::key::Key;
 use crate::name::Name;
@@ -15,7 +15,15 @@ use toml::Table;
 pub fn number_at(rule: Rule, row: &Table) -> u64
     ensures { result ≡ number_at rule (table_view row.now) }
 {
-    match number_in(row, rule.key) {
+    number_or_least(rule, number_in(row, rule.key))
+}
+
+/// The number, if the line of the table allows it; else the least number that the line allows.
+#[inline]
+pub fn number_or_least(rule: Rule, number: Option<u64>) -> u64
+    ensures { result ≡ number_or_least rule number }
+{
+    match number {
         Some(n) if rule.kind.allows(n) => n,
         _ => rule.kind.least(),
     }

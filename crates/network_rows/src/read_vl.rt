@@ -9,17 +9,19 @@ ghost use Rattle.network_rows.specs.Keys.{key_text};
 ghost use Rattle.network_rows.specs.Values.{value_at, passes, as_paths};
 ghost use Rattle.network_rows.specs.Faults.{faults_of_document};
 ghost use Rattle.network_rows.specs.Held.{has_keys, is_whole};
+ghost use Rattle.network_rows.specs.InOrder.{AreOf};
 ghost use Rattle.network_rows.specs.Rows.{has_unknown_key, priority_of, vl_row_of, table_of, values_of, rows_in};
 
+use crate::in_order::{next_number, next_value};
 use crate::key::{Key, Section, Word};
 use crate::paths::Paths;
-use crate::read_value::number_at;
 use crate::rows::{Priority, VlRow};
 use crate::sequence::Sequence;
 use crate::table;
 use crate::unknown::has_unknown_key;
-use crate::value::has_word;
+use crate::value::is_word;
 use std::alloc::{AllocError, Global};
+use std::collections::btree_map::Iter;
 use std::mem::replace;
 use toml::{Table, Value};
 use vlink::{FrameSize, VlId};
@@ -88,18 +90,33 @@ fn without_paths(alloc: Global, row: &Table) -> VlRow
     requires { has_keys (table_view row.now) ≡ true }
     ensures { result ≡ record (vl_row_of (table_view row.now)) { a = []; b = [] } }
 {
+    // In the order of their keys.
+    let mut entries = row.iter();
+    let _a = next_value(row, &mut entries, Key::A);
+    let _b = next_value(row, &mut entries, Key::B);
+    let bag_ms = next_number(row, &mut entries, table::BAG_MS);
+    let depth = next_number(row, &mut entries, table::DEPTH);
+    let id = next_number(row, &mut entries, table::ID);
+    let jitter_ns = next_number(row, &mut entries, table::JITTER_NS);
+    let offset_ns = next_number(row, &mut entries, table::OFFSET_NS);
+    let period_ns = next_number(row, &mut entries, table::PERIOD_NS);
+    let policing_jitter_ns = next_number(row, &mut entries, table::POLICING_JITTER_NS);
+    let priority = next_priority(row, &mut entries);
+    let size = next_number(row, &mut entries, table::SIZE);
+    let skew_max_ns = next_number(row, &mut entries, table::SKEW_MAX_NS);
+    let smax = next_number(row, &mut entries, table::SMAX);
     VlRow {
-        id: VlId(number_at(table::ID, row) as u16),
-        bag_ms: number_at(table::BAG_MS, row) as u8,
-        smax: FrameSize::new(number_at(table::SMAX, row) as u16).unwrap(),
-        priority: priority(row),
-        policing_jitter_ns: number_at(table::POLICING_JITTER_NS, row) as u32,
-        skew_max_ns: number_at(table::SKEW_MAX_NS, row) as u32,
-        depth: number_at(table::DEPTH, row) as u16,
-        size: FrameSize::new(number_at(table::SIZE, row) as u16).unwrap(),
-        offset_ns: number_at(table::OFFSET_NS, row),
-        period_ns: number_at(table::PERIOD_NS, row),
-        jitter_ns: number_at(table::JITTER_NS, row) as u32,
+        id: VlId(id as u16),
+        bag_ms: bag_ms as u8,
+        smax: FrameSize::new(smax as u16).unwrap(),
+        priority,
+        policing_jitter_ns: policing_jitter_ns as u32,
+        skew_max_ns: skew_max_ns as u32,
+        depth: depth as u16,
+        size: FrameSize::new(size as u16).unwrap(),
+        offset_ns,
+        period_ns,
+        jitter_ns: jitter_ns as u32,
         a: Paths::none(alloc),
         b: Paths::none(alloc),
         has_unknown_key: has_more_keys(row),
@@ -115,13 +132,14 @@ fn has_more_keys(row: &Table) -> bool
 }
 
 // Where the frames of the virtual link of a row wait.
-fn priority(row: &Table) -> Priority
-    ensures { result ≡ priority_of (table_view row.now) }
+fn next_priority<'a>(row: &'a Table, entries: &mut Iter<'a, String, Value>) -> Priority
+    requires { AreOf row.now entries.old }
+    ensures priority { result ≡ priority_of (table_view row.now) }
+    ensures left { AreOf row.now entries.new }
 {
-    if has_word(row, Key::Priority, Word::High) {
-        Priority::High
-    } else {
-        Priority::Low
+    match next_value(row, entries, Key::Priority) {
+        Some(value) if is_word(value, Word::High) => Priority::High,
+        _ => Priority::Low,
     }
 }
 

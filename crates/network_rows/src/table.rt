@@ -110,3 +110,20 @@ pub const VL_KEYS: [Rule; 13] = [
     PATHS_A,
     PATHS_B,
 ];
+
+/// The keys of `VL_KEYS` in the order in which a table has them.
+pub const VL_KEYS_IN_ORDER: [Rule; 13] = [
+    PATHS_A,
+    PATHS_B,
+    BAG_MS,
+    DEPTH,
+    ID,
+    JITTER_NS,
+    OFFSET_NS,
+    PERIOD_NS,
+    POLICING_JITTER_NS,
+    PRIORITY,
+    SIZE,
+    SKEW_MAX_NS,
+    SMAX,
+];

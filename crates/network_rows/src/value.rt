@@ -1,10 +1,11 @@
 //! What stands at a key of a table, read without copying.
 ghost use Rattle.std.specs.Prelude.{◌≡◌, is_some, length, option_map, option_and_then, option_copied};
 ghost use Rattle.std.specs.List.{list_all};
+ghost use Rattle.std.specs.Str.{bytes_eq};
 ghost use Rattle.toml.specs.Data.{as_str, get_member};
 ghost use Rattle.toml.specs.View.{view, table_view, items_view};
-ghost use Rattle.network_rows.specs.Keys.{section_text};
-ghost use Rattle.network_rows.specs.Values.{value_at, as_number, all_as, as_list, as_paths, has_word};
+ghost use Rattle.network_rows.specs.Keys.{section_text, word_text};
+ghost use Rattle.network_rows.specs.Values.{value_at, passes, as_number, all_as, as_list, as_paths, has_word};
 
 use crate::key::{Key, Section, Word};
 use toml::{Table, Value};
@@ -57,7 +58,17 @@ pub fn text_in<'a>(row: &'a Table, key: Key) -> Option<&'a str>
 pub fn has_word(row: &Table, key: Key, word: Word) -> bool
     ensures { result ≡ has_word key word (table_view row.now) }
 {
-    match text_in(row, key) {
+    match value_at(row, key) {
+        Some(value) => is_word(value, word),
+        None => false,
+    }
+}
+
+/// Whether the value is this word.
+pub fn is_word(value: &Value, word: Word) -> bool
+    ensures { result ≡ passes (bytes_eq (word_text word)) (as_str (view value.now)) }
+{
+    match value.as_str() {
         Some(text) => word.text() == text,
         None => false,
     }
