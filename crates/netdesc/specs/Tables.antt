@@ -3,7 +3,6 @@ use Rattle.std.specs.Prelude.{ℕ, ◌≡◌, ◌+◌, ◌<◌, ◌≤◌, List,
 use Rattle.network_rows.specs.declared.rows.NodeRow.{NodeRow}
 use Rattle.netdesc.specs.declared.numbered.Numbered.{Numbered}
 use Rattle.netdesc.specs.declared.tables.Tables.{Tables}
-use Rattle.netdesc.specs.declared.finding.TheConstants.{VL_NUMBERS}
 use Rattle.netdesc.specs.declared.limits.TheConstants.{GREATEST_PROCESSES}
 use Rattle.netdesc.specs.Plan.{Plan, node_plan}
 use Rattle.netdesc.specs.Trees.{destinations_of}
@@ -32,6 +31,5 @@ pub record AreTables (plan : Plan) (tables : Tables) : Type 0 where
   pub arrivals : (node : ℕ) → node < length plan.nodes + 1 → ways_at tables.meetings.arrivals node ≡ arrivals_of plan node
   pub arrivals_len : vec_len tables.meetings.arrivals ≡ length plan.nodes + 1
   pub destinations : lists_of tables.destinations ≡ map destinations_of plan.vls
-  pub places : (id : ℕ) → id < VL_NUMBERS → slice_index_or tables.places.items id None ≡ place_of_vl plan.vls id
-  pub places_len : vec_len tables.places ≡ VL_NUMBERS
+  pub places : (id : ℕ) → slice_index_or tables.places.items id None ≡ place_of_vl plan.vls id
   pub few : process_count plan ≤ GREATEST_PROCESSES

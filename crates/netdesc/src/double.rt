@@ -6,13 +6,15 @@ ghost use Rattle.netdesc.specs.Faults.{double_at_node, double_at_vl};
 ghost use Rattle.netdesc.specs.Finding.{Finds};
 ghost use Rattle.netdesc.specs.Views.{vl_view};
 
-use crate::finding::VL_NUMBERS;
 use crate::memory::refused;
 use crate::names::Names;
 use crate::place::key_at;
 use crate::vl::Routed;
 use network_rows::{DescFault, Key, Section};
 use std::alloc::Global;
+
+/// How many numbers a virtual link may have.
+const VL_NUMBERS: usize = 65536;
 
 /// No two nodes have one name: the number of each name is that of its own node.
 pub fn check_nodes(names: &Names) -> Result<(), DescFault>

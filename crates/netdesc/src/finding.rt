@@ -1,4 +1,4 @@
-ghost use Rattle.std.specs.Prelude.{◌≡◌, ℕ, ◌<◌, ◌++◌, ◌∷◌, [], None, Some, is_none, ◌==◌, ◌&&◌, if◌then◌else◌, map, length, vec_len, string_bytes, slice_index_or, IfOk, IfErr};
+ghost use Rattle.std.specs.Prelude.{◌≡◌, ℕ, ◌<◌, ◌++◌, ◌∷◌, [], None, Some, is_none, ◌==◌, ◌&&◌, if◌then◌else◌, map, length, vec_len, string_bytes, slice_index_or, IfOk, OnOk, IfErr};
 ghost use Rattle.network_rows.specs.declared.fault.DescFault.TheVariants.{OutOfMemory};
 ghost use Rattle.netdesc.specs.Plan.{node_plan};
 ghost use Rattle.netdesc.specs.Trees.{destinations_of};
@@ -11,9 +11,7 @@ use crate::vl::Routed;
 use crate::wiring::Line;
 use network_rows::{DescFault, NodeRow};
 use std::alloc::{AllocError, Global};
-
-/// How many numbers a virtual link may have.
-pub const VL_NUMBERS: usize = 65536;
+use vlink::VlId;
 
 /// The destinations of each virtual link, rising.
 pub fn all_destinations(alloc: Global, vls: &[Routed]) -> Result<Vec<Vec<usize>>, DescFault>
@@ -28,23 +26,22 @@ pub fn all_destinations(alloc: Global, vls: &[Routed]) -> Result<Vec<Vec<usize>>
     Ok(table)
 }
 
-/// No place for any number.
-fn no_places(alloc: Global) -> Result<Vec<Option<usize>>, DescFault>
-    ensures none { IfOk result (λ places. (id : ℕ) → slice_index_or places.items id None ≡ None) }
-    ensures len { IfOk result (λ places. vec_len places ≡ VL_NUMBERS) }
+/// The list reaches as far as this number; the numbers that come to it have no place.
+fn reach(places: &mut Vec<Option<usize>>, id: VlId) -> Result<(), DescFault>
+    ensures reached { OnOk result (id.0 < vec_len places.new) }
+    ensures same { OnOk result ((n : ℕ) → slice_index_or places.new.items n None ≡ slice_index_or places.old.items n None) }
     ensures memory { IfErr result (λ fault. fault ≡ OutOfMemory) }
 {
-    let mut places = Vec::new(alloc);
-    for _ in 0..VL_NUMBERS {
-        push(&mut places, None)?;
+    for _ in places.len()..usize::from(id.0) + 1 {
+        push(places, None)?;
     }
-    Ok(places)
+    Ok(())
 }
 
 /// The number has this place, if it had none.
 fn note_place(places: &mut Vec<Option<usize>>, id: usize, place: usize)
     requires { id < vec_len places.old }
-    ensures noted { (n : ℕ) → n < vec_len places.old → slice_index_or places.new.items n None ≡ (if (id == n) && is_none (slice_index_or places.old.items n None) then Some place else slice_index_or places.old.items n None) }
+    ensures noted { (n : ℕ) → slice_index_or places.new.items n None ≡ (if (id == n) && is_none (slice_index_or places.old.items n None) then Some place else slice_index_or places.old.items n None) }
     ensures len { vec_len places.new ≡ vec_len places.old }
 {
     if places[id].is_none() {
@@ -52,14 +49,15 @@ fn note_place(places: &mut Vec<Option<usize>>, id: usize, place: usize)
     }
 }
 
-/// For each number the place of the virtual link that has it.
+/// For each number the place of the virtual link that has it, as far as the greatest number: so few numbers that are small take little
+/// memory.
 pub fn places_of(alloc: Global, vls: &[Routed]) -> Result<Vec<Option<usize>>, DescFault>
-    ensures places { IfOk result (λ places. (id : ℕ) → id < VL_NUMBERS → slice_index_or places.items id None ≡ place_of_vl (map vl_view vls.now) id) }
-    ensures len { IfOk result (λ places. vec_len places ≡ VL_NUMBERS) }
+    ensures places { IfOk result (λ places. (id : ℕ) → slice_index_or places.items id None ≡ place_of_vl (map vl_view vls.now) id) }
     ensures memory { IfErr result (λ fault. fault ≡ OutOfMemory) }
 {
-    let mut places = no_places(alloc)?;
+    let mut places = Vec::new(alloc);
     for (i, vl) in vls.iter().enumerate() {
+        reach(&mut places, vl.link.id)?;
         let id = usize::from(vl.link.id.0);
         note_place(&mut places, id, i);
     }

@@ -185,7 +185,10 @@ impl Network {
     pub fn place_of(&self, id: VlId) -> Option<usize>
         ensures { result ≡ place_of_vl self.now.vls id.0 }
     {
-        self.tables.places[usize::from(id.0)]
+        match self.tables.places.get(usize::from(id.0)) {
+            Some(place) => *place,
+            None => None,
+        }
     }
 
     /// What is agreed of the frames of the virtual link with this place.

@@ -2,7 +2,7 @@ use Rattle.std.proofs.Common.{◌≡◌, ◌<◌, true, false, length, map, take
 use Rattle.std.proofs.lemmas.List.{get_or_read_under}
 use Rattle.std.specs.List.{list_any}
 use Rattle.network_rows.specs.declared.fault.DescFault.TheVariants.{DoubleName}
-use Rattle.netdesc.specs.declared.finding.TheConstants.{VL_NUMBERS}
+use Rattle.netdesc.specs.declared.double.TheConstants.{VL_NUMBERS}
 use Rattle.netdesc.specs.Faults.{double_at_vl}
 use Rattle.netdesc.specs.Views.{vl_view}
 use Rattle.netdesc.proofs.EachLemmas.{Tells-mapped, none-mapped, length-before-mapped, list_any-more-mapped}

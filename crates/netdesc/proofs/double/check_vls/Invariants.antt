@@ -1,6 +1,6 @@
 use Rattle.std.proofs.Common.{◌≡◌, ℕ, ◌<◌, ◌==◌, [], false, take, map, get_or, vec_len}
 use Rattle.std.specs.List.{list_any}
-use Rattle.netdesc.specs.declared.finding.TheConstants.{VL_NUMBERS}
+use Rattle.netdesc.specs.declared.double.TheConstants.{VL_NUMBERS}
 use Rattle.netdesc.specs.Rows.{each}
 use Rattle.netdesc.specs.Faults.{double_at_vl}
 use Rattle.netdesc.specs.Views.{vl_view}

@@ -13,13 +13,10 @@ loop-i-preserved c =
     let vl = c.index-vls-i.result in
     let lt : i < length rows = omega arith in
     let before = take i (map vl_view rows) in
-    record {
-      len = c.note_place.ensures.len ∙ c.loop-i.invariant.len;
-      placed = λ id h.
-          c.note_place.ensures.noted id (omega (arith, c.loop-i.invariant.len))
-          ∙ ap (λ n. cond ((n == id) && is_none (get_or c.loop-i.places.items id None)) (Some i) (get_or c.loop-i.places.items id None)) c.from-id.ensures
-          ∙ or_else-noted (get_or c.loop-i.places.items id None) (vl.link.id.0 == id) i
-          ∙ ap (λ o. or_else o (cond (vl.link.id.0 == id) (Some i) None)) (c.loop-i.invariant.placed id h)
-          ∙ ap (λ n. or_else (place_of_vl before id) (cond (vl.link.id.0 == id) (Some n) None)) (sym (length-before-mapped vl_view rows i lt))
-          ∙ sym (ap (λ xs. place_of_vl xs id) (take-read (map vl_view rows) i (vl_view vl) (omega (arith, length-map rows vl_view)) (read-map vl_view rows i vl lt c.index-vls-i.is)) ∙ place_by-push (λ other. other.link.id.0 == id) before (vl_view vl));
-    }
+    λ id.
+    c.note_place.ensures.noted id
+    ∙ ap (λ n. cond ((n == id) && is_none (get_or c.reach.new.places.items id None)) (Some i) (get_or c.reach.new.places.items id None)) c.from-id.ensures
+    ∙ or_else-noted (get_or c.reach.new.places.items id None) (vl.link.id.0 == id) i
+    ∙ ap (λ o. or_else o (cond (vl.link.id.0 == id) (Some i) None)) (c.in_ok-reach.ensures.same id ∙ c.loop-i.invariant id)
+    ∙ ap (λ n. or_else (place_of_vl before id) (cond (vl.link.id.0 == id) (Some n) None)) (sym (length-before-mapped vl_view rows i lt))
+    ∙ sym (ap (λ xs. place_of_vl xs id) (take-read (map vl_view rows) i (vl_view vl) (omega (arith, length-map rows vl_view)) (read-map vl_view rows i vl lt c.index-vls-i.is)) ∙ place_by-push (λ other. other.link.id.0 == id) before (vl_view vl))

@@ -1,8 +1,8 @@
 use Rattle.std.proofs.Common.{◌≡◌, ℕ, get_or, vec_len, None}
-use Rattle.netdesc.proofs.finding.no_places.Given as goal
+use Rattle.netdesc.proofs.finding.reach.Given as goal
 
 abbrev pub invariant-loop : goal.invariant-loop
 invariant-loop l = record {
   len : vec_len l.places ≡ l.counter;
-  none : (id : ℕ) → get_or l.places.items id None ≡ None;
+  same : (n : ℕ) → get_or l.places.items n None ≡ get_or l.initial.places.items n None;
 }
