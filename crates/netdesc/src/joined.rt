@@ -1,4 +1,4 @@
-ghost use Rattle.std.specs.Prelude.{◌≡◌, ◌<◌, [], Some, MatchResult, is_some, OnOk, IfErr, IfSome};
+ghost use Rattle.std.specs.Prelude.{◌≡◌, ◌<◌, [], Some, MatchResult, is_some, vec_len, OnOk, IfOk, IfErr, IfSome};
 ghost use Rattle.netdesc.specs.Rows.{each};
 ghost use Rattle.netdesc.specs.Wiring.{joins, link_between, is_linked};
 ghost use Rattle.netdesc.specs.Faults.{double_at_link};
@@ -7,7 +7,6 @@ ghost use Rattle.std.specs.BTreeMap.{Updates};
 ghost use Rattle.network_rows.specs.declared.fault.DescFault.TheVariants.{OutOfMemory};
 ghost use Rattle.netdesc.specs.Views.{Gives};
 
-use crate::counts::no_counts;
 use crate::memory::refused;
 use crate::place::key_at;
 use crate::wiring::Link;
@@ -24,7 +23,7 @@ const NEAR: usize = 16384;
 #[derive(Drop)]
 pub struct Joined<'a> {
     pub links: &'a [Link],
-    near: Vec<usize>,
+    near: Vec<u16>,
     places: BTreeMap<(usize, usize), usize>,
     ghost apart: { each double_at_link links.now ≡ [] },
     ghost placed: { AreJoined places links.now },
@@ -59,7 +58,7 @@ impl<'a> Joined<'a> {
     fn near_place(&self, x: usize, y: usize) -> Option<usize>
         ensures { IfSome result (λ place. link_between self.now.links.now x y ≡ Some place) }
     {
-        let place = *self.near.get(slot(x, y))?;
+        let place = usize::from(*self.near.get(slot(x, y))?);
         let link = self.links.get(place)?;
         if joins(x, y, *link) {
             Some(place)
@@ -84,15 +83,27 @@ fn joins(x: usize, y: usize, link: Link) -> bool
 }
 
 /// For each slot the place of a link between nodes that have it, if there is one.
-fn near_of(alloc: Global, links: &[Link]) -> Result<Vec<usize>, DescFault>
+fn near_of(alloc: Global, links: &[Link]) -> Result<Vec<u16>, DescFault>
     ensures memory { IfErr result (λ fault. fault ≡ OutOfMemory) }
 {
-    let mut near = no_counts(alloc, NEAR)?;
+    let mut near = no_places(alloc)?;
     for (i, link) in links.iter().enumerate() {
-        near[slot(link.a, link.b)] = i;
-        near[slot(link.b, link.a)] = i;
+        let place = u16::try_from(i).unwrap_or(0);
+        near[slot(link.a, link.b)] = place;
+        near[slot(link.b, link.a)] = place;
     }
     Ok(near)
+}
+
+/// The place 0 for each slot.
+fn no_places(alloc: Global) -> Result<Vec<u16>, DescFault>
+    ensures len { IfOk result (λ near. vec_len near ≡ NEAR) }
+    ensures memory { IfErr result (λ fault. fault ≡ OutOfMemory) }
+{
+    match vec![in alloc; 0; NEAR] {
+        Ok(near) => Ok(near),
+        Err(error) => Err(refused(error)),
+    }
 }
 
 /// The place of the link for each two nodes that one joins, unless two links join the same nodes.
