@@ -6,19 +6,22 @@ use crate::fault::OutOfMemory;
 use std::collections::VecDeque;
 use std::mem::replace;
 
-/// Takes the item at this place, if there is one. The shorter side moves, and nothing where it is the first.
+/// Takes the item at this place, if there is one. The shorter side moves, and nothing where it is the first. If it was the last item left,
+/// the deque begins at its front again.
 #[inline(always)]
-pub(crate) fn take_at<T>(items: &mut VecDeque<T>, place: usize) -> Option<T>
+pub(crate) fn take_at<T: Drop>(items: &mut VecDeque<T>, place: usize) -> Option<T>
     ensures value { result ≡ slice_get items.old.items place }
     ensures items { items.new.items ≡ remove items.old.items place }
     ensures len { place < deque_len items.old → deque_len items.new + 1 ≡ deque_len items.old }
     ensures capacity { deque_capacity items.new ≡ deque_capacity items.old }
 {
-    if place == 0 {
+    let item = if place == 0 {
         items.pop_front()
     } else {
         items.remove(place)
-    }
+    };
+    rewind(items);
+    item
 }
 
 /// Takes out the item at this place, where there is one.
@@ -30,7 +33,6 @@ pub(crate) fn take_out<T: Drop>(items: &mut VecDeque<T>, place: usize)
     ensures capacity { deque_capacity items.new ≡ deque_capacity items.old }
 {
     let _item = take_at(items, place);
-    rewind(items);
 }
 
 /// Puts an item at this place. The shorter side moves, and nothing where it is to be the last. A refusal changes nothing.

@@ -94,5 +94,5 @@ fn releases_what_waits(rt: HostRuntime) -> Result<(), Fail> {
 
 #[test]
 fn a_record_fits_a_cache_line(rt: HostRuntime) {
-    assert!(rt; size_of::<RegRecord>() <= 64);
+    assert!(rt; size_of::<RegRecord>() <= 56);
 }

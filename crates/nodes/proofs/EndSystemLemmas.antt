@@ -56,12 +56,12 @@ source-found {read} {s} vl i end g is e h k =
 
 -- a virtual link whose regulator was asked is found with that regulator, and the records are those of the asking
 pub sending-came : (n t : ℕ) (vl : VlId) (e : RegEvent) (now : EndSystemState) (k : RegRecord) (a b : Option PutRecord) →
-    RegulatedCameFrom n t vl e now (kept.Regulated k a b) → (source : SourceAt) → source_at now vl ≡ Some source →
+    RegulatedCameFrom n t vl e now (kept.Regulated a b k) → (source : SourceAt) → source_at now vl ≡ Some source →
     SendingCameFrom e source.end source.regulator now.ports k a b
 sending-came n t vl e now k a b came source found = go (source_at came.0 vl) refl came.1 came.2 came.3
   where
     go : (o : Option SourceAt) → source_at came.0 vl ≡ o → IsRegulatedValue e came.0 o → now ≡ (regulated n t e (lost Unknown e) came.0 o).state →
-        kept.Regulated k a b ≡ regulated_kept e came.0 o → SendingCameFrom e source.end source.regulator now.ports k a b
+        kept.Regulated a b k ≡ regulated_kept e came.0 o → SendingCameFrom e source.end source.regulator now.ports k a b
     go None h value is_now is_kept = absurd (cc)
     go (Some before) h value is_now is_kept =
         let s = came.0 in

@@ -23,7 +23,7 @@ abbrev pub SendingCameFrom : RegEvent → VlEnd → Regulator → PortsState →
 SendingCameFrom e end now now_ports k a b =
     (g : Regulator) × (ports : PortsState) × IsRegulator g × AreCopiesValues end (regulator.out g e).answer ports
     × (now ≡ regulator.after g e) × (now_ports ≡ released_out end (regulator.out g e).answer ports)
-    × (kept.Regulated k a b ≡ regulated_kept_by (regulator.saves g e) end (regulator.out g e).answer ports)
+    × (kept.Regulated a b k ≡ regulated_kept_by (regulator.saves g e) end (regulator.out g e).answer ports)
 
 -- the regulator of a virtual link was asked to do something, if the end system sends it
 abbrev pub RegulatedCameFrom : ℕ → ℕ → VlId → RegEvent → EndSystemState → Kept → Type 0

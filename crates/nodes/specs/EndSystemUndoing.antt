@@ -33,10 +33,10 @@ copied_kept end net frame ports = if is_on end net then port_put_kept (port_of n
 -- a regulator is asked to do something, and both copies of the frame that it releases go out
 abbrev pub regulated_kept_by : RegRecord → VlEnd → RegAnswer → PortsState → Kept
 regulated_kept_by k end (answer.Released frame) ports =
-    kept.Regulated k (copied_kept end A frame ports) (copied_kept end B frame (copied end A frame ports))
-regulated_kept_by k end answer.Kept ports = kept.Regulated k None None
-regulated_kept_by k end answer.Dropped ports = kept.Regulated k None None
-regulated_kept_by k end answer.Nothing ports = kept.Regulated k None None
+    kept.Regulated (copied_kept end A frame ports) (copied_kept end B frame (copied end A frame ports)) k
+regulated_kept_by k end answer.Kept ports = kept.Regulated None None k
+regulated_kept_by k end answer.Dropped ports = kept.Regulated None None k
+regulated_kept_by k end answer.Nothing ports = kept.Regulated None None k
 
 abbrev pub regulated_kept : RegEvent → EndSystemState → Option SourceAt → Kept
 regulated_kept e s None = kept.Nothing
@@ -71,7 +71,7 @@ unregulated_by k a b s (Some source) = record s {
 }
 
 abbrev pub unregulated : VlId → Kept → EndSystemState → EndSystemState
-unregulated vl (kept.Regulated k a b) s = unregulated_by k a b s (source_at s vl)
+unregulated vl (kept.Regulated a b k) s = unregulated_by k a b s (source_at s vl)
 unregulated vl kept.Nothing s = s
 unregulated vl (kept.Port k) s = s
 unregulated vl (kept.Received c d) s = s
@@ -81,7 +81,7 @@ unregulated vl (kept.Policed k) s = s
 abbrev pub unfreed : ℕ → Kept → EndSystemState → EndSystemState
 unfreed q (kept.Port k) s = record s { ports = restored q k s.ports }
 unfreed q kept.Nothing s = s
-unfreed q (kept.Regulated k a b) s = s
+unfreed q (kept.Regulated a b k) s = s
 unfreed q (kept.Received c d) s = s
 unfreed q (kept.Policed k) s = s
 
@@ -97,7 +97,7 @@ untaken_by frame c d s (Some sink) = record s { receivers = slice_set s.receiver
 abbrev pub untaken : Frame → Kept → EndSystemState → EndSystemState
 untaken frame (kept.Received c d) s = untaken_by frame c d s (sink_at s frame.vl frame.net)
 untaken frame kept.Nothing s = s
-untaken frame (kept.Regulated k a b) s = s
+untaken frame (kept.Regulated a b k) s = s
 untaken frame (kept.Port k) s = s
 untaken frame (kept.Policed k) s = s
 

@@ -38,7 +38,7 @@ switch_kept t (Carry frame) s = kept.Nothing
 abbrev pub unported : ℕ → Kept → SwitchState → SwitchState
 unported q (kept.Port k) s = record s { ports = restored q k s.ports }
 unported q kept.Nothing s = s
-unported q (kept.Regulated g a b) s = s
+unported q (kept.Regulated a b g) s = s
 unported q (kept.Received c d) s = s
 unported q (kept.Policed k) s = s
 
@@ -49,7 +49,7 @@ unjudged arrival k s (Some found) = record s { accounts = slice_set s.accounts f
 abbrev pub unpoliced : ℕ → Frame → Kept → SwitchState → SwitchState
 unpoliced t frame (kept.Policed k) s = unjudged (record { at = t; size = frame.size }) k s (transit_at s frame.vl)
 unpoliced t frame kept.Nothing s = s
-unpoliced t frame (kept.Regulated g a b) s = s
+unpoliced t frame (kept.Regulated a b g) s = s
 unpoliced t frame (kept.Port k) s = s
 unpoliced t frame (kept.Received c d) s = s
 

@@ -8,11 +8,11 @@ use vlink::Time;
 pub enum Kept {
     /// No element changed.
     Nothing,
-    /// A regulator, and the ports that the copies of its frame were put to.
+    /// The ports that the copies of a regulator's frame were put to, and the regulator: in this order they take least room.
     Regulated {
-        regulator: RegRecord,
         a: Option<PutRecord>,
         b: Option<PutRecord>,
+        regulator: RegRecord,
     },
     /// A port.
     Port(Option<PortRecord>),

@@ -554,7 +554,7 @@ fn a_receiver_checks_and_delivers_the_first_copy(rt: HostRuntime) -> Result<(), 
 // A record is kept of each event that may be undone.
 #[test]
 fn a_record_is_small(rt: HostRuntime) -> Result<(), Fail> {
-    assert!(rt; size_of::<NodeRecord>() <= 88);
+    assert!(rt; size_of::<NodeRecord>() <= 72);
     Ok(())
 }
 

@@ -19,7 +19,7 @@ ghost use Rattle.process_queues.specs.Queues.{StandsFor, Does, next_in};
 use crate::fault::ProcFault;
 use crate::past::Past;
 use crate::process::Process;
-use antimessages::{Change, Mail, Tally};
+use antimessages::{Change, Mail, Tally, rewind};
 use reverse::{Actor, Outbound, actor_rules};
 use std::collections::VecDeque;
 use vlink::{Letter, Message, Time};
@@ -167,7 +167,7 @@ fn undoes_nothing<R: Actor>(past: &Past<R>, tally: &Tally, letter: &Letter) -> b
 }
 
 /// The front letter leaves the tray and is counted. There is one, and the tally has room for it. The letters of so many done events most
-/// often come before it, and no others.
+/// often come before it, and no others. A tray that is left empty begins at its front again.
 fn count_front<R: Actor>(tray: &mut VecDeque<Letter>, tally: &mut Tally, done: usize)
     requires some { 0 < deque_len tray.old }
     requires room { 0 < tally.old.room }
@@ -177,6 +177,7 @@ fn count_front<R: Actor>(tray: &mut VecDeque<Letter>, tally: &mut Tally, done: u
 {
     actor_rules::<R>();
     if let Some(letter) = tray.pop_front() {
+        rewind(tray);
         let _change = tally.add(letter, done);
     }
 }

@@ -4,6 +4,7 @@ use Rattle.std.specs.Ordering.{nat_cmp, ordering_then}
 use Rattle.std.specs.declared.cmp.Ordering.{Ordering}
 use Rattle.std.specs.declared.cmp.Ordering.TheVariants.{Less, Equal, Greater}
 use Rattle.vlink.specs.declared.frame.Frame.{Frame}
+use Rattle.vlink.specs.declared.comparing.FrameKey.{FrameKey}
 use Rattle.vlink.specs.declared.frame.Net.{Net}
 use Rattle.vlink.specs.declared.frame.Net.TheVariants.{A, B}
 use Rattle.vlink.specs.declared.message.Message.{Message}
@@ -16,6 +17,18 @@ net_cmp A A = Equal
 net_cmp A B = Less
 net_cmp B A = Greater
 net_cmp B B = Equal
+
+-- what is compared of a frame, in the order in which it is
+abbrev pub key_of : Frame → FrameKey
+key_of f =
+    record {
+      vl = f.vl;
+      number = f.number;
+      size = f.size;
+      offered = f.offered;
+      released = f.released;
+      net = f.net;
+    }
 
 -- frames by virtual link, number, size, moment offered, moment released and network
 abbrev pub frame_cmp : Frame → Frame → Ordering

@@ -1,6 +1,7 @@
 //! The words that all crates speak: moments, virtual links, frames, messages with their order, letters, notes, rows and steps.
 #![tactic(auto)]
 
+mod comparing;
 mod frame;
 mod message;
 mod note;

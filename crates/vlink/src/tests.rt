@@ -81,5 +81,5 @@ fn messages_are_ordered_by_their_fields_in_turn(rt: HostRuntime) {
 
 #[test]
 fn a_message_fits_a_cache_line(rt: HostRuntime) {
-    assert!(rt; size_of::<Message>() <= 64);
+    assert!(rt; size_of::<Message>() <= 56);
 }

@@ -3,7 +3,7 @@ use Rattle.vlink.specs.declared.message.Body.{Body}
 use Rattle.vlink.specs.declared.message.Body.TheVariants.{Offer, Release, PortFree, Arrive, Enqueue, Carry}
 use Rattle.vlink.specs.contracts.message.BodyOrd.TheImpl.{ghosts}
 use Rattle.vlink.specs.declared.frame.Frame.{Frame}
-use Rattle.vlink.specs.contracts.frame.FrameOrd.TheImpl as frames
+use Rattle.vlink.specs.contracts.comparing.FrameOrd.TheImpl as frames
 use Rattle.vlink.specs.Order.{frame_cmp, body_cmp}
 use Rattle.vlink.proofs.order.body_order.Goals as goal
 
