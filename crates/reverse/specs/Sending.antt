@@ -1,7 +1,6 @@
 -- What a process sends and notes at one event.
 use Rattle.std.specs.Prelude.{ℕ, ◌+◌, if◌then◌else◌, nat_le, List, [], ◌∷◌, ◌++◌, length}
 use Rattle.vlink.specs.declared.frame.Frame.{Frame}
-use Rattle.vlink.specs.declared.frame.FrameSize.{FrameSize}
 use Rattle.vlink.specs.declared.message.Message.{Message}
 use Rattle.vlink.specs.declared.message.Body.{Body}
 use Rattle.vlink.specs.declared.note.Note.{Note}

@@ -3,11 +3,15 @@ ghost use Rattle.vlink.specs.Numbering.{greatest_number};
 ghost use Rattle.reverse.specs.Sending.{loss, replied};
 
 use crate::sends::Sends;
+use arrayvec::ArrayVec;
 use std::marker::Model;
 use vlink::{Body, Cause, Frame, Message, Note, Time};
 
+/// The most messages that one event sends.
+const MOST_SENT: usize = 24;
+
 /// What one event makes a process send and note. It can be used again for the next event, so that no event copies the room for all that
-/// one event can send.
+/// one event can send, and none wipes what the last one sent.
 ///
 /// Clauses see the sender, with the number of its next message, and the messages and notes so far.
 #[derive(Drop)]
@@ -15,19 +19,25 @@ pub struct Outbound {
     number: u16,
     until: Time,
     counter: u64,
-    sends: Sends,
+    /// The messages sent, at the front. Behind them lies what earlier events sent.
+    messages: [Message; MOST_SENT],
+    sent: usize,
+    notes: ArrayVec<Note, 2>,
 }
 
 impl Model for Outbound {
+    ghost use Rattle.std.specs.Prelude.{◌≤◌, take};
     ghost use Rattle.reverse.specs.Sending.{OutboundState};
 
     ghost Value = { OutboundState };
 
     ghost view = { λ o. record {
       sender = record { number = o.number; until = o.until; counter = o.counter };
-      messages = o.sends.messages.items;
-      notes = o.sends.notes.items;
+      messages = take o.sent o.messages;
+      notes = o.notes.items;
     } };
+
+    ghost invariant = { λ o. o.sent ≤ 24 };
 }
 
 impl Outbound {
@@ -41,7 +51,9 @@ impl Outbound {
             number,
             until,
             counter,
-            sends: Sends::new(),
+            messages: [Message::default(); MOST_SENT],
+            sent: 0,
+            notes: ArrayVec::new(),
         }
     }
 
@@ -54,8 +66,8 @@ impl Outbound {
         self.number = number;
         self.until = until;
         self.counter = counter;
-        self.sends.messages.clear();
-        self.sends.notes.clear();
+        self.sent = 0;
+        self.notes.clear();
     }
 
     /// Holds what was sent and noted, in place of what it held.
@@ -64,7 +76,10 @@ impl Outbound {
         ensures messages { self.new.messages ≡ sends.messages.items }
         ensures notes { self.new.notes ≡ sends.notes.items }
     {
-        self.sends = sends;
+        let held = sends.messages.as_slice();
+        self.messages[..held.len()].copy_from_slice(held);
+        self.sent = held.len();
+        self.notes = sends.notes;
     }
 
     /// The number of the process.
@@ -86,7 +101,7 @@ impl Outbound {
         ensures messages { result.now ≡ self.now.messages }
         ensures few { length result.now ≤ 24 }
     {
-        self.sends.messages.as_slice()
+        &self.messages[..self.sent]
     }
 
     /// The notes, in their order.
@@ -94,7 +109,7 @@ impl Outbound {
         ensures notes { result.now ≡ self.now.notes }
         ensures few { length result.now ≤ 2 }
     {
-        self.sends.notes.as_slice()
+        self.notes.as_slice()
     }
 
     /// Sends a message for the moment `ns`, unless that is after the end of the run.
@@ -107,13 +122,14 @@ impl Outbound {
             return;
         }
         let Some(time) = Time::new(ns) else { return };
-        self.sends.messages.push(Message {
+        self.messages[self.sent] = Message {
             time,
             receiver,
             sender: u32::from(self.number),
             number: self.counter,
             body,
-        });
+        };
+        self.sent += 1;
         self.counter += 1;
     }
 
@@ -122,7 +138,7 @@ impl Outbound {
         requires { length self.old.notes < 2 }
         ensures { self.new ≡ replied self.old (record { wishes = []; notes = note ∷ [] }) }
     {
-        self.sends.notes.push(note);
+        self.notes.push(note);
     }
 
     /// Notes that a frame is lost for this cause.
@@ -142,6 +158,11 @@ impl Outbound {
         ensures messages { result.messages.items ≡ self.messages }
         ensures notes { result.notes.items ≡ self.notes }
     {
-        self.sends
+        let mut messages = ArrayVec::new();
+        messages.try_extend_from_slice(self.messages()).unwrap();
+        Sends {
+            messages,
+            notes: self.notes,
+        }
     }
 }

@@ -1,5 +1,6 @@
 use crate::{
-    Body, FrameSize, Message, Net, Time, VlId, busy_ns, last_bit_ns, message_order, next_sn, steps,
+    Body, Frame, FrameSize, Letter, Message, Net, Time, VlId, busy_ns, last_bit_ns, message_order,
+    next_sn, steps,
 };
 use std::cmp::Ordering;
 
@@ -80,6 +81,40 @@ fn messages_are_ordered_by_their_fields_in_turn(rt: HostRuntime) {
 }
 
 #[test]
-fn a_message_fits_a_cache_line(rt: HostRuntime) {
+fn frames_are_ordered_by_their_fields_in_turn(rt: HostRuntime) {
+    let moment = Time::new(1).expect(&rt, "a moment within the limits");
+    let size = FrameSize::new(65).expect(&rt, "a size within the limits");
+    let frame = Frame::default();
+    let ascending = [
+        frame,
+        Frame {
+            net: Net::B,
+            ..frame
+        },
+        Frame {
+            released: moment,
+            ..frame
+        },
+        Frame {
+            offered: moment,
+            ..frame
+        },
+        Frame { size, ..frame },
+        Frame { number: 1, ..frame },
+        Frame {
+            vl: VlId(1),
+            ..frame
+        },
+    ];
+    for late in 1..ascending.len() {
+        assert!(rt; ascending[late - 1] < ascending[late], "place {late}");
+        assert!(rt; ascending[late] != ascending[late - 1], "place {late}");
+        assert!(rt; ascending[late] == ascending[late], "place {late}");
+    }
+}
+
+#[test]
+fn a_letter_fits_a_cache_line(rt: HostRuntime) {
     assert!(rt; size_of::<Message>() <= 56);
+    assert!(rt; size_of::<Letter>() <= 64);
 }
