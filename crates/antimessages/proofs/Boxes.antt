@@ -83,6 +83,11 @@ receivers-inside ls now seen boxes mail e s m all = λ k d h.
     (subst (λ z. (get_or z k (signed d)).message.receiver < length boxes) same
     (subst (λ n. (get_or seen k (signed d)).message.receiver < n) b (all k (signed d) (subst (λ z. k < length z) (sym same) inside))))
 
+-- letters that are all for one of no processes are none
+pub for-none : (ls : List Letter) (n : ℕ) → n ≡ 0 → All (λ l. l.message.receiver < n) ls → ls ≡ []
+for-none [] n e all = refl
+for-none (l ∷ ls) n e all = absurd (let h = all 0 l (omega arith) in omega arith)
+
 -- one box is another one now
 module _ (boxes : List (VecDeque Letter Global)) (i : ℕ) (old new : VecDeque Letter Global) (h : i < length boxes) (e : old ≡ get_or boxes i old) where
   pub old-letters : letters_for i (map store_of boxes) ≡ map signed old.items

@@ -31,12 +31,14 @@ impl Model for Mail {
 }
 
 impl Mail {
-    /// No letter, for so many processes.
+    /// No letter, for so many processes. That of no process takes no memory.
     pub fn new(alloc: Global, processes: u16) -> Result<Self, OutOfMemory>
         ensures processes { IfOk result (λ mail. length mail ≡ processes) }
         ensures none { IfOk result (λ mail. (p : ℕ) → letters_for p mail ≡ []) }
+        ensures reserved { processes ≡ 0 → IsOk result }
     {
-        let mut boxes = Vec::with_capacity(alloc, usize::from(processes))?;
+        let mut boxes = Vec::new(alloc);
+        boxes.reserve(usize::from(processes))?;
         for process in 0..processes {
             boxes.push_reserved(VecDeque::new(alloc));
         }
@@ -44,11 +46,12 @@ impl Mail {
     }
 
     /// The mail of so many processes to which the letters of the outbox were posted. Its time goes by the number of letters, however many
-    /// they are; `post` is made for the few letters of one event.
+    /// they are; `post` is made for the few letters of one event. That of no process takes no memory.
     pub fn with_letters(alloc: Global, processes: u16, outbox: &Outbox) -> Result<Self, OutOfMemory>
         requires { All (λ letter. letter.message.receiver < processes) outbox.now.letters }
         ensures processes { IfOk result (λ mail. length mail ≡ processes) }
         ensures letters { IfOk result (λ mail. (p : ℕ) → letters_for p mail ≡ received_by message_rules p outbox.now.letters) }
+        ensures reserved { processes ≡ 0 → IsOk result }
     {
         let Mail { mut boxes } = Mail::new(alloc, processes)?;
         push_all(&mut boxes, &outbox.letters)?;

@@ -128,6 +128,7 @@ pub(crate) fn push_all(
     ensures put { OnOk result ((p : ℕ) → letters_for p (map store_of boxes.new.items)
         ≡ letters_for p (map store_of boxes.old.items) ++ received_by message_rules p (map signed letters.now)) }
     ensures processes { length boxes.new.items ≡ length boxes.old.items }
+    ensures none { letters.now ≡ [] → IsOk result }
 {
     for letter in letters {
         push(&mut boxes[usize::from(letter.message.receiver)], *letter)?;

@@ -1,6 +1,6 @@
 -- How many events are committed one after another, counted before the first of them is.
 use Rattle.std.proofs.Common.{◌≡◌, ℕ, zero, suc, ◌+◌, ◌<◌, ◌≤◌, ◌==◌, Bool, true, false, ◌&&◌, cond, if◌then◌else◌, nat_lt, List, [], ◌∷◌, take, Result, Ok, Err, refl, sym, ap, ◌∙◌, subst, arith, add-one}
-use Rattle.std.specs.Prelude.{OnOk, OnErr}
+use Rattle.std.specs.Prelude.{OnOk, OnErr, IsErr}
 use Rattle.virtual_time.specs.Rules.{Rules, IsOrder}
 use Rattle.virtual_time.specs.Lists.{IsIn, IsAscending, one_if}
 use Rattle.virtual_time.specs.Letters.{Letter, minus_of, pluses, minuses}
@@ -19,6 +19,11 @@ and-second false b h = cc
 pub on_ok-room : {A E : Type 0} (P : Type 0) (x : Result A E) (room : ℕ) → OnOk x P → OnErr x (room ≡ 0) → 0 < room → P
 on_ok-room P (Ok a) room h n some = h
 on_ok-room P (Err e) room h n some = absurd (omega arith)
+
+-- what holds where a call is refused, of a call that was
+pub on_err-is : {A E : Type 0} (P : Type 0) (x : Result A E) → OnErr x P → IsErr x → P
+on_err-is P (Ok a) h e = absurd (let k : ⊥ = cc in k)
+on_err-is P (Err e) h is = h
 
 module _ {M S K N : Type 0} (r : Rules M S K N) where
   -- once more

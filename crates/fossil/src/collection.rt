@@ -1,4 +1,4 @@
-ghost use Rattle.std.specs.Prelude.{◌≡◌, ◌≤◌, true, false, Ok, OnOk, OnErr, IfOk};
+ghost use Rattle.std.specs.Prelude.{◌≡◌, ◌<◌, ◌≤◌, true, false, Ok, OnOk, OnErr, IfOk};
 ghost use Rattle.vlink.specs.declared.message.Message.{Message};
 ghost use Rattle.virtual_time.specs.Lists.{one_if};
 ghost use Rattle.virtual_time.specs.Part.{Part};
@@ -18,6 +18,7 @@ use vlink::Time;
 /// - `committed`: the part for which the process stands, after so many times its oldest done event was committed.
 /// - `answer`: how many, for each part for which the process stood.
 /// - `one`, `one_part`: of one event at most, whether there was one, and what became of the part.
+/// - `reserved`: a refusal comes only where there was not room for all of them.
 pub fn commit<R: Actor>(process: &mut Process<R>, gvt: Time, n: u64) -> Result<u64, OutOfMemory>
     ensures committed { IfOk result (λ count. Does (rules_of R.plain R.counter) R.is_value (λ opening. sealed_times (rules_of R.plain R.counter) count) process.old.queues process.new.queues) }
     ensures answer { IfOk result (λ count. (opening : R) (part : Part Message R) →
@@ -30,6 +31,8 @@ pub fn commit<R: Actor>(process: &mut Process<R>, gvt: Time, n: u64) -> Result<u
     ensures tray { process.new.queues.tray ≡ process.old.queues.tray }
     ensures outbox { process.new.queues.outbox ≡ process.old.queues.outbox }
     ensures unchanged { OnErr result (process.new.queues ≡ process.old.queues) }
+    ensures reserved { OnErr result ((opening : R) (part : Part Message R) →
+        StandsFor (rules_of R.plain R.counter) R.is_value opening part process.old.queues → process.old.committed_room < committed_below (rules_of R.plain R.counter) gvt n part) }
 {
     actor_rules::<R>();
     let count = process.committable(gvt, n as usize);

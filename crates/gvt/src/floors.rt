@@ -1,4 +1,4 @@
-ghost use Rattle.std.specs.Prelude.{◌≡◌, ◌≢◌, ℕ, ◌+◌, ◌<◌, min, replicate, length, slice_get, slice_index, slice_set, IfOk};
+ghost use Rattle.std.specs.Prelude.{◌≡◌, ◌≢◌, ℕ, ◌+◌, ◌<◌, min, replicate, length, slice_get, slice_index, slice_set, IsOk, IfOk};
 ghost use Rattle.std.specs.Option.{option_map};
 ghost use Rattle.vlink.specs.declared.time.TheConstants.{GREATEST_NS};
 
@@ -27,16 +27,18 @@ impl Model for Floors {
 }
 
 impl Floors {
-    /// Floors for so many processes in a run with this end time: each is the moment after the end.
+    /// Floors for so many processes in a run with this end time: each is the moment after the end. Those of no process take no memory.
     pub fn new(alloc: Global, processes: u16, until: Time) -> Result<Self, OutOfMemory>
         requires { until < GREATEST_NS }
         ensures floors { IfOk result (λ f. f.floors ≡ replicate processes (until + 1)) }
         ensures each { IfOk result (λ f. (p : ℕ) → p < processes → slice_get f.floors p ≡ Some (until + 1)) }
         ensures processes { IfOk result (λ f. length f.floors ≡ processes) }
         ensures until { IfOk result (λ f. f.until ≡ until) }
+        ensures reserved { processes ≡ 0 → IsOk result }
     {
         let end = Time::new(until.ns() + 1).unwrap();
-        let mut floors = Vec::with_capacity(alloc, usize::from(processes))?;
+        let mut floors = Vec::new(alloc);
+        floors.reserve(usize::from(processes))?;
         for process in 0..processes {
             floors.push_reserved(end);
         }

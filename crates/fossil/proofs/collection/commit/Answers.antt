@@ -4,7 +4,7 @@ use Rattle.reverse.specs.Rules.{rules_of}
 use Rattle.antimessages.specs.Letters.{message_rules}
 use Rattle.process_queues.specs.Queues.{StandsFor, Does}
 use Rattle.fossil.specs.Committed.{sealed_times, committed_below}
-use Rattle.fossil.proofs.Counts.{on_ok-room, sealed-last, once-part, committable-within, committable-below}
+use Rattle.fossil.proofs.Counts.{on_ok-room, on_err-is, sealed-last, once-part, committable-within, committable-below}
 use Rattle.fossil.proofs.collection.commit.Goals as goal
 
 pub loop-sealed-preserved : goal.loop-sealed-preserved
@@ -43,3 +43,9 @@ pub returns-clause-within : goal.returns-clause-within
 returns-clause-within g c =
     subst (λ count. count ≤ c.args.n) (sym c.committable-count.ensures.committable)
     (committable-within message_rules c.args.gvt c.args.process.now.queues.tally c.args.n (map (λ e. e.message) c.args.process.now.queues.past.done))
+
+pub returns-then-is_err-clause-reserved : goal.returns-then-is_err-clause-reserved
+returns-then-is_err-clause-reserved g c opening part h =
+    subst (λ z. c.args.process.now.committed_room < z) (c.committable-count.ensures.stands opening part h ∙
+    committable-below (rules_of g.R.Reversible.plain g.R.Actor.counter) c.actor_rules.ensures.order c.args.gvt c.args.n part h.past.ascending)
+    (on_err-is (c.args.process.now.committed_room < c.committable-count.result) c.reserve_rows.result c.reserve_rows.ensures.reserved (sym c.if-is_err.ensures.value))

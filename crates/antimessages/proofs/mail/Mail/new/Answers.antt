@@ -15,11 +15,13 @@ none-more (b ∷ bs) new e h zero = h zero
 none-more (b ∷ bs) new e h (suc p) = none-more bs new e (λ q. h (suc q)) p
 
 pub loop-process-init : goal.loop-process-init
-loop-process-init c = record {
-  made = c.in_ok-boxes.ensures.len;
-  room = c.in_ok-boxes.ensures.exact ∙ c.from.ensures;
-  none = λ p. ap (λ z. letters_for p (map store_of z)) c.in_ok-boxes.ensures.items;
-}
+loop-process-init c =
+    let made = c.in_ok-reserve.ensures.len ∙ c.new-boxes.ensures.len in
+    record {
+      made = made;
+      room = omega (arith, made, c.in_ok-reserve.ensures.ok, c.from.ensures);
+      none = λ p. ap (λ z. letters_for p (map store_of z)) (c.in_ok-reserve.ensures.items ∙ c.new-boxes.ensures.items);
+    }
 
 pub push_reserved-requires : goal.push_reserved-requires
 push_reserved-requires c = let i = c.loop-process.invariant in omega arith
