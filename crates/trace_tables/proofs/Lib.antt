@@ -10,3 +10,4 @@ pub mod LossRowLemmas
 pub mod PlaceLemmas
 pub mod GatherLemmas
 pub mod LatencyCountLemmas
+pub mod SoFarLemmas

@@ -1,6 +1,7 @@
 //! What a run is told by: tables of latencies and of drops, the trace, and their texts.
 #![tactic(auto)]
 
+mod counting;
 mod deliver;
 mod drops;
 mod duplicates;
@@ -16,6 +17,7 @@ mod text;
 mod trace;
 mod write;
 
+pub use counting::TablesSoFar;
 pub use fault::{OutFault, SinkFault};
 pub use latencies::Latencies;
 pub use laws::{drop_counts, latency_counts, tables_by_place};

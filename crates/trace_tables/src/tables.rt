@@ -5,9 +5,7 @@ ghost use Rattle.netdesc.specs.Views.{items_of, lists_of};
 ghost use Rattle.trace_tables.specs.Latencies.{counts_of};
 ghost use Rattle.trace_tables.specs.Tables.{latency_table, tables_of};
 
-use crate::deliver::deliver_row;
-use crate::drops::drop_row;
-use crate::duplicates::{gather, no_duplicates};
+use crate::counting::TablesSoFar;
 use crate::latencies::Latencies;
 use crate::loss::Loss;
 use netdesc::Network;
@@ -47,7 +45,7 @@ fn no_latencies(alloc: Global, destinations: &[usize]) -> Result<Vec<Latencies>,
 }
 
 /// The table of latencies of no row.
-fn no_rows(alloc: Global, network: &Network) -> Result<Vec<Vec<Latencies>>, AllocError>
+pub fn no_rows(alloc: Global, network: &Network) -> Result<Vec<Vec<Latencies>>, AllocError>
     ensures table { IfOk result (λ table. lists_of table ≡ latency_table network.now.vls []) }
     ensures rising { IsStrictlyIncreasing (ids_of network.now.vls) }
 {
@@ -64,15 +62,16 @@ impl Tables {
     pub fn of(alloc: Global, network: &Network, rows: &[Row]) -> Result<Tables, AllocError>
         ensures { IfOk result (λ tables. tables ≡ tables_of network.now rows.now) }
     {
-        let mut latencies = no_rows(alloc, network)?;
-        let mut duplicates = no_duplicates(alloc, network)?;
-        let mut drops = BTreeMap::new(alloc);
-        for row in rows {
-            deliver_row(&mut latencies, network, row);
-            drop_row(&mut duplicates, &mut drops, network, row)?;
-        }
-        gather(&mut drops, network, duplicates.as_slice())?;
-        Ok(Tables { latencies, drops })
+        let mut tables = TablesSoFar::none(alloc, network)?;
+        tables.count(network, rows)?;
+        tables.tables(network)
+    }
+
+    /// These two tables.
+    pub(crate) fn new(latencies: Vec<Vec<Latencies>>, drops: BTreeMap<Loss, u64>) -> Tables
+        ensures { result ≡ record { latencies = lists_of latencies; drops = drops.entries } }
+    {
+        Tables { latencies, drops }
     }
 
     /// The latencies of each virtual link at each of its destinations.

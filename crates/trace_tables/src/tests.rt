@@ -1,4 +1,4 @@
-use crate::{OutFault, Sink, SinkFault, Tables, write_csv, write_trace};
+use crate::{OutFault, Sink, SinkFault, Tables, TablesSoFar, write_csv, write_trace};
 use netdesc::{Network, read};
 use std::alloc::Global;
 use std::process::Abort;
@@ -202,6 +202,22 @@ fn the_tables_of_some_rows(rt: HostRuntime) -> Result<(), Fail> {
     let tables = Tables::of(rt.alloc(), &network, &rows(&rt))?;
     let mut spool = make_spool(rt.alloc(), 4096, 100);
     write_csv(rt.alloc(), &network, &tables, &mut spool)?;
+    assert!(rt; holds(&spool, TABLES));
+    Ok(())
+}
+
+#[test]
+fn rows_that_come_in_parts(rt: HostRuntime) -> Result<(), Fail> {
+    let network = network(rt.alloc())?;
+    let all = rows(&rt);
+    let rows = &all[..];
+    let mut tables = TablesSoFar::none(rt.alloc(), &network)?;
+    tables.count(&network, &rows[..3])?;
+    tables.count(&network, &[])?;
+    tables.count(&network, &rows[3..7])?;
+    tables.count(&network, &rows[7..])?;
+    let mut spool = make_spool(rt.alloc(), 4096, 100);
+    write_csv(rt.alloc(), &network, &tables.tables(&network)?, &mut spool)?;
     assert!(rt; holds(&spool, TABLES));
     Ok(())
 }

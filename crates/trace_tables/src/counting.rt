@@ -1,0 +1,124 @@
+//! Tables that are counted while rows come.
+ghost use Rattle.std.specs.Prelude.{◌≡◌, ◌+◌, ◌^◌, ◌<◌, ◌++◌, [], List, length, IfOk, OnOk};
+ghost use Rattle.vlink.specs.declared.note.Row.{Row};
+ghost use Rattle.netdesc.specs.Views.{lists_of};
+ghost use Rattle.trace_tables.specs.SoFar.{AreInTables, IsSoFar};
+ghost use Rattle.trace_tables.specs.Tables.{tables_of};
+
+use crate::deliver::deliver_row;
+use crate::drops::drop_row;
+use crate::duplicates::{gather, no_duplicates};
+use crate::latencies::Latencies;
+use crate::loss::Loss;
+use crate::tables::{Tables, no_rows};
+use netdesc::Network;
+use std::alloc::{AllocError, Global};
+use std::collections::BTreeMap;
+use std::marker::Model;
+use vlink::Row;
+
+/// So many rows are counted at most before all have come. What comes behind them is kept, so that no count of rows passes 64 bits.
+const MOST: u64 = 1 << 63;
+
+/// The tables of rows that come part by part. The rows need not be kept.
+///
+/// After an error it stands for no rows, and is of no use.
+///
+/// Clauses see what is counted, of how many rows, and the rows that are kept: none before 2^63 are counted. Latencies are in ns.
+#[derive(Drop)]
+pub struct TablesSoFar {
+    latencies: Vec<Vec<Latencies>>,
+    duplicates: Vec<Vec<u64>>,
+    drops: BTreeMap<Loss, u64>,
+    counted: u64,
+    rest: Vec<Row>,
+}
+
+impl Model for TablesSoFar {
+    ghost use Rattle.netdesc.specs.Views.{lists_of};
+    ghost use Rattle.trace_tables.specs.SoFar.{SoFarLists};
+
+    ghost Value = { SoFarLists };
+
+    ghost view = { λ t. record { latencies = lists_of t.latencies; duplicates = lists_of t.duplicates; drops = t.drops.entries; counted = t.counted; rest = t.rest.items } };
+}
+
+/// Each of the rows is counted.
+fn count_each(
+    latencies: &mut Vec<Vec<Latencies>>,
+    duplicates: &mut Vec<Vec<u64>>,
+    drops: &mut BTreeMap<Loss, u64>,
+    network: &Network,
+    rows: &[Row],
+) -> Result<(), AllocError>
+    requires { (earlier : List Row) × AreInTables network.now earlier (lists_of latencies.old) (lists_of duplicates.old) drops.old.entries × (length earlier + length rows.now < 2 ^ 64) }
+    ensures { OnOk result ((earlier : List Row) → AreInTables network.now earlier (lists_of latencies.old) (lists_of duplicates.old) drops.old.entries
+        → AreInTables network.now (earlier ++ rows.now) (lists_of latencies.new) (lists_of duplicates.new) drops.new.entries) }
+{
+    let _rising = network.vl_count();
+    for row in rows {
+        deliver_row(latencies, network, row);
+        drop_row(duplicates, drops, network, row)?;
+    }
+    Ok(())
+}
+
+impl TablesSoFar {
+    /// No row has come. It fails only where memory is refused.
+    pub fn none(alloc: Global, network: &Network) -> Result<TablesSoFar, AllocError>
+        ensures { IfOk result (λ tables. IsSoFar network.now tables []) }
+    {
+        Ok(TablesSoFar {
+            latencies: no_rows(alloc, network)?,
+            duplicates: no_duplicates(alloc, network)?,
+            drops: BTreeMap::new(alloc),
+            counted: 0,
+            rest: Vec::new(alloc),
+        })
+    }
+
+    /// These rows have come behind the others. It fails only where memory is refused.
+    ///
+    /// A row whose virtual link or process the network lacks is not counted, nor is a delivery at a process that is no destination of
+    /// its virtual link.
+    pub fn count(&mut self, network: &Network, rows: &[Row]) -> Result<(), AllocError>
+        requires { (earlier : List Row) × IsSoFar network.now self.old earlier }
+        ensures { OnOk result ((earlier : List Row) → IsSoFar network.now self.old earlier → IsSoFar network.now self.new (earlier ++ rows.now)) }
+    {
+        if !self.rest.is_empty() || rows.len() as u64 > MOST - self.counted {
+            return self.rest.extend_from_slice(rows);
+        }
+        count_each(
+            &mut self.latencies,
+            &mut self.duplicates,
+            &mut self.drops,
+            network,
+            rows,
+        )?;
+        self.counted += rows.len() as u64;
+        Ok(())
+    }
+
+    /// The tables of all rows that have come. It fails only where memory is refused.
+    pub fn tables(self, network: &Network) -> Result<Tables, AllocError>
+        requires { (rows : List Row) × IsSoFar network.now self rows }
+        ensures { IfOk result (λ tables. (rows : List Row) → IsSoFar network.now self rows → tables ≡ tables_of network.now rows) }
+    {
+        let TablesSoFar {
+            mut latencies,
+            mut duplicates,
+            mut drops,
+            rest,
+            ..
+        } = self;
+        count_each(
+            &mut latencies,
+            &mut duplicates,
+            &mut drops,
+            network,
+            rest.as_slice(),
+        )?;
+        gather(&mut drops, network, duplicates.as_slice())?;
+        Ok(Tables::new(latencies, drops))
+    }
+}
