@@ -1,7 +1,12 @@
--- Clauses on errors.
-use Rattle.std.proofs.Common.{Result, Ok, Err, OnErr}
+-- Clauses on results and errors.
+use Rattle.std.proofs.Common.{Result, Ok, Err, IfOk, OnErr}
 
 -- what holds in any case holds after an error
 pub after-error : {T E P : Type 0} → P → (r : Result T E) → OnErr r P
 after-error p (Ok x) = tt
 after-error p (Err y) = p
+
+-- what follows from what holds of the value of a call that went well holds of it too
+pub ok-weaker : {T E : Type 0} (P Q : T → Type 0) → ((x : T) → P x → Q x) → (r : Result T E) → IfOk r P → IfOk r Q
+ok-weaker P Q follows (Ok x) p = follows x p
+ok-weaker P Q follows (Err y) p = tt

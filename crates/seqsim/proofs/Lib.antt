@@ -5,3 +5,4 @@ pub mod Errors
 pub mod NetworkLemmas
 pub mod Waits
 pub mod StatesLemmas
+pub mod RowLemmas

@@ -1,5 +1,6 @@
 -- Networks lay their processes and offers out as the laws of a simulation ask.
-use Rattle.std.proofs.Common.{ℕ, ◌<◌, refl, sym, subst}
+use Rattle.std.proofs.Common.{◌≡◌, ◌∙◌, ℕ, ◌<◌, List, refl, sym, subst}
+use Rattle.vlink.specs.declared.message.Message.{Message}
 use Rattle.virtual_time.specs.Rules.{IsOrder}
 use Rattle.virtual_time.specs.Simulation.{IsReached}
 use Rattle.virtual_time.proofs.Reading.{reached-keeps}
@@ -7,6 +8,7 @@ use Rattle.reverse.proofs.Members.{in-all}
 use Rattle.netdesc.specs.Plan.{Plan}
 use Rattle.netdesc.specs.Accepted.{IsAccepted}
 use Rattle.netdesc.specs.Faults.{process_count}
+use Rattle.traffic.specs.Offers.{offers_of}
 use Rattle.traffic.specs.Lawful.{IsOfNetwork, HasLawfulOffers}
 use Rattle.nodes.specs.Node.{NodeState}
 use Rattle.nodes.specs.Placed.{IsPlaced, IsWired}
@@ -14,8 +16,17 @@ use Rattle.nodes.specs.NodeSending.{sends-near, wiring-stays}
 use Rattle.nodes.specs.Opening.{opening}
 use Rattle.nodes.specs.Simulation.{simulation_of}
 use Rattle.nodes.proofs.OpeningLaws.{opening-placed, opening-wired}
-use Rattle.seqsim.specs.Running.{IsLaidOut}
+use Rattle.seqsim.specs.Running.{AreInStates, IsLaidOut, Opens}
 use Rattle.seqsim.specs.Networks.{setting_of}
+
+-- the processes of the network open its simulation, from its offers on
+pub opened : (plan : Plan) (made seen : List NodeState) (offered sent : List Message) → seen ≡ made → sent ≡ offered →
+    AreInStates (process_count plan) (opening plan) made → offered ≡ offers_of plan → Opens (setting_of plan) seen sent
+opened plan made seen offered sent d e nodes offers =
+    record {
+      actors_open = subst (AreInStates (process_count plan) (opening plan)) (sym d) nodes;
+      offered = e ∙ offers;
+    }
 
 module _ (plan : Plan) (O : IsOrder (simulation_of plan).rules) where
   -- the simulation has the messages, processes, end and offers of the network

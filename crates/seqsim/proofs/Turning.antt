@@ -2,12 +2,12 @@
 use Rattle.std.proofs.Common.{◌≡◌, ℕ, suc, ◌<◌, ◌⊎◌, inl, inr, List, [], ◌∷◌, ◌++◌, ◌∙◌, Some, map, length, slice_get, get_or, All, false, IsPermutation, refl, sym, ap, subst, arith}
 use Rattle.std.proofs.Math.ListN.{set}
 use Rattle.std.proofs.lemmas.Bool.{cases_eq}
-use Rattle.std.proofs.lemmas.List.{get_or-set_same, get_or-set_other, length-set}
+use Rattle.std.proofs.lemmas.List.{get_or-set_same, get_or-set_other, length-set, map-append, append_assoc}
 use Rattle.std.proofs.lemmas.Option.{slice_get-get_or, get_or_from_slice_get}
 use Rattle.vlink.specs.declared.message.Message.{Message}
 use Rattle.vlink.specs.declared.note.Note.{Note}
 use Rattle.vlink.specs.declared.note.Row.{Row as Noted}
-use Rattle.virtual_time.specs.Rules.{Rules, rows_of}
+use Rattle.virtual_time.specs.Rules.{Rules, Row, rows_of}
 use Rattle.virtual_time.specs.Lists.{times_in, least, without}
 use Rattle.virtual_time.specs.Simulation.{Simulation, Laws, put}
 use Rattle.virtual_time.specs.OneThread.{OneThread, handle, one}
@@ -55,6 +55,14 @@ started r x actors offers heap rows o p d =
       waiting = λ m. times-permutation r m offers heap p ∙ ap (times_in r m) o.offered;
       rows_are = ap (map seen_row) d;
     }
+
+-- what goes behind the newest rows goes behind all rows
+pub noted-behind : (earlier rows more : List Noted) (noted : List (Row Message Note)) → map seen_row more ≡ map seen_row rows ++ noted →
+    map seen_row (earlier ++ more) ≡ map seen_row (earlier ++ rows) ++ noted
+noted-behind earlier rows more noted e =
+    map-append seen_row earlier more
+    ∙ (ap (λ z. map seen_row earlier ++ z) e
+    ∙ (sym (append_assoc (map seen_row earlier) (map seen_row rows) noted) ∙ ap (λ z. z ++ noted) (sym (map-append seen_row earlier rows))))
 
 module _ {S K : Type 0} (f : Simulation Message S K Note) (L : Laws f) (n : ℕ) (actors : List S) (heap : List Message) (rows : List Noted) (h : StandsAt f n actors heap rows) where
   -- the least of the heap is handled next

@@ -7,6 +7,7 @@ mod networks;
 mod queued;
 mod running;
 mod simulating;
+mod tables;
 mod tops;
 mod waiting;
 
@@ -15,6 +16,7 @@ pub use laws::actor_laws;
 pub use networks::network_laws;
 pub use running::run_actors;
 pub use simulating::{Finished, nodes_of, run};
+pub use tables::run_tables;
 
 #[cfg(test)]
 mod network_tests;

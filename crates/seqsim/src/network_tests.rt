@@ -1,6 +1,6 @@
 //! The tables of networks with more than one switch, virtual link or network. What is expected was worked out by hand, and by
 //! tools/second_opinion.py, which shares nothing with the product.
-use crate::text_tests::texts;
+use crate::text_tests::are_tables;
 use std::alloc::Global;
 use std::test::Fail;
 
@@ -50,11 +50,10 @@ fn tables_are(alloc: Global, parts: &[String], lines: &str) -> Result<bool, Fail
     for part in parts {
         text.push_str(part)?;
     }
-    let (tables, _) = texts(alloc, &text)?;
     let wanted = format!(in alloc;
         "table,vl,where,cause,count,least_ns,greatest_ns,sum_ns\n{lines}"
     )?;
-    Ok(tables.as_slice() == wanted.as_bytes())
+    are_tables(alloc, &text, &wanted)
 }
 
 #[test]

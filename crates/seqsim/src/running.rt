@@ -1,6 +1,7 @@
 //! The run: one message after another.
-ghost use Rattle.std.specs.Prelude.{◌≡◌, [], ℕ, suc, true, false, ◌<◌, ◌≤◌, ◌+◌, ◌++◌, All, length, map, slice_get, Some, Ok, Err, OnOk, OnErr, IfOk, IfErr, IfSome, IfNone};
+ghost use Rattle.std.specs.Prelude.{◌≡◌, [], List, ℕ, suc, true, false, ◌<◌, ◌≤◌, ◌+◌, ◌++◌, All, length, map, slice_get, Some, Ok, Err, OnOk, OnErr, IfOk, IfErr, IfSome, IfNone};
 ghost use Rattle.std.proofs.Math.ListN.{set};
+ghost use Rattle.vlink.specs.declared.note.Row.{Row as Noted};
 ghost use Rattle.vlink.specs.declared.time.TheConstants.{GREATEST_NS};
 ghost use Rattle.vlink.specs.Numbering.{greatest_number};
 ghost use Rattle.virtual_time.specs.Rules.{rows_of};
@@ -80,22 +81,23 @@ fn note_each(rows: &mut Vec<Row>, message: &Message, notes: &[Note]) -> Result<(
     Ok(())
 }
 
-/// The first waiting message, if there is one, is handled by its receiver: what it sends waits, and rows of what it notes go behind the
-/// others. `out` is room for what it sends and notes. The answer is whether there was one.
-fn take_turn<A: Actor>(
+/// The first waiting message, if there is one, is handled by its receiver: what it sends waits, and rows of what it notes go behind
+/// `rows`, which are the newest rows of the run: any may have come before them. `out` is room for what it sends and notes. The answer is
+/// whether there was one.
+pub fn take_turn<A: Actor>(
     actors: &mut [A],
     waiting: &mut Waiting,
     rows: &mut Vec<Row>,
     out: &mut Outbound,
 ) -> Result<bool, SimFault>
-    requires { IsRunning (rules_of A.plain A.counter) actors.old waiting.old rows.old.items }
-    ensures turned { result ≡ Ok true → AtEach (rules_of A.plain A.counter) actors.old waiting.old rows.old.items
-        (λ f n. StandsAt f (suc n) actors.new waiting.new rows.new.items) }
+    requires { (earlier : List Noted) × IsRunning (rules_of A.plain A.counter) actors.old waiting.old (earlier ++ rows.old.items) }
+    ensures turned { result ≡ Ok true → (earlier : List Noted) → AtEach (rules_of A.plain A.counter) actors.old waiting.old (earlier ++ rows.old.items)
+        (λ f n. StandsAt f (suc n) actors.new waiting.new (earlier ++ rows.new.items)) }
     ensures smaller { result ≡ Ok true → load GREATEST_NS waiting.new < load GREATEST_NS waiting.old }
-    ensures over { result ≡ Ok false → AtEach (rules_of A.plain A.counter) actors.old waiting.old rows.old.items
-        (λ f n. StandsAt f n actors.new waiting.new rows.new.items × ((one f n).waiting ≡ [])) }
-    ensures exhausted { result ≡ Err Exhausted → AtEach (rules_of A.plain A.counter) actors.old waiting.old rows.old.items IsExhaustedAt }
-    ensures left { OnErr result (AtEach (rules_of A.plain A.counter) actors.old waiting.old rows.old.items
+    ensures over { result ≡ Ok false → (earlier : List Noted) → AtEach (rules_of A.plain A.counter) actors.old waiting.old (earlier ++ rows.old.items)
+        (λ f n. StandsAt f n actors.new waiting.new (earlier ++ rows.new.items) × ((one f n).waiting ≡ [])) }
+    ensures exhausted { result ≡ Err Exhausted → (earlier : List Noted) → AtEach (rules_of A.plain A.counter) actors.old waiting.old (earlier ++ rows.old.items) IsExhaustedAt }
+    ensures left { OnErr result ((earlier : List Noted) → AtEach (rules_of A.plain A.counter) actors.old waiting.old (earlier ++ rows.old.items)
         (λ f n. AreOnTheWay f actors.new)) }
 {
     let Some(message) = waiting.pop() else {

@@ -1,9 +1,9 @@
 //! The texts of small networks, from the description to the tables and the trace.
-use crate::run;
-use netdesc::read;
+use crate::{run, run_tables};
+use netdesc::{Network, read};
 use std::alloc::Global;
 use std::test::Fail;
-use trace_tables::{Sink, SinkFault, write_csv, write_trace};
+use trace_tables::{Sink, SinkFault, Tables, write_csv, write_trace};
 
 // What the networks of examples/n1.toml and examples/n2.toml have in common.
 const NODES: &str = r#"until_ns = 2000000
@@ -90,21 +90,34 @@ impl Sink for Page {
     }
 }
 
-// The texts of the tables and of the trace of a network.
-pub(crate) fn texts(alloc: Global, description: &str) -> Result<(Vec<u8>, Vec<u8>), Fail> {
+// The text of tables.
+fn tables_text(alloc: Global, network: &Network, tables: &Tables) -> Result<Vec<u8>, Fail> {
+    let mut page = Page {
+        bytes: Vec::new(alloc),
+        failures: 0,
+    };
+    write_csv(alloc, network, tables, &mut page)?;
+    Ok(page.bytes)
+}
+
+// The tables of a network have this text, with rows kept and without.
+pub(crate) fn are_tables(alloc: Global, description: &str, wanted: &str) -> Result<bool, Fail> {
+    let network = read(alloc, description)?;
+    let kept = tables_text(alloc, &network, &run(alloc, &network)?.tables)?;
+    let alone = tables_text(alloc, &network, &run_tables(alloc, &network)?)?;
+    Ok(kept.as_slice() == wanted.as_bytes() && alone.as_slice() == wanted.as_bytes())
+}
+
+// The text of the trace of a network.
+fn trace_of(alloc: Global, description: &str) -> Result<Vec<u8>, Fail> {
     let network = read(alloc, description)?;
     let finished = run(alloc, &network)?;
-    let mut tables = Page {
+    let mut page = Page {
         bytes: Vec::new(alloc),
         failures: 0,
     };
-    write_csv(alloc, &network, &finished.tables, &mut tables)?;
-    let mut trace = Page {
-        bytes: Vec::new(alloc),
-        failures: 0,
-    };
-    write_trace(alloc, &network, &finished.rows, &mut trace)?;
-    Ok((tables.bytes, trace.bytes))
+    write_trace(alloc, &network, &finished.rows, &mut page)?;
+    Ok(page.bytes)
 }
 
 // The network of examples/n1.toml, with one part replaced, and one more at its end.
@@ -116,18 +129,17 @@ fn one_vl(alloc: Global, part: &str, by: &str, end: &str) -> Result<String, Fail
 
 // The tables of that network have this one line, and perhaps another.
 fn tables_are(alloc: Global, part: &str, by: &str, end: &str, lines: &str) -> Result<bool, Fail> {
-    let (tables, _) = texts(alloc, &one_vl(alloc, part, by, end)?)?;
     let wanted = format!(in alloc;
         "table,vl,where,cause,count,least_ns,greatest_ns,sum_ns\n{lines}"
     )?;
-    Ok(tables.as_slice() == wanted.as_bytes())
+    are_tables(alloc, &one_vl(alloc, part, by, end)?, &wanted)
 }
 
 #[test]
 fn one_frame_is_delivered(rt: HostRuntime) -> Result<(), Fail> {
     let lines = "latency,1,ES2,,1,27720,27720,27720\n";
     assert!(rt; tables_are(rt.alloc(), "seed = 42", "seed = 42", "", lines)?);
-    let (_, trace) = texts(
+    let trace = trace_of(
         rt.alloc(),
         &one_vl(rt.alloc(), "seed = 42", "seed = 42", "")?,
     )?;
@@ -161,10 +173,9 @@ fn a_frame_waits_for_its_gap(rt: HostRuntime) -> Result<(), Fail> {
     )?;
     let (before, after) = text.split_once("until_ns = 2000000").ok_or("its end")?;
     let text = format!(in rt.alloc(); "{before}until_ns = 1100000{after}")?;
-    let (tables, _) = texts(rt.alloc(), &text)?;
     let wanted =
         "table,vl,where,cause,count,least_ns,greatest_ns,sum_ns\nlatency,1,ES2,,2,27720,627720,655440\n";
-    assert!(rt; tables.as_slice() == wanted.as_bytes());
+    assert!(rt; are_tables(rt.alloc(), &text, wanted)?);
     Ok(())
 }
 
@@ -178,10 +189,26 @@ fn a_frame_comes_just_at_its_gap(rt: HostRuntime) -> Result<(), Fail> {
     )?;
     let (before, after) = text.split_once("until_ns = 2000000").ok_or("its end")?;
     let text = format!(in rt.alloc(); "{before}until_ns = 1100000{after}")?;
-    let (tables, _) = texts(rt.alloc(), &text)?;
     let wanted =
         "table,vl,where,cause,count,least_ns,greatest_ns,sum_ns\nlatency,1,ES2,,2,27720,27720,55440\n";
-    assert!(rt; tables.as_slice() == wanted.as_bytes());
+    assert!(rt; are_tables(rt.alloc(), &text, wanted)?);
+    Ok(())
+}
+
+#[test]
+fn six_hundred_frames_are_delivered(rt: HostRuntime) -> Result<(), Fail> {
+    // More rows than are kept at a time. The frame that is offered at the end of the run does not arrive.
+    let text = one_vl(
+        rt.alloc(),
+        "period_ns = 1000000000000",
+        "period_ns = 1000000",
+        "",
+    )?;
+    let (before, after) = text.split_once("until_ns = 2000000").ok_or("its end")?;
+    let text = format!(in rt.alloc(); "{before}until_ns = 600000000{after}")?;
+    let wanted =
+        "table,vl,where,cause,count,least_ns,greatest_ns,sum_ns\nlatency,1,ES2,,600,27720,27720,16632000\n";
+    assert!(rt; are_tables(rt.alloc(), &text, wanted)?);
     Ok(())
 }
 
@@ -214,7 +241,6 @@ fn twenty_virtual_links_on_both_networks(rt: HostRuntime) -> Result<(), Fail> {
     for id in 1..=20u64 {
         wanted.push_str(&format!(in rt.alloc(); "dropped,{id},ES2,duplicate,1,,,\n")?)?;
     }
-    let (tables, _) = texts(rt.alloc(), &text)?;
-    assert!(rt; tables.as_slice() == wanted.as_bytes());
+    assert!(rt; are_tables(rt.alloc(), &text, &wanted)?);
     Ok(())
 }

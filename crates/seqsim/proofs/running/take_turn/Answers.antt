@@ -3,25 +3,26 @@ use Rattle.vlink.specs.declared.message.Message.{Message}
 use Rattle.vlink.specs.declared.time.TheConstants.{GREATEST_NS}
 use Rattle.reverse.specs.Rules.{rules_of}
 use Rattle.seqsim.specs.Running.{simulation_of, StandsAt}
-use Rattle.seqsim.proofs.Turning.{over, is_next, receiver_is, receiver_within, states_after, turned}
+use Rattle.seqsim.proofs.Turning.{over, is_next, receiver_is, receiver_within, states_after, noted-behind, turned}
 use Rattle.seqsim.proofs.Errors.{after-error}
 use Rattle.seqsim.proofs.Loading.{load-falls}
 use Rattle.seqsim.proofs.running.take_turn.Goals as goal
 
 pub returns-in_default-clause-over : goal.returns-in_default-clause-over
-returns-in_default-clause-over g c = λ e x L n h.
+returns-in_default-clause-over g c = λ e earlier x L n h.
     let f = simulation_of (rules_of g.A.Reversible.plain g.A.Actor.counter) x in (
-      subst (λ (heap : List Message). StandsAt f n c.args.actors.now heap c.args.rows.now.items) (sym c.in_default.ensures.unchanged) h,
+      subst (λ (heap : List Message). StandsAt f n c.args.actors.now heap (earlier ++ c.args.rows.now.items)) (sym c.in_default.ensures.unchanged) h,
       over f L n _ _ _ h c.in_default.ensures.none,
     )
 
 pub act-requires : goal.act-requires
 act-requires g c =
-    let f = simulation_of (rules_of g.A.Reversible.plain g.A.Actor.counter) c.requires.0 in
-    receiver_within f c.requires.1 c.requires.2 _ _ _ c.requires.3 c.in-Some.message c.pop.new.self c.in-Some.ensures.one c.in-Some.ensures.first
+    let now = c.requires.1 in
+    let f = simulation_of (rules_of g.A.Reversible.plain g.A.Actor.counter) now.0 in
+    receiver_within f now.1 now.2 _ _ _ now.3 c.in-Some.message c.pop.new.self c.in-Some.ensures.one c.in-Some.ensures.first
 
 pub returns-then-not-act-clause-exhausted : goal.returns-then-not-act-clause-exhausted
-returns-then-not-act-clause-exhausted g c = λ e x L n h.
+returns-then-not-act-clause-exhausted g c = λ e earlier x L n h.
     let f = simulation_of (rules_of g.A.Reversible.plain g.A.Actor.counter) x in (
       c.in-Some.message,
       is_next f L n _ _ _ h c.in-Some.message c.pop.new.self c.in-Some.ensures.one c.in-Some.ensures.first,
@@ -29,7 +30,7 @@ returns-then-not-act-clause-exhausted g c = λ e x L n h.
     )
 
 pub returns-in_err-push_all-clause-left : goal.returns-in_err-push_all-clause-left
-returns-in_err-push_all-clause-left g c = after-error (λ x L n h.
+returns-in_err-push_all-clause-left g c = after-error (λ earlier x L n h.
     let f = simulation_of (rules_of g.A.Reversible.plain g.A.Actor.counter) x in
     let r = receiver_is f L n _ _ _ h c.in-Some.message c.pop.new.self c.in-Some.ensures.one c.in-Some.ensures.first in (
       suc n,
@@ -38,7 +39,7 @@ returns-in_err-push_all-clause-left g c = after-error (λ x L n h.
     c.from_residual.result
 
 pub returns-in_err-note_all-clause-left : goal.returns-in_err-note_all-clause-left
-returns-in_err-note_all-clause-left g c = after-error (λ x L n h.
+returns-in_err-note_all-clause-left g c = after-error (λ earlier x L n h.
     let f = simulation_of (rules_of g.A.Reversible.plain g.A.Actor.counter) x in
     let r = receiver_is f L n _ _ _ h c.in-Some.message c.pop.new.self c.in-Some.ensures.one c.in-Some.ensures.first in (
       suc n,
@@ -47,16 +48,16 @@ returns-in_err-note_all-clause-left g c = after-error (λ x L n h.
     c.from_residual-in_err-note_all.result
 
 pub returns-clause-turned : goal.returns-clause-turned
-returns-clause-turned g c = λ e x L n h.
+returns-clause-turned g c = λ e earlier x L n h.
     let f = simulation_of (rules_of g.A.Reversible.plain g.A.Actor.counter) x in
     let r = receiver_is f L n _ _ _ h c.in-Some.message c.pop.new.self c.in-Some.ensures.one c.in-Some.ensures.first in
     turned f L n _ _ _ h c.in-Some.message c.pop.new.self c.in-Some.ensures.one c.in-Some.ensures.first
-    c.act.new.actors c.messages.result.now c.notes.result.now c.push_all.new.self c.note_all.new.rows.items
+    c.act.new.actors c.messages.result.now c.notes.result.now c.push_all.new.self (earlier ++ c.note_all.new.rows.items)
     (c.if-not-act.ensures.state refl _ r)
     (c.messages.ensures.messages ∙ c.if-not-act.ensures.messages refl _ r)
     (c.notes.ensures.notes ∙ c.if-not-act.ensures.notes refl _ r)
     c.in_ok-push_all.ensures.more
-    c.in_ok-note_all.ensures.noted
+    (noted-behind earlier c.args.rows.now.items c.note_all.new.rows.items _ c.in_ok-note_all.ensures.noted)
 
 pub returns-clause-smaller : goal.returns-clause-smaller
 returns-clause-smaller g c = λ e.

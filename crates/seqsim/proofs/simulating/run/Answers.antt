@@ -1,24 +1,9 @@
-use Rattle.std.proofs.Common.{◌≡◌, ◌∙◌, Err, List, sym, subst}
+use Rattle.std.proofs.Common.{◌≡◌, Err}
 use Rattle.std.proofs.lemmas.Result.{err_from_is_err_and}
-use Rattle.vlink.specs.declared.message.Message.{Message}
-use Rattle.netdesc.specs.Faults.{process_count}
-use Rattle.netdesc.specs.Plan.{Plan}
-use Rattle.traffic.specs.Offers.{offers_of}
-use Rattle.nodes.specs.Node.{NodeState}
-use Rattle.nodes.specs.Opening.{opening}
 use Rattle.seqsim.specs.declared.fault.SimFault.TheVariants.{Exhausted}
-use Rattle.seqsim.specs.Running.{AreInStates, Opens}
 use Rattle.seqsim.specs.Networks.{setting_of}
+use Rattle.seqsim.proofs.NetworkLemmas.{opened}
 use Rattle.seqsim.proofs.simulating.run.Goals as goal
-
--- the processes of the network open its simulation, from its offers on
-opened : (plan : Plan) (made seen : List NodeState) (offered sent : List Message) → seen ≡ made → sent ≡ offered →
-    AreInStates (process_count plan) (opening plan) made → offered ≡ offers_of plan → Opens (setting_of plan) seen sent
-opened plan made seen offered sent d e nodes offers =
-    record {
-      actors_open = subst (AreInStates (process_count plan) (opening plan)) (sym d) nodes;
-      offered = e ∙ offers;
-    }
 
 pub run_actors-requires : goal.run_actors-requires
 run_actors-requires c = (
