@@ -13,20 +13,20 @@ use crate::fault::StepFault;
 use crate::laws::{layout, world_laws};
 use crate::world::World;
 use std::alloc::{AllocError, Global};
-use trace_tables::{Tables, tables_by_place};
-use vlink::Row;
+use trace_tables::{Tables, TablesSoFar, tables_by_place};
 
 impl World {
-    /// The rows of all committed events, those of one process behind those of another.
-    fn committed_rows(&self, alloc: Global) -> Result<Vec<Row>, AllocError>
-        ensures { IfOk result (λ rows. (steps : List Stepped) → IsAfter self.now steps → AreCommittedRows self.now.plan steps rows.items) }
+    /// The tables of the rows of all committed events, counted process by process.
+    fn committed_tables(&self, alloc: Global) -> Result<Tables, AllocError>
+        ensures { IfOk result (λ tables. (rows : List Noted) × (tables ≡ tables_of self.now.plan rows) ×
+            ((steps : List Stepped) → IsAfter self.now steps → AreCommittedRows self.now.plan steps rows)) }
     {
         layout(&self.network);
-        let mut rows = Vec::new(alloc);
+        let mut tables = TablesSoFar::none(alloc, &self.network)?;
         for process in 0..self.network.process_count() {
-            rows.extend_from_slice(self.actors.sealed(process as u32))?;
+            tables.count(&self.network, self.actors.sealed(process as u32))?;
         }
-        Ok(rows)
+        tables.tables(&self.network)
     }
 
     /// The tables of the committed events. In a finished world they are those of the one-thread run. It fails only where memory is
@@ -43,7 +43,6 @@ impl World {
         layout(&self.network);
         world_laws(&self.network);
         tables_by_place();
-        let rows = self.committed_rows(alloc)?;
-        Ok(Tables::of(alloc, &self.network, &rows)?)
+        Ok(self.committed_tables(alloc)?)
     }
 }

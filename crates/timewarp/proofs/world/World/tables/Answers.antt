@@ -1,10 +1,9 @@
-use Rattle.std.proofs.Common.{◌∙◌, List, sym, ap, subst}
+use Rattle.std.proofs.Common.{◌∙◌, List, sym, subst}
 use Rattle.vlink.specs.declared.note.Row.{Row as Noted}
 use Rattle.virtual_time.specs.Simulation.{Laws}
 use Rattle.virtual_time.specs.Safe.{IsFinished, IsWhole}
 use Rattle.virtual_time.specs.World.{Step}
 use Rattle.nodes.specs.Simulation.{simulation_of}
-use Rattle.trace_tables.specs.Tables.{tables_of}
 use Rattle.seqsim.specs.Networks.{AreRowsOf}
 use Rattle.timewarp.specs.Networks.{NetworkWorld, after, AreCommittedRows}
 use Rattle.timewarp.proofs.CommittedRows.{rows-whole, same-at}
@@ -22,11 +21,13 @@ whole w L law steps d rows r = rows-whole (simulation_of w.plan) L steps (law st
 pub returns-clause-sealed : goal.returns-clause-sealed
 returns-clause-sealed c = λ steps h rows a.
     let plan = c.args.self.now.plan in
-    let found = c.in_ok-rows.rows.items in
-    c.in_ok-of.ensures ∙
-    (ap (λ (w : NetworkWorld). tables_of w.plan c.deref.result.now) c.self.view_is ∙
-    (ap (tables_of plan) c.deref.ensures.value ∙
-    c.tables_by_place.ensures.by_place plan found rows (same-at (simulation_of plan) found rows (λ p. c.in_ok-rows.ensures steps h p ∙ sym (a p)))))
+    let found = c.in_ok-committed_tables.ensures in
+    found.1 ∙ c.tables_by_place.ensures.by_place plan found.0 rows (same-at (simulation_of plan) found.0 rows (λ p. found.2 steps h p ∙ sym (a p)))
+
+pub returns-clause-rows : goal.returns-clause-rows
+returns-clause-rows c = λ steps h.
+    let found = c.in_ok-committed_tables.ensures in
+    (found.0, found.2 steps h)
 
 pub returns-clause-whole : goal.returns-clause-whole
 returns-clause-whole c = λ steps h d rows r.
