@@ -7,7 +7,7 @@ use crate::fault::Fault;
 use crate::host::Host;
 use crate::reading::network_of;
 use netdesc::Network;
-use seqsim::{Finished, run};
+use seqsim::{run, run_tables};
 use std::alloc::Global;
 use std::mem::forget;
 use trace_tables::{OutFault, Sink, Tables, write_csv, write_trace};
@@ -60,8 +60,31 @@ fn keep_trace<'a, H: Host>(
     }
 }
 
+/// Simulates the network on one thread, and writes its tables on standard output.
+fn run_to_tables<H: Host>(
+    alloc: Global,
+    network: &Network,
+    host: &mut H,
+) -> Result<(), Fault<'static>> {
+    let tables = run_tables(alloc, network)?;
+    show_tables(alloc, network, &tables, host.output())
+}
+
+/// Simulates the network on one thread, makes the file with this path and writes the trace into it, and then writes the tables on standard
+/// output.
+fn run_to_trace<'a, H: Host>(
+    alloc: Global,
+    network: &Network,
+    path: &'a str,
+    host: &mut H,
+) -> Result<(), Fault<'a>> {
+    let finished = run(alloc, network)?;
+    keep_trace(alloc, network, finished.rows.as_slice(), path, host)?;
+    show_tables(alloc, network, &finished.tables, host.output())
+}
+
 /// Simulates the network whose description is the file with this path, on one thread. Then the trace goes into its file, if one is
-/// asked for, and then the tables go to standard output.
+/// asked for, and then the tables go to standard output. Where no trace is asked for, the rows are not kept.
 pub fn seq<'a, H: Host>(
     alloc: Global,
     net: &'a str,
@@ -69,11 +92,10 @@ pub fn seq<'a, H: Host>(
     host: &mut H,
 ) -> Result<(), Fault<'a>> {
     let network = network_of(alloc, net, host)?;
-    let finished = run(alloc, &network)?;
-    if let Some(path) = trace {
-        keep_trace(alloc, &network, finished.rows.as_slice(), path, host)?;
-    }
-    let shown = show_tables(alloc, &network, &finished.tables, host.output());
+    let shown = match trace {
+        Some(path) => run_to_trace(alloc, &network, path, host),
+        None => run_to_tables(alloc, &network, host),
+    };
     // The process ends here, and the system takes the network at once.
     forget(network);
     shown
