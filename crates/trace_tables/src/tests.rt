@@ -212,10 +212,10 @@ fn rows_that_come_in_parts(rt: HostRuntime) -> Result<(), Fail> {
     let all = rows(&rt);
     let rows = &all[..];
     let mut tables = TablesSoFar::none(rt.alloc(), &network)?;
-    tables.count(&network, &rows[..3])?;
+    let third = rows.len() / 3;
+    tables.count(&network, &rows[..third])?;
     tables.count(&network, &[])?;
-    tables.count(&network, &rows[3..7])?;
-    tables.count(&network, &rows[7..])?;
+    tables.count(&network, &rows[third..])?;
     let mut spool = make_spool(rt.alloc(), 4096, 100);
     write_csv(rt.alloc(), &network, &tables.tables(&network)?, &mut spool)?;
     assert!(rt; holds(&spool, TABLES));
