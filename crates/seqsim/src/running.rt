@@ -84,7 +84,7 @@ fn note_each(rows: &mut Vec<Row>, message: &Message, notes: &[Note]) -> Result<(
 /// The first waiting message, if there is one, is handled by its receiver: what it sends waits, and rows of what it notes go behind
 /// `rows`, which are the newest rows of the run: any may have come before them. `out` is room for what it sends and notes. The answer is
 /// whether there was one.
-pub fn take_turn<A: Actor>(
+fn take_turn<A: Actor>(
     actors: &mut [A],
     waiting: &mut Waiting,
     rows: &mut Vec<Row>,
@@ -111,6 +111,35 @@ pub fn take_turn<A: Actor>(
     Ok(true)
 }
 
+/// Messages are handled, one after another, until there are `most` rows or no message waits. The answer is whether one may wait still. It is
+/// one function for those who keep all rows and those who do not, and all that one turn does becomes a part of it.
+#[inline(never)]
+pub fn take_turns<A: Actor>(
+    actors: &mut [A],
+    waiting: &mut Waiting,
+    rows: &mut Vec<Row>,
+    out: &mut Outbound,
+    most: usize,
+) -> Result<bool, SimFault>
+    requires { (earlier : List Noted) × IsRunning (rules_of A.plain A.counter) actors.old waiting.old (earlier ++ rows.old.items) }
+    ensures turned { result ≡ Ok true → (earlier : List Noted) → AtEach (rules_of A.plain A.counter) actors.old waiting.old (earlier ++ rows.old.items)
+        (λ f n. (k : ℕ) × StandsAt f k actors.new waiting.new (earlier ++ rows.new.items)) }
+    ensures smaller { result ≡ Ok true → load GREATEST_NS waiting.new < load GREATEST_NS waiting.old }
+    ensures over { result ≡ Ok false → (earlier : List Noted) → AtEach (rules_of A.plain A.counter) actors.old waiting.old (earlier ++ rows.old.items)
+        (λ f n. (k : ℕ) × StandsAt f k actors.new waiting.new (earlier ++ rows.new.items) × ((one f k).waiting ≡ [])) }
+    ensures exhausted { result ≡ Err Exhausted → (earlier : List Noted) → AtEach (rules_of A.plain A.counter) actors.old waiting.old (earlier ++ rows.old.items)
+        (λ f n. (k : ℕ) × IsExhaustedAt f k) }
+    ensures left { OnErr result ((earlier : List Noted) → AtEach (rules_of A.plain A.counter) actors.old waiting.old (earlier ++ rows.old.items)
+        (λ f n. AreOnTheWay f actors.new)) }
+{
+    'turns: while take_turn(actors, waiting, rows, out)? {
+        if rows.len() >= most {
+            return Ok(true);
+        }
+    }
+    Ok(false)
+}
+
 /// The messages are handled, one after another, until none waits.
 fn take_all_turns<A: Actor>(
     actors: &mut [A],
@@ -126,7 +155,7 @@ fn take_all_turns<A: Actor>(
         (λ f n. AreOnTheWay f actors.new)) }
 {
     let mut out = Outbound::new(0, Time::default(), 0);
-    'turns: while take_turn(actors, waiting, rows, &mut out)? {}
+    'turns: while take_turns(actors, waiting, rows, &mut out, usize::MAX)? {}
     Ok(())
 }
 

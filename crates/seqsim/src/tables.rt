@@ -10,7 +10,7 @@ ghost use Rattle.seqsim.specs.Networks.{AreRowsOf};
 
 use crate::fault::SimFault;
 use crate::networks::network_laws;
-use crate::running::take_turn;
+use crate::running::take_turns;
 use crate::simulating::nodes_of;
 use crate::waiting::Waiting;
 use netdesc::Network;
@@ -24,7 +24,7 @@ use vlink::{Row, Time};
 /// So many rows are kept before they are counted. They take some 20 kB, and stay in the fastest memory.
 const BLOCK: usize = 256;
 
-/// The rows are counted once there is a block of them. Then their room is used for later ones.
+/// The rows are counted, and their room is used for later ones.
 fn count_block(
     tables: &mut TablesSoFar,
     network: &Network,
@@ -34,9 +34,6 @@ fn count_block(
     ensures { OnOk result ((earlier : List Noted) → IsSoFar network.now tables.old earlier →
         (later : List Noted) × IsSoFar network.now tables.new later × (later ++ rows.new.items ≡ earlier ++ rows.old.items)) }
 {
-    if rows.len() < BLOCK {
-        return Ok(());
-    }
     tables.count(network, rows.as_slice())?;
     rows.clear();
     Ok(())
@@ -57,7 +54,7 @@ fn count_all_turns(
     let mut tables = TablesSoFar::none(alloc, network)?;
     let mut rows = Vec::new(alloc);
     let mut out = Outbound::new(0, Time::default(), 0);
-    'turns: while take_turn(nodes, waiting, &mut rows, &mut out)? {
+    'turns: while take_turns(nodes, waiting, &mut rows, &mut out, BLOCK)? {
         count_block(&mut tables, network, &mut rows)?;
     }
     let last = rows.as_slice();
