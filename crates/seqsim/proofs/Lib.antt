@@ -6,3 +6,5 @@ pub mod NetworkLemmas
 pub mod Waits
 pub mod StatesLemmas
 pub mod RowLemmas
+pub mod Keys
+pub mod Naming

@@ -2,3 +2,4 @@ pub mod Running
 pub mod Load
 pub mod Networks
 pub mod Tops
+pub mod Keys

@@ -1,52 +1,161 @@
 //! A message in a heap, whose greatest element comes out first: so the earlier message is the greater one.
-ghost use Rattle.std.proofs.Common.{◌∙◌};
-ghost use Rattle.std.specs.Cmp.{on_per, on_equiv, on_po, on_total, back_po, back_total};
-ghost use Rattle.vlink.specs.contracts.message.MessagePartialEq.TheImpl.Laws as message_eq;
-ghost use Rattle.vlink.specs.contracts.message.MessageEq.TheImpl.Laws as message_equiv;
-ghost use Rattle.vlink.specs.contracts.message.MessagePartialOrd.TheImpl.Laws as message_partial;
-ghost use Rattle.vlink.specs.contracts.message.MessageOrd.TheImpl.Laws as message_total;
+ghost use Rattle.std.specs.Prelude.{◌≡◌, ◌+◌, ◌*◌, ◌/◌, ◌%◌, ◌<◌, ◌≤◌, Some, IfSome, nat_eq, refl};
+ghost use Rattle.std.proofs.Common.{rules};
+ghost use Rattle.std.specs.Cmp.{on_equiv, on_po, on_total, back_po, back_total, nat_eq_equiv, nat_cmp_total, unsigned_po, partial_equiv_from_equiv};
+ghost use Rattle.std.specs.Ordering.{nat_cmp};
+ghost use Rattle.vlink.specs.declared.time.TheConstants.{GREATEST_NS};
+ghost use Rattle.seqsim.specs.Keys.{key_of, HasKey};
 
 use std::cmp::Ordering;
-use vlink::{Message, compare};
+use std::marker::Model;
+use vlink::{Body, Message, Time};
 
-/// A message, in the opposite of the order of messages.
-#[derive(Clone, Copy)]
-pub(crate) struct Queued(pub(crate) Message);
+/// A message, in the opposite of the order of messages. Its time, receiver, sender and number lie in two numbers, so that two messages are
+/// compared by one comparison of 128 bits, which takes no branch.
+///
+/// Clauses see it as the message.
+#[derive(Drop)]
+pub(crate) struct Queued {
+    /// The time, and in 16 bits the receiver.
+    place: u64,
+    /// The sender, and in 48 bits the number.
+    name: u64,
+    body: Body,
+}
+
+impl Model for Queued {
+    ghost use Rattle.std.specs.Prelude.{ℕ, ◌/◌, ◌%◌, ◌≤◌};
+    ghost use Rattle.vlink.specs.declared.message.Message.{Message};
+    ghost use Rattle.vlink.specs.declared.time.TheConstants.{GREATEST_NS};
+
+    ghost Value = { Message };
+
+    ghost view = { λ q. record {
+      time = q.place / 65536;
+      receiver = q.place % 65536;
+      sender = q.name / 281474976710656;
+      number = q.name % 281474976710656;
+      body = q.body;
+    } };
+
+    ghost invariant = { λ q. q.place / 65536 ≤ GREATEST_NS };
+}
+
+impl Queued {
+    /// The message, unless its parts are too great for the two numbers.
+    #[inline(always)]
+    pub(crate) fn new(message: &Message) -> Option<Self>
+        ensures message { IfSome result (λ q. q ≡ message.now) }
+        ensures key { IfSome result HasKey }
+    {
+        let Ok(sender) = u16::try_from(message.sender) else {
+            return None
+        };
+        if message.number >= 1 << 48 {
+            return None;
+        }
+        Some(Queued {
+            place: place_of(message.time, message.receiver),
+            name: name_of(sender, message.number),
+            body: message.body,
+        })
+    }
+
+    /// The message that it is.
+    #[inline(always)]
+    pub(crate) fn message(&self) -> Message
+        ensures { result ≡ self.now }
+    {
+        Message {
+            time: Time::new(self.place / 65536).unwrap(),
+            receiver: (self.place % 65536) as u16,
+            sender: sender_in(self.name),
+            number: self.name % 281474976710656,
+            body: self.body,
+        }
+    }
+
+    /// Both numbers as one.
+    #[inline(always)]
+    fn key(&self) -> u128
+        ensures { result ≡ key_of self.now }
+    {
+        both(self.place, self.name)
+    }
+}
+
+/// The time and the receiver in one number.
+#[inline(always)]
+fn place_of(time: Time, receiver: u16) -> u64
+    ensures time { result / 65536 ≡ time }
+    ensures receiver { result % 65536 ≡ receiver }
+    ensures in_16_bits { receiver < 65536 }
+    ensures in_time { time ≤ GREATEST_NS }
+{
+    time.ns() * 65536 + u64::from(receiver)
+}
+
+/// The sender and the number in one number.
+#[inline(always)]
+fn name_of(sender: u16, number: u64) -> u64
+    requires { number < 281474976710656 }
+    ensures sender { result / 281474976710656 ≡ sender }
+    ensures number { result % 281474976710656 ≡ number }
+    ensures in_16_bits { sender < 65536 }
+{
+    u64::from(sender) * 281474976710656 + number
+}
+
+/// The sender in such a number.
+#[inline(always)]
+fn sender_in(name: u64) -> u32
+    ensures { result ≡ name / 281474976710656 }
+{
+    (name / 281474976710656) as u32
+}
+
+/// Both numbers as one.
+#[inline(always)]
+fn both(place: u64, name: u64) -> u128
+    ensures { result ≡ place * 18446744073709551616 + name }
+{
+    u128::from(place) * 18446744073709551616 + u128::from(name)
+}
 
 impl PartialEq for Queued {
-    ghost eq = { λ x y. ⟦<Message as PartialEq>⟧.eq x.0 y.0 };
+    ghost eq = { λ x y. nat_eq (key_of x) (key_of y) };
 
-    ghost laws = { on_per (λ q. q.0) message_eq.laws-law };
+    ghost laws = { partial_equiv_from_equiv (on_equiv key_of nat_eq_equiv) };
 
     fn eq(&self, other: &Self) -> bool {
-        self.0.eq(&other.0)
+        self.key() == other.key()
     }
 }
 
 impl Eq for Queued {
-    ghost laws = { on_equiv (λ q. q.0) message_equiv.laws-law };
+    ghost laws = { on_equiv key_of nat_eq_equiv };
 }
 
 impl PartialOrd for Queued {
-    ghost partial_cmp = { λ x y. ⟦<Message as PartialOrd>⟧.partial_cmp y.0 x.0 };
+    ghost partial_cmp = { λ x y. Some (nat_cmp (key_of y) (key_of x)) };
 
-    ghost laws = { on_po (λ q. q.0) (back_po message_eq.laws-law message_partial.laws-law) };
+    ghost laws = { on_po key_of (back_po (partial_equiv_from_equiv nat_eq_equiv) unsigned_po) };
 
     fn partial_cmp(&self, other: &Self) -> Option<Ordering> {
-        other.0.partial_cmp(&self.0)
+        Some(self.cmp(other))
     }
 }
 
 impl Ord for Queued {
-    ghost cmp = { λ x y. ⟦<Message as Ord>⟧.cmp y.0 x.0 };
+    ghost cmp = { λ x y. nat_cmp (key_of y) (key_of x) };
 
-    ghost total = { on_total (λ q. q.0) (back_total message_total.total-law) };
+    ghost total = { on_total key_of (back_total nat_cmp_total) };
 
-    ghost matches_partial_cmp = { λ x y. message_total.matches_partial_cmp-law y.0 x.0 };
+    ghost matches_partial_cmp = { λ x y. refl };
 
-    ghost matches_eq = { λ x y. message_eq.laws-law.symm x.0 y.0 ∙ message_total.matches_eq-law y.0 x.0 };
+    ghost matches_eq = { Prim.search rules };
 
     fn cmp(&self, other: &Self) -> Ordering {
-        compare(&other.0, &self.0)
+        other.key().cmp(&self.key())
     }
 }

@@ -16,6 +16,7 @@ pub(crate) fn put<T: Ord + Drop>(
     requires { is_top_taken ≡ true → 0 < heap_len heap.old }
     ensures more { OnOk result (IsPermutation (element ∷ left_in is_top_taken (heap_items heap.old)) (heap_items heap.new)) }
     ensures kept { OnErr result (heap_len heap.old ≤ heap_len heap.new) }
+    ensures unchanged { OnErr result (heap_items heap.new ≡ heap_items heap.old) }
     ensures heap_order { IsHeap T.cmp (heap_items heap.old) → IsHeap T.cmp (heap_items heap.new) }
 {
     if is_top_taken {

@@ -3,7 +3,7 @@ use Rattle.vlink.specs.declared.message.Message.{Message}
 use Rattle.vlink.specs.declared.time.TheConstants.{GREATEST_NS}
 use Rattle.reverse.specs.Rules.{rules_of}
 use Rattle.seqsim.specs.Running.{simulation_of, StandsAt}
-use Rattle.seqsim.proofs.Turning.{over, is_next, receiver_is, receiver_within, states_after, noted-behind, turned}
+use Rattle.seqsim.proofs.Turning.{over, is_next, receiver_is, receiver_within, states_after, noted-behind, named, turned}
 use Rattle.seqsim.proofs.Errors.{after-error}
 use Rattle.seqsim.proofs.Loading.{load-falls}
 use Rattle.seqsim.proofs.running.take_turn.Goals as goal
@@ -28,6 +28,14 @@ returns-then-not-act-clause-exhausted g c = λ e earlier x L n h.
       is_next f L n _ _ _ h c.in-Some.message c.pop.new.self c.in-Some.ensures.one c.in-Some.ensures.first,
       c.if-not-act.ensures.exhausted refl _ (receiver_is f L n _ _ _ h c.in-Some.message c.pop.new.self c.in-Some.ensures.one c.in-Some.ensures.first),
     )
+
+pub push_all-requires : goal.push_all-requires
+push_all-requires g c =
+    let at = c.requires.1 in
+    let f = simulation_of (rules_of g.A.Reversible.plain g.A.Actor.counter) at.0 in
+    let r = receiver_is f at.1 at.2 _ _ _ at.3 c.in-Some.message c.pop.new.self c.in-Some.ensures.one c.in-Some.ensures.first in
+    named f at.1 at.2 _ _ _ at.3 c.in-Some.message c.pop.new.self c.in-Some.ensures.one c.in-Some.ensures.first c.messages.result.now
+    (c.messages.ensures.messages ∙ c.if-not-act.ensures.messages refl _ r)
 
 pub returns-in_err-push_all-clause-left : goal.returns-in_err-push_all-clause-left
 returns-in_err-push_all-clause-left g c = after-error (λ earlier x L n h.

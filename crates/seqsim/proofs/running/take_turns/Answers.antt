@@ -1,4 +1,4 @@
-use Rattle.std.proofs.Common.{◌≡◌, suc, true, false, Ok, Err, arith}
+use Rattle.std.proofs.Common.{◌≡◌, suc, true, Ok, Err, arith}
 use Rattle.std.proofs.lemmas.Result.{err_from_is_err_and}
 use Rattle.seqsim.specs.declared.fault.SimFault.TheVariants.{Exhausted}
 use Rattle.seqsim.proofs.Errors.{after-error}

@@ -1,70 +1,124 @@
-use Rattle.std.proofs.Common.{◌≡◌, ◌<◌, ◌-◌, List, [], ◌∷◌, ◌++◌, Option, Some, false, map, length, drop, slice_get, get_or, IsPermutation, IfSome, IfNone, subst, sym, ap, ◌∙◌, refl, rules}
+use Rattle.std.proofs.Common.{◌≡◌, ◌<◌, ◌-◌, List, [], ◌∷◌, ◌++◌, Option, Some, true, false, length, drop, vec_len, Vec, Global, slice_get, get_or, IsPermutation, IfSome, IfNone, subst, sym, refl, rules, arith}
 use Rattle.std.specs.Prelude.{IsSomeAnd}
 use Rattle.std.specs.BinaryHeap.{heap_items}
-use Rattle.std.proofs.lemmas.List.Sorted.{IsPermutation-sym, All-permutation}
+use Rattle.std.proofs.lemmas.List.Elements.{All-nil, All-drop}
+use Rattle.std.proofs.lemmas.List.Sorted.{IsPermutation-append_left, All-permutation}
+use Rattle.std.proofs.lemmas.Option.{slice_get_within}
 use Rattle.vlink.specs.declared.message.Message.{Message}
 use Rattle.reverse.specs.Rules.{is_before}
-use Rattle.seqsim.specs.Tops.{left_in}
-use Rattle.seqsim.proofs.Waits.{NoneBefore, first-of, in-order, taken-out, top-out, none-in, none-left, offer-first, sent-first}
+use Rattle.seqsim.specs.Keys.{HasKey}
+use Rattle.seqsim.proofs.Keys.{named-permutation, named-drop}
+use Rattle.seqsim.proofs.Waits.{NoneBefore, taken-out, top-out, none-waited, none-waits, before-sent, falling-front, listed-first, sent-first}
 use Rattle.seqsim.proofs.waiting.Waiting.pop.Goals as goal
 
-pub returns-then-is_offer_first-clause-one : goal.returns-then-is_offer_first-clause-one
-returns-then-is_offer_first-clause-one c =
-    let sent = heap_items c.clear.new.heap in
-    let offers = c.self.inside.offers.items in
-    subst (λ (xs : List Message). IfSome c.pop.result (λ m. IsPermutation xs (m ∷ (map (λ r. r.0) sent ++ c.pop.new.self.items)))) c.self.view_is
-    (taken-out _ (map (λ r. r.0) sent) offers c.pop.new.self.items c.pop.result (in-order _ sent offers c.clear.ensures.left) c.pop.ensures.items)
+-- the last of a vector, in the words of its list
+value-at : (v : Vec Message Global) (taken : Option Message) → ((d : Message) → 0 < vec_len v → taken ≡ Some (get_or v.items (vec_len v - 1) d)) →
+    (d : Message) → 0 < length v.items → taken ≡ Some (get_or v.items (length v.items - 1) d)
+value-at v taken h =
+    let same : vec_len v ≡ length v.items = omega (arith, v.ok.0) in
+    subst (λ n. (d : Message) → 0 < n → taken ≡ Some (get_or v.items (n - 1) d)) same h
 
-pub returns-then-is_offer_first-clause-first : goal.returns-then-is_offer_first-clause-first
-returns-then-is_offer_first-clause-first c =
+pub first_sent-requires-clause-keyed : goal.first_sent-requires-clause-keyed
+first_sent-requires-clause-keyed c = All-permutation HasKey _ _ c.clear.ensures.left c.self.inside.keyed
+
+pub first_sent-requires-clause-named : goal.first_sent-requires-clause-named
+first_sent-requires-clause-named c = named-permutation _ _ c.clear.ensures.left c.self.inside.named
+
+pub returns-in_default-clause-one : goal.returns-in_default-clause-one
+returns-in_default-clause-one c =
     let sent = heap_items c.clear.new.heap in
-    let offers = c.self.inside.offers.items in
+    let listed = c.self.inside.listed.items in
+    subst (λ (xs : List Message). IfSome c.pop.result (λ m. IsPermutation xs (m ∷ (sent ++ c.pop.new.self.items)))) c.self.view_is
+    (taken-out _ sent listed c.pop.new.self.items c.pop.result (IsPermutation-append_left listed _ sent c.clear.ensures.left) c.pop.ensures.items)
+
+pub returns-in_default-clause-first : goal.returns-in_default-clause-first
+returns-in_default-clause-first c =
+    let sent = heap_items c.clear.new.heap in
+    let listed = c.self.inside.listed.items in
     subst (λ (xs : List Message). IfSome c.pop.result (λ m. NoneBefore m xs)) c.self.view_is
-    (offer-first c.message_order.ensures.total _ (map (λ r. r.0) sent) offers c.pop.result (in-order _ sent offers c.clear.ensures.left) c.self.inside.falling
-    (subst (λ n. (d : Message) → 0 < n → c.pop.result ≡ Some (get_or offers (n - 1) d)) (sym c.deref.ensures.len ∙ ap length c.deref.ensures.value) c.pop.ensures.value)
-    (subst (λ (xs : List Message). IsSomeAnd (slice_get xs (length xs - 1)) (λ m. NoneBefore m (map (λ r. r.0) sent))) c.deref.ensures.value (c.if-is_offer_first.ensures.offer refl)))
+    (listed-first c.message_order.ensures.total _ sent listed c.pop.result (IsPermutation-append_left listed _ sent c.clear.ensures.left) c.self.inside.falling
+    (λ s. let n = c.pop.ensures.variant.0 s in omega (arith, n, c.self.inside.listed.ok.0)) (value-at c.self.inside.listed c.pop.result c.pop.ensures.value)
+    (λ m e. subst (NoneBefore m) (sym c.in_default.ensures.none) (All-nil (λ x. is_before x m ≡ false))))
 
--- neither an offer nor what was sent is left
-nothing : (c : goal.After-from_residual) → map (λ r. r.0) (heap_items c.clear.new.heap) ++ c.self.inside.offers.items ≡ []
-nothing c =
+pub returns-in_default-clause-none : goal.returns-in_default-clause-none
+returns-in_default-clause-none c =
     let sent = heap_items c.clear.new.heap in
-    let none_sent : length sent ≡ 0 = search rules in
-    none-left sent c.self.inside.offers.items (λ m x. is_before m x.0 ≡ false) none_sent
-    (subst (λ (xs : List Message). IfSome (slice_get xs (length xs - 1)) (λ m. IsSomeAnd (slice_get sent 0) (λ x. is_before m x.0 ≡ false))) c.deref.ensures.value (c.if-is_offer_first.ensures.other refl))
+    let listed = c.self.inside.listed.items in
+    subst (λ (xs : List Message). IfNone c.pop.result (xs ≡ [])) c.self.view_is
+    (none-waited _ sent listed c.pop.result (IsPermutation-append_left listed _ sent c.clear.ensures.left) c.in_default.ensures.none (value-at c.self.inside.listed c.pop.result c.pop.ensures.value))
 
--- nothing waited
-nothing-waited : (c : goal.After-from_residual) → c.args.self.now ≡ []
-nothing-waited c =
-    let left = map (λ r. r.0) (left_in c.self.inside.is_top_taken (heap_items c.self.inside.heap)) ++ c.self.inside.offers.items in
-    sym c.self.view_is ∙ none-in left
-    (subst (λ (xs : List Message). IsPermutation left xs) (nothing c) (in-order _ (heap_items c.clear.new.heap) c.self.inside.offers.items c.clear.ensures.left))
+pub returns-in_default-clause-unchanged : goal.returns-in_default-clause-unchanged
+returns-in_default-clause-unchanged c =
+    let sent = heap_items c.clear.new.heap in
+    let listed = c.self.inside.listed.items in
+    subst (λ (xs : List Message). IfNone c.pop.result (sent ++ c.pop.new.self.items ≡ xs)) c.self.view_is
+    (none-waits _ sent listed c.pop.new.self.items c.pop.result (IsPermutation-append_left listed _ sent c.clear.ensures.left) c.in_default.ensures.none
+    (value-at c.self.inside.listed c.pop.result c.pop.ensures.value) c.pop.ensures.items)
 
-pub returns-in_err-top-clause-none : goal.returns-in_err-top-clause-none
-returns-in_err-top-clause-none c =
-    subst (λ (o : Option Message). IfNone o (c.args.self.now ≡ [])) (sym c.from_residual.ensures) (nothing-waited c)
+pub invariant_of-self-inside-then-is_listed_first : goal.invariant_of-self-inside-then-is_listed_first
+invariant_of-self-inside-then-is_listed_first c =
+    let items = c.pop-then-is_listed_first.ensures.items in (
+      falling-front _ _ _ items c.self.inside.falling,
+      (
+        c.clear.ensures.heap_order c.self.inside.ordered,
+        (
+          (λ e. search rules),
+          (
+            All-permutation HasKey _ _ c.clear.ensures.left c.self.inside.keyed,
+            (named-permutation _ _ c.clear.ensures.left c.self.inside.named, _),
+          ),
+        ),
+      ),
+    )
 
-pub returns-in_err-top-clause-unchanged : goal.returns-in_err-top-clause-unchanged
-returns-in_err-top-clause-unchanged c =
-    let sent = map (λ r. r.0) (heap_items c.clear.new.heap) in
-    subst (λ (o : Option Message). IfNone o (sent ++ c.self.inside.offers.items ≡ c.args.self.now)) (sym c.from_residual.ensures)
-    (nothing c ∙ sym (nothing-waited c))
+pub returns-then-is_listed_first-clause-one : goal.returns-then-is_listed_first-clause-one
+returns-then-is_listed_first-clause-one c =
+    let sent = heap_items c.clear.new.heap in
+    let listed = c.self.inside.listed.items in
+    subst (λ (xs : List Message). IfSome c.pop-then-is_listed_first.result (λ m. IsPermutation xs (m ∷ (sent ++ c.pop-then-is_listed_first.new.self.items)))) c.self.view_is
+    (taken-out _ sent listed c.pop-then-is_listed_first.new.self.items c.pop-then-is_listed_first.result (IsPermutation-append_left listed _ sent c.clear.ensures.left)
+    c.pop-then-is_listed_first.ensures.items)
+
+pub returns-then-is_listed_first-clause-first : goal.returns-then-is_listed_first-clause-first
+returns-then-is_listed_first-clause-first c =
+    let sent = heap_items c.clear.new.heap in
+    let listed = c.self.inside.listed.items in
+    let total = c.message_order.ensures.total in
+    subst (λ (xs : List Message). IfSome c.pop-then-is_listed_first.result (λ m. NoneBefore m xs)) c.self.view_is
+    (listed-first total _ sent listed c.pop-then-is_listed_first.result (IsPermutation-append_left listed _ sent c.clear.ensures.left) c.self.inside.falling
+    (λ s. let n = c.pop-then-is_listed_first.ensures.variant.0 s in omega (arith, n, c.self.inside.listed.ok.0)) (value-at c.self.inside.listed c.pop-then-is_listed_first.result c.pop-then-is_listed_first.ensures.value)
+    (before-sent total sent c.in-Some.sent (slice_get listed (length listed - 1)) c.in-Some.ensures.first
+    (subst (λ (xs : List Message). IsSomeAnd (slice_get xs (length xs - 1)) (λ m. is_before m c.in-Some.sent ≡ true)) c.deref.ensures.value (c.if-is_listed_first.ensures.listed refl))))
+
+pub invariant_of-self-inside-2 : goal.invariant_of-self-inside-2
+invariant_of-self-inside-2 c =
+    let sent = heap_items c.clear.new.heap in
+    let within : 0 < length sent = slice_get_within sent 0 c.in-Some.sent c.in-Some.ensures.top in (
+      c.self.inside.falling,
+      (
+        c.clear.ensures.heap_order c.self.inside.ordered,
+        (
+          (λ e. search (rules, within)),
+          (
+            All-drop HasKey 1 sent (All-permutation HasKey _ _ c.clear.ensures.left c.self.inside.keyed),
+            (named-drop 1 sent (named-permutation _ _ c.clear.ensures.left c.self.inside.named), _),
+          ),
+        ),
+      ),
+    )
 
 pub returns-clause-one : goal.returns-clause-one
 returns-clause-one c =
     let sent = heap_items c.clear.new.heap in
-    let offers = c.self.inside.offers.items in
-    let some_sent : 0 < length sent = search rules in
-    subst (λ (xs : List Message). IsPermutation xs (c.in_ok-top.top.now.0 ∷ (map (λ r. r.0) (drop 1 sent) ++ offers))) c.self.view_is
-    (top-out _ sent offers c.in_ok-top.top.now some_sent c.in_ok-top.ensures.lookup (in-order _ sent offers c.clear.ensures.left))
+    let listed = c.self.inside.listed.items in
+    subst (λ (xs : List Message). IsPermutation xs (c.in-Some.sent ∷ (drop 1 sent ++ listed))) c.self.view_is
+    (top-out _ sent listed c.in-Some.sent c.in-Some.ensures.top (IsPermutation-append_left listed _ sent c.clear.ensures.left))
 
 pub returns-clause-first : goal.returns-clause-first
 returns-clause-first c =
     let sent = heap_items c.clear.new.heap in
-    let offers = c.self.inside.offers.items in
-    let top = c.in_ok-top.top.now in
-    let left = in-order _ sent offers c.clear.ensures.left in
-    subst (NoneBefore top.0) c.self.view_is
-    (All-permutation (λ x. is_before x top.0 ≡ false) (map (λ r. r.0) sent ++ offers) _ (IsPermutation-sym _ (map (λ r. r.0) sent ++ offers) left)
-    (sent-first c.message_order.ensures.total sent offers top c.self.inside.falling c.in_ok-top.ensures.lookup
-    (first-of _ c.message_order.ensures.written top.0 _ (c.in_ok-top.ensures.greatest (c.clear.ensures.heap_order c.self.inside.ordered)))
-    (subst (λ (xs : List Message). IfSome (slice_get xs (length xs - 1)) (λ m. IsSomeAnd (slice_get sent 0) (λ x. is_before m x.0 ≡ false))) c.deref.ensures.value (c.if-is_offer_first.ensures.other refl))))
+    let listed = c.self.inside.listed.items in
+    subst (NoneBefore c.in-Some.sent) c.self.view_is
+    (sent-first c.message_order.ensures.total _ sent listed c.in-Some.sent (IsPermutation-append_left listed _ sent c.clear.ensures.left) c.self.inside.falling
+    c.in-Some.ensures.first
+    (subst (λ (xs : List Message). IfSome (slice_get xs (length xs - 1)) (λ x. is_before x c.in-Some.sent ≡ false)) c.deref.ensures.value (c.if-is_listed_first.ensures.sent refl)))
