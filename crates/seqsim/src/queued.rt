@@ -61,18 +61,16 @@ impl Queued {
         })
     }
 
-    /// The message that it is.
+    /// Makes the message what it is. Each part is written where it belongs, so that no whole message is copied.
     #[inline(always)]
-    pub(crate) fn message(&self) -> Message
-        ensures { result ≡ self.now }
+    pub(crate) fn write_to(&self, message: &mut Message)
+        ensures { message.new ≡ self.now }
     {
-        Message {
-            time: Time::new(self.place / 65536).unwrap(),
-            receiver: (self.place % 65536) as u16,
-            sender: sender_in(self.name),
-            number: self.name % 281474976710656,
-            body: self.body,
-        }
+        message.time = Time::new(self.place / 65536).unwrap();
+        message.receiver = (self.place % 65536) as u16;
+        message.sender = sender_in(self.name);
+        message.number = self.name % 281474976710656;
+        message.body = self.body;
     }
 
     /// Both numbers as one.

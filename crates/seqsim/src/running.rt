@@ -82,13 +82,14 @@ fn note_each(rows: &mut Vec<Row>, message: &Message, notes: &[Note]) -> Result<(
 }
 
 /// The first waiting message, if there is one, is handled by its receiver: what it sends waits, and rows of what it notes go behind
-/// `rows`, which are the newest rows of the run: any may have come before them. `out` is room for what it sends and notes. The answer is
-/// whether there was one.
+/// `rows`, which are the newest rows of the run: any may have come before them. `message` is room for it, and `out` for what it sends and
+/// notes. The answer is whether there was one.
 fn take_turn<A: Actor>(
     actors: &mut [A],
     waiting: &mut Waiting,
     rows: &mut Vec<Row>,
     out: &mut Outbound,
+    message: &mut Message,
 ) -> Result<bool, SimFault>
     requires { (earlier : List Noted) × IsRunning (rules_of A.plain A.counter) actors.old waiting.old (earlier ++ rows.old.items) }
     ensures turned { result ≡ Ok true → (earlier : List Noted) → AtEach (rules_of A.plain A.counter) actors.old waiting.old (earlier ++ rows.old.items)
@@ -100,14 +101,14 @@ fn take_turn<A: Actor>(
     ensures left { OnErr result ((earlier : List Noted) → AtEach (rules_of A.plain A.counter) actors.old waiting.old (earlier ++ rows.old.items)
         (λ f n. AreOnTheWay f actors.new)) }
 {
-    let Some(message) = waiting.pop() else {
+    if !waiting.pop(message) {
         return Ok(false);
-    };
-    if !act(actors, &message, out) {
+    }
+    if !act(actors, message, out) {
         return Err(SimFault::Exhausted);
     }
     waiting.push_all(out.messages())?;
-    note_all(rows, &message, out.notes())?;
+    note_all(rows, message, out.notes())?;
     Ok(true)
 }
 
@@ -132,7 +133,8 @@ pub fn take_turns<A: Actor>(
     ensures left { OnErr result ((earlier : List Noted) → AtEach (rules_of A.plain A.counter) actors.old waiting.old (earlier ++ rows.old.items)
         (λ f n. AreOnTheWay f actors.new)) }
 {
-    'turns: while take_turn(actors, waiting, rows, out)? {
+    let mut message = Message::default();
+    'turns: while take_turn(actors, waiting, rows, out, &mut message)? {
         if rows.len() >= most {
             return Ok(true);
         }

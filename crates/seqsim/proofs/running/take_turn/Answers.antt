@@ -8,58 +8,58 @@ use Rattle.seqsim.proofs.Errors.{after-error}
 use Rattle.seqsim.proofs.Loading.{load-falls}
 use Rattle.seqsim.proofs.running.take_turn.Goals as goal
 
-pub returns-in_default-clause-over : goal.returns-in_default-clause-over
-returns-in_default-clause-over g c = λ e earlier x L n h.
+pub returns-then-not-pop-clause-over : goal.returns-then-not-pop-clause-over
+returns-then-not-pop-clause-over g c = λ e earlier x L n h.
     let f = simulation_of (rules_of g.A.Reversible.plain g.A.Actor.counter) x in (
-      subst (λ (heap : List Message). StandsAt f n c.args.actors.now heap (earlier ++ c.args.rows.now.items)) (sym c.in_default.ensures.unchanged) h,
-      over f L n _ _ _ h c.in_default.ensures.none,
+      subst (λ (heap : List Message). StandsAt f n c.args.actors.now heap (earlier ++ c.args.rows.now.items)) (sym (c.if-not-pop.ensures.unchanged refl)) h,
+      over f L n _ _ _ h (c.if-not-pop.ensures.none refl),
     )
 
 pub act-requires : goal.act-requires
 act-requires g c =
     let now = c.requires.1 in
     let f = simulation_of (rules_of g.A.Reversible.plain g.A.Actor.counter) now.0 in
-    receiver_within f now.1 now.2 _ _ _ now.3 c.in-Some.message c.pop.new.self c.in-Some.ensures.one c.in-Some.ensures.first
+    receiver_within f now.1 now.2 _ _ _ now.3 c.pop.new.first c.pop.new.self (c.if-not-pop.ensures.one refl) (c.if-not-pop.ensures.first refl)
 
 pub returns-then-not-act-clause-exhausted : goal.returns-then-not-act-clause-exhausted
 returns-then-not-act-clause-exhausted g c = λ e earlier x L n h.
     let f = simulation_of (rules_of g.A.Reversible.plain g.A.Actor.counter) x in (
-      c.in-Some.message,
-      is_next f L n _ _ _ h c.in-Some.message c.pop.new.self c.in-Some.ensures.one c.in-Some.ensures.first,
-      c.if-not-act.ensures.exhausted refl _ (receiver_is f L n _ _ _ h c.in-Some.message c.pop.new.self c.in-Some.ensures.one c.in-Some.ensures.first),
+      c.pop.new.first,
+      is_next f L n _ _ _ h c.pop.new.first c.pop.new.self (c.if-not-pop.ensures.one refl) (c.if-not-pop.ensures.first refl),
+      c.if-not-act.ensures.exhausted refl _ (receiver_is f L n _ _ _ h c.pop.new.first c.pop.new.self (c.if-not-pop.ensures.one refl) (c.if-not-pop.ensures.first refl)),
     )
 
 pub push_all-requires : goal.push_all-requires
 push_all-requires g c =
     let at = c.requires.1 in
     let f = simulation_of (rules_of g.A.Reversible.plain g.A.Actor.counter) at.0 in
-    let r = receiver_is f at.1 at.2 _ _ _ at.3 c.in-Some.message c.pop.new.self c.in-Some.ensures.one c.in-Some.ensures.first in
-    named f at.1 at.2 _ _ _ at.3 c.in-Some.message c.pop.new.self c.in-Some.ensures.one c.in-Some.ensures.first c.messages.result.now
+    let r = receiver_is f at.1 at.2 _ _ _ at.3 c.pop.new.first c.pop.new.self (c.if-not-pop.ensures.one refl) (c.if-not-pop.ensures.first refl) in
+    named f at.1 at.2 _ _ _ at.3 c.pop.new.first c.pop.new.self (c.if-not-pop.ensures.one refl) (c.if-not-pop.ensures.first refl) c.messages.result.now
     (c.messages.ensures.messages ∙ c.if-not-act.ensures.messages refl _ r)
 
 pub returns-in_err-push_all-clause-left : goal.returns-in_err-push_all-clause-left
 returns-in_err-push_all-clause-left g c = after-error (λ earlier x L n h.
     let f = simulation_of (rules_of g.A.Reversible.plain g.A.Actor.counter) x in
-    let r = receiver_is f L n _ _ _ h c.in-Some.message c.pop.new.self c.in-Some.ensures.one c.in-Some.ensures.first in (
+    let r = receiver_is f L n _ _ _ h c.pop.new.first c.pop.new.self (c.if-not-pop.ensures.one refl) (c.if-not-pop.ensures.first refl) in (
       suc n,
-      states_after f L n _ _ _ h c.in-Some.message c.pop.new.self c.in-Some.ensures.one c.in-Some.ensures.first c.act.new.actors (c.if-not-act.ensures.state refl _ r),
+      states_after f L n _ _ _ h c.pop.new.first c.pop.new.self (c.if-not-pop.ensures.one refl) (c.if-not-pop.ensures.first refl) c.act.new.actors (c.if-not-act.ensures.state refl _ r),
     ))
     c.from_residual.result
 
 pub returns-in_err-note_all-clause-left : goal.returns-in_err-note_all-clause-left
 returns-in_err-note_all-clause-left g c = after-error (λ earlier x L n h.
     let f = simulation_of (rules_of g.A.Reversible.plain g.A.Actor.counter) x in
-    let r = receiver_is f L n _ _ _ h c.in-Some.message c.pop.new.self c.in-Some.ensures.one c.in-Some.ensures.first in (
+    let r = receiver_is f L n _ _ _ h c.pop.new.first c.pop.new.self (c.if-not-pop.ensures.one refl) (c.if-not-pop.ensures.first refl) in (
       suc n,
-      states_after f L n _ _ _ h c.in-Some.message c.pop.new.self c.in-Some.ensures.one c.in-Some.ensures.first c.act.new.actors (c.if-not-act.ensures.state refl _ r),
+      states_after f L n _ _ _ h c.pop.new.first c.pop.new.self (c.if-not-pop.ensures.one refl) (c.if-not-pop.ensures.first refl) c.act.new.actors (c.if-not-act.ensures.state refl _ r),
     ))
     c.from_residual-in_err-note_all.result
 
 pub returns-clause-turned : goal.returns-clause-turned
 returns-clause-turned g c = λ e earlier x L n h.
     let f = simulation_of (rules_of g.A.Reversible.plain g.A.Actor.counter) x in
-    let r = receiver_is f L n _ _ _ h c.in-Some.message c.pop.new.self c.in-Some.ensures.one c.in-Some.ensures.first in
-    turned f L n _ _ _ h c.in-Some.message c.pop.new.self c.in-Some.ensures.one c.in-Some.ensures.first
+    let r = receiver_is f L n _ _ _ h c.pop.new.first c.pop.new.self (c.if-not-pop.ensures.one refl) (c.if-not-pop.ensures.first refl) in
+    turned f L n _ _ _ h c.pop.new.first c.pop.new.self (c.if-not-pop.ensures.one refl) (c.if-not-pop.ensures.first refl)
     c.act.new.actors c.messages.result.now c.notes.result.now c.push_all.new.self (earlier ++ c.note_all.new.rows.items)
     (c.if-not-act.ensures.state refl _ r)
     (c.messages.ensures.messages ∙ c.if-not-act.ensures.messages refl _ r)
@@ -69,7 +69,7 @@ returns-clause-turned g c = λ e earlier x L n h.
 
 pub returns-clause-smaller : goal.returns-clause-smaller
 returns-clause-smaller g c = λ e.
-    load-falls GREATEST_NS c.in-Some.message _ c.pop.new.self c.act.new.out.messages _ c.in-Some.ensures.one
+    load-falls GREATEST_NS c.pop.new.first _ c.pop.new.self c.act.new.out.messages _ (c.if-not-pop.ensures.one refl)
     (subst (λ (sent : List Message). IsPermutation (c.pop.new.self ++ sent) c.push_all.new.self) c.messages.ensures.messages c.in_ok-push_all.ensures.more)
     (c.if-not-act.ensures.later refl) (c.if-not-act.ensures.in_limits refl)
     (let a = c.messages.ensures.few in let b = ap length c.messages.ensures.messages in omega arith)
