@@ -1,5 +1,5 @@
 //! A message in a heap, whose greatest element comes out first: so the earlier message is the greater one.
-ghost use Rattle.std.specs.Prelude.{◌≡◌, ◌+◌, ◌*◌, ◌/◌, ◌%◌, ◌<◌, ◌≤◌, Some, IfSome, nat_eq, refl};
+ghost use Rattle.std.specs.Prelude.{◌≡◌, ◌+◌, ◌*◌, ◌/◌, ◌%◌, ◌<◌, ◌≤◌, Some, IfSome, IfNone, nat_eq, refl};
 ghost use Rattle.std.proofs.Common.{rules};
 ghost use Rattle.std.specs.Cmp.{on_equiv, on_po, on_total, back_po, back_total, nat_eq_equiv, nat_cmp_total, unsigned_po, partial_equiv_from_equiv};
 ghost use Rattle.std.specs.Ordering.{nat_cmp};
@@ -47,6 +47,7 @@ impl Queued {
     pub(crate) fn new(message: &Message) -> Option<Self>
         ensures message { IfSome result (λ q. q ≡ message.now) }
         ensures key { IfSome result HasKey }
+        ensures none { IfNone result (HasKey message.now → ⊥) }
     {
         let Ok(sender) = u16::try_from(message.sender) else {
             return None
