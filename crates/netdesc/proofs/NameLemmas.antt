@@ -1,5 +1,5 @@
 -- A map from names to numbers, one name after another.
-use Rattle.std.proofs.Common.{◌≡◌, ℕ, ◌==◌, set, add-one, get_or-set_same, get_or-set_other, zero, suc, ◌+◌, ◌<◌, ◌≤◌, Bool, true, false, cond, List, [], ◌∷◌, ◌++◌, length, take, get_or, map, Option, Some, None, is_some, IfSome, unwrap_or, refl, ap, sym, ◌∙◌, arith, inl, inr}
+use Rattle.std.proofs.Common.{◌≡◌, ℕ, ◌==◌, set, add-one, get_or-set_same, get_or-set_other, zero, suc, ◌+◌, ◌<◌, ◌≤◌, Bool, true, false, cond, List, [], ◌∷◌, ◌++◌, length, take, get_or, map, Option, Some, None, is_some, IfSome, unwrap_or, refl, ap, sym, subst, ◌∙◌, arith, inl, inr}
 use Rattle.std.specs.Str.{bytes_eq}
 use Rattle.std.specs.Cmp.Lexicographic.{slice_cmp}
 use Rattle.std.specs.Ordering.{nat_cmp}
@@ -121,11 +121,11 @@ first-found names q n h =
 
 -- one more is kept
 pub AreFirsts-set : (near : List (Option ℕ)) (names : List (List ℕ)) (slot : ℕ) (q : List ℕ) (first : Option ℕ) → slot < length near → AreFirsts near names
-    → first ≡ place_among names q → AreFirsts (set near slot first) names
+    → IfSome first (λ n. place_among names q ≡ Some n) → AreFirsts (set near slot first) names
 AreFirsts-set near names slot q first lt are is = λ k n there. elim (cases_Bool (k == slot)) [
   | inl same ↦ (let at : k ≡ slot = grind (arith, nat_tests) in
       let here : first ≡ Some n = sym (get_or-set_same near slot first None lt) ∙ ap (λ j. get_or (set near slot first) j None) (sym at) ∙ there in
-      first-found names q n (sym is ∙ here))
+      first-found names q n (subst (λ (o : Option ℕ). IfSome o (λ m. place_among names q ≡ Some m)) here is))
   | inr other ↦ (let apart : k ≡ slot → ⊥ = grind (arith, nat_tests) in
       are k n (sym (get_or-set_other near slot k first None apart) ∙ there))
 ]

@@ -8,7 +8,7 @@ use std::alloc::{AllocError, Global};
 use std::collections::BTreeMap;
 
 /// How many numbers are kept near.
-const NEAR: usize = 16384;
+const NEAR: usize = 8192;
 
 /// Nodes, with the number of each name.
 ///
@@ -16,7 +16,7 @@ const NEAR: usize = 16384;
 #[derive(Drop)]
 pub struct Names<'a> {
     pub nodes: &'a [NodeRow],
-    near: Vec<Option<usize>>,
+    near: Vec<Option<u16>>,
     numbers: BTreeMap<&'a str, usize>,
     ghost wide: { vec_len near ≡ NEAR },
     ghost firsts: { AreFirsts near.items (names_of nodes.now) },
@@ -54,7 +54,8 @@ impl<'a> Names<'a> {
         ensures { IfSome result (λ n. place_among (names_of self.now.nodes.now) name.now ≡ Some n) }
     {
         let kept = self.near[slot(name)];
-        let number = kept?;
+        let short = kept?;
+        let number = usize::from(short);
         let node = self.nodes.get(number)?;
         if node.name.as_str() == name {
             Some(number)
@@ -80,7 +81,7 @@ fn near_of(
     alloc: Global,
     nodes: &[NodeRow],
     numbers: &BTreeMap<&str, usize>,
-) -> Result<Vec<Option<usize>>, AllocError>
+) -> Result<Vec<Option<u16>>, AllocError>
     requires { AreNumbers numbers.now (names_of nodes.now) }
     ensures wide { IfOk result (λ near. vec_len near ≡ NEAR) }
     ensures firsts { IfOk result (λ near. AreFirsts near.items (names_of nodes.now)) }
@@ -89,9 +90,16 @@ fn near_of(
     for node in nodes {
         let name = node.name.as_str();
         let first = numbers.get(name).copied();
-        near[slot(name)] = first;
+        near[slot(name)] = short(first);
     }
     Ok(near)
+}
+
+/// The number, where it fits into 16 bits: those that are kept near take little room.
+fn short(number: Option<usize>) -> Option<u16>
+    ensures { IfSome result (λ n. number ≡ Some n) }
+{
+    u16::try_from(number?).ok()
 }
 
 /// The number of each name: that of the first node with the name.
@@ -112,7 +120,7 @@ fn numbers_of<'a>(
 }
 
 /// No number in so many slots.
-fn no_numbers(alloc: Global, count: usize) -> Result<Vec<Option<usize>>, AllocError>
+fn no_numbers(alloc: Global, count: usize) -> Result<Vec<Option<u16>>, AllocError>
     ensures none { IfOk result (λ near. (k : ℕ) → slice_index_or near.items k None ≡ None) }
     ensures len { IfOk result (λ near. vec_len near ≡ count) }
 {

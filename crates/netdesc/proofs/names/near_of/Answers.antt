@@ -1,4 +1,4 @@
-use Rattle.std.proofs.Common.{◌<◌, length, arith, ◌∙◌}
+use Rattle.std.proofs.Common.{◌≡◌, ℕ, ◌<◌, length, Option, Some, IfSome, subst, arith, ◌∙◌}
 use Rattle.netdesc.specs.Names.{names_of}
 use Rattle.netdesc.proofs.NameLemmas.{AreFirsts-set}
 use Rattle.netdesc.proofs.names.near_of.Goals as goal
@@ -10,6 +10,6 @@ loop-node-preserved c =
     let lt : c.slot.result < length near.items = omega (arith, c.loop-node.invariant.wide, near.ok.0, c.slot.ensures) in
     record {
       wide = c.loop-node.invariant.wide;
-      firsts = AreFirsts-set near.items (names_of c.args.nodes.now) c.slot.result name c.copied-first.result lt c.loop-node.invariant.firsts
-          (c.copied-first.ensures ∙ c.get.ensures.value ∙ c.requires name);
+      firsts = AreFirsts-set near.items (names_of c.args.nodes.now) c.slot.result name c.short.result lt c.loop-node.invariant.firsts
+          (subst (λ (o : Option ℕ). IfSome c.short.result (λ n. o ≡ Some n)) (c.copied-first.ensures ∙ c.get.ensures.value ∙ c.requires name) c.short.ensures);
     }
