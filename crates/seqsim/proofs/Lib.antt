@@ -8,3 +8,4 @@ pub mod StatesLemmas
 pub mod RowLemmas
 pub mod Keys
 pub mod Naming
+pub mod Lanes

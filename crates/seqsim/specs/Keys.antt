@@ -27,3 +27,7 @@ IsNamed m = All (λ x. x.sender ≡ m.sender → x.number ≡ m.number → x ≡
 -- no sender gave a number to two messages
 abbrev pub AreNamed : List Message → Type 0
 AreNamed xs = All (λ m. IsNamed m xs) xs
+
+-- a number beyond all keys: the greatest of 128 bits
+abbrev pub beyond_keys : ℕ
+beyond_keys = 340282366920938463463374607431768211455

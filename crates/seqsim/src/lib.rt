@@ -2,10 +2,13 @@
 #![tactic(auto)]
 
 mod fault;
+mod lane;
 mod laws;
+mod listed;
 mod networks;
 mod queued;
 mod running;
+mod sent;
 mod simulating;
 mod tables;
 mod tops;

@@ -4,11 +4,14 @@ ghost use Rattle.std.proofs.Common.{rules};
 ghost use Rattle.std.specs.Cmp.{on_equiv, on_po, on_total, back_po, back_total, nat_eq_equiv, nat_cmp_total, unsigned_po, partial_equiv_from_equiv};
 ghost use Rattle.std.specs.Ordering.{nat_cmp};
 ghost use Rattle.vlink.specs.declared.time.TheConstants.{GREATEST_NS};
-ghost use Rattle.seqsim.specs.Keys.{key_of, HasKey};
+ghost use Rattle.seqsim.specs.Keys.{key_of, HasKey, beyond_keys};
 
 use std::cmp::Ordering;
 use std::marker::Model;
 use vlink::{Body, Message, Time};
+
+/// A number beyond the keys of all messages.
+pub(crate) const BEYOND_KEYS: u128 = u128::MAX;
 
 /// A message, in the opposite of the order of messages. Its time, receiver, sender and number lie in two numbers, so that two messages are
 /// compared by one comparison of 128 bits, which takes no branch.
@@ -74,10 +77,17 @@ impl Queued {
         message.body = self.body;
     }
 
+    /// What it says.
+    #[inline(always)]
+    pub(crate) fn body(&self) -> &Body {
+        &self.body
+    }
+
     /// Both numbers as one.
     #[inline(always)]
-    fn key(&self) -> u128
-        ensures { result ≡ key_of self.now }
+    pub(crate) fn key(&self) -> u128
+        ensures key { result ≡ key_of self.now }
+        ensures small { result < beyond_keys }
     {
         both(self.place, self.name)
     }

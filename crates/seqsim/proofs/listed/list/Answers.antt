@@ -1,7 +1,7 @@
 use Rattle.std.proofs.Common.{◌≡◌, List, [], ◌∷◌, ◌++◌, IsPermutation, subst, rules}
 use Rattle.std.proofs.lemmas.List.Sorted.{IsPermutation-sym, IsPermutation-trans, IsPermutation-to_front}
 use Rattle.vlink.specs.declared.message.Message.{Message}
-use Rattle.seqsim.proofs.waiting.list.Goals as goal
+use Rattle.seqsim.proofs.listed.list.Goals as goal
 
 pub returns-clause-more : goal.returns-clause-more
 returns-clause-more c =

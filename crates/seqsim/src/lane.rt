@@ -1,0 +1,121 @@
+//! A lane: messages in the order in which they are due.
+ghost use Rattle.std.specs.Prelude.{◌≡◌, ◌<◌, ◌≤◌, ◌-◌, [], ◌∷◌, ◌++◌, true, false, length, slice_get, slice_index_or, All, OnOk, OnErr, IfErr, IfSome, IsSomeAnd};
+ghost use Rattle.std.specs.List.Sorted.{IsNonDecreasingBy};
+ghost use Rattle.std.proofs.Props.{props};
+ghost use Rattle.vlink.specs.declared.message.Message.{Message};
+ghost use Rattle.reverse.specs.Rules.{is_before};
+ghost use Rattle.seqsim.specs.Keys.{key_of, HasKey, beyond_keys};
+ghost use Rattle.seqsim.specs.declared.fault.SimFault.TheVariants.{OutOfMemory};
+
+use crate::fault::SimFault;
+use crate::listed::is_listed_first;
+use crate::queued::{BEYOND_KEYS, Queued};
+use std::alloc::Global;
+use std::collections::VecDeque;
+use vlink::Message;
+
+/// Messages in the order of their keys. What comes behind the last of them goes to the end, and takes no comparison with the others.
+#[derive(Drop)]
+pub(crate) struct Lane {
+    queue: VecDeque<Queued>,
+    /// The key of the first, and beyond all keys where there is none. So the first of several lanes is found among numbers that are at
+    /// hand, with no branch on lanes that are empty.
+    front: u128,
+    /// The key of the last message that came, and 0 before.
+    back: u128,
+    ghost keyed: { All HasKey queue.items } by { Prim.hlevel props },
+    ghost rising: { IsNonDecreasingBy key_of queue.items } by { Prim.hlevel props },
+    ghost first: { (d : Message) → 0 < length queue.items → key_of (slice_index_or queue.items 0 d) ≡ front } by { Prim.hlevel props },
+    ghost some: { 0 < length queue.items → front < beyond_keys } by { Prim.hlevel props },
+    ghost none: { length queue.items ≡ 0 → front ≡ beyond_keys } by { Prim.hlevel props },
+    ghost last: { All (λ m. key_of m ≤ back) queue.items } by { Prim.hlevel props },
+}
+
+impl Lane {
+    /// No message.
+    pub(crate) fn new(alloc: Global) -> Self
+        ensures { result.queue.items ≡ [] }
+    {
+        Lane {
+            queue: VecDeque::new(alloc),
+            front: BEYOND_KEYS,
+            back: 0,
+        }
+    }
+
+    /// The key of the first, and beyond all keys where there is none.
+    #[inline(always)]
+    pub(crate) fn front(&self) -> u128
+        ensures { result ≡ self.now.front }
+    {
+        self.front
+    }
+
+    /// Whether a message with this key comes behind all that are there.
+    #[inline(always)]
+    pub(crate) fn takes(&self, key: u128) -> bool
+        ensures { result ≡ true → self.now.back ≤ key }
+    {
+        self.back <= key
+    }
+
+    /// One message more, at the end. Its key is told, since the caller has it at hand.
+    #[inline(always)]
+    pub(crate) fn push(&mut self, queued: Queued, key: u128) -> Result<(), SimFault>
+        requires key { key ≡ key_of queued }
+        requires keyed { HasKey queued }
+        requires small { key < beyond_keys }
+        requires behind { self.old.back ≤ key }
+        ensures more { OnOk result (self.new.queue.items ≡ self.old.queue.items ++ queued ∷ []) }
+        ensures same { OnErr result (self.new.queue.items ≡ self.old.queue.items) }
+        ensures memory { IfErr result (λ fault. fault ≡ OutOfMemory) }
+    {
+        self.queue.push_back(queued)?;
+        self.back = key;
+        self.front = least(self.front, key);
+        Ok(())
+    }
+
+    /// Takes the first message out, unless there is none or the last of the list comes before it: then it is in `first`. The answer is
+    /// whether it was taken.
+    #[inline(always)]
+    pub(crate) fn pop_unless(&mut self, listed: &[Message], first: &mut Message) -> bool
+        ensures one { result ≡ true → self.old.queue.items ≡ first.new ∷ self.new.queue.items }
+        ensures sent { result ≡ true → IfSome (slice_get listed.now (length listed.now - 1)) (λ m. is_before m first.new ≡ false) }
+        ensures same { result ≡ false → self.new.queue.items ≡ self.old.queue.items }
+        ensures listed { result ≡ false → IfSome (slice_get self.old.queue.items 0) (λ x. IsSomeAnd (slice_get listed.now (length listed.now - 1)) (λ m. is_before m x ≡ true)) }
+    {
+        let Some(queued) = self.queue.front() else {
+            return false;
+        };
+        queued.write_to(first);
+        if is_listed_first(listed, first) {
+            return false;
+        }
+        let _taken = self.queue.pop_front();
+        self.front = front_of(&self.queue);
+        true
+    }
+}
+
+/// The key of the first of the queue, and beyond all keys where there is none.
+#[inline(always)]
+fn front_of(queue: &VecDeque<Queued>) -> u128
+    ensures first { (d : Message) → 0 < length queue.now.items → key_of (slice_index_or queue.now.items 0 d) ≡ result }
+    ensures some { 0 < length queue.now.items → result < beyond_keys }
+    ensures none { length queue.now.items ≡ 0 → result ≡ beyond_keys }
+{
+    match queue.front() {
+        Some(queued) => queued.key(),
+        None => BEYOND_KEYS,
+    }
+}
+
+/// The lesser of two numbers.
+#[inline(always)]
+fn least(a: u128, b: u128) -> u128
+    ensures left { a ≤ b → result ≡ a }
+    ensures right { b ≤ a → result ≡ b }
+{
+    if a < b { a } else { b }
+}
