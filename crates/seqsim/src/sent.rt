@@ -21,6 +21,9 @@ use std::collections::BinaryHeap;
 use std::marker::Model;
 use vlink::{Body, Message, message_order};
 
+/// The number of lanes.
+const LANES: usize = 4;
+
 /// What was sent and waits. Messages of one kind are mostly sent in the order in which they are due: so each kind that is sent often has
 /// a lane, to whose end a message goes without a look at the others. What comes before the last of its lane goes into a binary heap, as
 /// does what has no lane. The first of all is the first of some lane, or the top of the heap.
@@ -83,7 +86,7 @@ impl Sent {
     {
         let lane = lane_of(queued.body());
         let key = queued.key();
-        if self.lanes[lane].takes(key) {
+        if lane < LANES && self.lanes[lane].takes(key) {
             self.lanes[lane].push(queued, key)?;
             return Ok(());
         }
@@ -114,18 +117,18 @@ impl Sent {
     }
 }
 
-/// The lane for what says this. Two kinds that are sent seldom share one with a kind that is sent often.
+/// The lane for what says this, and no lane for kinds that are sent seldom or long before they are due: what comes behind such a message
+/// would find its lane closed.
 ///
 /// It stays a call: where it becomes a part of its caller, the caller becomes one for each kind.
 #[inline(never)]
-fn lane_of(body: &Body) -> usize
-    ensures { result < 4 }
-{
+fn lane_of(body: &Body) -> usize {
     match body {
         Body::PortFree { .. } => 0,
         Body::Arrive { .. } => 1,
         Body::Enqueue { .. } => 2,
-        _ => 3,
+        Body::Carry { .. } => 3,
+        _ => LANES,
     }
 }
 
