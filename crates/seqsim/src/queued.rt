@@ -1,4 +1,5 @@
-//! A message in a heap, whose greatest element comes out first: so the earlier message is the greater one.
+//! A message that was sent and waits, in a heap or a lane. The greatest element of a heap comes out first: so the earlier message is the
+//! greater one.
 ghost use Rattle.std.specs.Prelude.{◌≡◌, ◌+◌, ◌*◌, ◌/◌, ◌%◌, ◌<◌, ◌≤◌, Some, IfSome, IfNone, nat_eq, refl};
 ghost use Rattle.std.proofs.Common.{rules};
 ghost use Rattle.std.specs.Cmp.{on_equiv, on_po, on_total, back_po, back_total, nat_eq_equiv, nat_cmp_total, unsigned_po, partial_equiv_from_equiv};
