@@ -1,9 +1,10 @@
 //! Letters in the order of their messages: how often a message is counted.
-ghost use Rattle.std.specs.Prelude.{◌≡◌, ◌≤◌, ◌↔◌, length, map, take, drop, pos, true, false, not, IsTrue, slice_get, Some};
+ghost use Rattle.std.specs.Prelude.{◌≡◌, ◌≤◌, ◌↔◌, length, map, take, drop, pos, true, false, not, IsTrue, IsSome, IfSome, slice_get, Some};
 ghost use Rattle.std.specs.List.{AllByRecursion, find};
 ghost use Rattle.std.specs.Option.{option_copied, option_map};
 ghost use Rattle.antimessages.specs.Letters.{message_rules, signed, is_plus};
 ghost use Rattle.antimessages.specs.Counting.{signed_count, change_by, IsTidy};
+ghost use Rattle.vlink.specs.declared.message.Sign.TheVariants.{Plus};
 
 use crate::order::{is_same, ordered};
 use crate::sorted::{front_is_before, place_after, place_of};
@@ -60,7 +61,8 @@ pub(crate) fn is_one(letters: &VecDeque<Letter>, place: usize, message: &Message
     requires within { place ≤ length letters.now.items }
     requires before { AllByRecursion (λ l. message_rules.less l.message message.now ≡ true) (take place letters.now.items) }
     requires from_on { AllByRecursion (λ l. message_rules.less l.message message.now ≡ false) (drop place letters.now.items) }
-    ensures { IsTrue result ↔ (signed_count message_rules message.now (map signed letters.now.items) ≡ pos 1) }
+    ensures count { IsTrue result ↔ (signed_count message_rules message.now (map signed letters.now.items) ≡ pos 1) }
+    ensures there { IsTrue result → slice_get letters.now.items place ≡ Some (record { message = message.now; sign = Plus }) }
 {
     ordered();
     if !stands_at(letters, place, message, Sign::Plus) {
@@ -73,7 +75,8 @@ pub(crate) fn is_one(letters: &VecDeque<Letter>, place: usize, message: &Message
 #[inline]
 pub(crate) fn is_one_at(letters: &VecDeque<Letter>, guess: usize, message: &Message) -> bool
     requires { IsTidy message_rules (map signed letters.now.items) }
-    ensures { IsTrue result → signed_count message_rules message.now (map signed letters.now.items) ≡ pos 1 }
+    ensures count { IsTrue result → signed_count message_rules message.now (map signed letters.now.items) ≡ pos 1 }
+    ensures there { IsTrue result → slice_get letters.now.items guess ≡ Some (record { message = message.now; sign = Plus }) }
 {
     ordered();
     if !stands_at(letters, guess, message, Sign::Plus)
@@ -82,6 +85,28 @@ pub(crate) fn is_one_at(letters: &VecDeque<Letter>, guess: usize, message: &Mess
         return false;
     }
     !stands_at(letters, guess + 1, message, Sign::Plus)
+}
+
+/// The place of the one letter of a message whose count is 1, and none where the count is another. It is looked for at `guess` first.
+#[inline]
+pub(crate) fn place_of_one(
+    letters: &VecDeque<Letter>,
+    message: &Message,
+    guess: usize,
+) -> Option<usize>
+    requires { IsTidy message_rules (map signed letters.now.items) }
+    ensures count { IsSome result ↔ (signed_count message_rules message.now (map signed letters.now.items) ≡ pos 1) }
+    ensures there { IfSome result (λ place. slice_get letters.now.items place ≡ Some (record { message = message.now; sign = Plus })) }
+{
+    if is_one_at(letters, guess, message) {
+        return Some(guess);
+    }
+    let place = place_of(letters, message, guess);
+    if is_one(letters, place, message) {
+        Some(place)
+    } else {
+        None
+    }
 }
 
 /// What the letter, whose message has this place, makes of its message.

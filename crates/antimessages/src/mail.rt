@@ -87,6 +87,7 @@ impl Mail {
 
     /// Takes the letter number `place`, from 0, of those for this process; the others keep their order. None, and nothing changes,
     /// where there is none or no such process.
+    #[inline(always)]
     pub fn take(&mut self, process: u16, place: usize) -> Option<Letter>
         ensures taken { option_map signed result ≡ slice_get (letters_for process self.old) place }
         ensures left { letters_for process self.new ≡ remove (letters_for process self.old) place }

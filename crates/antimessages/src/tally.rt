@@ -1,10 +1,10 @@
-ghost use Rattle.std.specs.Prelude.{◌≡◌, ◌≢◌, ◌+◌, ◌<◌, ◌≤◌, ◌↔◌, IsTrue, pos, ◌+ℤ◌, ◌-ℤ◌, ◌<ℤ◌, [], IsOk, OnOk, OnErr, IfOk};
+ghost use Rattle.std.specs.Prelude.{◌≡◌, ◌≢◌, ◌+◌, ◌<◌, ◌≤◌, ◌↔◌, IsTrue, false, pos, ◌+ℤ◌, ◌-ℤ◌, ◌<ℤ◌, [], IsOk, OnOk, OnErr, IfOk};
 ghost use Rattle.std.specs.Option.{option_copied};
 ghost use Rattle.vlink.specs.declared.message.Message.{Message};
 ghost use Rattle.antimessages.specs.Letters.{message_rules, signed, weight};
 ghost use Rattle.antimessages.specs.Counting.{signed_count, change_by, present_after};
 
-use crate::counted::{change_at, count_of, first_plus, is_one, is_one_at, opposite, stands_at};
+use crate::counted::{change_at, count_of, first_plus, opposite, place_of_one, stands_at};
 use crate::ends::{put_in, take_out};
 use crate::fault::OutOfMemory;
 use crate::order::ordered;
@@ -71,11 +71,7 @@ impl Tally {
     pub fn has_one(&self, message: &Message, guess: usize) -> bool
         ensures { IsTrue result ↔ (signed_count message_rules message.now self.now.letters ≡ pos 1) }
     {
-        if is_one_at(&self.letters, guess, message) {
-            return true;
-        }
-        let place = place_of(&self.letters, message, guess);
-        is_one(&self.letters, place, message)
+        place_of_one(&self.letters, message, guess).is_some()
     }
 
     /// What `add` of this letter would answer.
@@ -127,20 +123,46 @@ impl Tally {
         ensures reserved { 0 < self.old.room → IsOk result }
         ensures room { self.old.room ≤ self.new.room + 1 }
     {
+        self.count_in(&letter, guess)
+    }
+
+    /// Does what `add` does, with a letter that stays where it is until it is counted: so it is copied once.
+    pub fn count_in(&mut self, letter: &Letter, guess: usize) -> Result<Change, OutOfMemory>
+        ensures count { OnOk result (signed_count message_rules letter.now.message self.new.letters
+            ≡ signed_count message_rules letter.now.message self.old.letters +ℤ weight letter.now.sign) }
+        ensures others { OnOk result ((m : Message) → m ≢ letter.now.message →
+            signed_count message_rules m self.new.letters ≡ signed_count message_rules m self.old.letters) }
+        ensures change { IfOk result (λ change. change ≡ change_by message_rules (signed letter.now) self.old.letters) }
+        ensures unchanged { OnErr result (self.new.letters ≡ self.old.letters) }
+        ensures reserved { 0 < self.old.room → IsOk result }
+        ensures room { self.old.room ≤ self.new.room + 1 }
+    {
         ordered();
         let place = place_to_enter(&self.letters, &letter.message, guess);
-        let change = change_at(&self.letters, place, &letter);
+        let change = change_at(&self.letters, place, letter);
         if stands_at(&self.letters, place, &letter.message, opposite(letter.sign)) {
             take_out(&mut self.letters, place);
         } else {
-            // Written out again: the kit's borrow checker does not cover moving on the letter itself.
-            let counted = Letter {
-                message: letter.message,
-                sign: letter.sign,
-            };
-            put_in(&mut self.letters, place, counted)?;
+            put_in(&mut self.letters, place, *letter)?;
         }
         Ok(change)
+    }
+
+    /// The letter of a message whose signed count is just 1 is taken out: its count is 0 then. Where the count is another nothing changes.
+    /// The answer is whether it was 1. It takes no memory. This is quickest where `guess` letters of the tally come before the message,
+    /// and the answer is the same for any other guess.
+    pub fn remove_if_one(&mut self, message: &Message, guess: usize) -> bool
+        ensures one { IsTrue result ↔ (signed_count message_rules message.now self.old.letters ≡ pos 1) }
+        ensures count { IsTrue result → signed_count message_rules message.now self.new.letters +ℤ pos 1 ≡ signed_count message_rules message.now self.old.letters }
+        ensures others { IsTrue result → (m : Message) → m ≢ message.now → signed_count message_rules m self.new.letters ≡ signed_count message_rules m self.old.letters }
+        ensures unchanged { result ≡ false → self.new ≡ self.old }
+    {
+        ordered();
+        let Some(place) = place_of_one(&self.letters, message, guess) else {
+            return false;
+        };
+        take_out(&mut self.letters, place);
+        true
     }
 
     /// One plus letter of a present message is taken out: its count falls by 1. It takes no memory.

@@ -1,5 +1,5 @@
 //! What a process does alone: letters arrive, messages are handled, events are committed, and all is undone.
-ghost use Rattle.std.specs.Prelude.{◌≡◌, ◌≢◌, ◌+◌, ◌<◌, ◌≤◌, ◌↔◌, ◌⊎◌, ℕ, ◌++◌, [], ◌∷◌, false, true, length, drop, All, map, IsTrue, IsSome, None, Ok, MatchOption, OnOk, OnErr, IfOk, IfErr, slice_get, Some};
+ghost use Rattle.std.specs.Prelude.{◌≡◌, ◌≢◌, ◌+◌, ◌<◌, ◌≤◌, ◌↔◌, ◌⊎◌, ℕ, ◌++◌, [], ◌∷◌, false, true, length, drop, All, map, IsTrue, IsSome, None, Ok, MatchOption, OnOk, OnErr, IfOk, IfErr, slice_get, Some, pos, vec_len, vec_capacity};
 ghost use Rattle.std.specs.VecDeque.{deque_len};
 ghost use Rattle.vlink.specs.declared.message.Message.{Message};
 ghost use Rattle.vlink.specs.declared.message.Letter.{Letter as Posted};
@@ -37,18 +37,19 @@ impl<R: Actor> Process<R> {
         ensures memory { IfErr result (λ fault. fault ≡ OutOfMemory) }
     {
         actor_rules::<R>();
-        let Some(letter) = self.tray.front().copied() else {
+        let Some(letter) = self.tray.front() else {
             return Ok(None);
         };
         self.tally.reserve(1)?;
         let done = self.past.done_len();
-        if undoes_nothing(&self.past, &self.tally, &letter) {
+        if undoes_nothing(&self.past, &self.tally, letter) {
             count_front::<R>(&mut self.tray, &mut self.tally, done);
             return Ok(Some(0));
         }
+        let message = letter.message;
         self.outbox.reserve(self.past.sent())?;
         count_front::<R>(&mut self.tray, &mut self.tally, done);
-        Ok(Some(self.past.roll_back(&letter.message, &mut self.outbox)))
+        Ok(Some(self.past.roll_back(&message, &mut self.outbox)))
     }
 
     /// The first present message that is not done is handled: it joins the done events, and what it sends goes to the outbox.
@@ -117,12 +118,11 @@ impl<R: Actor> Process<R> {
         let Some(event) = self.past.oldest() else {
             return Ok(false);
         };
-        if !self.tally.has_one(&event.message, 0) {
+        reserve_if_one(&mut self.committed, &self.tally, &event.message)?;
+        if !self.tally.remove_if_one(&event.message, 0) {
             return Ok(false);
         }
-        self.committed.reserve(1)?;
         let _rows = self.past.rows().len();
-        self.tally.remove_one(&event.message);
         let noted = self.past.forget_oldest();
         self.sealed += usize::from(noted);
         self.committed.push_reserved(noted);
@@ -176,8 +176,33 @@ fn count_front<R: Actor>(tray: &mut VecDeque<Letter>, tally: &mut Tally, done: u
         signed_count message_rules m tally.new.letters ≡ signed_count message_rules m (signed letter ∷ tally.old.letters) }
 {
     actor_rules::<R>();
-    if let Some(letter) = tray.pop_front() {
-        rewind(tray);
-        let _change = tally.add(letter, done);
+    let Some(letter) = tray.front() else {
+        return;
+    };
+    let _change = tally.count_in(letter, done);
+    let _counted = tray.pop_front();
+    rewind(tray);
+}
+
+/// Makes room for one committed event more, where the signed count of its message is just 1. A refusal comes only where it is, and where
+/// there was no room. Where there is room the count is not looked for.
+fn reserve_if_one(
+    committed: &mut Vec<u8>,
+    tally: &Tally,
+    message: &Message,
+) -> Result<(), ProcFault>
+    ensures same { committed.new.items ≡ committed.old.items }
+    ensures room { OnOk result (signed_count message_rules message.now tally.now.letters ≡ pos 1 → vec_len committed.new < vec_capacity committed.new) }
+    ensures no_less { vec_capacity committed.old ≤ vec_capacity committed.new }
+    ensures one { OnErr result (signed_count message_rules message.now tally.now.letters ≡ pos 1) }
+    ensures full { OnErr result (vec_capacity committed.old ≤ vec_len committed.old) }
+    ensures memory { IfErr result (λ fault. fault ≡ OutOfMemory) }
+{
+    if committed.len() < committed.capacity() {
+        return Ok(());
     }
+    if tally.has_one(message, 0) {
+        committed.reserve(1)?;
+    }
+    Ok(())
 }

@@ -37,9 +37,9 @@ returns-else-stands_at-2 c =
 
 pub returns-then-is_one : goal.returns-then-is_one
 returns-then-is_one c =
-    sym (change-minus_one message_rules c.ordered.ensures c.args.letter.now (map signed c.args.letters.now.items) c.in-Minus.is (c.if-is_one.ensures.0 refl))
+    sym (change-minus_one message_rules c.ordered.ensures c.args.letter.now (map signed c.args.letters.now.items) c.in-Minus.is (c.if-is_one.ensures.count.0 refl))
 
 pub returns-else-is_one : goal.returns-else-is_one
 returns-else-is_one c =
     sym (change-minus_other message_rules c.ordered.ensures c.args.letter.now (map signed c.args.letters.now.items) c.in-Minus.is
-    (λ e. both_ways _ refl (c.if-is_one.ensures.1 e)))
+    (λ e. both_ways _ refl (c.if-is_one.ensures.count.1 e)))

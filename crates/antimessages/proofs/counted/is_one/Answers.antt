@@ -4,13 +4,13 @@ use Rattle.antimessages.specs.Letters.{message_rules}
 use Rattle.antimessages.proofs.Standing.{place-at, count-not_plus, count-one, count-many}
 use Rattle.antimessages.proofs.counted.is_one.Goals as goal
 
-pub returns-then-not-stands_at : goal.returns-then-not-stands_at
-returns-then-not-stands_at c =
+pub returns-then-not-stands_at-clause-count : goal.returns-then-not-stands_at-clause-count
+returns-then-not-stands_at-clause-count c =
     let h = place-at message_rules c.ordered.ensures c.args.message.now c.args.letters.now.items c.args.place c.requires.tidy c.requires.before c.requires.from_on in
     (λ t. absurd (both_ways _ refl t), λ e. absurd (count-not_plus message_rules c.ordered.ensures c.args.message.now c.args.letters.now.items c.args.place h (λ f. both_ways _ refl (c.if-not-stands_at.ensures.1 f)) e))
 
-pub returns : goal.returns
-returns c =
+pub returns-clause-count : goal.returns-clause-count
+returns-clause-count c =
     let ls = c.args.letters.now.items in
     let m = c.args.message.now in
     let h = place-at message_rules c.ordered.ensures c.args.message.now c.args.letters.now.items c.args.place c.requires.tidy c.requires.before c.requires.from_on in

@@ -8,8 +8,8 @@ use Rattle.antimessages.proofs.Places.{from-not_before}
 use Rattle.antimessages.proofs.Standing.{place-at, count-one}
 use Rattle.antimessages.proofs.counted.is_one_at.Goals as goal
 
-pub returns : goal.returns
-returns c = λ t.
+pub returns-clause-count : goal.returns-clause-count
+returns-clause-count c = λ t.
     let ls = c.args.letters.now.items in
     let m = c.args.message.now in
     let here = c.if-not-stands_at.ensures.0 refl in

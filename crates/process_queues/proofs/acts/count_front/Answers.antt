@@ -1,4 +1,4 @@
-use Rattle.std.proofs.Common.{◌≡◌, ◌∷◌, Some, slice_get, sym, ap, ◌∙◌}
+use Rattle.std.proofs.Common.{rules, ◌≡◌, ◌∷◌, Some, slice_get, sym, ap, ◌∙◌}
 use Rattle.vlink.specs.declared.message.Letter.{Letter}
 use Rattle.antimessages.specs.Letters.{message_rules, signed}
 use Rattle.antimessages.specs.Counting.{signed_count}
@@ -10,11 +10,12 @@ use Rattle.process_queues.proofs.acts.count_front.Goals as goal
 same-letter : (a b : Letter) → Some a ≡ Some b → a ≡ b
 same-letter a b e = cc
 
-pub returns-in-Some-clause-counts : goal.returns-in-Some-clause-counts
-returns-in-Some-clause-counts g c letter is m =
+pub returns-clause-counts : goal.returns-clause-counts
+returns-clause-counts g c letter is m =
     let R = of-messages g.R.Reversible.plain g.R.Actor.counter c.actor_rules.ensures.order c.actor_rules.ensures.undoes in
-    let ok = c.add-change.ensures.reserved c.requires.room in
-    let same : c.in-Some.letter ≡ letter = same-letter _ _ (ap (λ xs. slice_get xs 0) (sym c.in-Some.ensures.items) ∙ is) in
-    added-same_counts message_rules R.messages c.in-Some.letter c.add-change.new.self.letters c.args.tally.now.letters
-    (ok-gives _ ok c.add-change.ensures.count) (ok-gives _ ok c.add-change.ensures.others) m
+    let ok = c.count_in-change.ensures.reserved c.requires.room in
+    let first : slice_get c.args.tray.now.items 0 ≡ Some c.in-Some.letter.now = search rules in
+    let same : c.in-Some.letter.now ≡ letter = same-letter _ _ (sym first ∙ is) in
+    added-same_counts message_rules R.messages c.in-Some.letter.now c.count_in-change.new.self.letters c.args.tally.now.letters
+    (ok-gives _ ok c.count_in-change.ensures.count) (ok-gives _ ok c.count_in-change.ensures.others) m
     ∙ ap (λ l. signed_count message_rules m (signed l ∷ c.args.tally.now.letters)) same

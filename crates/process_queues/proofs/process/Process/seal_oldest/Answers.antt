@@ -15,18 +15,21 @@ use Rattle.process_queues.proofs.Taking.{err-gives}
 use Rattle.process_queues.proofs.process.Process.seal_oldest.Goals as goal
 
 pub invariant_of-self : goal.invariant_of-self
-invariant_of-self g c = rw c.in_err-reserve.ensures.items c.self.invariant
+invariant_of-self g c = rw c.in_err-reserve_if_one.ensures.same c.self.invariant
 
-pub returns-in_err-reserve-clause-refused : goal.returns-in_err-reserve-clause-refused
-returns-in_err-reserve-clause-refused g c = err-gives c.from_residual.result (λ opening part h.
+pub returns-in_err-reserve_if_one-clause-refused : goal.returns-in_err-reserve_if_one-clause-refused
+returns-in_err-reserve_if_one-clause-refused g c = err-gives c.from_residual.result (λ opening part h.
     let r = rules_of g.R.Reversible.plain g.R.Actor.counter in
     let v = g.R.Reversible.is_value in
     let R = of-messages g.R.Reversible.plain g.R.Actor.counter c.actor_rules.ensures.order c.actor_rules.ensures.undoes in
     let k = subst (λ q. StandsFor r v opening part q.queues) (sym c.self.view_is) h in
     let m = c.in-Some.event.now.message in
     let f = first-done r v opening part _ k c.in-Some.event.now (sym c.oldest.ensures ∙ ap option_copied c.in-Some.is) in
-    let one : signed_count message_rules m c.self.inside.tally.letters ≡ pos 1 = c.if-not-has_one.ensures.0 refl in
+    let one : signed_count message_rules m c.self.inside.tally.letters ≡ pos 1 = c.in_err-reserve_if_one.ensures.one in
     ap (can_seal r part) f.1 ∙ one-left r R m part.tally c.self.inside.tally.letters k.counts one)
+
+pub invariant_of-self-then-not-remove_if_one : goal.invariant_of-self-then-not-remove_if_one
+invariant_of-self-then-not-remove_if_one g c = rw (c.in_ok-reserve_if_one.ensures.same, c.if-not-remove_if_one.ensures.unchanged refl) c.self.invariant
 
 pub forget_oldest-noted-requires : goal.forget_oldest-noted-requires
 forget_oldest-noted-requires g c =
@@ -47,14 +50,14 @@ returns-clause-sealed g c opening part h =
     let f = first-done r v opening part _ k c.in-Some.event.now (sym c.oldest.ensures ∙ ap option_copied c.in-Some.is) in
     let b = reached r opening part.committed in
     let p = subst (λ ms. IsPastOf r v b ms (rowed r opening part.committed) c.self.inside.past) f.1 k.past.past_of in
-    let one : signed_count message_rules m c.self.inside.tally.letters ≡ pos 1 = c.has_one.ensures.0 (search rules) in
+    let one : signed_count message_rules m c.self.inside.tally.letters ≡ pos 1 = c.if-not-remove_if_one.ensures.one.0 (search rules) in
     let seals = ap (can_seal r part) f.1 ∙ one-left r R m part.tally c.self.inside.tally.letters k.counts one in
     let noted : c.from.result ≡ length (r.notes b m) = c.from.ensures ∙ c.forget_oldest-noted.ensures.noted b f.0 m (rowed r opening part.committed) p in
     let more : length c.push_reserved.new.self.items ≡ length c.self.inside.committed.items + 1 =
-    ap length (c.push_reserved.ensures.items) ∙ (length-append c.reserve.new.self.items (c.forget_oldest-noted.result ∷ []) ∙ ap (λ xs. length xs + 1) c.in_ok-reserve.ensures.items) in
-    sealed-stands r v opening part _ _ k R m f.0 c.forget_oldest-noted.new.self c.remove_one.new.self.letters f.1 seals
+    ap length (c.push_reserved.ensures.items) ∙ (length-append c.reserve_if_one.new.committed.items (c.forget_oldest-noted.result ∷ []) ∙ ap (λ xs. length xs + 1) c.in_ok-reserve_if_one.ensures.same) in
+    sealed-stands r v opening part _ _ k R m f.0 c.forget_oldest-noted.new.self c.remove_if_one.new.self.letters f.1 seals
     (c.forget_oldest-noted.ensures.forgotten b f.0 m (rowed r opening part.committed) p) c.forget_oldest-noted.ensures.state
-    (counts-less r R m part.tally c.self.inside.tally.letters c.remove_one.new.self.letters k.counts c.remove_one.ensures.count c.remove_one.ensures.others)
+    (counts-less r R m part.tally c.self.inside.tally.letters c.remove_if_one.new.self.letters k.counts (c.if-not-remove_if_one.ensures.count (search rules)) (c.if-not-remove_if_one.ensures.others (search rules)))
     (rw (noted, more) refl)
 
 pub invariant_of-self-2 : goal.invariant_of-self-2
