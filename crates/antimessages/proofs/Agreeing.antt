@@ -69,7 +69,7 @@ module _ {S K N : Type 0} (r : Rules Message S K N) (O : IsOrder r) where
       signed-other : (m : Message) → same r m l.message ≡ false → signed_count r m (signed l ∷ old) ≡ signed_count r m old
       signed-other m n = let a = counts-other r O m (signed l) old n in λ i. pos (a.0 i) -ℤ pos (a.1 i)
 
-  -- what `remove_one` does to the counts is what the antimessage in front does
+  -- what `remove_if_one` does to the counts is what the antimessage in front does
   pub removed-same_counts : (x : Message) (new old : List (Signed Message)) → signed_count r x new +ℤ pos 1 ≡ signed_count r x old →
       ((m : Message) → m ≢ x → signed_count r m new ≡ signed_count r m old) → HaveSameCounts r new (minus_of x ∷ old)
   removed-same_counts x new old mine others =

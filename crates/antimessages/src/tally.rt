@@ -1,4 +1,4 @@
-ghost use Rattle.std.specs.Prelude.{◌≡◌, ◌≢◌, ◌+◌, ◌<◌, ◌≤◌, ◌↔◌, IsTrue, false, pos, ◌+ℤ◌, ◌-ℤ◌, ◌<ℤ◌, [], IsOk, OnOk, OnErr, IfOk};
+ghost use Rattle.std.specs.Prelude.{◌≡◌, ◌≢◌, ◌+◌, ◌<◌, ◌≤◌, ◌↔◌, IsTrue, false, pos, ◌+ℤ◌, ◌-ℤ◌, [], IsOk, OnOk, OnErr, IfOk};
 ghost use Rattle.std.specs.Option.{option_copied};
 ghost use Rattle.vlink.specs.declared.message.Message.{Message};
 ghost use Rattle.antimessages.specs.Letters.{message_rules, signed, weight};
@@ -163,17 +163,5 @@ impl Tally {
         };
         take_out(&mut self.letters, place);
         true
-    }
-
-    /// One plus letter of a present message is taken out: its count falls by 1. It takes no memory.
-    pub fn remove_one(&mut self, message: &Message)
-        requires { pos 0 <ℤ signed_count message_rules message.now self.old.letters }
-        ensures count { signed_count message_rules message.now self.new.letters +ℤ pos 1 ≡ signed_count message_rules message.now self.old.letters }
-        ensures others { (m : Message) → m ≢ message.now → signed_count message_rules m self.new.letters ≡ signed_count message_rules m self.old.letters }
-        ensures room { self.new.room ≡ self.old.room + 1 }
-    {
-        ordered();
-        let place = place_of(&self.letters, message, 0);
-        take_out(&mut self.letters, place);
     }
 }

@@ -136,10 +136,12 @@ fn the_first_present_message_is_found_by_the_order(rt: HostRuntime) {
     let first = letter(&rt, 10, 0, Sign::Plus).message;
     assert_eq!(rt; tally.count(&first), 1);
     assert!(rt; tally.has_one(&first, 1) && tally.has_one(&first, 7));
-    tally.remove_one(&first);
+    assert!(rt; tally.remove_if_one(&first, 0));
     assert_eq!(rt; tally.count(&first), 0);
     assert!(rt; !tally.has_one(&first, 1) && !tally.has_one(&first, 7));
-    assert_eq!(rt; tally.count(&letter(&rt, 20, 0, Sign::Plus).message), 2);
+    let second = letter(&rt, 20, 0, Sign::Plus).message;
+    assert!(rt; !tally.remove_if_one(&first, 0) && !tally.remove_if_one(&second, 0));
+    assert_eq!(rt; tally.count(&second), 2);
 }
 
 #[test]
