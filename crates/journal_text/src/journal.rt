@@ -67,7 +67,9 @@ impl<'a> Journal<'a> {
     /// Reads the next line, and gives its step; none where all lines were read. It takes no memory.
     ///
     /// `BadLine` is its only fault: it tells the first line of the text, from 1, that has not the form of a step, and nothing is read.
-    #[inline(always)]
+    ///
+    /// It stays a call: as a part of a loop that does the steps it makes that loop longer than the call does.
+    #[inline(never)]
     pub fn next_step(&mut self) -> Result<Option<Step>, LinesFault>
         ensures text { self.new.text ≡ self.old.text }
         ensures step { (step : Read) → result ≡ Ok (Some step) → (steps : List Read) → AreReadOf self.old steps → AreReadOf self.new (steps ++ step ∷ []) }
