@@ -58,17 +58,14 @@ pub(crate) fn put_in<T: Drop>(
     Ok(())
 }
 
-/// So many items at most are near the processor wherever they stand.
-const FEW: usize = 4;
-
 /// A deque without items begins at the front of its room again, so that the same few places are used again and again, and stay near
-/// the processor. Where there is room for few items it is left as it is. No item moves, and no memory is taken.
+/// the processor. No item moves, and no memory is taken.
 pub fn rewind<T: Drop>(items: &mut VecDeque<T>)
     ensures items { items.new.items ≡ items.old.items }
     ensures len { deque_len items.new ≡ deque_len items.old }
     ensures capacity { deque_capacity items.new ≡ deque_capacity items.old }
 {
-    if items.is_empty() && items.capacity() > FEW {
+    if items.is_empty() {
         let alloc = *items.allocator();
         let empty = replace(items, VecDeque::new(alloc));
         *items = VecDeque::from_vec(empty.into_vec());
