@@ -1,5 +1,5 @@
 -- The first present message after another one, among letters in the order of their messages.
-use Rattle.std.proofs.Common.{◌≡◌, ℕ, suc, ◌+◌, ◌<◌, ◌⊎◌, inl, inr, Bool, true, false, ◌&&◌, cond, List, [], ◌∷◌, ◌++◌, map, take, drop, Option, Some, refl, sym, ap, ◌∙◌, subst, arith, append_assoc}
+use Rattle.std.proofs.Common.{◌≡◌, ℕ, zero, suc, ◌+◌, ◌<◌, ◌≤◌, ◌⊎◌, inl, inr, Bool, true, false, ◌&&◌, cond, List, [], ◌∷◌, ◌++◌, length, map, take, drop, get_or, slice_get, Option, Some, None, refl, sym, ap, ◌∙◌, subst, arith, append_assoc}
 use Rattle.std.specs.List.{AllByRecursion, find}
 use Rattle.std.specs.Option.{option_map}
 use Rattle.std.proofs.lemmas.Bool.{both_ways, and_parts, false_from_ne_true}
@@ -18,6 +18,34 @@ use Rattle.antimessages.specs.Counting.{CanPrecede, IsTidy, is_after, present_af
 use Rattle.antimessages.proofs.After.{IsFirstAfter, first_after-from}
 use Rattle.antimessages.proofs.Tidy.{tidy-right}
 use Rattle.antimessages.proofs.Counts.{tidy-one_sign}
+
+-- the first plus letter from a place on
+pub find-here : (ls : List Letter) (i : ℕ) (l : Letter) → i < length ls → l ≡ get_or ls i l → is_plus l.sign ≡ true →
+    slice_get ls i ≡ find (λ x. is_plus x.sign) (drop i ls)
+find-here [] i l w e p = absurd (omega arith)
+find-here (x ∷ xs) zero l w e p = let q : is_plus x.sign ≡ true = ap (λ z. is_plus z.sign) (sym e) ∙ p in rw q refl
+find-here (x ∷ xs) (suc i) l w e p = find-here xs i l (omega arith) e p
+
+pub find-none : (ls : List Letter) (from i end : ℕ) → length ls ≤ i → length ls ≤ end →
+    find (λ x. is_plus x.sign) (drop from ls) ≡ find (λ x. is_plus x.sign) (drop i ls) → slice_get ls end ≡ find (λ x. is_plus x.sign) (drop from ls)
+find-none ls from i end w v e = past ls end v ∙ (sym (over ls i w) ∙ sym e)
+  where
+    over : (ls : List Letter) (i : ℕ) → length ls ≤ i → find (λ x. is_plus x.sign) (drop i ls) ≡ None
+    over [] zero w = refl
+    over [] (suc i) w = refl
+    over (x ∷ xs) zero w = absurd (omega arith)
+    over (x ∷ xs) (suc i) w = over xs i (omega arith)
+
+    past : (ls : List Letter) (i : ℕ) → length ls ≤ i → slice_get ls i ≡ None
+    past [] i w = refl
+    past (x ∷ xs) zero w = absurd (omega arith)
+    past (x ∷ xs) (suc i) w = past xs i (omega arith)
+
+-- a letter as clauses see it
+pub message-of : (ls : List Letter) (i : ℕ) → option_map (λ l. l.message) (slice_get (map signed ls) i) ≡ option_map (λ l. l.message) (slice_get ls i)
+message-of [] i = refl
+message-of (x ∷ xs) zero = refl
+message-of (x ∷ xs) (suc i) = message-of xs i
 
 module _ {S K N : Type 0} (r : Rules Message S K N) (O : IsOrder r) where
   -- the message of a plus letter behind y does not come before that of y

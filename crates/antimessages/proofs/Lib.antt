@@ -5,6 +5,7 @@ pub mod Counts
 pub mod Standing
 pub mod Changes
 pub mod First
-pub mod Boxes
+pub mod Begin
+mod Boxes
 pub mod Agreeing
 pub mod After

@@ -1,7 +1,6 @@
 //! Letters in the order of their messages: how often a message is counted.
 ghost use Rattle.std.specs.Prelude.{◌≡◌, ◌≤◌, ◌↔◌, length, map, take, drop, pos, true, false, not, IsTrue, IsSome, IfSome, slice_get, Some};
 ghost use Rattle.std.specs.List.{AllByRecursion, find};
-ghost use Rattle.std.specs.Option.{option_copied, option_map};
 ghost use Rattle.antimessages.specs.Letters.{message_rules, signed, is_plus};
 ghost use Rattle.antimessages.specs.Counting.{signed_count, change_by, IsTidy};
 ghost use Rattle.vlink.specs.declared.message.Sign.TheVariants.{Plus};
@@ -140,18 +139,17 @@ pub(crate) fn change_at(letters: &VecDeque<Letter>, place: usize, letter: &Lette
     }
 }
 
-/// The message of the first plus letter from this place on.
+/// The place of the first plus letter from this place on, or the number of letters where there is none.
 #[inline]
-pub(crate) fn first_plus(letters: &VecDeque<Letter>, from: usize) -> Option<&Message>
+pub(crate) fn first_plus(letters: &VecDeque<Letter>, from: usize) -> usize
     requires { from ≤ length letters.now.items }
-    ensures { option_copied result ≡ option_map (λ l. l.message) (find (λ l. is_plus l.sign) (drop from letters.now.items)) }
+    ensures { slice_get letters.now.items result ≡ find (λ l. is_plus l.sign) (drop from letters.now.items) }
 {
     for place in from..letters.len() {
-        let letter = &letters[place];
-        match letter.sign {
-            Sign::Plus => return Some(&letter.message),
+        match letters[place].sign {
+            Sign::Plus => return place,
             Sign::Minus => {}
         }
     }
-    None
+    letters.len()
 }

@@ -1,5 +1,5 @@
 //! Letters in the order of their messages: where a message stands.
-ghost use Rattle.std.specs.Prelude.{◌≡◌, ◌≤◌, length, map, take, drop, true, false, IsTrue};
+ghost use Rattle.std.specs.Prelude.{◌≡◌, ◌+◌, ◌<◌, ◌≤◌, length, map, take, drop, true, false, IsTrue};
 ghost use Rattle.std.specs.List.{AllByRecursion};
 ghost use Rattle.antimessages.specs.Letters.{message_rules, signed};
 ghost use Rattle.antimessages.specs.Counting.{IsTidy};
@@ -104,6 +104,27 @@ pub(crate) fn place_after(letters: &VecDeque<Letter>, message: &Message, guess: 
 {
     if is_place_after(letters, message, guess) {
         return guess;
+    }
+    search_place_after(letters, message)
+}
+
+/// The same place, where this one has a letter of the message. It is looked for right behind that first.
+#[inline]
+pub(crate) fn place_behind(letters: &VecDeque<Letter>, message: &Message, place: usize) -> usize
+    requires tidy { IsTidy message_rules (map signed letters.now.items) }
+    requires within { place < length letters.now.items }
+    requires own { AllByRecursion (λ l. message_rules.less message.now l.message ≡ false) (take (place + 1) letters.now.items) }
+    ensures within { result ≤ length letters.now.items }
+    ensures not_after { AllByRecursion (λ l. message_rules.less message.now l.message ≡ false) (take result letters.now.items) }
+    ensures after { AllByRecursion (λ l. message_rules.less message.now l.message ≡ true) (drop result letters.now.items) }
+{
+    ordered();
+    let next = place + 1;
+    if next == letters.len() {
+        return next;
+    }
+    if is_before(message, &letters[next].message) {
+        return next;
     }
     search_place_after(letters, message)
 }

@@ -1,14 +1,14 @@
-ghost use Rattle.std.specs.Prelude.{◌≡◌, ◌≢◌, ◌+◌, ◌<◌, ◌≤◌, ◌↔◌, IsTrue, false, pos, ◌+ℤ◌, ◌-ℤ◌, [], IsOk, OnOk, OnErr, IfOk};
-ghost use Rattle.std.specs.Option.{option_copied};
+ghost use Rattle.std.specs.Prelude.{◌≡◌, ◌≢◌, ◌+◌, ◌<◌, ◌≤◌, ◌↔◌, ◌-◌, ℕ, IsTrue, true, false, pos, ◌+ℤ◌, ◌-ℤ◌, [], length, slice_get, Option, Some, IsOk, OnOk, OnErr, IfOk};
+ghost use Rattle.std.specs.Option.{option_copied, option_map};
 ghost use Rattle.vlink.specs.declared.message.Message.{Message};
 ghost use Rattle.antimessages.specs.Letters.{message_rules, signed, weight};
-ghost use Rattle.antimessages.specs.Counting.{signed_count, change_by, present_after};
+ghost use Rattle.antimessages.specs.Counting.{signed_count, change_by, is_after, present_after, BeginAfter};
 
 use crate::counted::{change_at, count_of, first_plus, opposite, place_of_one, stands_at};
 use crate::ends::{put_in, take_out};
 use crate::fault::OutOfMemory;
 use crate::order::ordered;
-use crate::sorted::{place_after, place_of, place_to_enter};
+use crate::sorted::{place_after, place_behind, place_of, place_to_enter};
 use std::alloc::Global;
 use std::collections::VecDeque;
 use std::marker::Model;
@@ -82,19 +82,52 @@ impl Tally {
         change_at(&self.letters, place, letter)
     }
 
-    /// The first present message of those that come after `newest`, or of all where none is given; none where there is none. This is
-    /// quickest where `guess` letters of the tally do not come after `newest`, and the answer is the same for any other guess.
-    pub fn present_after(&self, newest: Option<&Message>, guess: usize) -> Option<&Message>
-        ensures { option_copied result ≡ present_after message_rules (option_copied newest.entry) self.now.letters }
+    /// The place from which on the letters come after `newest`, or after none where none is given. This is quickest where it is `guess`,
+    /// and the answer is the same for any other guess.
+    pub fn place_after(&self, newest: Option<&Message>, guess: usize) -> usize
+        ensures { BeginAfter message_rules (option_copied newest.entry) self.now.letters result }
     {
         ordered();
         match newest {
-            Some(newest) => {
-                let place = place_after(&self.letters, newest, guess);
-                first_plus(&self.letters, place)
-            }
-            None => first_plus(&self.letters, 0),
+            Some(newest) => place_after(&self.letters, newest, guess),
+            None => 0,
         }
+    }
+
+    /// The place of the first letter from this place on that brings its message. Where the letters from there on come after a message, its
+    /// message is the first present one of those that do. It is the number of letters where there is none.
+    #[inline(always)]
+    pub fn first_present(&self, from: usize) -> usize
+        requires { from ≤ length self.now.letters }
+        ensures { (newest : Option Message) → BeginAfter message_rules newest self.now.letters from →
+            option_map (λ l. l.message) (slice_get self.now.letters result) ≡ present_after message_rules newest self.now.letters }
+    {
+        ordered();
+        first_plus(&self.letters, from)
+    }
+
+    /// The message of the letter at this place, if there is one.
+    #[inline(always)]
+    pub fn message_at(&self, place: usize) -> Option<&Message>
+        ensures { option_copied result ≡ option_map (λ l. l.message) (slice_get self.now.letters place) }
+    {
+        match self.letters.get(place) {
+            Some(letter) => Some(&letter.message),
+            None => None,
+        }
+    }
+
+    /// The place from which on the letters come after the message at this place. It is the number of letters where there is none.
+    #[inline(always)]
+    pub fn place_behind(&self, place: usize) -> usize
+        ensures { (m : Message) → option_map (λ l. l.message) (slice_get self.now.letters place) ≡ Some m →
+            BeginAfter message_rules (Some m) self.now.letters result }
+    {
+        ordered();
+        if place >= self.letters.len() {
+            return self.letters.len();
+        }
+        place_behind(&self.letters, &self.letters[place].message, place)
     }
 
     /// Makes room for `count` more letters, so that as many calls of `add` take no memory. It is refused only where there was
@@ -133,6 +166,8 @@ impl Tally {
         ensures others { OnOk result ((m : Message) → m ≢ letter.now.message →
             signed_count message_rules m self.new.letters ≡ signed_count message_rules m self.old.letters) }
         ensures change { IfOk result (λ change. change ≡ change_by message_rules (signed letter.now) self.old.letters) }
+        ensures ahead { OnOk result ((newest : Option Message) (place : ℕ) → BeginAfter message_rules newest self.old.letters place →
+            is_after message_rules newest letter.now.message ≡ true → BeginAfter message_rules newest self.new.letters place) }
         ensures unchanged { OnErr result (self.new.letters ≡ self.old.letters) }
         ensures reserved { 0 < self.old.room → IsOk result }
         ensures room { self.old.room ≤ self.new.room + 1 }
@@ -155,6 +190,8 @@ impl Tally {
         ensures one { IsTrue result ↔ (signed_count message_rules message.now self.old.letters ≡ pos 1) }
         ensures count { IsTrue result → signed_count message_rules message.now self.new.letters +ℤ pos 1 ≡ signed_count message_rules message.now self.old.letters }
         ensures others { IsTrue result → (m : Message) → m ≢ message.now → signed_count message_rules m self.new.letters ≡ signed_count message_rules m self.old.letters }
+        ensures ahead { IsTrue result → (newest : Option Message) (place : ℕ) → BeginAfter message_rules newest self.old.letters place →
+            is_after message_rules newest message.now ≡ false → BeginAfter message_rules newest self.new.letters (place - 1) }
         ensures unchanged { result ≡ false → self.new ≡ self.old }
     {
         ordered();

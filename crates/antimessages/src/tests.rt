@@ -83,6 +83,13 @@ fn post(rt: &impl Abort, mail: &mut Mail, outbox: &mut Outbox)
     }
 }
 
+// The first present message of those that come after this one, if it is given. It is looked for by a wrong guess too.
+fn present_after(rt: &impl Abort, tally: &Tally, newest: Option<&Message>) -> Option<Message> {
+    let place = tally.place_after(newest, 2);
+    assert_eq!(rt; tally.place_after(newest, 7), place, "by another guess");
+    tally.message_at(tally.first_present(place)).copied()
+}
+
 #[test]
 fn a_minus_before_its_plus_counts_below_0(rt: HostRuntime) {
     let mut tally = Tally::new(rt.alloc());
@@ -93,7 +100,7 @@ fn a_minus_before_its_plus_counts_below_0(rt: HostRuntime) {
     assert_eq!(rt; tally.count(&plus.message), -1);
     assert_eq!(rt; add(&rt, &mut tally, plus), Change::Same);
     assert_eq!(rt; tally.count(&plus.message), 0);
-    assert_eq!(rt; tally.present_after(None, 0).copied(), None);
+    assert_eq!(rt; present_after(&rt, &tally, None), None);
 }
 
 #[test]
@@ -129,10 +136,14 @@ fn the_first_present_message_is_found_by_the_order(rt: HostRuntime) {
     }
     let mut newest = None;
     for ns in [10, 20, 30] {
-        newest = tally.present_after(newest.as_ref(), 2).copied();
+        newest = present_after(&rt, &tally, newest.as_ref());
         assert_eq!(rt; newest, Some(letter(&rt, ns, 0, Sign::Plus).message));
     }
-    assert_eq!(rt; tally.present_after(newest.as_ref(), 2).copied(), None);
+    assert_eq!(rt; present_after(&rt, &tally, newest.as_ref()), None);
+    // The letters are those at 5, 10, 15, twice 20, and 30.
+    for (place, behind) in [(0, 1), (1, 2), (2, 3), (3, 5), (4, 5), (5, 6), (6, 6)] {
+        assert_eq!(rt; tally.place_behind(place), behind, "behind place {place}");
+    }
     let first = letter(&rt, 10, 0, Sign::Plus).message;
     assert_eq!(rt; tally.count(&first), 1);
     assert!(rt; tally.has_one(&first, 1) && tally.has_one(&first, 7));

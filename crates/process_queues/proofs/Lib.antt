@@ -2,6 +2,7 @@ pub mod Arriving
 pub mod Commits
 pub mod Counting
 pub mod Newest
+pub mod Ahead
 pub mod Next
 pub mod Pasts
 pub mod Reading

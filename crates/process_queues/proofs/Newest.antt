@@ -8,7 +8,7 @@ use Rattle.antimessages.specs.Counting.{is_after}
 use Rattle.process_queues.specs.Past.{newest_of}
 
 -- the newest of two or more is that of the rest
-newest-more : {M : Type 0} (x y : M) (ys : List M) → newest_of (x ∷ (y ∷ ys)) ≡ newest_of (y ∷ ys)
+pub newest-more : {M : Type 0} (x y : M) (ys : List M) → newest_of (x ∷ (y ∷ ys)) ≡ newest_of (y ∷ ys)
 newest-more x y ys = let e : length (x ∷ (y ∷ ys)) - 1 ≡ suc (length (y ∷ ys) - 1) = omega arith in rw e refl
 
 -- there is a newest of all lists but the empty one

@@ -75,7 +75,6 @@ module _ {S K : Type 0} (r : Rules Message S K Note) (R : OfMessages r) (is_valu
           })
 
 -- what was found in the tally after the newest done event is the message that is handled next
-pub found-next : {S K : Type 0} (r : Rules Message S K Note) → OfMessages r → (is_value : S → Message → Type 0) (opening : S) (part : Part Message S) (q : Queues S K) (newest found : Option Message) →
-    StandsFor r is_value opening part q → found ≡ present_after message_rules newest q.tally → newest ≡ newest_of (map (λ e. e.message) q.past.done) → found ≡ next_of r part
-found-next r R is_value opening part q newest found h is at =
-    is ∙ (ap (λ o. present_after message_rules o q.tally) at ∙ sym (next-stands r R is_value opening part q h))
+pub found-next : {S K : Type 0} (r : Rules Message S K Note) → OfMessages r → (is_value : S → Message → Type 0) (opening : S) (part : Part Message S) (q : Queues S K) (found : Option Message) →
+    StandsFor r is_value opening part q → found ≡ next_in q → found ≡ next_of r part
+found-next r R is_value opening part q found h is = is ∙ sym (next-stands r R is_value opening part q h)

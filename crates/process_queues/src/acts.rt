@@ -1,5 +1,5 @@
 //! What a process does alone: letters arrive, messages are handled, events are committed, and all is undone.
-ghost use Rattle.std.specs.Prelude.{◌≡◌, ◌≢◌, ◌+◌, ◌<◌, ◌≤◌, ◌↔◌, ◌⊎◌, ℕ, ◌++◌, [], ◌∷◌, false, true, length, drop, All, map, IsTrue, IsSome, None, Ok, MatchOption, OnOk, OnErr, IfOk, IfErr, slice_get, Some, pos, vec_len, vec_capacity};
+ghost use Rattle.std.specs.Prelude.{◌≡◌, ◌≢◌, ◌+◌, ◌-◌, ◌<◌, ◌≤◌, ◌↔◌, ℕ, ◌++◌, [], ◌∷◌, false, true, length, drop, All, IsTrue, IsSome, Option, None, Ok, MatchOption, OnOk, OnErr, IfOk, IfErr, slice_get, Some, pos, vec_len, vec_capacity};
 ghost use Rattle.std.specs.VecDeque.{deque_len};
 ghost use Rattle.vlink.specs.declared.message.Message.{Message};
 ghost use Rattle.vlink.specs.declared.message.Letter.{Letter as Posted};
@@ -9,9 +9,8 @@ ghost use Rattle.virtual_time.specs.Letters.{received_by};
 ghost use Rattle.virtual_time.specs.Part.{Part, arrive, undone_by, run_one, next_of, can_seal, seal_oldest, emptied, undo_all};
 ghost use Rattle.reverse.specs.Rules.{rules_of};
 ghost use Rattle.antimessages.specs.Letters.{message_rules, signed};
-ghost use Rattle.antimessages.specs.Counting.{signed_count, change_by, is_after};
+ghost use Rattle.antimessages.specs.Counting.{signed_count, change_by, is_after, BeginAfter};
 ghost use Rattle.antimessages.specs.declared.tally.Change.TheVariants.{Same};
-ghost use Rattle.process_queues.specs.Past.{newest_of};
 ghost use Rattle.antimessages.specs.Mailing.{letters_for};
 ghost use Rattle.process_queues.specs.declared.fault.ProcFault.TheVariants.{OutOfMemory, Exhausted};
 ghost use Rattle.process_queues.specs.Queues.{StandsFor, Does, next_in};
@@ -42,14 +41,22 @@ impl<R: Actor> Process<R> {
         };
         self.tally.reserve(1)?;
         let done = self.past.done_len();
-        if undoes_nothing(&self.past, &self.tally, letter) {
+        // Most letters come after all done events: they undo none, which is told without their counts.
+        if self.past.is_before(&letter.message) {
             count_front::<R>(&mut self.tray, &mut self.tally, done);
+            return Ok(Some(0));
+        }
+        if changes_nothing(&self.tally, letter) {
+            count_front::<R>(&mut self.tray, &mut self.tally, done);
+            self.ahead = self.tally.place_after(self.past.newest(), done);
             return Ok(Some(0));
         }
         let message = letter.message;
         self.outbox.reserve(self.past.sent())?;
         count_front::<R>(&mut self.tray, &mut self.tally, done);
-        Ok(Some(self.past.roll_back(&message, &mut self.outbox)))
+        let undone = self.past.roll_back(&message, &mut self.outbox);
+        self.ahead = self.tally.place_after(self.past.newest(), self.past.done_len());
+        Ok(Some(undone))
     }
 
     /// The first present message that is not done is handled: it joins the done events, and what it sends goes to the outbox.
@@ -86,15 +93,16 @@ impl<R: Actor> Process<R> {
         ensures unchanged { OnErr result (self.new.queues ≡ self.old.queues) }
     {
         actor_rules::<R>();
-        let done = self.past.done_len();
-        // It is handled where it stands among the counted letters: a copy of it would cost as much as the search.
-        let Some(message) = self.tally.present_after(self.past.newest(), done) else {
+        // It is handled where it stands among the counted letters, so that no copy of it is made.
+        let place = self.tally.first_present(self.ahead);
+        let Some(message) = self.tally.message_at(place) else {
             return Ok(None);
         };
         if !self.past.actor().has_numbers() {
             return Err(ProcFault::Exhausted);
         }
         self.past.handle(message, out, &mut self.outbox)?;
+        self.ahead = self.tally.place_behind(place);
         Ok(Some(*message))
     }
 
@@ -124,6 +132,7 @@ impl<R: Actor> Process<R> {
         }
         let _rows = self.past.rows().len();
         let noted = self.past.forget_oldest();
+        self.ahead = ahead_of_rest(self.ahead, self.past.done_len());
         self.sealed += usize::from(noted);
         self.committed.push_reserved(noted);
         Ok(true)
@@ -156,14 +165,24 @@ impl<R: Actor> Process<R> {
     }
 }
 
-/// Whether a letter undoes nothing as it is counted: its message becomes neither present nor absent, or comes after all done events. The
-/// latter is most often so, and is asked first, since it needs no count.
-fn undoes_nothing<R: Actor>(past: &Past<R>, tally: &Tally, letter: &Letter) -> bool
-    ensures nothing { IsTrue result → (change_by message_rules (signed letter.now) tally.now.letters ≡ Same) ⊎
-        (is_after (rules_of R.plain R.counter) (newest_of (map (λ e. e.message) past.now.done)) letter.now.message ≡ true) }
+/// Whether a letter makes its message neither present nor absent as it is counted.
+fn changes_nothing(tally: &Tally, letter: &Letter) -> bool
+    ensures nothing { IsTrue result → change_by message_rules (signed letter.now) tally.now.letters ≡ Same }
     ensures something { result ≡ false → change_by message_rules (signed letter.now) tally.now.letters ≢ Same }
 {
-    past.is_before(&letter.message) || matches!(tally.change_by(letter), Change::Same)
+    matches!(tally.change_by(letter), Change::Same)
+}
+
+/// Where the letters ahead of the newest done event begin, once the oldest is gone with its letter: a place before, or at the front where
+/// no event is left.
+fn ahead_of_rest(ahead: usize, left: usize) -> usize
+    ensures none { left ≡ 0 → result ≡ 0 }
+    ensures some { left ≢ 0 → result ≡ ahead - 1 }
+{
+    if left == 0 {
+        return 0;
+    }
+    ahead.saturating_sub(1)
 }
 
 /// The front letter leaves the tray and is counted. There is one, and the tally has room for it. The letters of so many done events most
@@ -174,6 +193,9 @@ fn count_front<R: Actor>(tray: &mut VecDeque<Letter>, tally: &mut Tally, done: u
     ensures tray { tray.new.items ≡ drop 1 tray.old.items }
     ensures counts { (letter : Posted) → slice_get tray.old.items 0 ≡ Some letter → (m : Message) →
         signed_count message_rules m tally.new.letters ≡ signed_count message_rules m (signed letter ∷ tally.old.letters) }
+    ensures ahead { (letter : Posted) → slice_get tray.old.items 0 ≡ Some letter → (newest : Option Message) (place : ℕ) →
+        BeginAfter message_rules newest tally.old.letters place → is_after message_rules newest letter.message ≡ true →
+        BeginAfter message_rules newest tally.new.letters place }
 {
     actor_rules::<R>();
     let Some(letter) = tray.front() else {

@@ -33,6 +33,8 @@ pub struct Process<R: Actor> {
     /// How many rows each committed event gave.
     pub(crate) committed: Vec<u8>,
     pub(crate) tally: Tally,
+    /// The place in the tally from which on the letters come after the newest done event.
+    pub(crate) ahead: usize,
     pub(crate) tray: VecDeque<Letter>,
     pub(crate) outbox: Outbox,
 }
@@ -43,7 +45,9 @@ impl<R: Actor> Model for Process<R> {
     ghost use Rattle.vlink.specs.declared.message.Message.{Message};
     ghost use Rattle.virtual_time.specs.Part.{Part};
     ghost use Rattle.reverse.specs.Rules.{rules_of};
-    ghost use Rattle.antimessages.specs.Letters.{signed};
+    ghost use Rattle.antimessages.specs.Letters.{signed, message_rules};
+    ghost use Rattle.antimessages.specs.Counting.{BeginAfter};
+    ghost use Rattle.process_queues.specs.Past.{newest_of};
     ghost use Rattle.process_queues.specs.Queues.{InHand, StandsFor};
 
     ghost Value = { InHand R R.Record };
@@ -61,7 +65,8 @@ impl<R: Actor> Model for Process<R> {
       committed_room = vec_capacity p.committed - vec_len p.committed;
     } };
 
-    ghost invariant = { λ p. (opening : R) × (part : Part Message R) × StandsFor (rules_of R.plain R.counter) R.is_value opening part
+    ghost invariant = { λ p. BeginAfter message_rules (newest_of (map (λ e. e.message) p.past.done)) p.tally.letters p.ahead ×
+        (opening : R) × (part : Part Message R) × StandsFor (rules_of R.plain R.counter) R.is_value opening part
         (record {
           past = p.past;
           sealed = p.sealed;
@@ -90,6 +95,7 @@ impl<R: Actor> Process<R> {
             sealed: 0,
             committed: Vec::new(alloc),
             tally: Tally::new(alloc),
+            ahead: 0,
             tray: VecDeque::new(alloc),
             outbox: Outbox::new(alloc),
         }
@@ -162,8 +168,8 @@ impl<R: Actor> Process<R> {
             result ≡ next_of (rules_of R.plain R.counter) part }
     {
         actor_rules::<R>();
-        let done = self.past.done_len();
-        self.tally.present_after(self.past.newest(), done).copied()
+        let place = self.tally.first_present(self.ahead);
+        self.tally.message_at(place).copied()
     }
 
     /// A moment that nothing in hand is earlier than, as a post sets it: the least time of the tray's letters and of the present messages

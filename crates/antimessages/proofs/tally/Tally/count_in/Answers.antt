@@ -1,8 +1,9 @@
-use Rattle.std.proofs.Common.{◌+ℤ◌, inl, map, refl, ap, ◌∙◌}
+use Rattle.std.proofs.Common.{◌+ℤ◌, inl, map, refl, sym, ap, ◌∙◌, subst}
 use Rattle.std.proofs.lemmas.Bool.{both_ways}
 use Rattle.vlink.specs.declared.message.Letter.{Letter}
 use Rattle.antimessages.specs.Letters.{message_rules, signed, weight}
-use Rattle.antimessages.specs.Counting.{CanPrecede, signed_count}
+use Rattle.antimessages.specs.Counting.{CanPrecede, signed_count, BeginAfter}
+use Rattle.antimessages.proofs.Begin.{begin-insert, begin-remove}
 use Rattle.antimessages.proofs.Elements.{all-weaker}
 use Rattle.antimessages.proofs.Tidy.{tidy-insert, tidy-remove, tidy-back}
 use Rattle.antimessages.proofs.Counts.{count-insert, count-cancel, count-cancel_other, count-mine, count-other}
@@ -54,3 +55,19 @@ returns-in_ok-put_in-clause-others c = λ m n.
     (count-insert message_rules c.ordered.ensures m ls c.place_to_enter-place.result c.args.letter.now ∙
     (count-other message_rules c.ordered.ensures m c.args.letter.now (map signed ls) n ∙
     ap (λ v. signed_count message_rules m v.letters) c.self.view_is))
+
+pub returns-then-stands_at-clause-ahead : goal.returns-then-stands_at-clause-ahead
+returns-then-stands_at-clause-ahead c = λ newest k h a.
+    let ls = c.self.inside.letters.items in
+    let i = c.place_to_enter-place.result in
+    let own = subst (λ v. BeginAfter message_rules newest v.letters k) (sym c.self.view_is) h in
+    subst (λ xs. BeginAfter message_rules newest (map signed xs) k) (sym c.take_out.ensures.items)
+    (begin-remove message_rules newest ls k i (letter_of c.args.letter.now.message c.opposite.result) own a (c.if-stands_at.ensures.0 refl))
+
+pub returns-in_ok-put_in-clause-ahead : goal.returns-in_ok-put_in-clause-ahead
+returns-in_ok-put_in-clause-ahead c = λ newest k h a.
+    let ls = c.self.inside.letters.items in
+    let i = c.place_to_enter-place.result in
+    let own = subst (λ v. BeginAfter message_rules newest v.letters k) (sym c.self.view_is) h in
+    subst (λ xs. BeginAfter message_rules newest (map signed xs) k) (sym c.in_ok-put_in.ensures.items)
+    (begin-insert message_rules c.ordered.ensures newest ls k i c.args.letter.now own a c.place_to_enter-place.ensures.from_on)

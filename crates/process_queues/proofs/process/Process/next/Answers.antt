@@ -11,5 +11,5 @@ pub returns-clause-stands : goal.returns-clause-stands
 returns-clause-stands g c = λ opening part h.
     let r = rules_of g.R.Reversible.plain g.R.Actor.counter in
     let R = of-messages g.R.Reversible.plain g.R.Actor.counter c.actor_rules.ensures.order c.actor_rules.ensures.undoes in
-    c.copied.ensures ∙ (c.present_after.ensures ∙ (ap (λ o. present_after message_rules o c.self.inside.tally.letters) c.newest.ensures ∙
+    c.copied.ensures ∙ (c.message_at.ensures ∙ (c.first_present-place.ensures _ c.self.invariant.0 ∙
     sym (next-stands r R g.R.Reversible.is_value opening part _ (subst (λ q. StandsFor r g.R.Reversible.is_value opening part q.queues) (sym c.self.view_is) h))))

@@ -1,15 +1,19 @@
-use Rattle.std.proofs.Common.{rules, ◌≡◌, ◌+◌, [], ◌∷◌, length, pos, refl, sym, ap, ◌∙◌, subst}
-use Rattle.std.proofs.lemmas.List.{length-append}
+use Rattle.std.proofs.Common.{rules, ◌≡◌, ◌+◌, [], ◌∷◌, length, map, pos, refl, sym, ap, ◌∙◌, subst}
+use Rattle.std.proofs.lemmas.List.{length-append, length-map}
 use Rattle.std.specs.Option.{option_copied}
 use Rattle.virtual_time.specs.Rules.{reached, rowed}
+use Rattle.virtual_time.specs.Lists.{IsAscending}
 use Rattle.virtual_time.specs.Part.{can_seal, seal_oldest}
 use Rattle.reverse.specs.Rules.{rules_of}
 use Rattle.antimessages.specs.Letters.{message_rules}
-use Rattle.antimessages.specs.Counting.{signed_count}
-use Rattle.process_queues.specs.Past.{IsPastOf}
+use Rattle.antimessages.specs.Counting.{signed_count, BeginAfter}
+use Rattle.process_queues.specs.Past.{IsPastOf, newest_of}
 use Rattle.process_queues.specs.Queues.{StandsFor}
+use Rattle.process_queues.proofs.Ahead.{begin-rest}
 use Rattle.process_queues.proofs.Counting.{of-messages, one-left, counts-less}
+use Rattle.process_queues.proofs.Pasts.{messages-of}
 use Rattle.process_queues.proofs.Reading.{first-done}
+use Rattle.process_queues.proofs.Rolls.{done-messages}
 use Rattle.process_queues.proofs.Standing.{sealed-stands}
 use Rattle.process_queues.proofs.Taking.{err-gives}
 use Rattle.process_queues.proofs.process.Process.seal_oldest.Goals as goal
@@ -36,9 +40,9 @@ forget_oldest-noted-requires g c =
     let r = rules_of g.R.Reversible.plain g.R.Actor.counter in
     let v = g.R.Reversible.is_value in
     let i = c.self.invariant in
-    let f = first-done r v i.0 i.1 _ i.2 c.in-Some.event.now (sym c.oldest.ensures ∙ ap option_copied c.in-Some.is) in
-    let b = reached r i.0 (i.1).committed in
-    (b, f.0, c.in-Some.event.now.message, rowed r i.0 (i.1).committed, subst (λ ms. IsPastOf r v b ms (rowed r i.0 (i.1).committed) c.self.inside.past) f.1 (i.2).past.past_of)
+    let f = first-done r v i.1 i.2 _ i.3 c.in-Some.event.now (sym c.oldest.ensures ∙ ap option_copied c.in-Some.is) in
+    let b = reached r i.1 (i.2).committed in
+    (b, f.0, c.in-Some.event.now.message, rowed r i.1 (i.2).committed, subst (λ ms. IsPastOf r v b ms (rowed r i.1 (i.2).committed) c.self.inside.past) f.1 (i.3).past.past_of)
 
 pub returns-clause-sealed : goal.returns-clause-sealed
 returns-clause-sealed g c opening part h =
@@ -63,8 +67,24 @@ returns-clause-sealed g c opening part h =
 pub invariant_of-self-2 : goal.invariant_of-self-2
 invariant_of-self-2 g c =
     let r = rules_of g.R.Reversible.plain g.R.Actor.counter in
-    let i = c.self.invariant in (
-      i.0,
-      seal_oldest r i.1,
-      returns-clause-sealed g c i.0 i.1 (subst (λ q. StandsFor r g.R.Reversible.is_value i.0 i.1 q.queues) c.self.view_is i.2),
+    let i = c.self.invariant in
+    let v = g.R.Reversible.is_value in
+    let R = of-messages g.R.Reversible.plain g.R.Actor.counter c.actor_rules.ensures.order c.actor_rules.ensures.undoes in
+    let m = c.in-Some.event.now.message in
+    let f = first-done r v i.1 i.2 _ i.3 c.in-Some.event.now (sym c.oldest.ensures ∙ ap option_copied c.in-Some.is) in
+    let b = reached r i.1 (i.2).committed in
+    let p = subst (λ ms. IsPastOf r v b ms (rowed r i.1 (i.2).committed) c.self.inside.past) f.1 (i.3).past.past_of in
+    let rest = c.forget_oldest-noted.ensures.forgotten b f.0 m (rowed r i.1 (i.2).committed) p in
+    let left : map (λ e. e.message) c.forget_oldest-noted.new.self.done ≡ f.0 = ap (map (λ e. e.message)) rest.done ∙ messages-of r (r.after b m) f.0 in
+    let done : map (λ e. e.message) c.self.inside.past.done ≡ m ∷ f.0 = done-messages r v i.1 i.2 c.self.inside.past (i.3).past ∙ f.1 in (
+      subst (λ ms. BeginAfter message_rules (newest_of ms) c.remove_if_one.new.self.letters c.ahead_of_rest-self-inside.result) (sym left)
+          (begin-rest r R m f.0 c.self.inside.tally.letters c.remove_if_one.new.self.letters c.self.inside.ahead c.done_len.result c.ahead_of_rest-self-inside.result
+          (subst (IsAscending r) f.1 (i.3).past.ascending)
+          (subst (λ ms. BeginAfter message_rules (newest_of ms) c.self.inside.tally.letters c.self.inside.ahead) done i.0)
+          (c.if-not-remove_if_one.ensures.ahead (search rules))
+          (c.done_len.ensures ∙ (sym (length-map c.forget_oldest-noted.new.self.done (λ e. e.message)) ∙ ap length left))
+          c.ahead_of_rest-self-inside.ensures.none c.ahead_of_rest-self-inside.ensures.some),
+      i.1,
+      seal_oldest r i.2,
+      returns-clause-sealed g c i.1 i.2 (subst (λ q. StandsFor r g.R.Reversible.is_value i.1 i.2 q.queues) c.self.view_is i.3),
     )
