@@ -37,6 +37,29 @@ pub(crate) fn place_to_enter(letters: &VecDeque<Letter>, message: &Message, gues
     if is_between(letters, message, guess) {
         return guess;
     }
+    search_near(letters, message, guess)
+}
+
+/// How many letters are looked at one after another before a place is looked for among all of them.
+const NEAR: usize = 8;
+
+/// The same place. It is looked for from `guess` on, and only where it is not near there among all letters: most often a few letters wait
+/// that come first, and a search among thousands would go where none of them lies.
+#[inline(never)]
+fn search_near(letters: &VecDeque<Letter>, message: &Message, guess: usize) -> usize
+    requires { IsTidy message_rules (map signed letters.now.items) }
+    ensures within { result ≤ length letters.now.items }
+    ensures before { AllByRecursion (λ l. message_rules.less l.message message.now ≡ true) (take result letters.now.items) }
+    ensures from_on { AllByRecursion (λ l. message_rules.less l.message message.now ≡ false) (drop result letters.now.items) }
+{
+    ordered();
+    if guess < letters.len() && front_is_before(letters, message, guess) {
+        for place in guess..letters.len().min(guess.saturating_add(NEAR)) {
+            if !is_before(&letters[place].message, message) {
+                return place;
+            }
+        }
+    }
     search_place(letters, message)
 }
 

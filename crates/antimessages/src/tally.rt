@@ -1,11 +1,11 @@
-ghost use Rattle.std.specs.Prelude.{◌≡◌, ◌≢◌, ◌+◌, ◌<◌, ◌≤◌, ◌↔◌, ◌-◌, ℕ, IsTrue, true, false, pos, ◌+ℤ◌, ◌-ℤ◌, [], length, slice_get, Option, Some, IsOk, OnOk, OnErr, IfOk};
+ghost use Rattle.std.specs.Prelude.{◌≡◌, ◌≢◌, ◌+◌, ◌<◌, ◌≤◌, ◌↔◌, ◌-◌, ℕ, IsTrue, true, false, pos, ◌+ℤ◌, ◌-ℤ◌, [], length, drop, slice_get, Option, Some, IsOk, OnOk, OnErr, IfOk};
 ghost use Rattle.std.specs.Option.{option_copied, option_map};
 ghost use Rattle.vlink.specs.declared.message.Message.{Message};
 ghost use Rattle.antimessages.specs.Letters.{message_rules, signed, weight};
-ghost use Rattle.antimessages.specs.Counting.{signed_count, change_by, is_after, present_after, BeginAfter};
+ghost use Rattle.antimessages.specs.Counting.{signed_count, change_by, is_after, present_after, BeginAfter, IsTidy};
 
 use crate::counted::{change_at, count_of, first_plus, opposite, place_of_one, stands_at};
-use crate::ends::{put_in, take_out};
+use crate::ends::{put_in, take_at, take_out};
 use crate::fault::OutOfMemory;
 use crate::order::ordered;
 use crate::sorted::{place_after, place_behind, place_of, place_to_enter};
@@ -181,6 +181,23 @@ impl Tally {
             put_in(&mut self.letters, place, *letter)?;
         }
         Ok(change)
+    }
+
+    /// The letters stand in the order of their messages, and no message has letters of both signs.
+    ///
+    /// A call does nothing: its caller learns what the clause says.
+    pub fn in_order(&self)
+        ensures { IsTidy message_rules self.now.letters }
+    {
+        let _letters = &self.letters;
+    }
+
+    /// The first letter is taken out, where there is one. It takes no memory.
+    #[inline(always)]
+    pub fn remove_first(&mut self)
+        ensures { self.new.letters ≡ drop 1 self.old.letters }
+    {
+        let _letter = take_at(&mut self.letters, 0);
     }
 
     /// The letter of a message whose signed count is just 1 is taken out: its count is 0 then. Where the count is another nothing changes.

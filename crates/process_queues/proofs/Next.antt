@@ -11,7 +11,7 @@ use Rattle.virtual_time.proofs.Lists.{times-none}
 use Rattle.virtual_time.proofs.Presence.{present-true, present-from}
 use Rattle.virtual_time.proofs.Reading.{next-from, none-next_from}
 use Rattle.antimessages.specs.Letters.{message_rules}
-use Rattle.antimessages.specs.Counting.{is_after, present_after}
+use Rattle.antimessages.specs.Counting.{is_after}
 use Rattle.antimessages.proofs.After.{first_after-is, first_after-none}
 use Rattle.process_queues.specs.Past.{newest_of}
 use Rattle.process_queues.specs.Queues.{Queues, StandsFor, next_in}
@@ -48,7 +48,7 @@ module _ {S K : Type 0} (r : Rules Message S K Note) (R : OfMessages r) (is_valu
   after-here m = ap (λ o. is_after message_rules o m) newest-same ∙ after-same (newest_of part.done) m
 
   -- a message is present here and there
-  here : (m : Message) → IsPresent r part.tally m → IsPresent message_rules q.tally m
+  pub here : (m : Message) → IsPresent r part.tally m → IsPresent message_rules q.tally m
   here m present = present-true message_rules R.messages q.tally m
       (sym (present-agree r R part.tally q.tally h.counts m) ∙ present-from r R.order part.tally m present)
 

@@ -1,11 +1,11 @@
 //! What a process does alone: letters arrive, messages are handled, events are committed, and all is undone.
-ghost use Rattle.std.specs.Prelude.{◌≡◌, ◌≢◌, ◌+◌, ◌-◌, ◌<◌, ◌≤◌, ◌↔◌, ℕ, ◌++◌, [], ◌∷◌, false, true, length, drop, All, IsTrue, IsSome, Option, None, Ok, MatchOption, OnOk, OnErr, IfOk, IfErr, slice_get, Some, pos, vec_len, vec_capacity};
+ghost use Rattle.std.specs.Prelude.{◌≡◌, ◌≢◌, ◌+◌, ◌-◌, ◌<◌, ◌≤◌, ◌↔◌, ℕ, ◌++◌, [], ◌∷◌, false, true, length, drop, All, IsTrue, IsSome, Option, None, Ok, MatchOption, OnOk, OnErr, IfOk, IfErr, slice_get, Some, pos, ◌+ℤ◌, vec_len, vec_capacity};
 ghost use Rattle.std.specs.VecDeque.{deque_len};
 ghost use Rattle.vlink.specs.declared.message.Message.{Message};
 ghost use Rattle.vlink.specs.declared.message.Letter.{Letter as Posted};
 ghost use Rattle.vlink.specs.Numbering.{greatest_number};
 ghost use Rattle.virtual_time.specs.Rules.{reached};
-ghost use Rattle.virtual_time.specs.Letters.{received_by};
+ghost use Rattle.virtual_time.specs.Letters.{received_by, plus_of};
 ghost use Rattle.virtual_time.specs.Part.{Part, arrive, undone_by, run_one, next_of, can_seal, seal_oldest, emptied, undo_all};
 ghost use Rattle.reverse.specs.Rules.{rules_of};
 ghost use Rattle.antimessages.specs.Letters.{message_rules, signed};
@@ -55,7 +55,9 @@ impl<R: Actor> Process<R> {
         self.outbox.reserve(self.past.sent())?;
         count_front::<R>(&mut self.tray, &mut self.tally, done);
         let undone = self.past.roll_back(&message, &mut self.outbox);
-        self.ahead = self.tally.place_after(self.past.newest(), self.past.done_len());
+        self.ahead = self
+            .tally
+            .place_after(self.past.newest(), self.past.done_len());
         Ok(Some(undone))
     }
 
@@ -126,8 +128,11 @@ impl<R: Actor> Process<R> {
         let Some(event) = self.past.oldest() else {
             return Ok(false);
         };
+        self.tally.in_order();
         reserve_if_one(&mut self.committed, &self.tally, &event.message)?;
-        if !self.tally.remove_if_one(&event.message, 0) {
+        // Each done event has a letter that is not ahead. Where there are no others, it has just one, and that of the oldest is the first.
+        let is_first = self.ahead == self.past.done_len();
+        if !remove_oldest::<R>(&mut self.tally, &event.message, is_first) {
             return Ok(false);
         }
         let _rows = self.past.rows().len();
@@ -227,4 +232,23 @@ fn reserve_if_one(
         committed.reserve(1)?;
     }
     Ok(())
+}
+
+/// The letter of the oldest done event leaves the tally, where its signed count is just 1; the answer is whether it was. If it is known to
+/// be the first letter, and the only one of its message, it is not looked at.
+fn remove_oldest<R: Actor>(tally: &mut Tally, message: &Message, is_first: bool) -> bool
+    requires { IsTrue is_first → (slice_get tally.old.letters 0 ≡ Some (plus_of message.now)) × (signed_count message_rules message.now tally.old.letters ≡ pos 1) }
+    ensures one { IsTrue result ↔ (signed_count message_rules message.now tally.old.letters ≡ pos 1) }
+    ensures count { IsTrue result → signed_count message_rules message.now tally.new.letters +ℤ pos 1 ≡ signed_count message_rules message.now tally.old.letters }
+    ensures others { IsTrue result → (m : Message) → m ≢ message.now → signed_count message_rules m tally.new.letters ≡ signed_count message_rules m tally.old.letters }
+    ensures ahead { IsTrue result → (newest : Option Message) (place : ℕ) → BeginAfter message_rules newest tally.old.letters place →
+        is_after message_rules newest message.now ≡ false → BeginAfter message_rules newest tally.new.letters (place - 1) }
+    ensures unchanged { result ≡ false → tally.new ≡ tally.old }
+{
+    actor_rules::<R>();
+    if is_first {
+        tally.remove_first();
+        return true;
+    }
+    tally.remove_if_one(message, 0)
 }

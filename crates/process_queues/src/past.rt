@@ -149,12 +149,12 @@ impl<R: Actor> Past<R> {
         self.sends.reserve(24)?;
         self.rows.reserve(2)?;
         outbox.reserve(24)?;
-        let kept = self.actor.handle(message, out);
+        // The record goes straight to its place in the event: each name on the way would cost a copy of it.
         self.done.push_back_reserved(Event {
             message: *message,
+            kept: self.actor.handle(message, out),
             sent: out.messages().len() as u8,
             noted: out.notes().len() as u8,
-            kept,
         });
         send_all(&mut self.sends, outbox, out.messages());
         note_all(&mut self.rows, message, out.notes());

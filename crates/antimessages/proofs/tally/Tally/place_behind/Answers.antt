@@ -1,9 +1,9 @@
-use Rattle.std.proofs.Common.{◌≡◌, ◌<◌, false, length, map, slice_get, Some, sym, ◌∙◌, subst, arith}
+use Rattle.std.proofs.Common.{◌≡◌, map, slice_get, Some, sym, ◌∙◌, subst, arith}
 use Rattle.std.specs.Option.{option_map}
 use Rattle.vlink.specs.declared.message.Message.{Message}
 use Rattle.antimessages.specs.Letters.{message_rules, signed}
 use Rattle.antimessages.specs.Counting.{BeginAfter}
-use Rattle.antimessages.proofs.Begin.{begin-kept, message-at, none-at}
+use Rattle.antimessages.proofs.Begin.{begin-kept, message-at}
 use Rattle.antimessages.proofs.Places.{upto-not_after}
 use Rattle.antimessages.proofs.tally.Tally.place_behind.Goals as goal
 

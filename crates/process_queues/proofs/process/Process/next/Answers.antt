@@ -1,7 +1,5 @@
-use Rattle.std.proofs.Common.{sym, ap, ◌∙◌, subst}
+use Rattle.std.proofs.Common.{sym, ◌∙◌, subst}
 use Rattle.reverse.specs.Rules.{rules_of}
-use Rattle.antimessages.specs.Letters.{message_rules}
-use Rattle.antimessages.specs.Counting.{present_after}
 use Rattle.process_queues.specs.Queues.{StandsFor}
 use Rattle.process_queues.proofs.Counting.{of-messages}
 use Rattle.process_queues.proofs.Next.{next-stands}
