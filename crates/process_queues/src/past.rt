@@ -149,7 +149,7 @@ impl<R: Actor> Past<R> {
         self.sends.reserve(24)?;
         self.rows.reserve(2)?;
         outbox.reserve(24)?;
-        // The record goes straight to its place in the event: each name on the way would cost a copy of it.
+        // The fields are found in this order: what was sent and noted is told once the message is handled.
         self.done.push_back_reserved(Event {
             message: *message,
             kept: self.actor.handle(message, out),
