@@ -1,5 +1,5 @@
 -- Messages in the order of their keys are in their order.
-use Rattle.std.proofs.Common.{◌≡◌, ℕ, suc, ◌≤◌, ◌⊎◌, inl, inr, Bool, true, false, List, [], ◌∷◌, ◌++◌, All, drop, get_or, IsPermutation, refl, sym, subst, arith}
+use Rattle.std.proofs.Common.{◌≡◌, ℕ, suc, ◌<◌, ◌≤◌, ◌⊎◌, inl, inr, Bool, true, false, List, [], ◌∷◌, ◌++◌, All, drop, get_or, IsPermutation, refl, sym, subst, arith}
 use Rattle.std.specs.Cmp.{IsTotalOrder, nat_cmp_is}
 use Rattle.std.specs.Ordering.{nat_cmp, ordering_then, is_lt}
 use Rattle.std.specs.declared.cmp.Ordering.{Ordering}
@@ -44,6 +44,11 @@ decided a b r h k = go (cases_eq a b)
     go : (a ≡ b) ⊎ (a ≡ b → ⊥) → is_lt (ordering_then (nat_cmp a b) r) ≡ false
     go (inl e) = subst (λ c. is_lt (ordering_then c r) ≡ false) (nat_cmp_is a b Equal e) (k e)
     go (inr n) = subst (λ c. is_lt (ordering_then c r) ≡ false) (nat_cmp_is a b Greater (omega arith)) refl
+
+-- a message that is due later is not before
+pub later-not-before : (x m : Message) → m.time < x.time → is_before x m ≡ false
+unfolding message_cmp
+later-not-before x m h = decided x.time m.time _ (omega (arith, h)) (λ e. absurd (omega (arith, h, e)))
 
 -- no message is before itself
 itself : (o : IsTotalOrder message_cmp) (m : Message) → is_before m m ≡ false

@@ -1,5 +1,5 @@
 //! A lane: messages in the order in which they are due.
-ghost use Rattle.std.specs.Prelude.{◌≡◌, ◌<◌, ◌≤◌, ◌-◌, [], ◌∷◌, ◌++◌, true, false, length, slice_get, slice_index_or, All, OnOk, OnErr, IfErr, IfSome, IsSomeAnd};
+ghost use Rattle.std.specs.Prelude.{◌≡◌, ◌<◌, ◌≤◌, ◌-◌, [], ◌∷◌, ◌++◌, true, false, length, slice_get, slice_index_or, All, OnOk, OnErr, IfOk, IfErr, IfSome, IsSomeAnd};
 ghost use Rattle.std.specs.List.Sorted.{IsNonDecreasingBy};
 ghost use Rattle.std.proofs.Props.{props};
 ghost use Rattle.vlink.specs.declared.message.Message.{Message};
@@ -8,16 +8,19 @@ ghost use Rattle.seqsim.specs.Keys.{key_of, HasKey, beyond_keys};
 ghost use Rattle.seqsim.specs.declared.fault.SimFault.TheVariants.{OutOfMemory};
 
 use crate::fault::SimFault;
-use crate::listed::is_listed_first;
+use crate::listed::Listed;
 use crate::queued::{BEYOND_KEYS, Queued};
+use circular_buffer::HeapCircularBuffer;
 use std::alloc::Global;
-use std::collections::VecDeque;
 use vlink::Message;
+
+/// The room that a lane begins with, in messages.
+const ROOM: usize = 63;
 
 /// Messages in the order of their keys. What comes behind the last of them goes to the end, and takes no comparison with the others.
 #[derive(Drop)]
 pub(crate) struct Lane {
-    queue: VecDeque<Queued>,
+    queue: HeapCircularBuffer<Queued>,
     /// The key of the first, and beyond all keys where there is none. So the first of several lanes is found among numbers that are at
     /// hand, with no branch on lanes that are empty.
     front: u128,
@@ -33,14 +36,15 @@ pub(crate) struct Lane {
 
 impl Lane {
     /// No message.
-    pub(crate) fn new(alloc: Global) -> Self
-        ensures { result.queue.items ≡ [] }
+    pub(crate) fn new(alloc: Global) -> Result<Self, SimFault>
+        ensures none { IfOk result (λ lane. lane.queue.items ≡ []) }
+        ensures memory { IfErr result (λ fault. fault ≡ OutOfMemory) }
     {
-        Lane {
-            queue: VecDeque::new(alloc),
+        Ok(Lane {
+            queue: HeapCircularBuffer::with_capacity(alloc, ROOM)?,
             front: BEYOND_KEYS,
             back: 0,
-        }
+        })
     }
 
     /// The key of the first, and beyond all keys where there is none.
@@ -70,7 +74,8 @@ impl Lane {
         ensures same { OnErr result (self.new.queue.items ≡ self.old.queue.items) }
         ensures memory { IfErr result (λ fault. fault ≡ OutOfMemory) }
     {
-        self.queue.push_back(queued)?;
+        make_room(&mut self.queue)?;
+        put(&mut self.queue, queued);
         self.back = key;
         self.front = least(self.front, key);
         Ok(())
@@ -79,7 +84,7 @@ impl Lane {
     /// Takes the first message out, unless there is none or the last of the list comes before it: then it is in `first`. The answer is
     /// whether it was taken.
     #[inline(always)]
-    pub(crate) fn pop_unless(&mut self, listed: &[Message], first: &mut Message) -> bool
+    pub(crate) fn pop_unless(&mut self, listed: &Listed, first: &mut Message) -> bool
         ensures one { result ≡ true → self.old.queue.items ≡ first.new ∷ self.new.queue.items }
         ensures sent { result ≡ true → IfSome (slice_get listed.now (length listed.now - 1)) (λ m. is_before m first.new ≡ false) }
         ensures same { result ≡ false → self.new.queue.items ≡ self.old.queue.items }
@@ -89,7 +94,7 @@ impl Lane {
             return false;
         };
         queued.write_to(first);
-        if is_listed_first(listed, first) {
+        if listed.is_first(first) {
             return false;
         }
         let _taken = self.queue.pop_front();
@@ -98,9 +103,44 @@ impl Lane {
     }
 }
 
+/// The queue has room for one message more.
+#[inline(always)]
+fn make_room(queue: &mut HeapCircularBuffer<Queued>) -> Result<(), SimFault>
+    ensures same { queue.new.items ≡ queue.old.items }
+    ensures room { OnOk result (length queue.new.items < queue.new.capacity) }
+    ensures memory { IfErr result (λ fault. fault ≡ OutOfMemory) }
+{
+    if queue.len() < queue.capacity() {
+        return Ok(());
+    }
+    grow(queue)
+}
+
+/// More than twice the room.
+#[cold]
+#[inline(never)]
+fn grow(queue: &mut HeapCircularBuffer<Queued>) -> Result<(), SimFault>
+    ensures same { queue.new.items ≡ queue.old.items }
+    ensures room { OnOk result (length queue.new.items < queue.new.capacity) }
+    ensures memory { IfErr result (λ fault. fault ≡ OutOfMemory) }
+{
+    let room = queue.capacity();
+    queue.resize(2 * room + 1)?;
+    Ok(())
+}
+
+/// One message more, at the end of a queue that has room.
+#[inline(always)]
+fn put(queue: &mut HeapCircularBuffer<Queued>, queued: Queued)
+    requires { length queue.old.items < queue.old.capacity }
+    ensures { queue.new.items ≡ queue.old.items ++ queued ∷ [] }
+{
+    let _none = queue.push_back(queued);
+}
+
 /// The key of the first of the queue, and beyond all keys where there is none.
 #[inline(always)]
-fn front_of(queue: &VecDeque<Queued>) -> u128
+fn front_of(queue: &HeapCircularBuffer<Queued>) -> u128
     ensures first { (d : Message) → 0 < length queue.now.items → key_of (slice_index_or queue.now.items 0 d) ≡ result }
     ensures some { 0 < length queue.now.items → result < beyond_keys }
     ensures none { length queue.now.items ≡ 0 → result ≡ beyond_keys }

@@ -1,14 +1,16 @@
-//! Messages in a list that falls: the first of them stands at the end.
+//! The offers that wait, in a list that falls: the first of them stands at the end.
 ghost use Rattle.std.specs.Prelude.{◌≡◌, ◌-◌, [], ◌∷◌, ◌++◌, true, false, length, slice_get, OnOk, IfErr, IfSome, IsSomeAnd, IsPermutation};
 ghost use Rattle.std.specs.List.Sorted.{IsSortedBy};
+ghost use Rattle.std.proofs.Props.{props};
 ghost use Rattle.reverse.specs.Rules.{is_before};
 ghost use Rattle.seqsim.specs.declared.fault.SimFault.TheVariants.{OutOfMemory};
 
 use crate::fault::SimFault;
+use std::marker::Model;
 use vlink::{Message, compare, message_order};
 
 /// Puts the messages in their order, the first of them at the end.
-pub(crate) fn sort(listed: &mut Vec<Message>)
+fn sort(listed: &mut Vec<Message>)
     ensures falling { IsSortedBy (λ x y. is_before y x) listed.new.items }
     ensures same { IsPermutation listed.old.items listed.new.items }
 {
@@ -17,9 +19,7 @@ pub(crate) fn sort(listed: &mut Vec<Message>)
 }
 
 /// One message more, in its place.
-#[cold]
-#[inline(never)]
-pub(crate) fn list(listed: &mut Vec<Message>, message: &Message) -> Result<(), SimFault>
+fn list(listed: &mut Vec<Message>, message: &Message) -> Result<(), SimFault>
     requires { IsSortedBy (λ x y. is_before y x) listed.old.items }
     ensures falling { IsSortedBy (λ x y. is_before y x) listed.new.items }
     ensures more { OnOk result (IsPermutation (message.now ∷ listed.old.items) listed.new.items) }
@@ -30,24 +30,21 @@ pub(crate) fn list(listed: &mut Vec<Message>, message: &Message) -> Result<(), S
     Ok(())
 }
 
-/// Takes the last message out of the list, if there is one: then it is in `last`. The answer is whether there was one.
+/// The moment at which the last of the list is due, in ns, and the greatest number where there is none.
 #[inline(always)]
-pub(crate) fn pop_listed(listed: &mut Vec<Message>, last: &mut Message) -> bool
-    ensures one { result ≡ true → listed.old.items ≡ listed.new.items ++ last.new ∷ [] }
-    ensures none { result ≡ false → listed.old.items ≡ [] }
-    ensures empty { result ≡ false → listed.new.items ≡ [] }
-    ensures falling { IsSortedBy (λ x y. is_before y x) listed.old.items → IsSortedBy (λ x y. is_before y x) listed.new.items }
+fn due(listed: &[Message]) -> u64
+    ensures { IfSome (slice_get listed.now (length listed.now - 1)) (λ m. m.time ≡ result) }
 {
-    let Some(message) = listed.pop() else {
-        return false;
-    };
-    *last = message;
-    true
+    match listed.last() {
+        Some(message) => message.time.ns(),
+        None => u64::MAX,
+    }
 }
 
 /// Whether the last of the list comes before what was sent.
-#[inline(always)]
-pub(crate) fn is_listed_first(listed: &[Message], sent: &Message) -> bool
+#[cold]
+#[inline(never)]
+fn is_last_before(listed: &[Message], sent: &Message) -> bool
     ensures listed { result ≡ true → IsSomeAnd (slice_get listed.now (length listed.now - 1)) (λ m. is_before m sent.now ≡ true) }
     ensures sent { result ≡ false → IfSome (slice_get listed.now (length listed.now - 1)) (λ m. is_before m sent.now ≡ false) }
 {
@@ -55,5 +52,80 @@ pub(crate) fn is_listed_first(listed: &[Message], sent: &Message) -> bool
     match listed.last() {
         Some(message) => compare(message, sent).is_lt(),
         None => false,
+    }
+}
+
+/// Messages in a list, of which the last is asked for.
+///
+/// Clauses see it as the list.
+#[derive(Drop)]
+pub(crate) struct Listed {
+    messages: Vec<Message>,
+    /// When the last of the list is due. So most of what was sent is known to come before it by one comparison.
+    next_ns: u64,
+    ghost next: { IfSome (slice_get messages.items (length messages.items - 1)) (λ m. m.time ≡ next_ns) } by { Prim.hlevel props },
+}
+
+impl Model for Listed {
+    ghost use Rattle.std.specs.Prelude.{List};
+    ghost use Rattle.vlink.specs.declared.message.Message.{Message};
+
+    ghost Value = { List Message };
+
+    ghost view = { λ l. l.messages.items };
+}
+
+impl Listed {
+    /// These messages in their order, the first of them at the end, in the room that they have.
+    pub(crate) fn sorted(messages: Vec<Message>) -> Self
+        ensures falling { IsSortedBy (λ x y. is_before y x) result }
+        ensures same { IsPermutation messages.items result }
+    {
+        let mut messages = messages;
+        sort(&mut messages);
+        let next_ns = due(messages.as_slice());
+        Listed { messages, next_ns }
+    }
+
+    /// One message more, in its place.
+    #[cold]
+    #[inline(never)]
+    pub(crate) fn put(&mut self, message: &Message) -> Result<(), SimFault>
+        requires { IsSortedBy (λ x y. is_before y x) self.old }
+        ensures falling { IsSortedBy (λ x y. is_before y x) self.new }
+        ensures more { OnOk result (IsPermutation (message.now ∷ self.old) self.new) }
+        ensures memory { IfErr result (λ fault. fault ≡ OutOfMemory) }
+    {
+        let listed = list(&mut self.messages, message);
+        self.next_ns = due(self.messages.as_slice());
+        listed
+    }
+
+    /// Takes the last message out, if there is one: then it is in `last`. The answer is whether there was one.
+    #[inline(always)]
+    pub(crate) fn pop(&mut self, last: &mut Message) -> bool
+        ensures one { result ≡ true → self.old ≡ self.new ++ last.new ∷ [] }
+        ensures none { result ≡ false → self.old ≡ [] }
+        ensures empty { result ≡ false → self.new ≡ [] }
+        ensures falling { IsSortedBy (λ x y. is_before y x) self.old → IsSortedBy (λ x y. is_before y x) self.new }
+    {
+        let Some(message) = self.messages.pop() else {
+            return false;
+        };
+        *last = message;
+        self.next_ns = due(self.messages.as_slice());
+        true
+    }
+
+    /// Whether the last message comes before what was sent.
+    #[inline(always)]
+    pub(crate) fn is_first(&self, sent: &Message) -> bool
+        ensures listed { result ≡ true → IsSomeAnd (slice_get self.now (length self.now - 1)) (λ m. is_before m sent.now ≡ true) }
+        ensures sent { result ≡ false → IfSome (slice_get self.now (length self.now - 1)) (λ m. is_before m sent.now ≡ false) }
+    {
+        if sent.time.ns() < self.next_ns {
+            return false;
+        }
+        is_last_before(self.messages.as_slice(), sent)
     }
 }

@@ -53,15 +53,12 @@ impl Queued {
         ensures key { IfSome result HasKey }
         ensures none { IfNone result (HasKey message.now → ⊥) }
     {
-        let Ok(sender) = u16::try_from(message.sender) else {
-            return None
-        };
-        if message.number >= 1 << 48 {
+        if message.sender >= 1 << 16 || message.number >= 1 << 48 {
             return None;
         }
         Some(Queued {
             place: place_of(message.time, message.receiver),
-            name: name_of(sender, message.number),
+            name: name_of(message.sender as u16, message.number),
             body: message.body,
         })
     }

@@ -13,7 +13,7 @@ ghost use Rattle.seqsim.specs.declared.fault.SimFault.TheVariants.{OutOfMemory};
 
 use crate::fault::SimFault;
 use crate::lane::Lane;
-use crate::listed::is_listed_first;
+use crate::listed::Listed;
 use crate::queued::{BEYOND_KEYS, Queued};
 use crate::tops;
 use std::alloc::Global;
@@ -65,10 +65,10 @@ impl Sent {
         ensures memory { IfErr result (λ fault. fault ≡ OutOfMemory) }
     {
         let mut lanes = Vec::new(alloc);
-        lanes.push(Lane::new(alloc))?;
-        lanes.push(Lane::new(alloc))?;
-        lanes.push(Lane::new(alloc))?;
-        lanes.push(Lane::new(alloc))?;
+        lanes.push(Lane::new(alloc)?)?;
+        lanes.push(Lane::new(alloc)?)?;
+        lanes.push(Lane::new(alloc)?)?;
+        lanes.push(Lane::new(alloc)?)?;
         Ok(Sent {
             lanes,
             heap: BinaryHeap::new(alloc),
@@ -98,7 +98,7 @@ impl Sent {
     /// Takes the first message out, unless there is none or the last of the list comes before it: then it is in `first`. The answer is
     /// whether it was taken.
     #[inline(always)]
-    pub(crate) fn pop_unless(&mut self, listed: &[Message], first: &mut Message) -> bool
+    pub(crate) fn pop_unless(&mut self, listed: &Listed, first: &mut Message) -> bool
         ensures one { result ≡ true → IsPermutation self.old (first.new ∷ self.new) }
         ensures first { result ≡ true → All (λ x. is_before x first.new ≡ false) self.old }
         ensures sent { result ≡ true → IfSome (slice_get listed.now (length listed.now - 1)) (λ m. is_before m first.new ≡ false) }
@@ -117,18 +117,30 @@ impl Sent {
     }
 }
 
-/// The lane for what says this, and no lane for kinds that are sent seldom or long before they are due: what comes behind such a message
-/// would find its lane closed.
+/// The lane for each kind of message, and no lane for kinds that are sent seldom or long before they are due: what comes behind such a
+/// message would find its lane closed.
+const LANE_OF_KIND: [usize; 6] = [LANES, LANES, 0, 1, 2, 3];
+
+/// The lane for what says this, or a number beyond the lanes.
 ///
-/// It stays a call: where it becomes a part of its caller, the caller becomes one for each kind.
-#[inline(never)]
+/// It is looked up: where each kind names its lane, the caller becomes one for each kind.
+#[inline(always)]
 fn lane_of(body: &Body) -> usize {
+    LANE_OF_KIND[kind_of(body)]
+}
+
+/// The kinds, numbered in their order.
+#[inline(always)]
+fn kind_of(body: &Body) -> usize
+    ensures { result < 6 }
+{
     match body {
-        Body::PortFree { .. } => 0,
-        Body::Arrive { .. } => 1,
-        Body::Enqueue { .. } => 2,
-        Body::Carry { .. } => 3,
-        _ => LANES,
+        Body::Offer { .. } => 0,
+        Body::Release { .. } => 1,
+        Body::PortFree { .. } => 2,
+        Body::Arrive { .. } => 3,
+        Body::Enqueue { .. } => 4,
+        Body::Carry { .. } => 5,
     }
 }
 
@@ -165,7 +177,7 @@ fn front_of(heap: &BinaryHeap<Queued>) -> u128
 
 /// Puts the top into `first`. The answer is whether it is to be taken: where the last of the list does not come before it.
 #[inline(always)]
-fn take_unless(heap: &BinaryHeap<Queued>, listed: &[Message], first: &mut Message) -> bool
+fn take_unless(heap: &BinaryHeap<Queued>, listed: &Listed, first: &mut Message) -> bool
     requires { 0 < length (heap_items heap.now) }
     ensures top { slice_get (heap_items heap.now) 0 ≡ Some first.new }
     ensures sent { result ≡ true → IfSome (slice_get listed.now (length listed.now - 1)) (λ m. is_before m first.new ≡ false) }
@@ -175,5 +187,5 @@ fn take_unless(heap: &BinaryHeap<Queued>, listed: &[Message], first: &mut Messag
         return false;
     };
     top.write_to(first);
-    !is_listed_first(listed, first)
+    !listed.is_first(first)
 }
