@@ -15,7 +15,7 @@ use std::alloc::Global;
 use vlink::Message;
 
 /// The room that a lane begins with, in messages.
-const ROOM: usize = 63;
+const ROOM: usize = 15;
 
 /// Messages in the order of their keys. What comes behind the last of them goes to the end, and takes no comparison with the others.
 #[derive(Drop)]
