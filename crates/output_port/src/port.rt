@@ -1,4 +1,5 @@
-ghost use Rattle.std.specs.Prelude.{◌≡◌, ◌+◌, ◌*◌, ◌≤◌, ◌++◌, [], ◌∷◌, length, ⊤, IfOk};
+ghost use Rattle.std.specs.Prelude.{◌≡◌, ◌+◌, ◌*◌, ◌≤◌, ◌++◌, [], ◌∷◌, false, length, ⊤, IfOk};
+ghost use Rattle.std.proofs.Props.{props};
 ghost use Rattle.output_port.specs.Port.{PortState, opening, port, IsWithinBytes, put, put_answer, put_kept, free, free_answer, undone, waiting, with_waiting, waiting_bytes, may_wait, without_last};
 ghost use Rattle.output_port.specs.declared.event.PortRecord.TheVariants as saved;
 ghost use Rattle.output_port.specs.Undoing.{port-undoes, put-saves};
@@ -17,10 +18,13 @@ use vlink::{Frame, FrameSize};
 /// Clauses see it as whether it is busy, its two lists and its limit of bytes.
 #[derive(Debug, Drop)]
 pub struct Port {
+    busy: bool,
+    /// False only where nothing waits. So a port that becomes free with nothing to send, as most do, does not look into its lists.
+    waits: bool,
+    port_bytes: u32,
     high: FrameRing,
     low: FrameRing,
-    port_bytes: u32,
-    busy: bool,
+    ghost none: { waits ≡ false → (high.frames ≡ []) × (low.frames ≡ []) } by { Prim.hlevel props },
 }
 
 impl Model for Port {
@@ -44,10 +48,11 @@ impl Port {
         let high = FrameRing::new(alloc, room)?;
         let low = FrameRing::new(alloc, room)?;
         Ok(Port {
+            busy: false,
+            waits: false,
+            port_bytes,
             high,
             low,
-            port_bytes,
-            busy: false,
         })
     }
 
@@ -88,6 +93,7 @@ impl Port {
         // Their contracts say that the frames waiting and this one have at least 64 bytes each.
         let _waiting = self.waiting_bytes();
         let _bytes = frame.size.bytes();
+        self.waits = true;
         match priority {
             Priority::High => self.high.push_back(frame),
             Priority::Low => self.low.push_back(frame),
@@ -102,6 +108,7 @@ impl Port {
         // Their contracts say that the frames waiting and this one have at least 64 bytes each.
         let _waiting = self.waiting_bytes();
         let _bytes = frame.size.bytes();
+        self.waits = true;
         match priority {
             Priority::High => self.high.push_front(frame),
             Priority::Low => self.low.push_front(frame),
@@ -150,11 +157,14 @@ impl Port {
         if !self.busy {
             return FreeRecord::Nothing;
         }
-        if let Some(frame) = self.high.pop_front() {
-            return FreeRecord::Popped(Priority::High, frame);
-        }
-        if let Some(frame) = self.low.pop_front() {
-            return FreeRecord::Popped(Priority::Low, frame);
+        if self.waits {
+            if let Some(frame) = self.high.pop_front() {
+                return FreeRecord::Popped(Priority::High, frame);
+            }
+            if let Some(frame) = self.low.pop_front() {
+                return FreeRecord::Popped(Priority::Low, frame);
+            }
+            self.waits = false;
         }
         self.busy = false;
         FreeRecord::Idle
