@@ -4,6 +4,7 @@ ghost use Rattle.vlink.specs.Numbering.{greatest_number};
 ghost use Rattle.vlink.specs.declared.note.Cause.TheVariants.{Unknown};
 ghost use Rattle.bag_regulator.specs.declared.event.RegEvent.TheVariants.{Offer};
 ghost use Rattle.reverse.specs.Sending.{replied};
+ghost use Rattle.nodes.specs.Finding.{place_of};
 ghost use Rattle.nodes.specs.Ports.{port_at};
 ghost use Rattle.nodes.specs.EndSystem.{end_system, numbers_of, lost, offered_frame, regulated, taken, SinkAt, SourceAt, sink_at, source_at};
 ghost use Rattle.nodes.specs.EndSystemUndoing.{end_system_kept, end_system_restored, regulated_kept, taken_kept, unfreed, unregulated, untaken, EndSystemCameFrom, IsEndSystemValue, IsRegulatedValue};
@@ -204,7 +205,7 @@ impl EndSystem {
     fn source(&self, vl: VlId) -> Option<usize>
         ensures { result ≡ option_map (λ (source : SourceAt). source.place) (source_at self.now vl) }
     {
-        let place = self.source_numbers.place(vl)?;
+        let place = place(&self.source_numbers, self.sources.as_slice(), vl)?;
         if place < self.sources.len() && place < self.regulators.len() {
             Some(place)
         } else {
@@ -216,7 +217,7 @@ impl EndSystem {
     fn sink(&self, vl: VlId, net: Net) -> Option<usize>
         ensures { result ≡ option_map (λ (sink : SinkAt). sink.place) (sink_at self.now vl net) }
     {
-        let place = self.sink_numbers.place(vl)?;
+        let place = place(&self.sink_numbers, self.sinks.as_slice(), vl)?;
         let end = self.sinks.get(place)?;
         if is_on(end, net) && place < self.receivers.len() {
             Some(place)
@@ -224,6 +225,20 @@ impl EndSystem {
             None
         }
     }
+}
+
+/// The place of a virtual link among these.
+#[inline(always)]
+fn place(numbers: &Numbers, ends: &[VlEnd], vl: VlId) -> Option<usize>
+    requires { numbers.now ≡ numbers_of ends.now }
+    ensures { result ≡ place_of (numbers_of ends.now) vl.0 }
+{
+    let guess = numbers.guess(vl);
+    let there = match ends.get(guess) {
+        Some(end) => Some(end.vl),
+        None => None,
+    };
+    numbers.place(vl, guess, there)
 }
 
 /// A frame of this size is offered to the regulator of a virtual link.

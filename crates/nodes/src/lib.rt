@@ -2,6 +2,7 @@
 #![tactic(auto)]
 
 mod end_system;
+mod guesses;
 mod kept;
 mod line;
 mod making;

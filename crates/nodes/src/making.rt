@@ -114,7 +114,7 @@ fn ports_among(numbers: &Numbers, meetings: &[Meeting], vl: VlId) -> [bool; 24]
     requires { numbers.now ≡ numbers_met meetings.now }
     ensures { result ≡ ports_among meetings.now vl.0 }
 {
-    match numbers.place(vl) {
+    match numbers.search(vl) {
         Some(place) => meetings[place].ports,
         None => [false; 24],
     }

@@ -4,6 +4,7 @@ ghost use Rattle.vlink.specs.Numbering.{greatest_number};
 ghost use Rattle.vlink.specs.declared.message.Body.TheVariants as body;
 ghost use Rattle.nodes.specs.declared.kept.Kept.TheVariants as saved;
 ghost use Rattle.reverse.specs.Sending.{replied};
+ghost use Rattle.nodes.specs.Finding.{place_of};
 ghost use Rattle.nodes.specs.Ports.{port_at};
 ghost use Rattle.nodes.specs.Switch.{numbers_of, forwarded, judged, outputs_of, switch, taken, put, TransitAt, transit_at};
 ghost use Rattle.nodes.specs.SwitchUndoing.{taken_kept, put_kept, switch_kept, switch_restored, unported, unpoliced, SwitchCameFrom, IsSwitchValue, IsTakenValue, IsPutValue};
@@ -129,11 +130,24 @@ impl Switch {
         }
     }
 
+    /// The place of a virtual link among those that go through the switch.
+    #[inline(always)]
+    fn place(&self, vl: VlId) -> Option<usize>
+        ensures { result ≡ place_of (numbers_of self.now.transits) vl.0 }
+    {
+        let guess = self.numbers.guess(vl);
+        let there = match self.transits.get(guess) {
+            Some(transit) => Some(transit.vl),
+            None => None,
+        };
+        self.numbers.place(vl, guess, there)
+    }
+
     /// The place of a virtual link that goes through the switch.
     fn find(&self, vl: VlId) -> Option<usize>
         ensures { result ≡ option_map (λ (found : TransitAt). found.place) (transit_at self.now vl) }
     {
-        let place = self.numbers.place(vl)?;
+        let place = self.place(vl)?;
         if place < self.transits.len() && place < self.accounts.len() {
             Some(place)
         } else {
@@ -228,7 +242,7 @@ impl Switch {
     fn priority(&self, vl: VlId) -> Option<Priority>
         ensures { result ≡ option_map (λ (found : TransitAt). found.transit.priority) (transit_at self.now vl) }
     {
-        let place = self.numbers.place(vl)?;
+        let place = self.place(vl)?;
         let transit = self.transits.get(place)?;
         if place < self.accounts.len() {
             Some(transit.priority)

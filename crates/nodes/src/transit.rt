@@ -6,12 +6,12 @@ use vlink::{FrameSize, VlId};
 #[derive(Debug, Drop)]
 pub struct Transit {
     pub vl: VlId,
-    /// The port at which its frames come in.
-    pub input: u8,
-    /// The ports at which its frames go out.
-    pub outputs: Outputs,
     /// The greatest size of its frames.
     pub smax: FrameSize,
+    /// The port at which its frames come in.
+    pub input: u8,
     /// Which of its output ports' lists its frames wait in.
     pub priority: Priority,
+    /// The ports at which its frames go out.
+    pub outputs: Outputs,
 }

@@ -9,18 +9,18 @@ same-place : (numbers : List ℕ) (meetings : List Meeting) (id : ℕ) (o p : Op
 same-place numbers meetings id o p same placed is = ap (λ ns. place_of ns id) (sym same) ∙ sym placed ∙ is
 
 pub bounds-meetings-place : goal.bounds-meetings-place
-bounds-meetings-place c = placed-within c.args.meetings.now c.args.vl.0 c.in-Some.place (same-place _ _ _ _ _ c.requires c.place.ensures c.in-Some.is)
+bounds-meetings-place c = placed-within c.args.meetings.now c.args.vl.0 c.in-Some.place (same-place _ _ _ _ _ c.requires c.search.ensures c.in-Some.is)
 
 pub bounds-meetings-place-in-Some : goal.bounds-meetings-place-in-Some
-bounds-meetings-place-in-Some c = placed-within c.args.meetings.now c.args.vl.0 c.in-Some.place (same-place _ _ _ _ _ c.requires c.place.ensures c.in-Some.is)
+bounds-meetings-place-in-Some c = placed-within c.args.meetings.now c.args.vl.0 c.in-Some.place (same-place _ _ _ _ _ c.requires c.search.ensures c.in-Some.is)
 
 pub offset_bounds-meetings-place : goal.offset_bounds-meetings-place
 offset_bounds-meetings-place c =
-    let within = placed-within c.args.meetings.now c.args.vl.0 c.in-Some.place (same-place _ _ _ _ _ c.requires c.place.ensures c.in-Some.is) in
+    let within = placed-within c.args.meetings.now c.args.vl.0 c.in-Some.place (same-place _ _ _ _ _ c.requires c.search.ensures c.in-Some.is) in
     omega arith
 
 pub returns-in-Some : goal.returns-in-Some
-returns-in-Some c = ports-placed c.args.meetings.now c.args.vl.0 c.in-Some.place c.index-meetings-place.result (same-place _ _ _ _ _ c.requires c.place.ensures c.in-Some.is)
+returns-in-Some c = ports-placed c.args.meetings.now c.args.vl.0 c.in-Some.place c.index-meetings-place.result (same-place _ _ _ _ _ c.requires c.search.ensures c.in-Some.is)
 
 pub returns-in-None : goal.returns-in-None
-returns-in-None c = sym (ports-nowhere c.args.meetings.now c.args.vl.0 (same-place _ _ _ _ _ c.requires c.place.ensures c.in-None.is))
+returns-in-None c = sym (ports-nowhere c.args.meetings.now c.args.vl.0 (same-place _ _ _ _ _ c.requires c.search.ensures c.in-None.is))
