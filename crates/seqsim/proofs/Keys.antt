@@ -3,11 +3,11 @@ use Rattle.std.proofs.Common.{◌≡◌, ℕ, suc, ◌<◌, ◌≤◌, ◌⊎◌
 use Rattle.std.specs.Cmp.{IsTotalOrder, nat_cmp_is}
 use Rattle.std.specs.Ordering.{nat_cmp, ordering_then, is_lt}
 use Rattle.std.specs.declared.cmp.Ordering.{Ordering}
-use Rattle.std.specs.declared.cmp.Ordering.TheVariants.{Equal, Greater}
+use Rattle.std.specs.declared.cmp.Ordering.TheVariants.{Less, Equal, Greater}
 use Rattle.std.proofs.lemmas.Bool.{cases_eq}
 use Rattle.vlink.specs.Order.{message_cmp}
 use Rattle.reverse.specs.Rules.{is_before}
-use Rattle.std.proofs.lemmas.List.Elements.{All-nil, All-cons, All-weaker, All-drop}
+use Rattle.std.proofs.lemmas.List.Elements.{All-nil, All-cons, All-tail, All-weaker, All-drop}
 use Rattle.std.proofs.lemmas.List.Sorted.{All-permutation, ranks_by}
 use Rattle.vlink.specs.declared.message.Message.{Message}
 use Rattle.seqsim.specs.Keys.{key_of, HasKey, IsNamed, AreNamed}
@@ -16,6 +16,10 @@ use Rattle.seqsim.specs.Keys.{key_of, HasKey, IsNamed, AreNamed}
 pub All-left : {X : Type 0} (P : X → Type 0) (xs ys : List X) → All P (xs ++ ys) → All P xs
 All-left P [] ys h = All-nil P
 All-left P (x ∷ xs) ys h = All-cons P x xs (h 0 x (omega arith)) (All-left P xs ys (λ k d l. h (suc k) d (omega (arith, l))))
+
+pub All-right : {X : Type 0} (P : X → Type 0) (xs ys : List X) → All P (xs ++ ys) → All P ys
+All-right P [] ys h = h
+All-right P (x ∷ xs) ys h = All-right P xs ys (All-tail P x (xs ++ ys) h)
 
 -- in another order
 pub named-permutation : (xs ys : List Message) → IsPermutation xs ys → AreNamed xs → AreNamed ys
@@ -49,6 +53,15 @@ decided a b r h k = go (cases_eq a b)
 pub later-not-before : (x m : Message) → m.time < x.time → is_before x m ≡ false
 unfolding message_cmp
 later-not-before x m h = decided x.time m.time _ (omega (arith, h)) (λ e. absurd (omega (arith, h, e)))
+
+-- the lesser of two numbers decides
+decided-less : (a b : ℕ) (r : Ordering) → a < b → is_lt (ordering_then (nat_cmp a b) r) ≡ true
+decided-less a b r h = subst (λ c. is_lt (ordering_then c r) ≡ true) (nat_cmp_is a b Less (omega (arith, h))) refl
+
+-- a message that is due earlier is before
+pub earlier-before : (x m : Message) → x.time < m.time → is_before x m ≡ true
+unfolding message_cmp
+earlier-before x m h = decided-less x.time m.time _ h
 
 -- no message is before itself
 itself : (o : IsTotalOrder message_cmp) (m : Message) → is_before m m ≡ false

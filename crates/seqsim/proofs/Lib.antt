@@ -9,3 +9,4 @@ pub mod RowLemmas
 pub mod Keys
 pub mod Naming
 pub mod Lanes
+pub mod Holding

@@ -3,3 +3,4 @@ pub mod Load
 pub mod Networks
 pub mod Tops
 pub mod Keys
+pub mod Held

@@ -2,14 +2,17 @@
 #![tactic(auto)]
 
 mod fault;
+mod held;
 mod lane;
 mod laws;
 mod listed;
 mod networks;
 mod queued;
+mod ranked;
 mod running;
 mod sent;
 mod simulating;
+mod slot;
 mod tables;
 mod tops;
 mod waiting;

@@ -1,5 +1,5 @@
 //! The offers that wait, in a list that falls: the first of them stands at the end.
-ghost use Rattle.std.specs.Prelude.{◌≡◌, ◌-◌, [], ◌∷◌, ◌++◌, true, false, length, slice_get, OnOk, IfErr, IfSome, IsSomeAnd, IsPermutation};
+ghost use Rattle.std.specs.Prelude.{◌≡◌, ◌-◌, [], ◌∷◌, ◌++◌, true, false, length, slice_get, OnOk, OnErr, IfErr, IfSome, IsSomeAnd, IsPermutation};
 ghost use Rattle.std.specs.List.Sorted.{IsSortedBy};
 ghost use Rattle.std.proofs.Props.{props};
 ghost use Rattle.reverse.specs.Rules.{is_before};
@@ -23,6 +23,7 @@ fn list(listed: &mut Vec<Message>, message: &Message) -> Result<(), SimFault>
     requires { IsSortedBy (λ x y. is_before y x) listed.old.items }
     ensures falling { IsSortedBy (λ x y. is_before y x) listed.new.items }
     ensures more { OnOk result (IsPermutation (message.now ∷ listed.old.items) listed.new.items) }
+    ensures same { OnErr result (listed.new.items ≡ listed.old.items) }
     ensures memory { IfErr result (λ fault. fault ≡ OutOfMemory) }
 {
     listed.extend_from_slice(&[*message])?;
@@ -94,6 +95,7 @@ impl Listed {
         requires { IsSortedBy (λ x y. is_before y x) self.old }
         ensures falling { IsSortedBy (λ x y. is_before y x) self.new }
         ensures more { OnOk result (IsPermutation (message.now ∷ self.old) self.new) }
+        ensures same { OnErr result (self.new ≡ self.old) }
         ensures memory { IfErr result (λ fault. fault ≡ OutOfMemory) }
     {
         let listed = list(&mut self.messages, message);

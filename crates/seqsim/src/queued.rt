@@ -21,10 +21,10 @@ pub(crate) const BEYOND_KEYS: u128 = u128::MAX;
 #[derive(Drop)]
 pub(crate) struct Queued {
     /// The time, and in 16 bits the receiver.
-    place: u64,
+    pub(crate) place: u64,
     /// The sender, and in 48 bits the number.
-    name: u64,
-    body: Body,
+    pub(crate) name: u64,
+    pub(crate) body: Body,
 }
 
 impl Model for Queued {

@@ -101,7 +101,7 @@ fn take_turn<A: Actor>(
     ensures left { OnErr result ((earlier : List Noted) → AtEach (rules_of A.plain A.counter) actors.old waiting.old (earlier ++ rows.old.items)
         (λ f n. AreOnTheWay f actors.new)) }
 {
-    if !waiting.pop(message) {
+    if !waiting.pop(message)? {
         return Ok(false);
     }
     if !act(actors, message, out) {
@@ -177,7 +177,7 @@ pub fn run_actors<A: Actor>(
     ensures exhausted { result ≡ Err Exhausted → OfEach (rules_of A.plain A.counter) actors.old offers.now (λ f. (n : ℕ) × IsExhaustedAt f n) }
     ensures left { OnErr result (OfEach (rules_of A.plain A.counter) actors.old offers.now (λ f. AreOnTheWay f actors.new)) }
 {
-    let mut waiting = Waiting::with_offers(alloc, offers)?;
+    let mut waiting = Waiting::with_offers(alloc, offers, actors.len())?;
     let mut rows = Vec::new(alloc);
     take_all_turns(actors, &mut waiting, &mut rows)?;
     Ok(rows)

@@ -1,5 +1,5 @@
 //! What was sent and waits: in lanes, and in a heap what would not go to the end of its lane.
-ghost use Rattle.std.specs.Prelude.{◌≡◌, ◌-◌, ◌<◌, ◌≤◌, [], ◌∷◌, ◌++◌, Some, true, false, length, slice_get, slice_index_or, All, OnOk, IfOk, IfErr, IfSome, IsSomeAnd, IsPermutation};
+ghost use Rattle.std.specs.Prelude.{◌≡◌, ◌-◌, ◌<◌, ◌≤◌, [], ◌∷◌, ◌++◌, Some, true, false, length, slice_get, slice_index_or, All, OnOk, OnErr, IfOk, IfErr, IfSome, IsSomeAnd, IsPermutation};
 ghost use Rattle.std.specs.Ordering.{nat_cmp};
 ghost use Rattle.std.specs.List.{flat_map};
 ghost use Rattle.std.specs.BinaryHeap.{IsHeap, heap_items, heap_len};
@@ -82,6 +82,7 @@ impl Sent {
         requires keyed { HasKey queued }
         requires named { IsNamed queued self.old }
         ensures more { OnOk result (IsPermutation (queued ∷ self.old) self.new) }
+        ensures same { OnErr result (self.new ≡ self.old) }
         ensures memory { IfErr result (λ fault. fault ≡ OutOfMemory) }
     {
         let lane = lane_of(queued.body());
@@ -93,6 +94,42 @@ impl Sent {
         tops::put(&mut self.heap, self.is_top_taken, queued)?;
         self.is_top_taken = false;
         Ok(())
+    }
+
+    /// One message more, where nearly each goes to the end of its lane: only that is a part of the caller.
+    #[inline(always)]
+    pub(crate) fn push_behind(&mut self, queued: Queued) -> Result<(), SimFault>
+        requires keyed { HasKey queued }
+        requires named { IsNamed queued self.old }
+        ensures more { OnOk result (IsPermutation (queued ∷ self.old) self.new) }
+        ensures same { OnErr result (self.new ≡ self.old) }
+        ensures memory { IfErr result (λ fault. fault ≡ OutOfMemory) }
+    {
+        if self.has_lane_for(&queued) {
+            self.push(queued)
+        } else {
+            self.push_apart(queued)
+        }
+    }
+
+    /// Whether the message goes to the end of a lane.
+    #[inline(always)]
+    fn has_lane_for(&self, queued: &Queued) -> bool {
+        let lane = lane_of(queued.body());
+        lane < LANES && self.lanes[lane].takes(queued.key())
+    }
+
+    /// One message more, by a call.
+    #[cold]
+    #[inline(never)]
+    fn push_apart(&mut self, queued: Queued) -> Result<(), SimFault>
+        requires keyed { HasKey queued }
+        requires named { IsNamed queued self.old }
+        ensures more { OnOk result (IsPermutation (queued ∷ self.old) self.new) }
+        ensures same { OnErr result (self.new ≡ self.old) }
+        ensures memory { IfErr result (λ fault. fault ≡ OutOfMemory) }
+    {
+        self.push(queued)
     }
 
     /// Takes the first message out, unless there is none or the last of the list comes before it: then it is in `first`. The answer is

@@ -75,6 +75,6 @@ pub fn run_tables(alloc: Global, network: &Network) -> Result<Tables, SimFault>
     network_laws(network);
     let offers = offers(alloc, network)?;
     let mut nodes = nodes_of(alloc, network)?;
-    let mut waiting = Waiting::of_offers(alloc, offers)?;
+    let mut waiting = Waiting::of_offers(alloc, offers, nodes.len())?;
     count_all_turns(alloc, network, &mut nodes, &mut waiting)
 }

@@ -8,6 +8,7 @@ use std::collections::BinaryHeap;
 use std::collections::binary_heap::PeekMut;
 
 /// The element goes into the heap: in place of the top, if that was taken.
+#[inline(always)]
 pub(crate) fn put<T: Ord + Drop>(
     heap: &mut BinaryHeap<T>,
     is_top_taken: bool,
@@ -27,6 +28,7 @@ pub(crate) fn put<T: Ord + Drop>(
 }
 
 /// Only what was not taken stays in the heap.
+#[inline(always)]
 pub(crate) fn clear<T: Ord + Drop>(heap: &mut BinaryHeap<T>, is_top_taken: bool)
     requires { is_top_taken ≡ true → 0 < heap_len heap.old }
     ensures left { IsPermutation (left_in is_top_taken (heap_items heap.old)) (heap_items heap.new) }
@@ -38,6 +40,7 @@ pub(crate) fn clear<T: Ord + Drop>(heap: &mut BinaryHeap<T>, is_top_taken: bool)
 }
 
 /// The element comes in place of the top.
+#[inline(always)]
 fn replace_top<T: Ord + Drop>(heap: &mut BinaryHeap<T>, element: T)
     requires { 0 < heap_len heap.old }
     ensures elements { IsPermutation (element ∷ drop 1 (heap_items heap.old)) (heap_items heap.new) }
@@ -48,6 +51,7 @@ fn replace_top<T: Ord + Drop>(heap: &mut BinaryHeap<T>, element: T)
 }
 
 /// The top leaves the heap.
+#[inline(always)]
 fn remove_top<T: Ord + Drop>(heap: &mut BinaryHeap<T>)
     requires { 0 < heap_len heap.old }
     ensures elements { IsPermutation (drop 1 (heap_items heap.old)) (heap_items heap.new) }

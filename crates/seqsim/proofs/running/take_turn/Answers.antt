@@ -1,4 +1,4 @@
-use Rattle.std.proofs.Common.{refl, suc, ◌++◌, ◌∙◌, ap, sym, subst, length, List, IsPermutation, arith}
+use Rattle.std.proofs.Common.{◌≡◌, refl, suc, true, false, Ok, ◌++◌, ◌∙◌, ap, sym, subst, length, List, IsPermutation, rules, arith}
 use Rattle.vlink.specs.declared.message.Message.{Message}
 use Rattle.vlink.specs.declared.time.TheConstants.{GREATEST_NS}
 use Rattle.reverse.specs.Rules.{rules_of}
@@ -8,58 +8,85 @@ use Rattle.seqsim.proofs.Errors.{after-error}
 use Rattle.seqsim.proofs.Loading.{load-falls}
 use Rattle.seqsim.proofs.running.take_turn.Goals as goal
 
-pub returns-then-not-pop-clause-over : goal.returns-then-not-pop-clause-over
-returns-then-not-pop-clause-over g c = λ e earlier x L n h.
-    let f = simulation_of (rules_of g.A.Reversible.plain g.A.Actor.counter) x in (
-      subst (λ (heap : List Message). StandsAt f n c.args.actors.now heap (earlier ++ c.args.rows.now.items)) (sym (c.if-not-pop.ensures.unchanged refl)) h,
-      over f L n _ _ _ h (c.if-not-pop.ensures.none refl),
+pub returns-in_err-pop-clause-left : goal.returns-in_err-pop-clause-left
+returns-in_err-pop-clause-left g c = after-error (λ earlier x L n h. (n, h.states)) c.from_residual.result
+
+pub returns-then-not-branch-clause-over : goal.returns-then-not-branch-clause-over
+returns-then-not-branch-clause-over g c = λ e earlier x L n h.
+    let f = simulation_of (rules_of g.A.Reversible.plain g.A.Actor.counter) x in
+    let t : c.in_ok-pop.field-0 ≡ false = search rules in
+    let none = ap (λ b. Ok b) t in (
+      subst (λ (heap : List Message). StandsAt f n c.args.actors.now heap (earlier ++ c.args.rows.now.items)) (sym (c.in_ok-pop.ensures.unchanged none)) h,
+      over f L n _ _ _ h (c.in_ok-pop.ensures.none none),
     )
 
 pub act-requires : goal.act-requires
 act-requires g c =
+    let t : c.in_ok-pop.field-0 ≡ true = search rules in
+    let one = c.in_ok-pop.ensures.one (ap (λ b. Ok b) t) in
+    let first = c.in_ok-pop.ensures.first (ap (λ b. Ok b) t) in
     let now = c.requires.1 in
     let f = simulation_of (rules_of g.A.Reversible.plain g.A.Actor.counter) now.0 in
-    receiver_within f now.1 now.2 _ _ _ now.3 c.pop.new.first c.pop.new.self (c.if-not-pop.ensures.one refl) (c.if-not-pop.ensures.first refl)
+    receiver_within f now.1 now.2 _ _ _ now.3 c.pop.new.first c.pop.new.self one first
 
 pub returns-then-not-act-clause-exhausted : goal.returns-then-not-act-clause-exhausted
-returns-then-not-act-clause-exhausted g c = λ e earlier x L n h.
+returns-then-not-act-clause-exhausted g c =
+    let t : c.in_ok-pop.field-0 ≡ true = search rules in
+    let one = c.in_ok-pop.ensures.one (ap (λ b. Ok b) t) in
+    let first = c.in_ok-pop.ensures.first (ap (λ b. Ok b) t) in
+    λ e earlier x L n h.
     let f = simulation_of (rules_of g.A.Reversible.plain g.A.Actor.counter) x in (
       c.pop.new.first,
-      is_next f L n _ _ _ h c.pop.new.first c.pop.new.self (c.if-not-pop.ensures.one refl) (c.if-not-pop.ensures.first refl),
-      c.if-not-act.ensures.exhausted refl _ (receiver_is f L n _ _ _ h c.pop.new.first c.pop.new.self (c.if-not-pop.ensures.one refl) (c.if-not-pop.ensures.first refl)),
+      is_next f L n _ _ _ h c.pop.new.first c.pop.new.self one first,
+      c.if-not-act.ensures.exhausted refl _ (receiver_is f L n _ _ _ h c.pop.new.first c.pop.new.self one first),
     )
 
 pub push_all-requires : goal.push_all-requires
 push_all-requires g c =
+    let t : c.in_ok-pop.field-0 ≡ true = search rules in
+    let one = c.in_ok-pop.ensures.one (ap (λ b. Ok b) t) in
+    let first = c.in_ok-pop.ensures.first (ap (λ b. Ok b) t) in
     let at = c.requires.1 in
     let f = simulation_of (rules_of g.A.Reversible.plain g.A.Actor.counter) at.0 in
-    let r = receiver_is f at.1 at.2 _ _ _ at.3 c.pop.new.first c.pop.new.self (c.if-not-pop.ensures.one refl) (c.if-not-pop.ensures.first refl) in
-    named f at.1 at.2 _ _ _ at.3 c.pop.new.first c.pop.new.self (c.if-not-pop.ensures.one refl) (c.if-not-pop.ensures.first refl) c.messages.result.now
+    let r = receiver_is f at.1 at.2 _ _ _ at.3 c.pop.new.first c.pop.new.self one first in
+    named f at.1 at.2 _ _ _ at.3 c.pop.new.first c.pop.new.self one first c.messages.result.now
     (c.messages.ensures.messages ∙ c.if-not-act.ensures.messages refl _ r)
 
 pub returns-in_err-push_all-clause-left : goal.returns-in_err-push_all-clause-left
-returns-in_err-push_all-clause-left g c = after-error (λ earlier x L n h.
+returns-in_err-push_all-clause-left g c =
+    let t : c.in_ok-pop.field-0 ≡ true = search rules in
+    let one = c.in_ok-pop.ensures.one (ap (λ b. Ok b) t) in
+    let first = c.in_ok-pop.ensures.first (ap (λ b. Ok b) t) in
+    after-error (λ earlier x L n h.
     let f = simulation_of (rules_of g.A.Reversible.plain g.A.Actor.counter) x in
-    let r = receiver_is f L n _ _ _ h c.pop.new.first c.pop.new.self (c.if-not-pop.ensures.one refl) (c.if-not-pop.ensures.first refl) in (
+    let r = receiver_is f L n _ _ _ h c.pop.new.first c.pop.new.self one first in (
       suc n,
-      states_after f L n _ _ _ h c.pop.new.first c.pop.new.self (c.if-not-pop.ensures.one refl) (c.if-not-pop.ensures.first refl) c.act.new.actors (c.if-not-act.ensures.state refl _ r),
+      states_after f L n _ _ _ h c.pop.new.first c.pop.new.self one first c.act.new.actors (c.if-not-act.ensures.state refl _ r),
     ))
-    c.from_residual.result
+    c.from_residual-in_err-push_all.result
 
 pub returns-in_err-note_all-clause-left : goal.returns-in_err-note_all-clause-left
-returns-in_err-note_all-clause-left g c = after-error (λ earlier x L n h.
+returns-in_err-note_all-clause-left g c =
+    let t : c.in_ok-pop.field-0 ≡ true = search rules in
+    let one = c.in_ok-pop.ensures.one (ap (λ b. Ok b) t) in
+    let first = c.in_ok-pop.ensures.first (ap (λ b. Ok b) t) in
+    after-error (λ earlier x L n h.
     let f = simulation_of (rules_of g.A.Reversible.plain g.A.Actor.counter) x in
-    let r = receiver_is f L n _ _ _ h c.pop.new.first c.pop.new.self (c.if-not-pop.ensures.one refl) (c.if-not-pop.ensures.first refl) in (
+    let r = receiver_is f L n _ _ _ h c.pop.new.first c.pop.new.self one first in (
       suc n,
-      states_after f L n _ _ _ h c.pop.new.first c.pop.new.self (c.if-not-pop.ensures.one refl) (c.if-not-pop.ensures.first refl) c.act.new.actors (c.if-not-act.ensures.state refl _ r),
+      states_after f L n _ _ _ h c.pop.new.first c.pop.new.self one first c.act.new.actors (c.if-not-act.ensures.state refl _ r),
     ))
     c.from_residual-in_err-note_all.result
 
 pub returns-clause-turned : goal.returns-clause-turned
-returns-clause-turned g c = λ e earlier x L n h.
+returns-clause-turned g c =
+    let t : c.in_ok-pop.field-0 ≡ true = search rules in
+    let one = c.in_ok-pop.ensures.one (ap (λ b. Ok b) t) in
+    let first = c.in_ok-pop.ensures.first (ap (λ b. Ok b) t) in
+    λ e earlier x L n h.
     let f = simulation_of (rules_of g.A.Reversible.plain g.A.Actor.counter) x in
-    let r = receiver_is f L n _ _ _ h c.pop.new.first c.pop.new.self (c.if-not-pop.ensures.one refl) (c.if-not-pop.ensures.first refl) in
-    turned f L n _ _ _ h c.pop.new.first c.pop.new.self (c.if-not-pop.ensures.one refl) (c.if-not-pop.ensures.first refl)
+    let r = receiver_is f L n _ _ _ h c.pop.new.first c.pop.new.self one first in
+    turned f L n _ _ _ h c.pop.new.first c.pop.new.self one first
     c.act.new.actors c.messages.result.now c.notes.result.now c.push_all.new.self (earlier ++ c.note_all.new.rows.items)
     (c.if-not-act.ensures.state refl _ r)
     (c.messages.ensures.messages ∙ c.if-not-act.ensures.messages refl _ r)
@@ -68,8 +95,11 @@ returns-clause-turned g c = λ e earlier x L n h.
     (noted-behind earlier c.args.rows.now.items c.note_all.new.rows.items _ c.in_ok-note_all.ensures.noted)
 
 pub returns-clause-smaller : goal.returns-clause-smaller
-returns-clause-smaller g c = λ e.
-    load-falls GREATEST_NS c.pop.new.first _ c.pop.new.self c.act.new.out.messages _ (c.if-not-pop.ensures.one refl)
+returns-clause-smaller g c =
+    let t : c.in_ok-pop.field-0 ≡ true = search rules in
+    let one = c.in_ok-pop.ensures.one (ap (λ b. Ok b) t) in
+    λ e.
+    load-falls GREATEST_NS c.pop.new.first _ c.pop.new.self c.act.new.out.messages _ one
     (subst (λ (sent : List Message). IsPermutation (c.pop.new.self ++ sent) c.push_all.new.self) c.messages.ensures.messages c.in_ok-push_all.ensures.more)
     (c.if-not-act.ensures.later refl) (c.if-not-act.ensures.in_limits refl)
     (let a = c.messages.ensures.few in let b = ap length c.messages.ensures.messages in omega arith)

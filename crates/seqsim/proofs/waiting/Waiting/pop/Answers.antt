@@ -1,63 +1,128 @@
-use Rattle.std.proofs.Common.{◌≡◌, ◌<◌, ◌-◌, List, [], ◌∷◌, ◌++◌, ◌∙◌, length, slice_get, IsPermutation, subst, sym, ap, refl, arith}
-use Rattle.std.specs.Prelude.{IsSomeAnd}
-use Rattle.std.proofs.lemmas.List.Sorted.{IsPermutation-refl, IsPermutation-append_left, length_permutation}
-use Rattle.std.proofs.lemmas.List.{nil_from_length}
+use Rattle.std.proofs.Common.{◌≡◌, ◌∙◌, Result, Ok, Err, OnOk, OnErr, false, List, [], ◌∷◌, ◌++◌, All, IsPermutation, subst, sym, ap, refl}
+use Rattle.std.proofs.lemmas.List.Elements.{All-head, All-tail, All-append}
+use Rattle.std.proofs.lemmas.List.Sorted.{IsPermutation-append_left, All-permutation}
 use Rattle.vlink.specs.declared.message.Message.{Message}
-use Rattle.seqsim.proofs.Waits.{NoneBefore, taken-out, last-is, listed-first, sent-first}
+use Rattle.reverse.specs.Rules.{is_before}
+use Rattle.seqsim.specs.Keys.{IsNamed}
+use Rattle.seqsim.specs.Held.{held_in, AreBehind}
+use Rattle.seqsim.proofs.Keys.{All-left, All-right}
+use Rattle.seqsim.proofs.Waits.{NoneBefore}
+use Rattle.seqsim.proofs.Holding.{Apart, behind-more, behind-permuted, held-none, held-after, let-go, named-part}
 use Rattle.seqsim.proofs.waiting.Waiting.pop.Goals as goal
 
-pub returns-then-pop_unless-clause-one : goal.returns-then-pop_unless-clause-one
-returns-then-pop_unless-clause-one c = λ t.
-    let sent = c.self.inside.sent in
-    let listed = c.self.inside.listed in
-    let m = c.pop_unless.new.first in
-    subst (λ (xs : List Message). IsPermutation xs (m ∷ (c.pop_unless.new.self ++ listed))) c.self.view_is
-    (IsPermutation-append_left listed sent (m ∷ c.pop_unless.new.self) (c.if-pop_unless.ensures.one refl))
+pub returns-then-not-pop-clause-none : goal.returns-then-not-pop-clause-none
+returns-then-not-pop-clause-none c = λ t.
+    let slots = c.self.inside.held.slots.items in
+    let none : c.self.inside.ranked ≡ [] = c.if-not-pop.ensures.none refl in
+    let free : held_in slots ≡ [] = held-none slots (subst (λ (xs : List Message). AreBehind slots xs) none c.self.inside.behind) in
+    sym c.self.view_is ∙ (ap (λ (xs : List Message). xs ++ held_in slots) none ∙ free)
 
-pub returns-then-pop_unless-clause-first : goal.returns-then-pop_unless-clause-first
-returns-then-pop_unless-clause-first c = λ t.
-    let sent = c.self.inside.sent in
-    let listed = c.self.inside.listed in
-    let m = c.pop_unless.new.first in
-    subst (NoneBefore m) c.self.view_is
-    (sent-first c.message_order.ensures.total (sent ++ listed) sent listed m (IsPermutation-refl (sent ++ listed)) c.self.inside.falling (c.if-pop_unless.ensures.first refl) (c.if-pop_unless.ensures.sent refl))
+pub put-requires-clause-named : goal.put-requires-clause-named
+put-requires-clause-named c =
+    let due = c.self.inside.ranked in
+    let left = c.pop.new.self in
+    let held = held_in c.self.inside.held.slots.items in
+    let rest = held_in c.take.new.self.slots.items in
+    let h = c.in-Some.held in
+    let y = c.pop.new.first in
+    let named : IsNamed h (due ++ held) =
+    All-head (λ m. IsNamed m (due ++ held)) h rest (All-permutation (λ m. IsNamed m (due ++ held)) held (h ∷ rest) c.in-Some.ensures.some c.self.inside.named) in
+    All-tail (Apart h) y left (All-permutation (Apart h) due (y ∷ left) (c.if-not-pop.ensures.one refl) (All-left (Apart h) due held named))
 
-pub returns-clause-one : goal.returns-clause-one
-returns-clause-one c = λ t.
-    let sent = c.self.inside.sent in
-    let listed = c.self.inside.listed in
-    let m = c.pop.new.last in
-    let rest = c.pop.new.self in
-    subst (λ (xs : List Message). IsPermutation xs (m ∷ (c.pop_unless.new.self ++ rest))) c.self.view_is
-    (taken-out (sent ++ listed) c.pop_unless.new.self listed rest m (IsPermutation-append_left listed sent c.pop_unless.new.self (c.if-pop_unless.ensures.same refl)) (c.pop.ensures.one t))
+-- whether the message was put to the others or refused
+either : {A E C P Q : Type 0} (r : Result A E) → OnOk r P → OnErr r Q → (P → C) → (Q → C) → C
+either (Ok x) p q f g = f p
+either (Err x) p q f g = g q
 
--- where the last of a list is before all that was sent, if anything was, none that was sent is before it
-none-sent : (sent listed rest : List Message) (m : Message) → listed ≡ rest ++ m ∷ [] →
-    (0 < length sent → IsSomeAnd (slice_get listed (length listed - 1)) (λ x. NoneBefore x sent)) → NoneBefore m sent
-none-sent sent listed rest m e h = λ k d l. (subst (λ o. IsSomeAnd o (λ x. NoneBefore x sent)) (last-is listed rest m e) (h (omega (arith, l)))) k d l
+-- what holds of all that waited holds of all that is left
+left-of : (P : Message → Type 0) (due left held rest : List Message) (y : Message) → IsPermutation due (y ∷ left) → (All P held → All P rest) → All P (due ++ held) →
+    All P (left ++ rest)
+left-of P due left held rest y p f h =
+    All-append P left rest (All-tail P y left (All-permutation P due (y ∷ left) p (All-left P due held h))) (f (All-right P due held h))
 
-pub returns-clause-first : goal.returns-clause-first
-returns-clause-first c = λ t.
-    let sent = c.self.inside.sent in
-    let listed = c.self.inside.listed in
-    let m = c.pop.new.last in
-    let rest = c.pop.new.self in
-    subst (NoneBefore m) c.self.view_is
-    (listed-first c.message_order.ensures.total (sent ++ listed) sent listed rest m (IsPermutation-refl (sent ++ listed)) c.self.inside.falling (c.pop.ensures.one t)
-    (none-sent sent listed rest m (c.pop.ensures.one t) (c.if-pop_unless.ensures.listed refl)))
+pub invariant_of-self-inside-in-Some : goal.invariant_of-self-inside-in-Some
+invariant_of-self-inside-in-Some c =
+    let slots = c.self.inside.held.slots.items in
+    let now = c.take.new.self.slots.items in
+    let due = c.self.inside.ranked in
+    let left = c.pop.new.self in
+    let new = c.put.new.self in
+    let h = c.in-Some.held in
+    let y = c.pop.new.first in
+    let one : IsPermutation due (y ∷ left) = c.if-not-pop.ensures.one refl in
+    let two : IsPermutation (held_in slots) (h ∷ held_in now) = c.in-Some.ensures.some in
+    let behind : AreBehind now left = c.take.ensures.behind left (behind-permuted slots due (y ∷ left) one c.self.inside.behind) in
+    either c.put.result c.put.ensures.more c.put.ensures.same
+    (λ more. (
+      behind-more now h left new more behind,
+      (
+        named-part (due ++ held_in slots) (new ++ held_in now) (held_in slots) (held_in now)
+            (λ P k. All-tail P y (new ++ held_in now) (All-permutation P (due ++ held_in slots) (y ∷ (new ++ held_in now)) (let-go due left new (held_in slots) (held_in now) y h one two more) k))
+            (λ P k. All-tail P h (held_in now) (All-permutation P (held_in slots) (h ∷ held_in now) two k)) c.self.inside.named,
+        _,
+      ),
+    ))
+    (λ same. (
+      subst (λ (xs : List Message). AreBehind now xs) (sym same) behind,
+      (
+        subst (λ (xs : List Message). All (λ m. IsNamed m (xs ++ held_in now)) (held_in now)) (sym same)
+            (named-part (due ++ held_in slots) (left ++ held_in now) (held_in slots) (held_in now)
+            (λ P. left-of P due left (held_in slots) (held_in now) y one (λ k. All-tail P h (held_in now) (All-permutation P (held_in slots) (h ∷ held_in now) two k)))
+            (λ P k. All-tail P h (held_in now) (All-permutation P (held_in slots) (h ∷ held_in now) two k)) c.self.inside.named),
+        _,
+      ),
+    ))
 
--- nothing was sent, where the last of no list would be before it
-sent-none : (sent listed : List Message) (P : Message → Type 0) → listed ≡ [] → (0 < length sent → IsSomeAnd (slice_get listed (length listed - 1)) P) → sent ≡ []
-sent-none [] listed P e h = refl
-sent-none (x ∷ xs) listed P e h = absurd (subst (λ (ys : List Message). IsSomeAnd (slice_get ys (length ys - 1)) P) e (h (omega arith)))
+pub returns-in_ok-put-clause-one : goal.returns-in_ok-put-clause-one
+returns-in_ok-put-clause-one c = λ t.
+    let slots = c.self.inside.held.slots.items in
+    let now = c.take.new.self.slots.items in
+    let y = c.pop.new.first in
+    subst (λ (xs : List Message). IsPermutation xs (y ∷ (c.put.new.self ++ held_in now))) c.self.view_is
+    (let-go c.self.inside.ranked c.pop.new.self c.put.new.self (held_in slots) (held_in now) y c.in-Some.held (c.if-not-pop.ensures.one refl) c.in-Some.ensures.some c.in_ok-put.ensures.more)
 
-pub returns-clause-unchanged : goal.returns-clause-unchanged
-returns-clause-unchanged c = λ t.
-    let sent = c.self.inside.sent in
-    let new = c.pop_unless.new.self in
-    let listed = c.self.inside.listed in
-    let rest = c.pop.new.self in
-    let none : sent ≡ [] = sent-none sent listed (λ x. NoneBefore x sent) (c.pop.ensures.none t) (c.if-pop_unless.ensures.listed refl) in
-    let still : new ≡ [] = nil_from_length new (length_permutation sent new (c.if-pop_unless.ensures.same refl) ∙ ap (λ (xs : List Message). length xs) none) in
-    let all : sent ++ listed ≡ [] = ap (λ (xs : List Message). xs ++ listed) none ∙ c.pop.ensures.none t in
-    ap (λ (xs : List Message). xs ++ rest) still ∙ (c.pop.ensures.empty t ∙ (sym all ∙ c.self.view_is))
+pub returns-in_ok-put-clause-first : goal.returns-in_ok-put-clause-first
+returns-in_ok-put-clause-first c = λ t.
+    let slots = c.self.inside.held.slots.items in
+    let due = c.self.inside.ranked in
+    let y = c.pop.new.first in
+    subst (NoneBefore y) c.self.view_is
+    (All-append (λ x. is_before x y ≡ false) due (held_in slots) (c.if-not-pop.ensures.first refl) (held-after c.message_order.ensures.total slots y due c.self.inside.behind (c.if-not-pop.ensures.first refl)))
+
+pub invariant_of-self-inside-in_default : goal.invariant_of-self-inside-in_default
+invariant_of-self-inside-in_default c =
+    let slots = c.self.inside.held.slots.items in
+    let now = c.take.new.self.slots.items in
+    let due = c.self.inside.ranked in
+    let left = c.pop.new.self in
+    let y = c.pop.new.first in
+    let one : IsPermutation due (y ∷ left) = c.if-not-pop.ensures.one refl in
+    let none : held_in now ≡ held_in slots = c.in_default.ensures.none in (
+      c.take.ensures.behind left (behind-permuted slots due (y ∷ left) one c.self.inside.behind),
+      (
+        named-part (due ++ held_in slots) (left ++ held_in now) (held_in slots) (held_in now)
+            (λ P. left-of P due left (held_in slots) (held_in now) y one (λ k. subst (λ (xs : List Message). All P xs) (sym none) k))
+            (λ P k. subst (λ (xs : List Message). All P xs) (sym none) k) c.self.inside.named,
+        _,
+      ),
+    )
+
+pub returns-in_default-clause-one : goal.returns-in_default-clause-one
+returns-in_default-clause-one c = λ t.
+    let slots = c.self.inside.held.slots.items in
+    let now = c.take.new.self.slots.items in
+    let due = c.self.inside.ranked in
+    let left = c.pop.new.self in
+    let y = c.pop.new.first in
+    let none : held_in now ≡ held_in slots = c.in_default.ensures.none in
+    subst (λ (xs : List Message). IsPermutation xs (y ∷ (left ++ held_in now))) c.self.view_is
+    (subst (λ (xs : List Message). IsPermutation (due ++ held_in slots) (y ∷ (left ++ xs))) (sym none)
+    (IsPermutation-append_left (held_in slots) due (y ∷ left) (c.if-not-pop.ensures.one refl)))
+
+pub returns-in_default-clause-first : goal.returns-in_default-clause-first
+returns-in_default-clause-first c = λ t.
+    let slots = c.self.inside.held.slots.items in
+    let due = c.self.inside.ranked in
+    let y = c.pop.new.first in
+    subst (NoneBefore y) c.self.view_is
+    (All-append (λ x. is_before x y ≡ false) due (held_in slots) (c.if-not-pop.ensures.first refl) (held-after c.message_order.ensures.total slots y due c.self.inside.behind (c.if-not-pop.ensures.first refl)))

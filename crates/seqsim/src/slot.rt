@@ -1,0 +1,97 @@
+//! A place for a message that says that a port becomes free.
+ghost use Rattle.std.specs.Prelude.{◌≡◌, None, Some, true, false, IfSome};
+ghost use Rattle.seqsim.specs.Keys.{HasKey};
+
+use crate::queued::Queued;
+use std::marker::Model;
+use vlink::{Body, Message};
+
+/// A place for a message that says that a port becomes free. It takes half the room of a `Queued`.
+///
+/// Clauses see it as the message, if one is there.
+#[derive(Drop)]
+pub(crate) struct Slot {
+    /// The time, and in 16 bits the receiver.
+    place: u64,
+    /// The sender, and in 48 bits the number.
+    name: u64,
+    port: u8,
+    is_held: bool,
+}
+
+impl Model for Slot {
+    ghost use Rattle.std.specs.Prelude.{ℕ, Option, None, Some, cond, ◌/◌, ◌%◌, ◌≤◌};
+    ghost use Rattle.vlink.specs.declared.message.Message.{Message};
+    ghost use Rattle.vlink.specs.declared.message.Body.TheVariants.{PortFree};
+    ghost use Rattle.vlink.specs.declared.time.TheConstants.{GREATEST_NS};
+
+    ghost Value = { Option Message };
+
+    ghost view = { λ s. cond s.is_held
+        (Some (record {
+          time = s.place / 65536;
+          receiver = s.place % 65536;
+          sender = s.name / 281474976710656;
+          number = s.name % 281474976710656;
+          body = PortFree s.port;
+        }))
+        None };
+
+    ghost invariant = { λ s. s.place / 65536 ≤ GREATEST_NS };
+}
+
+impl Slot {
+    /// A place with no message.
+    pub(crate) fn free() -> Self
+        ensures { result ≡ None }
+    {
+        Slot {
+            place: 0,
+            name: 0,
+            port: 0,
+            is_held: false,
+        }
+    }
+
+    /// Holds the message, if none is there, it says that a port becomes free, and its parts are not too great. The answer is whether it
+    /// does.
+    #[inline(always)]
+    pub(crate) fn hold(&mut self, message: &Message) -> bool
+        ensures free { result ≡ true → self.old ≡ None }
+        ensures held { result ≡ true → self.new ≡ Some message.now }
+        ensures same { result ≡ false → self.new ≡ self.old }
+    {
+        let Body::PortFree { port } = message.body else {
+            return false;
+        };
+        if self.is_held {
+            return false;
+        }
+        let Some(queued) = Queued::new(message) else {
+            return false;
+        };
+        self.place = queued.place;
+        self.name = queued.name;
+        self.port = port;
+        self.is_held = true;
+        true
+    }
+
+    /// Gives the message, if one is there.
+    #[inline(always)]
+    pub(crate) fn take(&mut self) -> Option<Queued>
+        ensures value { result ≡ self.old }
+        ensures after { self.new ≡ None }
+        ensures keyed { IfSome result HasKey }
+    {
+        if !self.is_held {
+            return None;
+        }
+        self.is_held = false;
+        Some(Queued {
+            place: self.place,
+            name: self.name,
+            body: Body::PortFree { port: self.port },
+        })
+    }
+}
