@@ -10,6 +10,9 @@ use vlink::{Body, Cause, Frame, Message, Note, Time};
 /// The most messages that one event sends.
 const MOST_SENT: usize = 24;
 
+/// The most notes that one event gives.
+const MOST_NOTED: usize = 2;
+
 /// What one event makes a process send and note. It can be used again for the next event, so that no event copies the room for all that
 /// one event can send, and none wipes what the last one sent.
 ///
@@ -22,7 +25,9 @@ pub struct Outbound {
     /// The messages sent, at the front. Behind them lies what earlier events sent.
     messages: [Message; MOST_SENT],
     sent: usize,
-    notes: ArrayVec<Note, 2>,
+    /// The notes, at the front. Behind them lies what earlier events noted.
+    notes: [Note; MOST_NOTED],
+    noted: usize,
 }
 
 impl Model for Outbound {
@@ -34,10 +39,10 @@ impl Model for Outbound {
     ghost view = { λ o. record {
       sender = record { number = o.number; until = o.until; counter = o.counter };
       messages = take o.sent o.messages;
-      notes = o.notes.items;
+      notes = take o.noted o.notes;
     } };
 
-    ghost invariant = { λ o. o.sent ≤ 24 };
+    ghost invariant = { λ o. (o.sent ≤ 24) × (o.noted ≤ 2) };
 }
 
 impl Outbound {
@@ -53,7 +58,8 @@ impl Outbound {
             counter,
             messages: [Message::default(); MOST_SENT],
             sent: 0,
-            notes: ArrayVec::new(),
+            notes: [Note::default(); MOST_NOTED],
+            noted: 0,
         }
     }
 
@@ -67,7 +73,7 @@ impl Outbound {
         self.until = until;
         self.counter = counter;
         self.sent = 0;
-        self.notes.clear();
+        self.noted = 0;
     }
 
     /// Holds what was sent and noted, in place of what it held.
@@ -76,10 +82,12 @@ impl Outbound {
         ensures messages { self.new.messages ≡ sends.messages.items }
         ensures notes { self.new.notes ≡ sends.notes.items }
     {
-        let held = sends.messages.as_slice();
-        self.messages[..held.len()].copy_from_slice(held);
-        self.sent = held.len();
-        self.notes = sends.notes;
+        let messages = sends.messages.as_slice();
+        self.messages[..messages.len()].copy_from_slice(messages);
+        self.sent = messages.len();
+        let notes = sends.notes.as_slice();
+        self.notes[..notes.len()].copy_from_slice(notes);
+        self.noted = notes.len();
     }
 
     /// The number of the process.
@@ -109,7 +117,7 @@ impl Outbound {
         ensures notes { result.now ≡ self.now.notes }
         ensures few { length result.now ≤ 2 }
     {
-        self.notes.as_slice()
+        &self.notes[..self.noted]
     }
 
     /// Sends a message for the moment `ns`, unless that is after the end of the run.
@@ -138,7 +146,8 @@ impl Outbound {
         requires { length self.old.notes < 2 }
         ensures { self.new ≡ replied self.old (record { wishes = []; notes = note ∷ [] }) }
     {
-        self.notes.push(note);
+        self.notes[self.noted] = note;
+        self.noted += 1;
     }
 
     /// Notes that a frame is lost for this cause.
@@ -160,9 +169,8 @@ impl Outbound {
     {
         let mut messages = ArrayVec::new();
         messages.try_extend_from_slice(self.messages()).unwrap();
-        Sends {
-            messages,
-            notes: self.notes,
-        }
+        let mut notes = ArrayVec::new();
+        notes.try_extend_from_slice(self.notes()).unwrap();
+        Sends { messages, notes }
     }
 }
