@@ -1,4 +1,4 @@
-ghost use Rattle.std.specs.Prelude.{◌≡◌, ℕ, ◌<◌, false, ◌==◌, ◌||◌, map, vec_len, slice_index_or, IfOk, IfErr};
+ghost use Rattle.std.specs.Prelude.{◌≡◌, ℕ, ◌<◌, ◌≤◌, false, ◌==◌, ◌||◌, All, map, vec_len, slice_index_or, IfOk, IfErr};
 ghost use Rattle.network_rows.specs.declared.fault.DescFault.TheVariants.{OutOfMemory};
 ghost use Rattle.netdesc.specs.Rows.{each};
 ghost use Rattle.netdesc.specs.Plan.{node_plan};
@@ -12,9 +12,6 @@ use crate::place::key_at;
 use crate::vl::Routed;
 use network_rows::{DescFault, Key, Section};
 use std::alloc::Global;
-
-/// How many numbers a virtual link may have.
-const VL_NUMBERS: usize = 65536;
 
 /// No two nodes have one name: the number of each name is that of its own node.
 pub fn check_nodes(names: &Names) -> Result<(), DescFault>
@@ -50,11 +47,31 @@ fn mark(marks: &mut Vec<bool>, id: usize)
     marks[id] = true;
 }
 
+/// The greater of two numbers.
+fn greater(a: usize, b: usize) -> usize
+    ensures left { a ≤ result }
+    ensures right { b ≤ result }
+{
+    if a < b { b } else { a }
+}
+
+/// A number beyond those of all these virtual links.
+fn beyond(vls: &[Routed]) -> usize
+    ensures { All (λ vl. vl.link.id.0 < result) vls.now }
+{
+    let mut beyond = 0;
+    for vl in vls {
+        beyond = greater(beyond, usize::from(vl.link.id.0) + 1);
+    }
+    beyond
+}
+
 /// No two virtual links have one number: each is marked, and none was marked before.
 pub fn check_vls(alloc: Global, vls: &[Routed]) -> Result<(), DescFault>
     ensures { Finds result (each double_at_vl (map vl_view vls.now)) }
 {
-    let mut marks = no_marks(alloc, VL_NUMBERS)?;
+    let count = beyond(vls);
+    let mut marks = no_marks(alloc, count)?;
     for (i, vl) in vls.iter().enumerate() {
         let id = usize::from(vl.link.id.0);
         if marks[id] {

@@ -7,14 +7,14 @@ ghost use Rattle.std.specs.BTreeMap.{Updates};
 ghost use Rattle.network_rows.specs.declared.fault.DescFault.TheVariants.{OutOfMemory};
 ghost use Rattle.netdesc.specs.Views.{Gives};
 
-use crate::memory::refused;
+use crate::memory::{refused, slots_for};
 use crate::place::key_at;
 use crate::wiring::Link;
 use network_rows::{DescFault, Key, Section};
 use std::alloc::Global;
 use std::collections::BTreeMap;
 
-/// How many places are kept near.
+/// The most places that are kept near.
 const NEAR: usize = 16384;
 
 /// Links, with the place of the link for each two nodes that one joins.
@@ -58,7 +58,7 @@ impl<'a> Joined<'a> {
     fn near_place(&self, x: usize, y: usize) -> Option<usize>
         ensures { IfSome result (λ place. link_between self.now.links.now x y ≡ Some place) }
     {
-        let place = usize::from(*self.near.get(slot(x, y))?);
+        let place = usize::from(*self.near.get(slot(x, y, self.near.len()))?);
         let link = self.links.get(place)?;
         if joins(x, y, *link) {
             Some(place)
@@ -68,11 +68,11 @@ impl<'a> Joined<'a> {
     }
 }
 
-/// Where a place is kept near for these nodes.
-fn slot(x: usize, y: usize) -> usize
-    ensures { result < NEAR }
+/// Where a place is kept near for these nodes, in so many slots. All of them are used where that is a power of two.
+fn slot(x: usize, y: usize, slots: usize) -> usize
+    ensures { 0 < slots → result < slots }
 {
-    x.wrapping_mul(1031).wrapping_add(y) % NEAR
+    x.wrapping_mul(1031).wrapping_add(y) & slots.saturating_sub(1)
 }
 
 /// The link joins these nodes.
@@ -86,21 +86,22 @@ fn joins(x: usize, y: usize, link: Link) -> bool
 fn near_of(alloc: Global, links: &[Link]) -> Result<Vec<u16>, DescFault>
     ensures memory { IfErr result (λ fault. fault ≡ OutOfMemory) }
 {
-    let mut near = no_places(alloc)?;
+    let slots = slots_for(links.len(), NEAR);
+    let mut near = no_places(alloc, slots)?;
     for (i, link) in links.iter().enumerate() {
         let place = u16::try_from(i).unwrap_or(0);
-        near[slot(link.a, link.b)] = place;
-        near[slot(link.b, link.a)] = place;
+        near[slot(link.a, link.b, slots)] = place;
+        near[slot(link.b, link.a, slots)] = place;
     }
     Ok(near)
 }
 
-/// The place 0 for each slot.
-fn no_places(alloc: Global) -> Result<Vec<u16>, DescFault>
-    ensures len { IfOk result (λ near. vec_len near ≡ NEAR) }
+/// The place 0 for each of so many slots.
+fn no_places(alloc: Global, slots: usize) -> Result<Vec<u16>, DescFault>
+    ensures len { IfOk result (λ near. vec_len near ≡ slots) }
     ensures memory { IfErr result (λ fault. fault ≡ OutOfMemory) }
 {
-    match vec![in alloc; 0; NEAR] {
+    match vec![in alloc; 0; slots] {
         Ok(near) => Ok(near),
         Err(error) => Err(refused(error)),
     }

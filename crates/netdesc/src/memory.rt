@@ -1,4 +1,4 @@
-ghost use Rattle.std.specs.Prelude.{◌≡◌, [], ◌∷◌, ◌++◌, IfOk, IfErr, OnOk, ℕ, ◌||◌, ◌==◌, ◌<◌, vec_len, slice_set, slice_index_or};
+ghost use Rattle.std.specs.Prelude.{◌≡◌, [], ◌∷◌, ◌++◌, IfOk, IfErr, OnOk, ℕ, ◌||◌, ◌==◌, ◌<◌, ◌≤◌, vec_len, slice_set, slice_index_or};
 ghost use Rattle.netdesc.specs.Views.{lists_of};
 ghost use Rattle.std.specs.Ordering.{nat_cmp};
 ghost use Rattle.std.specs.BTreeSet.{contains, insert_key};
@@ -13,6 +13,17 @@ pub fn refused<E: Drop>(_error: E) -> DescFault
     ensures { result ≡ OutOfMemory }
 {
     DescFault::OutOfMemory
+}
+
+/// How many slots of a table serve for so many things, at least one and at most `most`: so many more than things that few share one, and
+/// where `most` is a power of two, so are they.
+pub fn slots_for(count: usize, most: usize) -> usize
+    requires { 0 < most }
+    ensures some { 0 < result }
+    ensures few { result ≤ most }
+{
+    let slots = count.saturating_mul(16).checked_next_power_of_two();
+    slots.unwrap_or(most).clamp(1, most)
 }
 
 /// An empty list with room for so many values.

@@ -1,13 +1,13 @@
 ghost use Rattle.std.specs.Prelude.{◌≡◌, ◌<◌, ℕ, None, Some, IfOk, IfSome, is_some, slice_index_or, vec_len};
 ghost use Rattle.netdesc.specs.Names.{names_of, is_among, place_among, number_of};
 ghost use Rattle.netdesc.specs.Finding.{AreNumbers, AreFirsts};
-ghost use Rattle.netdesc.specs.declared.names.TheConstants.{NEAR};
 
+use crate::memory::slots_for;
 use network_rows::NodeRow;
 use std::alloc::{AllocError, Global};
 use std::collections::BTreeMap;
 
-/// How many numbers are kept near.
+/// The most numbers that are kept near.
 const NEAR: usize = 8192;
 
 /// Nodes, with the number of each name.
@@ -18,7 +18,7 @@ pub struct Names<'a> {
     pub nodes: &'a [NodeRow],
     near: Vec<Option<u16>>,
     numbers: BTreeMap<&'a str, usize>,
-    ghost wide: { vec_len near ≡ NEAR },
+    ghost some: { 0 < vec_len near },
     ghost firsts: { AreFirsts near.items (names_of nodes.now) },
     ghost numbered: { AreNumbers numbers (names_of nodes.now) },
 }
@@ -53,7 +53,7 @@ impl<'a> Names<'a> {
     fn near_number(&self, name: &str) -> Option<usize>
         ensures { IfSome result (λ n. place_among (names_of self.now.nodes.now) name.now ≡ Some n) }
     {
-        let kept = self.near[slot(name)];
+        let kept = self.near[slot(name, self.near.len())];
         let short = kept?;
         let number = usize::from(short);
         let node = self.nodes.get(number)?;
@@ -65,15 +65,16 @@ impl<'a> Names<'a> {
     }
 }
 
-/// Where a number is kept near for this name.
-fn slot(name: &str) -> usize
-    ensures { result < NEAR }
+/// Where a number is kept near for this name, in so many slots. All of them are used where that is a power of two.
+fn slot(name: &str, slots: usize) -> usize
+    requires { 0 < slots }
+    ensures { result < slots }
 {
     let mut sum: usize = 0;
     for byte in name.as_bytes() {
         sum = sum.wrapping_mul(31).wrapping_add(usize::from(*byte));
     }
-    sum % NEAR
+    sum & (slots - 1)
 }
 
 /// For each slot the number of the first node with a name that has it, if there is one.
@@ -83,14 +84,15 @@ fn near_of(
     numbers: &BTreeMap<&str, usize>,
 ) -> Result<Vec<Option<u16>>, AllocError>
     requires { AreNumbers numbers.now (names_of nodes.now) }
-    ensures wide { IfOk result (λ near. vec_len near ≡ NEAR) }
+    ensures some { IfOk result (λ near. 0 < vec_len near) }
     ensures firsts { IfOk result (λ near. AreFirsts near.items (names_of nodes.now)) }
 {
-    let mut near = no_numbers(alloc, NEAR)?;
+    let slots = slots_for(nodes.len(), NEAR);
+    let mut near = no_numbers(alloc, slots)?;
     for node in nodes {
         let name = node.name.as_str();
         let first = numbers.get(name).copied();
-        near[slot(name)] = short(first);
+        near[slot(name, slots)] = short(first);
     }
     Ok(near)
 }

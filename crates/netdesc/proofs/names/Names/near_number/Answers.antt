@@ -13,7 +13,7 @@ returns-then-eq c =
     let number = c.from-number.result in
     let node = c.in_ok-node.node.now in
     let read = c.in_ok-node.ensures.lookup in
-    let lt : c.slot.result < near.len = omega (arith, c.slot.ensures, c.args.self.now.wide) in
+    let lt : c.slot.result < near.len = omega (arith, c.slot.ensures, c.args.self.now.some) in
     let kept : slice_index_or near.items c.slot.result None ≡ Some number =
     sym (get_or_read_under near.items c.slot.result near.len c.index-kept.result.now None c.index-kept.ensures lt near.ok.0) ∙ c.in_ok-short.was ∙ ap (λ n. Some n) (sym c.from-number.ensures) in
     let named : get_or names number [] ≡ node.name = get_or-map (λ row. row.name) nodes number node [] read.3.0 ∙ ap (λ row. row.name) (sym read.1) in
