@@ -81,6 +81,14 @@ impl Lane {
         Ok(())
     }
 
+    /// When the first is due, in ns, and a number beyond all moments where there is none.
+    #[inline(always)]
+    fn front_ns(&self) -> u64
+        ensures { (d : Message) → 0 < length self.now.queue.items → (slice_index_or self.now.queue.items 0 d).time ≡ result }
+    {
+        (self.front / 1208925819614629174706176) as u64
+    }
+
     /// Takes the first message out, unless there is none or the last of the list comes before it: then it is in `first`. The answer is
     /// whether it was taken.
     #[inline(always)]
@@ -90,16 +98,29 @@ impl Lane {
         ensures same { result ≡ false → self.new.queue.items ≡ self.old.queue.items }
         ensures listed { result ≡ false → IfSome (slice_get self.old.queue.items 0) (λ x. IsSomeAnd (slice_get listed.now (length listed.now - 1)) (λ m. is_before m x ≡ true)) }
     {
-        let Some(queued) = self.queue.front() else {
+        if !listed.is_after(self.front_ns()) && self.is_behind(listed) {
+            return false;
+        }
+        let Some(queued) = self.queue.pop_front() else {
             return false;
         };
         queued.write_to(first);
-        if listed.is_first(first) {
-            return false;
-        }
-        let _taken = self.queue.pop_front();
         self.front = front_of(&self.queue);
         true
+    }
+
+    /// Whether the last of the list comes before the first message, or there is none. It is asked only where the last of the list may be
+    /// due when the first message is, or before.
+    #[cold]
+    #[inline(never)]
+    fn is_behind(&self, listed: &Listed) -> bool
+        ensures listed { result ≡ true → IfSome (slice_get self.now.queue.items 0) (λ x. IsSomeAnd (slice_get listed.now (length listed.now - 1)) (λ m. is_before m x ≡ true)) }
+        ensures sent { result ≡ false → IfSome (slice_get self.now.queue.items 0) (λ x. IfSome (slice_get listed.now (length listed.now - 1)) (λ m. is_before m x ≡ false)) }
+    {
+        match self.queue.front() {
+            Some(queued) => listed.is_first(&queued.message()),
+            None => true,
+        }
     }
 }
 

@@ -1,5 +1,5 @@
 //! The offers that wait, in a list that falls: the first of them stands at the end.
-ghost use Rattle.std.specs.Prelude.{◌≡◌, ◌-◌, [], ◌∷◌, ◌++◌, true, false, length, slice_get, OnOk, OnErr, IfErr, IfSome, IsSomeAnd, IsPermutation};
+ghost use Rattle.std.specs.Prelude.{◌≡◌, ◌<◌, ◌≤◌, ◌-◌, [], ◌∷◌, ◌++◌, true, false, length, slice_get, slice_index_or, OnOk, OnErr, IfErr, IfSome, IsSomeAnd, IsPermutation};
 ghost use Rattle.std.specs.List.Sorted.{IsSortedBy};
 ghost use Rattle.std.proofs.Props.{props};
 ghost use Rattle.reverse.specs.Rules.{is_before};
@@ -18,6 +18,21 @@ fn sort(listed: &mut Vec<Message>)
     listed.sort_unstable_by(|a, b| compare(b, a));
 }
 
+/// Where a message goes into such a list: behind all that come after it. It is sought from the end, since what comes later than the offers
+/// is mostly due soon.
+fn place_in(listed: &[Message], message: &Message) -> usize
+    ensures within { result ≤ length listed.now }
+    ensures before { (d : Message) → 0 < result → is_before (slice_index_or listed.now (result - 1) d) message.now ≡ false }
+    ensures behind { (d : Message) → result < length listed.now → is_before message.now (slice_index_or listed.now result d) ≡ false }
+{
+    message_order();
+    let mut place = listed.len();
+    'places: while place > 0 && compare(&listed[place - 1], message).is_lt() {
+        place -= 1;
+    }
+    place
+}
+
 /// One message more, in its place.
 fn list(listed: &mut Vec<Message>, message: &Message) -> Result<(), SimFault>
     requires { IsSortedBy (λ x y. is_before y x) listed.old.items }
@@ -26,8 +41,8 @@ fn list(listed: &mut Vec<Message>, message: &Message) -> Result<(), SimFault>
     ensures same { OnErr result (listed.new.items ≡ listed.old.items) }
     ensures memory { IfErr result (λ fault. fault ≡ OutOfMemory) }
 {
-    listed.extend_from_slice(&[*message])?;
-    sort(listed);
+    let place = place_in(listed.as_slice(), message);
+    listed.insert(place, *message)?;
     Ok(())
 }
 
@@ -117,6 +132,14 @@ impl Listed {
         *last = message;
         self.next_ns = due(self.messages.as_slice());
         true
+    }
+
+    /// Whether the last message is due after this moment, in ns.
+    #[inline(always)]
+    pub(crate) fn is_after(&self, ns: u64) -> bool
+        ensures { result ≡ true → IfSome (slice_get self.now (length self.now - 1)) (λ m. ns < m.time) }
+    {
+        ns < self.next_ns
     }
 
     /// Whether the last message comes before what was sent.

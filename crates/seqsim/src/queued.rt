@@ -75,6 +75,27 @@ impl Queued {
         message.body = self.body;
     }
 
+    /// The same message once more.
+    #[inline(always)]
+    pub(crate) fn copied(&self) -> Self
+        ensures { result ≡ self.now }
+    {
+        Queued {
+            place: self.place,
+            name: self.name,
+            body: self.body,
+        }
+    }
+
+    /// The same message, as others see it.
+    pub(crate) fn message(&self) -> Message
+        ensures { result ≡ self.now }
+    {
+        let mut message = Message::default();
+        self.write_to(&mut message);
+        message
+    }
+
     /// What it says.
     #[inline(always)]
     pub(crate) fn body(&self) -> &Body {

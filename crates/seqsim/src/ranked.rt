@@ -74,7 +74,10 @@ impl Ranked {
         ensures same { OnErr result (self.new ≡ self.old) }
         ensures memory { IfErr result (λ fault. fault ≡ OutOfMemory) }
     {
-        self.sent.push_behind(queued)
+        if self.sent.push_behind(&queued)? {
+            return Ok(());
+        }
+        self.listed.put(&queued.message())
     }
 
     /// Takes the first message out, if there is one: then it is in `first`. The answer is whether there was one.

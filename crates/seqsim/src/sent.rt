@@ -76,6 +76,26 @@ impl Sent {
         })
     }
 
+    /// One message more at the end of its lane, unless it comes before the last one there or has no lane. The answer is whether it went
+    /// there.
+    #[inline(always)]
+    pub(crate) fn push_behind(&mut self, queued: &Queued) -> Result<bool, SimFault>
+        requires keyed { HasKey queued.now }
+        requires named { IsNamed queued.now self.old }
+        ensures more { result ≡ Ok true → IsPermutation (queued.now ∷ self.old) self.new }
+        ensures apart { result ≡ Ok false → self.new ≡ self.old }
+        ensures same { OnErr result (self.new ≡ self.old) }
+        ensures memory { IfErr result (λ fault. fault ≡ OutOfMemory) }
+    {
+        let lane = lane_of(queued.body());
+        let key = queued.key();
+        if lane < LANES && self.lanes[lane].takes(key) {
+            self.lanes[lane].push(queued.copied(), key)?;
+            return Ok(true);
+        }
+        Ok(false)
+    }
+
     /// One message more.
     #[inline(always)]
     pub(crate) fn push(&mut self, queued: Queued) -> Result<(), SimFault>
@@ -85,51 +105,12 @@ impl Sent {
         ensures same { OnErr result (self.new ≡ self.old) }
         ensures memory { IfErr result (λ fault. fault ≡ OutOfMemory) }
     {
-        let lane = lane_of(queued.body());
-        let key = queued.key();
-        if lane < LANES && self.lanes[lane].takes(key) {
-            self.lanes[lane].push(queued, key)?;
+        if self.push_behind(&queued)? {
             return Ok(());
         }
         tops::put(&mut self.heap, self.is_top_taken, queued)?;
         self.is_top_taken = false;
         Ok(())
-    }
-
-    /// One message more, where nearly each goes to the end of its lane: only that is a part of the caller.
-    #[inline(always)]
-    pub(crate) fn push_behind(&mut self, queued: Queued) -> Result<(), SimFault>
-        requires keyed { HasKey queued }
-        requires named { IsNamed queued self.old }
-        ensures more { OnOk result (IsPermutation (queued ∷ self.old) self.new) }
-        ensures same { OnErr result (self.new ≡ self.old) }
-        ensures memory { IfErr result (λ fault. fault ≡ OutOfMemory) }
-    {
-        if self.has_lane_for(&queued) {
-            self.push(queued)
-        } else {
-            self.push_apart(queued)
-        }
-    }
-
-    /// Whether the message goes to the end of a lane.
-    #[inline(always)]
-    fn has_lane_for(&self, queued: &Queued) -> bool {
-        let lane = lane_of(queued.body());
-        lane < LANES && self.lanes[lane].takes(queued.key())
-    }
-
-    /// One message more, by a call.
-    #[cold]
-    #[inline(never)]
-    fn push_apart(&mut self, queued: Queued) -> Result<(), SimFault>
-        requires keyed { HasKey queued }
-        requires named { IsNamed queued self.old }
-        ensures more { OnOk result (IsPermutation (queued ∷ self.old) self.new) }
-        ensures same { OnErr result (self.new ≡ self.old) }
-        ensures memory { IfErr result (λ fault. fault ≡ OutOfMemory) }
-    {
-        self.push(queued)
     }
 
     /// Takes the first message out, unless there is none or the last of the list comes before it: then it is in `first`. The answer is

@@ -222,25 +222,41 @@ fn frames_are_lost_on_the_way(rt: HostRuntime) -> Result<(), Fail> {
     Ok(())
 }
 
-#[test]
-fn twenty_virtual_links_on_both_networks(rt: HostRuntime) -> Result<(), Fail> {
-    let mut text = format!(in rt.alloc(); "{NODES}{OTHER_SWITCH}{LINKS}{OTHER_LINKS}")?;
-    let mut wanted = String::from_str(
-        rt.alloc(),
+// Virtual links with these rising numbers, each of one frame offered at the start, are delivered over both networks, one behind another.
+fn are_delivered_twice(alloc: Global, ids: &[u64]) -> Result<bool, Fail> {
+    let mut text = format!(in alloc; "{NODES}{OTHER_SWITCH}{LINKS}{OTHER_LINKS}")?;
+    let mut latencies = String::from_str(
+        alloc,
         "table,vl,where,cause,count,least_ns,greatest_ns,sum_ns\n",
     )?;
-    for id in 1..=20u64 {
-        text.push_str(&format!(in rt.alloc();
+    let mut losses = String::new(alloc);
+    let mut latency: u64 = 21000;
+    for id in ids {
+        text.push_str(&format!(in alloc;
             "[[vl]]\nid = {id}\n{VL}b = [[\"ES1\", \"SW2\", \"ES2\"]]\n"
         )?)?;
-        let latency = 21000 + 6720 * id;
-        wanted.push_str(&format!(in rt.alloc();
+        latency = latency.saturating_add(6720);
+        latencies.push_str(&format!(in alloc;
             "latency,{id},ES2,,1,{latency},{latency},{latency}\n"
         )?)?;
+        losses.push_str(&format!(in alloc; "dropped,{id},ES2,duplicate,1,,,\n")?)?;
     }
-    for id in 1..=20u64 {
-        wanted.push_str(&format!(in rt.alloc(); "dropped,{id},ES2,duplicate,1,,,\n")?)?;
-    }
-    assert!(rt; are_tables(rt.alloc(), &text, &wanted)?);
+    latencies.push_str(&losses)?;
+    are_tables(alloc, &text, &latencies)
+}
+
+#[test]
+fn twenty_virtual_links_on_both_networks(rt: HostRuntime) -> Result<(), Fail> {
+    let ids = [
+        1, 2, 3, 4, 5, 6, 7, 8, 9, 10, 11, 12, 13, 14, 15, 16, 17, 18, 19, 20,
+    ];
+    assert!(rt; are_delivered_twice(rt.alloc(), &ids)?);
+    Ok(())
+}
+
+#[test]
+fn virtual_links_with_numbers_far_apart(rt: HostRuntime) -> Result<(), Fail> {
+    let ids = [0, 1, 63, 64, 65, 127, 128, 30000, 30001, 65471, 65535];
+    assert!(rt; are_delivered_twice(rt.alloc(), &ids)?);
     Ok(())
 }

@@ -1,5 +1,6 @@
-use Rattle.std.proofs.Common.{◌≡◌, List, [], ◌∷◌, ◌++◌, IsPermutation, subst, rules}
-use Rattle.std.proofs.lemmas.List.Sorted.{IsPermutation-sym, IsPermutation-trans, IsPermutation-to_front}
+use Rattle.std.proofs.Common.{◌≡◌, List, ◌∷◌, IsPermutation, subst, sym, rules}
+use Rattle.std.specs.List.{insert}
+use Rattle.std.proofs.lemmas.List.Sorted.{IsPermutation-insert}
 use Rattle.vlink.specs.declared.message.Message.{Message}
 use Rattle.seqsim.proofs.listed.list.Goals as goal
 
@@ -7,6 +8,5 @@ pub returns-clause-more : goal.returns-clause-more
 returns-clause-more c =
     let m = c.args.message.now in
     let old = c.args.listed.now.items in
-    let longer : c.extend_from_slice.new.self.items ≡ old ++ m ∷ [] = search rules in
-    IsPermutation-trans (m ∷ old) (old ++ m ∷ []) _ (IsPermutation-sym (old ++ m ∷ []) (m ∷ old) (IsPermutation-to_front old m))
-    (subst (λ (xs : List Message). IsPermutation xs c.sort.new.listed.items) longer c.sort.ensures.same)
+    let now : c.insert.new.self.items ≡ insert old c.place_in-place.result m = search rules in
+    subst (λ (xs : List Message). IsPermutation (m ∷ old) xs) (sym now) (IsPermutation-insert old c.place_in-place.result m)
