@@ -203,6 +203,7 @@ impl Reversible for BagRegulator {
 
     ghost undoes = { regulator-undoes };
 
+    #[inline(always)]
     fn apply(&mut self, event: &RegEvent) -> (RegOut, RegRecord) {
         // Its contract says that the frames lie within their room.
         let _waiting = self.waiting.len();

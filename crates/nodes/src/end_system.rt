@@ -214,6 +214,7 @@ impl EndSystem {
     }
 
     /// The place of a virtual link that ends here on this network among those that the end system receives.
+    #[inline(always)]
     fn sink(&self, vl: VlId, net: Net) -> Option<usize>
         ensures { result ≡ option_map (λ (sink : SinkAt). sink.place) (sink_at self.now vl net) }
     {

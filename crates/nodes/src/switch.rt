@@ -239,6 +239,7 @@ impl Switch {
     }
 
     /// The priority of a virtual link that goes through the switch.
+    #[inline(always)]
     fn priority(&self, vl: VlId) -> Option<Priority>
         ensures { result ≡ option_map (λ (found : TransitAt). found.transit.priority) (transit_at self.now vl) }
     {

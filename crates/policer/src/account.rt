@@ -148,6 +148,7 @@ impl Reversible for Account {
 
     ghost undoes = { λ a frame. refl };
 
+    #[inline(always)]
     fn apply(&mut self, event: &Arrival) -> (Verdict, AccountRecord) {
         let Arrival { at, size } = *event;
         let kept = AccountRecord {

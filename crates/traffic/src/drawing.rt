@@ -11,7 +11,7 @@ use std::alloc::AllocError;
 use vlink::{Body, Message, Time, VlId};
 
 /// How many offers of a virtual link are due until then.
-fn due_count(until: Time, link: &VirtualLink) -> u64
+pub fn due_count(until: Time, link: &VirtualLink) -> u64
     requires { IsLinkInLimits link.now }
     ensures value { result ≡ due_count until link.now }
     ensures due { (k : ℕ) → (k < result) ↔ (due_of link.now k ≤ until) }

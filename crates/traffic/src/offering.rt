@@ -4,7 +4,7 @@ ghost use Rattle.std.specs.List.{flat_map};
 ghost use Rattle.netdesc.specs.Trees.{source_of};
 ghost use Rattle.traffic.specs.Offers.{offers_of_vl, offers_of};
 
-use crate::drawing::push_offers;
+use crate::drawing::{due_count, push_offers};
 use netdesc::Network;
 use std::alloc::{AllocError, Global};
 use vlink::Message;
@@ -16,6 +16,17 @@ fn source_of(network: &Network, vl: usize) -> u16
 {
     let _few = network.process_count();
     network.source(vl) as u16
+}
+
+/// How many offers are due, with those that come after the end of the run since they are drawn to be late. The list of offers gets this
+/// room at once; any other would do, and would be left piece by piece.
+fn most_offers(network: &Network) -> usize {
+    let mut most: usize = 0;
+    for place in 0..network.vl_count() {
+        let due = due_count(network.until(), &network.virtual_link(place));
+        most = most.saturating_add(due as usize);
+    }
+    most
 }
 
 /// Puts the offers of the virtual link with this place behind those of the ones before it.
@@ -40,7 +51,7 @@ fn push_vl(offers: &mut Vec<Message>, network: &Network, vl: usize) -> Result<()
 pub fn offers(alloc: Global, network: &Network) -> Result<Vec<Message>, AllocError>
     ensures { IfOk result (λ offers. offers.items ≡ offers_of network.now) }
 {
-    let mut offers = Vec::new(alloc);
+    let mut offers = Vec::with_capacity(alloc, most_offers(network))?;
     for vl in 0..network.vl_count() {
         push_vl(&mut offers, network, vl)?;
     }
