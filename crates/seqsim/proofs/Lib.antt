@@ -10,3 +10,4 @@ pub mod Keys
 pub mod Naming
 pub mod Lanes
 pub mod Holding
+pub mod Recording

@@ -2,7 +2,7 @@
 use Rattle.std.proofs.Common.{◌≡◌, ℕ, suc, ◌<◌, ◌⊎◌, inl, inr, List, [], ◌∷◌, ◌++◌, ◌∙◌, Some, map, length, slice_get, get_or, All, false, IsPermutation, refl, sym, ap, subst, arith}
 use Rattle.std.proofs.Math.ListN.{set}
 use Rattle.std.proofs.lemmas.Bool.{cases_eq}
-use Rattle.std.proofs.lemmas.List.{get_or-set_same, get_or-set_other, length-set, map-append, append_assoc}
+use Rattle.std.proofs.lemmas.List.{get_or-set_same, get_or-set_other, length-set, map-append}
 use Rattle.std.proofs.lemmas.List.Sorted.{IsPermutation-refl}
 use Rattle.std.proofs.lemmas.Option.{slice_get-get_or, get_or_from_slice_get}
 use Rattle.vlink.specs.declared.message.Message.{Message}
@@ -16,6 +16,7 @@ use Rattle.virtual_time.proofs.Lists.{in-head, times-append}
 use Rattle.virtual_time.proofs.Least.{IsLeast, least-some}
 use Rattle.virtual_time.proofs.Reading.{least-from}
 use Rattle.virtual_time.proofs.OneThread.{right, times-without, put_same, put_other}
+use Rattle.seqsim.specs.Recording.{noted_at}
 use Rattle.seqsim.specs.Running.{Setting, simulation_of, Opens, AreInStates, AreOnTheWay, StandsAt, seen_row}
 use Rattle.seqsim.proofs.Counting.{times-permutation, taken-least}
 use Rattle.seqsim.proofs.Naming.{all-in, one-of-each}
@@ -58,13 +59,16 @@ started r x actors offers heap rows o p d =
       rows_are = ap (map seen_row) d;
     }
 
--- what goes behind the newest rows goes behind all rows
-pub noted-behind : (earlier rows more : List Noted) (noted : List (Row Message Note)) → map seen_row more ≡ map seen_row rows ++ noted →
-    map seen_row (earlier ++ more) ≡ map seen_row (earlier ++ rows) ++ noted
-noted-behind earlier rows more noted e =
-    map-append seen_row earlier more
-    ∙ (ap (λ z. map seen_row earlier ++ z) e
-    ∙ (sym (append_assoc (map seen_row earlier) (map seen_row rows) noted) ∙ ap (λ z. z ++ noted) (sym (map-append seen_row earlier rows))))
+-- the rows of one event as the law of virtual time sees them
+seen-noted : (message : Message) (notes : List Note) → map seen_row (noted_at message notes) ≡ map (λ note. record { message = message; place = message.receiver; note = note }) notes
+seen-noted message [] = refl
+seen-noted message (note ∷ notes) = ap (λ (rows : List (Row Message Note)). record { message = message; place = message.receiver; note = note } ∷ rows) (seen-noted message notes)
+
+-- so they are behind others
+pub noted-behind : (rows : List Noted) (message : Message) (notes : List Note) →
+    map seen_row (rows ++ noted_at message notes) ≡ map seen_row rows ++ map (λ note. record { message = message; place = message.receiver; note = note }) notes
+noted-behind rows message notes =
+    map-append seen_row rows (noted_at message notes) ∙ ap (λ z. map seen_row rows ++ z) (seen-noted message notes)
 
 module _ {S K : Type 0} (f : Simulation Message S K Note) (L : Laws f) (n : ℕ) (actors : List S) (heap : List Message) (rows : List Noted) (h : StandsAt f n actors heap rows) where
   -- the least of the heap is handled next

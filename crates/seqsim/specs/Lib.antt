@@ -4,3 +4,4 @@ pub mod Networks
 pub mod Tops
 pub mod Keys
 pub mod Held
+pub mod Recording

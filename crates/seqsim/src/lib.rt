@@ -9,6 +9,7 @@ mod listed;
 mod networks;
 mod queued;
 mod ranked;
+mod recorder;
 mod running;
 mod sent;
 mod simulating;

@@ -8,14 +8,16 @@ ghost use Rattle.virtual_time.specs.Rules.{rows_of};
 ghost use Rattle.virtual_time.specs.OneThread.{one};
 ghost use Rattle.reverse.specs.Rules.{rules_of};
 ghost use Rattle.seqsim.specs.declared.fault.SimFault.TheVariants.{OutOfMemory, Exhausted};
-ghost use Rattle.seqsim.specs.Running.{StandsAt, IsExhaustedAt, IsRunning, AtEach, IsWholeRun, AreOnTheWay, CanRun, OfEach, seen_row};
+ghost use Rattle.seqsim.specs.Recording.{HasTaken, counted_network};
+ghost use Rattle.seqsim.specs.Running.{StandsAt, IsExhaustedAt, IsRunning, AtEach, IsWholeRun, AreOnTheWay, CanRun, OfEach};
 ghost use Rattle.seqsim.specs.Load.{load};
 
 use crate::fault::SimFault;
+use crate::recorder::Recorder;
 use crate::waiting::Waiting;
 use reverse::{Actor, Outbound, actor_rules};
 use std::alloc::Global;
-use vlink::{GREATEST_NS, Message, Note, Row, Time};
+use vlink::{GREATEST_NS, Message, Row, Time};
 
 /// What an actor sends is later than its cause, and not after the greatest moment.
 ///
@@ -52,53 +54,26 @@ fn act<A: Actor>(actors: &mut [A], message: &Message, out: &mut Outbound) -> boo
     true
 }
 
-/// The notes that the message's event gave go behind the rows. Most events give none, and need no call.
-fn note_all(rows: &mut Vec<Row>, message: &Message, notes: &[Note]) -> Result<(), SimFault>
-    ensures noted { OnOk result (map seen_row rows.new.items ≡ map seen_row rows.old.items ++ map (λ n. record { message = message.now; place = message.now.receiver; note = n }) notes.now) }
-    ensures memory { IfErr result (λ fault. fault ≡ OutOfMemory) }
-{
-    if notes.is_empty() {
-        return Ok(());
-    }
-    note_each(rows, message, notes)
-}
-
-/// The notes go behind the rows, one after another.
-///
-/// It stays a call, so that the message is kept whole in memory: in the loop of the run its fields would be copied one by one.
-#[inline(never)]
-fn note_each(rows: &mut Vec<Row>, message: &Message, notes: &[Note]) -> Result<(), SimFault>
-    ensures noted { OnOk result (map seen_row rows.new.items ≡ map seen_row rows.old.items ++ map (λ n. record { message = message.now; place = message.now.receiver; note = n }) notes.now) }
-    ensures memory { IfErr result (λ fault. fault ≡ OutOfMemory) }
-{
-    for note in notes {
-        rows.push(Row {
-            message: *message,
-            place: message.receiver,
-            note: *note,
-        })?;
-    }
-    Ok(())
-}
-
-/// The first waiting message, if there is one, is handled by its receiver: what it sends waits, and rows of what it notes go behind
-/// `rows`, which are the newest rows of the run: any may have come before them. `message` is room for it, and `out` for what it sends and
-/// notes. The answer is whether there was one.
+/// The first waiting message, if there is one, is handled by its receiver: what it sends waits, and `recorder` takes a row of each note.
+/// `message` is room for it, and `out` for what it sends and notes. The answer is whether there was one.
+#[inline(always)]
 fn take_turn<A: Actor>(
     actors: &mut [A],
     waiting: &mut Waiting,
-    rows: &mut Vec<Row>,
+    recorder: &mut Recorder<'_>,
     out: &mut Outbound,
     message: &mut Message,
 ) -> Result<bool, SimFault>
-    requires { (earlier : List Noted) × IsRunning (rules_of A.plain A.counter) actors.old waiting.old (earlier ++ rows.old.items) }
-    ensures turned { result ≡ Ok true → (earlier : List Noted) → AtEach (rules_of A.plain A.counter) actors.old waiting.old (earlier ++ rows.old.items)
-        (λ f n. StandsAt f (suc n) actors.new waiting.new (earlier ++ rows.new.items)) }
+    requires { (rows : List Noted) × HasTaken recorder.old rows × IsRunning (rules_of A.plain A.counter) actors.old waiting.old rows }
+    ensures turned { result ≡ Ok true → (rows : List Noted) → HasTaken recorder.old rows → AtEach (rules_of A.plain A.counter) actors.old waiting.old rows
+        (λ f n. (later : List Noted) × HasTaken recorder.new later × StandsAt f (suc n) actors.new waiting.new later) }
     ensures smaller { result ≡ Ok true → load GREATEST_NS waiting.new < load GREATEST_NS waiting.old }
-    ensures over { result ≡ Ok false → (earlier : List Noted) → AtEach (rules_of A.plain A.counter) actors.old waiting.old (earlier ++ rows.old.items)
-        (λ f n. StandsAt f n actors.new waiting.new (earlier ++ rows.new.items) × ((one f n).waiting ≡ [])) }
-    ensures exhausted { result ≡ Err Exhausted → (earlier : List Noted) → AtEach (rules_of A.plain A.counter) actors.old waiting.old (earlier ++ rows.old.items) IsExhaustedAt }
-    ensures left { OnErr result ((earlier : List Noted) → AtEach (rules_of A.plain A.counter) actors.old waiting.old (earlier ++ rows.old.items)
+    ensures over { result ≡ Ok false → (rows : List Noted) → HasTaken recorder.old rows → AtEach (rules_of A.plain A.counter) actors.old waiting.old rows
+        (λ f n. HasTaken recorder.new rows × StandsAt f n actors.new waiting.new rows × ((one f n).waiting ≡ [])) }
+    ensures network { OnOk result (counted_network recorder.new ≡ counted_network recorder.old) }
+    ensures exhausted { result ≡ Err Exhausted → (rows : List Noted) → HasTaken recorder.old rows →
+        AtEach (rules_of A.plain A.counter) actors.old waiting.old rows IsExhaustedAt }
+    ensures left { OnErr result ((rows : List Noted) → HasTaken recorder.old rows → AtEach (rules_of A.plain A.counter) actors.old waiting.old rows
         (λ f n. AreOnTheWay f actors.new)) }
 {
     if !waiting.pop(message)? {
@@ -108,56 +83,30 @@ fn take_turn<A: Actor>(
         return Err(SimFault::Exhausted);
     }
     waiting.push_all(out.messages())?;
-    note_all(rows, message, out.notes())?;
+    recorder.record(message, out.notes())?;
     Ok(true)
 }
 
-/// Messages are handled, one after another, until there are `most` rows or no message waits. The answer is whether one may wait still. It is
-/// one function for those who keep all rows and those who do not, and all that one turn does becomes a part of it.
+/// The messages are handled, one after another, until none waits. It is one function for those who keep the rows and those who count
+/// them, and all that one turn does becomes a part of it.
 #[inline(never)]
-pub fn take_turns<A: Actor>(
+pub(crate) fn take_all_turns<A: Actor>(
     actors: &mut [A],
     waiting: &mut Waiting,
-    rows: &mut Vec<Row>,
-    out: &mut Outbound,
-    most: usize,
-) -> Result<bool, SimFault>
-    requires { (earlier : List Noted) × IsRunning (rules_of A.plain A.counter) actors.old waiting.old (earlier ++ rows.old.items) }
-    ensures turned { result ≡ Ok true → (earlier : List Noted) → AtEach (rules_of A.plain A.counter) actors.old waiting.old (earlier ++ rows.old.items)
-        (λ f n. (k : ℕ) × StandsAt f k actors.new waiting.new (earlier ++ rows.new.items)) }
-    ensures smaller { result ≡ Ok true → load GREATEST_NS waiting.new < load GREATEST_NS waiting.old }
-    ensures over { result ≡ Ok false → (earlier : List Noted) → AtEach (rules_of A.plain A.counter) actors.old waiting.old (earlier ++ rows.old.items)
-        (λ f n. (k : ℕ) × StandsAt f k actors.new waiting.new (earlier ++ rows.new.items) × ((one f k).waiting ≡ [])) }
-    ensures exhausted { result ≡ Err Exhausted → (earlier : List Noted) → AtEach (rules_of A.plain A.counter) actors.old waiting.old (earlier ++ rows.old.items)
-        (λ f n. (k : ℕ) × IsExhaustedAt f k) }
-    ensures left { OnErr result ((earlier : List Noted) → AtEach (rules_of A.plain A.counter) actors.old waiting.old (earlier ++ rows.old.items)
+    recorder: &mut Recorder<'_>,
+) -> Result<(), SimFault>
+    requires { (rows : List Noted) × HasTaken recorder.old rows × IsRunning (rules_of A.plain A.counter) actors.old waiting.old rows }
+    ensures whole { OnOk result ((rows : List Noted) → HasTaken recorder.old rows → AtEach (rules_of A.plain A.counter) actors.old waiting.old rows
+        (λ f n. (later : List Noted) × HasTaken recorder.new later × IsWholeRun f later actors.new)) }
+    ensures network { OnOk result (counted_network recorder.new ≡ counted_network recorder.old) }
+    ensures exhausted { result ≡ Err Exhausted → (rows : List Noted) → HasTaken recorder.old rows →
+        AtEach (rules_of A.plain A.counter) actors.old waiting.old rows (λ f n. (k : ℕ) × IsExhaustedAt f k) }
+    ensures left { OnErr result ((rows : List Noted) → HasTaken recorder.old rows → AtEach (rules_of A.plain A.counter) actors.old waiting.old rows
         (λ f n. AreOnTheWay f actors.new)) }
 {
     let mut message = Message::default();
-    'turns: while take_turn(actors, waiting, rows, out, &mut message)? {
-        if rows.len() >= most {
-            return Ok(true);
-        }
-    }
-    Ok(false)
-}
-
-/// The messages are handled, one after another, until none waits.
-fn take_all_turns<A: Actor>(
-    actors: &mut [A],
-    waiting: &mut Waiting,
-    rows: &mut Vec<Row>,
-) -> Result<(), SimFault>
-    requires { IsRunning (rules_of A.plain A.counter) actors.old waiting.old rows.old.items }
-    ensures whole { OnOk result (AtEach (rules_of A.plain A.counter) actors.old waiting.old rows.old.items
-        (λ f n. IsWholeRun f rows.new.items actors.new)) }
-    ensures exhausted { result ≡ Err Exhausted → AtEach (rules_of A.plain A.counter) actors.old waiting.old rows.old.items
-        (λ f n. (k : ℕ) × IsExhaustedAt f k) }
-    ensures left { OnErr result (AtEach (rules_of A.plain A.counter) actors.old waiting.old rows.old.items
-        (λ f n. AreOnTheWay f actors.new)) }
-{
     let mut out = Outbound::new(0, Time::default(), 0);
-    'turns: while take_turns(actors, waiting, rows, &mut out, usize::MAX)? {}
+    'turns: while take_turn(actors, waiting, recorder, &mut out, &mut message)? {}
     Ok(())
 }
 
@@ -178,7 +127,7 @@ pub fn run_actors<A: Actor>(
     ensures left { OnErr result (OfEach (rules_of A.plain A.counter) actors.old offers.now (λ f. AreOnTheWay f actors.new)) }
 {
     let mut waiting = Waiting::with_offers(alloc, offers, actors.len())?;
-    let mut rows = Vec::new(alloc);
-    take_all_turns(actors, &mut waiting, &mut rows)?;
-    Ok(rows)
+    let mut recorder = Recorder::keeping(alloc);
+    take_all_turns(actors, &mut waiting, &mut recorder)?;
+    Ok(recorder.into_rows())
 }

@@ -1,5 +1,5 @@
 //! Tables that are counted while rows come.
-ghost use Rattle.std.specs.Prelude.{◌≡◌, ◌+◌, ◌^◌, ◌<◌, ◌++◌, [], List, length, IfOk, OnOk};
+ghost use Rattle.std.specs.Prelude.{◌≡◌, ◌+◌, ◌-◌, ◌^◌, ◌<◌, ◌++◌, ◌∷◌, [], List, length, IfOk, OnOk};
 ghost use Rattle.vlink.specs.declared.note.Row.{Row};
 ghost use Rattle.netdesc.specs.Views.{lists_of};
 ghost use Rattle.trace_tables.specs.SoFar.{AreInTables, IsSoFar};
@@ -15,7 +15,7 @@ use netdesc::Network;
 use std::alloc::{AllocError, Global};
 use std::collections::BTreeMap;
 use std::marker::Model;
-use vlink::Row;
+use vlink::{Message, Note, Row};
 
 /// So many rows are counted at most before all have come. What comes behind them is kept, so that no count of rows passes 64 bits.
 const MOST: u64 = 1 << 63;
@@ -43,6 +43,24 @@ impl Model for TablesSoFar {
     ghost view = { λ t. record { latencies = lists_of t.latencies; duplicates = lists_of t.duplicates; drops = t.drops.entries; counted = t.counted; rest = t.rest.items } };
 }
 
+/// A row is counted.
+#[inline(always)]
+fn count_row(
+    latencies: &mut Vec<Vec<Latencies>>,
+    duplicates: &mut Vec<Vec<u64>>,
+    drops: &mut BTreeMap<Loss, u64>,
+    network: &Network,
+    row: &Row,
+) -> Result<(), AllocError>
+    requires { (earlier : List Row) × AreInTables network.now earlier (lists_of latencies.old) (lists_of duplicates.old) drops.old.entries × (length earlier < 2 ^ 64 - 1) }
+    ensures { OnOk result ((earlier : List Row) → AreInTables network.now earlier (lists_of latencies.old) (lists_of duplicates.old) drops.old.entries
+        → AreInTables network.now (earlier ++ row.now ∷ []) (lists_of latencies.new) (lists_of duplicates.new) drops.new.entries) }
+{
+    let _rising = network.vl_count();
+    deliver_row(latencies, network, row);
+    drop_row(duplicates, drops, network, row)
+}
+
 /// Each of the rows is counted.
 fn count_each(
     latencies: &mut Vec<Vec<Latencies>>,
@@ -55,11 +73,23 @@ fn count_each(
     ensures { OnOk result ((earlier : List Row) → AreInTables network.now earlier (lists_of latencies.old) (lists_of duplicates.old) drops.old.entries
         → AreInTables network.now (earlier ++ rows.now) (lists_of latencies.new) (lists_of duplicates.new) drops.new.entries) }
 {
-    let _rising = network.vl_count();
     for row in rows {
-        deliver_row(latencies, network, row);
-        drop_row(duplicates, drops, network, row)?;
+        count_row(latencies, duplicates, drops, network, row)?;
     }
+    Ok(())
+}
+
+/// A row behind those that are kept.
+#[cold]
+#[inline(never)]
+fn keep(rest: &mut Vec<Row>, message: &Message, note: &Note) -> Result<(), AllocError>
+    ensures { OnOk result (rest.new.items ≡ rest.old.items ++ record { message = message.now; place = message.now.receiver; note = note.now } ∷ []) }
+{
+    rest.push(Row {
+        message: *message,
+        place: message.receiver,
+        note: *note,
+    })?;
     Ok(())
 }
 
@@ -96,6 +126,39 @@ impl TablesSoFar {
             rows,
         )?;
         self.counted += rows.len() as u64;
+        Ok(())
+    }
+
+    /// A row has come behind the others: that of this note, of the event of this message at its receiver. It fails only where memory is
+    /// refused.
+    ///
+    /// It counts what `count` counts.
+    pub fn count_note(
+        &mut self,
+        network: &Network,
+        message: &Message,
+        note: &Note,
+    ) -> Result<(), AllocError>
+        requires { (earlier : List Row) × IsSoFar network.now self.old earlier }
+        ensures { OnOk result ((earlier : List Row) → IsSoFar network.now self.old earlier →
+            IsSoFar network.now self.new (earlier ++ record { message = message.now; place = message.now.receiver; note = note.now } ∷ [])) }
+    {
+        if !self.rest.is_empty() || self.counted >= MOST {
+            return keep(&mut self.rest, message, note);
+        }
+        let row = Row {
+            message: *message,
+            place: message.receiver,
+            note: *note,
+        };
+        count_row(
+            &mut self.latencies,
+            &mut self.duplicates,
+            &mut self.drops,
+            network,
+            &row,
+        )?;
+        self.counted += 1;
         Ok(())
     }
 

@@ -1,18 +1,28 @@
-use Rattle.std.proofs.Common.{◌≡◌, Err}
+use Rattle.std.proofs.Common.{◌≡◌, ◌∙◌, refl, subst, List, [], Err}
 use Rattle.reverse.specs.Rules.{rules_of}
 use Rattle.std.proofs.lemmas.Result.{err_from_is_err_and}
 use Rattle.seqsim.specs.declared.fault.SimFault.TheVariants.{Exhausted}
+use Rattle.vlink.specs.declared.note.Row.{Row as Noted}
+use Rattle.seqsim.specs.Running.{simulation_of, IsWholeRun}
+use Rattle.seqsim.proofs.Recording.{taken-once}
 use Rattle.seqsim.proofs.Turning.{begun, started}
 use Rattle.seqsim.proofs.Errors.{after-error}
 use Rattle.seqsim.proofs.running.run_actors.Goals as goal
 
 pub take_all_turns-requires : goal.take_all_turns-requires
 take_all_turns-requires g c = (
-  c.requires.0,
-  c.requires.2,
-  0,
-  started (rules_of g.A.Reversible.plain g.A.Actor.counter) c.requires.0 _ c.args.offers.now _ _ c.requires.1 c.in_ok-waiting.ensures.offered c.new-rows.ensures.items,
+  [],
+  c.keeping-recorder.ensures.none,
+  (
+    c.requires.0,
+    c.requires.2,
+    0,
+    started (rules_of g.A.Reversible.plain g.A.Actor.counter) c.requires.0 _ c.args.offers.now _ [] c.requires.1 c.in_ok-waiting.ensures.offered refl,
+  ),
 )
+
+pub into_rows-requires : goal.into_rows-requires
+into_rows-requires g c = c.in_ok-take_all_turns.ensures.network ∙ c.keeping-recorder.ensures.network
 
 pub returns-in_err-waiting-clause-left : goal.returns-in_err-waiting-clause-left
 returns-in_err-waiting-clause-left g c = after-error (λ x o L. begun (rules_of g.A.Reversible.plain g.A.Actor.counter) x _ c.args.offers.now o) c.from_residual.result
@@ -23,16 +33,20 @@ returns-in_err-take_all_turns-clause-exhausted g c = λ e x o L.
     let q : p.0 ≡ c.in_err-take_all_turns.field-0.0 = p.2 in
     let w : c.take_all_turns.result ≡ Err c.in_err-take_all_turns.field-0.0 = c.in_err-take_all_turns.was in
     let k : c.take_all_turns.result ≡ Err Exhausted = cc in
-    c.take_all_turns.ensures.exhausted k x L 0
-    (started (rules_of g.A.Reversible.plain g.A.Actor.counter) x _ c.args.offers.now _ _ o c.in_ok-waiting.ensures.offered c.new-rows.ensures.items)
+    c.take_all_turns.ensures.exhausted k [] c.keeping-recorder.ensures.none x L 0
+    (started (rules_of g.A.Reversible.plain g.A.Actor.counter) x _ c.args.offers.now _ [] o c.in_ok-waiting.ensures.offered refl)
 
 pub returns-in_err-take_all_turns-clause-left : goal.returns-in_err-take_all_turns-clause-left
 returns-in_err-take_all_turns-clause-left g c = after-error (λ x o L.
-    c.in_err-take_all_turns.ensures.left x L 0
-    (started (rules_of g.A.Reversible.plain g.A.Actor.counter) x _ c.args.offers.now _ _ o c.in_ok-waiting.ensures.offered c.new-rows.ensures.items))
+    c.in_err-take_all_turns.ensures.left [] c.keeping-recorder.ensures.none x L 0
+    (started (rules_of g.A.Reversible.plain g.A.Actor.counter) x _ c.args.offers.now _ [] o c.in_ok-waiting.ensures.offered refl))
     c.from_residual-in_err-take_all_turns.result
 
 pub returns-clause-whole : goal.returns-clause-whole
 returns-clause-whole g c = λ x o L.
-    c.in_ok-take_all_turns.ensures.whole x L 0
-    (started (rules_of g.A.Reversible.plain g.A.Actor.counter) x _ c.args.offers.now _ _ o c.in_ok-waiting.ensures.offered c.new-rows.ensures.items)
+    let f = simulation_of (rules_of g.A.Reversible.plain g.A.Actor.counter) x in
+    let whole = c.in_ok-take_all_turns.ensures.whole [] c.keeping-recorder.ensures.none x L 0
+    (started (rules_of g.A.Reversible.plain g.A.Actor.counter) x _ c.args.offers.now _ [] o c.in_ok-waiting.ensures.offered refl) in
+    subst (λ (rows : List Noted). IsWholeRun f rows c.take_all_turns.new.actors)
+    (taken-once c.take_all_turns.new.recorder (c.in_ok-take_all_turns.ensures.network ∙ c.keeping-recorder.ensures.network) whole.0 c.into_rows.result.items whole.1 c.into_rows.ensures)
+    whole.2
