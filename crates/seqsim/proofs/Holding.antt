@@ -2,9 +2,10 @@
 use Rattle.std.proofs.Common.{◌≡◌, ℕ, zero, suc, ◌<◌, ◌⊎◌, inl, inr, Bool, true, false, Option, Some, None, List, [], ◌∷◌, ◌++◌, ◌∙◌, length, get_or, slice_get, take, append_assoc, All, IfSome, IsPermutation, subst, sym, ap, refl, arith}
 use Rattle.std.proofs.Math.ListN.{set}
 use Rattle.std.specs.Cmp.{IsTotalOrder}
-use Rattle.std.proofs.lemmas.Bool.{cases_eq}
+use Rattle.std.specs.Option.{is_some}
+use Rattle.std.proofs.lemmas.Bool.{cases_eq, cases_lt}
 use Rattle.std.proofs.lemmas.Option.{none-some}
-use Rattle.std.proofs.lemmas.List.{get_or_default, get_or-set_same, get_or-set_other}
+use Rattle.std.proofs.lemmas.List.{get_or_default, get_or_past, get_or-set_same, get_or-set_other}
 use Rattle.std.proofs.lemmas.List.Elements.{All-nil, All-cons, All-head, All-tail, All-append, All-weaker}
 use Rattle.std.proofs.lemmas.List.Sorted.{ranks_by, IsPermutation-refl, IsPermutation-sym, IsPermutation-trans, IsPermutation-middle, IsPermutation-to_front, IsPermutation-append_left, IsPermutation-append_right, All-permutation}
 use Rattle.vlink.specs.declared.message.Message.{Message}
@@ -41,6 +42,13 @@ held-put slots i was now m w e f g =
     let free : get_or slots i None ≡ None = get_or_default slots i None was w ∙ (sym e ∙ f) in
     subst (λ (o : Option Message). IsPermutation (held_in slots ++ m ∷ []) (held_in (set slots i o))) (sym g)
     (IsPermutation-trans (held_in slots ++ m ∷ []) (m ∷ held_in slots) (held_in (set slots i (Some m))) (IsPermutation-to_front (held_in slots) m) (held-more slots i m w free))
+
+-- a place that has something is there
+pub has-place : (slots : List (Option Message)) (i : ℕ) → is_some (get_or slots i None) ≡ true → i < length slots
+has-place slots i h = elim (cases_lt i (length slots)) [
+  | inl w ↦ w
+  | inr n ↦ let e = ap is_some (get_or_past slots i None n) in absurd (cc)
+]
 
 -- what a place had is out of it
 pub some-taken : (slots : List (Option Message)) (i : ℕ) (was now : Option Message) → i < length slots → was ≡ get_or slots i was → now ≡ None →

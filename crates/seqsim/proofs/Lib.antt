@@ -11,3 +11,4 @@ pub mod Naming
 pub mod Lanes
 pub mod Holding
 pub mod Recording
+pub mod Queues

@@ -5,3 +5,4 @@ pub mod Tops
 pub mod Keys
 pub mod Held
 pub mod Recording
+pub mod Queues

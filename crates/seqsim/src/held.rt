@@ -1,5 +1,5 @@
 //! Messages that are held back: each waits behind another, which is for another receiver and due before it.
-ghost use Rattle.std.specs.Prelude.{◌≡◌, ◌<◌, ◌≤◌, List, [], ◌∷◌, ◌++◌, true, take, length, IfOk, IfErr, IfSome, IfNone, IsPermutation};
+ghost use Rattle.std.specs.Prelude.{◌≡◌, ◌<◌, ◌≤◌, List, [], ◌∷◌, ◌++◌, true, false, None, is_some, get_or, take, length, IfOk, IfErr, IsPermutation};
 ghost use Rattle.vlink.specs.declared.message.Message.{Message};
 ghost use Rattle.seqsim.specs.Keys.{HasKey};
 ghost use Rattle.seqsim.specs.Held.{held_in, is_carry, AreBehind};
@@ -70,21 +70,30 @@ impl Held {
         0
     }
 
-    /// Gives what is held behind this message, if anything is.
+    /// Whether something is held behind this message.
     #[inline(always)]
-    pub(crate) fn take(&mut self, before: &Message) -> Option<Queued>
-        ensures some { IfSome result (λ m. IsPermutation (held_in self.old.slots.items) (m ∷ held_in self.new.slots.items)) }
-        ensures keyed { IfSome result HasKey }
-        ensures none { IfNone result (held_in self.new.slots.items ≡ held_in self.old.slots.items) }
-        ensures behind { (xs : List Message) → AreBehind self.old.slots.items (before.now ∷ xs) → AreBehind self.new.slots.items xs }
+    pub(crate) fn has_behind(&self, before: &Message) -> bool
+        ensures some { result ≡ true → is_some (get_or self.now.slots.items before.now.receiver None) ≡ true }
+        ensures none { result ≡ false → (xs : List Message) → AreBehind self.now.slots.items (before.now ∷ xs) → AreBehind self.now.slots.items xs }
     {
         if !is_carry(&before.body) {
-            return None;
+            return false;
         }
         let place = usize::from(before.receiver);
         if place >= self.slots.len() {
-            return None;
+            return false;
         }
-        self.slots[place].take()
+        self.slots[place].is_held()
+    }
+
+    /// Gives what is held behind this message.
+    #[inline(always)]
+    pub(crate) fn take(&mut self, before: &Message) -> Queued
+        requires { is_some (get_or self.old.slots.items before.now.receiver None) ≡ true }
+        ensures one { IsPermutation (held_in self.old.slots.items) (result ∷ held_in self.new.slots.items) }
+        ensures keyed { HasKey result }
+        ensures behind { (xs : List Message) → AreBehind self.old.slots.items (before.now ∷ xs) → AreBehind self.new.slots.items xs }
+    {
+        self.slots[usize::from(before.receiver)].take()
     }
 }

@@ -8,19 +8,20 @@ ghost use Rattle.seqsim.specs.Keys.{key_of, HasKey, beyond_keys};
 ghost use Rattle.seqsim.specs.declared.fault.SimFault.TheVariants.{OutOfMemory};
 
 use crate::fault::SimFault;
+use crate::keyed::Keyed;
 use crate::listed::Listed;
-use crate::queued::{BEYOND_KEYS, Queued};
-use circular_buffer::HeapCircularBuffer;
+use crate::queue::Queue;
+use crate::queued::BEYOND_KEYS;
 use std::alloc::Global;
 use vlink::Message;
 
 /// The room that a lane begins with, in messages.
-const ROOM: usize = 15;
+const ROOM: usize = 32;
 
 /// Messages in the order of their keys. What comes behind the last of them goes to the end, and takes no comparison with the others.
 #[derive(Drop)]
 pub(crate) struct Lane {
-    queue: HeapCircularBuffer<Queued>,
+    queue: Queue,
     /// The key of the first, and beyond all keys where there is none. So the first of several lanes is found among numbers that are at
     /// hand, with no branch on lanes that are empty.
     front: u128,
@@ -41,7 +42,7 @@ impl Lane {
         ensures memory { IfErr result (λ fault. fault ≡ OutOfMemory) }
     {
         Ok(Lane {
-            queue: HeapCircularBuffer::with_capacity(alloc, ROOM)?,
+            queue: Queue::with_room(alloc, ROOM)?,
             front: BEYOND_KEYS,
             back: 0,
         })
@@ -65,17 +66,17 @@ impl Lane {
 
     /// One message more, at the end. Its key is told, since the caller has it at hand.
     #[inline(always)]
-    pub(crate) fn push(&mut self, queued: Queued, key: u128) -> Result<(), SimFault>
-        requires key { key ≡ key_of queued }
-        requires keyed { HasKey queued }
+    pub(crate) fn push(&mut self, message: &Keyed<'_>, key: u128) -> Result<(), SimFault>
+        requires key { key ≡ key_of message.now }
+        requires keyed { HasKey message.now }
         requires small { key < beyond_keys }
         requires behind { self.old.back ≤ key }
-        ensures more { OnOk result (self.new.queue.items ≡ self.old.queue.items ++ queued ∷ []) }
+        ensures more { OnOk result (self.new.queue.items ≡ self.old.queue.items ++ message.now ∷ []) }
         ensures same { OnErr result (self.new.queue.items ≡ self.old.queue.items) }
         ensures memory { IfErr result (λ fault. fault ≡ OutOfMemory) }
     {
-        make_room(&mut self.queue)?;
-        put(&mut self.queue, queued);
+        self.queue.make_room()?;
+        self.queue.push(message);
         self.back = key;
         self.front = least(self.front, key);
         Ok(())
@@ -101,11 +102,11 @@ impl Lane {
         if !listed.is_after(self.front_ns()) && self.is_behind(listed) {
             return false;
         }
-        let Some(queued) = self.queue.pop_front() else {
+        let Some(queued) = self.queue.first() else {
             return false;
         };
         queued.write_to(first);
-        self.front = front_of(&self.queue);
+        self.front = self.queue.pass();
         true
     }
 
@@ -117,58 +118,10 @@ impl Lane {
         ensures listed { result ≡ true → IfSome (slice_get self.now.queue.items 0) (λ x. IsSomeAnd (slice_get listed.now (length listed.now - 1)) (λ m. is_before m x ≡ true)) }
         ensures sent { result ≡ false → IfSome (slice_get self.now.queue.items 0) (λ x. IfSome (slice_get listed.now (length listed.now - 1)) (λ m. is_before m x ≡ false)) }
     {
-        match self.queue.front() {
+        match self.queue.first() {
             Some(queued) => listed.is_first(&queued.message()),
             None => true,
         }
-    }
-}
-
-/// The queue has room for one message more.
-#[inline(always)]
-fn make_room(queue: &mut HeapCircularBuffer<Queued>) -> Result<(), SimFault>
-    ensures same { queue.new.items ≡ queue.old.items }
-    ensures room { OnOk result (length queue.new.items < queue.new.capacity) }
-    ensures memory { IfErr result (λ fault. fault ≡ OutOfMemory) }
-{
-    if queue.len() < queue.capacity() {
-        return Ok(());
-    }
-    grow(queue)
-}
-
-/// More than twice the room.
-#[cold]
-#[inline(never)]
-fn grow(queue: &mut HeapCircularBuffer<Queued>) -> Result<(), SimFault>
-    ensures same { queue.new.items ≡ queue.old.items }
-    ensures room { OnOk result (length queue.new.items < queue.new.capacity) }
-    ensures memory { IfErr result (λ fault. fault ≡ OutOfMemory) }
-{
-    let room = queue.capacity();
-    queue.resize(2 * room + 1)?;
-    Ok(())
-}
-
-/// One message more, at the end of a queue that has room.
-#[inline(always)]
-fn put(queue: &mut HeapCircularBuffer<Queued>, queued: Queued)
-    requires { length queue.old.items < queue.old.capacity }
-    ensures { queue.new.items ≡ queue.old.items ++ queued ∷ [] }
-{
-    let _none = queue.push_back(queued);
-}
-
-/// The key of the first of the queue, and beyond all keys where there is none.
-#[inline(always)]
-fn front_of(queue: &HeapCircularBuffer<Queued>) -> u128
-    ensures first { (d : Message) → 0 < length queue.now.items → key_of (slice_index_or queue.now.items 0 d) ≡ result }
-    ensures some { 0 < length queue.now.items → result < beyond_keys }
-    ensures none { length queue.now.items ≡ 0 → result ≡ beyond_keys }
-{
-    match queue.front() {
-        Some(queued) => queued.key(),
-        None => BEYOND_KEYS,
     }
 }
 

@@ -3,10 +3,12 @@
 
 mod fault;
 mod held;
+mod keyed;
 mod lane;
 mod laws;
 mod listed;
 mod networks;
+mod queue;
 mod queued;
 mod ranked;
 mod recorder;

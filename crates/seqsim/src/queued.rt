@@ -7,6 +7,7 @@ ghost use Rattle.std.specs.Ordering.{nat_cmp};
 ghost use Rattle.vlink.specs.declared.time.TheConstants.{GREATEST_NS};
 ghost use Rattle.seqsim.specs.Keys.{key_of, HasKey, beyond_keys};
 
+use crate::keyed::{Keyed, both};
 use std::cmp::Ordering;
 use std::marker::Model;
 use vlink::{Body, Message, Time};
@@ -46,23 +47,6 @@ impl Model for Queued {
 }
 
 impl Queued {
-    /// The message, unless its parts are too great for the two numbers.
-    #[inline(always)]
-    pub(crate) fn new(message: &Message) -> Option<Self>
-        ensures message { IfSome result (λ q. q ≡ message.now) }
-        ensures key { IfSome result HasKey }
-        ensures none { IfNone result (HasKey message.now → ⊥) }
-    {
-        if message.sender >= 1 << 16 || message.number >= 1 << 48 {
-            return None;
-        }
-        Some(Queued {
-            place: place_of(message.time, message.receiver),
-            name: name_of(message.sender as u16, message.number),
-            body: message.body,
-        })
-    }
-
     /// Makes the message what it is. Each part is written where it belongs, so that no whole message is copied.
     #[inline(always)]
     pub(crate) fn write_to(&self, message: &mut Message)
@@ -96,10 +80,16 @@ impl Queued {
         message
     }
 
-    /// What it says.
+    /// The same message, to be queued again.
     #[inline(always)]
-    pub(crate) fn body(&self) -> &Body {
-        &self.body
+    pub(crate) fn keyed(&self) -> Keyed<'_>
+        ensures { result ≡ self.now }
+    {
+        Keyed {
+            place: self.place,
+            name: self.name,
+            body: &self.body,
+        }
     }
 
     /// Both numbers as one.
@@ -112,42 +102,12 @@ impl Queued {
     }
 }
 
-/// The time and the receiver in one number.
-#[inline(always)]
-fn place_of(time: Time, receiver: u16) -> u64
-    ensures time { result / 65536 ≡ time }
-    ensures receiver { result % 65536 ≡ receiver }
-    ensures in_16_bits { receiver < 65536 }
-    ensures in_time { time ≤ GREATEST_NS }
-{
-    time.ns() * 65536 + u64::from(receiver)
-}
-
-/// The sender and the number in one number.
-#[inline(always)]
-fn name_of(sender: u16, number: u64) -> u64
-    requires { number < 281474976710656 }
-    ensures sender { result / 281474976710656 ≡ sender }
-    ensures number { result % 281474976710656 ≡ number }
-    ensures in_16_bits { sender < 65536 }
-{
-    u64::from(sender) * 281474976710656 + number
-}
-
 /// The sender in such a number.
 #[inline(always)]
 fn sender_in(name: u64) -> u32
     ensures { result ≡ name / 281474976710656 }
 {
     (name / 281474976710656) as u32
-}
-
-/// Both numbers as one.
-#[inline(always)]
-fn both(place: u64, name: u64) -> u128
-    ensures { result ≡ place * 18446744073709551616 + name }
-{
-    u128::from(place) * 18446744073709551616 + u128::from(name)
 }
 
 impl PartialEq for Queued {

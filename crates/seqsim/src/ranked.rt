@@ -8,6 +8,7 @@ ghost use Rattle.seqsim.specs.Keys.{HasKey, IsNamed};
 ghost use Rattle.seqsim.specs.declared.fault.SimFault.TheVariants.{OutOfMemory};
 
 use crate::fault::SimFault;
+use crate::keyed::Keyed;
 use crate::listed::Listed;
 use crate::queued::Queued;
 use crate::sent::Sent;
@@ -59,22 +60,22 @@ impl Ranked {
         ensures same { OnErr result (self.new ≡ self.old) }
         ensures memory { IfErr result (λ fault. fault ≡ OutOfMemory) }
     {
-        let Some(queued) = Queued::new(message) else {
+        let Some(keyed) = Keyed::of(message) else {
             return self.listed.put(message);
         };
-        self.sent.push(queued)
+        self.sent.push(&keyed)
     }
 
     /// One message more that was held back.
     #[inline(always)]
-    pub(crate) fn put(&mut self, queued: Queued) -> Result<(), SimFault>
-        requires keyed { HasKey queued }
-        requires named { IsNamed queued self.old }
-        ensures more { OnOk result (IsPermutation (queued ∷ self.old) self.new) }
+    pub(crate) fn put(&mut self, queued: &Queued) -> Result<(), SimFault>
+        requires keyed { HasKey queued.now }
+        requires named { IsNamed queued.now self.old }
+        ensures more { OnOk result (IsPermutation (queued.now ∷ self.old) self.new) }
         ensures same { OnErr result (self.new ≡ self.old) }
         ensures memory { IfErr result (λ fault. fault ≡ OutOfMemory) }
     {
-        if self.sent.push_behind(&queued)? {
+        if self.sent.push_behind(&queued.keyed())? {
             return Ok(());
         }
         self.listed.put(&queued.message())

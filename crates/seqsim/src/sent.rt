@@ -12,6 +12,7 @@ ghost use Rattle.seqsim.specs.declared.lane.Lane.{Lane};
 ghost use Rattle.seqsim.specs.declared.fault.SimFault.TheVariants.{OutOfMemory};
 
 use crate::fault::SimFault;
+use crate::keyed::Keyed;
 use crate::lane::Lane;
 use crate::listed::Listed;
 use crate::queued::{BEYOND_KEYS, Queued};
@@ -79,18 +80,18 @@ impl Sent {
     /// One message more at the end of its lane, unless it comes before the last one there or has no lane. The answer is whether it went
     /// there.
     #[inline(always)]
-    pub(crate) fn push_behind(&mut self, queued: &Queued) -> Result<bool, SimFault>
-        requires keyed { HasKey queued.now }
-        requires named { IsNamed queued.now self.old }
-        ensures more { result ≡ Ok true → IsPermutation (queued.now ∷ self.old) self.new }
+    pub(crate) fn push_behind(&mut self, message: &Keyed<'_>) -> Result<bool, SimFault>
+        requires keyed { HasKey message.now }
+        requires named { IsNamed message.now self.old }
+        ensures more { result ≡ Ok true → IsPermutation (message.now ∷ self.old) self.new }
         ensures apart { result ≡ Ok false → self.new ≡ self.old }
         ensures same { OnErr result (self.new ≡ self.old) }
         ensures memory { IfErr result (λ fault. fault ≡ OutOfMemory) }
     {
-        let lane = lane_of(queued.body());
-        let key = queued.key();
+        let lane = lane_of(message.body());
+        let key = message.key();
         if lane < LANES && self.lanes[lane].takes(key) {
-            self.lanes[lane].push(queued.copied(), key)?;
+            self.lanes[lane].push(message, key)?;
             return Ok(true);
         }
         Ok(false)
@@ -98,17 +99,17 @@ impl Sent {
 
     /// One message more.
     #[inline(always)]
-    pub(crate) fn push(&mut self, queued: Queued) -> Result<(), SimFault>
-        requires keyed { HasKey queued }
-        requires named { IsNamed queued self.old }
-        ensures more { OnOk result (IsPermutation (queued ∷ self.old) self.new) }
+    pub(crate) fn push(&mut self, message: &Keyed<'_>) -> Result<(), SimFault>
+        requires keyed { HasKey message.now }
+        requires named { IsNamed message.now self.old }
+        ensures more { OnOk result (IsPermutation (message.now ∷ self.old) self.new) }
         ensures same { OnErr result (self.new ≡ self.old) }
         ensures memory { IfErr result (λ fault. fault ≡ OutOfMemory) }
     {
-        if self.push_behind(&queued)? {
+        if self.push_behind(message)? {
             return Ok(());
         }
-        tops::put(&mut self.heap, self.is_top_taken, queued)?;
+        tops::put(&mut self.heap, self.is_top_taken, message.queued())?;
         self.is_top_taken = false;
         Ok(())
     }

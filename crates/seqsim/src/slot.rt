@@ -1,7 +1,8 @@
 //! A place for a message that says that a port becomes free.
-ghost use Rattle.std.specs.Prelude.{◌≡◌, None, Some, true, false, IfSome};
+ghost use Rattle.std.specs.Prelude.{◌≡◌, None, Some, true, false, is_some};
 ghost use Rattle.seqsim.specs.Keys.{HasKey};
 
+use crate::keyed::Keyed;
 use crate::queued::Queued;
 use std::marker::Model;
 use vlink::{Body, Message};
@@ -67,31 +68,37 @@ impl Slot {
         if self.is_held {
             return false;
         }
-        let Some(queued) = Queued::new(message) else {
+        let Some(keyed) = Keyed::of(message) else {
             return false;
         };
-        self.place = queued.place;
-        self.name = queued.name;
+        self.place = keyed.place;
+        self.name = keyed.name;
         self.port = port;
         self.is_held = true;
         true
     }
 
-    /// Gives the message, if one is there.
+    /// Whether a message is there.
     #[inline(always)]
-    pub(crate) fn take(&mut self) -> Option<Queued>
-        ensures value { result ≡ self.old }
-        ensures after { self.new ≡ None }
-        ensures keyed { IfSome result HasKey }
+    pub(crate) fn is_held(&self) -> bool
+        ensures { result ≡ is_some self.now }
     {
-        if !self.is_held {
-            return None;
-        }
+        self.is_held
+    }
+
+    /// Gives the message.
+    #[inline(always)]
+    pub(crate) fn take(&mut self) -> Queued
+        requires { is_some self.old ≡ true }
+        ensures value { self.old ≡ Some result }
+        ensures after { self.new ≡ None }
+        ensures keyed { HasKey result }
+    {
         self.is_held = false;
-        Some(Queued {
+        Queued {
             place: self.place,
             name: self.name,
             body: Body::PortFree { port: self.port },
-        })
+        }
     }
 }

@@ -1,21 +1,23 @@
-use Rattle.std.proofs.Common.{◌≡◌, Option, None, ◌∷◌, IfSome, IsPermutation, subst, sym, arith, rules}
+use Rattle.std.proofs.Common.{◌<◌, None, length, ◌∷◌, IfSome, IsPermutation, subst, sym, arith}
 use Rattle.std.proofs.Math.ListN.{set}
-use Rattle.std.proofs.lemmas.List.{get_or_past}
-use Rattle.vlink.specs.declared.message.Message.{Message}
-use Rattle.seqsim.specs.Held.{held_in}
-use Rattle.seqsim.proofs.Holding.{behind-taken, some-taken}
+use Rattle.std.proofs.lemmas.List.{get_or-set_same}
+use Rattle.seqsim.specs.Held.{held_in, AreBehind}
+use Rattle.seqsim.proofs.Holding.{behind-set, behind-taken, some-taken, has-place}
 use Rattle.seqsim.proofs.held.Held.take.Goals as goal
 
-pub returns-then-place-len-clause-behind : goal.returns-then-place-len-clause-behind
-returns-then-place-len-clause-behind c = λ xs h.
+pub returns-clause-one : goal.returns-clause-one
+returns-clause-one c =
+    let slots = c.args.self.now.slots.items in
+    let place = c.from.result in
+    let within : place < length slots = let w = has-place slots c.args.before.now.receiver c.requires in let a = c.from.ensures in omega arith in
+    subst (λ o. IfSome o (λ m. IsPermutation (held_in slots) (m ∷ held_in (set slots place c.take.new.self)))) c.take.ensures.value
+    (some-taken slots place c.index_mut.result.now c.take.new.self within c.index_mut.ensures.value c.take.ensures.after)
+
+pub returns-clause-behind : goal.returns-clause-behind
+returns-clause-behind c = λ xs h.
     let slots = c.args.self.now.slots.items in
     let b = c.args.before.now in
-    let at : c.from-place.result ≡ b.receiver = search rules in
-    behind-taken slots b xs (get_or_past slots b.receiver None (omega (arith, at))) h
-
-pub returns-clause-some : goal.returns-clause-some
-returns-clause-some c =
-    let slots = c.args.self.now.slots.items in
-    let place = c.from-place.result in
-    subst (λ (o : Option Message). IfSome o (λ m. IsPermutation (held_in slots) (m ∷ held_in (set slots place c.take.new.self)))) (sym c.take.ensures.value)
-    (some-taken slots place c.index_mut.result.now c.take.new.self (omega arith) c.index_mut.ensures.value c.take.ensures.after)
+    let within = has-place slots b.receiver c.requires in
+    let left : AreBehind (set slots b.receiver None) xs =
+    behind-taken (set slots b.receiver None) b xs (get_or-set_same slots b.receiver None None within) (behind-set slots b.receiver (b ∷ xs) within h) in
+    subst (λ o. AreBehind (set slots c.from.result o) xs) (sym c.take.ensures.after) (subst (λ k. AreBehind (set slots k None) xs) (sym c.from.ensures) left)

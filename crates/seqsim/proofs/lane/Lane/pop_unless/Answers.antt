@@ -9,9 +9,9 @@ use Rattle.seqsim.proofs.lane.Lane.pop_unless.Goals as goal
 pub returns-clause-sent : goal.returns-clause-sent
 returns-clause-sent c = λ t.
     let items = c.args.self.now.queue.items in
-    let queued = c.in-Some.queued in
+    let queued = c.in-Some.queued.now in
     let last = slice_get c.args.listed.now (length c.args.listed.now - 1) in
-    let front : slice_get items 0 ≡ Some queued = sym c.in-Some.ensures.value in
+    let front : slice_get items 0 ≡ Some queued = sym c.in-Some.ensures in
     let not-before : IfSome last (λ m. is_before m queued ≡ false) =
     elim c.else-not-is_after.branch [
       | else-not-is_after-via-then-not-is_after+else-is_behind w ↦

@@ -9,8 +9,9 @@ pub returns-then-branch-clause-more : goal.returns-then-branch-clause-more
 returns-then-branch-clause-more c =
     let t : c.in_ok-push_behind.field-0 ≡ true = search rules in
     let listed = c.self.inside.listed in
-    subst (λ (xs : List Message). IsPermutation (c.args.queued ∷ xs) (c.push_behind.new.self ++ listed)) c.self.view_is
-    (IsPermutation-append_left listed (c.args.queued ∷ c.self.inside.sent) c.push_behind.new.self (c.in_ok-push_behind.ensures.more (ap (λ b. Ok b) t)))
+    subst (λ (xs : List Message). IsPermutation (c.args.queued.now ∷ xs) (c.push_behind.new.self ++ listed)) c.self.view_is
+    (IsPermutation-append_left listed (c.args.queued.now ∷ c.self.inside.sent) c.push_behind.new.self
+    (subst (λ (x : Message). IsPermutation (x ∷ c.self.inside.sent) c.push_behind.new.self) c.keyed.ensures (c.in_ok-push_behind.ensures.more (ap (λ b. Ok b) t))))
 
 pub returns-clause-more : goal.returns-clause-more
 returns-clause-more c =
@@ -19,7 +20,7 @@ returns-clause-more c =
     let sent = c.self.inside.sent in
     let listed = c.self.inside.listed in
     let new = c.put.new.self in
-    let m = c.args.queued in
+    let m = c.args.queued.now in
     on_ok_weaker c.put.result
     (λ more. subst (λ (xs : List Message). IsPermutation (m ∷ xs) (c.push_behind.new.self ++ new)) c.self.view_is
     (subst (λ (xs : List Message). IsPermutation (m ∷ (sent ++ listed)) (xs ++ new)) (sym same)

@@ -7,16 +7,16 @@ use Rattle.seqsim.specs.declared.lane.Lane.{Lane}
 use Rattle.seqsim.specs.Tops.{left_in}
 use Rattle.seqsim.specs.Keys.{IsNamed}
 use Rattle.seqsim.proofs.Waits.{more-listed}
-use Rattle.seqsim.proofs.Lanes.{in_all, lane-more, named-more}
+use Rattle.seqsim.proofs.Errors.{after-error}
+use Rattle.seqsim.proofs.Lanes.{in_all, lane-more, lane-same, named-more}
 use Rattle.seqsim.proofs.sent.Sent.push_behind.Goals as goal
 
 pub invariant_of-self-inside : goal.invariant_of-self-inside
 invariant_of-self-inside c =
-    let m = c.copied.result in
+    let m = c.args.message.now in
     let left = left_in c.self.inside.is_top_taken (heap_items c.self.inside.heap) in
     let lanes = c.self.inside.lanes.items in
-    let waits : IsNamed m (left ++ in_all lanes) =
-    subst (λ (x : Message). IsNamed x (left ++ in_all lanes)) (sym c.copied.ensures) (subst (IsNamed c.args.queued.now) (sym c.self.view_is) c.requires.named) in
+    let waits : IsNamed m (left ++ in_all lanes) = subst (IsNamed m) (sym c.self.view_is) c.requires.named in
     let within : c.lane_of-lane.result < length lanes = let a = c.self.inside.four in omega arith in (
       length-set lanes c.lane_of-lane.result c.push.new.self ∙ c.self.inside.four,
       (
@@ -37,11 +37,21 @@ invariant_of-self-inside c =
 
 pub returns-then-takes-clause-more : goal.returns-then-takes-clause-more
 returns-then-takes-clause-more c = λ t.
-    let m = c.args.queued.now in
+    let m = c.args.message.now in
     let left = left_in c.self.inside.is_top_taken (heap_items c.self.inside.heap) in
     let lanes = c.self.inside.lanes.items in
     let new = set lanes c.lane_of-lane.result c.push.new.self in
     let within : c.lane_of-lane.result < length lanes = let a = c.self.inside.four in omega arith in
     subst (λ (xs : List Message). IsPermutation (m ∷ xs) (left ++ in_all new)) c.self.view_is
     (more-listed m left (in_all lanes) (in_all new) (lane-more lanes c.lane_of-lane.result c.push.new.self c.index_mut.result.now m within
-    (c.in_ok-push.ensures.more ∙ (ap (λ (x : Message). c.index_mut.result.now.queue.items ++ x ∷ []) c.copied.ensures ∙ ap (λ (k : Lane). k.queue.items ++ m ∷ []) c.index_mut.ensures.value))))
+    (c.in_ok-push.ensures.more ∙ ap (λ (k : Lane). k.queue.items ++ m ∷ []) c.index_mut.ensures.value)))
+
+pub returns-in_err-push-clause-same : goal.returns-in_err-push-clause-same
+returns-in_err-push-clause-same c =
+    let left = left_in c.self.inside.is_top_taken (heap_items c.self.inside.heap) in
+    let lanes = c.self.inside.lanes.items in
+    let within : c.lane_of-lane.result < length lanes = let a = c.self.inside.four in omega arith in
+    after-error
+    (ap (λ (xs : List Message). left ++ xs) (lane-same lanes c.lane_of-lane.result c.push.new.self c.index_mut.result.now within
+    (c.in_err-push.ensures.same ∙ ap (λ (k : Lane). k.queue.items) c.index_mut.ensures.value)) ∙ c.self.view_is)
+    c.from_residual.result

@@ -22,11 +22,11 @@ put-requires-clause-named c =
     let due = c.self.inside.ranked in
     let left = c.pop.new.self in
     let held = held_in c.self.inside.held.slots.items in
-    let rest = held_in c.take.new.self.slots.items in
-    let h = c.in-Some.held in
+    let rest = held_in c.take-held.new.self.slots.items in
+    let h = c.take-held.result in
     let y = c.pop.new.first in
     let named : IsNamed h (due ++ held) =
-    All-head (λ m. IsNamed m (due ++ held)) h rest (All-permutation (λ m. IsNamed m (due ++ held)) held (h ∷ rest) c.in-Some.ensures.some c.self.inside.named) in
+    All-head (λ m. IsNamed m (due ++ held)) h rest (All-permutation (λ m. IsNamed m (due ++ held)) held (h ∷ rest) c.take-held.ensures.one c.self.inside.named) in
     All-tail (Apart h) y left (All-permutation (Apart h) due (y ∷ left) (c.if-not-pop.ensures.one refl) (All-left (Apart h) due held named))
 
 -- whether the message was put to the others or refused
@@ -40,18 +40,18 @@ left-of : (P : Message → Type 0) (due left held rest : List Message) (y : Mess
 left-of P due left held rest y p f h =
     All-append P left rest (All-tail P y left (All-permutation P due (y ∷ left) p (All-left P due held h))) (f (All-right P due held h))
 
-pub invariant_of-self-inside-in-Some : goal.invariant_of-self-inside-in-Some
-invariant_of-self-inside-in-Some c =
+pub invariant_of-self-inside-then-has_behind : goal.invariant_of-self-inside-then-has_behind
+invariant_of-self-inside-then-has_behind c =
     let slots = c.self.inside.held.slots.items in
-    let now = c.take.new.self.slots.items in
+    let now = c.take-held.new.self.slots.items in
     let due = c.self.inside.ranked in
     let left = c.pop.new.self in
     let new = c.put.new.self in
-    let h = c.in-Some.held in
+    let h = c.take-held.result in
     let y = c.pop.new.first in
     let one : IsPermutation due (y ∷ left) = c.if-not-pop.ensures.one refl in
-    let two : IsPermutation (held_in slots) (h ∷ held_in now) = c.in-Some.ensures.some in
-    let behind : AreBehind now left = c.take.ensures.behind left (behind-permuted slots due (y ∷ left) one c.self.inside.behind) in
+    let two : IsPermutation (held_in slots) (h ∷ held_in now) = c.take-held.ensures.one in
+    let behind : AreBehind now left = c.take-held.ensures.behind left (behind-permuted slots due (y ∷ left) one c.self.inside.behind) in
     either c.put.result c.put.ensures.more c.put.ensures.same
     (λ more. (
       behind-more now h left new more behind,
@@ -76,10 +76,10 @@ invariant_of-self-inside-in-Some c =
 pub returns-in_ok-put-clause-one : goal.returns-in_ok-put-clause-one
 returns-in_ok-put-clause-one c = λ t.
     let slots = c.self.inside.held.slots.items in
-    let now = c.take.new.self.slots.items in
+    let now = c.take-held.new.self.slots.items in
     let y = c.pop.new.first in
     subst (λ (xs : List Message). IsPermutation xs (y ∷ (c.put.new.self ++ held_in now))) c.self.view_is
-    (let-go c.self.inside.ranked c.pop.new.self c.put.new.self (held_in slots) (held_in now) y c.in-Some.held (c.if-not-pop.ensures.one refl) c.in-Some.ensures.some c.in_ok-put.ensures.more)
+    (let-go c.self.inside.ranked c.pop.new.self c.put.new.self (held_in slots) (held_in now) y c.take-held.result (c.if-not-pop.ensures.one refl) c.take-held.ensures.one c.in_ok-put.ensures.more)
 
 pub returns-in_ok-put-clause-first : goal.returns-in_ok-put-clause-first
 returns-in_ok-put-clause-first c = λ t.
@@ -89,38 +89,31 @@ returns-in_ok-put-clause-first c = λ t.
     subst (NoneBefore y) c.self.view_is
     (All-append (λ x. is_before x y ≡ false) due (held_in slots) (c.if-not-pop.ensures.first refl) (held-after c.message_order.ensures.total slots y due c.self.inside.behind (c.if-not-pop.ensures.first refl)))
 
-pub invariant_of-self-inside-in_default : goal.invariant_of-self-inside-in_default
-invariant_of-self-inside-in_default c =
+pub invariant_of-self-inside-else-has_behind : goal.invariant_of-self-inside-else-has_behind
+invariant_of-self-inside-else-has_behind c =
     let slots = c.self.inside.held.slots.items in
-    let now = c.take.new.self.slots.items in
     let due = c.self.inside.ranked in
     let left = c.pop.new.self in
     let y = c.pop.new.first in
-    let one : IsPermutation due (y ∷ left) = c.if-not-pop.ensures.one refl in
-    let none : held_in now ≡ held_in slots = c.in_default.ensures.none in (
-      c.take.ensures.behind left (behind-permuted slots due (y ∷ left) one c.self.inside.behind),
+    let one : IsPermutation due (y ∷ left) = c.if-not-pop.ensures.one refl in (
+      c.if-has_behind.ensures.none refl left (behind-permuted slots due (y ∷ left) one c.self.inside.behind),
       (
-        named-part (due ++ held_in slots) (left ++ held_in now) (held_in slots) (held_in now)
-            (λ P. left-of P due left (held_in slots) (held_in now) y one (λ k. subst (λ (xs : List Message). All P xs) (sym none) k))
-            (λ P k. subst (λ (xs : List Message). All P xs) (sym none) k) c.self.inside.named,
+        named-part (due ++ held_in slots) (left ++ held_in slots) (held_in slots) (held_in slots)
+            (λ P. left-of P due left (held_in slots) (held_in slots) y one (λ k. k)) (λ P k. k) c.self.inside.named,
         _,
       ),
     )
 
-pub returns-in_default-clause-one : goal.returns-in_default-clause-one
-returns-in_default-clause-one c = λ t.
+pub returns-else-has_behind-clause-one : goal.returns-else-has_behind-clause-one
+returns-else-has_behind-clause-one c = λ t.
     let slots = c.self.inside.held.slots.items in
-    let now = c.take.new.self.slots.items in
     let due = c.self.inside.ranked in
-    let left = c.pop.new.self in
     let y = c.pop.new.first in
-    let none : held_in now ≡ held_in slots = c.in_default.ensures.none in
-    subst (λ (xs : List Message). IsPermutation xs (y ∷ (left ++ held_in now))) c.self.view_is
-    (subst (λ (xs : List Message). IsPermutation (due ++ held_in slots) (y ∷ (left ++ xs))) (sym none)
-    (IsPermutation-append_left (held_in slots) due (y ∷ left) (c.if-not-pop.ensures.one refl)))
+    subst (λ (xs : List Message). IsPermutation xs (y ∷ (c.pop.new.self ++ held_in slots))) c.self.view_is
+    (IsPermutation-append_left (held_in slots) due (y ∷ c.pop.new.self) (c.if-not-pop.ensures.one refl))
 
-pub returns-in_default-clause-first : goal.returns-in_default-clause-first
-returns-in_default-clause-first c = λ t.
+pub returns-else-has_behind-clause-first : goal.returns-else-has_behind-clause-first
+returns-else-has_behind-clause-first c = λ t.
     let slots = c.self.inside.held.slots.items in
     let due = c.self.inside.ranked in
     let y = c.pop.new.first in
