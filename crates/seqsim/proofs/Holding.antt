@@ -50,6 +50,20 @@ has-place slots i h = elim (cases_lt i (length slots)) [
   | inr n ↦ let e = ap is_some (get_or_past slots i None n) in absurd (cc)
 ]
 
+-- and what it has
+pub has-one : (slots : List (Option Message)) (i : ℕ) → is_some (get_or slots i None) ≡ true → (m : Message) × (get_or slots i None ≡ Some m)
+has-one slots i h = go (get_or slots i None) refl h
+  where
+    go : (o : Option Message) → get_or slots i None ≡ o → is_some o ≡ true → (m : Message) × (get_or slots i None ≡ Some m)
+    go (Some m) e t = (m, e)
+    go None e t = absurd (cc)
+
+-- what holds of all that is held holds of what a place has
+pub in-held : (P : Message → Type 0) (slots : List (Option Message)) (i : ℕ) (m : Message) → get_or slots i None ≡ Some m → All P (held_in slots) → P m
+in-held P slots i m e all =
+    All-head P m (held_in (set slots i None))
+    (All-permutation P (held_in slots) (m ∷ held_in (set slots i None)) (held-less slots i m (has-place slots i (ap is_some e)) e) all)
+
 -- what a place had is out of it
 pub some-taken : (slots : List (Option Message)) (i : ℕ) (was now : Option Message) → i < length slots → was ≡ get_or slots i was → now ≡ None →
     IfSome was (λ m. IsPermutation (held_in slots) (m ∷ held_in (set slots i now)))

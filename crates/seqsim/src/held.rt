@@ -1,5 +1,5 @@
 //! Messages that are held back: each waits behind another, which is for another receiver and due before it.
-ghost use Rattle.std.specs.Prelude.{◌≡◌, ◌<◌, ◌≤◌, List, [], ◌∷◌, ◌++◌, true, false, None, is_some, get_or, take, length, IfOk, IfErr, IsPermutation};
+ghost use Rattle.std.specs.Prelude.{◌≡◌, ◌<◌, ◌≤◌, List, [], ◌∷◌, ◌++◌, true, false, None, Some, is_some, get_or, take, length, IfOk, IfErr, IsPermutation};
 ghost use Rattle.vlink.specs.declared.message.Message.{Message};
 ghost use Rattle.seqsim.specs.Keys.{HasKey};
 ghost use Rattle.seqsim.specs.Held.{held_in, is_carry, AreBehind};
@@ -90,6 +90,7 @@ impl Held {
     #[inline(always)]
     pub(crate) fn take(&mut self, before: &Message) -> Queued
         requires { is_some (get_or self.old.slots.items before.now.receiver None) ≡ true }
+        ensures value { get_or self.old.slots.items before.now.receiver None ≡ Some result }
         ensures one { IsPermutation (held_in self.old.slots.items) (result ∷ held_in self.new.slots.items) }
         ensures keyed { HasKey result }
         ensures behind { (xs : List Message) → AreBehind self.old.slots.items (before.now ∷ xs) → AreBehind self.new.slots.items xs }

@@ -56,7 +56,9 @@ impl<'a> Recorder<'a> {
     }
 
     /// Takes a row.
-    #[inline(always)]
+    ///
+    /// It stays a call, so that the message is kept whole in memory: in the loop of the run its fields would be copied one by one.
+    #[inline(never)]
     fn take(&mut self, message: &Message, note: &Note) -> Result<(), AllocError>
         requires { (rows : List Noted) × HasTaken self.old rows }
         ensures taken { OnOk result ((rows : List Noted) → HasTaken self.old rows →
@@ -69,11 +71,9 @@ impl<'a> Recorder<'a> {
         }
     }
 
-    /// Takes a row for each of these notes, which the event of this message gave.
-    ///
-    /// It stays a call, so that the message is kept whole in memory: in the loop of the run its fields would be copied one by one.
-    #[inline(never)]
-    fn take_each(&mut self, message: &Message, notes: &[Note]) -> Result<(), AllocError>
+    /// Takes a row for each note that the event of this message gave. Most events give none.
+    #[inline(always)]
+    pub(crate) fn record(&mut self, message: &Message, notes: &[Note]) -> Result<(), AllocError>
         requires { (rows : List Noted) × HasTaken self.old rows }
         ensures taken { OnOk result ((rows : List Noted) → HasTaken self.old rows → HasTaken self.new (rows ++ noted_at message.now notes.now)) }
         ensures network { OnOk result (counted_network self.new ≡ counted_network self.old) }
@@ -82,19 +82,6 @@ impl<'a> Recorder<'a> {
             self.take(message, note)?;
         }
         Ok(())
-    }
-
-    /// Takes a row for each note that the event of this message gave. Most events give none, and need no call.
-    #[inline(always)]
-    pub(crate) fn record(&mut self, message: &Message, notes: &[Note]) -> Result<(), AllocError>
-        requires { (rows : List Noted) × HasTaken self.old rows }
-        ensures taken { OnOk result ((rows : List Noted) → HasTaken self.old rows → HasTaken self.new (rows ++ noted_at message.now notes.now)) }
-        ensures network { OnOk result (counted_network self.new ≡ counted_network self.old) }
-    {
-        if notes.is_empty() {
-            return Ok(());
-        }
-        self.take_each(message, notes)
     }
 
     /// The rows, where they were kept.

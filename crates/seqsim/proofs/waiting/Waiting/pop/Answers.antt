@@ -1,5 +1,5 @@
 use Rattle.std.proofs.Common.{◌≡◌, ◌∙◌, Result, Ok, Err, OnOk, OnErr, false, List, [], ◌∷◌, ◌++◌, All, IsPermutation, subst, sym, ap, refl}
-use Rattle.std.proofs.lemmas.List.Elements.{All-head, All-tail, All-append}
+use Rattle.std.proofs.lemmas.List.Elements.{All-tail, All-append}
 use Rattle.std.proofs.lemmas.List.Sorted.{IsPermutation-append_left, All-permutation}
 use Rattle.vlink.specs.declared.message.Message.{Message}
 use Rattle.reverse.specs.Rules.{is_before}
@@ -7,7 +7,7 @@ use Rattle.seqsim.specs.Keys.{IsNamed}
 use Rattle.seqsim.specs.Held.{held_in, AreBehind}
 use Rattle.seqsim.proofs.Keys.{All-left, All-right}
 use Rattle.seqsim.proofs.Waits.{NoneBefore}
-use Rattle.seqsim.proofs.Holding.{Apart, behind-more, behind-permuted, held-none, held-after, let-go, named-part}
+use Rattle.seqsim.proofs.Holding.{Apart, behind-more, behind-permuted, held-none, held-after, let-go, named-part, has-one, in-held}
 use Rattle.seqsim.proofs.waiting.Waiting.pop.Goals as goal
 
 pub returns-then-not-pop-clause-none : goal.returns-then-not-pop-clause-none
@@ -17,17 +17,14 @@ returns-then-not-pop-clause-none c = λ t.
     let free : held_in slots ≡ [] = held-none slots (subst (λ (xs : List Message). AreBehind slots xs) none c.self.inside.behind) in
     sym c.self.view_is ∙ (ap (λ (xs : List Message). xs ++ held_in slots) none ∙ free)
 
-pub put-requires-clause-named : goal.put-requires-clause-named
-put-requires-clause-named c =
+pub put_held-requires-clause-named : goal.put_held-requires-clause-named
+put_held-requires-clause-named c = λ h e.
+    let slots = c.self.inside.held.slots.items in
     let due = c.self.inside.ranked in
     let left = c.pop.new.self in
-    let held = held_in c.self.inside.held.slots.items in
-    let rest = held_in c.take-held.new.self.slots.items in
-    let h = c.take-held.result in
     let y = c.pop.new.first in
-    let named : IsNamed h (due ++ held) =
-    All-head (λ m. IsNamed m (due ++ held)) h rest (All-permutation (λ m. IsNamed m (due ++ held)) held (h ∷ rest) c.take-held.ensures.one c.self.inside.named) in
-    All-tail (Apart h) y left (All-permutation (Apart h) due (y ∷ left) (c.if-not-pop.ensures.one refl) (All-left (Apart h) due held named))
+    let named : IsNamed h (due ++ held_in slots) = in-held (λ m. IsNamed m (due ++ held_in slots)) slots y.receiver h e c.self.inside.named in
+    All-tail (Apart h) y left (All-permutation (Apart h) due (y ∷ left) (c.if-not-pop.ensures.one refl) (All-left (Apart h) due (held_in slots) named))
 
 -- whether the message was put to the others or refused
 either : {A E C P Q : Type 0} (r : Result A E) → OnOk r P → OnErr r Q → (P → C) → (Q → C) → C
@@ -43,16 +40,16 @@ left-of P due left held rest y p f h =
 pub invariant_of-self-inside-then-has_behind : goal.invariant_of-self-inside-then-has_behind
 invariant_of-self-inside-then-has_behind c =
     let slots = c.self.inside.held.slots.items in
-    let now = c.take-held.new.self.slots.items in
+    let now = c.put_held.new.held.slots.items in
     let due = c.self.inside.ranked in
     let left = c.pop.new.self in
-    let new = c.put.new.self in
-    let h = c.take-held.result in
+    let new = c.put_held.new.ranked in
     let y = c.pop.new.first in
+    let (h, e) = has-one slots y.receiver (c.if-has_behind.ensures.some refl) in
     let one : IsPermutation due (y ∷ left) = c.if-not-pop.ensures.one refl in
-    let two : IsPermutation (held_in slots) (h ∷ held_in now) = c.take-held.ensures.one in
-    let behind : AreBehind now left = c.take-held.ensures.behind left (behind-permuted slots due (y ∷ left) one c.self.inside.behind) in
-    either c.put.result c.put.ensures.more c.put.ensures.same
+    let two : IsPermutation (held_in slots) (h ∷ held_in now) = c.put_held.ensures.one h e in
+    let behind : AreBehind now left = c.put_held.ensures.behind left (behind-permuted slots due (y ∷ left) one c.self.inside.behind) in
+    either c.put_held.result (c.put_held.ensures.more h e) c.put_held.ensures.same
     (λ more. (
       behind-more now h left new more behind,
       (
@@ -73,16 +70,17 @@ invariant_of-self-inside-then-has_behind c =
       ),
     ))
 
-pub returns-in_ok-put-clause-one : goal.returns-in_ok-put-clause-one
-returns-in_ok-put-clause-one c = λ t.
+pub returns-in_ok-put_held-clause-one : goal.returns-in_ok-put_held-clause-one
+returns-in_ok-put_held-clause-one c = λ t.
     let slots = c.self.inside.held.slots.items in
-    let now = c.take-held.new.self.slots.items in
+    let now = c.put_held.new.held.slots.items in
     let y = c.pop.new.first in
-    subst (λ (xs : List Message). IsPermutation xs (y ∷ (c.put.new.self ++ held_in now))) c.self.view_is
-    (let-go c.self.inside.ranked c.pop.new.self c.put.new.self (held_in slots) (held_in now) y c.take-held.result (c.if-not-pop.ensures.one refl) c.take-held.ensures.one c.in_ok-put.ensures.more)
+    let (h, e) = has-one slots y.receiver (c.if-has_behind.ensures.some refl) in
+    subst (λ (xs : List Message). IsPermutation xs (y ∷ (c.put_held.new.ranked ++ held_in now))) c.self.view_is
+    (let-go c.self.inside.ranked c.pop.new.self c.put_held.new.ranked (held_in slots) (held_in now) y h (c.if-not-pop.ensures.one refl) (c.put_held.ensures.one h e) (c.in_ok-put_held.ensures.more h e))
 
-pub returns-in_ok-put-clause-first : goal.returns-in_ok-put-clause-first
-returns-in_ok-put-clause-first c = λ t.
+pub returns-in_ok-put_held-clause-first : goal.returns-in_ok-put_held-clause-first
+returns-in_ok-put_held-clause-first c = λ t.
     let slots = c.self.inside.held.slots.items in
     let due = c.self.inside.ranked in
     let y = c.pop.new.first in

@@ -1,7 +1,7 @@
 use Rattle.std.proofs.Common.{◌≡◌, List, ◌++◌, take}
 use Rattle.vlink.specs.declared.note.Row.{Row as Noted}
 use Rattle.seqsim.specs.Recording.{HasTaken, counted_network, noted_at}
-use Rattle.seqsim.proofs.recorder.Recorder.take_each.Given as goal
+use Rattle.seqsim.proofs.recorder.Recorder.record.Given as goal
 
 abbrev pub invariant-loop-note : goal.invariant-loop-note
 invariant-loop-note l = record {
