@@ -7,7 +7,7 @@ use crate::fault::Fault;
 use crate::host::Host;
 use crate::reading::network_of;
 use netdesc::Network;
-use seqsim::{run, run_tables};
+use seqsim::{run, run_tables_with_remains};
 use std::alloc::Global;
 use std::mem::forget;
 use trace_tables::{OutFault, Sink, Tables, write_csv, write_trace};
@@ -66,7 +66,9 @@ fn run_to_tables<H: Host>(
     network: &Network,
     host: &mut H,
 ) -> Result<(), Fault<'static>> {
-    let tables = run_tables(alloc, network)?;
+    let (tables, remains) = run_tables_with_remains(alloc, network)?;
+    // The process ends soon, and the system takes at once what piece by piece takes longer.
+    forget(remains);
     show_tables(alloc, network, &tables, host.output())
 }
 

@@ -25,7 +25,7 @@ pub use laws::actor_laws;
 pub use networks::network_laws;
 pub use running::run_actors;
 pub use simulating::{Finished, nodes_of, run};
-pub use tables::run_tables;
+pub use tables::{Remains, run_tables, run_tables_with_remains};
 
 #[cfg(test)]
 mod network_tests;

@@ -5,11 +5,10 @@ use Rattle.netdesc.specs.Plan.{Plan}
 use Rattle.nodes.specs.Simulation.{simulation_of}
 use Rattle.trace_tables.specs.Tables.{TableLists, tables_of}
 use Rattle.seqsim.specs.Networks.{AreRowsOf, setting_of}
-use Rattle.seqsim.proofs.Errors.{ok-weaker}
 use Rattle.seqsim.proofs.NetworkLemmas.{opened}
 use Rattle.seqsim.proofs.RowLemmas.{same-rows}
 use Rattle.seqsim.proofs.Turning.{started}
-use Rattle.seqsim.proofs.tables.run_tables.Goals as goal
+use Rattle.seqsim.proofs.tables.run_tables_with_remains.Goals as goal
 
 pub count_all_turns-requires : goal.count_all_turns-requires
 count_all_turns-requires c =
@@ -28,6 +27,4 @@ each-of : (plan : Plan) → Laws (simulation_of plan) → (tables : TableLists) 
 each-of plan L tables some = λ rows r. some.2 ∙ ap (tables_of plan) (same-rows plan L some.0 rows some.1 r)
 
 pub returns-clause-each : goal.returns-clause-each
-returns-clause-each c =
-    let plan = c.args.network.now in
-    ok-weaker (AreTablesOfSome plan) (AreTablesOfEach plan) (each-of plan c.network_laws.ensures) c.count_all_turns.result c.count_all_turns.ensures.whole
+returns-clause-each c = each-of c.args.network.now c.network_laws.ensures c.in_ok-tables.tables c.in_ok-tables.ensures.whole
