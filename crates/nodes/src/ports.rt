@@ -152,6 +152,7 @@ fn answer_put(out: &mut Outbound, at: Time, port: u8, wire: Wire, frame: &Frame,
 }
 
 /// Sends what follows from a port's answer to a Free.
+#[inline(always)]
 fn answer_free(out: &mut Outbound, at: Time, port: u8, wire: Wire, kept: &FreeRecord)
     requires room { length out.old.messages + 2 ≤ 24 }
     requires numbers { out.old.sender.counter + 2 ≤ greatest_number }

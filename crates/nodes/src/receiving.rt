@@ -65,6 +65,7 @@ impl Receiving {
     }
 
     /// Integrity checking on the network of the frame.
+    #[inline(always)]
     fn check(&mut self, frame: &Frame) -> (Check, Option<u8>)
         ensures state { self.new ≡ with_check frame.now.net (integrity.after (check_of frame.now.net self.old) frame.now.number) self.old }
         ensures verdict { result.0 ≡ integrity.out (check_of frame.now.net self.old) frame.now.number }
@@ -77,6 +78,7 @@ impl Receiving {
     }
 
     /// Redundancy management of a frame that has passed the check of its network. The latency counts from the offer, in ns.
+    #[inline(always)]
     fn deliver(&mut self, at: Time, frame: &Frame, out: &mut Outbound) -> Option<(u8, Time)>
         requires { length out.old.notes < 2 }
         ensures state { self.new ≡ redundant at frame.now self.old Passed }

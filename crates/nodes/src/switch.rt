@@ -254,6 +254,7 @@ impl Switch {
 }
 
 /// A frame that has passed goes on at the moment `ns`, and one that the account refused is lost.
+#[inline(always)]
 fn answer_verdict(ns: u64, frame: &Frame, transit: &Transit, verdict: Verdict, out: &mut Outbound)
     requires messages { out.old.messages ≡ [] }
     requires notes { out.old.notes ≡ [] }

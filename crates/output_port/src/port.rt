@@ -1,4 +1,4 @@
-ghost use Rattle.std.specs.Prelude.{◌≡◌, ◌+◌, ◌*◌, ◌≤◌, ◌++◌, [], ◌∷◌, false, length, ⊤, IfOk};
+ghost use Rattle.std.specs.Prelude.{◌≡◌, ◌+◌, ◌*◌, ◌≤◌, ◌++◌, [], ◌∷◌, true, false, length, ⊤, IfOk};
 ghost use Rattle.std.proofs.Props.{props};
 ghost use Rattle.output_port.specs.Port.{PortState, opening, port, IsWithinBytes, put, put_answer, put_kept, free, free_answer, undone, waiting, with_waiting, waiting_bytes, may_wait, without_last};
 ghost use Rattle.output_port.specs.declared.event.PortRecord.TheVariants as saved;
@@ -146,6 +146,7 @@ impl Port {
     }
 
     /// The line is free: the record tells the frame that starts, if one does.
+    #[inline(always)]
     pub fn free(&mut self) -> FreeRecord
         ensures state { self.new ≡ (free self.old).state }
         ensures answer { free_answer result ≡ (free self.old).answer }
@@ -158,14 +159,37 @@ impl Port {
             return FreeRecord::Nothing;
         }
         if self.waits {
-            if let Some(frame) = self.high.pop_front() {
-                return FreeRecord::Popped(Priority::High, frame);
-            }
-            if let Some(frame) = self.low.pop_front() {
-                return FreeRecord::Popped(Priority::Low, frame);
-            }
-            self.waits = false;
+            return self.start_next();
         }
+        self.become_idle()
+    }
+
+    /// The line of a busy port is free: the first frame of high priority starts, or where none waits the first of low priority.
+    ///
+    /// It stays a call, since most ports become free with no frame waiting.
+    #[inline(never)]
+    fn start_next(&mut self) -> FreeRecord
+        requires { self.old.busy ≡ true }
+        ensures state { self.new ≡ (free self.old).state }
+        ensures answer { free_answer result ≡ (free self.old).answer }
+        ensures kept { saved.Free result ≡ (free self.old).kept }
+    {
+        if let Some(frame) = self.high.pop_front() {
+            return FreeRecord::Popped(Priority::High, frame);
+        }
+        if let Some(frame) = self.low.pop_front() {
+            return FreeRecord::Popped(Priority::Low, frame);
+        }
+        self.waits = false;
+        self.become_idle()
+    }
+
+    /// No frame starts.
+    #[inline(always)]
+    fn become_idle(&mut self) -> FreeRecord
+        ensures state { self.new ≡ record self.old { busy = false } }
+        ensures idle { result ≡ FreeRecord.Idle }
+    {
         self.busy = false;
         FreeRecord::Idle
     }
