@@ -86,6 +86,7 @@ impl Reversible for Integrity {
 
     ghost undoes = { λ previous number. refl };
 
+    #[inline(always)]
     fn apply(&mut self, event: &u8) -> (Check, Option<u8>) {
         let number = *event;
         let kept = self.previous;

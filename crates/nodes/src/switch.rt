@@ -268,6 +268,7 @@ fn answer_verdict(ns: u64, frame: &Frame, transit: &Transit, verdict: Verdict, o
 }
 
 /// A frame that has passed is put to the output ports of its virtual link at the moment `ns`, the ports rising.
+#[inline(always)]
 fn forward(ns: u64, frame: &Frame, transit: &Transit, out: &mut Outbound)
     requires messages { out.old.messages ≡ [] }
     requires numbers { out.old.sender.counter + 24 ≤ greatest_number }

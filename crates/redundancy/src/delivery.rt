@@ -108,6 +108,7 @@ impl Reversible for Redundancy {
 
     ghost undoes = { λ receiver frame. refl };
 
+    #[inline(always)]
     fn apply(&mut self, event: &Received) -> (Delivery, Option<(u8, Time)>) {
         let Received { number, at } = *event;
         let kept = self.last;
