@@ -176,6 +176,12 @@ fn start(out: &mut Outbound, at: Time, port: u8, wire: Wire, frame: &Frame)
     let last_bit = at.ns() + last_bit_ns(size, byte_ns);
     let free = at.ns() + busy_ns(size, byte_ns);
     let number = out.number();
-    out.send(last_bit, wire.line, Body::Carry { frame: *frame });
-    out.send(free, number, Body::PortFree { port });
+    out.send_both(
+        last_bit,
+        wire.line,
+        Body::Carry { frame: *frame },
+        free,
+        number,
+        Body::PortFree { port },
+    );
 }

@@ -126,17 +126,56 @@ impl Outbound {
         requires numbers { self.old.sender.counter < greatest_number }
         ensures { self.new ≡ replied self.old (record { wishes = record { time = ns; receiver = receiver; body = body } ∷ []; notes = [] }) }
     {
-        if ns > self.until.ns() {
-            return;
+        if let Some(time) = Time::until(ns, self.until) {
+            self.put(time, receiver, body);
         }
-        let Some(time) = Time::new(ns) else { return };
-        self.messages[self.sent] = Message {
-            time,
-            receiver,
-            sender: u32::from(self.number),
-            number: self.counter,
-            body,
+    }
+
+    /// Sends two messages, of which the second is not before the first: so one look at the end of the run mostly serves both. Each that
+    /// is after the end is left out.
+    #[inline(always)]
+    pub fn send_both(
+        &mut self,
+        first_ns: u64,
+        first_receiver: u16,
+        first: Body,
+        second_ns: u64,
+        second_receiver: u16,
+        second: Body,
+    )
+        requires room { length self.old.messages + 2 ≤ 24 }
+        requires numbers { self.old.sender.counter + 2 ≤ greatest_number }
+        requires order { first_ns ≤ second_ns }
+        ensures { self.new ≡ replied self.old (record {
+          wishes = record { time = first_ns; receiver = first_receiver; body = first }
+              ∷ record { time = second_ns; receiver = second_receiver; body = second }
+              ∷ [];
+          notes = [];
+        }) }
+    {
+        let Some(second_time) = Time::until(second_ns, self.until) else {
+            return self.send(first_ns, first_receiver, first);
         };
+        // Its contract says that this is a moment, and the first is not after it.
+        let _ns = second_time.ns();
+        self.put(Time::known(first_ns), first_receiver, first);
+        self.put(second_time, second_receiver, second);
+    }
+
+    /// Sends a message for a moment that is not after the end of the run.
+    #[inline(always)]
+    fn put(&mut self, time: Time, receiver: u16, body: Body)
+        requires room { length self.old.messages < 24 }
+        requires numbers { self.old.sender.counter < greatest_number }
+        requires in_time { time ≤ self.old.sender.until }
+        ensures { self.new ≡ replied self.old (record { wishes = record { time = time; receiver = receiver; body = body } ∷ []; notes = [] }) }
+    {
+        let message = &mut self.messages[self.sent];
+        message.time = time;
+        message.receiver = receiver;
+        message.sender = u32::from(self.number);
+        message.number = self.counter;
+        message.body = body;
         self.sent += 1;
         self.counter += 1;
     }

@@ -52,7 +52,7 @@ impl Queued {
     pub(crate) fn write_to(&self, message: &mut Message)
         ensures { message.new ≡ self.now }
     {
-        message.time = Time::new(self.place / 65536).unwrap();
+        message.time = Time::known(self.place / 65536);
         message.receiver = (self.place % 65536) as u16;
         message.sender = sender_in(self.name);
         message.number = self.name % 281474976710656;

@@ -1,5 +1,5 @@
 //! The offers of one virtual link.
-ghost use Rattle.std.specs.Prelude.{◌≡◌, ℕ, ◌+◌, ◌<◌, ◌≤◌, ◌↔◌, [], ◌∷◌, ◌++◌, IsSome, IfSome, OnOk, OnErr, vec_len, vec_capacity};
+ghost use Rattle.std.specs.Prelude.{◌≡◌, ℕ, ◌+◌, ◌<◌, ◌≤◌, ◌↔◌, [], ◌∷◌, ◌++◌, OnOk, OnErr, vec_len, vec_capacity};
 ghost use Rattle.vlink.specs.declared.time.TheConstants.{LATEST_NS};
 ghost use Rattle.netdesc.specs.Limits.{IsLinkInLimits};
 ghost use Rattle.traffic.specs.Offers.{due_of, due_count, sender_of, offer_by, come_until, offers_from};
@@ -20,18 +20,6 @@ pub fn due_count(until: Time, link: &VirtualLink) -> u64
         0
     } else {
         (until.ns() - link.offset_ns) / link.period_ns + 1
-    }
-}
-
-/// The moment at `ns` nanoseconds, or none where it is later than `until`.
-fn time_until(until: Time, ns: u64) -> Option<Time>
-    ensures within { IsSome result ↔ (ns ≤ until) }
-    ensures value { IfSome result (λ time. time ≡ ns) }
-{
-    if ns <= until.ns() {
-        Time::new(ns)
-    } else {
-        None
     }
 }
 
@@ -59,7 +47,7 @@ fn push_offer(
 {
     let due = link.offset_ns + number * link.period_ns;
     let jitter = u64::from(word) % (u64::from(link.jitter_ns) + 1);
-    if let Some(time) = time_until(until, due + jitter) {
+    if let Some(time) = Time::until(due + jitter, until) {
         offers.push(Message {
             time,
             receiver: source,

@@ -29,6 +29,14 @@ fn the_least_frame_takes_its_time_on_the_wire(rt: HostRuntime) {
     assert_eq!(rt; Time::new(1_000_000_000_002), None);
 }
 
+#[test]
+fn a_moment_is_told_up_to_the_last(rt: HostRuntime) {
+    let last = Time::new(7).expect(&rt, "a moment within the limits");
+    assert_eq!(rt; Time::until(7, last), Some(last));
+    assert_eq!(rt; Time::until(8, last), None);
+    assert_eq!(rt; Time::known(7), last);
+}
+
 // Whether the first comes before the second.
 fn is_before(first: &Message, second: &Message) -> bool {
     first.cmp(second) == Ordering::Less

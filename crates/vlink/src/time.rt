@@ -42,6 +42,28 @@ impl Time {
         }
     }
 
+    /// The moment at `ns` nanoseconds, or none after `last`. Since `last` is a moment, `ns` is compared with no other limit.
+    #[inline(always)]
+    pub fn until(ns: u64, last: Time) -> Option<Self>
+        ensures within { IsSome result ↔ (ns ≤ last) }
+        ensures value { IfSome result (λ t. t ≡ ns) }
+    {
+        if ns <= last.ns {
+            Some(Time { ns })
+        } else {
+            None
+        }
+    }
+
+    /// The moment at `ns` nanoseconds, where that is known to be one.
+    #[inline(always)]
+    pub fn known(ns: u64) -> Self
+        requires { ns ≤ GREATEST_NS }
+        ensures { result ≡ ns }
+    {
+        Time { ns }
+    }
+
     /// Its number of nanoseconds.
     pub fn ns(self) -> u64
         ensures value { result ≡ self }

@@ -1,4 +1,4 @@
-ghost use Rattle.std.specs.Prelude.{◌≡◌};
+ghost use Rattle.std.specs.Prelude.{◌≡◌, ◌≤◌};
 ghost use Rattle.vlink.specs.Wire.{last_bit_after, busy_for};
 
 use crate::frame::FrameSize;
@@ -11,9 +11,10 @@ pub fn busy_ns(size: FrameSize, byte_ns: u32) -> u64
     (u64::from(size.bytes()) + 20) * u64::from(byte_ns)
 }
 
-/// How long after the start of a frame its last bit leaves, in ns, at `byte_ns` ns a byte.
+/// How long after the start of a frame its last bit leaves, in ns, at `byte_ns` ns a byte. The port is busy at least so long.
 pub fn last_bit_ns(size: FrameSize, byte_ns: u32) -> u64
-    ensures { result ≡ last_bit_after size byte_ns }
+    ensures value { result ≡ last_bit_after size byte_ns }
+    ensures within { result ≤ busy_for size byte_ns }
 {
     (u64::from(size.bytes()) + 8) * u64::from(byte_ns)
 }
