@@ -89,14 +89,14 @@ impl BagRegulator {
     }
 
     /// A frame is offered.
-    fn offer(&mut self, at: Time, frame: Frame) -> (RegOut, RegUndo)
-        ensures state { self.new ≡ (offered self.old at frame self.old.waiting).state }
-        ensures answer { result.0 ≡ (offered self.old at frame self.old.waiting).out }
-        ensures change { result.1 ≡ (offered self.old at frame self.old.waiting).change }
+    fn offer(&mut self, at: Time, frame: &Frame) -> (RegOut, RegUndo)
+        ensures state { self.new ≡ (offered self.old at frame.now self.old.waiting).state }
+        ensures answer { result.0 ≡ (offered self.old at frame.now self.old.waiting).out }
+        ensures change { result.1 ≡ (offered self.old at frame.now self.old.waiting).change }
     {
         let idle = self.waiting.is_empty();
         if idle && self.is_due(at) {
-            let answer = self.let_go(at, &frame);
+            let answer = self.let_go(at, frame);
             return (
                 RegOut {
                     answer,
@@ -115,7 +115,7 @@ impl BagRegulator {
             );
         }
         let release_at = if idle { self.next_release() } else { None };
-        self.waiting.push_back(frame);
+        self.waiting.push_back(*frame);
         (
             RegOut {
                 answer: RegAnswer::Kept,
@@ -208,9 +208,9 @@ impl Reversible for BagRegulator {
         // Its contract says that the frames lie within their room.
         let _waiting = self.waiting.len();
         let (last, sn) = (self.last, self.sn);
-        let (out, change) = match *event {
-            RegEvent::Offer { at, frame } => self.offer(at, frame),
-            RegEvent::Release { at } => self.release(at),
+        let (out, change) = match event {
+            RegEvent::Offer { at, frame } => self.offer(*at, frame),
+            RegEvent::Release { at } => self.release(*at),
         };
         (out, RegRecord { change, last, sn })
     }

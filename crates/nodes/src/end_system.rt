@@ -86,11 +86,11 @@ impl EndSystem {
         ensures valid { IsEndSystemValue message.now.time message.now.body self.old }
     {
         let at = message.time;
-        match message.body {
-            Body::Offer { vl, size } => self.regulate(at, vl, &offer(at, vl, size), out),
-            Body::Release { vl } => self.regulate(at, vl, &RegEvent::Release { at }, out),
-            Body::PortFree { port } => Kept::Port(self.ports.free(at, port, out)),
-            Body::Arrive { port, frame } if self.ports.exists(port) => self.take(at, &frame, out),
+        match &message.body {
+            Body::Offer { vl, size } => self.regulate(at, *vl, &offer(at, *vl, *size), out),
+            Body::Release { vl } => self.regulate(at, *vl, &RegEvent::Release { at }, out),
+            Body::PortFree { port } => Kept::Port(self.ports.free(at, *port, out)),
+            Body::Arrive { port, frame } if self.ports.exists(*port) => self.take(at, frame, out),
             _ => Kept::Nothing,
         }
     }

@@ -80,8 +80,8 @@ impl Line {
         requires numbers { out.old.sender.counter < greatest_number }
         ensures { out.new ≡ replied out.old (line message.now.time message.now.body self.now) }
     {
-        if let Body::Carry { frame } = message.body {
-            self.carry(message.time, &frame, out);
+        if let Body::Carry { frame } = &message.body {
+            self.carry(message.time, frame, out);
         }
     }
 }

@@ -74,13 +74,13 @@ impl Switch {
         ensures valid { IsSwitchValue message.now.body self.old }
     {
         let at = message.time;
-        match message.body {
-            Body::PortFree { port } => Kept::Port(self.ports.free(at, port, out)),
-            Body::Arrive { port, frame } if self.ports.exists(port) => {
-                self.take(at, port, &frame, out)
+        match &message.body {
+            Body::PortFree { port } => Kept::Port(self.ports.free(at, *port, out)),
+            Body::Arrive { port, frame } if self.ports.exists(*port) => {
+                self.take(at, *port, frame, out)
             }
-            Body::Enqueue { port, frame } if self.ports.exists(port) => {
-                self.put(at, port, &frame, out)
+            Body::Enqueue { port, frame } if self.ports.exists(*port) => {
+                self.put(at, *port, frame, out)
             }
             _ => Kept::Nothing,
         }
