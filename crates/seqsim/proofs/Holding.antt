@@ -14,26 +14,22 @@ use Rattle.reverse.specs.Rules.{is_before}
 use Rattle.seqsim.specs.Keys.{IsNamed}
 use Rattle.seqsim.specs.Held.{in_place, held_in, is_carry, IsBehind, AreBehind}
 use Rattle.seqsim.proofs.Keys.{All-left, All-right, earlier-before}
-use Rattle.seqsim.proofs.Waits.{NoneBefore, first-is, more-listed}
+use Rattle.seqsim.proofs.Parts.{part-more, part-less}
+use Rattle.seqsim.proofs.Waits.{NoneBefore, first-is}
 
 -- one more, in a place that was free
 held-more : (slots : List (Option Message)) (i : ℕ) (m : Message) → i < length slots → get_or slots i None ≡ None →
     IsPermutation (m ∷ held_in slots) (held_in (set slots i (Some m)))
-held-more [] i m h e = absurd (omega arith)
-held-more (o ∷ os) zero m h e =
-    subst (λ (x : Option Message). IsPermutation (m ∷ (in_place x ++ held_in os)) (m ∷ held_in os)) (sym e) (IsPermutation-refl (m ∷ held_in os))
-held-more (o ∷ os) (suc i) m h e = more-listed m (in_place o) (held_in os) (held_in (set os i (Some m))) (held-more os i m (omega arith) e)
+held-more slots i m h e =
+    part-more in_place (Some m) None m slots i h
+    (subst (λ (o : Option Message). IsPermutation (m ∷ in_place o) (m ∷ [])) (sym e) (IsPermutation-refl (m ∷ [])))
 
 -- one less, out of its place
 held-less : (slots : List (Option Message)) (i : ℕ) (m : Message) → i < length slots → get_or slots i None ≡ Some m →
     IsPermutation (held_in slots) (m ∷ held_in (set slots i None))
-held-less [] i m h e = absurd (omega arith)
-held-less (o ∷ os) zero m h e =
-    subst (λ (x : Option Message). IsPermutation (in_place x ++ held_in os) (m ∷ held_in os)) (sym e) (IsPermutation-refl (m ∷ held_in os))
-held-less (o ∷ os) (suc i) m h e =
-    IsPermutation-trans (in_place o ++ held_in os) (in_place o ++ m ∷ held_in (set os i None)) (m ∷ (in_place o ++ held_in (set os i None)))
-    (IsPermutation-append_right (in_place o) (held_in os) (m ∷ held_in (set os i None)) (held-less os i m (omega arith) e))
-    (IsPermutation-middle (in_place o) m (held_in (set os i None)))
+held-less slots i m h e =
+    part-less in_place None None m slots i h
+    (subst (λ (o : Option Message). IsPermutation (in_place o) (m ∷ [])) (sym e) (IsPermutation-refl (m ∷ [])))
 
 -- a message is in a place that was free
 pub held-put : (slots : List (Option Message)) (i : ℕ) (was now : Option Message) (m : Message) → i < length slots → was ≡ get_or slots i was → was ≡ None → now ≡ Some m →

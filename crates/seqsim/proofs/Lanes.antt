@@ -6,7 +6,7 @@ use Rattle.std.specs.List.{flat_map}
 use Rattle.std.proofs.lemmas.List.{get_or_default}
 use Rattle.std.specs.Cmp.{IsTotalOrder}
 use Rattle.std.proofs.lemmas.List.Elements.{All-nil, All-head, All-tail, All-append, All-weaker, All-drop}
-use Rattle.std.proofs.lemmas.List.Sorted.{IsPermutation-refl, IsPermutation-sym, IsPermutation-trans, IsPermutation-middle, IsPermutation-to_front, IsPermutation-append_left, IsPermutation-append_right, All-permutation, length_permutation}
+use Rattle.std.proofs.lemmas.List.Sorted.{IsPermutation-refl, IsPermutation-sym, IsPermutation-trans, IsPermutation-middle, IsPermutation-to_front, IsPermutation-append_right, All-permutation, length_permutation}
 use Rattle.vlink.specs.declared.message.Message.{Message}
 use Rattle.vlink.specs.Order.{message_cmp}
 use Rattle.reverse.specs.Rules.{is_before}
@@ -14,6 +14,7 @@ use Rattle.seqsim.specs.declared.lane.Lane.{Lane}
 use Rattle.seqsim.specs.Tops.{left_in}
 use Rattle.seqsim.specs.Keys.{key_of, HasKey, IsNamed, AreNamed, beyond_keys}
 use Rattle.seqsim.proofs.Keys.{named-permutation, named-cons, named-drop, none-before}
+use Rattle.seqsim.proofs.Parts.{part-more, part-less}
 use Rattle.seqsim.proofs.Waits.{NoneBefore, more-listed, first-is, before-sent}
 
 -- all that is in the lanes
@@ -23,13 +24,10 @@ in_all lanes = flat_map (λ (l : Lane). l.queue.items) lanes
 -- one more in one lane is one more in all
 pub lane-more : (lanes : List Lane) (i : ℕ) (l d : Lane) (m : Message) → i < length lanes → l.queue.items ≡ (get_or lanes i d).queue.items ++ m ∷ [] →
     IsPermutation (m ∷ in_all lanes) (in_all (set lanes i l))
-lane-more [] i l d m h e = absurd (omega arith)
-lane-more (x ∷ xs) zero l d m h e =
-    IsPermutation-append_left (in_all xs) (m ∷ x.queue.items) l.queue.items
-    (subst (λ (ys : List Message). IsPermutation (m ∷ x.queue.items) ys) (sym e)
-    (IsPermutation-sym (x.queue.items ++ m ∷ []) (m ∷ x.queue.items) (IsPermutation-to_front x.queue.items m)))
-lane-more (x ∷ xs) (suc i) l d m h e =
-    more-listed m x.queue.items (in_all xs) (in_all (set xs i l)) (lane-more xs i l d m (omega arith) e)
+lane-more lanes i l d m h e =
+    let before = (get_or lanes i d).queue.items in
+    part-more (λ (l : Lane). l.queue.items) l d m lanes i h
+    (subst (λ (ys : List Message). IsPermutation (m ∷ before) ys) (sym e) (IsPermutation-sym (before ++ m ∷ []) (m ∷ before) (IsPermutation-to_front before m)))
 
 -- the same in one lane is the same in all
 pub lane-same : (lanes : List Lane) (i : ℕ) (l d : Lane) → i < length lanes → l.queue.items ≡ (get_or lanes i d).queue.items → in_all (set lanes i l) ≡ in_all lanes
@@ -40,13 +38,9 @@ lane-same (x ∷ xs) (suc i) l d h e = ap (λ (ys : List Message). x.queue.items
 -- the first of one lane out is one out of all
 pub lane-less : (lanes : List Lane) (i : ℕ) (l d : Lane) (m : Message) → i < length lanes → (get_or lanes i d).queue.items ≡ m ∷ l.queue.items →
     IsPermutation (in_all lanes) (m ∷ in_all (set lanes i l))
-lane-less [] i l d m h e = absurd (omega arith)
-lane-less (x ∷ xs) zero l d m h e =
-    subst (λ (ys : List Message). IsPermutation (ys ++ in_all xs) (m ∷ (l.queue.items ++ in_all xs))) (sym e) (IsPermutation-refl (m ∷ (l.queue.items ++ in_all xs)))
-lane-less (x ∷ xs) (suc i) l d m h e =
-    IsPermutation-trans (x.queue.items ++ in_all xs) (x.queue.items ++ m ∷ in_all (set xs i l)) (m ∷ (x.queue.items ++ in_all (set xs i l)))
-    (IsPermutation-append_right x.queue.items (in_all xs) (m ∷ in_all (set xs i l)) (lane-less xs i l d m (omega arith) e))
-    (IsPermutation-middle x.queue.items m (in_all (set xs i l)))
+lane-less lanes i l d m h e =
+    part-less (λ (l : Lane). l.queue.items) l d m lanes i h
+    (subst (λ (ys : List Message). IsPermutation ys (m ∷ l.queue.items)) (sym e) (IsPermutation-refl (m ∷ l.queue.items)))
 
 -- the first of one lane is somewhere in all
 in-lane : (lanes : List Lane) (i : ℕ) (d : Lane) (m : Message) (ys : List Message) → i < length lanes → (get_or lanes i d).queue.items ≡ m ∷ ys →

@@ -8,6 +8,7 @@ pub mod StatesLemmas
 pub mod RowLemmas
 pub mod Keys
 pub mod Naming
+pub mod Parts
 pub mod Lanes
 pub mod Holding
 pub mod Recording
