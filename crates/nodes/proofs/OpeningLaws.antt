@@ -1,5 +1,5 @@
 -- Each process of an accepted network begins as the law of virtual time asks: its delays are at least 1 ns, and it sends to processes.
-use Rattle.std.proofs.Common.{◌≡◌, ℕ, zero, suc, ◌+◌, ◌*◌, ◌-◌, ◌<◌, ◌≤◌, Bool, true, false, cond, List, [], ◌∷◌, map, length, Option, Some, None, All, refl, ap, sym, ◌∙◌, subst, arith}
+use Rattle.std.proofs.Common.{◌≡◌, ℕ, zero, suc, ◌+◌, ◌-◌, ◌<◌, ◌≤◌, Bool, true, false, cond, List, [], ◌∷◌, map, length, Option, Some, None, All, refl, ap, sym, ◌∙◌, subst, arith}
 use Rattle.std.specs.Prelude.{slice_get, IfSome, filter, not}
 use Rattle.std.specs.Option.{option_map}
 use Rattle.bag_regulator.specs.Regulator.{Regulator}
@@ -23,7 +23,6 @@ use Rattle.netdesc.proofs.PortLemmas.{line-within}
 use Rattle.netdesc.proofs.LimitLemmas.{kind-read, link-read}
 use Rattle.nodes.specs.declared.ports.Wire.{Wire}
 use Rattle.nodes.specs.declared.part.Part.TheVariants as part
-use Rattle.nodes.specs.Ports.{PortsState}
 use Rattle.nodes.specs.Opening.{leaves_by, wire_among, wires_of, ports_of, regulator_of, node_opening, part_opening, line_opening, opening}
 use Rattle.nodes.specs.Placed.{AllWires, IsPlacedPart, IsPlaced, IsWiredPart, IsWired}
 

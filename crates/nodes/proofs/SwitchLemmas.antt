@@ -1,5 +1,5 @@
 -- The virtual links that go through a switch: what is found there, and what then happens with a frame.
-use Rattle.std.proofs.Common.{◌≡◌, ℕ, ◌<◌, ◌≤◌, ◌==◌, length, Bool, true, false, cond, nat_lt, List, Option, Some, None, ap, refl, sym, ◌∙◌, subst, slice_get, arith}
+use Rattle.std.proofs.Common.{◌≡◌, ℕ, ◌<◌, ◌≤◌, length, cond, nat_lt, Option, Some, None, ap, refl, sym, ◌∙◌, subst, slice_get}
 use Rattle.std.specs.Option.{option_map, option_and_then}
 use Rattle.std.proofs.lemmas.Bool.{le-ltb, eq-eqb}
 use Rattle.std.proofs.lemmas.Option.{slice_get_within, none-some, same_Some}
@@ -7,12 +7,11 @@ use Rattle.vlink.specs.declared.note.Cause.TheVariants.{TooLong, Unknown}
 use Rattle.vlink.specs.declared.frame.Frame.{Frame}
 use Rattle.vlink.specs.declared.frame.VlId.{VlId}
 use Rattle.policer.specs.Account.{Policing, account, cap}
-use Rattle.nodes.specs.declared.kept.Kept.{Kept}
 use Rattle.nodes.specs.declared.kept.Kept.TheVariants as kept
 use Rattle.nodes.specs.declared.transit.Transit.{Transit}
 use Rattle.reverse.specs.Sending.{loss}
 use Rattle.nodes.specs.Finding.{place_of}
-use Rattle.nodes.specs.Switch.{SwitchState, SwitchOutcome, TransitAt, transit_with, transit_at, numbers_of, taken, policed}
+use Rattle.nodes.specs.Switch.{SwitchState, TransitAt, transit_with, transit_at, numbers_of, taken, policed}
 use Rattle.nodes.specs.SwitchUndoing.{taken_kept, IsTakenValue}
 
 -- the virtual link that is found has the place, the route and the account that were read

@@ -1,5 +1,5 @@
 -- What an end system does with a message.
-use Rattle.std.specs.Prelude.{ℕ, ◌-◌, Bool, false, if◌then◌else◌, List, [], ◌∷◌, map, Option, None, Some, slice_get, slice_set}
+use Rattle.std.specs.Prelude.{ℕ, ◌-◌, Bool, if◌then◌else◌, List, [], ◌∷◌, map, Option, None, Some, slice_get, slice_set}
 use Rattle.std.specs.Option.{option_and_then}
 use Rattle.vlink.specs.declared.frame.Frame.{Frame}
 use Rattle.vlink.specs.declared.frame.VlId.{VlId}
@@ -26,7 +26,7 @@ use Rattle.redundancy.specs.declared.delivery.Delivery.{Delivery}
 use Rattle.redundancy.specs.declared.delivery.Delivery.TheVariants as delivery
 use Rattle.nodes.specs.declared.vl_end.VlEnd.{VlEnd}
 use Rattle.nodes.specs.declared.receiving.Receiving.{Receiving}
-use Rattle.reverse.specs.Sending.{Wish, Reply, silent, joined, loss}
+use Rattle.reverse.specs.Sending.{Reply, silent, joined, loss}
 use Rattle.nodes.specs.Ports.{PortsState, changed, exists, reply}
 use Rattle.nodes.specs.Finding.{place_of}
 

@@ -1,11 +1,11 @@
 -- A node's plain step: what a node makes of a message.
-use Rattle.std.specs.Prelude.{ℕ, List, ◌∷◌}
+use Rattle.std.specs.Prelude.{ℕ, List}
 use Rattle.vlink.specs.declared.message.Message.{Message}
 use Rattle.vlink.specs.declared.note.Note.{Note}
-use Rattle.reverse.specs.Sending.{Wish, Reply, Sender, sent, after_sending}
-use Rattle.nodes.specs.EndSystem.{EndSystemState, EndSystemOutcome, end_system}
-use Rattle.nodes.specs.Switch.{SwitchState, SwitchOutcome, switch}
-use Rattle.nodes.specs.Line.{LineState, line}
+use Rattle.reverse.specs.Sending.{Reply, Sender, sent, after_sending}
+use Rattle.nodes.specs.EndSystem.{EndSystemOutcome, end_system}
+use Rattle.nodes.specs.Switch.{SwitchOutcome, switch}
+use Rattle.nodes.specs.Line.{line}
 use Rattle.nodes.specs.declared.part.Part.{Part}
 use Rattle.nodes.specs.declared.part.Part.TheVariants.{EndSystem, Switch, Line}
 

@@ -1,5 +1,5 @@
 -- The output ports of a node, and the lines that they lead into.
-use Rattle.std.specs.Prelude.{ℕ, ◌+◌, Bool, false, if◌then◌else◌, List, [], ◌∷◌, Option, None, Some, is_some, slice_get, slice_set}
+use Rattle.std.specs.Prelude.{ℕ, ◌+◌, Bool, if◌then◌else◌, List, [], ◌∷◌, Option, None, Some, is_some, slice_get, slice_set}
 use Rattle.std.specs.Option.{option_and_then}
 use Rattle.vlink.specs.declared.frame.Frame.{Frame}
 use Rattle.vlink.specs.declared.message.Body.TheVariants.{Carry, PortFree}
@@ -11,7 +11,7 @@ use Rattle.output_port.specs.declared.event.PortEvent.TheVariants.{Put, Free}
 use Rattle.output_port.specs.declared.event.PortAnswer.{PortAnswer}
 use Rattle.output_port.specs.declared.event.PortAnswer.TheVariants as answer
 use Rattle.nodes.specs.declared.ports.Wire.{Wire}
-use Rattle.reverse.specs.Sending.{Wish, Reply, silent, loss}
+use Rattle.reverse.specs.Sending.{Reply, silent, loss}
 
 -- for each port number the line that the port leads into, if there is such a port, and the port
 pub record PortsState : Type 0 where

@@ -1,5 +1,5 @@
 -- What a switch does with a message.
-use Rattle.std.specs.Prelude.{ℕ, ◌+◌, ◌==◌, Bool, true, false, if◌then◌else◌, nat_lt, List, [], ◌∷◌, map, Option, None, Some, slice_get, slice_set}
+use Rattle.std.specs.Prelude.{ℕ, ◌+◌, ◌==◌, if◌then◌else◌, nat_lt, List, [], map, Option, None, Some, slice_get, slice_set}
 use Rattle.std.specs.Option.{option_and_then}
 use Rattle.vlink.specs.declared.frame.Frame.{Frame}
 use Rattle.vlink.specs.declared.frame.VlId.{VlId}
@@ -13,7 +13,7 @@ use Rattle.policer.specs.declared.account.Verdict.TheVariants as verdict
 use Rattle.output_port.specs.declared.event.PortEvent.{PortEvent}
 use Rattle.output_port.specs.declared.event.PortEvent.TheVariants.{Put, Free}
 use Rattle.nodes.specs.declared.transit.Transit.{Transit}
-use Rattle.reverse.specs.Sending.{Wish, Reply, silent, loss}
+use Rattle.reverse.specs.Sending.{Reply, silent, loss}
 use Rattle.nodes.specs.Ports.{PortsState, changed, exists, reply}
 use Rattle.nodes.specs.Finding.{place_of}
 use Rattle.nodes.specs.Outputs.{marked_from}

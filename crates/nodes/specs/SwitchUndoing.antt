@@ -3,7 +3,7 @@ use Rattle.std.specs.Prelude.{◌≡◌, ℕ, ◌≤◌, ◌==◌, ⊤, true, if
 use Rattle.vlink.specs.declared.frame.Frame.{Frame}
 use Rattle.vlink.specs.declared.message.Body.{Body}
 use Rattle.vlink.specs.declared.message.Body.TheVariants.{Offer, Release, PortFree, Arrive, Enqueue, Carry}
-use Rattle.policer.specs.Account.{Policing, account, cap}
+use Rattle.policer.specs.Account.{account, cap}
 use Rattle.policer.specs.declared.account.Arrival.{Arrival}
 use Rattle.policer.specs.declared.account.AccountRecord.{AccountRecord}
 use Rattle.output_port.specs.declared.event.PortEvent.TheVariants.{Put, Free}

@@ -1,4 +1,4 @@
-use Rattle.std.proofs.Common.{◌≡◌, sym, subst}
+use Rattle.std.proofs.Common.{sym, subst}
 use Rattle.nodes.specs.Placed.{IsPlacedPart}
 use Rattle.nodes.proofs.OpeningLaws.{opening-placed}
 use Rattle.nodes.proofs.node.Node.new.Goals as goal

@@ -1,4 +1,4 @@
-use Rattle.std.proofs.Common.{◌≡◌, ap, sym, ◌∙◌, subst}
+use Rattle.std.proofs.Common.{ap, sym, ◌∙◌, subst}
 use Rattle.reverse.specs.Sending.{Sender}
 use Rattle.nodes.specs.Node.{NodeState, handled}
 use Rattle.nodes.specs.Placed.{IsPlacedPart}

@@ -1,6 +1,6 @@
 use Rattle.std.proofs.Common.{◌≡◌, ap, sym, ◌∙◌, subst}
 use Rattle.nodes.specs.Node.{NodeState, after}
-use Rattle.nodes.specs.NodeUndoing.{part_restored, node}
+use Rattle.nodes.specs.NodeUndoing.{part_restored}
 use Rattle.nodes.specs.declared.node.NodeRecord.{NodeRecord}
 use Rattle.nodes.specs.Placed.{IsPlacedPart}
 use Rattle.nodes.specs.NodeLaws.{node-undoes}

@@ -1,4 +1,4 @@
-use Rattle.std.proofs.Common.{◌≡◌, ◌≤◌, ◌<◌, ◌+◌, ℕ, Some, ap, ap₂, sym, ◌∙◌, subst, slice_get, slice_set, length, arith, rules}
+use Rattle.std.proofs.Common.{◌≡◌, ◌≤◌, ◌<◌, ◌+◌, Some, ap, ap₂, sym, ◌∙◌, subst, slice_get, slice_set, length, rules}
 use Rattle.policer.specs.Account.{Policing, account}
 use Rattle.reverse.specs.Sending.{replied}
 use Rattle.nodes.specs.Switch.{SwitchState, SwitchOutcome, TransitAt, transit_at, judged, outputs_of}
