@@ -5,12 +5,12 @@ ghost use Rattle.afdxsim.specs.Checking.{counts_text, check_text};
 
 use crate::fault::Fault;
 use crate::host::Host;
-use crate::reading::network_of;
-use netdesc::Network;
+use crate::reading::described_of;
+use netdesc::Described;
 use std::alloc::{AllocError, Global};
 use std::mem::forget;
 use trace_tables::{Sink, write_all};
-use traffic::offers;
+use traffic::described_offers;
 
 /// How many processes, virtual links and offers there are.
 fn counts_line(
@@ -25,12 +25,12 @@ fn counts_line(
 }
 
 /// What is said of a network that is accepted: how many processes, virtual links and offers it has.
-fn line_of(alloc: Global, network: &Network) -> Result<String, AllocError>
+fn line_of(alloc: Global, network: &Described) -> Result<String, AllocError>
     ensures { IfOk result (λ line. string_bytes line ≡ check_text network.now) }
 {
     let processes = network.process_count();
     let vls = network.vl_count();
-    let offers = offers(alloc, network)?;
+    let offers = described_offers(alloc, network)?;
     let line = counts_line(alloc, processes, vls, offers.as_slice().len())?;
     Ok(line)
 }
@@ -38,7 +38,7 @@ fn line_of(alloc: Global, network: &Network) -> Result<String, AllocError>
 /// Writes what is said of a network that is accepted.
 fn show_counts<O: Sink>(
     alloc: Global,
-    network: &Network,
+    network: &Described,
     output: &mut O,
 ) -> Result<(), Fault<'static>>
     ensures text { OnOk result (O.taken output.new ≡ append_known (O.taken output.old) (check_text network.now)) }
@@ -50,9 +50,10 @@ fn show_counts<O: Sink>(
     }
 }
 
-/// Judges the description in the file with this path, and tells on standard output what it describes.
+/// Judges the description in the file with this path, and tells on standard output what it describes. Nothing is run, so the tables that a
+/// run takes are not made.
 pub fn check<'a, H: Host>(alloc: Global, net: &'a str, host: &mut H) -> Result<(), Fault<'a>> {
-    let network = network_of(alloc, net, host)?;
+    let network = described_of(alloc, net, host)?;
     let shown = show_counts(alloc, &network, host.output());
     // The process ends here, and the system takes the network at once.
     forget(network);

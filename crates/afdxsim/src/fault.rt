@@ -53,6 +53,17 @@ impl Fault<'_> {
     }
 }
 
+impl From<DescFault> for Fault<'_> {
+    ghost use Rattle.std.specs.Prelude.{◌≡◌};
+    ghost use Rattle.afdxsim.specs.declared.fault.Fault.TheVariants.{Description};
+
+    ghost from_gives = { λ it fault. fault ≡ Description it };
+
+    fn from(it: DescFault) -> Self {
+        Fault::Description(it)
+    }
+}
+
 impl From<AllocError> for Fault<'_> {
     ghost use Rattle.std.specs.Prelude.{◌≡◌};
     ghost use Rattle.afdxsim.specs.declared.fault.Fault.TheVariants.{OutOfMemory};

@@ -5,10 +5,33 @@ ghost use Rattle.afdxsim.specs.Reading.{TellsOf};
 
 use crate::fault::Fault;
 use crate::host::{Host, ReadFault};
-use netdesc::{DescFault, Network, read_with_remains};
+use netdesc::{DescFault, Described, Network, read_described, read_with_remains};
 use std::alloc::Global;
 use std::mem::forget;
 use std::str;
+
+/// The text that these bytes are.
+fn text_in(bytes: &[u8]) -> Result<&str, Fault<'static>>
+    ensures text { IfOk result (λ text. text.now ≡ bytes.now) }
+    ensures fault { IfErr result (TellsOf bytes.now) }
+{
+    match str::from_utf8(bytes) {
+        Ok(text) => Ok(text),
+        Err(_) => Err(Fault::Description(DescFault::Syntax)),
+    }
+}
+
+/// The network that these bytes describe, without the tables that a run takes.
+pub fn described_in(alloc: Global, bytes: &[u8]) -> Result<Described, Fault<'static>>
+    ensures sound { OnOk result (faults_of_description bytes.now ≡ []) }
+    ensures network { IfOk result (Describes bytes.now) }
+    ensures fault { IfErr result (TellsOf bytes.now) }
+{
+    let (described, remains) = read_described(alloc, text_in(bytes)?)?;
+    // The system takes it at the end of the process at once. Piece by piece that takes longer than the tables did.
+    forget(remains);
+    Ok(described)
+}
 
 /// The network that these bytes describe.
 pub fn network_in(alloc: Global, bytes: &[u8]) -> Result<Network, Fault<'static>>
@@ -16,17 +39,9 @@ pub fn network_in(alloc: Global, bytes: &[u8]) -> Result<Network, Fault<'static>
     ensures network { IfOk result (Describes bytes.now) }
     ensures fault { IfErr result (TellsOf bytes.now) }
 {
-    match str::from_utf8(bytes) {
-        Ok(text) => match read_with_remains(alloc, text) {
-            Ok((network, remains)) => {
-                // The system takes it at the end of the process at once. Piece by piece that takes longer than the tables did.
-                forget(remains);
-                Ok(network)
-            }
-            Err(fault) => Err(Fault::Description(fault)),
-        },
-        Err(_) => Err(Fault::Description(DescFault::Syntax)),
-    }
+    let (network, remains) = read_with_remains(alloc, text_in(bytes)?)?;
+    forget(remains);
+    Ok(network)
 }
 
 /// The bytes of the file with this path.
@@ -50,4 +65,14 @@ pub fn network_of<'a, H: Host>(
 ) -> Result<Network, Fault<'a>> {
     let bytes = bytes_of(alloc, path, host)?;
     network_in(alloc, bytes.as_slice())
+}
+
+/// The network that the file with this path describes, without the tables that a run takes.
+pub fn described_of<'a, H: Host>(
+    alloc: Global,
+    path: &'a str,
+    host: &mut H,
+) -> Result<Described, Fault<'a>> {
+    let bytes = bytes_of(alloc, path, host)?;
+    described_in(alloc, bytes.as_slice())
 }

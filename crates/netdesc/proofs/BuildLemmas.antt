@@ -86,6 +86,10 @@ few-processes rows none =
     let test : nat_lt GREATEST_PROCESSES (process_count plan) ≡ false = when-none _ _ first in
     grind (arith, nat_tests)
 
+pub few-accepted : (plan : Plan) → IsAccepted plan → process_count plan ≤ GREATEST_PROCESSES
+few-accepted plan accepted =
+    omega (arith, few-processes accepted.rows accepted.stands.none, ap length accepted.stands.nodes, ap length accepted.stands.links)
+
 -- and no two links of the same nodes
 pub links-apart : (rows : Rows) → faults_of rows ≡ [] → each double_at_link (plan_of rows).links ≡ []
 links-apart rows none =

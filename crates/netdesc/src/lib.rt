@@ -4,6 +4,7 @@
 mod attached;
 mod checked;
 mod counts;
+mod described;
 mod double;
 mod ends;
 mod finding;
@@ -34,11 +35,12 @@ mod vl;
 mod ways;
 mod wiring;
 
+pub use described::Described;
 pub use limits::{GREATEST_DESTINATIONS, GREATEST_OUTAGES, GREATEST_PORTS, GREATEST_PROCESSES};
 pub use make::Remains;
 pub use network::Network;
 pub use network_rows::{DescFault, Key, NodeKind, Place, Priority, Section};
-pub use reading::{read, read_with_remains};
+pub use reading::{read, read_described, read_with_remains};
 pub use vl::VirtualLink;
 pub use wiring::{Line, Outage, Way};
 

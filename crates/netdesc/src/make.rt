@@ -8,9 +8,9 @@ ghost use Rattle.netdesc.specs.Views.{vl_views};
 ghost use Rattle.netdesc.specs.Accepted.{ids_of, IsPlanOf};
 
 use crate::checked::checked;
+use crate::described::Described;
 use crate::memory::refused;
 use crate::network::Network;
-use crate::tabling::tables_of;
 use crate::vl::Routed;
 use network_rows::{DescFault, LinkRow, OutageRow, Rows, Sequence, VlRow};
 use std::alloc::Global;
@@ -35,8 +35,8 @@ pub struct Remains {
     vls: Sequence<VlRow>,
 }
 
-/// The network of these rows, and what is left of them.
-pub fn network(alloc: Global, rows: Rows) -> Result<(Network, Remains), DescFault>
+/// The network that these rows describe, and what is left of them.
+pub fn described(alloc: Global, rows: Rows) -> Result<(Described, Remains), DescFault>
     requires { AreWithin rows }
     ensures { MatchResult result (λ made. IsPlanOf rows made.0) (λ fault. Tells fault (faults_of rows)) }
 {
@@ -52,12 +52,21 @@ pub fn network(alloc: Global, rows: Rows) -> Result<(Network, Remains), DescFaul
         ..
     } = rows;
     let nodes = nodes.into_vec();
-    let tables = tables_of(alloc, nodes.as_slice(), &numbered)?;
-    let network = Network::new(until, seed, nodes, numbered, tables);
+    let described = Described::new(until, seed, nodes, numbered);
     let remains = Remains {
         links,
         outages,
         vls,
     };
+    Ok((described, remains))
+}
+
+/// The network of these rows, and what is left of them.
+pub fn network(alloc: Global, rows: Rows) -> Result<(Network, Remains), DescFault>
+    requires { AreWithin rows }
+    ensures { MatchResult result (λ made. IsPlanOf rows made.0) (λ fault. Tells fault (faults_of rows)) }
+{
+    let (described, remains) = described(alloc, rows)?;
+    let network = Network::of(alloc, described)?;
     Ok((network, remains))
 }

@@ -1,7 +1,8 @@
-ghost use Rattle.std.specs.Prelude.{◌≡◌, ◌*◌, ◌<◌, ◌≤◌, true, Some, length, slice_get};
+ghost use Rattle.std.specs.Prelude.{◌≡◌, ◌*◌, ◌<◌, ◌≤◌, true, Some, length, slice_get, IfOk, IfErr};
 ghost use Rattle.std.specs.List.Sorted.{IsStrictlyIncreasing};
 ghost use Rattle.std.specs.Option.{option_map, option_and_then};
 ghost use Rattle.vlink.specs.declared.time.TheConstants.{LATEST_NS};
+ghost use Rattle.network_rows.specs.declared.fault.DescFault.TheVariants.{OutOfMemory};
 ghost use Rattle.network_rows.specs.declared.table.TheConstants.{SECOND_NS};
 ghost use Rattle.netdesc.specs.declared.limits.TheConstants.{GREATEST_PROCESSES, GREATEST_PORTS};
 ghost use Rattle.netdesc.specs.Accepted.{ids_of};
@@ -11,12 +12,12 @@ ghost use Rattle.netdesc.specs.Trees.{source_of, destinations_of};
 ghost use Rattle.netdesc.specs.Faults.{process_count};
 ghost use Rattle.netdesc.specs.Lines.{lines_of, node_name, line_name, outages_of, departures_of, arrivals_of, place_of_vl};
 
-use crate::numbered::Numbered;
+use crate::described::Described;
 use crate::tables::Tables;
-use crate::trees::source_of;
 use crate::vl::VirtualLink;
 use crate::wiring::{Line, Outage, Way};
-use network_rows::{NodeKind, NodeRow};
+use network_rows::{DescFault, NodeKind};
+use std::alloc::Global;
 use std::marker::Model;
 use vlink::{Time, VlId};
 
@@ -25,55 +26,47 @@ use vlink::{Time, VlId};
 /// Clauses see it as its plan. Its virtual links are in rising number.
 #[derive(Debug, Drop)]
 pub struct Network {
-    until: Time,
-    seed: u64,
-    nodes: Vec<NodeRow>,
-    numbered: Numbered,
+    described: Described,
     tables: Tables,
 }
 
 impl Model for Network {
     ghost use Rattle.netdesc.specs.Plan.{Plan};
     ghost use Rattle.netdesc.specs.Accepted.{IsAccepted};
-    ghost use Rattle.netdesc.specs.Tables.{plan_with, AreTables};
+    ghost use Rattle.netdesc.specs.Tables.{AreTables};
 
     ghost Value = { Plan };
 
-    ghost view = { λ n. plan_with n.until n.seed n.nodes.items n.numbered };
+    ghost view = { λ n. n.described };
 
-    ghost invariant = { λ n. IsAccepted (plan_with n.until n.seed n.nodes.items n.numbered) × AreTables (plan_with n.until n.seed n.nodes.items n.numbered) n.tables };
+    ghost invariant = { λ n. IsAccepted n.described × AreTables n.described n.tables };
 }
 
 impl Network {
     ghost use Rattle.netdesc.specs.Accepted.{IsAccepted};
-    ghost use Rattle.netdesc.specs.Tables.{plan_with, AreTables};
 
-    /// A network of these parts.
-    pub(crate) fn new(
-        until: Time,
-        seed: u64,
-        nodes: Vec<NodeRow>,
-        numbered: Numbered,
-        tables: Tables,
-    ) -> Self
-        requires accepted { IsAccepted (plan_with until seed nodes.items numbered) }
-        requires tables { AreTables (plan_with until seed nodes.items numbered) tables }
-        ensures { result ≡ plan_with until seed nodes.items numbered }
+    /// The network that is described, with its tables.
+    pub(crate) fn of(alloc: Global, described: Described) -> Result<Self, DescFault>
+        ensures made { IfOk result (λ network. network ≡ described) }
+        ensures memory { IfErr result (λ fault. fault ≡ OutOfMemory) }
     {
-        Network {
-            until,
-            seed,
-            nodes,
-            numbered,
-            tables,
-        }
+        described.accepted();
+        let tables = described.tables(alloc)?;
+        Ok(Network { described, tables })
+    }
+
+    /// The network as it is described.
+    pub fn described(&self) -> &Described
+        ensures { result.now ≡ self.now }
+    {
+        &self.described
     }
 
     /// Every network is that of rows without a fault, within the limits of their keys. Nothing is done.
     pub fn accepted(&self)
         ensures { IsAccepted self.now }
     {
-        let _fields = &self.numbered;
+        let _fields = &self.described;
     }
 
     /// The end of a run: its last moment.
@@ -82,21 +75,21 @@ impl Network {
         ensures least { 1 ≤ result }
         ensures greatest { result ≤ LATEST_NS }
     {
-        self.until
+        self.described.until()
     }
 
     /// The seed of the drawn numbers.
     pub fn seed(&self) -> u64
         ensures { result ≡ self.now.seed }
     {
-        self.seed
+        self.described.seed()
     }
 
     /// How many nodes there are. They are the processes 0, 1, ..
     pub fn node_count(&self) -> usize
         ensures { result ≡ length self.now.nodes }
     {
-        self.nodes.len()
+        self.described.node_count()
     }
 
     /// How many lines there are: two for each link. Line `k` is process `k` behind the nodes.
@@ -112,8 +105,7 @@ impl Network {
         ensures value { result ≡ process_count self.now }
         ensures few { process_count self.now ≤ GREATEST_PROCESSES }
     {
-        let _few = &self.tables;
-        self.node_count() + self.line_count()
+        self.described.process_count()
     }
 
     /// What a node is.
@@ -122,7 +114,7 @@ impl Network {
         ensures value { option_map (λ node. node.kind) (slice_get self.now.nodes node) ≡ Some result }
         ensures limits { IsKindInLimits result }
     {
-        self.nodes[node].kind
+        self.described.kind(node)
     }
 
     /// How many bytes may wait at each port of a node.
@@ -130,7 +122,7 @@ impl Network {
         requires { node < length self.now.nodes }
         ensures { option_map (λ node. node.port_bytes) (slice_get self.now.nodes node) ≡ Some result }
     {
-        self.nodes[node].port_bytes
+        self.described.port_bytes(node)
     }
 
     /// The name of a node.
@@ -138,7 +130,7 @@ impl Network {
         requires { node < length self.now.nodes }
         ensures { result.now ≡ node_name self.now.nodes node }
     {
-        self.nodes[node].name.as_str()
+        self.described.node_name(node)
     }
 
     /// The name of a line: those of its nodes with > between.
@@ -178,7 +170,7 @@ impl Network {
         ensures value { result ≡ length self.now.vls }
         ensures rising { IsStrictlyIncreasing (ids_of self.now.vls) }
     {
-        self.numbered.vls.len()
+        self.described.vl_count()
     }
 
     /// The place of the virtual link with this number, or none where no virtual link has it.
@@ -197,7 +189,7 @@ impl Network {
         ensures value { option_map (λ vl. vl.link) (slice_get self.now.vls vl) ≡ Some result }
         ensures limits { IsLinkInLimits result }
     {
-        self.numbered.vls[vl].link
+        self.described.virtual_link(vl)
     }
 
     /// Where the frames of a virtual link begin: an end system.
@@ -207,7 +199,7 @@ impl Network {
         ensures node { result < length self.now.nodes }
         ensures end_system { is_end_system self.now.nodes result ≡ true }
     {
-        source_of(&self.numbered.vls[vl]).unwrap()
+        self.described.source(vl)
     }
 
     /// Where the frames of a virtual link end, rising.

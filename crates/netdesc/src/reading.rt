@@ -2,7 +2,8 @@ ghost use Rattle.std.specs.Prelude.{◌≡◌, [], OnOk, IfOk, IfErr};
 ghost use Rattle.netdesc.specs.Finding.{Tells};
 ghost use Rattle.netdesc.specs.Description.{faults_of_description, Describes};
 
-use crate::make::{Remains, network};
+use crate::described::Described;
+use crate::make::{Remains, described, network};
 use crate::network::Network;
 use network_rows::{DescFault, read_rows};
 use std::alloc::Global;
@@ -29,4 +30,14 @@ pub fn read_with_remains(alloc: Global, text: &str) -> Result<(Network, Remains)
 {
     let rows = read_rows(alloc, text)?;
     network(alloc, rows)
+}
+
+/// Reads a network description as `read_with_remains` does, and makes no tables of it: that is less work, where nothing is to be run.
+pub fn read_described(alloc: Global, text: &str) -> Result<(Described, Remains), DescFault>
+    ensures sound { OnOk result (faults_of_description text.now ≡ []) }
+    ensures network { IfOk result (λ made. Describes text.now made.0) }
+    ensures fault { IfErr result (λ fault. Tells fault (faults_of_description text.now)) }
+{
+    let rows = read_rows(alloc, text)?;
+    described(alloc, rows)
 }

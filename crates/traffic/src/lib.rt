@@ -6,7 +6,7 @@ mod law;
 mod offering;
 
 pub use law::lawful_offers;
-pub use offering::offers;
+pub use offering::{described_offers, offers};
 
 #[cfg(test)]
 mod tests;

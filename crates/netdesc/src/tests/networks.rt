@@ -1,6 +1,6 @@
 //! What the readers tell of small networks.
 use super::{ONE_SWITCH, SWITCH_B, changed, link, outage, with_rows};
-use crate::{Line, NodeKind, Way, read};
+use crate::{Line, NodeKind, Way, read, read_described};
 use std::test::Fail;
 use vlink::{Net, VlId};
 
@@ -33,6 +33,25 @@ fn one_switch(rt: HostRuntime) -> Result<(), Fail> {
         }
     );
     assert_eq!(rt; network.port_bytes(2), 65536);
+    Ok(())
+}
+
+#[test]
+fn one_switch_without_tables(rt: HostRuntime) -> Result<(), Fail> {
+    let (network, _remains) = read_described(rt.alloc(), ONE_SWITCH)?;
+    assert_eq!(rt; network.until().ns(), 2_000_000);
+    assert_eq!(rt; network.seed(), 42);
+    assert_eq!(rt;
+        (
+            network.node_count(),
+            network.process_count(),
+            network.vl_count()
+        ),
+        (3, 7, 1)
+    );
+    assert!(rt; 0 < network.vl_count());
+    assert_eq!(rt; network.virtual_link(0).id, VlId(1));
+    assert_eq!(rt; network.source(0), 0);
     Ok(())
 }
 

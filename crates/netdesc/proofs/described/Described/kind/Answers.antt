@@ -6,7 +6,7 @@ use Rattle.netdesc.specs.Plan.{node_plan}
 use Rattle.netdesc.specs.Accepted.{IsAccepted}
 use Rattle.netdesc.proofs.BuildLemmas.{map-both, read-made}
 use Rattle.netdesc.proofs.LimitLemmas.{kind-read}
-use Rattle.netdesc.proofs.network.Network.kind.Goals as goal
+use Rattle.netdesc.proofs.described.Described.kind.Goals as goal
 
 pub returns : goal.returns
 returns c =
@@ -18,4 +18,4 @@ returns c =
     let lt : c.args.node < nodes.len = omega (arith, ap length nodes_are, length-map nodes.items node_plan, nodes.ok.0) in
     let read : option_map (λ node. node.kind) (slice_get plan.nodes c.args.node) ≡ Some row.kind =
     read-made (λ node. node.kind) (λ r. r.kind) plan.nodes nodes.items nodes.len c.args.node row same nodes.ok.0 lt c.index.ensures in
-    record { value = read; limits = kind-read plan c.args.node row.kind (subst IsAccepted c.self.view_is c.self.invariant.0) read }
+    record { value = read; limits = kind-read plan c.args.node row.kind (subst IsAccepted c.self.view_is c.self.invariant) read }

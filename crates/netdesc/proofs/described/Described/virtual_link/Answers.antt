@@ -6,7 +6,7 @@ use Rattle.netdesc.specs.Accepted.{IsAccepted}
 use Rattle.netdesc.specs.Views.{vl_view, vl_views}
 use Rattle.netdesc.proofs.BuildLemmas.{map-both, read-made}
 use Rattle.netdesc.proofs.LimitLemmas.{link-read}
-use Rattle.netdesc.proofs.network.Network.virtual_link.Goals as goal
+use Rattle.netdesc.proofs.described.Described.virtual_link.Goals as goal
 
 pub returns : goal.returns
 returns c =
@@ -18,4 +18,4 @@ returns c =
     let lt : c.args.vl < vls.len = omega (arith, ap length vls_are, length-map vls.items vl_view, vls.ok.0) in
     let read : option_map (λ vl. vl.link) (slice_get plan.vls c.args.vl) ≡ Some routed.link =
     read-made (λ vl. vl.link) (λ r. r.link) plan.vls vls.items vls.len c.args.vl routed same vls.ok.0 lt c.index.ensures in
-    record { value = read; limits = link-read plan c.args.vl routed.link (subst IsAccepted c.self.view_is c.self.invariant.0) read }
+    record { value = read; limits = link-read plan c.args.vl routed.link (subst IsAccepted c.self.view_is c.self.invariant) read }
