@@ -10,3 +10,4 @@ pub mod PortLemmas
 pub mod RisingLemmas
 pub mod SourceLemmas
 pub mod OrderLemmas
+pub mod PathLemmas

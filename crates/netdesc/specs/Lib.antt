@@ -1,5 +1,6 @@
 pub mod Rows
 pub mod Names
+pub mod NodePaths
 pub mod Plan
 pub mod Wiring
 pub mod Trees

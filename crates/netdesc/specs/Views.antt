@@ -16,8 +16,12 @@ items_of v = v.items
 abbrev pub lists_of : {X : Type 0} → Vec (Vec X Global) Global → List (List X)
 lists_of v = map items_of v.items
 
+-- paths of numbers are seen as they are
+abbrev pub paths_seen : List (List ℕ) → List (List ℕ)
+paths_seen paths = paths
+
 abbrev pub vl_view : Routed → VlPlan
-vl_view routed = record { link = routed.link; a = lists_of routed.a; b = lists_of routed.b }
+vl_view routed = record { link = routed.link; a = routed.a; b = routed.b }
 
 abbrev pub vl_views : Vec Routed Global → List VlPlan
 vl_views v = map vl_view v.items

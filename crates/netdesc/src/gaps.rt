@@ -6,9 +6,10 @@ ghost use Rattle.netdesc.specs.Plan.{VlPlan};
 ghost use Rattle.netdesc.specs.Trees.{steps_of, steps_after};
 ghost use Rattle.netdesc.specs.Faults.{has_gap, is_gap, no_link_at_outage, no_link_at_vl};
 ghost use Rattle.netdesc.specs.Finding.{Finds};
-ghost use Rattle.netdesc.specs.Views.{lists_of, vl_view};
+ghost use Rattle.netdesc.specs.Views.{vl_view};
 
 use crate::joined::Joined;
+use crate::node_paths::NodePaths;
 use crate::place::key_at;
 use crate::vl::Routed;
 use crate::wiring::Outage;
@@ -51,10 +52,11 @@ fn is_gapped(joined: &Joined, path: &[usize]) -> bool
 }
 
 /// Two neighbours of a path of these have no link.
-fn has_gap(joined: &Joined, paths: &Vec<Vec<usize>>) -> bool
-    ensures { result ≡ has_gap joined.now.links.now (lists_of paths.now) }
+fn has_gap(joined: &Joined, paths: &NodePaths) -> bool
+    ensures { result ≡ has_gap joined.now.links.now paths.now }
 {
-    for path in paths {
+    for k in 0..paths.len() {
+        let path = paths.path(k);
         if is_gapped(joined, path) {
             return true;
         }

@@ -20,6 +20,7 @@ mod meetings;
 mod memory;
 mod names;
 mod network;
+mod node_paths;
 mod numbered;
 mod place;
 mod reading;

@@ -2,10 +2,11 @@ ghost use Rattle.std.specs.Prelude.{◌≡◌, ◌++◌, [], ◌∷◌, true, Li
 ghost use Rattle.network_rows.specs.declared.fault.DescFault.TheVariants.{OutOfMemory};
 ghost use Rattle.netdesc.specs.declared.wiring.Step.{Step};
 ghost use Rattle.netdesc.specs.Trees.{steps_of, steps_after, all_steps, is_other_way, has_other_way};
-ghost use Rattle.netdesc.specs.Views.{Tests, lists_of};
+ghost use Rattle.netdesc.specs.Views.{Tests};
 ghost use Rattle.netdesc.specs.Finding.{AreWays, AreWaysIn, way_to};
 
 use crate::memory::{push, refused, with_room};
+use crate::node_paths::NodePaths;
 use crate::rising::SOME;
 use crate::wiring::Step;
 use network_rows::DescFault;
@@ -36,21 +37,13 @@ fn push_steps(steps: &mut Vec<Step>, path: &[usize]) -> Result<(), DescFault>
     }
 }
 
-/// How many nodes these paths go through, each counted as often as a path does: so many steps and more have room.
-pub fn node_count(paths: &Vec<Vec<usize>>) -> usize {
-    let mut count: usize = 0;
-    for path in paths {
-        count = count.saturating_add(path.len());
-    }
-    count
-}
-
 /// Puts the steps of these paths at the end, path by path.
-pub fn push_all(steps: &mut Vec<Step>, paths: &Vec<Vec<usize>>) -> Result<(), DescFault>
-    ensures steps { OnOk result (steps.new.items ≡ steps.old.items ++ all_steps (lists_of paths.now)) }
+pub fn push_all(steps: &mut Vec<Step>, paths: &NodePaths) -> Result<(), DescFault>
+    ensures steps { OnOk result (steps.new.items ≡ steps.old.items ++ all_steps paths.now) }
     ensures memory { IfErr result (λ fault. fault ≡ OutOfMemory) }
 {
-    for path in paths {
+    for k in 0..paths.len() {
+        let path = paths.path(k);
         push_steps(steps, path)?;
     }
     Ok(())

@@ -7,13 +7,14 @@ ghost use Rattle.netdesc.specs.Wiring.{passes, is_end_system, is_switch_of};
 ghost use Rattle.netdesc.specs.Trees.{inner_of, is_bad_path, source_among, source_of, differ, begin_apart, is_no_tree};
 ghost use Rattle.netdesc.specs.Faults.{no_tree_at_vl};
 ghost use Rattle.netdesc.specs.Finding.{Finds};
-ghost use Rattle.netdesc.specs.Views.{Tests, lists_of, vl_view};
+ghost use Rattle.netdesc.specs.Views.{Tests, vl_view};
 
 use crate::ends::{has_double, has_repeat, push_ends};
 use crate::kinds::{is_end_system, is_switch_of};
 use crate::memory::with_room;
+use crate::node_paths::NodePaths;
 use crate::place::key_at;
-use crate::steps::{has_other_way, node_count, push_all};
+use crate::steps::{has_other_way, push_all};
 use crate::vl::Routed;
 use network_rows::{DescFault, Key, NodeRow, Section};
 use std::alloc::Global;
@@ -75,12 +76,13 @@ fn differ(x: Option<usize>, y: Option<usize>) -> bool
 }
 
 /// Where the first path begins.
-fn source_among(paths: &Vec<Vec<usize>>) -> Option<usize>
-    ensures { result ≡ source_among (lists_of paths.now) }
+fn source_among(paths: &NodePaths) -> Option<usize>
+    ensures { result ≡ source_among paths.now }
 {
-    match paths.first() {
-        Some(path) => path.first().copied(),
-        None => None,
+    if paths.len() == 0 {
+        None
+    } else {
+        paths.path(0).first().copied()
     }
 }
 
@@ -88,7 +90,7 @@ fn source_among(paths: &Vec<Vec<usize>>) -> Option<usize>
 pub fn source_of(vl: &Routed) -> Option<usize>
     ensures { result ≡ source_of (vl_view vl.now) }
 {
-    if vl.a.is_empty() {
+    if vl.a.len() == 0 {
         source_among(&vl.b)
     } else {
         source_among(&vl.a)
@@ -96,17 +98,18 @@ pub fn source_of(vl: &Routed) -> Option<usize>
 }
 
 /// One of these paths is a bad one, or begins at another node than the first one.
-fn has_bad_path(nodes: &[NodeRow], net: Net, paths: &Vec<Vec<usize>>) -> bool
-    ensures { result ≡ (list_any (is_bad_path (map node_plan nodes.now) net) (lists_of paths.now) || begin_apart (lists_of paths.now)) }
+fn has_bad_path(nodes: &[NodeRow], net: Net, paths: &NodePaths) -> bool
+    ensures { result ≡ (list_any (is_bad_path (map node_plan nodes.now) net) paths.now || begin_apart paths.now) }
 {
     has_bad(nodes, net, paths) || begin_apart(paths)
 }
 
 /// One of these paths is a bad one.
-fn has_bad(nodes: &[NodeRow], net: Net, paths: &Vec<Vec<usize>>) -> bool
-    ensures { result ≡ list_any (is_bad_path (map node_plan nodes.now) net) (lists_of paths.now) }
+fn has_bad(nodes: &[NodeRow], net: Net, paths: &NodePaths) -> bool
+    ensures { result ≡ list_any (is_bad_path (map node_plan nodes.now) net) paths.now }
 {
-    for path in paths {
+    for k in 0..paths.len() {
+        let path = paths.path(k);
         if is_bad_path(nodes, net, path) {
             return true;
         }
@@ -115,11 +118,12 @@ fn has_bad(nodes: &[NodeRow], net: Net, paths: &Vec<Vec<usize>>) -> bool
 }
 
 /// Two of these paths begin at different nodes.
-fn begin_apart(paths: &Vec<Vec<usize>>) -> bool
-    ensures { result ≡ begin_apart (lists_of paths.now) }
+fn begin_apart(paths: &NodePaths) -> bool
+    ensures { result ≡ begin_apart paths.now }
 {
     let source = source_among(paths);
-    for path in paths {
+    for k in 0..paths.len() {
+        let path = paths.path(k);
         if differ(source, path.first().copied()) {
             return true;
         }
@@ -132,9 +136,9 @@ fn is_no_tree(
     alloc: Global,
     nodes: &[NodeRow],
     net: Net,
-    paths: &Vec<Vec<usize>>,
+    paths: &NodePaths,
 ) -> Result<bool, DescFault>
-    ensures { Tests result (is_no_tree (map node_plan nodes.now) net (lists_of paths.now)) }
+    ensures { Tests result (is_no_tree (map node_plan nodes.now) net paths.now) }
 {
     if has_bad_path(nodes, net, paths) {
         return Ok(true);
@@ -144,7 +148,7 @@ fn is_no_tree(
     if has_repeat(alloc, &ends)? {
         return Ok(true);
     }
-    let mut steps = with_room(alloc, node_count(paths))?;
+    let mut steps = with_room(alloc, paths.node_count())?;
     push_all(&mut steps, paths)?;
     has_other_way(alloc, &steps)
 }
@@ -154,7 +158,7 @@ fn check_vl(alloc: Global, nodes: &[NodeRow], i: usize, vl: &Routed) -> Result<(
     requires { i + 1 < 2 ^ 64 }
     ensures { (earlier : List VlPlan) → length earlier ≡ i → Finds result (no_tree_at_vl (map node_plan nodes.now) earlier (vl_view vl.now)) }
 {
-    let has_none = vl.a.is_empty() && vl.b.is_empty();
+    let has_none = vl.a.len() == 0 && vl.b.len() == 0;
     if has_none || is_no_tree(alloc, nodes, Net::A, &vl.a)? {
         return Err(DescFault::NotATree(key_at(Section::Vl, i, Key::A)));
     }

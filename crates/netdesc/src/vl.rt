@@ -1,3 +1,4 @@
+use crate::node_paths::NodePaths;
 use network_rows::Priority;
 use vlink::{FrameSize, VlId};
 
@@ -31,6 +32,6 @@ pub struct VirtualLink {
 #[derive(Debug, Drop)]
 pub struct Routed {
     pub link: VirtualLink,
-    pub a: Vec<Vec<usize>>,
-    pub b: Vec<Vec<usize>>,
+    pub a: NodePaths,
+    pub b: NodePaths,
 }

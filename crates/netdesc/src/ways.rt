@@ -7,7 +7,7 @@ ghost use Rattle.netdesc.specs.Views.{vl_view};
 use crate::joined::Joined;
 use crate::memory::{push, with_room};
 use crate::rising::rising;
-use crate::steps::{node_count, push_all};
+use crate::steps::push_all;
 use crate::vl::Routed;
 use crate::wiring::Step;
 use network_rows::DescFault;
@@ -55,7 +55,7 @@ pub fn route_of(alloc: Global, joined: &Joined, vl: &Routed) -> Result<Vec<usize
     ensures route { IfOk result (λ route. route.items ≡ route_over joined.now.links.now (vl_view vl.now)) }
     ensures memory { IfErr result (λ fault. fault ≡ OutOfMemory) }
 {
-    let mut steps = with_room(alloc, node_count(&vl.a).saturating_add(node_count(&vl.b)))?;
+    let mut steps = with_room(alloc, vl.a.node_count().saturating_add(vl.b.node_count()))?;
     push_all(&mut steps, &vl.a)?;
     push_all(&mut steps, &vl.b)?;
     let lines = lines_over(alloc, joined, &steps)?;

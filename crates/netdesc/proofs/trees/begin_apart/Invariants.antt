@@ -1,10 +1,9 @@
-use Rattle.std.proofs.Common.{◌≡◌, drop, map}
+use Rattle.std.proofs.Common.{◌≡◌, drop}
 use Rattle.std.specs.List.{list_any}
 use Rattle.netdesc.specs.Trees.{differ, first_of, source_among}
-use Rattle.netdesc.specs.Views.{items_of, lists_of}
 use Rattle.netdesc.proofs.trees.begin_apart.Given as goal
 
-abbrev pub invariant-loop-path : goal.invariant-loop-path
-invariant-loop-path l =
-    list_any (λ path. differ (source_among (lists_of l.paths)) (first_of path)) (map items_of (drop l.path-index l.paths.items))
-    ≡ list_any (λ path. differ (source_among (lists_of l.paths)) (first_of path)) (lists_of l.paths)
+abbrev pub invariant-loop-k : goal.invariant-loop-k
+invariant-loop-k l =
+    list_any (λ path. differ (source_among l.paths) (first_of path)) (drop l.k l.paths)
+    ≡ list_any (λ path. differ (source_among l.paths) (first_of path)) l.paths
