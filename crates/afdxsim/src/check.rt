@@ -10,14 +10,14 @@ use netdesc::Described;
 use std::alloc::{AllocError, Global};
 use std::mem::forget;
 use trace_tables::{Sink, write_all};
-use traffic::described_offers;
+use traffic::offer_count;
 
 /// How many processes, virtual links and offers there are.
 fn counts_line(
     alloc: Global,
     processes: usize,
     vls: usize,
-    offers: usize,
+    offers: u64,
 ) -> Result<String, AllocError>
     ensures { IfOk result (λ line. string_bytes line ≡ counts_text processes vls offers) }
 {
@@ -30,9 +30,7 @@ fn line_of(alloc: Global, network: &Described) -> Result<String, AllocError>
 {
     let processes = network.process_count();
     let vls = network.vl_count();
-    let offers = described_offers(alloc, network)?;
-    let line = counts_line(alloc, processes, vls, offers.as_slice().len())?;
-    Ok(line)
+    counts_line(alloc, processes, vls, offer_count(network))
 }
 
 /// Writes what is said of a network that is accepted.
@@ -50,8 +48,8 @@ fn show_counts<O: Sink>(
     }
 }
 
-/// Judges the description in the file with this path, and tells on standard output what it describes. Nothing is run, so the tables that a
-/// run takes are not made.
+/// Judges the description in the file with this path, and tells on standard output what it describes. Nothing is run, so the tables and the
+/// list of offers that a run takes are not made.
 pub fn check<'a, H: Host>(alloc: Global, net: &'a str, host: &mut H) -> Result<(), Fault<'a>> {
     let network = described_of(alloc, net, host)?;
     let shown = show_counts(alloc, &network, host.output());

@@ -2,7 +2,7 @@
 ghost use Rattle.std.specs.Prelude.{◌≡◌, ℕ, ◌+◌, ◌<◌, ◌≤◌, ◌↔◌, [], ◌∷◌, ◌++◌, OnOk, OnErr, vec_len, vec_capacity};
 ghost use Rattle.vlink.specs.declared.time.TheConstants.{LATEST_NS};
 ghost use Rattle.netdesc.specs.Limits.{IsLinkInLimits};
-ghost use Rattle.traffic.specs.Offers.{due_of, due_count, sender_of, offer_by, come_until, offers_from};
+ghost use Rattle.traffic.specs.Offers.{due_of, moment_of, due_count, sender_of, offer_by, come_until, offers_from};
 
 use netdesc::{GREATEST_PROCESSES, VirtualLink};
 use rand_core::utils::NextWord;
@@ -30,6 +30,17 @@ fn sender_of(vl: VlId) -> u32
     GREATEST_PROCESSES as u32 + u32::from(vl.0)
 }
 
+/// When the offer with this number and word comes, in ns.
+pub fn moment(link: &VirtualLink, number: u64, word: u32) -> u64
+    requires limits { IsLinkInLimits link.now }
+    requires due { due_of link.now number ≤ LATEST_NS }
+    ensures { result ≡ moment_of link.now number word }
+{
+    let due = link.offset_ns + number * link.period_ns;
+    let jitter = u64::from(word) % (u64::from(link.jitter_ns) + 1);
+    due + jitter
+}
+
 /// Puts the offer with this number and word behind the others, unless it comes after `until`.
 fn push_offer(
     offers: &mut Vec<Message>,
@@ -45,9 +56,7 @@ fn push_offer(
     ensures offers { OnOk result (offers.new.items ≡ offers.old.items ++ come_until until (offer_by link.now source number word ∷ [])) }
     ensures full { OnErr result (vec_capacity offers.old ≤ vec_len offers.old) }
 {
-    let due = link.offset_ns + number * link.period_ns;
-    let jitter = u64::from(word) % (u64::from(link.jitter_ns) + 1);
-    if let Some(time) = Time::until(due + jitter, until) {
+    if let Some(time) = Time::until(moment(link, number, word), until) {
         offers.push(Message {
             time,
             receiver: source,

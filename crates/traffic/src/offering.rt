@@ -51,16 +51,10 @@ fn push_vl(offers: &mut Vec<Message>, network: &Described, vl: usize) -> Result<
 pub fn offers(alloc: Global, network: &Network) -> Result<Vec<Message>, AllocError>
     ensures { IfOk result (λ offers. offers.items ≡ offers_of network.now) }
 {
-    described_offers(alloc, network.described())
-}
-
-/// All offers of a network that is described, as `offers` has them.
-pub fn described_offers(alloc: Global, network: &Described) -> Result<Vec<Message>, AllocError>
-    ensures { IfOk result (λ offers. offers.items ≡ offers_of network.now) }
-{
-    let mut offers = Vec::with_capacity(alloc, most_offers(network))?;
-    for vl in 0..network.vl_count() {
-        push_vl(&mut offers, network, vl)?;
+    let described = network.described();
+    let mut offers = Vec::with_capacity(alloc, most_offers(described))?;
+    for vl in 0..described.vl_count() {
+        push_vl(&mut offers, described, vl)?;
     }
     Ok(offers)
 }

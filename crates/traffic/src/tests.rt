@@ -1,5 +1,5 @@
-use crate::{lawful_offers, offers};
-use netdesc::read;
+use crate::{lawful_offers, offer_count, offers};
+use netdesc::{read, read_described};
 use std::alloc::Global;
 use std::test::Fail;
 use vlink::{Body, FrameSize, Message, Time, VlId};
@@ -219,5 +219,47 @@ fn virtual_links_come_in_rising_number(rt: HostRuntime) -> Result<(), Fail> {
             assert_eq!(rt; (offer.time.ns(), offer.number), (0, 0));
         }
     }
+    Ok(())
+}
+
+// How many offers a network has.
+fn counted(alloc: Global, text: &str) -> Result<u64, Fail> {
+    let (network, _remains) = read_described(alloc, text)?;
+    Ok(offer_count(&network))
+}
+
+#[test]
+fn offers_are_counted_up_to_the_end(rt: HostRuntime) -> Result<(), Fail> {
+    // The reference words again: the first four offers come at 459, 5518, 3454 and 5716.
+    for (until, count) in [(458, 0), (459, 1), (3453, 1), (3454, 2)] {
+        let text = one_vl(
+            rt.alloc(),
+            &[
+                (
+                    "until_ns = 2000000",
+                    &format!(in rt.alloc(); "until_ns = {until}")?,
+                ),
+                ("id = 1", "id = 54"),
+                ("period_ns = 1000000000000", "period_ns = 1000"),
+                ("jitter_ns = 0\na", "jitter_ns = 5000\na"),
+            ],
+        )?;
+        assert_eq!(rt; counted(rt.alloc(), &text)?, count);
+    }
+    Ok(())
+}
+
+#[test]
+fn offers_are_counted_without_a_list(rt: HostRuntime) -> Result<(), Fail> {
+    // One at each of the microseconds from 0 to a thousand seconds: a list of them would take 56 GB.
+    let text = one_vl(
+        rt.alloc(),
+        &[
+            ("until_ns = 2000000", "until_ns = 1000000000000"),
+            ("period_ns = 1000000000000", "period_ns = 1000"),
+        ],
+    )?;
+    assert_eq!(rt; counted(rt.alloc(), &text)?, 1_000_000_001);
+    assert_eq!(rt; counted(rt.alloc(), &twenty_vls(rt.alloc(), true)?)?, 20);
     Ok(())
 }

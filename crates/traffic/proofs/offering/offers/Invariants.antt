@@ -1,7 +1,7 @@
 use Rattle.std.proofs.Common.{◌≡◌, take}
 use Rattle.std.specs.List.{flat_map}
 use Rattle.traffic.specs.Offers.{offers_of_vl}
-use Rattle.traffic.proofs.offering.described_offers.Given as goal
+use Rattle.traffic.proofs.offering.offers.Given as goal
 
 abbrev pub invariant-loop-vl : goal.invariant-loop-vl
 invariant-loop-vl l = l.offers.items ≡ flat_map (offers_of_vl l.network) (take l.vl l.network.vls)

@@ -1,0 +1,11 @@
+use Rattle.std.proofs.Common.{◌≡◌, ◌+◌, ◌*◌, ◌≤◌, length, take}
+use Rattle.std.specs.List.{flat_map}
+use Rattle.vlink.specs.declared.time.TheConstants.{LATEST_NS}
+use Rattle.traffic.specs.Offers.{offers_of_vl}
+use Rattle.traffic.proofs.counting.offer_count.Given as goal
+
+abbrev pub invariant-loop-vl : goal.invariant-loop-vl
+invariant-loop-vl l = record {
+  counted : l.count ≡ length (flat_map (offers_of_vl l.network) (take l.vl l.network.vls));
+  few : l.count ≤ l.vl * (LATEST_NS + 1);
+}

@@ -1,0 +1,68 @@
+//! How many offers there are, without a list of them.
+ghost use Rattle.std.specs.Prelude.{◌≡◌, ℕ, ◌+◌, ◌≤◌, ◌<◌, length, nat_le};
+ghost use Rattle.vlink.specs.declared.time.TheConstants.{LATEST_NS};
+ghost use Rattle.netdesc.specs.Limits.{IsLinkInLimits};
+ghost use Rattle.traffic.specs.Offers.{due_of, moment_of, due_count, offers_from, offers_of};
+
+use crate::drawing::{due_count, moment};
+use netdesc::{Described, VirtualLink};
+use rand_core::utils::NextWord;
+use rand_pcg::Lcg64Xsh32;
+use vlink::Time;
+
+/// How many offers of a virtual link come until then, however late they are. They are its first ones, and no word has to be drawn for
+/// them.
+fn sure_count(until: Time, link: &VirtualLink) -> u64
+    requires { IsLinkInLimits link.now }
+    ensures few { result ≤ due_count until link.now }
+    ensures sure { (k : ℕ) → k < result → due_of link.now k + link.now.jitter_ns ≤ until }
+{
+    let latest = link.offset_ns + u64::from(link.jitter_ns);
+    if until.ns() < latest {
+        0
+    } else {
+        (until.ns() - latest) / link.period_ns + 1
+    }
+}
+
+/// Whether the offer with this number and word comes until then.
+fn comes(until: Time, link: &VirtualLink, number: u64, word: u32) -> bool
+    requires limits { IsLinkInLimits link.now }
+    requires due { due_of link.now number ≤ until }
+    requires until { until ≤ LATEST_NS }
+    ensures { result ≡ nat_le (moment_of link.now number word) until }
+{
+    moment(link, number, word) <= until.ns()
+}
+
+/// How many offers of a virtual link there are, wherever its frames begin.
+fn vl_offer_count(seed: u64, until: Time, link: &VirtualLink) -> u64
+    requires limits { IsLinkInLimits link.now }
+    requires until { until ≤ LATEST_NS }
+    ensures value { (source : ℕ) → result ≡ length (offers_from seed until link.now source) }
+    ensures few { result ≤ LATEST_NS + 1 }
+{
+    let sure = sure_count(until, link);
+    let mut words = Lcg64Xsh32::new(seed, u64::from(link.id.0));
+    words.advance(sure);
+    let mut count = sure;
+    for number in sure..due_count(until, link) {
+        if comes(until, link, number, words.next_word()) {
+            count += 1;
+        }
+    }
+    count
+}
+
+/// How many offers a network that is described has: as many as `offers` makes.
+pub fn offer_count(network: &Described) -> u64
+    ensures { result ≡ length (offers_of network.now) }
+{
+    network.accepted();
+    let mut count: u64 = 0;
+    for vl in 0..network.vl_count() {
+        let link = network.virtual_link(vl);
+        count += vl_offer_count(network.seed(), network.until(), &link);
+    }
+    count
+}
