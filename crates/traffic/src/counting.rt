@@ -1,5 +1,5 @@
 //! How many offers there are, without a list of them.
-ghost use Rattle.std.specs.Prelude.{◌≡◌, ℕ, ◌+◌, ◌≤◌, ◌<◌, length, nat_le};
+ghost use Rattle.std.specs.Prelude.{◌≡◌, ℕ, ◌+◌, ◌≤◌, ◌<◌, ◌↔◌, length, nat_le};
 ghost use Rattle.vlink.specs.declared.time.TheConstants.{LATEST_NS};
 ghost use Rattle.netdesc.specs.Limits.{IsLinkInLimits};
 ghost use Rattle.traffic.specs.Offers.{due_of, moment_of, due_count, offers_from, offers_of};
@@ -15,7 +15,7 @@ use vlink::Time;
 fn sure_count(until: Time, link: &VirtualLink) -> u64
     requires { IsLinkInLimits link.now }
     ensures few { result ≤ due_count until link.now }
-    ensures sure { (k : ℕ) → k < result → due_of link.now k + link.now.jitter_ns ≤ until }
+    ensures sure { (k : ℕ) → (k < result) ↔ (due_of link.now k + link.now.jitter_ns ≤ until) }
 {
     let latest = link.offset_ns + u64::from(link.jitter_ns);
     if until.ns() < latest {

@@ -8,7 +8,7 @@ use Rattle.traffic.proofs.counting.vl_offer_count.Goals as goal
 
 pub loop-number-init : goal.loop-number-init
 loop-number-init c = record {
-  counted = λ source. sym (come_count_sure c.args.seed c.args.until c.args.link.now source _ c.sure_count-sure.ensures.sure);
+  counted = λ source. sym (come_count_sure c.args.seed c.args.until c.args.link.now source _ (λ k lt. (c.sure_count-sure.ensures.sure k).0 lt));
   words = c.advance.ensures ∙ rw (c.new-words.ensures, c.from.ensures) (generator_at-jumped c.args.seed c.args.link.now.id.0 c.sure_count-sure.result);
   few = omega arith;
 }
