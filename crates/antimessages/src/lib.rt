@@ -16,6 +16,3 @@ pub use fault::OutOfMemory;
 pub use mail::Mail;
 pub use outbox::Outbox;
 pub use tally::{Change, Tally};
-
-#[cfg(test)]
-mod tests;

@@ -11,6 +11,3 @@ mod words;
 
 pub use orders::{Check, Order, Replay, Run, Seq};
 pub use words::order;
-
-#[cfg(test)]
-mod tests;

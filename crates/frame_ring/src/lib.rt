@@ -2,7 +2,5 @@
 #![tactic(auto)]
 
 mod ring;
-#[cfg(test)]
-mod tests;
 
 pub use ring::FrameRing;

@@ -7,6 +7,3 @@ mod least;
 
 pub use floors::Floors;
 pub use least::{gvt_law, horizon};
-
-#[cfg(test)]
-mod tests;

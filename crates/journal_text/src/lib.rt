@@ -11,6 +11,3 @@ mod read;
 pub use fault::LinesFault;
 pub use journal::Journal;
 pub use read::read_steps;
-
-#[cfg(test)]
-mod tests;

@@ -44,6 +44,3 @@ pub use network_rows::{DescFault, Key, NodeKind, Place, Priority, Section};
 pub use reading::{read, read_described, read_with_remains};
 pub use vl::VirtualLink;
 pub use wiring::{Line, Outage, Way};
-
-#[cfg(test)]
-mod tests;

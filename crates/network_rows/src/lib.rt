@@ -27,6 +27,3 @@ pub use paths::{Path, Paths};
 pub use read::read_rows;
 pub use rows::{LinkRow, NodeKind, NodeRow, OutageRow, Priority, Rate, Rows, VlRow};
 pub use sequence::Sequence;
-
-#[cfg(test)]
-mod tests;

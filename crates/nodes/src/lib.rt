@@ -18,8 +18,6 @@ mod receiving;
 mod sending;
 mod switch;
 mod taking_back;
-#[cfg(test)]
-mod tests;
 mod transit;
 mod vl_end;
 mod wiring;

@@ -4,8 +4,6 @@
 mod event;
 mod port;
 mod strict_priority;
-#[cfg(test)]
-mod tests;
 
 pub use event::{FreeRecord, PortAnswer, PortEvent, PortRecord, Priority, PutRecord};
 pub use port::Port;

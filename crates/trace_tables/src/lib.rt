@@ -25,8 +25,3 @@ pub use loss::Loss;
 pub use sink::{Sink, write_all};
 pub use tables::Tables;
 pub use write::{write_csv, write_trace};
-
-#[cfg(test)]
-mod sink_tests;
-#[cfg(test)]
-mod tests;

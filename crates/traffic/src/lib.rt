@@ -9,6 +9,3 @@ mod offering;
 pub use counting::offer_count;
 pub use law::lawful_offers;
 pub use offering::offers;
-
-#[cfg(test)]
-mod tests;

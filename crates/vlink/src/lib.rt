@@ -19,6 +19,3 @@ pub use order::{compare, message_order};
 pub use step::Step;
 pub use time::{GREATEST_NS, LATEST_NS, Time};
 pub use wire::{busy_ns, last_bit_ns};
-
-#[cfg(test)]
-mod tests;
