@@ -36,16 +36,4 @@ fn main(rt: HostRuntime) -> io::Result<ExitCode> {
 }
 
 #[cfg(test)]
-mod check_tests;
-#[cfg(test)]
-mod memory_host;
-#[cfg(test)]
-mod networks_in_text;
-#[cfg(test)]
-mod replay_tests;
-#[cfg(test)]
-mod seq_tests;
-#[cfg(test)]
 mod tests;
-#[cfg(test)]
-mod words_tests;
