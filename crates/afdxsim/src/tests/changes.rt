@@ -2,8 +2,8 @@
 //!
 //! A row has parts with ` => ` between them. The first names a network: `n1`, `n2`, `n3`, `top` for the first two lines of n1, or
 //! `empty` for no text. Then come its changes. `OLD -> NEW` puts NEW in the place of the first OLD, and `+ TEXT` puts TEXT at the end.
-//! `+ 3 x TEXT` puts it there three times, with 0, 1 and 2 for each `#` in it. A `;` stands for the end of a line. The last part is
-//! what the row tells.
+//! `+ 3 x TEXT` puts it there three times, with 0, 1 and 2 for each `#` in it and 1, 2 and 3 for each `@`. A `;` stands for the end of
+//! a line. The last part is what the row tells.
 use super::networks::network;
 use std::alloc::Global;
 use std::test::Fail;
@@ -38,8 +38,10 @@ fn repeated(alloc: Global, added: &str) -> Result<String, Fail> {
     let count: u64 = count.parse().map_err(|_| "no number")?;
     let mut text = String::new(alloc);
     for number in 0..count {
+        let next = format!(in alloc; "{}", number + 1)?;
         let number = format!(in alloc; "{number}")?;
-        text.push_str(&one.replace(alloc, "#", number.as_str())?)?;
+        let one = one.replace(alloc, "#", number.as_str())?;
+        text.push_str(&one.replace(alloc, "@", next.as_str())?)?;
     }
     Ok(text)
 }

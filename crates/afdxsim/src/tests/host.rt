@@ -1,7 +1,7 @@
 //! A host in memory.
 use crate::host::{Host, ReadFault};
 use crate::perform;
-use std::alloc::Global;
+use std::alloc::{AllocError, Global};
 use std::cell::Cell;
 use std::rc::Rc;
 use std::test::Fail;
@@ -99,12 +99,12 @@ pub struct MemoryHost<'a> {
 
 impl<'a> MemoryHost<'a> {
     /// A host with the file `net.toml` alone, where `trace.csv` can be made. The standard streams take all.
-    pub fn new(alloc: Global, bytes: &'a [u8]) -> Result<Self, Fail> {
+    pub fn new(alloc: Global, bytes: &'a [u8]) -> Result<Self, AllocError> {
         MemoryHost::of(alloc, bytes, None)
     }
 
     /// That host with the file `steps.txt` as well, where there are bytes for it.
-    pub fn of(alloc: Global, bytes: &'a [u8], steps: Option<&'a [u8]>) -> Result<Self, Fail> {
+    pub fn of(alloc: Global, bytes: &'a [u8], steps: Option<&'a [u8]>) -> Result<Self, AllocError> {
         Ok(MemoryHost {
             bytes,
             steps,
