@@ -150,7 +150,15 @@ fn files_that_are_no_text_and_devices_that_fail_are_told(rt: HostRuntime) -> Res
         let net = network(rt.alloc(), "n1")?;
         let mut host = MemoryHost::new(rt.alloc(), net.as_bytes())?;
         host.output.writes = 0;
-        assert!(rt; tells(rt.alloc(), &mut host, &[command, "net.toml"], 4, "afdxsim: cannot write\n"));
+        assert!(rt;
+            tells(
+                rt.alloc(),
+                &mut host,
+                &[command, "net.toml"],
+                4,
+                "afdxsim: cannot write\n"
+            )
+        );
     }
     Ok(())
 }
@@ -204,11 +212,26 @@ latency,1,ES2,,1,27720,27720,27720
 fn want_of_memory_is_no_other_answer(rt: HostRuntime) {
     let mut untried = 0u64;
     for (command, net, status, told) in [
-        ("check", ONE_SWITCH, 0, "ok: 7 processes, 1 virtual links, 1 offers\n"),
+        (
+            "check",
+            ONE_SWITCH,
+            0,
+            "ok: 7 processes, 1 virtual links, 1 offers\n",
+        ),
         ("seq", ONE_SWITCH, 0, TABLES),
         ("check", "until_ns =", 3, "afdxsim: description: 1 Syntax\n"),
-        ("seq", "until_ns = 1", 3, "afdxsim: description: 2 Missing at top seed\n"),
-        ("seq", "until_ns = 1\nseed = 0\nx = 0", 3, "afdxsim: description: 5 UnknownName at top\n"),
+        (
+            "seq",
+            "until_ns = 1",
+            3,
+            "afdxsim: description: 2 Missing at top seed\n",
+        ),
+        (
+            "seq",
+            "until_ns = 1\nseed = 0\nx = 0",
+            3,
+            "afdxsim: description: 5 UnknownName at top\n",
+        ),
     ] {
         match is_told_or_wants_memory(rt.alloc(), command, net, status, told) {
             Ok(is_told) => assert!(rt; is_told, "{told}"),
