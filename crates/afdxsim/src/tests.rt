@@ -1,5 +1,7 @@
 //! Rows of whole runs of the program, over a host in memory. A row is a line of text, so that a row more costs nothing to prove.
 mod changes;
 mod descriptions;
+mod devices;
 mod host;
 mod networks;
+mod tables;

@@ -27,6 +27,16 @@ impl Page {
         }
     }
 
+    /// An empty page that takes so much at a time and so often as this one.
+    fn like(&self, alloc: Global) -> Self {
+        Page {
+            bytes: Vec::new(alloc),
+            most: self.most,
+            writes: self.writes,
+            failures: 0,
+        }
+    }
+
     /// The page holds this text and no more.
     pub fn holds(&self, text: &str) -> bool {
         self.bytes.as_slice() == text.as_bytes()
@@ -55,9 +65,8 @@ impl Sink for Page {
 /// A file that is being written. Its bytes are also the host's.
 #[derive(Drop)]
 pub struct Leaf {
+    page: Page,
     bytes: Rc<Cell<Vec<u8>>>,
-    takes: bool,
-    failures: u64,
     alloc: Global,
 }
 
@@ -66,17 +75,14 @@ impl Sink for Leaf {
 
     ghost taken = { λ _. None };
 
-    ghost failures = { λ leaf. leaf.failures };
+    ghost failures = { λ leaf. leaf.page.failures };
 
     fn write(&mut self, bytes: &[u8]) -> Result<usize, SinkFault> {
-        if !self.takes && self.failures < u64::MAX {
-            self.failures += 1;
-            return Err(SinkFault);
-        }
+        let taken = self.page.write(bytes)?;
         let mut all = self.bytes.replace(Vec::new(self.alloc));
-        let _kept = all.extend_from_slice(bytes);
+        let _kept = all.extend_from_slice(&bytes[..taken]);
         self.bytes.set(all);
-        Ok(bytes.len())
+        Ok(taken)
     }
 }
 
@@ -90,8 +96,8 @@ pub struct MemoryHost<'a> {
     /// The path of the file that can be made.
     made: &'a str,
     written: Rc<Cell<Vec<u8>>>,
-    /// Whether that file takes what is written.
-    pub takes: bool,
+    /// How that file takes what is written, at most so much at a time and so often.
+    pub file: Page,
     pub output: Page,
     pub errors: Page,
     alloc: Global,
@@ -110,19 +116,16 @@ impl<'a> MemoryHost<'a> {
             steps,
             made: "trace.csv",
             written: Rc::new(alloc, Cell::new(Vec::new(alloc)))?,
-            takes: true,
+            file: Page::new(alloc),
             output: Page::new(alloc),
             errors: Page::new(alloc),
             alloc,
         })
     }
 
-    /// The file that was made holds this text and no more.
-    pub fn wrote(&self, text: &str) -> bool {
-        let all = self.written.replace(Vec::new(self.alloc));
-        let holds = all.as_slice() == text.as_bytes();
-        self.written.set(all);
-        holds
+    /// What the file that was made holds. It is empty afterwards.
+    pub fn written(&self) -> Vec<u8> {
+        self.written.replace(Vec::new(self.alloc))
     }
 }
 
@@ -151,9 +154,8 @@ impl Host for MemoryHost<'_> {
         }
         match self.written.clone() {
             Ok(bytes) => Ok(Leaf {
+                page: self.file.like(self.alloc),
                 bytes,
-                takes: self.takes,
-                failures: 0,
                 alloc: self.alloc,
             }),
             Err(_) => Err(SinkFault),
