@@ -93,10 +93,15 @@ fn is_cut(whole: &Outcome, cut: &Outcome, taken: usize) -> bool {
     } else if taken < whole.output.len() {
         (4, taken, "afdxsim: cannot write\n".as_bytes())
     } else {
-        (whole.status, whole.output.len(), whole.errors.as_slice())
+        (whole.status, taken, whole.errors.as_slice())
     };
     cut.status == status
-        && cut.trace.as_slice() == &whole.trace[..taken.min(whole.trace.len())]
-        && cut.output.as_slice() == &whole.output[..output]
-        && cut.errors.as_slice() == &errors[..taken.min(errors.len())]
+        && is_beginning(cut.trace.as_slice(), whole.trace.as_slice(), taken)
+        && is_beginning(cut.output.as_slice(), whole.output.as_slice(), output)
+        && is_beginning(cut.errors.as_slice(), errors, taken)
+}
+
+// These are the first bytes of the whole, at most so many.
+fn is_beginning(bytes: &[u8], whole: &[u8], most: usize) -> bool {
+    bytes == &whole[..most.min(whole.len())]
 }

@@ -195,7 +195,14 @@ fn is_told(alloc: Global, row: &str) -> Result<bool, Fail> {
     let (net, told) = changed(alloc, row)?;
     if told.starts_with("ok") {
         let line = format!(in alloc; "{told}\n")?;
-        return says(alloc, net.as_str(), &["check", "net.toml"], 0, line.as_str(), "");
+        return says(
+            alloc,
+            net.as_str(),
+            &["check", "net.toml"],
+            0,
+            line.as_str(),
+            "",
+        );
     }
     let (tables, trace) = match told.split_once("trace") {
         Some((tables, trace)) => (tables, Some(trace)),
@@ -203,7 +210,14 @@ fn is_told(alloc: Global, row: &str) -> Result<bool, Fail> {
     };
     let head = "table,vl,where,cause,count,least_ns,greatest_ns,sum_ns\n";
     let tables = text_of(alloc, head, tables)?;
-    let alone = says(alloc, net.as_str(), &["seq", "net.toml"], 0, tables.as_str(), "")?;
+    let alone = says(
+        alloc,
+        net.as_str(),
+        &["seq", "net.toml"],
+        0,
+        tables.as_str(),
+        "",
+    )?;
     Ok(alone && is_traced(alloc, net.as_str(), tables.as_str(), trace)?)
 }
 
