@@ -2,6 +2,9 @@
 mod changes;
 mod descriptions;
 mod devices;
+mod first;
 mod host;
+mod journals;
 mod networks;
 mod tables;
+mod words;

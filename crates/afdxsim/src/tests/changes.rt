@@ -32,7 +32,7 @@ fn with_change(alloc: Global, text: &str, change: &str) -> Result<String, Fail> 
 }
 
 /// A text as often as it says, each time with its number.
-fn repeated(alloc: Global, added: &str) -> Result<String, Fail> {
+pub fn repeated(alloc: Global, added: &str) -> Result<String, Fail> {
     let (count, one) = added.split_once(" x ").unwrap_or(("1", added));
     let one = lines_of(alloc, one)?;
     let count: u64 = count.parse().map_err(|_| "no number")?;
