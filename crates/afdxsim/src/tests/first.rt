@@ -10,7 +10,7 @@ use vlink::Time;
 const ROWS: &str = "
 empty => first => 2 => error: the following required arguments were not provided:;  <OFFERED>
 empty => first x => 2 => error: invalid value 'x' for '<OFFERED>'
-empty => first -1 => 2 => error: 
+empty => first -1 => 2 => error: unexpected argument '-1' found
 empty => first 1.5 => 2 => error: invalid value '1.5' for '<OFFERED>'
 empty => first 1000000001 => 2 => error: invalid value '1000000001' for '<OFFERED>'
 empty => first 1 2 => 2 => error: unexpected argument '2' found
