@@ -1,0 +1,111 @@
+//! The words for mail and floors, a function each.
+use super::player::{Stage, letter, moment, number, tell_letter, two_numbers};
+use crate::Summing;
+use antimessages::{Mail, Outbox};
+use gvt::{Floors, horizon};
+use process_queues::{ProcFault, Process};
+use std::alloc::Global;
+use std::fmt::Write;
+use std::process::Abort;
+
+// The process that this number names.
+fn process_of(rt: &impl Abort, number: u64) -> u16 {
+    u16::try_from(number).expect(rt, "the number of a process")
+}
+
+pub(crate) fn post(
+    rt: &impl Abort,
+    process: &mut Process<Summing>,
+    mail: &mut Mail,
+) -> Result<(), ProcFault> {
+    assert!(rt; process.goes_within(mail.processes()));
+    process.post(mail)
+}
+
+pub(crate) fn collect(
+    rt: &impl Abort,
+    stage: &mut Stage,
+    rest: &str,
+) -> Result<(), ProcFault> {
+    let (receiver, most) = two_numbers(rt, rest);
+    let receiver = process_of(rt, receiver);
+    let count = stage
+        .process
+        .collect(&mut stage.mail, receiver, most as usize)?;
+    write!(stage.told, "{count} ")?;
+    Ok(())
+}
+
+// A letter of another process is posted: its receiver, and how it is written.
+pub(crate) fn send(
+    rt: &impl Abort,
+    alloc: Global,
+    mail: &mut Mail,
+    rest: &str,
+) -> Result<(), ProcFault> {
+    let (receiver, written) = rest.split_once(':').expect(rt, "a receiver");
+    let mut letter = letter(rt, written);
+    letter.message.receiver = process_of(rt, number(rt, receiver));
+    let mut outbox = Outbox::new(alloc);
+    outbox.push(letter)?;
+    assert!(rt; outbox.goes_within(mail.processes()));
+    mail.post(&mut outbox)?;
+    Ok(())
+}
+
+pub(crate) fn take(
+    rt: &impl Abort,
+    mail: &mut Mail,
+    rest: &str,
+    told: &mut String,
+) -> Result<(), ProcFault> {
+    let (receiver, place) = two_numbers(rt, rest);
+    match mail.take(process_of(rt, receiver), place as usize) {
+        Some(letter) => tell_letter(&letter, told)?,
+        None => write!(told, "none ")?,
+    }
+    Ok(())
+}
+
+// How many letters there are for the process, and each of them.
+pub(crate) fn tell_mail(
+    rt: &impl Abort,
+    mail: &Mail,
+    receiver: &str,
+    told: &mut String,
+) -> Result<(), ProcFault> {
+    let receiver = process_of(rt, number(rt, receiver));
+    let count = mail.count(receiver);
+    write!(told, "{count} ")?;
+    for place in 0..count {
+        if let Some(letter) = mail.look(receiver, place) {
+            tell_letter(&letter, told)?;
+        }
+    }
+    Ok(())
+}
+
+pub(crate) fn set(rt: &impl Abort, floors: &mut Floors, rest: &str) -> Result<(), ProcFault> {
+    let (process, ns) = two_numbers(rt, rest);
+    let process = process_of(rt, process);
+    assert!(rt; process < floors.processes());
+    floors.set(process, moment(rt, ns));
+    Ok(())
+}
+
+pub(crate) fn lower(rt: &impl Abort, floors: &mut Floors, rest: &str) -> Result<(), ProcFault> {
+    let (process, ns) = two_numbers(rt, rest);
+    let process = process_of(rt, process);
+    assert!(rt; process < floors.processes());
+    floors.lower(process, moment(rt, ns));
+    Ok(())
+}
+
+pub(crate) fn tell_horizon(
+    floors: &Floors,
+    mail: &Mail,
+    told: &mut String,
+) -> Result<(), ProcFault> {
+    write!(told, "{} ", horizon(floors, mail).ns())?;
+    Ok(())
+}
