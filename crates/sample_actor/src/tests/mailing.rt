@@ -1,9 +1,8 @@
 //! The words for mail and floors, a function each.
 use super::player::{Stage, letter, moment, number, tell_letter, two_numbers};
-use crate::Summing;
 use antimessages::{Mail, Outbox};
-use gvt::{Floors, horizon};
-use process_queues::{ProcFault, Process};
+use gvt::Floors;
+use process_queues::ProcFault;
 use std::alloc::Global;
 use std::fmt::Write;
 use std::process::Abort;
@@ -13,27 +12,22 @@ fn process_of(rt: &impl Abort, number: u64) -> u16 {
     u16::try_from(number).expect(rt, "the number of a process")
 }
 
-pub(crate) fn post(
-    rt: &impl Abort,
-    process: &mut Process<Summing>,
-    mail: &mut Mail,
-) -> Result<(), ProcFault> {
-    assert!(rt; process.goes_within(mail.processes()));
-    process.post(mail)
+pub(crate) fn post(rt: &impl Abort, stage: &mut Stage) -> Result<(), ProcFault> {
+    assert!(rt; stage.process.goes_within(stage.mail.processes()));
+    stage.process.post(&mut stage.mail)
 }
 
 pub(crate) fn collect(
     rt: &impl Abort,
     stage: &mut Stage,
     rest: &str,
-) -> Result<(), ProcFault> {
+) -> Result<Option<i128>, ProcFault> {
     let (receiver, most) = two_numbers(rt, rest);
     let receiver = process_of(rt, receiver);
     let count = stage
         .process
         .collect(&mut stage.mail, receiver, most as usize)?;
-    write!(stage.told, "{count} ")?;
-    Ok(())
+    Ok(Some(count as i128))
 }
 
 // A letter of another process is posted: its receiver, and how it is written.
@@ -53,18 +47,12 @@ pub(crate) fn send(
     Ok(())
 }
 
-pub(crate) fn take(
-    rt: &impl Abort,
-    mail: &mut Mail,
-    rest: &str,
-    told: &mut String,
-) -> Result<(), ProcFault> {
+pub(crate) fn take(rt: &impl Abort, stage: &mut Stage, rest: &str) -> Result<(), ProcFault> {
     let (receiver, place) = two_numbers(rt, rest);
-    match mail.take(process_of(rt, receiver), place as usize) {
-        Some(letter) => tell_letter(&letter, told)?,
-        None => write!(told, "none ")?,
+    match stage.mail.take(process_of(rt, receiver), place as usize) {
+        Some(letter) => tell_letter(&letter, &mut stage.told),
+        None => Ok(stage.told.push_str("none ")?),
     }
-    Ok(())
 }
 
 // How many letters there are for the process, and each of them.
@@ -98,14 +86,5 @@ pub(crate) fn lower(rt: &impl Abort, floors: &mut Floors, rest: &str) -> Result<
     let process = process_of(rt, process);
     assert!(rt; process < floors.processes());
     floors.lower(process, moment(rt, ns));
-    Ok(())
-}
-
-pub(crate) fn tell_horizon(
-    floors: &Floors,
-    mail: &Mail,
-    told: &mut String,
-) -> Result<(), ProcFault> {
-    write!(told, "{} ", horizon(floors, mail).ns())?;
     Ok(())
 }

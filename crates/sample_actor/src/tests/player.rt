@@ -1,11 +1,11 @@
 //! Plays a script on a process of the test actor, and tells what its words answer.
 //!
 //! A word stands for the call of that name; behind colons stand its numbers, moments in ns. `+10` and `-10@1` deliver a letter for the
-//! moment 10: its sign, and behind an @ its sender, 2 where none is named. Letters are told as `+15.0`, with their number, and messages
-//! as `10@2`. The end of the run is the last moment that there is.
+//! moment 10: its sign, and behind an @ its sender, 2 where none is named. An answer is told as a number, 1 where it is yes, or as `none`.
+//! Letters are told as `+15.0`, with their number, and messages as `10@2`. The end of the run is the last moment that there is.
 ghost use Rattle.std.specs.Prelude.{◌≡◌};
 
-use super::{mailing, process};
+use super::{asking, mailing};
 use crate::Summing;
 use antimessages::Mail;
 use gvt::Floors;
@@ -54,72 +54,96 @@ fn opened(rt: &impl Abort, alloc: Global) -> Result<Stage, ProcFault> {
     })
 }
 
-// Does what one word says. Where memory is refused, the process is as it was, and the word is done again.
+// Does what one word says. A word that is refused leaves the process as it was; where that was for want of memory, it is done again.
 fn play_word(rt: &impl Abort, alloc: Global, stage: &mut Stage, word: &str) -> Result<(), Fail> {
-    let before = process::seen(&stage.process);
-    if act(rt, alloc, stage, word).is_err() {
-        assert_eq!(rt; process::seen(&stage.process), before, "{word} was refused");
-        act(rt, alloc, stage, word)?;
+    let before = asking::seen(&stage.process);
+    let Err(fault) = act(rt, alloc, stage, word) else {
+        return Ok(());
+    };
+    assert_eq!(rt; asking::seen(&stage.process), before, "{word} was refused");
+    match fault {
+        ProcFault::OutOfMemory => act(rt, alloc, stage, word)?,
+        ProcFault::Exhausted => stage.told.push_str("exhausted ")?,
     }
     Ok(())
 }
 
-// A word that changes the process.
+// A letter, a word without an answer, or one that tells of letters or messages.
 fn act(rt: &impl Abort, alloc: Global, stage: &mut Stage, word: &str) -> Result<(), ProcFault> {
     let (call, rest) = word.split_once(':').unwrap_or((word, ""));
     match call {
-        "counter" => process::begin(rt, alloc, &mut stage.process, rest),
-        "arrive" => process::arrive(&mut stage.process, &mut stage.told),
-        "run" => process::run(&mut stage.process, &mut stage.told),
-        "seal" => process::seal(&mut stage.process, &mut stage.told),
-        "commit" => process::commit(rt, &mut stage.process, rest, &mut stage.told),
-        "reserve_letters" => process::reserve_letters(rt, &mut stage.process, rest),
-        "reserve_rows" => process::reserve_rows(rt, &mut stage.process, rest),
-        "post" => mailing::post(rt, &mut stage.process, &mut stage.mail),
-        "collect" => mailing::collect(rt, stage, rest),
-        _ => act_on_mail(rt, alloc, stage, call, rest),
+        "counter" => begin(rt, alloc, &mut stage.process, rest),
+        "reserve_letters" => reserve_letters(rt, &mut stage.process, rest),
+        "reserve_rows" => reserve_rows(rt, &mut stage.process, rest),
+        "outbox" => tell_outbox(&stage.process, &mut stage.told),
+        "post" => mailing::post(rt, stage),
+        "send" => mailing::send(rt, alloc, &mut stage.mail, rest),
+        "take" => mailing::take(rt, stage, rest),
+        "mail" => mailing::tell_mail(rt, &stage.mail, rest, &mut stage.told),
+        "set" => mailing::set(rt, &mut stage.floors, rest),
+        "lower" => mailing::lower(rt, &mut stage.floors, rest),
+        "next" => asking::tell_next(&stage.process, &mut stage.told),
+        _ if word.starts_with('+') || word.starts_with('-') => {
+            deliver(rt, &mut stage.process, word)
+        }
+        _ => tell_answer(rt, stage, call, rest),
     }
 }
 
-// A word that has to do with the mail or the floors.
-fn act_on_mail(
+// A word whose answer is a number, or none.
+fn tell_answer(
     rt: &impl Abort,
-    alloc: Global,
     stage: &mut Stage,
     call: &str,
     rest: &str,
 ) -> Result<(), ProcFault> {
-    match call {
-        "send" => mailing::send(rt, alloc, &mut stage.mail, rest),
-        "take" => mailing::take(rt, &mut stage.mail, rest, &mut stage.told),
-        "mail" => mailing::tell_mail(rt, &stage.mail, rest, &mut stage.told),
-        "set" => mailing::set(rt, &mut stage.floors, rest),
-        "lower" => mailing::lower(rt, &mut stage.floors, rest),
-        "horizon" => mailing::tell_horizon(&stage.floors, &stage.mail, &mut stage.told),
-        _ => look(rt, &mut stage.process, call, rest, &mut stage.told),
+    match asking::ask(rt, stage, call, rest)? {
+        Some(number) => write!(stage.told, "{number} ")?,
+        None => stage.told.push_str("none ")?,
     }
+    Ok(())
 }
 
-// A word that looks at the process, or a letter that is delivered to it.
-fn look(
+// The process begins anew, with this counter.
+fn begin(
+    rt: &impl Abort,
+    alloc: Global,
+    process: &mut Process<Summing>,
+    counter: &str,
+) -> Result<(), ProcFault> {
+    *process = Process::new(alloc, actor(rt, number(rt, counter)));
+    Ok(())
+}
+
+fn deliver(
     rt: &impl Abort,
     process: &mut Process<Summing>,
-    call: &str,
-    rest: &str,
-    told: &mut String,
+    written: &str,
 ) -> Result<(), ProcFault> {
-    match call {
-        "outbox" => process::tell_outbox(process, told),
-        "within" => process::tell_within(rt, process, rest, told),
-        "count" => process::tell_count(rt, process, rest, told),
-        "next" => process::tell_next(process, told),
-        "oldest" => process::tell_oldest(process, told),
-        "floor" => process::tell_floor(process, told),
-        "tray" => process::tell_tray(process, told),
-        "committed" => process::tell_committed(process, told),
-        "committable" => process::tell_committable(rt, process, rest, told),
-        _ => process::deliver(rt, process, call),
+    process.deliver(letter(rt, written))
+}
+
+fn reserve_letters(
+    rt: &impl Abort,
+    process: &mut Process<Summing>,
+    letters: &str,
+) -> Result<(), ProcFault> {
+    process.reserve_letters(number(rt, letters) as usize)
+}
+
+fn reserve_rows(
+    rt: &impl Abort,
+    process: &mut Process<Summing>,
+    events: &str,
+) -> Result<(), ProcFault> {
+    process.reserve_rows(number(rt, events) as usize)
+}
+
+fn tell_outbox(process: &Process<Summing>, told: &mut String) -> Result<(), ProcFault> {
+    for letter in process.outbox() {
+        tell_letter(letter, told)?;
     }
+    Ok(())
 }
 
 // The test actor with this counter.
