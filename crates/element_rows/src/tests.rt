@@ -1,0 +1,11 @@
+mod accounts;
+mod checks;
+mod elements;
+mod messages;
+mod playing;
+mod ports;
+mod receivers;
+mod regulators;
+mod sizes;
+mod values;
+mod words;

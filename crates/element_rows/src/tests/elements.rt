@@ -1,0 +1,115 @@
+//! Rows of elements in hand.
+use crate::tests::playing::told_by;
+use crate::tests::words::{long, numbers, size};
+use bag_regulator::BagRegulator;
+use integrity::Integrity;
+use output_port::Port;
+use policer::Account;
+use redundancy::Redundancy;
+use std::alloc::{AllocError, Global};
+use std::test::Fail;
+
+// An element with its fixed numbers, and the events that it is given; then its answers, the state that it comes to, and the states to
+// which undoing the events leads back, one after another, up to the first.
+//
+// A regulator has its BAG in ns and its depth, an account the greatest frame in bytes, BAG and jitter in ns, redundancy management the
+// greatest skew in ns, a port its bytes.
+const ROWS: &str = "\
+regulator 1000000 2, offer@0 offer@10 offer@20 offer@30 => Released 0:0:0 Kept, release@1000000 Kept Dropped | (1 Some(0)) (1 Some(0)) (1 Some(0)) (1 Some(0)) (0 None)
+regulator 1000000 2, offer@0 offer@10 offer@20 release@999999 release@1000000 release@2000000 => Released 0:0:0 Kept, release@1000000 Kept Nothing Released 1:10:1000000, release@2000000 Released 2:20:2000000 | (3 Some(2000000)) (2 Some(1000000)) (1 Some(0)) (1 Some(0)) (1 Some(0)) (1 Some(0)) (0 None)
+regulator 1000000 0, offer@0 offer@10 => Released 0:0:0 Dropped | (1 Some(0)) (1 Some(0)) (0 None)
+regulator 1000000 16385, offer@0 offer@10 => Released 0:0:0 Kept, release@1000000 | (1 Some(0)) (1 Some(0)) (0 None)
+account 100 1000000 0, 100@0 100@999999 100@1000000 => Passed Refused Passed | (0/100000000@1000000) (99999900/100000000@999999) (0/100000000@0) (100000000/100000000@0)
+account 100 1000000 0, 64@0 100@540000 100@0 64@10000000 => Passed Refused Refused Passed | (36000000/100000000@10000000) (90000000/100000000@0) (90000000/100000000@540000) (36000000/100000000@0) (100000000/100000000@0)
+account 100 1000000 0, 64@0 64@140000 64@100 64@40 => Passed Refused Refused Refused | (50000000/100000000@40) (50000000/100000000@100) (50000000/100000000@140000) (36000000/100000000@0) (100000000/100000000@0)
+account 1518 128000000 1000000000, => | (1712304000000/1712304000000@0)
+account 1518 0 0, => none
+account 1518 128000001 0, => none
+account 1518 1000000 1000000001, => none
+integrity, => | None
+integrity, 254 255 => Passed Passed | Some(255) Some(254) None
+integrity, 254 1 => Passed Passed | Some(1) Some(254) None
+integrity, 254 2 => Passed Refused | Some(2) Some(254) None
+integrity, 254 0 => Passed Passed | Some(0) Some(254) None
+integrity, 255 1 => Passed Passed | Some(1) Some(255) None
+integrity, 255 2 => Passed Passed | Some(2) Some(255) None
+integrity, 255 0 => Passed Passed | Some(0) Some(255) None
+integrity, 255 3 => Passed Refused | Some(3) Some(255) None
+integrity, 255 255 => Passed Refused | Some(255) Some(255) None
+integrity, 0 1 => Passed Passed | Some(1) Some(0) None
+integrity, 0 2 => Passed Passed | Some(2) Some(0) None
+integrity, 0 255 => Passed Refused | Some(255) Some(0) None
+redundancy 0, => | none
+redundancy 1000000000, => | none
+redundancy 1000000001, => none
+redundancy 1000, 5@100 5@300 => Delivered Duplicate | 5@100 5@100 none
+redundancy 1000, 5@100 5@1100 => Delivered Duplicate | 5@100 5@100 none
+redundancy 1000, 5@100 5@1101 => Delivered Delivered | 5@1101 5@100 none
+redundancy 1000, 250@100 1@300 => Delivered Delivered | 1@300 250@100 none
+redundancy 1000, 250@100 122@300 => Delivered Delivered | 122@300 250@100 none
+redundancy 1000, 250@100 123@300 => Delivered Duplicate | 250@100 250@100 none
+redundancy 1000, 250@100 250@300 => Delivered Duplicate | 250@100 250@100 none
+redundancy 1000, 250@100 0@300 => Delivered Duplicate | 250@100 250@100 none
+redundancy 1000, 0@100 127@300 => Delivered Delivered | 127@300 0@100 none
+redundancy 1000, 0@100 128@300 => Delivered Duplicate | 0@100 0@100 none
+port 1518, low:1:1518 low:2:64 high:3:64 free free free free => Started 1 for 123040 Kept Kept Started 3 for 6720 Started 2 for 6720 Idle Nothing | (idle 0) (idle 0) (busy 0) (busy 64) (busy 128) (busy 64) (busy 0) (idle 0)
+port 1518, high:0:64 low:1:1518 high:2:64 => Started 0 for 6720 Kept Dropped | (busy 1518) (busy 1518) (busy 0) (idle 0)
+port 100, low:1:64 low:2:80 high:1:64 free => Started 1 for 6720 Kept Dropped Started 2 for 8000 | (busy 0) (busy 80) (busy 80) (busy 0) (idle 0)
+port 100, low:1:64 high:2:80 free free free => Started 1 for 6720 Kept Started 2 for 8000 Idle Nothing | (idle 0) (idle 0) (busy 0) (busy 80) (busy 0) (idle 0)
+port 0, low:1:64 low:2:64 => Started 1 for 6720 Dropped | (busy 0) (busy 0) (idle 0)
+port 1048576, low:1:64 low:2:1518 => Started 1 for 6720 Kept | (busy 1518) (busy 0) (idle 0)";
+
+// A row that finds no memory is played once more, so that the rows hold also where an allocation was refused.
+#[test]
+fn elements_answer_and_undo_as_the_rows_tell(rt: HostRuntime) -> Result<(), Fail> {
+    for line in ROWS.lines() {
+        let (row, wanted) = line.split_once(" => ").ok_or("a row")?;
+        let (opening, script) = row.split_once(',').ok_or("an opening")?;
+        let told = match tells(rt.alloc(), opening, script) {
+            Ok(told) => told,
+            Err(_) => tells(rt.alloc(), opening, script)?,
+        };
+        assert_eq!(rt; told.as_str(), wanted, "{row}");
+    }
+    Ok(())
+}
+
+// What the element that is opened so tells of the script; `none` where its numbers are beyond the limits.
+fn tells(alloc: Global, opening: &str, script: &str) -> Result<String, AllocError> {
+    let (kind, fixed) = opening.split_once(' ').unwrap_or((opening, ""));
+    let fixed = numbers(fixed);
+    match kind {
+        "regulator" => of_regulator(alloc, fixed, script),
+        "account" => of_account(alloc, fixed, script),
+        "integrity" => told_by(alloc, Integrity::default(), script),
+        "redundancy" => of_redundancy(alloc, fixed, script),
+        _ => of_port(alloc, fixed, script),
+    }
+}
+
+fn of_regulator(alloc: Global, fixed: [u64; 8], script: &str) -> Result<String, AllocError> {
+    let [bag_ns, depth, ..] = fixed;
+    let regulator = BagRegulator::new(alloc, long(bag_ns), long(depth))?;
+    told_by(alloc, regulator, script)
+}
+
+fn of_account(alloc: Global, fixed: [u64; 8], script: &str) -> Result<String, AllocError> {
+    let [smax, bag_ns, jitter_ns, ..] = fixed;
+    match Account::new(size(smax), bag_ns, jitter_ns) {
+        Some(account) => told_by(alloc, account, script),
+        None => String::from_str(alloc, "none"),
+    }
+}
+
+fn of_redundancy(alloc: Global, fixed: [u64; 8], script: &str) -> Result<String, AllocError> {
+    let [skew_ns, ..] = fixed;
+    match Redundancy::new(skew_ns) {
+        Some(redundancy) => told_by(alloc, redundancy, script),
+        None => String::from_str(alloc, "none"),
+    }
+}
+
+fn of_port(alloc: Global, fixed: [u64; 8], script: &str) -> Result<String, AllocError> {
+    let [bytes, ..] = fixed;
+    told_by(alloc, Port::new(alloc, long(bytes))?, script)
+}

@@ -1,0 +1,81 @@
+//! How rows write messages: `RECEIVER.SENDER.NUMBER/` and then one of `offer@NS:VL.BYTES`, `release@NS:VL`, `free@NS:PORT`,
+//! `arrive@NS:PORT:FRAME`, `enqueue@NS:PORT:FRAME` and `carry@NS:FRAME`. A frame is `VL.BYTES.NUMBER.NET.OFFERED.RELEASED`, with its moments
+//! in ns and 0 for network A. What is left out, in front or behind, is 0.
+use crate::tests::words::{byte, long, moment, numbers, short, size};
+use std::alloc::AllocError;
+use std::fmt::Write;
+use vlink::{Body, Frame, Message, Net, VlId};
+
+pub fn message(word: &str) -> Message {
+    let (head, event) = word.split_once('/').unwrap_or(("", word));
+    let [receiver, sender, number, ..] = numbers(head);
+    let (kind, fields) = event.split_once('@').unwrap_or((event, ""));
+    let [ns, ..] = numbers(fields);
+    Message {
+        time: moment(ns),
+        receiver: short(receiver),
+        sender: long(sender),
+        number,
+        body: body(kind, fields),
+    }
+}
+
+fn body(kind: &str, fields: &str) -> Body {
+    let [_, first, second, ..] = numbers(fields);
+    let (vl, port) = (VlId(short(first)), byte(first));
+    let frame = frame(fields);
+    match kind {
+        "offer" => Body::Offer {
+            vl,
+            size: size(second),
+        },
+        "release" => Body::Release { vl },
+        "arrive" => Body::Arrive { port, frame },
+        "enqueue" => Body::Enqueue { port, frame },
+        "carry" => Body::Carry { frame },
+        _ => Body::PortFree { port },
+    }
+}
+
+// The frame behind the last colon.
+fn frame(fields: &str) -> Frame {
+    let (_, frame) = fields.rsplit_once(':').unwrap_or(("", ""));
+    let [vl, bytes, number, net, offered, released, ..] = numbers(frame);
+    Frame {
+        vl: VlId(short(vl)),
+        number: byte(number),
+        net: if net == 0 { Net::A } else { Net::B },
+        size: size(bytes),
+        offered: moment(offered),
+        released: moment(released),
+    }
+}
+
+pub fn tell_message(message: &Message, told: &mut String) -> Result<(), AllocError> {
+    let (receiver, sender, number) = (message.receiver, message.sender, message.number);
+    let ns = message.time.ns();
+    write!(told, "{receiver}.{sender}.{number}/")?;
+    match message.body {
+        Body::Release { vl } => write!(told, "release@{ns}:{} ", vl.0),
+        Body::PortFree { port } => write!(told, "free@{ns}:{port} "),
+        Body::Arrive { port, frame } => {
+            write!(told, "arrive@{ns}:{port}:")?;
+            tell_frame(&frame, told)
+        }
+        Body::Enqueue { port, frame } => {
+            write!(told, "enqueue@{ns}:{port}:")?;
+            tell_frame(&frame, told)
+        }
+        Body::Carry { frame } => {
+            write!(told, "carry@{ns}:")?;
+            tell_frame(&frame, told)
+        }
+        other => write!(told, "{other:?} "),
+    }
+}
+
+fn tell_frame(frame: &Frame, told: &mut String) -> Result<(), AllocError> {
+    let (vl, bytes, net) = (frame.vl.0, frame.size.bytes(), frame.net as u8);
+    let (offered, released) = (frame.offered.ns(), frame.released.ns());
+    write!(told, "{vl}.{bytes}.{}.{net}.{offered}.{released} ", frame.number)
+}
