@@ -2,6 +2,8 @@ mod accounts;
 mod checks;
 mod elements;
 mod messages;
+mod networks;
+mod node_rows;
 mod playing;
 mod ports;
 mod receivers;
