@@ -24,6 +24,7 @@ impl Played for Account {
 
     // The level, the cap, and the moment of the last frame.
     fn tell_state(&self, told: &mut String) -> Result<(), AllocError> {
-        write!(told, " ({}/{}@{})", self.level(), self.cap(), self.last().ns())
+        let (level, cap, ns) = (self.level(), self.cap(), self.last().ns());
+        write!(told, " ({level}/{cap}@{ns})")
     }
 }

@@ -56,6 +56,7 @@ pub fn tell_message(message: &Message, told: &mut String) -> Result<(), AllocErr
     let ns = message.time.ns();
     write!(told, "{receiver}.{sender}.{number}/")?;
     match message.body {
+        Body::Offer { vl, size } => write!(told, "offer@{ns}:{}.{} ", vl.0, size.bytes()),
         Body::Release { vl } => write!(told, "release@{ns}:{} ", vl.0),
         Body::PortFree { port } => write!(told, "free@{ns}:{port} "),
         Body::Arrive { port, frame } => {
@@ -70,12 +71,11 @@ pub fn tell_message(message: &Message, told: &mut String) -> Result<(), AllocErr
             write!(told, "carry@{ns}:")?;
             tell_frame(&frame, told)
         }
-        other => write!(told, "{other:?} "),
     }
 }
 
 fn tell_frame(frame: &Frame, told: &mut String) -> Result<(), AllocError> {
     let (vl, bytes, net) = (frame.vl.0, frame.size.bytes(), frame.net as u8);
-    let (offered, released) = (frame.offered.ns(), frame.released.ns());
-    write!(told, "{vl}.{bytes}.{}.{net}.{offered}.{released} ", frame.number)
+    let (number, offered, released) = (frame.number, frame.offered.ns(), frame.released.ns());
+    write!(told, "{vl}.{bytes}.{number}.{net}.{offered}.{released} ")
 }

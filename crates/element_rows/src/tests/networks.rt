@@ -64,6 +64,24 @@ mbit = 100
 propagation_ns = 100
 "#;
 
+// A virtual link of high priority beside it, whose offers are drawn.
+const SECOND_VL: &str = r#"b = []
+[[vl]]
+id = 54
+bag_ms = 1
+smax = 64
+priority = "high"
+policing_jitter_ns = 0
+skew_max_ns = 1000000
+depth = 16
+size = 64
+offset_ns = 0
+period_ns = 1000000
+jitter_ns = 1000
+a = [["ES1", "SW1", "ES2"]]
+b = []
+"#;
+
 const OUTAGE: &str = r#"[[outage]]
 from = "ES1"
 to = "SW1"
@@ -82,6 +100,7 @@ to_ns = 5760
 pub fn text_of(alloc: Global, network: &str) -> Result<String, AllocError> {
     let (part, by) = match network {
         "two" => ("b = []\n", SECOND_NETWORK),
+        "mixed" => ("b = []\n", SECOND_VL),
         "short" => ("until_ns = 2000000", "until_ns = 6000"),
         "narrow" => ("port_bytes = 65536", "port_bytes = 1518"),
         "shallow" => ("depth = 16", "depth = 1"),

@@ -10,11 +10,15 @@ use reverse::{Actor, Sends};
 use std::alloc::{AllocError, Global};
 use std::fmt::Write;
 use std::test::Fail;
+use traffic::offers;
 use vlink::{Message, Note, VlId};
 
 // A network, the number of a process, and the messages that it is given, of which it does not see receiver, sender and number. Then what
 // each message makes it send and note; then the number of its next message with its regulator of virtual link 1 and its ports 0 and 1, as
 // far as it has them, now and as they are when the messages are undone, one after another. A process that the network has not is none.
+//
+// In place of a process, the offers of the network: the first words of PCG for the state 42 and the stream 54, 2707161783 and 2068313097,
+// leave 326 and 851 modulo 1001.
 const ROWS: &str = "\
 one 0, offer@0:1.64 => 3.0.0/carry@5760:1.64.0.0.0.0 0.0.1/free@6720:0 ; | #2 (1 Some(0)) (busy 0) #0 (0 None) (idle 0)
 short 0, offer@0:1.64 => 3.0.0/carry@5760:1.64.0.0.0.0 ; | #1 (1 Some(0)) (busy 0) #0 (0 None) (idle 0)
@@ -28,6 +32,8 @@ one 3, carry@5760:1.64 => 2.3.0/arrive@5860:0:1.64.0.0.0.0 ; | #1 #0
 outage 3, carry@5760:1.64 => lost 1 Outage 64 ; | #0 #0
 outage_before 3, carry@5760:1.64 => 2.3.0/arrive@5860:0:1.64.0.0.0.0 ; | #1 #0
 narrow 2, enqueue@0:1:1.1518 enqueue@1:1:1.1518 enqueue@2:1:1.64 free@123040:1 => 5.2.0/carry@122080:1.1518.0.0.0.0 2.2.1/free@123040:1 ; ; lost 1 PortFull 64 ; 5.2.2/carry@245120:1.1518.0.0.0.0 2.2.3/free@246080:1 ; | #4 (idle 0) (busy 0) #2 (idle 0) (busy 1518) #2 (idle 0) (busy 1518) #2 (idle 0) (busy 0) #0 (idle 0) (idle 0)
+mixed 2, enqueue@0:1:1.1518 enqueue@10:1:1.64 enqueue@20:1:54.64 free@123040:1 free@129760:1 => 5.2.0/carry@122080:1.1518.0.0.0.0 2.2.1/free@123040:1 ; ; ; 5.2.2/carry@128800:54.64.0.0.0.0 2.2.3/free@129760:1 ; 5.2.4/carry@135520:1.64.0.0.0.0 2.2.5/free@136480:1 ; | #6 (idle 0) (busy 0) #4 (idle 0) (busy 64) #2 (idle 0) (busy 128) #2 (idle 0) (busy 64) #2 (idle 0) (busy 0) #0 (idle 0) (idle 0)
+mixed offers, => 0.4097.0/offer@0:1.64 0.4150.0/offer@326:54.64 0.4150.1/offer@1000851:54.64 ;
 shallow 0, offer@0:1.64 offer@10:1.64 offer@20:1.64 free@6720:0 release@1000000:1 => 3.0.0/carry@5760:1.64.0.0.0.0 0.0.1/free@6720:0 ; 0.0.2/release@1000000:1 ; lost 1 QueueFull 64 ; ; 3.0.3/carry@1005760:1.64.1.0.10.1000000 0.0.4/free@1006720:0 ; | #5 (2 Some(1000000)) (busy 0) #3 (1 Some(0)) (idle 0) #3 (1 Some(0)) (busy 0) #3 (1 Some(0)) (busy 0) #2 (1 Some(0)) (busy 0) #0 (0 None) (idle 0)
 one 1, offer@0:1.64 => lost 1 Unknown 64 ; | #0 (idle 0) #0 (idle 0)
 one 0, arrive@27720:0:1.64 => lost 1 Unknown 64 ; | #0 (0 None) (idle 0) #0 (0 None) (idle 0)
@@ -113,19 +119,30 @@ fn nodes_send_note_and_undo_as_the_rows_tell(rt: HostRuntime) -> Result<(), Fail
 fn tells(alloc: Global, process: &str, script: &str) -> Result<String, AllocError> {
     let (network, number) = process.split_once(' ').unwrap_or((process, ""));
     let text = text_of(alloc, network)?;
-    let [number, ..] = numbers(number);
     match read(alloc, &text) {
-        Ok(network) => of_process(alloc, &network, short(number), script),
+        Ok(network) if number == "offers" => of_offers(alloc, &network),
+        Ok(network) => of_process(alloc, &network, number, script),
         Err(_) => Err(AllocError),
     }
+}
+
+fn of_offers(alloc: Global, network: &Network) -> Result<String, AllocError> {
+    let mut told = String::new(alloc);
+    for offer in offers(alloc, network)?.as_slice() {
+        tell_message(offer, &mut told)?;
+    }
+    told.push_str(";")?;
+    Ok(told)
 }
 
 fn of_process(
     alloc: Global,
     network: &Network,
-    number: u16,
+    number: &str,
     script: &str,
 ) -> Result<String, AllocError> {
+    let [number, ..] = numbers(number);
+    let number = short(number);
     if usize::from(number) >= network.process_count() {
         return String::from_str(alloc, "none");
     }

@@ -3,7 +3,6 @@ ghost use Rattle.std.specs.Prelude.{◌≡◌, IsTrue};
 
 use reverse::Reversible;
 use std::alloc::{AllocError, Global};
-use std::fmt::Write;
 
 // What rows tell of.
 pub trait Played: Reversible {
@@ -21,11 +20,7 @@ pub trait Played: Reversible {
 
 // The answers to the events that these words say; then the state that they lead to; then, as they are undone, the newest first, the state
 // that undoing each leads to.
-pub fn play<P: Played>(
-    played: &mut P,
-    words: &[&str],
-    told: &mut String,
-) -> Result<(), AllocError>
+pub fn play<P: Played>(played: &mut P, words: &[&str], told: &mut String) -> Result<(), AllocError>
 where
     P::Event: Drop,
     ensures back { played.new ≡ played.old }

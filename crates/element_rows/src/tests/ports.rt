@@ -33,7 +33,8 @@ impl Played for Port {
     fn tell_answer(answer: &PortAnswer, told: &mut String) -> Result<(), AllocError> {
         match *answer {
             PortAnswer::Started(frame) => {
-                write!(told, "Started {} for {} ", frame.number, busy_ns(frame.size, 80))
+                let (number, busy) = (frame.number, busy_ns(frame.size, 80));
+                write!(told, "Started {number} for {busy} ")
             }
             other => write!(told, "{other:?} "),
         }
