@@ -1,15 +1,3 @@
-pub mod Counting
-pub mod Turning
-pub mod Loading
-pub mod Errors
 pub mod NetworkLemmas
-pub mod Waits
 pub mod StatesLemmas
 pub mod RowLemmas
-pub mod Keys
-pub mod Naming
-pub mod Parts
-pub mod Lanes
-pub mod Holding
-pub mod Recording
-pub mod Queues

@@ -16,7 +16,7 @@ use Rattle.nodes.specs.NodeSending.{sends-near, wiring-stays}
 use Rattle.nodes.specs.Opening.{opening}
 use Rattle.nodes.specs.Simulation.{simulation_of}
 use Rattle.nodes.proofs.OpeningLaws.{opening-placed, opening-wired}
-use Rattle.seqsim.specs.Running.{AreInStates, IsLaidOut, Opens}
+use Rattle.actor_run.specs.Running.{AreInStates, IsLaidOut, Opens}
 use Rattle.seqsim.specs.Networks.{setting_of}
 
 -- the processes of the network open its simulation, from its offers on

@@ -10,7 +10,7 @@ use Rattle.virtual_time.specs.OneThread.{one}
 use Rattle.virtual_time.proofs.Turns.{over-same}
 use Rattle.netdesc.specs.Plan.{Plan}
 use Rattle.nodes.specs.Simulation.{simulation_of}
-use Rattle.seqsim.specs.Running.{seen_row}
+use Rattle.actor_run.specs.Running.{seen_row}
 use Rattle.seqsim.specs.Networks.{AreRowsOf}
 
 -- rows as the law of virtual time sees them tell the rows

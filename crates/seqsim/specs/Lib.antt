@@ -1,8 +1,2 @@
-pub mod Running
-pub mod Load
+pub use Rattle.actor_run.specs.Running
 pub mod Networks
-pub mod Tops
-pub mod Keys
-pub mod Held
-pub mod Recording
-pub mod Queues

@@ -8,7 +8,7 @@ use Rattle.traffic.specs.Offers.{offers_of}
 use Rattle.nodes.specs.Node.{NodeState}
 use Rattle.nodes.specs.Opening.{opening}
 use Rattle.nodes.specs.Simulation.{simulation_of}
-use Rattle.seqsim.specs.Running.{Setting, seen_row}
+use Rattle.actor_run.specs.Running.{Setting, seen_row}
 
 -- what a network simulates, but for the rules of its nodes and lines
 abbrev pub setting_of : Plan → Setting NodeState

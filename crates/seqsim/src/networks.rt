@@ -2,7 +2,7 @@
 ghost use Rattle.virtual_time.specs.Simulation.{Laws};
 ghost use Rattle.nodes.specs.Simulation.{simulation_of};
 
-use crate::laws::actor_laws;
+use actor_run::actor_laws;
 use netdesc::Network;
 use nodes::{Node, NodeRecord};
 use reverse::actor_rules;

@@ -4,13 +4,12 @@ ghost use Rattle.netdesc.specs.Faults.{process_count};
 ghost use Rattle.nodes.specs.Opening.{opening};
 ghost use Rattle.nodes.specs.Simulation.{simulation_of};
 ghost use Rattle.trace_tables.specs.Tables.{tables_of};
-ghost use Rattle.seqsim.specs.declared.fault.SimFault.TheVariants.{Exhausted};
-ghost use Rattle.seqsim.specs.Running.{AreInStates, IsExhaustedAt};
+ghost use Rattle.actor_run.specs.declared.fault.SimFault.TheVariants.{Exhausted};
+ghost use Rattle.actor_run.specs.Running.{AreInStates, IsExhaustedAt};
 ghost use Rattle.seqsim.specs.Networks.{AreRowsOf};
 
-use crate::fault::SimFault;
 use crate::networks::network_laws;
-use crate::running::run_actors;
+use actor_run::{SimFault, run_actors};
 use netdesc::Network;
 use nodes::Node;
 use std::alloc::{AllocError, Global};

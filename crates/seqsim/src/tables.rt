@@ -3,16 +3,14 @@ ghost use Rattle.std.specs.Prelude.{◌≡◌, ℕ, [], List, Err, IfOk};
 ghost use Rattle.vlink.specs.declared.note.Row.{Row as Noted};
 ghost use Rattle.nodes.specs.Simulation.{simulation_of};
 ghost use Rattle.trace_tables.specs.Tables.{tables_of};
-ghost use Rattle.seqsim.specs.declared.fault.SimFault.TheVariants.{Exhausted};
-ghost use Rattle.seqsim.specs.Running.{StandsAt, IsExhaustedAt};
+ghost use Rattle.actor_run.specs.declared.fault.SimFault.TheVariants.{Exhausted};
+ghost use Rattle.actor_run.specs.Running.{StandsAt, IsExhaustedAt};
 ghost use Rattle.seqsim.specs.Networks.{AreRowsOf};
 
-use crate::fault::SimFault;
+use crate::counted::Counted;
 use crate::networks::network_laws;
-use crate::recorder::Recorder;
-use crate::running::take_all_turns;
 use crate::simulating::nodes_of;
-use crate::waiting::Waiting;
+use actor_run::{SimFault, Waiting, take_all_turns};
 use netdesc::Network;
 use nodes::Node;
 use std::alloc::Global;
@@ -31,9 +29,9 @@ fn count_all_turns(
     ensures exhausted { result ≡ Err Exhausted → (n : ℕ) × IsExhaustedAt (simulation_of network.now) n }
 {
     network_laws(network);
-    let mut recorder = Recorder::counting(alloc, network)?;
-    take_all_turns(nodes, waiting, &mut recorder)?;
-    Ok(recorder.into_tables(network)?)
+    let mut counted = Counted::none(alloc, network)?;
+    take_all_turns(nodes, waiting, &mut counted)?;
+    Ok(counted.into_tables()?)
 }
 
 /// What is left of a run once its tables are made: of no more use, and many pieces, which take time to give back.

@@ -1,11 +1,4 @@
 pub mod CommittedRows
-pub mod Finishing
 pub mod Counts
 pub mod Beginnings
-pub mod Holding
-pub mod Acting
-pub mod Exchanging
-pub mod Answering
-pub mod Opening
-pub mod Reading
 pub mod NetworkWorlds

@@ -14,14 +14,14 @@ use Rattle.nodes.specs.NodeUndoing.{IsNodeValue}
 use Rattle.nodes.specs.Opening.{opening}
 use Rattle.nodes.specs.Placed.{IsPlaced}
 use Rattle.nodes.specs.Simulation.{simulation_of}
-use Rattle.seqsim.specs.Running.{IsLaidOut}
+use Rattle.actor_run.specs.Running.{IsLaidOut}
 use Rattle.seqsim.specs.Networks.{setting_of}
-use Rattle.timewarp.specs.declared.done.Done.{Done}
-use Rattle.timewarp.specs.declared.done.Done.TheVariants.{Did}
-use Rattle.timewarp.specs.declared.fault.StepFault.{StepFault}
-use Rattle.timewarp.specs.Worlds.{Held, StandsForWorld, HoldsTheSame, AtEachWorld}
+use Rattle.actor_world.specs.declared.done.Done.{Done}
+use Rattle.actor_world.specs.declared.done.Done.TheVariants.{Did}
+use Rattle.actor_world.specs.declared.fault.StepFault.{StepFault}
+use Rattle.actor_world.specs.Worlds.{Held, StandsForWorld, HoldsTheSame, AtEachWorld}
 use Rattle.timewarp.specs.Networks.{NetworkWorld, after, IsAfter}
-use Rattle.timewarp.proofs.Answering.{stands-same}
+use Rattle.actor_world.proofs.Answering.{stands-same}
 
 -- the network with this plan, of which this is held
 abbrev pub world : Plan → Held NodeState NodeRecord → NetworkWorld

@@ -1,7 +1,5 @@
-pub mod Faults
-pub mod Steps
-pub mod Worlds
-pub mod Stepping
+pub use Rattle.actor_world.specs.Steps
+pub use Rattle.actor_world.specs.Worlds
 pub mod Replaying
 pub mod Networks
 pub mod Replayed

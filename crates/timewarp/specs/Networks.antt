@@ -11,8 +11,8 @@ use Rattle.nodes.specs.Node.{NodeState}
 use Rattle.nodes.specs.NodeUndoing.{IsNodeValue}
 use Rattle.nodes.specs.Opening.{opening}
 use Rattle.nodes.specs.Simulation.{simulation_of}
-use Rattle.seqsim.specs.Running.{seen_row}
-use Rattle.timewarp.specs.Worlds.{Held, StandsForWorld}
+use Rattle.actor_run.specs.Running.{seen_row}
+use Rattle.actor_world.specs.Worlds.{Held, StandsForWorld}
 
 -- a network, and what is held of a world of it
 pub record NetworkWorld : Type 0 where

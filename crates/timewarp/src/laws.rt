@@ -8,7 +8,7 @@ ghost use Rattle.virtual_time.specs.World.{Step};
 ghost use Rattle.virtual_time.specs.Safe.{Safe, history, CountLaw, IsFinished, IsWhole};
 ghost use Rattle.nodes.specs.Placed.{IsPlaced};
 ghost use Rattle.nodes.specs.Simulation.{simulation_of};
-ghost use Rattle.seqsim.specs.Running.{IsLaidOut};
+ghost use Rattle.actor_run.specs.Running.{IsLaidOut};
 ghost use Rattle.seqsim.specs.Networks.{setting_of};
 ghost use Rattle.timewarp.specs.Networks.{after};
 

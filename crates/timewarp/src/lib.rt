@@ -1,28 +1,16 @@
-//! The world of a Time Warp run: all processes with their mail, their floors and GVT, and the six steps, done in any order.
-//! First of any actors, then of a network, with the replay of journals.
+//! The world of a Time Warp run of a network: all processes with their mail, their floors and GVT, and the six steps, done in any order;
+//! and the replay of journals.
 #![tactic(auto)]
 
-mod actor_steps;
-mod actors;
 mod counting;
-mod done;
-mod fault;
 mod journal;
 mod laws;
 mod tables;
 mod world;
 
+pub use actor_world::{Done, StepFault};
 pub use counting::Replay;
-pub use done::Done;
-pub use fault::StepFault;
 pub use journal::replay;
 pub use laws::world_laws;
 pub use vlink::Step;
 pub use world::World;
-
-#[cfg(test)]
-mod replay_tests;
-#[cfg(test)]
-mod test_networks;
-#[cfg(test)]
-mod world_tests;

@@ -6,12 +6,12 @@ ghost use Rattle.virtual_time.specs.Safe.{IsFinished};
 ghost use Rattle.nodes.specs.Simulation.{simulation_of};
 ghost use Rattle.trace_tables.specs.Tables.{tables_of};
 ghost use Rattle.seqsim.specs.Networks.{AreRowsOf};
-ghost use Rattle.timewarp.specs.declared.fault.StepFault.TheVariants.{OutOfMemory};
+ghost use Rattle.actor_world.specs.declared.fault.StepFault.TheVariants.{OutOfMemory};
 ghost use Rattle.timewarp.specs.Networks.{after, IsAfter, AreCommittedRows};
 
-use crate::fault::StepFault;
 use crate::laws::{layout, world_laws};
 use crate::world::World;
+use actor_world::StepFault;
 use std::alloc::{AllocError, Global};
 use trace_tables::{Tables, TablesSoFar, tables_by_place};
 

@@ -1,6 +1,6 @@
 use Rattle.std.proofs.Common.{◌≡◌, Err}
 use Rattle.std.proofs.lemmas.Result.{err_from_is_err_and}
-use Rattle.seqsim.specs.declared.fault.SimFault.TheVariants.{Exhausted}
+use Rattle.actor_run.specs.declared.fault.SimFault.TheVariants.{Exhausted}
 use Rattle.seqsim.specs.Networks.{setting_of}
 use Rattle.seqsim.proofs.NetworkLemmas.{opened}
 use Rattle.seqsim.proofs.simulating.run.Goals as goal

@@ -7,7 +7,7 @@ use Rattle.trace_tables.specs.Tables.{TableLists, tables_of}
 use Rattle.seqsim.specs.Networks.{AreRowsOf, setting_of}
 use Rattle.seqsim.proofs.NetworkLemmas.{opened}
 use Rattle.seqsim.proofs.RowLemmas.{same-rows}
-use Rattle.seqsim.proofs.Turning.{started}
+use Rattle.actor_run.proofs.Turning.{started}
 use Rattle.seqsim.proofs.tables.run_tables_with_remains.Goals as goal
 
 pub count_all_turns-requires : goal.count_all_turns-requires

@@ -4,11 +4,11 @@ use Rattle.std.proofs.lemmas.Bool.{false≢true, false_from_ne_true}
 use Rattle.nodes.specs.Simulation.{simulation_of}
 use Rattle.netdesc.specs.Plan.{Plan}
 use Rattle.timewarp.specs.declared.counting.Replay.{Replay}
-use Rattle.timewarp.specs.declared.done.Done.TheVariants.{Did, NotEnabled}
-use Rattle.timewarp.specs.declared.fault.StepFault.{StepFault}
-use Rattle.timewarp.specs.Steps.{step_of, names_none}
+use Rattle.actor_world.specs.declared.done.Done.TheVariants.{Did, NotEnabled}
+use Rattle.actor_world.specs.declared.fault.StepFault.{StepFault}
+use Rattle.actor_world.specs.Steps.{step_of, names_none}
 use Rattle.timewarp.specs.Networks.{after}
-use Rattle.timewarp.proofs.Answering.{step-not}
+use Rattle.actor_world.proofs.Answering.{step-not}
 use Rattle.timewarp.proofs.Counts.{replayed, unknown-not-enabled}
 use Rattle.timewarp.proofs.NetworkWorlds.{stepped-same}
 use Rattle.timewarp.proofs.counting.Replay.do_step.Goals as goal

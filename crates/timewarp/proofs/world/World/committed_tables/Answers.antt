@@ -10,10 +10,10 @@ use Rattle.nodes.specs.Placed.{IsPlaced}
 use Rattle.nodes.specs.Simulation.{simulation_of}
 use Rattle.trace_tables.specs.SoFar.{SoFarLists, IsSoFar}
 use Rattle.trace_tables.specs.Tables.{TableLists, tables_of}
-use Rattle.seqsim.specs.Running.{seen_row}
+use Rattle.actor_run.specs.Running.{seen_row}
 use Rattle.seqsim.specs.Networks.{setting_of}
-use Rattle.seqsim.proofs.Errors.{ok-weaker}
-use Rattle.timewarp.specs.Worlds.{AtEachWorld}
+use Rattle.actor_run.proofs.Errors.{ok-weaker}
+use Rattle.actor_world.specs.Worlds.{AtEachWorld}
 use Rattle.timewarp.specs.Networks.{NetworkWorld, after, IsAfter, AreCommittedRows}
 use Rattle.timewarp.proofs.CommittedRows.{AreRowsBelow, rows-none, rows-more, rows-all}
 use Rattle.timewarp.proofs.NetworkWorlds.{IsLayout}

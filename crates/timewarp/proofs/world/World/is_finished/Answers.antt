@@ -4,7 +4,7 @@ use Rattle.virtual_time.specs.World.{Step}
 use Rattle.nodes.specs.NodeUndoing.{IsNodeValue}
 use Rattle.nodes.specs.Simulation.{simulation_of}
 use Rattle.timewarp.specs.Networks.{NetworkWorld, after, IsAfter}
-use Rattle.timewarp.proofs.Finishing.{is-finished, finished-all}
+use Rattle.actor_world.proofs.Finishing.{is-finished, finished-all}
 use Rattle.timewarp.proofs.world.World.is_finished.Goals as goal
 
 -- where GVT is past the end, just a world whose events are all committed is finished

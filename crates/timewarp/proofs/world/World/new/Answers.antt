@@ -9,9 +9,9 @@ use Rattle.nodes.specs.Node.{NodeState}
 use Rattle.nodes.specs.NodeUndoing.{IsNodeValue}
 use Rattle.nodes.specs.Opening.{opening}
 use Rattle.nodes.specs.Simulation.{simulation_of}
-use Rattle.seqsim.specs.Running.{AreInStates, Opens}
+use Rattle.actor_run.specs.Running.{AreInStates, Opens}
 use Rattle.seqsim.specs.Networks.{setting_of}
-use Rattle.timewarp.specs.Worlds.{Held, StandsForWorld}
+use Rattle.actor_world.specs.Worlds.{Held, StandsForWorld}
 use Rattle.timewarp.specs.Networks.{IsAfter}
 use Rattle.timewarp.proofs.NetworkWorlds.{world}
 use Rattle.timewarp.proofs.world.World.new.Goals as goal

@@ -2,9 +2,9 @@ use Rattle.std.proofs.Common.{◌≡◌, ◌↔◌, ◌++◌, true, List, [], �
 use Rattle.virtual_time.specs.World.{Step, is_enabled}
 use Rattle.nodes.specs.Simulation.{simulation_of}
 use Rattle.seqsim.specs.Networks.{setting_of}
-use Rattle.timewarp.specs.declared.done.Done.TheVariants.{Did}
-use Rattle.timewarp.specs.Steps.{step_of}
-use Rattle.timewarp.specs.Worlds.{IsExhausted}
+use Rattle.actor_world.specs.declared.done.Done.TheVariants.{Did}
+use Rattle.actor_world.specs.Steps.{step_of}
+use Rattle.actor_world.specs.Worlds.{IsExhausted}
 use Rattle.timewarp.specs.Networks.{NetworkWorld, after, IsAfter}
 use Rattle.timewarp.proofs.NetworkWorlds.{world, step-after, step-refused, step-some, step-enabled}
 use Rattle.timewarp.proofs.world.World.step.Goals as goal

@@ -1,0 +1,170 @@
+-- One turn of the one-thread run, over actors, a heap of messages and rows.
+use Rattle.std.proofs.Common.{◌≡◌, ℕ, suc, ◌<◌, ◌⊎◌, inl, inr, List, [], ◌∷◌, ◌++◌, ◌∙◌, Some, map, length, slice_get, get_or, All, false, IsPermutation, refl, sym, ap, subst, arith}
+use Rattle.std.proofs.Math.ListN.{set}
+use Rattle.std.proofs.lemmas.Bool.{cases_eq}
+use Rattle.std.proofs.lemmas.List.{get_or-set_same, get_or-set_other, length-set, map-append}
+use Rattle.std.proofs.lemmas.List.Sorted.{IsPermutation-refl}
+use Rattle.std.proofs.lemmas.Option.{slice_get-get_or, get_or_from_slice_get}
+use Rattle.vlink.specs.declared.message.Message.{Message}
+use Rattle.vlink.specs.declared.note.Note.{Note}
+use Rattle.vlink.specs.declared.note.Row.{Row as Noted}
+use Rattle.virtual_time.specs.Rules.{Rules, Row, rows_of}
+use Rattle.virtual_time.specs.Lists.{times_in, IsIn, least, without, events_at}
+use Rattle.virtual_time.specs.Simulation.{Simulation, Laws, IsReached, put}
+use Rattle.virtual_time.specs.OneThread.{OneThread, handle, one}
+use Rattle.virtual_time.proofs.Lists.{in-head, times-append}
+use Rattle.virtual_time.proofs.Least.{IsLeast, least-some}
+use Rattle.virtual_time.proofs.Reading.{least-from}
+use Rattle.virtual_time.proofs.OneThread.{right, times-without, put_same, put_other}
+use Rattle.actor_run.specs.Recording.{noted_at}
+use Rattle.actor_run.specs.Running.{Setting, simulation_of, Opens, AreInStates, AreOnTheWay, StandsAt, seen_row}
+use Rattle.actor_run.proofs.Counting.{times-permutation, taken-least}
+use Rattle.actor_run.proofs.Naming.{all-in, one-of-each}
+
+-- one actor is in a new state
+pub states-put : {S : Type 0} (processes : ℕ) (states : ℕ → S) (actors : List S) (p : ℕ) (s : S) → p < processes →
+    AreInStates processes states actors → AreInStates processes (put p s states) (set actors p s)
+states-put processes states actors p s i h =
+    record {
+      count = length-set actors p s ∙ h.count;
+      each = λ q j. go q j (cases_eq q p);
+    }
+  where
+    go : (q : ℕ) → q < processes → (q ≡ p) ⊎ (q ≡ p → ⊥) → slice_get (set actors p s) q ≡ Some (put p s states q)
+    go q j (inl e) =
+        let l : q < length (set actors p s) = let a = length-set actors p s in let b = h.count in omega arith in
+        let a : slice_get (set actors p s) q ≡ Some (get_or (set actors p s) q s) = slice_get-get_or (set actors p s) q s l in
+        let b : get_or (set actors p s) q s ≡ s = ap (λ k. get_or (set actors p s) k s) e ∙ get_or-set_same actors p s s (let c = h.count in omega arith) in
+        a ∙ (ap (λ z. Some z) b ∙ ap (λ z. Some z) (sym (put_same p q s states e)))
+    go q j (inr n) =
+        let l : q < length (set actors p s) = let a = length-set actors p s in let b = h.count in omega arith in
+        let a : slice_get (set actors p s) q ≡ Some (get_or (set actors p s) q s) = slice_get-get_or (set actors p s) q s l in
+        let b : get_or (set actors p s) q s ≡ get_or actors q s = get_or-set_other actors p q s s n in
+        let c : get_or actors q s ≡ states q = get_or_from_slice_get actors q (states q) s (h.each q j) in
+        a ∙ (ap (λ z. Some z) (b ∙ c) ∙ ap (λ z. Some z) (sym (put_other p q s states n)))
+
+pub begun : {S K : Type 0} (r : Rules Message S K Note) (x : Setting S) (actors : List S) (offers : List Message) →
+    Opens x actors offers → AreOnTheWay (simulation_of r x) actors
+unfolding one
+begun r x actors offers o = (0, o.actors_open)
+
+-- before the first event: what waits are the offers, and there is no row
+pub started : {S K : Type 0} (r : Rules Message S K Note) (x : Setting S) (actors : List S) (offers heap : List Message) (rows : List Noted) →
+    Opens x actors offers → IsPermutation offers heap → rows ≡ [] → StandsAt (simulation_of r x) 0 actors heap rows
+unfolding one
+started r x actors offers heap rows o p d =
+    record {
+      states = o.actors_open;
+      waiting = λ m. times-permutation r m offers heap p ∙ ap (times_in r m) o.offered;
+      rows_are = ap (map seen_row) d;
+    }
+
+-- the rows of one event as the law of virtual time sees them
+seen-noted : (message : Message) (notes : List Note) → map seen_row (noted_at message notes) ≡ map (λ note. record { message = message; place = message.receiver; note = note }) notes
+seen-noted message [] = refl
+seen-noted message (note ∷ notes) = ap (λ (rows : List (Row Message Note)). record { message = message; place = message.receiver; note = note } ∷ rows) (seen-noted message notes)
+
+-- so they are behind others
+pub noted-behind : (rows : List Noted) (message : Message) (notes : List Note) →
+    map seen_row (rows ++ noted_at message notes) ≡ map seen_row rows ++ map (λ note. record { message = message; place = message.receiver; note = note }) notes
+noted-behind rows message notes =
+    map-append seen_row rows (noted_at message notes) ∙ ap (λ z. map seen_row rows ++ z) (seen-noted message notes)
+
+module _ {S K : Type 0} (f : Simulation Message S K Note) (L : Laws f) (n : ℕ) (actors : List S) (heap : List Message) (rows : List Noted) (h : StandsAt f n actors heap rows) where
+  -- the least of the heap is handled next
+  pub next-least : (m : Message) → IsLeast f.rules L.order m heap → least f.rules (one f n).waiting ≡ Some m
+  next-least m l =
+      least-from f.rules L.order (one f n).waiting m
+      (record {
+        inside = let a = h.waiting m in let b = l.inside in omega arith;
+        lowest = λ x i. l.lowest x (let a = h.waiting x in omega arith);
+      })
+
+  -- an empty heap: nothing waits
+  pub over : heap ≡ [] → (one f n).waiting ≡ []
+  over e = go (one f n).waiting refl
+    where
+      go : (ws : List Message) → (one f n).waiting ≡ ws → ws ≡ []
+      go [] d = refl
+      go (w ∷ ws) d = absurd (
+          let a = h.waiting w in
+          let b = ap (times_in f.rules w) e in
+          let c = ap (times_in f.rules w) d in
+          let i = in-head f.rules L.order w ws in
+          omega arith)
+
+  module _ (m : Message) (rest : List Message) (taken : IsPermutation heap (m ∷ rest)) (first : All (λ x. f.rules.less x m ≡ false) heap) where
+    pub is_next : least f.rules (one f n).waiting ≡ Some m
+    is_next = next-least m (taken-least f.rules L.order m heap rest taken first)
+
+    -- what waits comes first there
+    least_there : IsLeast f.rules L.order m (one f n).waiting
+    least_there = least-some f.rules L.order (one f n).waiting m is_next
+
+    pub receiver_there : f.rules.receiver m < f.processes
+    receiver_there = (right f L n).waiting_here m least_there.inside
+
+    -- the receiver is in its state of the run
+    pub receiver_is : slice_get actors (f.rules.receiver m) ≡ Some ((one f n).states (f.rules.receiver m))
+    receiver_is = h.states.each (f.rules.receiver m) receiver_there
+
+    pub receiver_within : f.rules.receiver m < length actors
+    receiver_within = let a = receiver_there in let b = h.states.count in omega arith
+
+    -- the state of the receiver, and the actors when it has handled the message
+    abbrev pub now : S
+    now = (one f n).states (f.rules.receiver m)
+
+    abbrev pub after : List S
+    after = set actors (f.rules.receiver m) (f.rules.after now m)
+
+    next : one f (suc n) ≡ handle f (one f n) (Some m)
+    unfolding one
+    next = ap (handle f (one f n)) is_next
+
+    pub states_after : (later : List S) → later ≡ after → AreInStates f.processes (one f (suc n)).states later
+    states_after later e =
+        let a = states-put f.processes (one f n).states actors (f.rules.receiver m) (f.rules.after now m) receiver_there h.states in
+        let b = subst (λ (t : OneThread Message S Note). AreInStates f.processes t.states after) (sym next) a in
+        subst (AreInStates f.processes (one f (suc n)).states) (sym e) b
+
+    -- what waits then: the others and what was sent
+    waits_after : (sent more : List Message) → sent ≡ f.rules.sends now m → IsPermutation (rest ++ sent) more → (x : Message) →
+        times_in f.rules x more ≡ times_in f.rules x (one f (suc n)).waiting
+    waits_after sent more s p x =
+        let a = times-permutation f.rules x (rest ++ sent) more p in
+        let b = times-append f.rules L.order x rest sent in
+        let c = times-append f.rules L.order x (without f.rules m (one f n).waiting) (f.rules.sends now m) in
+        let k = times-without f L (one f n) (right f L n) m least_there x in
+        let g = h.waiting x in
+        let l = times-permutation f.rules x heap (m ∷ rest) taken in
+        let y = ap (times_in f.rules x) s in
+        let z = ap (λ (o : OneThread Message S Note). times_in f.rules x o.waiting) next in
+        omega arith
+
+    -- each message sent is the only one that its sender gave its number, of those that wait then
+    pub named : (sent : List Message) → sent ≡ f.rules.sends now m →
+        All (λ y. All (λ x. f.rules.sender x ≡ f.rules.sender y → f.rules.number x ≡ f.rules.number y → x ≡ y) (rest ++ sent)) sent
+    named sent s =
+        all-in f.rules L.order (λ y. All (λ x. f.rules.sender x ≡ f.rules.sender y → f.rules.number x ≡ f.rules.number y → x ≡ y) (rest ++ sent)) sent (λ y j.
+        let p = f.rules.receiver m in
+        let there : IsReached f p now = (events_at f.rules p (one f n).handled, (right f L n).states_are p) in
+        let from : f.rules.sender y ≡ p = L.sender_is p receiver_there now there m y (subst (IsIn f.rules y) s j) in
+        let all = waits_after sent (rest ++ sent) s (IsPermutation-refl (rest ++ sent)) in
+        let b = times-append f.rules L.order y rest sent in
+        let waits : IsIn f.rules y (one f (suc n)).waiting = let a = all y in omega arith in
+        all-in f.rules L.order (λ x. f.rules.sender x ≡ f.rules.sender y → f.rules.number x ≡ f.rules.number y → x ≡ y) (rest ++ sent) (λ x i d e.
+        one-of-each f L (suc n) p receiver_there x y (d ∙ from) from e (let a = all x in omega arith) waits))
+
+    -- the first message was handled, what was sent waits and what was noted is in the rows: that is one turn
+    pub turned : (later : List S) (sent : List Message) (noted : List Note) (more : List Message) (rows' : List Noted) →
+        later ≡ after → sent ≡ f.rules.sends now m → noted ≡ f.rules.notes now m →
+        IsPermutation (rest ++ sent) more → map seen_row rows' ≡ map seen_row rows ++ rows_of f.rules m noted → StandsAt f (suc n) later more rows'
+    turned later sent noted more rows' d s t p e =
+        record {
+          states = states_after later d;
+          waiting = waits_after sent more s p;
+          rows_are =
+              e ∙ (ap (λ z. map seen_row rows ++ rows_of f.rules m z) t
+              ∙ (ap (λ z. z ++ rows_of f.rules m (f.rules.notes now m)) h.rows_are ∙ ap (λ (o : OneThread Message S Note). o.rows) (sym next)));
+        }

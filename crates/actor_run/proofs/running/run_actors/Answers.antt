@@ -1,0 +1,46 @@
+use Rattle.std.proofs.Common.{◌≡◌, refl, subst, sym, List, [], Err}
+use Rattle.reverse.specs.Rules.{rules_of}
+use Rattle.std.proofs.lemmas.Result.{err_from_is_err_and}
+use Rattle.actor_run.specs.declared.fault.SimFault.TheVariants.{Exhausted}
+use Rattle.vlink.specs.declared.note.Row.{Row as Noted}
+use Rattle.actor_run.specs.Running.{simulation_of, IsWholeRun}
+use Rattle.actor_run.proofs.Turning.{begun, started}
+use Rattle.actor_run.proofs.Errors.{after-error}
+use Rattle.actor_run.proofs.running.run_actors.Goals as goal
+
+pub take_all_turns-requires : goal.take_all_turns-requires
+take_all_turns-requires g c = (
+  [],
+  c.none-kept.ensures,
+  (
+    c.requires.0,
+    c.requires.2,
+    0,
+    started (rules_of g.A.Reversible.plain g.A.Actor.counter) c.requires.0 _ c.args.offers.now _ [] c.requires.1 c.in_ok-waiting.ensures.offered refl,
+  ),
+)
+
+pub returns-in_err-waiting-clause-left : goal.returns-in_err-waiting-clause-left
+returns-in_err-waiting-clause-left g c = after-error (λ x o L. begun (rules_of g.A.Reversible.plain g.A.Actor.counter) x _ c.args.offers.now o) c.from_residual.result
+
+pub returns-in_err-take_all_turns-clause-exhausted : goal.returns-in_err-take_all_turns-clause-exhausted
+returns-in_err-take_all_turns-clause-exhausted g c = λ e x o L.
+    let p = err_from_is_err_and c.from_residual-in_err-take_all_turns.result c.from_residual-in_err-take_all_turns.ensures.1 in
+    let q : p.0 ≡ c.in_err-take_all_turns.field-0.0 = p.2 in
+    let w : c.take_all_turns.result ≡ Err c.in_err-take_all_turns.field-0.0 = c.in_err-take_all_turns.was in
+    let k : c.take_all_turns.result ≡ Err Exhausted = cc in
+    c.take_all_turns.ensures.exhausted k [] c.none-kept.ensures x L 0
+    (started (rules_of g.A.Reversible.plain g.A.Actor.counter) x _ c.args.offers.now _ [] o c.in_ok-waiting.ensures.offered refl)
+
+pub returns-in_err-take_all_turns-clause-left : goal.returns-in_err-take_all_turns-clause-left
+returns-in_err-take_all_turns-clause-left g c = after-error (λ x o L.
+    c.in_err-take_all_turns.ensures.left [] c.none-kept.ensures x L 0
+    (started (rules_of g.A.Reversible.plain g.A.Actor.counter) x _ c.args.offers.now _ [] o c.in_ok-waiting.ensures.offered refl))
+    c.from_residual-in_err-take_all_turns.result
+
+pub returns-clause-whole : goal.returns-clause-whole
+returns-clause-whole g c = λ x o L.
+    let f = simulation_of (rules_of g.A.Reversible.plain g.A.Actor.counter) x in
+    let whole = c.in_ok-take_all_turns.ensures.whole [] c.none-kept.ensures x L 0
+    (started (rules_of g.A.Reversible.plain g.A.Actor.counter) x _ c.args.offers.now _ [] o c.in_ok-waiting.ensures.offered refl) in
+    subst (λ (rows : List Noted). IsWholeRun f rows c.take_all_turns.new.actors) (sym whole.1) whole.2

@@ -1,0 +1,17 @@
+use Rattle.std.proofs.Common.{◌≡◌, ℕ, List}
+use Rattle.vlink.specs.declared.note.Row.{Row as Noted}
+use Rattle.vlink.specs.declared.time.TheConstants.{GREATEST_NS}
+use Rattle.reverse.specs.Rules.{rules_of}
+use Rattle.actor_run.specs.Load.{load}
+use Rattle.actor_run.specs.Running.{AtEach, StandsAt}
+use Rattle.actor_run.proofs.running.take_all_turns.Given as goal
+
+abbrev pub invariant-turns : goal.invariant-turns
+invariant-turns g l = record {
+  stands : (rows : List Noted) → g.R.Recorder.has_taken l.initial.recorder rows → AtEach (rules_of g.A.Reversible.plain g.A.Actor.counter) l.initial.actors l.initial.waiting rows
+      (λ f n. (k : ℕ) × (later : List Noted) × g.R.Recorder.has_taken l.recorder later × StandsAt f k l.actors l.waiting later);
+  purpose : g.R.Recorder.purpose l.recorder ≡ g.R.Recorder.purpose l.initial.recorder;
+}
+
+abbrev pub decreases-turns : goal.decreases-turns
+decreases-turns g l = load GREATEST_NS l.waiting

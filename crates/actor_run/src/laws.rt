@@ -1,0 +1,17 @@
+//! When actors meet the laws of a simulation.
+ghost use Rattle.virtual_time.specs.Simulation.{Laws};
+ghost use Rattle.reverse.specs.Rules.{rules_of};
+ghost use Rattle.actor_run.specs.Running.{Setting, simulation_of, IsLaidOut};
+
+use reverse::{Actor, actor_rules};
+
+/// Actors that know their places meet the laws of a simulation: each keeps to its own part of them, so that only the layout is left
+/// to be seen to.
+///
+/// A call does nothing: its caller learns what the clause says.
+pub fn actor_laws<A: Actor>()
+    ensures { (x : Setting A) → IsLaidOut (rules_of A.plain A.counter) A.number A.end A.is_placed x →
+        Laws (simulation_of (rules_of A.plain A.counter) x) }
+{
+    actor_rules::<A>();
+}

@@ -1,0 +1,24 @@
+//! The one-thread run of any actors: the first of all waiting messages is handled, until none waits.
+#![tactic(auto)]
+
+mod fault;
+mod held;
+mod keyed;
+mod lane;
+mod laws;
+mod listed;
+mod queue;
+mod queued;
+mod ranked;
+mod recorder;
+mod running;
+mod sent;
+mod slot;
+mod tops;
+mod waiting;
+
+pub use fault::SimFault;
+pub use laws::actor_laws;
+pub use recorder::Recorder;
+pub use running::{run_actors, take_all_turns};
+pub use waiting::Waiting;

@@ -1,0 +1,79 @@
+//! What takes the rows of a run.
+ghost use Rattle.std.specs.Prelude.{◌≡◌, ◌++◌, ◌∷◌, [], List, OnOk};
+ghost use Rattle.vlink.specs.declared.note.Row.{Row as Noted};
+ghost use Rattle.actor_run.specs.Recording.{noted_at};
+
+use std::alloc::{AllocError, Global};
+use vlink::{Message, Note, Row};
+
+/// Takes the rows of a run, one behind another: keeps them, or counts each and forgets it.
+pub trait Recorder {
+    /// What the rows are taken for, as the network in whose tables they are counted.
+    type Purpose;
+
+    /// These rows were taken, and no others.
+    ghost has_taken: { Self → List Noted → Type 0 };
+
+    /// What they are taken for.
+    ghost purpose: { Self → Self.Purpose };
+
+    /// Takes a row: that of this note, of the event of this message at its receiver. It fails only where memory is refused.
+    fn take(&mut self, message: &Message, note: &Note) -> Result<(), AllocError>
+        requires { (rows : List Noted) × has_taken self.old rows }
+        ensures taken { OnOk result ((rows : List Noted) → has_taken self.old rows →
+            has_taken self.new (rows ++ record { message = message.now; place = message.now.receiver; note = note.now } ∷ [])) }
+        ensures purpose { OnOk result (purpose self.new ≡ purpose self.old) };
+}
+
+/// Takes a row for each note that the event of this message gave. Most events give none.
+#[inline(always)]
+pub(crate) fn record<R: Recorder>(
+    recorder: &mut R,
+    message: &Message,
+    notes: &[Note],
+) -> Result<(), AllocError>
+    requires { (rows : List Noted) × R.has_taken recorder.old rows }
+    ensures taken { OnOk result ((rows : List Noted) → R.has_taken recorder.old rows → R.has_taken recorder.new (rows ++ noted_at message.now notes.now)) }
+    ensures purpose { OnOk result (R.purpose recorder.new ≡ R.purpose recorder.old) }
+{
+    for note in notes {
+        recorder.take(message, note)?;
+    }
+    Ok(())
+}
+
+/// Keeps the rows.
+#[derive(Drop)]
+pub(crate) struct Kept {
+    pub(crate) rows: Vec<Row>,
+}
+
+impl Kept {
+    /// No row yet.
+    pub(crate) fn none(alloc: Global) -> Self
+        ensures { result.rows.items ≡ [] }
+    {
+        Kept {
+            rows: Vec::new(alloc),
+        }
+    }
+}
+
+impl Recorder for Kept {
+    type Purpose = ();
+
+    ghost has_taken = { λ kept rows. kept.rows.items ≡ rows };
+
+    ghost purpose = { λ kept. tt };
+
+    /// It stays a call, so that the message is kept whole in memory: in the loop of the run its fields would be copied one by one.
+    #[inline(never)]
+    fn take(&mut self, message: &Message, note: &Note) -> Result<(), AllocError> {
+        self.rows.push(Row {
+            message: *message,
+            place: message.receiver,
+            note: *note,
+        })?;
+        Ok(())
+    }
+}

@@ -1,0 +1,137 @@
+//! The run: one message after another.
+ghost use Rattle.std.specs.Prelude.{◌≡◌, [], List, ℕ, suc, true, false, ◌<◌, ◌≤◌, ◌+◌, ◌++◌, All, length, map, slice_get, Some, Ok, Err, OnOk, OnErr, IfOk, IfErr, IfSome, IfNone};
+ghost use Rattle.std.proofs.Math.ListN.{set};
+ghost use Rattle.vlink.specs.declared.note.Row.{Row as Noted};
+ghost use Rattle.vlink.specs.declared.time.TheConstants.{GREATEST_NS};
+ghost use Rattle.vlink.specs.Numbering.{greatest_number};
+ghost use Rattle.virtual_time.specs.Rules.{rows_of};
+ghost use Rattle.virtual_time.specs.OneThread.{one};
+ghost use Rattle.reverse.specs.Rules.{rules_of};
+ghost use Rattle.actor_run.specs.declared.fault.SimFault.TheVariants.{OutOfMemory, Exhausted};
+ghost use Rattle.actor_run.specs.Running.{StandsAt, IsExhaustedAt, IsRunning, AtEach, IsWholeRun, AreOnTheWay, CanRun, OfEach};
+ghost use Rattle.actor_run.specs.Load.{load};
+
+use crate::fault::SimFault;
+use crate::recorder::{Kept, Recorder, record};
+use crate::waiting::Waiting;
+use reverse::{Actor, Outbound, actor_rules};
+use std::alloc::Global;
+use vlink::{GREATEST_NS, Message, Row, Time};
+
+/// What an actor sends is later than its cause, and not after the greatest moment.
+///
+/// A call does nothing: its caller learns what the clauses say.
+fn in_limits<A: Actor>(actor: &A)
+    ensures placed { A.is_placed actor.now }
+    ensures end { A.end actor.now ≤ GREATEST_NS }
+{
+    let _number = actor.id();
+    let _end = actor.until();
+}
+
+/// The receiver handles the message, if it has numbers left for all that it can send: then `out` has what it sends and notes. The answer
+/// is whether it had them.
+fn act<A: Actor>(actors: &mut [A], message: &Message, out: &mut Outbound) -> bool
+    requires { message.now.receiver < length actors.old }
+    ensures messages { result ≡ true → (s : A) → slice_get actors.old message.now.receiver ≡ Some s →
+        out.new.messages ≡ (A.plain.out s message.now).messages.items }
+    ensures notes { result ≡ true → (s : A) → slice_get actors.old message.now.receiver ≡ Some s →
+        out.new.notes ≡ (A.plain.out s message.now).notes.items }
+    ensures state { result ≡ true → (s : A) → slice_get actors.old message.now.receiver ≡ Some s →
+        actors.new ≡ set actors.old message.now.receiver (A.plain.after s message.now) }
+    ensures later { result ≡ true → All (λ m. message.now.time < m.time) out.new.messages }
+    ensures in_limits { result ≡ true → All (λ m. m.time ≤ GREATEST_NS) out.new.messages }
+    ensures unchanged { result ≡ false → actors.new ≡ actors.old }
+    ensures exhausted { result ≡ false → (s : A) → slice_get actors.old message.now.receiver ≡ Some s → greatest_number < A.counter s + 24 }
+{
+    let actor = &mut actors[usize::from(message.receiver)];
+    if !actor.has_numbers() {
+        return false;
+    }
+    in_limits(actor);
+    let _kept = actor.handle(message, out);
+    true
+}
+
+/// The first waiting message, if there is one, is handled by its receiver: what it sends waits, and `recorder` takes a row of each note.
+/// `message` is room for it, and `out` for what it sends and notes. The answer is whether there was one.
+#[inline(always)]
+fn take_turn<A: Actor, R: Recorder>(
+    actors: &mut [A],
+    waiting: &mut Waiting,
+    recorder: &mut R,
+    out: &mut Outbound,
+    message: &mut Message,
+) -> Result<bool, SimFault>
+    requires { (rows : List Noted) × R.has_taken recorder.old rows × IsRunning (rules_of A.plain A.counter) actors.old waiting.old rows }
+    ensures turned { result ≡ Ok true → (rows : List Noted) → R.has_taken recorder.old rows → AtEach (rules_of A.plain A.counter) actors.old waiting.old rows
+        (λ f n. (later : List Noted) × R.has_taken recorder.new later × StandsAt f (suc n) actors.new waiting.new later) }
+    ensures smaller { result ≡ Ok true → load GREATEST_NS waiting.new < load GREATEST_NS waiting.old }
+    ensures over { result ≡ Ok false → (rows : List Noted) → R.has_taken recorder.old rows → AtEach (rules_of A.plain A.counter) actors.old waiting.old rows
+        (λ f n. R.has_taken recorder.new rows × StandsAt f n actors.new waiting.new rows × ((one f n).waiting ≡ [])) }
+    ensures purpose { OnOk result (R.purpose recorder.new ≡ R.purpose recorder.old) }
+    ensures exhausted { result ≡ Err Exhausted → (rows : List Noted) → R.has_taken recorder.old rows →
+        AtEach (rules_of A.plain A.counter) actors.old waiting.old rows IsExhaustedAt }
+    ensures left { OnErr result ((rows : List Noted) → R.has_taken recorder.old rows → AtEach (rules_of A.plain A.counter) actors.old waiting.old rows
+        (λ f n. AreOnTheWay f actors.new)) }
+{
+    if !waiting.pop(message)? {
+        return Ok(false);
+    }
+    if !act(actors, message, out) {
+        return Err(SimFault::Exhausted);
+    }
+    waiting.push_all(out.messages())?;
+    record(recorder, message, out.notes())?;
+    Ok(true)
+}
+
+/// Runs a simulation of these actors, where actor p is process p, from where it stands: the first of all waiting messages is handled by
+/// its receiver, until none waits. `recorder` takes a row for each note, in the order in which the messages are handled.
+///
+/// `OutOfMemory` comes only where a growth was refused, and `Exhausted` only where the actor whose turn it is has not enough numbers left.
+/// Either leaves the actors in the states of the run after some number of events.
+///
+/// All that one turn does becomes a part of it.
+#[inline(never)]
+pub fn take_all_turns<A: Actor, R: Recorder>(
+    actors: &mut [A],
+    waiting: &mut Waiting,
+    recorder: &mut R,
+) -> Result<(), SimFault>
+    requires { (rows : List Noted) × R.has_taken recorder.old rows × IsRunning (rules_of A.plain A.counter) actors.old waiting.old rows }
+    ensures whole { OnOk result ((rows : List Noted) → R.has_taken recorder.old rows → AtEach (rules_of A.plain A.counter) actors.old waiting.old rows
+        (λ f n. (later : List Noted) × R.has_taken recorder.new later × IsWholeRun f later actors.new)) }
+    ensures purpose { OnOk result (R.purpose recorder.new ≡ R.purpose recorder.old) }
+    ensures exhausted { result ≡ Err Exhausted → (rows : List Noted) → R.has_taken recorder.old rows →
+        AtEach (rules_of A.plain A.counter) actors.old waiting.old rows (λ f n. (k : ℕ) × IsExhaustedAt f k) }
+    ensures left { OnErr result ((rows : List Noted) → R.has_taken recorder.old rows → AtEach (rules_of A.plain A.counter) actors.old waiting.old rows
+        (λ f n. AreOnTheWay f actors.new)) }
+{
+    let mut message = Message::default();
+    let mut out = Outbound::new(0, Time::default(), 0);
+    'turns: while take_turn(actors, waiting, recorder, &mut out, &mut message)? {}
+    Ok(())
+}
+
+/// Runs the simulation of these actors, where actor p is process p, from these offers on: the first of all waiting messages is handled
+/// by its receiver, until none waits. The answer has a row for each note, in the order in which the messages were handled. The order of
+/// messages is the derived one: by time in ns, receiver, sender, number and body (profile).
+///
+/// `OutOfMemory` comes only where a growth was refused, and `Exhausted` only where the actor whose turn it is has not enough numbers left.
+/// Either leaves the actors in the states of the run after some number of events.
+pub fn run_actors<A: Actor>(
+    alloc: Global,
+    actors: &mut [A],
+    offers: &[Message],
+) -> Result<Vec<Row>, SimFault>
+    requires { CanRun (rules_of A.plain A.counter) actors.old offers.now }
+    ensures whole { IfOk result (λ rows. OfEach (rules_of A.plain A.counter) actors.old offers.now (λ f. IsWholeRun f rows.items actors.new)) }
+    ensures exhausted { result ≡ Err Exhausted → OfEach (rules_of A.plain A.counter) actors.old offers.now (λ f. (n : ℕ) × IsExhaustedAt f n) }
+    ensures left { OnErr result (OfEach (rules_of A.plain A.counter) actors.old offers.now (λ f. AreOnTheWay f actors.new)) }
+{
+    let mut waiting = Waiting::with_offers(alloc, offers, actors.len())?;
+    let mut kept = Kept::none(alloc);
+    take_all_turns(actors, &mut waiting, &mut kept)?;
+    Ok(kept.rows)
+}

@@ -1,0 +1,4 @@
+pub mod Faults
+pub mod Steps
+pub mod Worlds
+pub mod Stepping

@@ -1,0 +1,154 @@
+//! The six steps of a world of any actors.
+ghost use Rattle.std.specs.Prelude.{◌≡◌, ◌≢◌, ◌↔◌, ◌<◌, ℕ, true, false, length, Some, Ok, Err, IsTrue, OnOk, IfOk};
+ghost use Rattle.vlink.specs.declared.step.Step.TheVariants.{Gvt as NotedGvt};
+ghost use Rattle.virtual_time.specs.World.{is_enabled, step as stepped};
+ghost use Rattle.virtual_time.specs.World.Step.{Take, Arrive, Run, Post, Gvt, Commit};
+ghost use Rattle.reverse.specs.Rules.{rules_of};
+ghost use Rattle.antimessages.specs.Letters.{signed};
+ghost use Rattle.actor_world.specs.declared.done.Done.TheVariants.{Did, NotEnabled};
+ghost use Rattle.actor_world.specs.declared.fault.StepFault.TheVariants.{NoProcess, OutOfMemory, Exhausted};
+ghost use Rattle.actor_world.specs.Steps.{step_of, names_none};
+ghost use Rattle.actor_world.specs.Worlds.{StandsForWorld, HoldsTheSame, IsExhausted, AtEachWorld, IsAWorld};
+ghost use Rattle.actor_world.specs.Stepping.{IsStepped};
+
+use crate::actors::ActorWorld;
+use crate::done::Done;
+use crate::fault::StepFault;
+use gvt::{gvt_law, horizon};
+use reverse::Actor;
+use actor_run::actor_laws;
+use vlink::{Letter, Note, Step, Time};
+
+impl<R: Actor> ActorWorld<R> {
+    /// Does one step. What is held for a world is afterwards what the step makes of that world; a step that is not enabled, and one that
+    /// is refused, leave it as it was. Steps that are not enabled and Gvt take no memory.
+    pub fn step(&mut self, step: Step) -> Result<Done, StepFault>
+        requires { IsAWorld (rules_of R.plain R.counter) R.number R.end R.is_placed R.is_value self.old }
+        ensures stands { OnOk result (AtEachWorld (rules_of R.plain R.counter) R.number R.end R.is_placed R.is_value self.old
+            (λ f w. StandsForWorld f R.is_value (stepped f (step_of step) w) self.new)) }
+        ensures enabled { IfOk result (λ done. AtEachWorld (rules_of R.plain R.counter) R.number R.end R.is_placed R.is_value self.old
+            (λ f w. (done ≡ Did) ↔ (is_enabled f (step_of step) w ≡ true))) }
+        ensures unchanged { result ≢ Ok Did → HoldsTheSame self.old self.new }
+        ensures no_process { (result ≡ Err NoProcess) ↔ (names_none (length self.old.processes) step ≡ true) }
+        ensures exhausted { result ≡ Err Exhausted → AtEachWorld (rules_of R.plain R.counter) R.number R.end R.is_placed R.is_value self.old
+            (λ f w. IsExhausted f (step_of step) w) }
+        ensures memory { result ≡ Err OutOfMemory → AtEachWorld (rules_of R.plain R.counter) R.number R.end R.is_placed R.is_value self.old
+            (λ f w. is_enabled f (step_of step) w ≡ true) }
+        ensures gvt { step ≡ NotedGvt → result ≡ Ok Did }
+    {
+        if self.names_none(&step) {
+            return Err(StepFault::NoProcess);
+        }
+        match step {
+            Step::Take { process, place } => self.take(process as u16, place),
+            Step::Arrive { process } => self.arrive(process as u16),
+            Step::Run { process } => self.run(process as u16),
+            Step::Post { process } => self.post(process as u16),
+            Step::Gvt => Ok(self.set_gvt()),
+            Step::Commit { process } => self.commit(process as u16),
+        }
+    }
+
+    /// Whether the step names a process, and there is none of that number.
+    fn names_none(&self, step: &Step) -> bool
+        requires { IsAWorld (rules_of R.plain R.counter) R.number R.end R.is_placed R.is_value self.now }
+        ensures answer { result ≡ names_none (length self.now.processes) step.now }
+        ensures few { length self.now.processes < 65536 }
+    {
+        let processes = u32::from(self.floors.processes());
+        match *step {
+            Step::Take { process, .. }
+            | Step::Arrive { process }
+            | Step::Run { process }
+            | Step::Post { process }
+            | Step::Commit { process } => process >= processes,
+            Step::Gvt => false,
+        }
+    }
+
+    /// The letter number `place`, from 0, of the process's mail goes to the back of its tray, and its floor falls to the letter's time
+    /// if that is lower.
+    fn take(&mut self, process: u16, place: u32) -> Result<Done, StepFault>
+        requires world { IsAWorld (rules_of R.plain R.counter) R.number R.end R.is_placed R.is_value self.old }
+        requires there { process < length self.old.processes }
+        ensures { IsStepped (rules_of R.plain R.counter) R.number R.end R.is_placed R.is_value (Take process place) self.old self.new result }
+    {
+        let Some(letter) = self.mail.look(process, place as usize) else {
+            return Ok(Done::NotEnabled);
+        };
+        let time = time_of(&letter);
+        self.processes[usize::from(process)].deliver(letter)?;
+        let _taken = self.mail.take(process, place as usize);
+        self.floors.lower(process, time);
+        Ok(Done::Did)
+    }
+
+    /// The front letter of the process's tray is counted, with a rollback where its message becomes present or absent.
+    fn arrive(&mut self, process: u16) -> Result<Done, StepFault>
+        requires world { IsAWorld (rules_of R.plain R.counter) R.number R.end R.is_placed R.is_value self.old }
+        requires there { process < length self.old.processes }
+        ensures { IsStepped (rules_of R.plain R.counter) R.number R.end R.is_placed R.is_value (Arrive process) self.old self.new result }
+    {
+        if self.processes[usize::from(process)].tray_len() == 0 {
+            return Ok(Done::NotEnabled);
+        }
+        self.processes[usize::from(process)].arrive()?;
+        Ok(Done::Did)
+    }
+
+    /// The first unhandled message of the process is handled.
+    fn run(&mut self, process: u16) -> Result<Done, StepFault>
+        requires world { IsAWorld (rules_of R.plain R.counter) R.number R.end R.is_placed R.is_value self.old }
+        requires there { process < length self.old.processes }
+        ensures { IsStepped (rules_of R.plain R.counter) R.number R.end R.is_placed R.is_value (Run process) self.old self.new result }
+    {
+        let Some(_message) = self.processes[usize::from(process)].run_with(&mut self.out)? else {
+            return Ok(Done::NotEnabled);
+        };
+        Ok(Done::Did)
+    }
+
+    /// The process's outbox goes to the mail, and its floor is what it still has in hand.
+    fn post(&mut self, process: u16) -> Result<Done, StepFault>
+        requires world { IsAWorld (rules_of R.plain R.counter) R.number R.end R.is_placed R.is_value self.old }
+        requires there { process < length self.old.processes }
+        ensures { IsStepped (rules_of R.plain R.counter) R.number R.end R.is_placed R.is_value (Post process) self.old self.new result }
+    {
+        actor_laws::<R>();
+        self.processes[usize::from(process)].post(&mut self.mail)?;
+        let floor = self.processes[usize::from(process)].floor();
+        self.floors.set(process, floor);
+        Ok(Done::Did)
+    }
+
+    /// GVT is the least of all floors and of the times of all letters in the mail. It takes no memory.
+    fn set_gvt(&mut self) -> Done
+        requires world { IsAWorld (rules_of R.plain R.counter) R.number R.end R.is_placed R.is_value self.old }
+        ensures stepped { IsStepped (rules_of R.plain R.counter) R.number R.end R.is_placed R.is_value Gvt self.old self.new (Ok result) }
+        ensures did { result ≡ Did }
+    {
+        gvt_law::<R, R::Record, Note>();
+        self.gvt = horizon(&self.floors, &self.mail);
+        Done::Did
+    }
+
+    /// The process's oldest done event is committed, if it is earlier than GVT and its signed count is 1.
+    fn commit(&mut self, process: u16) -> Result<Done, StepFault>
+        requires world { IsAWorld (rules_of R.plain R.counter) R.number R.end R.is_placed R.is_value self.old }
+        requires there { process < length self.old.processes }
+        ensures { IsStepped (rules_of R.plain R.counter) R.number R.end R.is_placed R.is_value (Commit process) self.old self.new result }
+    {
+        let committed = fossil::commit_oldest(&mut self.processes[usize::from(process)], self.gvt)?;
+        if !committed {
+            return Ok(Done::NotEnabled);
+        }
+        Ok(Done::Did)
+    }
+}
+
+/// The time of the letter's message.
+fn time_of(letter: &Letter) -> Time
+    ensures { result ≡ (signed letter.now).message.time }
+{
+    letter.message.time
+}

@@ -1,0 +1,187 @@
+//! The world of any actors.
+ghost use Rattle.std.specs.Prelude.{◌≡◌, ◌↔◌, ◌<◌, ◌≤◌, ℕ, [], All, length, map, take, slice_get, Some, IsTrue, IsNone, IfOk, IfErr, IfSome};
+ghost use Rattle.std.specs.Option.{option_map};
+ghost use Rattle.vlink.specs.declared.time.TheConstants.{GREATEST_NS};
+ghost use Rattle.virtual_time.specs.Rules.{reached, rowed};
+ghost use Rattle.virtual_time.specs.Letters.{plus_of};
+ghost use Rattle.virtual_time.specs.Part.{undo_all};
+ghost use Rattle.virtual_time.specs.World.{start};
+ghost use Rattle.reverse.specs.Rules.{rules_of};
+ghost use Rattle.antimessages.specs.Letters.{signed};
+ghost use Rattle.antimessages.specs.Mailing.{letters_for};
+ghost use Rattle.process_queues.specs.Past.{seen_row};
+ghost use Rattle.actor_world.specs.declared.fault.StepFault.TheVariants.{OutOfMemory};
+ghost use Rattle.actor_run.specs.Running.{Setting, simulation_of, Opens, IsLaidOut};
+ghost use Rattle.actor_world.specs.Worlds.{opened_queues, StandsForWorld, AtEachWorld, IsAWorld, CanOpen};
+
+use crate::fault::StepFault;
+use antimessages::{Mail, Outbox};
+use gvt::Floors;
+use process_queues::Process;
+use reverse::{Actor, Outbound, actor_rules};
+use std::alloc::Global;
+use std::marker::Model;
+use vlink::{Letter, Message, Row, Sign, Time};
+
+/// Processes of these actors, process p in place p, with their mail, their floors and GVT.
+///
+/// Clauses see it as what is held, which stands for a world of the law of virtual time.
+#[derive(Drop)]
+pub struct ActorWorld<R: Actor> {
+    pub(crate) processes: Vec<Process<R>>,
+    pub(crate) mail: Mail,
+    pub(crate) floors: Floors,
+    pub(crate) gvt: Time,
+    /// Room for what one event sends and notes.
+    pub(crate) out: Outbound,
+}
+
+impl<R: Actor> Model for ActorWorld<R> {
+    ghost use Rattle.std.specs.Prelude.{map};
+    ghost use Rattle.actor_world.specs.Worlds.{Held};
+
+    ghost Value = { Held R R.Record };
+
+    ghost view = { λ a. record {
+      processes = map (λ process. process.queues) a.processes.items;
+      mail = a.mail;
+      floors = a.floors.floors;
+      gvt = a.gvt;
+      until = a.floors.until;
+    } };
+}
+
+impl<R: Actor + Drop> ActorWorld<R> {
+    /// The world at the start: each actor is in its opening state, the offers are in the mail, every floor is the moment after the end,
+    /// and GVT is 0. Actor p is process p. An error means that there is no memory.
+    pub fn new(
+        alloc: Global,
+        actors: Vec<R>,
+        offers: &[Message],
+        until: Time,
+    ) -> Result<Self, StepFault>
+        requires few { length actors.items < 65536 }
+        requires end { until < GREATEST_NS }
+        requires layout { CanOpen (rules_of R.plain R.counter) R.number R.end R.is_placed R.is_value actors.items offers.now until }
+        ensures opens { IfOk result (λ world. (x : Setting R) → Opens x actors.items offers.now → x.until ≡ until →
+            StandsForWorld (simulation_of (rules_of R.plain R.counter) x) R.is_value (start (simulation_of (rules_of R.plain R.counter) x)) world) }
+        ensures memory { IfErr result (λ fault. fault ≡ OutOfMemory) }
+    {
+        actor_rules::<R>();
+        let count = actors.len() as u16;
+        let letters = plus_letters(alloc, offers)?;
+        let mail = Mail::with_letters(alloc, count, &letters)?;
+        let floors = Floors::new(alloc, count, until)?;
+        let processes = processes_of(alloc, actors)?;
+        Ok(ActorWorld {
+            processes,
+            mail,
+            floors,
+            gvt: Time::default(),
+            out: Outbound::new(0, until, 0),
+        })
+    }
+
+    /// How many processes there are.
+    pub fn processes(&self) -> usize
+        ensures { result ≡ length self.now.processes }
+    {
+        self.processes.len()
+    }
+
+    /// GVT.
+    pub fn gvt(&self) -> Time
+        ensures { result ≡ self.now.gvt }
+    {
+        self.gvt
+    }
+
+    /// The letter number `place`, from 0, of the mail of process `process`: the one that the step Take would take. None where there is
+    /// none, or no such process.
+    pub fn look(&self, process: u32, place: u32) -> Option<Letter>
+        requires { IsAWorld (rules_of R.plain R.counter) R.number R.end R.is_placed R.is_value self.now }
+        ensures { option_map signed result ≡ slice_get (letters_for process self.now.mail) place }
+    {
+        if process >= u32::from(self.floors.processes()) {
+            return None;
+        }
+        self.mail.look(process as u16, place as usize)
+    }
+
+    /// Whether every done event of every process is committed.
+    pub fn all_committed(&self) -> bool
+        ensures { IsTrue result ↔ All (λ q. q.past.done ≡ []) self.now.processes }
+    {
+        for process in &self.processes {
+            if process.oldest().is_some() {
+                return false;
+            }
+        }
+        true
+    }
+
+    /// How many events of process `process` are committed.
+    pub fn committed(&self, process: u32) -> u64
+        requires { process < length self.now.processes }
+        ensures committed { IfSome (slice_get self.now.processes process) (λ q. result ≡ q.committed) }
+        ensures stands { AtEachWorld (rules_of R.plain R.counter) R.number R.end R.is_placed R.is_value self.now (λ f w. result ≡ length (w.parts process).committed) }
+    {
+        self.processes[process as usize].committed()
+    }
+
+    /// The rows of the committed events of process `process`, in their order.
+    pub fn sealed(&self, process: u32) -> &[Row]
+        requires { process < length self.now.processes }
+        ensures rows { IfSome (slice_get self.now.processes process) (λ q. map seen_row result.now ≡ take q.sealed q.past.rows) }
+        ensures stands { AtEachWorld (rules_of R.plain R.counter) R.number R.end R.is_placed R.is_value self.now
+            (λ f w. map seen_row result.now ≡ rowed f.rules (f.opening process) (w.parts process).committed) }
+    {
+        self.processes[process as usize].sealed()
+    }
+
+    /// Undoes all done events of process `process`, the newest first, each by its record, and gives the actor back; none where there is
+    /// no such process. Nothing is sent.
+    pub fn undo_all(self, process: u32) -> Option<R>
+        ensures none { IsNone result ↔ (length self.processes ≤ process) }
+        ensures undone { IfSome result (λ actor. AtEachWorld (rules_of R.plain R.counter) R.number R.end R.is_placed R.is_value self
+            (λ f w. actor ≡ undo_all f.rules (f.opening process) (w.parts process))) }
+        ensures reached { IfSome result (λ actor. AtEachWorld (rules_of R.plain R.counter) R.number R.end R.is_placed R.is_value self
+            (λ f w. actor ≡ reached f.rules (f.opening process) (w.parts process).committed)) }
+    {
+        let ActorWorld { mut processes, .. } = self;
+        if process as usize >= processes.len() {
+            return None;
+        }
+        Some(processes.swap_remove(process as usize).undo_all())
+    }
+}
+
+/// Each message as the letter that brings it, in order.
+fn plus_letters(alloc: Global, messages: &[Message]) -> Result<Outbox, StepFault>
+    ensures letters { IfOk result (λ outbox. outbox.letters ≡ map plus_of messages.now) }
+    ensures memory { IfErr result (λ fault. fault ≡ OutOfMemory) }
+{
+    let mut outbox = Outbox::new(alloc);
+    for message in messages {
+        outbox.push(Letter {
+            message: *message,
+            sign: Sign::Plus,
+        })?;
+    }
+    Ok(outbox)
+}
+
+/// A process that has done nothing for each actor, in order.
+fn processes_of<R: Actor + Drop>(
+    alloc: Global,
+    actors: Vec<R>,
+) -> Result<Vec<Process<R>>, StepFault>
+    ensures processes { IfOk result (λ processes. map (λ process. process.queues) processes.items ≡ map opened_queues actors.items) }
+    ensures memory { IfErr result (λ fault. fault ≡ OutOfMemory) }
+{
+    let mut processes = Vec::new(alloc);
+    for actor in actors {
+        processes.push(Process::new(alloc, actor))?;
+    }
+    Ok(processes)
+}

@@ -1,0 +1,54 @@
+//! The rows of a run, counted as they come.
+ghost use Rattle.std.specs.Prelude.{◌≡◌, [], List, IfOk};
+ghost use Rattle.vlink.specs.declared.note.Row.{Row as Noted};
+ghost use Rattle.trace_tables.specs.SoFar.{IsSoFar};
+ghost use Rattle.trace_tables.specs.Tables.{tables_of};
+
+use actor_run::Recorder;
+use netdesc::Network;
+use std::alloc::{AllocError, Global};
+use trace_tables::{Tables, TablesSoFar};
+use vlink::{Message, Note};
+
+/// Counts each row in the tables of a network, and forgets it.
+#[derive(Drop)]
+pub(crate) struct Counted<'a> {
+    network: &'a Network,
+    tables: TablesSoFar,
+}
+
+impl<'a> Counted<'a> {
+    /// Counts the rows in the tables of this network.
+    pub(crate) fn none(alloc: Global, network: &'a Network) -> Result<Self, AllocError>
+        ensures none { IfOk result (λ counted. IsSoFar counted.network.now counted.tables []) }
+        ensures network { IfOk result (λ counted. counted.network.now ≡ network.now) }
+    {
+        Ok(Counted {
+            network,
+            tables: TablesSoFar::none(alloc, network)?,
+        })
+    }
+
+    /// The tables of the rows. It fails only where memory is refused.
+    pub(crate) fn into_tables(self) -> Result<Tables, AllocError>
+        requires { (rows : List Noted) × IsSoFar self.network.now self.tables rows }
+        ensures { IfOk result (λ tables. (rows : List Noted) → IsSoFar self.entry.network.now self.entry.tables rows →
+            tables ≡ tables_of self.entry.network.now rows) }
+    {
+        self.tables.tables(self.network)
+    }
+}
+
+impl<'a> Recorder for Counted<'a> {
+    type Purpose = Network;
+
+    ghost has_taken = { λ counted rows. IsSoFar counted.network.now counted.tables rows };
+
+    ghost purpose = { λ counted. counted.network.now };
+
+    /// It stays a call, so that the message is kept whole in memory: in the loop of the run its fields would be copied one by one.
+    #[inline(never)]
+    fn take(&mut self, message: &Message, note: &Note) -> Result<(), AllocError> {
+        self.tables.count_note(self.network, message, note)
+    }
+}

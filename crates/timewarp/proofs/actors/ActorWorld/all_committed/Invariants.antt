@@ -1,7 +1,0 @@
-use Rattle.std.proofs.Common.{◌≡◌, ◌<◌, ℕ, [], get_or}
-use Rattle.process_queues.specs.Queues.{InHand}
-use Rattle.timewarp.proofs.actors.ActorWorld.all_committed.Given as goal
-
-abbrev pub invariant-loop-process : goal.invariant-loop-process
-invariant-loop-process g l =
-    (k : ℕ) (d : InHand g.row.R.Denot g.row.R-Record.Denot) → k < l.process-index → (get_or l.process-items k d).queues.past.done ≡ []
