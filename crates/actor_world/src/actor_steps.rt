@@ -14,9 +14,9 @@ ghost use Rattle.actor_world.specs.Stepping.{IsStepped};
 use crate::actors::ActorWorld;
 use crate::done::Done;
 use crate::fault::StepFault;
+use actor_run::actor_laws;
 use gvt::{gvt_law, horizon};
 use reverse::Actor;
-use actor_run::actor_laws;
 use vlink::{Letter, Note, Step, Time};
 
 impl<R: Actor> ActorWorld<R> {

@@ -23,8 +23,7 @@ into_tables-requires c =
 
 pub returns-clause-whole : goal.returns-clause-whole
 returns-clause-whole c =
-    let (rows, taken, (n, ended, seen, states)) = c.in_ok-take_all_turns.ensures.whole [] c.in_ok-counted.ensures.none (setting_of c.args.network.now) c.network_laws.ensures 0 c.requires in
-    (
+    let (rows, taken, (n, ended, seen, states)) = c.in_ok-take_all_turns.ensures.whole [] c.in_ok-counted.ensures.none (setting_of c.args.network.now) c.network_laws.ensures 0 c.requires in (
       rows,
       (n, ended, seen),
       c.in_ok-into_tables.ensures rows taken
