@@ -1,5 +1,5 @@
 use Rattle.std.proofs.Common.{◌≡◌, ◌∙◌, ◌++◌, [], ◌∷◌, Ok, Err, Some, ap}
-use Rattle.timewarp.specs.declared.fault.StepFault.TheVariants.{Exhausted}
+use Rattle.actor_world.specs.declared.fault.StepFault.TheVariants.{Exhausted}
 use Rattle.afdxsim.proofs.GivingUp.{exhausted_in}
 use Rattle.afdxsim.proofs.stepping.do_next.Goals as goal
 
