@@ -4,12 +4,12 @@ use Rattle.std.proofs.lemmas.Bool.{cases_lt, lt-ltb}
 use Rattle.std.proofs.lemmas.List.Elements.{filter-append}
 use Rattle.virtual_time.specs.Rules.{reached, sent, rowed}
 use Rattle.virtual_time.specs.Lists.{times_in, IsIn, IsAscending, earlier}
-use Rattle.virtual_time.specs.Letters.{pluses, minuses}
+use Rattle.virtual_time.specs.Letters.{pluses, minuses, IsNamed}
 use Rattle.virtual_time.specs.Part.{undo_all}
 use Rattle.virtual_time.specs.Simulation.{Simulation, Laws, IsReached, made}
-use Rattle.virtual_time.specs.OneThread.{one, events, NoneWaits, IsFirst, IsBelow}
+use Rattle.virtual_time.specs.OneThread.{one, events, rows_at, NoneWaits, IsFirst, IsBelow}
 use Rattle.virtual_time.specs.World.{World, Step, start, is_enabled, step, run}
-use Rattle.virtual_time.specs.Safe.{history, CountLaw, Safe, IsFinished, IsWhole}
+use Rattle.virtual_time.specs.Safe.{history, CountLaw, NothingBefore, Safe, IsFinished, IsWhole}
 use Rattle.virtual_time.proofs.Lists.{times-none, in-head, times-append, in-filter, filter-all}
 use Rattle.virtual_time.proofs.Ascending.{ascending-once}
 use Rattle.virtual_time.proofs.Letters.{named-none}
@@ -168,32 +168,68 @@ module _ {M S K N : Type 0} (f : Simulation M S K N) (L : Laws f) where
             (λ m h. lt-ltb _ _ (let a = (right f L t.0).handled_in_time m (in-filter f.rules L.order (λ x. f.rules.receiver x == p) m (one f t.0).handled h).1 in let e = d.over in omega arith)) in
             sym (append-nil (w.parts p).committed) ∙ (ap (λ z. (w.parts p).committed ++ z) (sym c) ∙ (sym b ∙ all))
 
+    committed-early : (p : ℕ) (m : M) → IsIn f.rules m (w.parts p).committed → f.rules.time m < w.gvt
+    committed-early p m h = elim (cases_lt p f.processes) [
+      | inl i ↦ (k.sound p i).committed_low m h
+      | inr i ↦ absurd (let a = ap (times_in f.rules m) (k.outside p i) in let b = times-append f.rules L.order m (w.parts p).committed (w.parts p).done in omega arith)
+    ]
+
+    nothing-before : (p : ℕ) → p < f.processes → NothingBefore f (w.floors p) (w.parts p)
+    nothing-before p i = record { tray = (k.sound p i).tray_late; outbox = (k.sound p i).outbox_late; unhandled = (k.sound p i).unhandled_late }
+
+    outbox-inside : (p : ℕ) (m : M) → IsNamed f.rules m (w.parts p).outbox → f.rules.receiver m < f.processes
+    outbox-inside p m h = elim (cases_lt p f.processes) [
+      | inl i ↦ ((k.sound p i).outbox_from m h).1
+      | inr i ↦ absurd (let a = ap (pluses f.rules m) (k.outside_outbox p i) in let b = ap (minuses f.rules m) (k.outside_outbox p i) in omega arith)
+    ]
+
+  kept : (xs : List Step) → IsKept f L (run f xs (start f))
+  kept xs = run-kept f L xs (start f) (start-kept f L)
+
+  pub ascend : (xs : List Step) (p : ℕ) → IsAscending f.rules (history f (run f xs (start f)) p)
+  ascend xs p = (world-closed (run f xs (start f)) (kept xs)).ascending p
+
+  pub committed_early : (xs : List Step) (p : ℕ) (m : M) → IsIn f.rules m ((run f xs (start f)).parts p).committed → f.rules.time m < (run f xs (start f)).gvt
+  committed_early xs = committed-early (run f xs (start f)) (kept xs)
+
+  pub floors : (xs : List Step) (p : ℕ) → p < f.processes → NothingBefore f ((run f xs (start f)).floors p) ((run f xs (start f)).parts p)
+  floors xs = nothing-before (run f xs (start f)) (kept xs)
+
+  pub gvt_low : (xs : List Step) (p : ℕ) → p < f.processes → (run f xs (start f)).gvt ≤ (run f xs (start f)).floors p
+  gvt_low xs p i = ((kept xs).sound p i).low
+
+  pub outboxes : (xs : List Step) (p : ℕ) (m : M) → IsNamed f.rules m ((run f xs (start f)).parts p).outbox → f.rules.receiver m < f.processes
+  outboxes xs = outbox-inside (run f xs (start f)) (kept xs)
+
+  pub rows : (n p : ℕ) → rows_at f p (one f n).rows ≡ rowed f.rules (f.opening p) (events f n p)
+  rows n = (right f L n).rows_are
+
   pub safe : (xs : List Step) → Safe f (run f xs (start f))
-  safe xs = kept-safe (run f xs (start f)) (run-kept f L xs (start f) (start-kept f L))
+  safe xs = kept-safe (run f xs (start f)) (kept xs)
 
   pub once : (xs : List Step) (m : M) → made f (history f (run f xs (start f))) m ≤ 1
-  once xs m = made-once f L (history f (run f xs (start f))) (run-kept f L xs (start f) (start-kept f L)).outside m
+  once xs m = made-once f L (history f (run f xs (start f))) (kept xs).outside m
 
   pub handled_once : (xs : List Step) (p : ℕ) (m : M) → times_in f.rules m (history f (run f xs (start f)) p) ≤ 1
-  handled_once xs p m = ascending-once f.rules L.order m (history f (run f xs (start f)) p) ((world-closed (run f xs (start f)) (run-kept f L xs (start f) (start-kept f L))).ascending p)
+  handled_once xs p m = ascending-once f.rules L.order m (history f (run f xs (start f)) p) (ascend xs p)
 
   pub counts : (xs : List Step) (m : M) → CountLaw f (run f xs (start f)) m
-  counts xs m = (run-kept f L xs (start f) (start-kept f L)).law m
+  counts xs m = (kept xs).law m
 
   pub rises : (xs ys : List Step) → (run f xs (start f)).gvt ≤ (run f (xs ++ ys) (start f)).gvt
   rises xs ys =
-      let a = run-rises f L ys (run f xs (start f)) (run-kept f L xs (start f) (start-kept f L)) in
+      let a = run-rises f L ys (run f xs (start f)) (kept xs) in
       subst (λ v. (run f xs (start f)).gvt ≤ v.gvt) (sym (run-append f L xs ys (start f))) a
 
   pub whole : (xs : List Step) → IsFinished f (run f xs (start f)) → IsWhole f (run f xs (start f))
-  whole xs = kept-whole (run f xs (start f)) (run-kept f L xs (start f) (start-kept f L))
+  whole xs = kept-whole (run f xs (start f)) (kept xs)
 
   -- for a moment not above GVT, as one that a worker saw before
   pub seen : (xs : List Step) (g : ℕ) → g ≤ (run f xs (start f)).gvt → (p : ℕ) → IsBelow f p g (earlier f.rules g (history f (run f xs (start f)) p))
   seen xs g h p = is_below f L g (history f (run f xs (start f))) lower p
     where
       k : IsClosed f L (run f xs (start f)).gvt (history f (run f xs (start f)))
-      k = world-closed (run f xs (start f)) (run-kept f L xs (start f) (start-kept f L))
+      k = world-closed (run f xs (start f)) (kept xs)
 
       lower : IsClosed f L g (history f (run f xs (start f)))
       lower = record { ascending = k.ascending; here = k.here; outside = k.outside; just_made = λ m i. k.just_made m (omega arith) }

@@ -1,11 +1,11 @@
--- What holds of the world after every step: the count law, and that it is safe. And what a finished world is.
+-- What holds of the world after every step: the count law, what floors bound, and that it is safe. And what a finished world is.
 use Rattle.std.specs.Prelude.{◌≡◌, ℕ, suc, ◌+◌, ◌<◌, ◌≤◌, List, [], ◌++◌, length}
 use Rattle.virtual_time.specs.Rules.{rowed}
 use Rattle.virtual_time.specs.Lists.{times_in, IsIn, earlier}
 use Rattle.virtual_time.specs.Simulation.{Simulation, made}
 use Rattle.virtual_time.specs.OneThread.{IsFirst, IsLeft, IsBelow, one, events, rows_at}
 use Rattle.virtual_time.specs.Letters.{pluses, minuses, IsNamed, IsPresent}
-use Rattle.virtual_time.specs.Part.{undo_all}
+use Rattle.virtual_time.specs.Part.{Part, undo_all}
 use Rattle.virtual_time.specs.World.{World}
 
 module _ {M S K N : Type 0} (f : Simulation M S K N) where
@@ -22,6 +22,12 @@ module _ {M S K N : Type 0} (f : Simulation M S K N) where
       let mail = w.mail (f.rules.receiver m) in
       (pluses f.rules m mine.tally + pluses f.rules m mine.tray + pluses f.rules m mail + times_in f.rules m mine.committed) + pluses f.rules m its.outbox
       ≡ (minuses f.rules m mine.tally + minuses f.rules m mine.tray + minuses f.rules m mail) + minuses f.rules m its.outbox + made f (history w) m
+
+  -- nothing that a process has in hand is earlier than g: no letter of its tray or outbox, and no present message that is not done
+  pub record NothingBefore (g : ℕ) (part : Part M S) : Type 0 where
+    pub tray : (m : M) → IsNamed f.rules m part.tray → g ≤ f.rules.time m
+    pub outbox : (m : M) → IsNamed f.rules m part.outbox → g ≤ f.rules.time m
+    pub unhandled : (m : M) → IsPresent f.rules part.tally m → times_in f.rules m part.done ≡ 0 → g ≤ f.rules.time m
 
   -- a safe world
   pub record Safe (w : World M S) : Type 0 where

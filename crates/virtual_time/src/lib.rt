@@ -3,20 +3,21 @@
 //! `specs` defines it, in this order: `Rules` (messages in their order, and what an actor does with one), `Lists` (of messages),
 //! `Simulation` (processes, offers, and the laws asked of them), `OneThread` (the run that every other is compared with), `Letters`
 //! (messages with a sign, and signed counts), `Part` (one process, which runs ahead and rolls back), `World` (processes with mail,
-//! floors and GVT, and the six steps), `Safe` (the count law; a safe and a finished world), `Own` (what a process does alone) and
-//! `Well` (what holds of it alone). In `proofs`, `Cut`, `OneThread` and `Turns` are about the one-thread run; the files named `Well..`
-//! about one process alone, `Sound..` about one process in the world, `Kept..` about the world; `Safety` has the theorem, and
-//! `Examples` small cases that are computed. `Reading`, `Rolling` and `Handling` are also for code that stands for a process.
+//! floors and GVT, and the six steps), `Safe` (the count law, what floors bound; a safe and a finished world), `Own` (what a process
+//! does alone) and `Well` (what holds of it alone). In `proofs`, `Cut`, `OneThread` and `Turns` are about the one-thread run; the files
+//! named `Well..` about one process alone, `Sound..` about one process in the world, `Kept..` about the world; `Safety` has the theorem,
+//! and `Examples` small cases that are computed. `Reading`, `Rolling` and `Handling` are also for code that stands for a process.
 #![tactic(auto)]
 
-ghost use Rattle.std.specs.Prelude.{ℕ, ◌+◌, ◌≡◌, ◌≤◌, Bool, true, false, List, ◌++◌, length};
-ghost use Rattle.virtual_time.specs.Rules.{Rules, IsOrder, reached, sent};
-ghost use Rattle.virtual_time.specs.Lists.{IsNumbered, times_in, earlier};
+ghost use Rattle.std.specs.Prelude.{ℕ, ◌+◌, ◌≡◌, ◌<◌, ◌≤◌, Bool, true, false, List, ◌++◌, length};
+ghost use Rattle.virtual_time.specs.Rules.{Rules, IsOrder, reached, sent, rowed};
+ghost use Rattle.virtual_time.specs.Lists.{IsNumbered, IsAscending, IsIn, times_in, earlier};
 ghost use Rattle.virtual_time.specs.Simulation.{Simulation, Laws, made};
-ghost use Rattle.virtual_time.specs.OneThread.{IsBelow};
+ghost use Rattle.virtual_time.specs.OneThread.{IsBelow, one, events, rows_at};
+ghost use Rattle.virtual_time.specs.Letters.{IsNamed};
 ghost use Rattle.virtual_time.specs.Part.{Part, opened, undo_all};
 ghost use Rattle.virtual_time.specs.World.{World, Step, start, step, run, is_enabled};
-ghost use Rattle.virtual_time.specs.Safe.{Safe, history, CountLaw, IsFinished, IsWhole};
+ghost use Rattle.virtual_time.specs.Safe.{Safe, history, CountLaw, NothingBefore, IsFinished, IsWhole};
 ghost use Rattle.virtual_time.specs.Own.{Act, acted, local, own};
 ghost use Rattle.virtual_time.specs.Own.Act.{Running, Emptying};
 ghost use Rattle.virtual_time.specs.Well.{IsWell, SendsKept};
@@ -38,6 +39,12 @@ ghost use Rattle.virtual_time.specs.Well.{IsWell, SendsKept};
 ///   the one-thread run before it.
 /// - `rises`: GVT never falls.
 /// - `never_undone`: the events of a process below GVT are the same after all later steps.
+/// - `ascend`: the events of a process, first the committed ones and then the done ones, ascend in the message order.
+/// - `committed_early`: each committed event is earlier than GVT.
+/// - `floors`: nothing that a process has in hand is earlier than its floor, no letter of its tray or outbox and no unhandled message.
+/// - `gvt_low`: GVT is at most the floor of each process.
+/// - `outboxes`: each letter of an outbox, of either sign, goes to a process of the simulation.
+/// - `rows`: the rows of the one-thread run are, at each process, those of its events in their order, from the opening state on.
 /// - `whole`: in a finished world the committed events and their rows, at each process, are those of the whole one-thread run.
 /// - `alone`: each process is what its own acts make of its opening state, with no look at other processes, mail or GVT.
 /// - `stays`: a step that is not enabled leaves the very same world.
@@ -53,6 +60,16 @@ pub fn headline<M, S, K, N>()
     ensures never_undone { (f : Simulation M S K N) → Laws f → (steps more : List Step) (p : ℕ) →
         earlier f.rules (run f steps (start f)).gvt (history f (run f (steps ++ more) (start f)) p)
         ≡ earlier f.rules (run f steps (start f)).gvt (history f (run f steps (start f)) p) }
+    ensures ascend { (f : Simulation M S K N) → Laws f → (steps : List Step) (p : ℕ) → IsAscending f.rules (history f (run f steps (start f)) p) }
+    ensures committed_early { (f : Simulation M S K N) → Laws f → (steps : List Step) (p : ℕ) (m : M) →
+        IsIn f.rules m ((run f steps (start f)).parts p).committed → f.rules.time m < (run f steps (start f)).gvt }
+    ensures floors { (f : Simulation M S K N) → Laws f → (steps : List Step) (p : ℕ) → p < f.processes →
+        NothingBefore f ((run f steps (start f)).floors p) ((run f steps (start f)).parts p) }
+    ensures gvt_low { (f : Simulation M S K N) → Laws f → (steps : List Step) (p : ℕ) → p < f.processes →
+        (run f steps (start f)).gvt ≤ (run f steps (start f)).floors p }
+    ensures outboxes { (f : Simulation M S K N) → Laws f → (steps : List Step) (p : ℕ) (m : M) →
+        IsNamed f.rules m ((run f steps (start f)).parts p).outbox → f.rules.receiver m < f.processes }
+    ensures rows { (f : Simulation M S K N) → Laws f → (turns p : ℕ) → rows_at f p (one f turns).rows ≡ rowed f.rules (f.opening p) (events f turns p) }
     ensures whole { (f : Simulation M S K N) → Laws f → (steps : List Step) → IsFinished f (run f steps (start f)) → IsWhole f (run f steps (start f)) }
     ensures alone { (f : Simulation M S K N) (steps : List Step) (p : ℕ) →
         (run f steps (start f)).parts p ≡ local f.rules (f.opening p) (own f p steps (start f)) (opened (f.opening p)) }

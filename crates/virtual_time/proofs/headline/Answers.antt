@@ -1,5 +1,5 @@
 use Rattle.virtual_time.proofs.headline.Goals as goal
-use Rattle.virtual_time.proofs.Safety.{once, handled_once, never_undone, safe, counts, seen, rises, whole, stays}
+use Rattle.virtual_time.proofs.Safety.{ascend, committed_early, floors, gvt_low, outboxes, rows, once, handled_once, never_undone, safe, counts, seen, rises, whole, stays}
 use Rattle.virtual_time.specs.World.{start}
 use Rattle.virtual_time.proofs.Own.{run-own}
 
@@ -32,3 +32,21 @@ returns-clause-handled_once g c f L xs p m = handled_once f L xs p m
 
 pub returns-clause-never_undone : goal.returns-clause-never_undone
 returns-clause-never_undone g c f L xs ys p = never_undone f L xs ys p
+
+pub returns-clause-ascend : goal.returns-clause-ascend
+returns-clause-ascend g c f L xs p = ascend f L xs p
+
+pub returns-clause-committed_early : goal.returns-clause-committed_early
+returns-clause-committed_early g c f L xs p m h = committed_early f L xs p m h
+
+pub returns-clause-floors : goal.returns-clause-floors
+returns-clause-floors g c f L xs p h = floors f L xs p h
+
+pub returns-clause-gvt_low : goal.returns-clause-gvt_low
+returns-clause-gvt_low g c f L xs p h = gvt_low f L xs p h
+
+pub returns-clause-outboxes : goal.returns-clause-outboxes
+returns-clause-outboxes g c f L xs p m h = outboxes f L xs p m h
+
+pub returns-clause-rows : goal.returns-clause-rows
+returns-clause-rows g c f L n p = rows f L n p
