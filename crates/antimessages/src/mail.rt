@@ -21,13 +21,15 @@ pub struct Mail {
 }
 
 impl Model for Mail {
-    ghost use Rattle.std.specs.Prelude.{List, map};
+    ghost use Rattle.std.specs.Prelude.{◌<◌, List, length, map};
     ghost use Rattle.antimessages.specs.Letters.{Store};
     ghost use Rattle.antimessages.specs.Mailing.{store_of};
 
     ghost Value = { List Store };
 
     ghost view = { λ m. map store_of m.boxes.items };
+
+    ghost invariant = { λ m. length m.boxes.items < 65536 };
 }
 
 impl Mail {
@@ -59,10 +61,10 @@ impl Mail {
     }
 
     /// How many processes there are.
-    pub fn processes(&self) -> usize
+    pub fn processes(&self) -> u16
         ensures { result ≡ length self.now }
     {
-        self.boxes.len()
+        self.boxes.len() as u16
     }
 
     /// How many letters there are for this process; 0 where there is no such process.
