@@ -1,15 +1,19 @@
 -- The floors of all processes, and the least moment of floors and mail.
-use Rattle.std.specs.Prelude.{ℕ, zero, suc, ◌+◌, min, List, get_or}
-use Rattle.virtual_time.specs.Letters.{lowest, times_of}
+use Rattle.std.specs.Prelude.{ℕ, ◌+◌, List, ◌++◌}
+use Rattle.std.specs.List.{flat_map}
+use Rattle.vlink.specs.declared.message.Message.{Message}
+use Rattle.virtual_time.specs.Letters.{Letter as Signed, lowest, times_of}
 use Rattle.antimessages.specs.Letters.{message_rules, Store}
-use Rattle.antimessages.specs.Mailing.{letters_for}
 
 -- the floor of each process, and the end time of the run, in ns
 pub record Floors : Type 0 where
   pub floors : List ℕ
   pub until : ℕ
 
--- the least of the floors and of the times of the letters in the mail, of the first n processes, or the moment after the end
-abbrev pub horizon_over : ℕ → Floors → List Store → ℕ
-horizon_over zero f mail = f.until + 1
-horizon_over (suc p) f mail = min (get_or f.floors p (f.until + 1)) (lowest (horizon_over p f mail) (times_of message_rules (letters_for p mail)))
+-- all letters in the mail, box by box
+abbrev pub all_letters : List Store → List (Signed Message)
+all_letters mail = flat_map (λ box. box.letters) mail
+
+-- the least of all floors and of the times of all letters in the mail, or the moment after the end
+abbrev pub horizon_over : Floors → List Store → ℕ
+horizon_over f mail = lowest (f.until + 1) (f.floors ++ times_of message_rules (all_letters mail))

@@ -1,5 +1,5 @@
 //! The horizon of floors and mail, and why it is GVT.
-ghost use Rattle.std.specs.Prelude.{◌≡◌, ℕ, ◌<◌, List, Some, min, length, slice_get};
+ghost use Rattle.std.specs.Prelude.{◌≡◌, ℕ, ◌+◌, ◌<◌, List, Some, min, length, slice_get};
 ghost use Rattle.vlink.specs.declared.message.Message.{Message};
 ghost use Rattle.virtual_time.specs.Letters.{lowest, times_of};
 ghost use Rattle.virtual_time.specs.Simulation.{Simulation};
@@ -12,29 +12,40 @@ use crate::floors::Floors;
 use antimessages::Mail;
 use vlink::Time;
 
-/// The least of all floors and of the times of all letters in the mail of these processes, or the moment after the end: what GVT is
-/// set to (Jefferson, "Virtual Time", ACM TOPLAS 7(3), 1985). It takes no memory.
+/// The least of all floors and of the times of all letters in the mail, or the moment after the end: what GVT is set to (Jefferson,
+/// "Virtual Time", ACM TOPLAS 7(3), 1985). There may be more boxes in the mail than floors, or fewer. It takes no memory.
 pub fn horizon(floors: &Floors, mail: &Mail) -> Time
-    ensures { result ≡ horizon_over (length floors.now.floors) floors.now mail.now }
+    ensures { result ≡ horizon_over floors.now mail.now }
 {
-    let mut horizon = floors.end();
-    for process in 0..floors.processes() {
+    let mut horizon = earliest_floor(floors);
+    for process in 0..mail.processes() {
         horizon = earliest_letter(mail, process, horizon);
-        if let Some(floor) = floors.floor(process) {
-            horizon = earlier(floor, horizon);
-        }
     }
     horizon
 }
 
-/// The horizon of floors and mail that are those of a world is what the step Gvt sets there.
+/// The horizon of floors and mail that are those of a world, a floor and a box of the mail for each process, is what the step Gvt
+/// sets there.
 pub fn gvt_law<S, K, N>()
     ensures { (f : Simulation Message S K N) → ((m : Message) → f.rules.time m ≡ m.time) → (w : World Message S) (floors : Floored) (mail : List Store) →
-        f.processes ≡ length floors.floors → f.until ≡ floors.until →
+        f.processes ≡ length floors.floors → f.processes ≡ length mail → f.until ≡ floors.until →
         ((p : ℕ) → p < f.processes → slice_get floors.floors p ≡ Some (w.floors p)) →
         ((p : ℕ) → p < f.processes → letters_for p mail ≡ w.mail p) →
-        horizon_over (length floors.floors) floors mail ≡ gvt_over f f.processes w }
+        horizon_over floors mail ≡ gvt_over f f.processes w }
 {}
+
+/// The least of all floors, or the moment after the end.
+fn earliest_floor(floors: &Floors) -> Time
+    ensures { result ≡ lowest (floors.now.until + 1) floors.now.floors }
+{
+    let mut earliest = floors.end();
+    for process in 0..floors.processes() {
+        if let Some(floor) = floors.floor(process) {
+            earliest = earlier(floor, earliest);
+        }
+    }
+    earliest
+}
 
 /// The least time of the letters for this process, or the moment where that is earlier.
 fn earliest_letter(mail: &Mail, process: u16, moment: Time) -> Time
