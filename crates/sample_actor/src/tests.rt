@@ -84,7 +84,11 @@ const HANDS: &str = "\
 fn processes_in_hand_do_what_their_lines_say(rt: HostRuntime) -> Result<(), Fail> {
     for line in HANDS.lines() {
         let (given, told) = line.split_once(" => ").expect(&rt, "an arrow");
-        assert_eq!(rt; work_once(&rt, rt.alloc(), given)?.as_str(), told, "{given}");
+        assert_eq!(rt;
+            work_once(&rt, rt.alloc(), given)?.as_str(),
+            told,
+            "{given}"
+        );
     }
     Ok(())
 }

@@ -8,11 +8,10 @@ use journal_text::read_steps;
 use netdesc::read;
 use nodes::Node;
 use std::alloc::Global;
-use std::mem::size_of;
 use std::test::Fail;
 use timewarp::{Replay, World, replay};
 use trace_tables::write_csv;
-use vlink::{Body, Letter, Sign, Step, VlId};
+use vlink::{Body, Letter, Sign, VlId};
 
 const WORDS: [&str; 3] = ["replay", "net.toml", "steps.txt"];
 
@@ -175,7 +174,6 @@ fn all_steps_at_once_come_to_the_same(rt: HostRuntime) -> Result<(), Fail> {
     for (most, told) in [(1, "too many lines"), (2, "line 2 is no step")] {
         assert!(rt; is_refused(rt.alloc(), most, told)?, "{told}");
     }
-    assert!(rt; size_of::<Step>() <= 12);
     Ok(())
 }
 

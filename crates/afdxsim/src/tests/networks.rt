@@ -8,13 +8,15 @@ const TOP: &str = "until_ns = 2000000;seed = 42;";
 const ENDS: &str = r#"[[node]];name = "ES1";kind = "es";port_bytes = 4096;
 [[node]];name = "ES2";kind = "es";port_bytes = 4096;"#;
 
-const SWITCH: &str = r#"[[node]];name = "SW1";kind = "switch";port_bytes = 65536;net = "A";latency_ns = 16000;"#;
+const SWITCH: &str =
+    r#"[[node]];name = "SW1";kind = "switch";port_bytes = 65536;net = "A";latency_ns = 16000;"#;
 
 const LINKS: &str = r#"[[link]];a = "ES1";b = "SW1";mbit = 100;propagation_ns = 100;
 [[link]];a = "SW1";b = "ES2";mbit = 100;propagation_ns = 100;"#;
 
 /// A virtual link but for its paths.
-const VL: &str = r#"[[vl]];id = 1;bag_ms = 1;smax = 64;priority = "low";policing_jitter_ns = 0;skew_max_ns = 1000000;
+const VL: &str =
+    r#"[[vl]];id = 1;bag_ms = 1;smax = 64;priority = "low";policing_jitter_ns = 0;skew_max_ns = 1000000;
 depth = 16;size = 64;offset_ns = 0;period_ns = 1000000000000;jitter_ns = 0;"#;
 
 /// The text of the network with this name.

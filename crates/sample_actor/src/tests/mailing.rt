@@ -13,7 +13,11 @@ fn process_of(rt: &impl Abort, number: u64) -> u16 {
 }
 
 pub(crate) fn post(rt: &impl Abort, stage: &mut Stage) -> Result<(), ProcFault> {
-    assert!(rt; stage.process.goes_within(stage.mail.processes()));
+    assert!(rt;
+        stage
+            .process
+            .goes_within(usize::from(stage.mail.processes()))
+    );
     stage.process.post(&mut stage.mail)
 }
 
@@ -42,7 +46,7 @@ pub(crate) fn send(
     letter.message.receiver = process_of(rt, number(rt, receiver));
     let mut outbox = Outbox::new(alloc);
     outbox.push(letter)?;
-    assert!(rt; outbox.goes_within(mail.processes()));
+    assert!(rt; outbox.goes_within(usize::from(mail.processes())));
     mail.post(&mut outbox)?;
     Ok(())
 }

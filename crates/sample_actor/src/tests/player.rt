@@ -35,7 +35,9 @@ pub(crate) fn play(rt: &impl Abort, alloc: Global, script: &str) -> Result<Strin
         play_word(rt, alloc, &mut stage, word)?;
     }
     let Stage {
-        process, mut told, ..
+        process,
+        mut told,
+        ..
     } = stage;
     let actor = process.undo_all();
     write!(told, "sum {} counter {}", actor.sum, actor.counter)?;

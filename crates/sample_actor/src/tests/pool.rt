@@ -37,8 +37,12 @@ pub(crate) fn work_once(rt: &impl Abort, alloc: Global, given: &str) -> Result<S
     let (counter, limits) = given.split_once(' ').expect(rt, "a counter");
     let first = letter(rt, "+10");
     assert!(rt; first.message.receiver < 2);
-    let (mut exchange, mut held) =
-        Exchange::first(alloc, actor(rt, number(rt, counter)), first, 2)?;
+    let (mut exchange, mut held) = Exchange::first(
+        alloc,
+        actor(rt, number(rt, counter)),
+        first,
+        2,
+    )?;
     collect_one(rt, &mut held, &mut exchange)?;
     let mut told = String::new(alloc);
     work_within(rt, &mut held, limits, &mut told)?;

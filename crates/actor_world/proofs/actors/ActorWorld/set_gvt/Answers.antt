@@ -15,4 +15,4 @@ returns-clause-stepped g c =
     (gvt-did r g.R.Actor.number g.R.Actor.end g.R.Actor.is_placed g.R.Reversible.is_value _ _ (λ x laid steps h.
     let f = simulation_of r x in
     c.horizon-self-inside.ensures
-    ∙ c.gvt_law.ensures f (λ m. refl) (run f steps (start f)) inside.floors inside.mail (sym h.floor_count) (sym h.until) h.floors h.mail))
+    ∙ c.gvt_law.ensures f (λ m. refl) (run f steps (start f)) inside.floors inside.mail (sym h.floor_count) (sym h.boxes) (sym h.until) h.floors h.mail))
