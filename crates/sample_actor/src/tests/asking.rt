@@ -1,5 +1,4 @@
 //! The words of a script that have a number for an answer, or none; and what can be seen of a process.
-use super::mailing;
 use super::player::{Stage, letter, moment, two_numbers};
 use crate::Summing;
 use gvt::horizon;
@@ -35,7 +34,6 @@ pub(crate) fn ask(
         "run" => run(&mut stage.process),
         "seal" => seal(&mut stage.process),
         "commit" => commit(rt, &mut stage.process, rest),
-        "collect" => mailing::collect(rt, stage, rest),
         _ => Ok(look(rt, stage, call, rest)),
     }
 }

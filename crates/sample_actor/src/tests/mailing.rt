@@ -4,7 +4,6 @@ use antimessages::{Mail, Outbox};
 use gvt::Floors;
 use process_queues::ProcFault;
 use std::alloc::Global;
-use std::fmt::Write;
 use std::process::Abort;
 
 // The process that this number names.
@@ -19,19 +18,6 @@ pub(crate) fn post(rt: &impl Abort, stage: &mut Stage) -> Result<(), ProcFault> 
             .goes_within(usize::from(stage.mail.processes()))
     );
     stage.process.post(&mut stage.mail)
-}
-
-pub(crate) fn collect(
-    rt: &impl Abort,
-    stage: &mut Stage,
-    rest: &str,
-) -> Result<Option<i128>, ProcFault> {
-    let (receiver, most) = two_numbers(rt, rest);
-    let receiver = process_of(rt, receiver);
-    let count = stage
-        .process
-        .collect(&mut stage.mail, receiver, most as usize)?;
-    Ok(Some(count as i128))
 }
 
 // A letter of another process is posted: its receiver, and how it is written.
@@ -57,24 +43,6 @@ pub(crate) fn take(rt: &impl Abort, stage: &mut Stage, rest: &str) -> Result<(),
         Some(letter) => tell_letter(&letter, &mut stage.told),
         None => Ok(stage.told.push_str("none ")?),
     }
-}
-
-// How many letters there are for the process, and each of them.
-pub(crate) fn tell_mail(
-    rt: &impl Abort,
-    mail: &Mail,
-    receiver: &str,
-    told: &mut String,
-) -> Result<(), ProcFault> {
-    let receiver = process_of(rt, number(rt, receiver));
-    let count = mail.count(receiver);
-    write!(told, "{count} ")?;
-    for place in 0..count {
-        if let Some(letter) = mail.look(receiver, place) {
-            tell_letter(&letter, told)?;
-        }
-    }
-    Ok(())
 }
 
 pub(crate) fn set(rt: &impl Abort, floors: &mut Floors, rest: &str) -> Result<(), ProcFault> {

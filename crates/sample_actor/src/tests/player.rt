@@ -5,7 +5,7 @@
 //! Letters are told as `+15.0`, with their number, and messages as `10@2`. The end of the run is the last moment that there is.
 ghost use Rattle.std.specs.Prelude.{◌≡◌};
 
-use super::{asking, mailing};
+use super::{asking, mailing, pool};
 use crate::Summing;
 use antimessages::Mail;
 use gvt::Floors;
@@ -62,7 +62,10 @@ fn play_word(rt: &impl Abort, alloc: Global, stage: &mut Stage, word: &str) -> R
     let Err(fault) = act(rt, alloc, stage, word) else {
         return Ok(());
     };
-    assert_eq!(rt; asking::seen(&stage.process), before, "{word} was refused");
+    assert!(rt;
+        asking::seen(&stage.process) == before,
+        "{word} was refused"
+    );
     match fault {
         ProcFault::OutOfMemory => act(rt, alloc, stage, word)?,
         ProcFault::Exhausted => stage.told.push_str("exhausted ")?,
@@ -81,10 +84,10 @@ fn act(rt: &impl Abort, alloc: Global, stage: &mut Stage, word: &str) -> Result<
         "post" => mailing::post(rt, stage),
         "send" => mailing::send(rt, alloc, &mut stage.mail, rest),
         "take" => mailing::take(rt, stage, rest),
-        "mail" => mailing::tell_mail(rt, &stage.mail, rest, &mut stage.told),
         "set" => mailing::set(rt, &mut stage.floors, rest),
         "lower" => mailing::lower(rt, &mut stage.floors, rest),
         "next" => asking::tell_next(&stage.process, &mut stage.told),
+        "hand" => pool::hand(rt, alloc, rest, &mut stage.told),
         _ if word.starts_with('+') || word.starts_with('-') => {
             deliver(rt, &mut stage.process, word)
         }

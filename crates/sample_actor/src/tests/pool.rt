@@ -1,13 +1,11 @@
-//! A process in hand and its exchange, with ample memory: a letter is collected, worked on, and what it sent is posted.
-ghost use Rattle.std.specs.Prelude.{◌≡◌, []};
-
-use super::player::{actor, letter, number, tell_letter, two_numbers};
+//! The word for a process in hand and its exchange.
+use super::player::{actor, letter, number, two_numbers};
 use crate::Summing;
+use process_queues::ProcFault;
 use std::alloc::Global;
 use std::cell::Cell;
 use std::fmt::Write;
 use std::process::Abort;
-use std::test::Fail;
 use worker_pool::{Exchange, Gate, Held, PoolFault, collect, post, work};
 
 // Counts the calls before and after a message is handled, as long as they come in turn.
@@ -31,35 +29,62 @@ impl Gate for Counted {
     }
 }
 
-// What the work answered, how many messages the gate was told of before and after they were handled, the journal, the letter in the mail of
-// process 1, and the sum and the counter of the actor once all is undone.
-pub(crate) fn work_once(rt: &impl Abort, alloc: Global, given: &str) -> Result<String, Fail> {
-    let (counter, limits) = given.split_once(' ').expect(rt, "a counter");
+// What came of one piece of work: its answer, how many messages the gate was told of before and after they were handled, and how many steps
+// the journal has once it is posted.
+#[derive(Drop)]
+struct Worked {
+    answer: Result<u64, PoolFault>,
+    before: u64,
+    after: u64,
+    steps: u64,
+}
+
+// A process in hand with this counter, turn and window works once. Want of memory is told by the caller's error.
+pub(crate) fn hand(
+    rt: &impl Abort,
+    alloc: Global,
+    rest: &str,
+    told: &mut String,
+) -> Result<(), ProcFault> {
+    let (counter, limits) = rest.split_once(':').expect(rt, "a counter");
+    let Ok(worked) = work_once(rt, alloc, number(rt, counter), limits) else {
+        return Err(ProcFault::OutOfMemory);
+    };
+    let Worked {
+        answer,
+        before,
+        after,
+        steps,
+    } = worked;
+    write!(told, "{answer:?} {before}/{after} {steps} ")?;
+    Ok(())
+}
+
+// A letter is collected, worked on, and what it sent is posted.
+fn work_once(
+    rt: &impl Abort,
+    alloc: Global,
+    counter: u64,
+    limits: &str,
+) -> Result<Worked, PoolFault> {
     let first = letter(rt, "+10");
     assert!(rt; first.message.receiver < 2);
-    let (mut exchange, mut held) = Exchange::first(
-        alloc,
-        actor(rt, number(rt, counter)),
-        first,
-        2,
-    )?;
+    let (mut exchange, mut held) = Exchange::first(alloc, actor(rt, counter), first, 2)?;
     collect_one(rt, &mut held, &mut exchange)?;
-    let mut told = String::new(alloc);
-    work_within(rt, &mut held, limits, &mut told)?;
+    let mut worked = work_within(rt, &mut held, limits)?;
     post_all(rt, &mut held, &mut exchange)?;
-    tell_exchange(&exchange, &mut told)?;
-    let actor = held.undo_all();
-    write!(told, "sum {} counter {}", actor.sum, actor.counter)?;
-    Ok(told)
+    worked.steps = exchange.steps();
+    Ok(worked)
 }
 
 fn collect_one(
     rt: &impl Abort,
     held: &mut Held<Summing>,
     exchange: &mut Exchange,
-) -> Result<(), Fail> {
+) -> Result<(), PoolFault> {
     assert!(rt; held.pending() == 0);
-    assert_eq!(rt; collect(held, exchange, 5)?, 1);
+    let count = collect(held, exchange, 5)?;
+    assert_eq!(rt; count, 1);
     Ok(())
 }
 
@@ -67,44 +92,30 @@ fn work_within(
     rt: &impl Abort,
     held: &mut Held<Summing>,
     limits: &str,
-    told: &mut String,
-) -> Result<(), Fail> {
+) -> Result<Worked, PoolFault> {
     let (turn, window) = two_numbers(rt, limits);
     let turn = u32::try_from(turn).expect(rt, "a turn");
     let gate = Counted {
         before: Cell::new(0),
         after: Cell::new(0),
     };
-    match work(held, turn, window, &gate) {
-        Ok(steps) => write!(told, "{steps} ")?,
-        Err(fault) => {
-            assert_eq!(rt; fault, PoolFault::Exhausted);
-            told.push_str("exhausted ")?;
-        }
+    let answer = work(held, turn, window, &gate);
+    if answer == Err(PoolFault::OutOfMemory) {
+        return Err(PoolFault::OutOfMemory);
     }
-    write!(told, "{}/{} ", gate.before.get(), gate.after.get())?;
-    Ok(())
+    Ok(Worked {
+        answer,
+        before: gate.before.get(),
+        after: gate.after.get(),
+        steps: 0,
+    })
 }
 
 fn post_all(
     rt: &impl Abort,
     held: &mut Held<Summing>,
     exchange: &mut Exchange,
-) -> Result<(), Fail> {
+) -> Result<(), PoolFault> {
     assert!(rt; held.goes_within(exchange.processes()));
-    post(held, exchange)?;
-    Ok(())
-}
-
-fn tell_exchange(exchange: &Exchange, told: &mut String) -> Result<(), Fail> {
-    for place in 0..exchange.steps() {
-        if let Some(step) = exchange.step_at(place) {
-            write!(told, "{step:?} ")?;
-        }
-    }
-    match exchange.look(1, 0) {
-        Some(letter) => tell_letter(&letter, told)?,
-        None => told.push_str("none ")?,
-    }
-    Ok(())
+    post(held, exchange)
 }
