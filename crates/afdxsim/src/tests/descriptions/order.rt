@@ -20,8 +20,7 @@ n1 => + 2 x [[link]];a = "ES1";b = "ES2";mbit = 100;propagation_ns = 100; => 6 D
 n3 => b = "ES2" -> b = "SW1" => id = 2 -> id = 1 => 6 DoubleName at vl 2 id
 n1 => a = "SW1";b = "ES2" -> a = "ES1";b = "ES2" => b = [] -> b = [["ES1", "SW1", "ES1"]] => 7 NotALink at link 2 b
 n1 => [["ES1", "SW1", "ES2"]] -> [] => b = [] -> b = [["ES1", "ES2", "ES1"]] => 7 NotALink at vl 1 b
-n1 => [["ES1", "SW1", "ES2"]] -> [] => + 1025 x [[outage]];from = "ES1";to = "SW1";from_ns = 0;to_ns = 1; => 8 NotATree at vl 1 a
-n1 => + 1025 x [[outage]];from = "ES1";to = "SW1";from_ns = 0;to_ns = 1; => + [[outage]];from = "ES1";to = "SW1";from_ns = 0; => 2 Missing at outage 1026 to_ns
+n1 => [["ES1", "SW1", "ES2"]] -> [] => + [[node]];name = "S";kind = "switch";port_bytes = 1518;net = "A";latency_ns = 1; => + 25 x [[node]];name = "E#";kind = "es";port_bytes = 1518;[[link]];a = "S";b = "E#";mbit = 10;propagation_ns = 1; => 8 NotATree at vl 1 a
 n1 => + 1025 x [[outage]];from = "ES1";to = "SW1";from_ns = 0;to_ns = 1; => + [[outage]];from = "ES1";to = "ES2";from_ns = 0;to_ns = 1; => 7 NotALink at outage 1026 to
 "#;
 
