@@ -1,0 +1,353 @@
+"""Tests of campaign.py. Those of the class WithTheProgram need the built program, at crates/afdxsim/out/afdxsim, where
+`rt ci` leaves it; the others have a stand-in of a few lines, which can be told to fail."""
+import contextlib
+import io
+import os
+import pty
+import signal
+import subprocess
+import sys
+import tempfile
+import time
+import tomllib
+import unittest
+
+HERE = os.path.dirname(os.path.abspath(__file__))
+sys.path.insert(0, HERE)
+
+import campaign  # noqa: E402
+import report  # noqa: E402
+from second_opinion import CAUSES, Simulation  # noqa: E402
+
+COCKPIT, SATURATED, FAILING, N1 = (
+    os.path.join(HERE, "..", "examples", name + ".toml") for name in ("cockpit", "saturated_port", "failing_link", "n1")
+)
+
+# A program that prints what the plain simulator finds, after lines of a test's own.
+STAND_IN = """#!{python}
+import os, signal, sys, time, tomllib
+sys.path.insert(0, {tools!r})
+from second_opinion import Simulation
+with open(sys.argv[2], "rb") as file:
+    net = tomllib.load(file)
+seed = net["seed"]
+if sys.argv[1] == "check":
+    sys.exit(0)
+{lines}
+simulation = Simulation(net)
+simulation.run()
+print("\\n".join(simulation.tables()))
+"""
+
+
+def read(path):
+    with open(path, encoding="utf-8") as file:
+        return file.read()
+
+
+def rows_of(path, seed=None):
+    """The notes of a network's run by the plain simulator, with names of places, and the order of its places."""
+    with open(path, "rb") as file:
+        net = tomllib.load(file)
+    simulation = Simulation(net if seed is None else net | {"seed": seed})
+    simulation.run()
+    names = simulation.names
+    sinks = [(vl, names[place]) for vl, place in sorted(simulation.sinks)]
+    return [(vl, names[place], what, value) for _, place, vl, what, value in simulation.rows], sinks, names
+
+
+def merged_by_hand(runs):
+    """The merged tables of runs, lists of pairs of a seed and its notes, from the notes alone."""
+    (_, (_, sinks, names)), *_ = runs
+    lines = ["table,vl,where,cause,count,least_ns,greatest_ns,sum_ns,seed"]
+    for vl, where in sinks:
+        found = [
+            (value, -seed)
+            for seed, (rows, _, _) in runs
+            for v, w, what, value in rows
+            if (v, w, what) == (vl, where, "delivered")
+        ]
+        values = [value for value, _ in found]
+        if values:
+            greatest, seed = max(found)
+            lines.append(f"latency,{vl},{where},,{len(values)},{min(values)},{greatest},{sum(values)},{-seed}")
+        else:
+            lines.append(f"latency,{vl},{where},,0,0,0,0,")
+    lost = {}
+    for seed, (rows, _, _) in runs:
+        for vl, where, what, _ in rows:
+            if what != "delivered":
+                counts = lost.setdefault((vl, names.index(where), CAUSES.index(what)), {})
+                counts[seed] = counts.get(seed, 0) + 1
+    for (vl, place, cause), counts in sorted(lost.items()):
+        most = max(counts, key=lambda seed: (counts[seed], -seed))
+        lines.append(f"dropped,{vl},{names[place]},{CAUSES[cause]},{sum(counts.values())},,,,{most}")
+    return "\n".join(lines) + "\n"
+
+
+class Here(unittest.TestCase):
+    """A test with a folder of its own."""
+
+    def setUp(self):
+        folder = tempfile.TemporaryDirectory()
+        self.addCleanup(folder.cleanup)
+        self.folder = folder.name
+        self.output = os.path.join(self.folder, "campaign")
+        self.merged = os.path.join(self.output, "merged.csv")
+        self.program = campaign.PROGRAM
+
+    def file(self, name, text):
+        path = os.path.join(self.folder, name)
+        with open(path, "w", encoding="utf-8") as out:
+            out.write(text)
+        return path
+
+    def call(self, *words):
+        """The status of campaign.py with these words, and what it says on standard output and on error output."""
+        out, said = io.StringIO(), io.StringIO()
+        with contextlib.redirect_stdout(out), contextlib.redirect_stderr(said):
+            status = campaign.main([*words, "--program", self.program, "-o", self.output])
+        return status, out.getvalue(), said.getvalue()
+
+
+class WithTheProgram(Here):
+    def setUp(self):
+        super().setUp()
+        if not os.path.isfile(self.program):
+            self.fail(f"there is no program at {self.program}: `rt ci` at the top builds it")
+
+    def test_one_seed_gives_the_tables_of_seq(self):
+        for path in (COCKPIT, SATURATED, FAILING, N1):
+            with self.subTest(path):
+                self.assertEqual(self.call(path, "--seeds", "1")[0], 0)
+                lines = [line.rpartition(",")[0] for line in read(self.merged).splitlines()]
+                self.assertEqual(lines, read(path.replace(".toml", ".tables.csv")).splitlines())
+
+    def test_seeds_are_merged_exactly(self):
+        """The merged tables are those that are worked out from the notes of the plain simulator, whatever --jobs is."""
+        expected = merged_by_hand([(seed, rows_of(COCKPIT, seed)) for seed in range(7, 12)])
+        for jobs in ("1", "4"):
+            self.assertEqual(self.call(COCKPIT, "--seeds", "5", "--jobs", jobs)[0], 0)
+            self.assertEqual(read(self.merged), expected)
+            self.assertEqual(os.listdir(self.output), ["merged.csv"])
+        net = report.Network(COCKPIT)
+        self.assertTrue(report.Tables(self.merged, net).merged)
+
+    def test_offsets_are_drawn_within_each_period(self):
+        words = [SATURATED, "--seeds", "4", "--first", "30", "--offsets", "--keep"]
+        self.assertEqual(self.call(*words)[0], 0)
+        runs, offsets = [], []
+        with open(SATURATED, "rb") as file:
+            given = tomllib.load(file)
+        for seed in range(30, 34):
+            path = os.path.join(self.output, f"seed-{seed}.toml")
+            with open(path, "rb") as file:
+                net = tomllib.load(file)
+            offsets += [vl["offset_ns"] for vl in net["vl"]]
+            self.assertTrue(all(0 <= vl["offset_ns"] < vl["period_ns"] for vl in net["vl"]))
+            for vl, before in zip(net["vl"], given["vl"]):
+                self.assertEqual(vl | {"offset_ns": 0}, before | {"offset_ns": 0})
+            self.assertEqual(net | {"vl": 0}, given | {"vl": 0, "seed": seed})
+            runs.append((seed, rows_of(path)))
+        self.assertEqual(len(set(offsets)), len(offsets))
+        self.assertEqual(read(self.merged), merged_by_hand(runs))
+        kept = [read(os.path.join(self.output, f"seed-{seed}.tables.csv")) for seed in range(30, 34)]
+        self.assertEqual(self.call(*words)[0], 0)
+        self.assertEqual(kept, [read(os.path.join(self.output, f"seed-{seed}.tables.csv")) for seed in range(30, 34)])
+
+    def test_a_refused_description_names_the_line(self):
+        for change, said in (
+            (("bag_ms = 1", "bag_ms = 3"), "line 32: is refused: afdxsim: description: 4 OutOfLimit at vl 1 bag_ms"),
+            (("mbit = 100", "mbit = 1000"), "line 22: is refused: afdxsim: description: 4 OutOfLimit at link 1 mbit"),
+            (("seed = 42", "seed = -1"), "line 2: is refused: afdxsim: description: 4 OutOfLimit at top seed"),
+            (
+                ('kind = "switch"', 'kind = "switch"\ncolour = 1'),
+                "line 12: is refused: afdxsim: description: 5 UnknownName at node 3",
+            ),
+            (("seed = 42", "seed = 4 2"), "line 2: is refused: afdxsim: description: 1 Syntax"),
+        ):
+            with self.subTest(said):
+                net = self.file("bad.toml", read(N1).replace(*change, 1))
+                self.assertEqual(self.call(net, "--seeds", "2"), (2, "", f"campaign.py: {net} {said}\n"))
+                self.assertFalse(os.path.exists(self.output))
+
+
+class WithAStandIn(Here):
+    def stand_in(self, lines=""):
+        self.program = self.file("afdxsim", STAND_IN.format(python=sys.executable, tools=HERE, lines=lines))
+        os.chmod(self.program, 0o755)
+
+    def test_limits(self):
+        self.stand_in()
+        runs = [(seed, rows_of(COCKPIT, seed)) for seed in range(7, 11)]
+        greatest = {}
+        for seed, (rows, _, _) in runs:
+            greatest[seed] = max(
+                value for vl, where, what, value in rows if (vl, where, what) == (102, "DU_L", "delivered")
+            )
+        worst = max(greatest, key=lambda seed: (greatest[seed], -seed))
+        self.assertNotEqual(worst, 7)
+        limits = self.file("limits.csv", f"# in ns\n102,DU_L,{greatest[worst]}\n\n402,FWC,49530\n")
+        status, out, said = self.call(COCKPIT, "--seeds", "4", "--limits", limits)
+        self.assertEqual((status, said), (0, ""))
+        self.assertIn("limits: 2, broken: 0\n", out)
+        limit = greatest[worst] - 1
+        limits = self.file("limits.csv", f"102,DU_L,{limit}\n402,FWC,49529\n401,FMC1,99999999\n")
+        status, out, said = self.call(COCKPIT, "--seeds", "4", "--limits", limits)
+        self.assertEqual((status, said), (1, ""))
+        by = sum(found > limit for found in greatest.values())
+        self.assertEqual(
+            out.splitlines()[-3:],
+            [
+                "limits: 3, broken: 2",
+                f"limit broken: virtual link 102 at DU_L has {limit} ns, and took {limit + 1} ns with the seed {worst}"
+                f"; broken by {by} of 4 runs",
+                "limit broken: virtual link 402 at FWC has 49529 ns, and took 49530 ns with the seed 7; "
+                "broken by 4 of 4 runs",
+            ],
+        )
+        self.assertEqual(read(self.merged), merged_by_hand(runs))
+
+    def test_a_run_that_fails(self):
+        """It is named with its message, and what was merged before it is kept, whatever ended first."""
+        text = (
+            read(N1)
+            .replace("period_ns = 1000000000000", "period_ns = 500000")
+            .replace("jitter_ns = 0", "jitter_ns = 400000")
+        )
+        net = self.file("net.toml", text.replace("seed = 42", "seed = 7"))
+        merged = merged_by_hand([(seed, rows_of(net, seed)) for seed in (7, 8)])
+        for lines, said in (
+            ("if seed == 9: sys.exit('afdxsim: out of memory')", "afdxsim: out of memory (status 1)"),
+            ("if seed == 9: sys.exit(5)", "status 5"),
+            ("if seed == 9: os.kill(os.getpid(), signal.SIGKILL)", "signal 9"),
+            ("if seed == 9: sys.exit(print('no table'))", "what it printed are no whole tables"),
+            ("if seed == 9: del net['vl'][0]", "what it printed has not the destinations of the network"),
+            ("if seed == 9: print('x')", "what it printed are no whole tables"),
+            (
+                "if seed == 9: sys.exit('later')\nif seed == 8: time.sleep(1)\nif seed > 9: sys.exit('no')",
+                "later (status 1)",
+            ),
+            ("if seed == 9: sys.exit('here')\nif seed > 9: time.sleep(60)", "here (status 1)"),
+        ):
+            for jobs in ("1", "4"):
+                with self.subTest(lines, jobs=jobs):
+                    self.stand_in(lines)
+                    status, out, told = self.call(net, "--seeds", "9", "--jobs", jobs)
+                    self.assertEqual((status, told), (1, f"campaign.py: seed 9: {said}\n"))
+                    self.assertIn("2 runs merged, seeds 7 to 8, in", out)
+                    self.assertEqual(read(self.merged), merged)
+
+    def test_the_first_run_fails(self):
+        """Then nothing was merged, and an earlier file stays."""
+        self.stand_in("sys.exit('no')")
+        os.mkdir(self.output)
+        self.file("campaign/merged.csv", "earlier")
+        told = self.call(N1, "--seeds", "3")
+        self.assertEqual(
+            told, (1, "no run was merged, and nothing is written\n", "campaign.py: seed 42: no (status 1)\n")
+        )
+        self.assertEqual(read(self.merged), "earlier")
+
+    def test_an_interrupt(self):
+        """What was merged before it is kept."""
+        began = os.path.join(self.folder, "began")
+        self.stand_in(f"if seed == 44:\n    open({began!r}, 'w').close()\n    time.sleep(100)")
+        command = [sys.executable, os.path.join(HERE, "campaign.py"), N1, "--seeds", "9", "--jobs", "1"]
+        command += ["--program", self.program, "-o", self.output]
+        run = subprocess.Popen(command, stdout=subprocess.PIPE, stderr=subprocess.PIPE, text=True)
+        begin = time.monotonic()
+        while not os.path.exists(began) and time.monotonic() < begin + 30:
+            time.sleep(0.05)
+        time.sleep(0.5)
+        run.send_signal(signal.SIGINT)
+        out, said = run.communicate(timeout=30)
+        self.assertEqual(run.returncode, 1)
+        self.assertEqual(said, "campaign.py: interrupted before the run of the seed 44 was merged\n")
+        self.assertIn("2 runs merged, seeds 42 to 43, in", out)
+        self.assertIn("latency,1,ES2,,2,27720,27720,55440,42\n", read(self.merged))
+
+    def test_jobs_are_side_by_side(self):
+        """As many as asked, and no more: each run tells by a file when it begins and ends."""
+        self.stand_in(
+            f"path = os.path.join({self.folder!r}, 'runs')\n"
+            "with open(path, 'a') as out: out.write('+')\n"
+            "time.sleep(0.4)\n"
+            "with open(path, 'a') as out: out.write('-')\n"
+        )
+        for jobs in (1, 3):
+            runs = self.file("runs", "")
+            self.assertEqual(self.call(N1, "--seeds", "7", "--jobs", str(jobs))[0], 0)
+            count, most = 0, 0
+            for sign in read(runs):
+                count += 1 if sign == "+" else -1
+                most = max(most, count)
+            self.assertEqual((count, most, len(read(runs))), (0, jobs, 14))
+
+    def test_the_progress_line(self):
+        """It is there on a terminal alone, and is taken away at the end."""
+        self.stand_in()
+        command = [sys.executable, os.path.join(HERE, "campaign.py"), N1, "--seeds", "3", "--program", self.program]
+        command += ["-o", self.output]
+        run = subprocess.run(command, capture_output=True)
+        self.assertEqual((run.returncode, run.stderr), (0, b""))
+        terminal, end = pty.openpty()
+        run = subprocess.run(command, stdout=subprocess.PIPE, stderr=end)
+        os.close(end)
+        shown = os.read(terminal, 65536)
+        os.close(terminal)
+        self.assertEqual(run.returncode, 0)
+        self.assertRegex(shown, rb"3 of 3 runs, \d+ s, 0 s to go; greatest 27,720 ns: VL 1 at ES2, seed 42")
+        self.assertTrue(shown.endswith(b"\r\x1b[K"))
+
+    def test_bad_limits(self):
+        self.stand_in()
+        for text, said in (
+            ("1,ES2\n", "line 1: has 2 fields in place of 3: VL,NAME,NS"),
+            ("\n# x\n1,ES2,5,6\n", "line 3: has 4 fields in place of 3: VL,NAME,NS"),
+            ("x,ES2,5\n", "line 1: the virtual link is 'x', and no whole number"),
+            ("1,ES2,-5\n", "line 1: the limit is '-5', and no whole number"),
+            ("1,ES2,5 \n", "line 1: the limit is '5 ', and no whole number"),
+            ("2,ES2,5\n", f"line 1: 'ES2' is no destination of virtual link 2 in {N1}"),
+            ("1,ES1,5\n", f"line 1: 'ES1' is no destination of virtual link 1 in {N1}"),
+            ("1,ES2,5\n1,ES2,5\n", "line 2: says again what line 1 says"),
+        ):
+            with self.subTest(said):
+                limits = self.file("limits.csv", text)
+                told = self.call(N1, "--seeds", "2", "--limits", limits)
+                self.assertEqual(told, (2, "", f"campaign.py: {limits} {said}\n"))
+                self.assertFalse(os.path.exists(self.output))
+
+    def test_other_bad_words(self):
+        self.stand_in()
+        none = os.path.join(self.folder, "none")
+        path = f"campaign.py: {none}: cannot be read: No such file or directory\n"
+        self.assertEqual(self.call(none, "--seeds", "1"), (2, "", path))
+        self.assertEqual(self.call(N1, "--seeds", "1", "--limits", none), (2, "", path))
+        last = str(2**63 - 1)
+        said = f"campaign.py: {N1} line 2: the seeds from {last} on would pass {last}\n"
+        self.assertEqual(self.call(N1, "--seeds", "2", "--first", last), (2, "", said))
+        self.assertEqual(self.call(N1, "--seeds", "1", "--first", last)[0], 0)
+        self.output = self.file("file", "")
+        self.assertEqual(
+            self.call(N1, "--seeds", "1"), (2, "", f"campaign.py: {self.output}: cannot be made: File exists\n")
+        )
+        self.program = none
+        said = f"campaign.py: {none}: is not there. `rt run -- --help` in crates/afdxsim builds the program\n"
+        self.assertEqual(self.call(N1, "--seeds", "1"), (2, "", said))
+        for words in (["--seeds", "0"], ["--seeds", "x"], ["--jobs", "0", "--seeds", "1"], []):
+            with self.assertRaises(SystemExit) as ended:
+                self.call(N1, *words)
+            self.assertEqual(ended.exception.code, 2)
+
+    def test_help(self):
+        run = subprocess.run(
+            [sys.executable, os.path.join(HERE, "campaign.py"), "--help"], capture_output=True, text=True
+        )
+        self.assertEqual((run.returncode, run.stderr), (0, ""))
+        for word in ("--seeds", "--jobs", "--offsets", "--limits", "examples:", "status:", "merged.csv"):
+            self.assertIn(word, run.stdout)
+
+
+if __name__ == "__main__":
+    unittest.main()
