@@ -1057,7 +1057,7 @@ def steps_to(top, most=5):
 
 def chart_over_time(net, parts, high, name):
     """Bars over the time of the run, of several causes upon each other; outages are shaded."""
-    wide, left, foot = 1180, 64, 36
+    wide, left, foot = 1160, 84, 36
     heights = [sum(counts[i] for _, counts, _ in parts) for i in range(MOMENTS)]
     top = max(1, max(heights))
     out = []
@@ -1237,7 +1237,7 @@ nav,.fold .less{display:none}
 tr,svg,.tile,h2,h3{break-inside:avoid}
 h2,h3{break-after:avoid}
 thead{display:table-header-group}
-.net{min-width:0!important}
+.net{min-width:0!important;max-height:170mm}
 td,th{padding:2px 5px}
 .rg{min-width:200px}
 .fold .more::before{font-size:10px;content:"The first ten lines, by the column that is marked"}}

@@ -302,21 +302,24 @@ class InTheBrowser(unittest.TestCase):
         self.compare(page, net, tables, rows)
 
     def test_a_click_sorts(self):
-        """Also a table that is folded: then the ten worst of the whole come first."""
+        """Also a table that is folded: then the first ten of the whole are shown."""
         path, tables = example("cockpit")
         self.made(path, tables)
         click = 'document.querySelectorAll("#latencies th")[%d].querySelector("div").click();'
+        shown = """document.querySelectorAll("#latencies tbody tr").forEach(
+            row => { if (row.offsetHeight > 0) row.cells[1].textContent += " is shown" });"""
         for script, at, kind, down in (
             (click % 4, 4, ns_of, True),
             (click % 4 * 2, 4, ns_of, False),
-            (click % 1, 1, str, False),
+            (click % 1, 1, lambda name: name.removesuffix(" is shown"), False),
             (click % 10, 10, number_of, True),
         ):
             with self.subTest(column=at, down=down):
-                page = self.browser.open(self.page, script)
+                page = self.browser.open(self.page, script + shown)
                 values = [kind(row[at]) for row in page.rows("latencies")]
-                self.assertEqual(len(values), 24)
                 self.assertEqual(values, sorted(values, reverse=down))
+                is_shown = [row[1].endswith(" is shown") for row in page.rows("latencies")]
+                self.assertEqual(is_shown, [True] * 10 + [False] * 14)
 
     def test_names_are_escaped(self):
         name = "<img src=x onerror=document.title=1>&'\""
