@@ -453,7 +453,7 @@ def span(ns):
     """A time with the unit that suits it."""
     for size, unit in ((10**9, "s"), (10**6, "ms"), (10**3, "µs")):
         if ns >= size:
-            return f"{ns / size:,.9f}".rstrip("0").rstrip(".")[:9].rstrip(".") + f" {unit}"
+            return f"{ns // size:,}.{ns % size * (10**9 // size):09d}".rstrip("0").rstrip(".") + f" {unit}"
     return f"{ns} ns"
 
 

@@ -204,6 +204,9 @@ class InTheBrowser(unittest.TestCase):
             self.assertEqual(found, by_place)
         self.assertEqual(page.tiles["lost"][0].split()[0], f"{sum(lost.values()):,}")
         self.assertEqual(page.tiles["delivered"][0].split()[0], f"{sum(row[0] for row in latencies.values()):,}")
+        value, unit = page.tiles["greatest latency"][0].split()
+        worst = Fraction(value.replace(",", "")) * {"ns": 1, "µs": 10**3, "ms": 10**6, "s": 10**9}[unit]
+        self.assertEqual(worst, max(row[2] for row in latencies.values()))
         self.compare_loads(page, net)
         if rows:
             self.compare_trace(page, rows)
@@ -372,8 +375,8 @@ class WithoutABrowser(unittest.TestCase):
     def test_numbers_as_text(self):
         self.assertEqual([report.us(ns) for ns in (0, 999, 14787657)], ["0.000", "0.999", "14,787.657"])
         self.assertEqual(
-            [report.span(ns) for ns in (0, 999, 1000, 14809567, 10**9)],
-            ["0 ns", "999 ns", "1 µs"] + ["14.809567 ms", "1 s"],
+            [report.span(ns) for ns in (0, 999, 1000, 123456789, 10**9, 10**12 - 1)],
+            ["0 ns", "999 ns", "1 µs", "123.456789 ms", "1 s", "999.999999999 s"],
         )
         self.assertEqual(
             [report.two_places(Fraction(it)) for it in ("0.005", "0.0049", "128.54")], ["0.01", "0.00", "128.54"]
