@@ -595,7 +595,7 @@ class Drawing:
         """How wide and high all parts are, so that the whole is about as wide as the page."""
         count = max(1, len(self.places))
         longest = max([len(es) for es in self.net.of_kind("es")] or [1])
-        self.box = min(230, max(44, longest * 7.2 + 14))
+        self.box = min(230, max(44, longest * 8 + 14))
         self.both = bool(self.net.of_kind("switch", "B"))
         sides = 2 if self.both else 1
         self.gap = 16 if count > 4 else 60
@@ -656,15 +656,15 @@ class Drawing:
             )
         self.out.append("</g>")
 
-    def head(self, name, x, y, above):
+    def head(self, name, place, y, above):
         """A switch: its box, and the bar along its end systems."""
-        node = self.net.nodes[name]
+        node, x = self.net.nodes[name], place.left
         kind = node.net.lower()
         reach = self.rows * self.ROW + 10
         bar_x, bar_y = (x, y + self.HEAD - 6) if above else (x + self.column - self.COMB, y - reach)
         told = f"switch {name} of network {node.net}, latency {span(node.latency_ns)}"
         self.out.append(f'<g class="switch {kind}"><title>{esc(told)}</title>')
-        if self.rows:
+        if place.end_systems:
             self.out.append(
                 f'<rect x="{bar_x:.1f}" y="{bar_y:.1f}" width="{self.COMB}" height="{reach + 6:.1f}" rx="3"/>'
             )
@@ -753,9 +753,9 @@ class Drawing:
         self.backbone("B")
         for place in self.places:
             if place.a:
-                self.head(place.a, place.left, self.top, True)
+                self.head(place.a, place, self.top, True)
             if place.b:
-                self.head(place.b, place.left, self.bottom, False)
+                self.head(place.b, place, self.bottom, False)
             for row, es in enumerate(place.end_systems):
                 self.end_system(place, row, es)
         wide, high = self.width + 8, self.height
@@ -1153,6 +1153,7 @@ tbody tr:hover{background:#f6f9fc}
 td.none{color:#b5bec7}
 td.sum{font-weight:600}
 th div{cursor:pointer}
+th.n[aria-sort] div{padding-left:9px}
 th div:hover{color:var(--a)}
 th div:focus-visible{outline:2px solid var(--a)}
 th[aria-sort] div{position:relative}
