@@ -837,21 +837,20 @@ class Decades:
 
 
 def range_of(row, vl, axis):
-    """The range of one line of latencies, with the mean, and BAG and jitters as marks."""
-    marks = f'<rect class="bag" x="{axis.part(vl.bag_ns):.2f}%" y="1" width="3" height="16"/>'
+    """The range of one line of latencies, with the mean, and BAG and jitters as marks. What all ranges have alike
+    stands in the style, since there can be many thousand of them."""
+    marks = f'<rect class="bag" x="{axis.part(vl.bag_ns):.1f}%"/>'
     for kind, jitter in (("jit", vl.jitter_ns), ("pol", vl.policing_ns)):
         if jitter:
-            y = "1" if kind == "jit" else "11"
-            marks += f'<rect class="{kind}" x="{axis.part(jitter):.2f}%" y="{y}" width="3" height="6"/>'
+            marks += f'<rect class="{kind}" x="{axis.part(jitter):.1f}%"/>'
     if row.count:
         left, right = axis.part(row.least), axis.part(row.greatest)
         late = " late" if row.greatest > vl.bag_ns else ""
         marks += (
-            f'<rect class="range{late}" x="{left:.2f}%" y="5.5" width="{max(0.5, right - left):.2f}%" height="7" '
-            'rx="2"/>'
-            f'<circle cx="{axis.part(mean_ns(row)):.2f}%" cy="9" r="3"/>'
+            f'<rect class="range{late}" x="{left:.1f}%" width="{max(0.5, right - left):.1f}%"/>'
+            f'<circle cx="{axis.part(mean_ns(row)):.1f}%"/>'
         )
-    return f'<svg width="100%" height="18">{marks}</svg>'
+    return f"<svg>{marks}</svg>"
 
 
 def latency_panel(net, tables):
@@ -989,27 +988,26 @@ def copies_panel(net, tables):
 def histogram(rising, marks):
     """The latencies of one virtual link at one destination as bars, with percentiles as lines."""
     least, greatest = rising[0], rising[-1]
-    wide, high = 600, 30
-    begin, base = f'<svg width="{wide}" height="46">', f'<path class="base" d="M0 {high}H{wide}"/>'
+    step, high = 21, 30
+    wide = BARS * step
     if least == greatest:
-        bars = f"M{wide / 2 - 5:.0f} {high}V2h10V{high}z"
-        ends = f'<text x="{wide / 2:.0f}" y="43" text-anchor="middle">{span(least)}, all</text>'
-        return begin + f'<path class="bars" d="{bars}"/>{base}{ends}</svg>'
+        ends = f'<text x="{wide // 2}" y="43" text-anchor="middle">{span(least)}, all</text>'
+        return f'<svg><path class="bars" d="M{wide // 2 - 5} {high}V2h10V{high}"/>{ends}</svg>'
     counts = [0] * BARS
     for value in rising:
         counts[(value - least) * BARS // (greatest - least + 1)] += 1
-    top, step = max(counts), wide / BARS
+    top = max(counts)
     bars = "".join(
-        f"M{i * step:.0f} {high}v-{max(1, 28 * count / top):.1f}h{step - 1:.0f}V{high}z"
+        f"M{i * step} {high}V{high - max(1, round(28 * count / top))}h{step - 1}V{high}"
         for i, count in enumerate(counts)
         if count
     )
     lines = "".join(
-        f'<path class="p{percent}" d="M{(value - least) / (greatest - least) * wide:.1f} 0V{high}"/>'
+        f'<path class="p{percent}" d="M{(value - least) * wide // (greatest - least)} 0V{high}"/>'
         for percent, value in marks
     )
     return (
-        f'{begin}<path class="bars" d="{bars}"/>{lines}{base}<text x="0" y="43">{span(least)}</text>'
+        f'<svg><path class="bars" d="{bars}"/>{lines}<text x="0" y="43">{span(least)}</text>'
         f'<text x="{wide}" y="43" text-anchor="end">{span(greatest)}</text></svg>'
     )
 
@@ -1176,9 +1174,13 @@ td.load{background:linear-gradient(to left,var(--c),var(--c)) no-repeat right bo
 .legend svg{vertical-align:middle}
 .k{display:inline-block;width:18px;height:9px;border-radius:2px;vertical-align:baseline;margin-right:3px}
 .k.range,rect.range{background:#6aa9a0;fill:#6aa9a0}
+rect.range{y:5.5px;height:7px;rx:2px}
+rect.bag{y:1px;height:16px}
+rect.jit{y:1px;height:6px}
+rect.pol{y:11px;height:6px}
 .k.late,rect.late{background:#dd8452;fill:#dd8452}
 .k.dot{width:9px;border-radius:9px;background:#fff;border:2px solid var(--ink)}
-.rg circle{fill:#fff;stroke:var(--ink);stroke-width:1.6}
+.rg circle{cy:9px;r:3px;fill:#fff;stroke:var(--ink);stroke-width:1.6}
 .k.bag,rect.bag{width:4px;background:#27348b;fill:#27348b}
 .k.bag{height:14px;vertical-align:-2px}
 .k.jit,rect.jit{width:4px;background:#c0399f;fill:#c0399f}
@@ -1186,7 +1188,7 @@ td.load{background:linear-gradient(to left,var(--c),var(--c)) no-repeat right bo
 .rg{min-width:280px;width:36%;
   background:repeating-linear-gradient(to right,var(--rule) 0 1px,
   transparent 1px calc((100% - 1px)/var(--decades)));padding:2px 0}
-.rg svg{display:block;overflow:visible}
+.rg svg{display:block;overflow:visible;width:100%;height:18px}
 .axis{white-space:nowrap;position:relative;display:block;height:15px;font-weight:400;color:var(--soft);
   font-size:11px}
 .axis i{position:absolute;font-style:normal;transform:translateX(-50%)}
@@ -1197,7 +1199,7 @@ th:has(.axis){padding-left:0;padding-right:0}
 .hg svg{display:block}
 .hg text,.time text{font-size:10.5px;fill:var(--soft)}
 .bars{fill:#7fa8c9}
-.base{stroke:#8894a0;fill:none}
+.hg svg{width:588px;height:46px;background:linear-gradient(#8894a0,#8894a0) 0 29.5px/100% 1px no-repeat}
 path.p50,path.p95,path.p99{stroke-width:1.6;fill:none}
 path.p50{stroke:#217a57}
 path.p95{stroke:#d08700}
