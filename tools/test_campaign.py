@@ -209,7 +209,8 @@ class WithAStandIn(Here):
         self.assertEqual(read(self.merged), merged_by_hand(runs))
 
     def test_a_run_that_fails(self):
-        """It is named with its message, and what was merged before it is kept, whatever ended first."""
+        """It is named with its message, and what was merged before it is kept, whatever ended first. Later runs that go
+        on are ended."""
         text = (
             read(N1)
             .replace("period_ns = 1000000000000", "period_ns = 500000")
@@ -228,12 +229,14 @@ class WithAStandIn(Here):
                 "if seed == 9: sys.exit('later')\nif seed == 8: time.sleep(1)\nif seed > 9: sys.exit('no')",
                 "later (status 1)",
             ),
-            ("if seed == 9: sys.exit('here')\nif seed > 9: time.sleep(60)", "here (status 1)"),
+            ("if seed == 9: sys.exit('here')\nif seed > 9: time.sleep(100)", "here (status 1)"),
         ):
             for jobs in ("1", "4"):
                 with self.subTest(lines, jobs=jobs):
                     self.stand_in(lines)
+                    begin = time.monotonic()
                     status, out, told = self.call(net, "--seeds", "9", "--jobs", jobs)
+                    self.assertLess(time.monotonic() - begin, 90)
                     self.assertEqual((status, told), (1, f"campaign.py: seed 9: {said}\n"))
                     self.assertIn("2 runs merged, seeds 7 to 8, in", out)
                     self.assertEqual(read(self.merged), merged)
