@@ -45,7 +45,7 @@ status:
   1  a limit is broken; or a run failed. The first one that fails is named with its message and ends the campaign. The
      runs of all seeds before it are in DIR/merged.csv
   2  a word is wrong, a file cannot be read or written, or it is not what it has to be: one line on error output names
-     the file and the line, and nothing is run
+     the file and the line, and nothing is written
 """
 
 HERE = os.path.dirname(os.path.abspath(__file__))
