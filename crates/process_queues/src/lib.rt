@@ -5,10 +5,12 @@
 mod acts;
 mod committing;
 mod fault;
+mod laws;
 mod order;
 mod past;
 mod process;
 mod rollback;
 
 pub use fault::ProcFault;
+pub use laws::process_laws;
 pub use process::Process;

@@ -1,0 +1,31 @@
+//! What holds of every process, whatever letters come to it.
+ghost use Rattle.std.specs.Prelude.{◌≢◌, ◌≤◌, List};
+ghost use Rattle.vlink.specs.declared.message.Message.{Message};
+ghost use Rattle.virtual_time.specs.Rules.{sent};
+ghost use Rattle.virtual_time.specs.Lists.{times_in};
+ghost use Rattle.virtual_time.specs.Part.{Part};
+ghost use Rattle.virtual_time.specs.Own.{Act, acted};
+ghost use Rattle.virtual_time.specs.Own.Act.{Emptying};
+ghost use Rattle.virtual_time.specs.Well.{SendsKept};
+ghost use Rattle.reverse.specs.Rules.{rules_of};
+ghost use Rattle.process_queues.specs.Queues.{Queues, StandsFor};
+
+use reverse::{Actor, actor_rules};
+
+/// What a process sends, whatever letters come to it, also such as no run would send, and in whatever order it acts: what an undone event
+/// sent is taken back, and nothing else. It is the law of one process of `virtual_time`, for every actor, and for every opening state and
+/// part for which a process stands.
+///
+/// - `sends`: each act but the emptying of the outbox (a letter is delivered, the first letter of the tray arrives, the next message is
+///   handled, the oldest done event is committed) changes the signed count of each message in the outbox by the change of the times that
+///   the committed and done events sent it.
+/// - `sent_once`: these times are 1 or 0, whatever the events are: no message is sent twice.
+///
+/// A call does nothing: its caller learns what the clauses say.
+pub fn process_laws<R: Actor>()
+    ensures sends { (opening : R) (part : Part Message R) (queues : Queues R R.Record) → StandsFor (rules_of R.plain R.counter) R.is_value opening part queues →
+        (act : Act Message) → act ≢ Emptying → (m : Message) → SendsKept (rules_of R.plain R.counter) opening part (acted (rules_of R.plain R.counter) opening act part) m }
+    ensures sent_once { (opening : R) (events : List Message) (m : Message) → times_in (rules_of R.plain R.counter) m (sent (rules_of R.plain R.counter) opening events) ≤ 1 }
+{
+    actor_rules::<R>();
+}
