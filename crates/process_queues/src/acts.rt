@@ -1,24 +1,22 @@
 //! What a process does alone: letters arrive, messages are handled, events are committed, and all is undone.
-ghost use Rattle.std.specs.Prelude.{◌≡◌, ◌≢◌, ◌+◌, ◌-◌, ◌<◌, ◌≤◌, ◌↔◌, ℕ, ◌++◌, [], ◌∷◌, false, true, length, drop, All, IsTrue, IsSome, Option, None, Ok, MatchOption, OnOk, OnErr, IfOk, IfErr, slice_get, Some, pos, ◌+ℤ◌, vec_len, vec_capacity};
+ghost use Rattle.std.specs.Prelude.{◌≡◌, ◌≢◌, ◌+◌, ◌-◌, ◌<◌, ◌≤◌, ◌↔◌, ℕ, [], ◌∷◌, false, true, drop, IsTrue, IsSome, Option, None, Ok, MatchOption, OnOk, OnErr, IfOk, IfErr, slice_get, Some, pos, ◌+ℤ◌, vec_len, vec_capacity};
 ghost use Rattle.std.specs.VecDeque.{deque_len};
 ghost use Rattle.vlink.specs.declared.message.Message.{Message};
 ghost use Rattle.vlink.specs.declared.message.Letter.{Letter as Posted};
 ghost use Rattle.vlink.specs.Numbering.{greatest_number};
 ghost use Rattle.virtual_time.specs.Rules.{reached};
-ghost use Rattle.virtual_time.specs.Letters.{received_by, plus_of};
-ghost use Rattle.virtual_time.specs.Part.{Part, arrive, undone_by, run_one, next_of, can_seal, seal_oldest, emptied, undo_all};
+ghost use Rattle.virtual_time.specs.Letters.{plus_of};
+ghost use Rattle.virtual_time.specs.Part.{Part, arrive, undone_by, run_one, next_of, can_seal, seal_oldest, undo_all};
 ghost use Rattle.reverse.specs.Rules.{rules_of};
 ghost use Rattle.antimessages.specs.Letters.{message_rules, signed};
 ghost use Rattle.antimessages.specs.Counting.{signed_count, change_by, is_after, BeginAfter};
 ghost use Rattle.antimessages.specs.declared.tally.Change.TheVariants.{Same};
-ghost use Rattle.antimessages.specs.Mailing.{letters_for};
 ghost use Rattle.process_queues.specs.declared.fault.ProcFault.TheVariants.{OutOfMemory, Exhausted};
 ghost use Rattle.process_queues.specs.Queues.{StandsFor, Does, next_in};
 
 use crate::fault::ProcFault;
-use crate::past::Past;
 use crate::process::Process;
-use antimessages::{Change, Mail, Tally, rewind};
+use antimessages::{Change, Tally, rewind};
 use reverse::{Actor, Outbound, actor_rules};
 use std::collections::VecDeque;
 use vlink::{Letter, Message, Time};
@@ -32,6 +30,7 @@ impl<R: Actor> Process<R> {
         ensures answer { IfOk result (λ undone. (opening : R) (part : Part Message R) → StandsFor (rules_of R.plain R.counter) R.is_value opening part self.old.queues →
             MatchOption undone (part.tray ≡ []) (λ count. (part.tray ≢ []) × (count ≡ undone_by (rules_of R.plain R.counter) part part.tray))) }
         ensures tray { OnOk result (self.new.queues.tray ≡ drop 1 self.old.queues.tray) }
+        ensures refused { OnErr result (self.old.queues.tray ≢ []) }
         ensures unchanged { OnErr result (self.new.queues ≡ self.old.queues) }
         ensures memory { IfErr result (λ fault. fault ≡ OutOfMemory) }
     {
@@ -141,21 +140,6 @@ impl<R: Actor> Process<R> {
         self.sealed += usize::from(noted);
         self.committed.push_reserved(noted);
         Ok(true)
-    }
-
-    /// The letters of the outbox go in order to the back of their receivers' mail, and the outbox is left empty.
-    pub fn post(&mut self, mail: &mut Mail) -> Result<(), ProcFault>
-        requires { All (λ letter. letter.message.receiver < length mail.old) self.old.queues.outbox }
-        ensures emptied { OnOk result (Does (rules_of R.plain R.counter) R.is_value (λ opening. emptied) self.old.queues self.new.queues) }
-        ensures posted { OnOk result ((p : ℕ) → letters_for p mail.new ≡ letters_for p mail.old ++ received_by message_rules p self.old.queues.outbox) }
-        ensures queues { OnOk result (self.new.queues ≡ record self.old.queues { outbox = [] }) }
-        ensures processes { length mail.new ≡ length mail.old }
-        ensures unchanged { OnErr result (self.new.queues ≡ self.old.queues) }
-        ensures mail_unchanged { OnErr result ((p : ℕ) → letters_for p mail.new ≡ letters_for p mail.old) }
-        ensures memory { IfErr result (λ fault. fault ≡ OutOfMemory) }
-    {
-        mail.post(&mut self.outbox)?;
-        Ok(())
     }
 
     /// Undoes all done events, the newest first, each by its record, and gives the actor back. Nothing is sent.

@@ -8,6 +8,7 @@ mod fault;
 mod laws;
 mod order;
 mod past;
+mod posting;
 mod process;
 mod rollback;
 
