@@ -181,7 +181,7 @@ fn processes_of<R: Actor + Drop>(
 {
     let mut processes = Vec::new(alloc);
     for actor in actors {
-        processes.push(Process::new(alloc, actor))?;
+        processes.push(Process::new(alloc, actor)?)?;
     }
     Ok(processes)
 }

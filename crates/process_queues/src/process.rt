@@ -1,4 +1,4 @@
-ghost use Rattle.std.specs.Prelude.{◌≡◌, ◌≢◌, ◌+◌, ◌<◌, ◌≤◌, ◌^◌, ◌-◌, ◌↔◌, [], ◌∷◌, ◌++◌, ℕ, length, map, min, take, drop, All, IsTrue, OnOk, OnErr, IfOk, IfErr, slice_get};
+ghost use Rattle.std.specs.Prelude.{◌≡◌, ◌≢◌, ◌+◌, ◌<◌, ◌≤◌, ◌^◌, ◌-◌, ◌↔◌, [], ◌∷◌, ◌++◌, ℕ, length, map, min, take, drop, All, IsTrue, IsOk, OnOk, OnErr, IfOk, IfErr, slice_get};
 ghost use Rattle.std.specs.Option.{option_map};
 ghost use Rattle.std.specs.VecDeque.{deque_len, deque_capacity};
 ghost use Rattle.vlink.specs.declared.message.Message.{Message};
@@ -78,19 +78,21 @@ impl<R: Actor> Model for Process<R> {
 }
 
 impl<R: Actor> Process<R> {
-    /// A process that has done nothing, with this actor in its opening state. It takes no memory.
-    pub fn new(alloc: Global, actor: R) -> Self
-        ensures stands { StandsFor (rules_of R.plain R.counter) R.is_value actor (opened actor) result.queues }
-        ensures opening { result.queues ≡ record {
+    /// A process that has done nothing, with this actor in its opening state. It takes no memory yet, so that it succeeds.
+    pub fn new(alloc: Global, actor: R) -> Result<Self, ProcFault>
+        ensures stands { IfOk result (λ process. StandsFor (rules_of R.plain R.counter) R.is_value actor (opened actor) process.queues) }
+        ensures opening { IfOk result (λ process. process.queues ≡ record {
           past = record { state = actor; done = []; sends = []; rows = [] };
           sealed = 0;
           committed = 0;
           tally = [];
           tray = [];
           outbox = [];
-        } }
+        }) }
+        ensures succeeds { IsOk result }
+        ensures memory { IfErr result (λ fault. fault ≡ OutOfMemory) }
     {
-        Process {
+        Ok(Process {
             past: Past::new(alloc, actor),
             sealed: 0,
             committed: Vec::new(alloc),
@@ -98,7 +100,16 @@ impl<R: Actor> Process<R> {
             ahead: 0,
             tray: VecDeque::new(alloc),
             outbox: Outbox::new(alloc),
-        }
+        })
+    }
+
+    /// A process stands for a part of a process that opened in some state: what other clauses say of such a part holds of one.
+    ///
+    /// A call does nothing: its caller learns what the clause says.
+    pub fn stands(&self)
+        ensures { (opening : R) × (part : Part Message R) × StandsFor (rules_of R.plain R.counter) R.is_value opening part self.now.queues }
+    {
+        let _tray = &self.tray;
     }
 
     /// The signed count of a message: how many plus letters of it arrived, less the minus letters. A committed event's letter does not

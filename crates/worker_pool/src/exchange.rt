@@ -119,7 +119,7 @@ impl Exchange {
         let mut mail = Mail::new(alloc, processes)?;
         mail.post(&mut letters)?;
         let held = Held {
-            process: Process::new(alloc, actor),
+            process: Process::new(alloc, actor)?,
             number,
             runs: 0,
             block: Vec::new(alloc),

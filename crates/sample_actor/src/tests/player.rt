@@ -9,7 +9,7 @@ use super::{asking, mailing, pool};
 use crate::Summing;
 use antimessages::Mail;
 use gvt::Floors;
-use process_queues::{ProcFault, Process};
+use process_queues::{ProcFault, Process, process_laws};
 use std::alloc::Global;
 use std::fmt::Write;
 use std::process::Abort;
@@ -39,6 +39,9 @@ pub(crate) fn play(rt: &impl Abort, alloc: Global, script: &str) -> Result<Strin
         mut told,
         ..
     } = stage;
+    // These two do nothing: their clauses hold of every process.
+    process_laws::<Summing>();
+    process.stands();
     let actor = process.undo_all();
     write!(told, "sum {} counter {}", actor.sum, actor.counter)?;
     Ok(told)
@@ -49,7 +52,7 @@ fn opened(rt: &impl Abort, alloc: Global) -> Result<Stage, ProcFault> {
     let mut told = String::new(alloc);
     told.reserve(4096)?;
     Ok(Stage {
-        process: Process::new(alloc, actor(rt, 0)),
+        process: Process::new(alloc, actor(rt, 0))?,
         mail: Mail::new(alloc, 3)?,
         floors: Floors::new(alloc, 3, moment(rt, LATEST_NS))?,
         told,
@@ -81,6 +84,7 @@ fn act(rt: &impl Abort, alloc: Global, stage: &mut Stage, word: &str) -> Result<
         "reserve_letters" => reserve_letters(rt, &mut stage.process, rest),
         "reserve_rows" => reserve_rows(rt, &mut stage.process, rest),
         "outbox" => tell_outbox(&stage.process, &mut stage.told),
+        "reserve_post" => mailing::reserve_post(rt, stage),
         "post" => mailing::post(rt, stage),
         "send" => mailing::send(rt, alloc, &mut stage.mail, rest),
         "take" => mailing::take(rt, stage, rest),
@@ -116,7 +120,7 @@ fn begin(
     process: &mut Process<Summing>,
     counter: &str,
 ) -> Result<(), ProcFault> {
-    *process = Process::new(alloc, actor(rt, number(rt, counter)));
+    *process = Process::new(alloc, actor(rt, number(rt, counter)))?;
     Ok(())
 }
 
