@@ -1,6 +1,6 @@
 -- The steps of one process alone: Arrive, Run and Commit.
 use Rattle.std.proofs.Common.{◌≡◌, ℕ, ◌+◌, ◌<◌, ◌&&◌, Bool, true, false, List, [], ◌∷◌, length, slice_get, Option, Some, None, Result, Ok, Err, refl, sym, ap, ◌∙◌, subst}
-use Rattle.std.specs.Prelude.{is_some, IsSome}
+use Rattle.std.specs.Prelude.{◌↔◌, is_some, IsSome}
 use Rattle.std.proofs.Math.ListN.{set}
 use Rattle.std.proofs.lemmas.Bool.{lt-ltb}
 use Rattle.vlink.specs.declared.message.Message.{Message}
@@ -15,7 +15,9 @@ use Rattle.fossil.specs.Committed
 use Rattle.fossil.specs.Committed.{is_ready, committed_once}
 use Rattle.process_queues.specs.declared.fault.ProcFault.{ProcFault}
 use Rattle.process_queues.specs.declared.fault.ProcFault.TheVariants as process
-use Rattle.process_queues.specs.Queues.{Queues, StandsFor, Does}
+use Rattle.process_queues.specs.Queues.{Queues, StandsFor, Does, next_in}
+use Rattle.process_queues.proofs.Counting.{OfMessages}
+use Rattle.process_queues.proofs.Next.{next-stands}
 use Rattle.actor_world.specs.declared.done.Done.{Done}
 use Rattle.actor_world.specs.declared.done.Done.TheVariants.{Did, NotEnabled}
 use Rattle.actor_world.specs.declared.fault.StepFault.{StepFault}
@@ -23,11 +25,7 @@ use Rattle.actor_world.specs.Faults.{fault_of}
 use Rattle.actor_run.specs.Running.{simulation_of}
 use Rattle.actor_world.specs.Worlds.{Held, StandsForWorld, AtEachWorld}
 use Rattle.actor_world.specs.Stepping.{IsStepped}
-use Rattle.actor_world.proofs.Holding.{process-within, with_part-stands, when-did, when-not_enabled, when-no_memory, when-exhausted, the_same, the_same-when}
-
-some-is : {A : Type 0} (o : Option A) → IsSome o → is_some o ≡ true
-some-is (Some x) h = refl
-some-is None h = cc
+use Rattle.actor_world.proofs.Holding.{some-is, process-within, with_part-stands, HasNumbers, when-did, when-not_enabled, when-no_memory, when-exhausted, the_same, the_same-when}
 
 module _ {S K : Type 0} (f : Simulation Message S K Note) (is_value : S → Message → Type 0) (w : World Message S) (old : Held S K) (h : StandsForWorld f is_value w old)
     (p : ℕ) (q : Queues S K) (here : slice_get old.processes p ≡ Some q) where
@@ -95,7 +93,7 @@ module _ {S K : Type 0} (r : Rules Message S K Note) (number end : S → ℕ) (i
   pub arrive-did : 0 < length q.tray → (q' : Queues S K) → Does r is_value (arrive r) q q' → (ps : List (Queues S K)) → ps ≡ set old.processes p q' →
       IsStepped r number end is_placed is_value (Arrive p) old (record { processes = ps; mail = old.mail; floors = old.floors; gvt = old.gvt; until = old.until }) (Ok Did)
   arrive-did e q' does ps d =
-      when-did r number end is_placed is_value (Arrive p) old _
+      when-did r number end is_placed is_value (Arrive p) old _ (λ x laid steps h d. d)
       (λ x laid steps h.
       let f = simulation_of r x in
       let w = run f steps (start f) in (
@@ -107,9 +105,13 @@ module _ {S K : Type 0} (r : Rules Message S K Note) (number end : S → ℕ) (i
       IsStepped r number end is_placed is_value (Arrive p) old (record { processes = ps; mail = old.mail; floors = old.floors; gvt = old.gvt; until = old.until }) answer
   arrive-refused e ps d answer a =
       subst (IsStepped r number end is_placed is_value (Arrive p) old _) (sym a)
-      (when-no_memory r number end is_placed is_value (Arrive p) old _
+      (when-no_memory r number end is_placed is_value (Arrive p) old _ (λ x laid steps h d. d)
       (λ x laid steps h. arrive-enabled (simulation_of r x) is_value (run (simulation_of r x) steps (start (simulation_of r x))) old h p q here e)
       (the_same-when old ps d))
+
+  -- by what it has in hand the process has a next message, and too few numbers
+  abbrev IsExhaustedIn : Queues S K → Type 0
+  IsExhaustedIn q = IsSome (next_in q) × (greatest_number < r.counter q.past.state + 24)
 
   -- whether there is a next message
   enabled : (b : Bool) → ((opening : S) (part : Part Message S) → StandsFor r is_value opening part q → is_some (next_of r part) ≡ b) →
@@ -124,33 +126,45 @@ module _ {S K : Type 0} (r : Rules Message S K Note) (number end : S → ℕ) (i
   run-none e ps d =
       when-not_enabled r number end is_placed is_value (Run p) old _ (enabled false (λ opening part h. ap is_some (sym (e opening part h)))) (the_same-when old ps d)
 
-  pub run-did : (m : Message) → ((opening : S) (part : Part Message S) → StandsFor r is_value opening part q → Some m ≡ next_of r part) →
+  -- the process has numbers enough where it has no next message with too few of them, by what it has in hand
+  has-numbers : OfMessages r → (IsExhaustedIn q → ⊥) → HasNumbers r number end is_placed is_value (Run p) old
+  has-numbers R enough = λ x laid steps h d.
+      let f = simulation_of r x in
+      let w = run f steps (start f) in
+      let k = h.parts p q here in
+      enough (
+        subst IsSome (next-stands r R is_value (f.opening p) (w.parts p) q k) d.1,
+        subst (λ s. greatest_number < r.counter s + 24) k.past.state d.2,
+      )
+
+  pub run-did : OfMessages r → (IsExhaustedIn q → ⊥) → (m : Message) → ((opening : S) (part : Part Message S) → StandsFor r is_value opening part q → Some m ≡ next_of r part) →
       (q' : Queues S K) → Does r is_value (λ opening. run_one r) q q' → (ps : List (Queues S K)) → ps ≡ set old.processes p q' →
       IsStepped r number end is_placed is_value (Run p) old (record { processes = ps; mail = old.mail; floors = old.floors; gvt = old.gvt; until = old.until }) (Ok Did)
-  run-did m e q' does ps d =
-      when-did r number end is_placed is_value (Run p) old _
+  run-did R enough m e q' does ps d =
+      when-did r number end is_placed is_value (Run p) old _ (has-numbers R enough)
       (λ x laid steps h. (
         enabled true (λ opening part k. ap is_some (sym (e opening part k))) x laid steps h,
         ran (simulation_of r x) is_value (run (simulation_of r x) steps (start (simulation_of r x))) old h p q here q' does ps d,
       ))
 
-  pub run-refused : ((opening : S) (part : Part Message S) → StandsFor r is_value opening part q → IsSome (next_of r part)) →
+  pub run-refused : OfMessages r → ((opening : S) (part : Part Message S) → StandsFor r is_value opening part q → IsSome (next_of r part)) →
       (ps : List (Queues S K)) → ps ≡ old.processes → (fault : ProcFault) →
-      (fault ≡ process.Exhausted → greatest_number < r.counter q.past.state + 24) →
+      (fault ≡ process.Exhausted) ↔ IsExhaustedIn q →
       (answer : Result Done StepFault) → answer ≡ Err (fault_of fault) →
       IsStepped r number end is_placed is_value (Run p) old (record { processes = ps; mail = old.mail; floors = old.floors; gvt = old.gvt; until = old.until }) answer
-  run-refused e ps d process.OutOfMemory lacks answer a =
+  run-refused R e ps d process.OutOfMemory lacks answer a =
       subst (IsStepped r number end is_placed is_value (Run p) old _) (sym a)
-      (when-no_memory r number end is_placed is_value (Run p) old _ (enabled true (λ opening part h. some-is _ (e opening part h))) (the_same-when old ps d))
-  run-refused e ps d process.Exhausted lacks answer a =
+      (when-no_memory r number end is_placed is_value (Run p) old _ (has-numbers R (λ n. let z : process.OutOfMemory ≡ process.Exhausted = lacks.1 n in cc)) (enabled true (λ opening part h. some-is _ (e opening part h))) (the_same-when old ps d))
+  run-refused R e ps d process.Exhausted lacks answer a =
       subst (IsStepped r number end is_placed is_value (Run p) old _) (sym a)
       (when-exhausted r number end is_placed is_value (Run p) old _
       (λ x laid steps h.
       let f = simulation_of r x in
       let w = run f steps (start f) in
       let k = h.parts p q here in (
+        process-within f is_value w old h p q here,
         e (f.opening p) (w.parts p) k,
-        subst (λ s. greatest_number < r.counter s + 24) (sym k.past.state) (lacks refl),
+        subst (λ s. greatest_number < r.counter s + 24) (sym k.past.state) (lacks.0 refl).1,
       ))
       (the_same-when old ps d))
 
@@ -171,7 +185,7 @@ module _ {S K : Type 0} (r : Rules Message S K Note) (number end : S → ℕ) (i
       (q' : Queues S K) → Does r is_value (λ opening. committed_once r old.gvt) q q' → (ps : List (Queues S K)) → ps ≡ set old.processes p q' →
       IsStepped r number end is_placed is_value (Commit p) old (record { processes = ps; mail = old.mail; floors = old.floors; gvt = old.gvt; until = old.until }) (Ok Did)
   commit-did e q' does ps d =
-      when-did r number end is_placed is_value (Commit p) old _
+      when-did r number end is_placed is_value (Commit p) old _ (λ x laid steps h d. d)
       (λ x laid steps h.
       let f = simulation_of r x in
       let w = run f steps (start f) in (
@@ -184,4 +198,4 @@ module _ {S K : Type 0} (r : Rules Message S K Note) (number end : S → ℕ) (i
       IsStepped r number end is_placed is_value (Commit p) old (record { processes = ps; mail = old.mail; floors = old.floors; gvt = old.gvt; until = old.until }) answer
   commit-refused e ps d answer a =
       subst (IsStepped r number end is_placed is_value (Commit p) old _) (sym a)
-      (when-no_memory r number end is_placed is_value (Commit p) old _ (ready true (λ opening part h. sym (e opening part h))) (the_same-when old ps d))
+      (when-no_memory r number end is_placed is_value (Commit p) old _ (λ x laid steps h d. d) (ready true (λ opening part h. sym (e opening part h))) (the_same-when old ps d))

@@ -10,8 +10,9 @@ use Rattle.virtual_time.specs.World.{World, Step, start, run, is_enabled, effect
 use Rattle.actor_world.specs.declared.done.Done.{Done}
 use Rattle.actor_world.specs.declared.done.Done.TheVariants.{Did, NotEnabled}
 use Rattle.actor_world.specs.declared.fault.StepFault.{StepFault}
+use Rattle.actor_world.specs.declared.fault.StepFault.TheVariants.{Exhausted}
 use Rattle.actor_run.specs.Running.{simulation_of}
-use Rattle.actor_world.specs.Worlds.{Held, StandsForWorld, HoldsTheSame, AtEachWorld}
+use Rattle.actor_world.specs.Worlds.{Held, StandsForWorld, HoldsTheSame, IsExhausted, AtEachWorld}
 use Rattle.actor_world.specs.Stepping.{IsStepped}
 
 -- what holds the same stands for the same worlds
@@ -66,3 +67,8 @@ module _ {S K : Type 0} (r : Rules Message S K Note) (number end : S → ℕ) (i
       IfOk answer (λ done. AtEachWorld r number end is_placed is_value old (λ f w. (done ≡ Did) ↔ (is_enabled f y w ≡ true)))
   enabled-at y e answer s =
       subst (λ z. IfOk answer (λ done. AtEachWorld r number end is_placed is_value old (λ f w. (done ≡ Did) ↔ (is_enabled f z w ≡ true)))) (sym e) (answer-enabled answer s)
+
+  pub exhausted-at : (y : Step) → y ≡ x → (answer : Result Done StepFault) → IsStepped r number end is_placed is_value x old new answer →
+      AtEachWorld r number end is_placed is_value old (λ f w. (answer ≡ Err Exhausted) ↔ IsExhausted f y w)
+  exhausted-at y e answer s =
+      subst (λ z. AtEachWorld r number end is_placed is_value old (λ f w. (answer ≡ Err Exhausted) ↔ IsExhausted f z w)) (sym e) s.exhausted

@@ -119,7 +119,7 @@ module _ {S K : Type 0} (r : Rules Message S K Note) (number end : S → ℕ) (i
       IsStepped r number end is_placed is_value (Take p i) old (record { processes = ps; mail = old.mail; floors = old.floors; gvt = old.gvt; until = old.until }) answer
   take-refused i l e ps d answer a =
       subst (IsStepped r number end is_placed is_value (Take p i) old _) (sym a)
-      (when-no_memory r number end is_placed is_value (Take p i) old _
+      (when-no_memory r number end is_placed is_value (Take p i) old _ (λ x laid steps h d. d)
       (λ x laid steps h. take-enabled (simulation_of r x) is_value (run (simulation_of r x) steps (start (simulation_of r x))) old h p q here i l e)
       (the_same-when old ps d))
 
@@ -131,7 +131,7 @@ module _ {S K : Type 0} (r : Rules Message S K Note) (number end : S → ℕ) (i
         slice_get floors p ≡ option_map (min (r.time l.message)) (slice_get old.floors p) →
         IsStepped r number end is_placed is_value (Take p i) old (record { processes = ps; mail = mail; floors = floors; gvt = old.gvt; until = until }) (Ok Did)
     take-did i l e does left others lowered =
-        when-did r number end is_placed is_value (Take p i) old _
+        when-did r number end is_placed is_value (Take p i) old _ (λ x laid steps h d. d)
         (λ x laid steps h.
         let f = simulation_of r x in
         let w = run f steps (start f) in (
@@ -145,7 +145,7 @@ module _ {S K : Type 0} (r : Rules Message S K Note) (number end : S → ℕ) (i
         slice_get floors p ≡ Some floor →
         IsStepped r number end is_placed is_value (Post p) old (record { processes = ps; mail = mail; floors = floors; gvt = old.gvt; until = until }) (Ok Did)
     post-did O stays does sent past floor floor-is here' =
-        when-did r number end is_placed is_value (Post p) old _
+        when-did r number end is_placed is_value (Post p) old _ (λ x laid steps h d. d)
         (λ x laid steps h.
         let f = simulation_of r x in
         let w = run f steps (start f) in
@@ -164,7 +164,7 @@ module _ {S K : Type 0} (r : Rules Message S K Note) (number end : S → ℕ) (i
       IsStepped r number end is_placed is_value (Post p) old (record { processes = ps; mail = mail; floors = old.floors; gvt = old.gvt; until = old.until }) answer
   post-refused ps d mail boxes letters answer a =
       subst (IsStepped r number end is_placed is_value (Post p) old _) (sym a)
-      (when-no_memory r number end is_placed is_value (Post p) old _
+      (when-no_memory r number end is_placed is_value (Post p) old _ (λ x laid steps h d. d)
       (λ x laid steps h. post-enabled (simulation_of r x) is_value (run (simulation_of r x) steps (start (simulation_of r x))) old h p q here)
       (record { processes = d; boxes = boxes; mail = letters; floors = refl; gvt = refl; until = refl }))
 
@@ -197,7 +197,7 @@ module _ {S K : Type 0} (r : Rules Message S K Note) (number end : S → ℕ) (i
       IsStepped r number end is_placed is_value Gvt old (record { processes = old.processes; mail = old.mail; floors = old.floors; gvt = g; until = old.until }) (Ok Did)
   unfolding is_enabled effect
   gvt-did g gvt =
-      when-did r number end is_placed is_value Gvt old _
+      when-did r number end is_placed is_value Gvt old _ (λ x laid steps h d. d)
       (λ x laid steps h. (
         refl,
         record { count = h.count; parts = h.parts; boxes = h.boxes; mail = h.mail; floor_count = h.floor_count; floors = h.floors; gvt = gvt x laid steps h; until = h.until },

@@ -2,35 +2,56 @@
 use Rattle.std.proofs.Common.{◌≡◌, ℕ, ◌<◌, ◌⊎◌, inl, inr, true, false, List, map, length, get_or, slice_get, Some, Result, Ok, Err, refl, sym, ap, ◌∙◌, subst, arith, eq-eqb, ne_eqb}
 use Rattle.std.proofs.Math.ListN.{set}
 use Rattle.std.proofs.Math.Seq.{map-set_same}
-use Rattle.std.proofs.lemmas.Bool.{cases_eq}
+use Rattle.std.proofs.lemmas.Bool.{cases_eq, false≢true, lt-ltb}
+use Rattle.std.specs.Prelude.{Option, None, IsSome, is_some}
 use Rattle.std.specs.Option.{option_map}
 use Rattle.std.proofs.lemmas.List.{get_or-set_same, get_or-set_other, length-map, length-set, map-set}
 use Rattle.std.proofs.lemmas.Option.{slice_get-get_or, get_or_from_slice_get, slice_get_within, slice_get_read, slice_get-map}
 use Rattle.vlink.specs.declared.message.Message.{Message}
 use Rattle.vlink.specs.declared.note.Note.{Note}
 use Rattle.virtual_time.specs.Rules.{Rules}
-use Rattle.virtual_time.specs.Part.{Part}
+use Rattle.virtual_time.specs.Part.{Part, next_of}
 use Rattle.virtual_time.specs.Simulation.{Simulation, put}
-use Rattle.virtual_time.specs.World.{World, Step, is_enabled, effect, with_part}
+use Rattle.virtual_time.specs.World.{World, Step, start, run, is_enabled, effect, with_part}
+use Rattle.virtual_time.specs.World.Step.{Take, Arrive, Run, Post, Gvt, Commit}
 use Rattle.process_queues.specs.Queues.{Queues, InHand, StandsFor}
 use Rattle.actor_world.specs.declared.done.Done.{Done}
 use Rattle.actor_world.specs.declared.done.Done.TheVariants.{Did, NotEnabled}
 use Rattle.actor_world.specs.declared.fault.StepFault.{StepFault}
 use Rattle.actor_world.specs.declared.fault.StepFault.TheVariants.{OutOfMemory, Exhausted}
+use Rattle.actor_run.specs.Running.{simulation_of}
 use Rattle.actor_world.specs.Worlds.{Held, StandsForWorld, HoldsTheSame, IsExhausted, AtEachWorld}
 use Rattle.actor_world.specs.Stepping.{IsStepped}
 
+pub some-is : {A : Type 0} (o : Option A) → IsSome o → is_some o ≡ true
+some-is (Some x) h = refl
+some-is None h = cc
+
+-- an exhausted step is enabled
+exhausted-enabled : {S K : Type 0} (f : Simulation Message S K Note) (x : Step) (w : World Message S) → IsExhausted f x w → is_enabled f x w ≡ true
+unfolding is_enabled
+exhausted-enabled f (Run p) w d = rw (lt-ltb p f.processes d.0) (some-is (next_of f.rules (w.parts p)) d.1)
+exhausted-enabled f (Take p i) w d = absurd d
+exhausted-enabled f (Arrive p) w d = absurd d
+exhausted-enabled f (Post p) w d = absurd d
+exhausted-enabled f Gvt w d = absurd d
+exhausted-enabled f (Commit p) w d = absurd d
+
 module _ {S K : Type 0} (r : Rules Message S K Note) (number end : S → ℕ) (is_placed : S → Type 0) (is_value : S → Message → Type 0) where
-  pub when-did : (x : Step) (old new : Held S K) →
+  -- no numbers are wanting
+  abbrev pub HasNumbers : Step → Held S K → Type 0
+  HasNumbers x old = AtEachWorld r number end is_placed is_value old (λ f w. IsExhausted f x w → ⊥)
+
+  pub when-did : (x : Step) (old new : Held S K) → HasNumbers x old →
       AtEachWorld r number end is_placed is_value old (λ f w. (is_enabled f x w ≡ true) × StandsForWorld f is_value (effect f x w) new) →
       IsStepped r number end is_placed is_value x old new (Ok Did)
-  when-did x old new h = record {
+  when-did x old new n h = record {
     did = λ _. h;
     not_enabled = λ e. absurd cc;
     unchanged = λ n. absurd (n refl);
     known = λ e. cc;
     memory = λ e. absurd cc;
-    exhausted = λ e. absurd cc;
+    exhausted = λ y laid steps k. (λ e. absurd cc, λ d. absurd (n y laid steps k d));
   }
 
   pub when-not_enabled : (x : Step) (old new : Held S K) →
@@ -42,19 +63,24 @@ module _ {S K : Type 0} (r : Rules Message S K Note) (number end : S → ℕ) (i
     unchanged = λ _. s;
     known = λ e. cc;
     memory = λ e. absurd cc;
-    exhausted = λ e. absurd cc;
+    exhausted = λ y laid steps k.
+        let f = simulation_of r y in
+        let w = run f steps (start f) in (
+          λ e. absurd cc,
+          λ d. absurd (false≢true (sym (h y laid steps k) ∙ exhausted-enabled f x w d)),
+        );
   }
 
-  pub when-no_memory : (x : Step) (old new : Held S K) →
+  pub when-no_memory : (x : Step) (old new : Held S K) → HasNumbers x old →
       AtEachWorld r number end is_placed is_value old (λ f w. is_enabled f x w ≡ true) → HoldsTheSame old new →
       IsStepped r number end is_placed is_value x old new (Err OutOfMemory)
-  when-no_memory x old new h s = record {
+  when-no_memory x old new n h s = record {
     did = λ e. absurd cc;
     not_enabled = λ e. absurd cc;
     unchanged = λ _. s;
     known = λ e. cc;
     memory = λ _. h;
-    exhausted = λ e. absurd cc;
+    exhausted = λ y laid steps k. (λ e. absurd cc, λ d. absurd (n y laid steps k d));
   }
 
   pub when-exhausted : (x : Step) (old new : Held S K) →
@@ -66,7 +92,7 @@ module _ {S K : Type 0} (r : Rules Message S K Note) (number end : S → ℕ) (i
     unchanged = λ _. s;
     known = λ e. cc;
     memory = λ e. absurd cc;
-    exhausted = λ _. h;
+    exhausted = λ y laid steps k. (λ e. h y laid steps k, λ d. refl);
   }
 
   -- what is held is told otherwise

@@ -1,5 +1,5 @@
 -- What one step does to what is held of a world.
-use Rattle.std.specs.Prelude.{◌≡◌, ◌≢◌, ℕ, true, false, Result, Ok, Err}
+use Rattle.std.specs.Prelude.{◌≡◌, ◌≢◌, ◌↔◌, ℕ, true, false, Result, Ok, Err}
 use Rattle.vlink.specs.declared.message.Message.{Message}
 use Rattle.vlink.specs.declared.note.Note.{Note}
 use Rattle.virtual_time.specs.Rules.{Rules}
@@ -19,4 +19,4 @@ module _ {S K : Type 0} (r : Rules Message S K Note) (number end : S → ℕ) (i
     pub unchanged : answer ≢ Ok Did → HoldsTheSame old new
     pub known : answer ≢ Err NoProcess
     pub memory : answer ≡ Err OutOfMemory → AtEachWorld r number end is_placed is_value old (λ f w. is_enabled f x w ≡ true)
-    pub exhausted : answer ≡ Err Exhausted → AtEachWorld r number end is_placed is_value old (λ f w. IsExhausted f x w)
+    pub exhausted : AtEachWorld r number end is_placed is_value old (λ f w. (answer ≡ Err Exhausted) ↔ IsExhausted f x w)

@@ -46,9 +46,9 @@ pub record HoldsTheSame {S K : Type 0} (old new : Held S K) : Type 0 where
   pub gvt : new.gvt ≡ old.gvt
   pub until : new.until ≡ old.until
 
--- the step is Run of a process that has a next message, and not enough numbers left for all that one event can send
+-- the step is Run of a process that there is, which has a next message, and not enough numbers left for all that one event can send
 abbrev pub IsExhausted : {S K : Type 0} → Simulation Message S K Note → Step → World Message S → Type 0
-IsExhausted f (Run p) w = IsSome (next_of f.rules (w.parts p)) × (greatest_number < f.rules.counter (w.parts p).state + 24)
+IsExhausted f (Run p) w = (p < f.processes) × IsSome (next_of f.rules (w.parts p)) × (greatest_number < f.rules.counter (w.parts p).state + 24)
 IsExhausted f _ w = ⊥
 
 module _ {S K : Type 0} (r : Rules Message S K Note) (number end : S → ℕ) (is_placed : S → Type 0) (is_value : S → Message → Type 0) where

@@ -16,12 +16,13 @@ use crate::done::Done;
 use crate::fault::StepFault;
 use actor_run::actor_laws;
 use gvt::{gvt_law, horizon};
-use reverse::Actor;
+use reverse::{Actor, actor_rules};
 use vlink::{Letter, Note, Step, Time};
 
 impl<R: Actor> ActorWorld<R> {
     /// Does one step. What is held for a world is afterwards what the step makes of that world; a step that is not enabled, and one that
-    /// is refused, leave it as it was. Steps that are not enabled and Gvt take no memory.
+    /// is refused, leave it as it was. Steps that are not enabled and Gvt take no memory. `Exhausted` comes exactly at Run of a process
+    /// that has a next message, and not enough numbers left for what one event can send.
     pub fn step(&mut self, step: Step) -> Result<Done, StepFault>
         requires { IsAWorld (rules_of R.plain R.counter) R.number R.end R.is_placed R.is_value self.old }
         ensures stands { OnOk result (AtEachWorld (rules_of R.plain R.counter) R.number R.end R.is_placed R.is_value self.old
@@ -30,8 +31,8 @@ impl<R: Actor> ActorWorld<R> {
             (λ f w. (done ≡ Did) ↔ (is_enabled f (step_of step) w ≡ true))) }
         ensures unchanged { result ≢ Ok Did → HoldsTheSame self.old self.new }
         ensures no_process { (result ≡ Err NoProcess) ↔ (names_none (length self.old.processes) step ≡ true) }
-        ensures exhausted { result ≡ Err Exhausted → AtEachWorld (rules_of R.plain R.counter) R.number R.end R.is_placed R.is_value self.old
-            (λ f w. IsExhausted f (step_of step) w) }
+        ensures exhausted { AtEachWorld (rules_of R.plain R.counter) R.number R.end R.is_placed R.is_value self.old
+            (λ f w. (result ≡ Err Exhausted) ↔ IsExhausted f (step_of step) w) }
         ensures memory { result ≡ Err OutOfMemory → AtEachWorld (rules_of R.plain R.counter) R.number R.end R.is_placed R.is_value self.old
             (λ f w. is_enabled f (step_of step) w ≡ true) }
         ensures gvt { step ≡ NotedGvt → result ≡ Ok Did }
@@ -102,6 +103,7 @@ impl<R: Actor> ActorWorld<R> {
         requires there { process < length self.old.processes }
         ensures { IsStepped (rules_of R.plain R.counter) R.number R.end R.is_placed R.is_value (Run process) self.old self.new result }
     {
+        actor_rules::<R>();
         let Some(_message) = self.processes[usize::from(process)].run_with(&mut self.out)? else {
             return Ok(Done::NotEnabled);
         };
