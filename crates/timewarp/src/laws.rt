@@ -1,11 +1,15 @@
 //! What holds of every run of a network, whatever its steps.
-ghost use Rattle.std.specs.Prelude.{ℕ, ◌≡◌, ◌≤◌, List, ◌++◌};
+ghost use Rattle.std.specs.Prelude.{ℕ, ◌≡◌, ◌<◌, ◌≤◌, List, ◌++◌};
 ghost use Rattle.vlink.specs.declared.message.Message.{Message};
-ghost use Rattle.virtual_time.specs.Lists.{earlier, times_in};
+ghost use Rattle.virtual_time.specs.Rules.{rowed};
+ghost use Rattle.virtual_time.specs.Lists.{IsAscending, IsIn, earlier, times_in};
 ghost use Rattle.virtual_time.specs.Simulation.{Laws, made};
-ghost use Rattle.virtual_time.specs.OneThread.{IsBelow};
+ghost use Rattle.virtual_time.specs.OneThread.{IsBelow, one, events, rows_at};
+ghost use Rattle.virtual_time.specs.Letters.{IsNamed};
 ghost use Rattle.virtual_time.specs.World.{Step};
-ghost use Rattle.virtual_time.specs.Safe.{Safe, history, CountLaw, IsFinished, IsWhole};
+ghost use Rattle.virtual_time.specs.Safe.{Safe, history, CountLaw, NothingBefore, IsFinished, IsWhole};
+ghost use Rattle.netdesc.specs.Faults.{process_count};
+ghost use Rattle.nodes.specs.Opening.{opening};
 ghost use Rattle.nodes.specs.Placed.{IsPlaced};
 ghost use Rattle.nodes.specs.Simulation.{simulation_of};
 ghost use Rattle.actor_run.specs.Running.{IsLaidOut};
@@ -39,6 +43,12 @@ pub(crate) fn layout(network: &Network)
 /// - `counts`: messages and antimessages balance. `once`: no message is made twice. `handled_once`: none is handled twice.
 /// - `seen`: also before any moment that is not above GVT, the events are those of the one-thread run.
 /// - `rises`: GVT never falls. `never_undone`: the events below GVT are the same after all later steps.
+/// - `ascend`: the events of a process, first the committed ones and then the done ones, ascend in the message order.
+/// - `committed_early`: each committed event is earlier than GVT.
+/// - `floors`: nothing that a process has in hand is earlier than its floor, no letter of its tray or outbox and no unhandled message.
+/// - `gvt_low`: GVT is at most the floor of each process.
+/// - `outboxes`: each letter of an outbox, of either sign, goes to a process of the network.
+/// - `rows`: the rows of the one-thread run are, at each process, those of its events in their order, from its opening state on.
 /// - `whole`: in a finished world the committed events and their rows are those of the whole one-thread run.
 ///
 /// A call does nothing: its caller learns what the clauses say.
@@ -54,6 +64,17 @@ pub fn world_laws(network: &Network)
     ensures never_undone { (steps more : List Step) (p : ℕ) →
         earlier (simulation_of network.now).rules (after network.now steps).gvt (history (simulation_of network.now) (after network.now (steps ++ more)) p)
         ≡ earlier (simulation_of network.now).rules (after network.now steps).gvt (history (simulation_of network.now) (after network.now steps) p) }
+    ensures ascend { (steps : List Step) (p : ℕ) →
+        IsAscending (simulation_of network.now).rules (history (simulation_of network.now) (after network.now steps) p) }
+    ensures committed_early { (steps : List Step) (p : ℕ) (m : Message) →
+        IsIn (simulation_of network.now).rules m ((after network.now steps).parts p).committed → m.time < (after network.now steps).gvt }
+    ensures floors { (steps : List Step) (p : ℕ) → p < process_count network.now →
+        NothingBefore (simulation_of network.now) ((after network.now steps).floors p) ((after network.now steps).parts p) }
+    ensures gvt_low { (steps : List Step) (p : ℕ) → p < process_count network.now → (after network.now steps).gvt ≤ (after network.now steps).floors p }
+    ensures outboxes { (steps : List Step) (p : ℕ) (m : Message) →
+        IsNamed (simulation_of network.now).rules m ((after network.now steps).parts p).outbox → m.receiver < process_count network.now }
+    ensures rows { (turns p : ℕ) → rows_at (simulation_of network.now) p (one (simulation_of network.now) turns).rows
+        ≡ rowed (simulation_of network.now).rules (opening network.now p) (events (simulation_of network.now) turns p) }
     ensures whole { (steps : List Step) → IsFinished (simulation_of network.now) (after network.now steps) →
         IsWhole (simulation_of network.now) (after network.now steps) }
 {

@@ -8,3 +8,21 @@ returns-clause-once c steps m = c.headline.ensures.once _ c.network_laws.ensures
 
 pub returns-clause-seen : goal.returns-clause-seen
 returns-clause-seen c steps g h p = c.headline.ensures.seen _ c.network_laws.ensures steps g h p
+
+pub returns-clause-ascend : goal.returns-clause-ascend
+returns-clause-ascend c steps p = c.headline.ensures.ascend _ c.network_laws.ensures steps p
+
+pub returns-clause-committed_early : goal.returns-clause-committed_early
+returns-clause-committed_early c steps p m h = c.headline.ensures.committed_early _ c.network_laws.ensures steps p m h
+
+pub returns-clause-floors : goal.returns-clause-floors
+returns-clause-floors c steps p h = c.headline.ensures.floors _ c.network_laws.ensures steps p h
+
+pub returns-clause-gvt_low : goal.returns-clause-gvt_low
+returns-clause-gvt_low c steps p h = c.headline.ensures.gvt_low _ c.network_laws.ensures steps p h
+
+pub returns-clause-outboxes : goal.returns-clause-outboxes
+returns-clause-outboxes c steps p m h = c.headline.ensures.outboxes _ c.network_laws.ensures steps p m h
+
+pub returns-clause-rows : goal.returns-clause-rows
+returns-clause-rows c turns p = c.headline.ensures.rows _ c.network_laws.ensures turns p
