@@ -1,9 +1,10 @@
 //! What a replay has found, step by step.
-ghost use Rattle.std.specs.Prelude.{◌≡◌, ◌≢◌, ◌<◌, ◌≤◌, ◌+◌, ◌^◌, ℕ, List, ◌∷◌, ◌++◌, [], map, Err, OnOk, OnErr, IfOk, IfErr};
+ghost use Rattle.std.specs.Prelude.{◌≡◌, ◌≢◌, ◌↔◌, ◌<◌, ◌≤◌, ◌+◌, ◌^◌, ℕ, true, List, ◌∷◌, ◌++◌, [], map, Err, IsOk, OnOk, OnErr, IfOk, IfErr};
 ghost use Rattle.vlink.specs.declared.message.Message.{Message};
 ghost use Rattle.vlink.specs.declared.step.Step.{Step as Noted};
+ghost use Rattle.vlink.specs.declared.step.Step.TheVariants.{Gvt as NotedGvt};
 ghost use Rattle.virtual_time.specs.Lists.{earlier};
-ghost use Rattle.virtual_time.specs.World.{Step as Stepped};
+ghost use Rattle.virtual_time.specs.World.{Step as Stepped, is_enabled};
 ghost use Rattle.virtual_time.specs.Safe.{Safe, history, CountLaw, IsFinished, IsWhole};
 ghost use Rattle.nodes.specs.Simulation.{simulation_of};
 ghost use Rattle.actor_world.specs.declared.fault.StepFault.TheVariants.{NoProcess, OutOfMemory, Exhausted};
@@ -60,8 +61,9 @@ impl Replay {
     }
 
     /// Does one more step, and counts it. A step that is not enabled, or names a process that there is not, is counted and passed over: it
-    /// changes nothing. `OutOfMemory` comes only where a growth was refused, and `Exhausted` only at `Run` of a process that has not enough
-    /// numbers left for what one event can send; both leave the world and the counts as they were.
+    /// changes nothing. `OutOfMemory` comes only where a growth was refused, at a step that is enabled and not `Gvt`, and `Exhausted` exactly
+    /// at `Run` of a process that has a next message, and not enough numbers left for what one event can send; both leave the world and the
+    /// counts as they were.
     pub fn do_step(&mut self, step: Step) -> Result<(), StepFault>
         requires { self.old.did + self.old.not_enabled + self.old.refused < 2 ^ 63 }
         ensures replayed { OnOk result ((steps : List Noted) → IsReplayed self.old steps → IsReplayed self.new (steps ++ step ∷ [])) }
@@ -69,8 +71,11 @@ impl Replay {
         ensures network { self.new.world.plan ≡ self.old.world.plan }
         ensures refused { OnErr result ((steps : List Noted) → IsReplayed self.old steps → IsReplayed self.new steps) }
         ensures known { result ≢ Err NoProcess }
-        ensures exhausted { result ≡ Err Exhausted → (steps : List Noted) → IsReplayed self.old steps →
-            IsExhausted (simulation_of self.old.world.plan) (step_of step) (after self.old.world.plan (map step_of steps)) }
+        ensures exhausted { (steps : List Noted) → IsReplayed self.old steps → (result ≡ Err Exhausted)
+            ↔ IsExhausted (simulation_of self.old.world.plan) (step_of step) (after self.old.world.plan (map step_of steps)) }
+        ensures memory { result ≡ Err OutOfMemory → (steps : List Noted) → IsReplayed self.old steps →
+            is_enabled (simulation_of self.old.world.plan) (step_of step) (after self.old.world.plan (map step_of steps)) ≡ true }
+        ensures gvt { step ≡ NotedGvt → IsOk result }
     {
         match self.world.step(step) {
             Ok(Done::Did) => {

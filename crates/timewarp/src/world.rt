@@ -65,8 +65,8 @@ impl World {
     /// Does one step, if it is enabled. A step that is not enabled, and one that is refused, change nothing.
     ///
     /// `NoProcess` comes exactly where the step names a process that there is not. `OutOfMemory` comes only where a growth was refused:
-    /// neither at `Gvt` nor at a step that is not enabled. `Exhausted` comes only at `Run` of a process that has not enough numbers
-    /// left for what one event can send.
+    /// neither at `Gvt` nor at a step that is not enabled. `Exhausted` comes exactly at `Run` of a process that has a next message, and
+    /// not enough numbers left for what one event can send.
     pub fn step(&mut self, step: Step) -> Result<Done, StepFault>
         ensures network { self.new.plan ≡ self.old.plan }
         ensures after { OnOk result ((steps : List Stepped) → IsAfter self.old steps → IsAfter self.new (steps ++ step_of step ∷ [])) }
@@ -75,8 +75,8 @@ impl World {
             (done ≡ Did) ↔ (is_enabled (simulation_of self.old.plan) (step_of step) (after self.old.plan steps) ≡ true)) }
         ensures unchanged { result ≢ Ok Did → HoldsTheSame self.old.held self.new.held }
         ensures no_process { (result ≡ Err NoProcess) ↔ (names_none (process_count self.old.plan) step ≡ true) }
-        ensures exhausted { result ≡ Err Exhausted → (steps : List Stepped) → IsAfter self.old steps →
-            IsExhausted (simulation_of self.old.plan) (step_of step) (after self.old.plan steps) }
+        ensures exhausted { (steps : List Stepped) → IsAfter self.old steps →
+            (result ≡ Err Exhausted) ↔ IsExhausted (simulation_of self.old.plan) (step_of step) (after self.old.plan steps) }
         ensures memory { result ≡ Err OutOfMemory → (steps : List Stepped) → IsAfter self.old steps →
             is_enabled (simulation_of self.old.plan) (step_of step) (after self.old.plan steps) ≡ true }
         ensures gvt { step ≡ NotedGvt → result ≡ Ok Did }

@@ -11,5 +11,5 @@ returns-in_ok-read_rest-in-Err-Exhausted-clause-fault c =
     let rest = c.in_ok-read_rest-in-Err-Exhausted.ensures.all (steps ++ step ∷ []) (c.next_of.ensures.step step is steps are.read) in (
       (steps ++ step ∷ []) ++ rest.0,
       record { written = rest.1.written ∙ c.next_of.ensures.text; fits = rest.1.fits; within = are.within },
-      exhausted_in c.args.found.now.world.plan steps rest.0 step (c.do_step.ensures.exhausted given steps are.replayed),
+      exhausted_in c.args.found.now.world.plan steps rest.0 step ((c.do_step.ensures.exhausted steps are.replayed).0 given),
     )

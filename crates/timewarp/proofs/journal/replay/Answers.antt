@@ -46,7 +46,7 @@ returns-in_err-do_step-clause-exhausted c = λ e.
       slice_get-get_or steps i (NotedTake 0 0) (omega (arith, c.loop-step-test.true)),
       subst (λ (ys : List Step). IsExhausted (simulation_of c.args.network) (step_of x) (after c.args.network ys)) (sym (take-map step_of i steps))
           (subst (λ (plan : Plan). IsExhausted (simulation_of plan) (step_of x) (after plan (map step_of (take i steps)))) c.loop-step.invariant.network
-          (c.do_step.ensures.exhausted k (take i steps) c.loop-step.invariant.replayed)),
+          ((c.do_step.ensures.exhausted (take i steps) c.loop-step.invariant.replayed).0 k)),
     )
 
 pub loop-step-preserved : goal.loop-step-preserved

@@ -1,8 +1,9 @@
-use Rattle.std.proofs.Common.{◌≡◌, ◌↔◌, ◌++◌, true, List, [], ◌∷◌, OnOk, OnErr, IfOk, subst}
+use Rattle.std.proofs.Common.{◌≡◌, ◌↔◌, ◌++◌, true, List, [], ◌∷◌, Err, OnOk, OnErr, IfOk, subst}
 use Rattle.virtual_time.specs.World.{Step, is_enabled}
 use Rattle.nodes.specs.Simulation.{simulation_of}
 use Rattle.seqsim.specs.Networks.{setting_of}
 use Rattle.actor_world.specs.declared.done.Done.TheVariants.{Did}
+use Rattle.actor_world.specs.declared.fault.StepFault.TheVariants.{Exhausted}
 use Rattle.actor_world.specs.Steps.{step_of}
 use Rattle.actor_world.specs.Worlds.{IsExhausted}
 use Rattle.timewarp.specs.Networks.{NetworkWorld, after, IsAfter}
@@ -35,9 +36,10 @@ returns-clause-enabled c =
     c.step.result c.step.ensures.enabled)
 
 pub returns-clause-exhausted : goal.returns-clause-exhausted
-returns-clause-exhausted c = λ e.
-    subst (λ (old : NetworkWorld). (steps : List Step) → IsAfter old steps → IsExhausted (simulation_of old.plan) (step_of c.args.step) (after old.plan steps)) c.self.view_is
-    (λ steps h. c.step.ensures.exhausted e (setting_of c.self.inside.network) c.layout.ensures.layout steps h)
+returns-clause-exhausted c =
+    subst (λ (old : NetworkWorld). (steps : List Step) → IsAfter old steps →
+    (c.step.result ≡ Err Exhausted) ↔ IsExhausted (simulation_of old.plan) (step_of c.args.step) (after old.plan steps)) c.self.view_is
+    (λ steps h. c.step.ensures.exhausted (setting_of c.self.inside.network) c.layout.ensures.layout steps h)
 
 pub returns-clause-memory : goal.returns-clause-memory
 returns-clause-memory c = λ e.
