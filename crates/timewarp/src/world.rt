@@ -85,6 +85,14 @@ impl World {
         self.actors.step(step)
     }
 
+    /// The law of a world: what is held is the world of its network after some steps, so that a caller who was handed one can use the
+    /// clauses on a world after steps. A call does nothing: its caller learns what the clause says.
+    pub fn lawful(&self)
+        ensures { (steps : List Stepped) × IsAfter self.now steps }
+    {
+        let _ = &self.network;
+    }
+
     /// The network.
     pub fn network(&self) -> &Network
         ensures { result.now ≡ self.now.plan }
