@@ -10,13 +10,16 @@ use std::test::Fail;
 
 /// The text that a row begins with, and what the row tells.
 pub fn changed<'a>(alloc: Global, row: &'a str) -> Result<(String, &'a str), Fail> {
-    let (base, mut rest) = row.split_once(" => ").ok_or("a row of one part")?;
-    let mut text = network(alloc, base)?;
-    while let Some((change, others)) = rest.split_once(" => ") {
-        text = with_change(alloc, text.as_str(), change)?;
-        rest = others;
+    let (begin, told) = row.rsplit_once(" => ").ok_or("a row of one part")?;
+    let mut text = String::new(alloc);
+    for (place, part) in begin.split(" => ").enumerate() {
+        text = if place == 0 {
+            network(alloc, part)?
+        } else {
+            with_change(alloc, text.as_str(), part)?
+        };
     }
-    Ok((text, rest))
+    Ok((text, told))
 }
 
 /// A text with one change.

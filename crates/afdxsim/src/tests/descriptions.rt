@@ -4,7 +4,7 @@ mod order;
 mod rules;
 
 use super::changes::changed;
-use super::host::{MemoryHost, says};
+use super::host::{MemoryHost, Page, says};
 use super::networks::network;
 use crate::perform;
 use keys::{KINDS, LIMITS, LIMITS_OF_LINKS, LIMITS_OF_VIRTUAL_LINKS, MISSING, SYNTAX};
@@ -250,8 +250,8 @@ fn is_told_or_wants_memory(
     told: &str,
 ) -> Result<bool, AllocError> {
     let mut host = MemoryHost::new(alloc, net.as_bytes())?;
-    host.output.bytes = Vec::with_capacity(alloc, 128)?;
-    host.errors.bytes = Vec::with_capacity(alloc, 128)?;
+    host.output = Page::with_room(alloc, 128)?;
+    host.errors = Page::with_room(alloc, 128)?;
     let ended = perform(&[command, "net.toml"], alloc, &mut host);
     let (page, other) = if ended == 0 {
         (&host.output, &host.errors)

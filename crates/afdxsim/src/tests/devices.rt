@@ -61,10 +61,12 @@ fn end(alloc: Global, net: &str, words: &str, most: usize, writes: u64) -> Resul
         all.push(word)?;
     }
     let mut host = MemoryHost::new(alloc, net.as_bytes())?;
-    for page in [&mut host.output, &mut host.errors, &mut host.file] {
-        page.most = most;
-        page.writes = writes;
-    }
+    host.output.most = most;
+    host.output.writes = writes;
+    host.errors.most = most;
+    host.errors.writes = writes;
+    host.file.most = most;
+    host.file.writes = writes;
     let status = perform(&all, alloc, &mut host);
     let trace = host.written();
     Ok(Outcome {

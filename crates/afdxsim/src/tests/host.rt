@@ -27,6 +27,17 @@ impl Page {
         }
     }
 
+    /// An empty page that takes all, with room for so many bytes.
+    pub fn with_room(alloc: Global, room: usize) -> Result<Self, AllocError> {
+        let bytes = Vec::with_capacity(alloc, room)?;
+        Ok(Page {
+            bytes,
+            most: usize::MAX,
+            writes: u64::MAX,
+            failures: 0,
+        })
+    }
+
     /// An empty page that takes so much at a time and so often as this one.
     fn like(&self, alloc: Global) -> Self {
         Page {
