@@ -19,7 +19,7 @@ use Rattle.timewarp.specs.Networks.{NetworkWorld, after, IsAfter, AreCommittedRo
 use Rattle.timewarp.specs.Replaying.{did, not_enabled, refused}
 use Rattle.timewarp.specs.Replayed.{IsReplayed}
 use Rattle.afdxsim.specs.declared.account.Account.{Account}
-use Rattle.afdxsim.specs.declared.stepping.TheConstants.{MOST_LINES}
+use Rattle.afdxsim.specs.declared.journal.TheConstants.{MOST_LINES}
 use Rattle.afdxsim.specs.declared.fault.Fault.{Fault}
 use Rattle.afdxsim.specs.declared.fault.Fault.TheVariants.{OutOfMemory, Exhausted}
 use Rattle.afdxsim.specs.Replaying.{summary_text, fault_of_lines, IsSummary, IsJournal, AreCommittedTables, TellsOfSteps, TellsOfJournal, IsExhaustedIn, IsFaultOfJournal}

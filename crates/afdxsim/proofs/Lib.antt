@@ -2,4 +2,3 @@ pub mod Asking
 pub mod Committing
 pub mod WordsLemmas
 pub mod Accounts
-pub mod GivingUp

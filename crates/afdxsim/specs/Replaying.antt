@@ -10,17 +10,14 @@ use Rattle.journal_text.specs.declared.fault.LinesFault.{LinesFault}
 use Rattle.journal_text.specs.declared.fault.LinesFault.TheVariants as journal
 use Rattle.journal_text.specs.Text.{Fits, steps_text}
 use Rattle.journal_text.specs.Lines.{lines, IsFirstBad}
-use Rattle.journal_text.specs.Journals.{JournalState, AreReadOf}
 use Rattle.trace_tables.specs.Tables.{TableLists, tables_of}
 use Rattle.seqsim.specs.Networks.{AreRowsOf}
 use Rattle.timewarp.specs.Steps.{step_of}
 use Rattle.timewarp.specs.Worlds.{IsExhausted}
 use Rattle.timewarp.specs.Networks.{after, AreCommittedRows}
 use Rattle.timewarp.specs.Replaying.{did, not_enabled, refused}
-use Rattle.timewarp.specs.Replayed.{IsReplayed}
-use Rattle.timewarp.specs.declared.counting.Replay.{Replay}
 use Rattle.afdxsim.specs.declared.account.Account.{Account}
-use Rattle.afdxsim.specs.declared.stepping.TheConstants.{MOST_LINES}
+use Rattle.afdxsim.specs.declared.journal.TheConstants.{MOST_LINES}
 use Rattle.afdxsim.specs.declared.fault.Fault.{Fault}
 use Rattle.afdxsim.specs.declared.fault.Fault.TheVariants.{Description, JournalLine, JournalFull, CannotRead, CannotWriteFile, CannotWrite, OutOfMemory, Exhausted}
 
@@ -67,17 +64,6 @@ pub record IsJournal (text : List ℕ) (steps : List Noting) : Type 0 where
   pub fits : All Fits steps
   pub within : length (lines text) ≤ MOST_LINES
 
--- these are all steps of the journal with this text
-pub record AreAllOf (text : List ℕ) (steps : List Noting) : Type 0 where
-  pub written : steps_text steps ≡ text
-  pub fits : All Fits steps
-
--- the steps of the lines that were read of a journal were done, and each was counted
-pub record IsDone (found : Replay) (journal : JournalState) (steps : List Noting) : Type 0 where
-  pub read : AreReadOf journal steps
-  pub replayed : IsReplayed found steps
-  pub within : length (lines journal.text) ≤ MOST_LINES
-
 -- the account tells of the journal with this text, done on this network
 abbrev pub TellsOfJournal : Plan → List ℕ → Account → Type 0
 TellsOfJournal plan text account = (steps : List Noting) × IsJournal text steps × TellsOfSteps plan steps account
@@ -87,10 +73,6 @@ abbrev pub fault_of_lines : LinesFault → Fault
 fault_of_lines journal.TooMany = JournalFull
 fault_of_lines (journal.BadLine n) = JournalLine n
 fault_of_lines journal.OutOfMemory = OutOfMemory
-
--- the fault tells the first line of the text that is the text of no step
-abbrev pub IsBadLine : List ℕ → Fault → Type 0
-IsBadLine text fault = (n : ℕ) × (fault ≡ JournalLine n) × IsFirstBad text n
 
 -- at some step of these the process has not enough numbers left for what one event can send
 abbrev pub IsExhaustedIn : Plan → List Noting → Type 0

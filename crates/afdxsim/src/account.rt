@@ -14,7 +14,7 @@ ghost use Rattle.afdxsim.specs.declared.fault.Fault.TheVariants.{OutOfMemory, Ex
 ghost use Rattle.afdxsim.specs.Replaying.{counted_text, finish_text, summary_text, fault_of_lines, IsSummary, IsJournal, AreCommittedTables, TellsOfSteps, TellsOfJournal, IsExhaustedIn, IsFaultOfJournal};
 
 use crate::fault::Fault;
-use crate::stepping::done;
+use crate::journal::{done, steps_of};
 use netdesc::Network;
 use std::alloc::{AllocError, Global};
 use timewarp::{Replay, World};
@@ -118,17 +118,18 @@ fn told(alloc: Global, found: Replay) -> Result<Account, AllocError>
     })
 }
 
-/// Does the journal with this text on a network, and tells what it came to.
+/// Does the journal with this text on a network, and tells what it came to. All its lines are read before its first step is done.
 ///
 /// `JournalFull` comes exactly where the text has more than 67108864 lines, and `JournalLine` tells the first line, from 1, that is the
-/// text of no step. `OutOfMemory` comes only where a growth was refused, and `Exhausted` only at `Run` of a process that has not enough
-/// numbers left for what one event can send.
+/// text of no step. `OutOfMemory` comes only where a growth was refused, and `Exhausted` only at `Run` of a process that has a next
+/// message, and not enough numbers left for what one event can send.
 #[tactic(auto, using(crate::proofs::Accounts::tells, crate::proofs::Accounts::memory_fault, crate::proofs::Accounts::steps_fault))]
 pub fn account_of(alloc: Global, network: Network, text: &[u8]) -> Result<Account, Fault<'static>>
     ensures told { IfOk result (TellsOfJournal network text.now) }
     ensures network { IfOk result (λ account. account.world.plan ≡ network) }
     ensures fault { IfErr result (IsFaultOfJournal network text.now) }
 {
-    let found = done(alloc, network, text)?;
+    let steps = steps_of(alloc, text)?;
+    let found = done(alloc, network, &steps)?;
     Ok(told(alloc, found)?)
 }
