@@ -1,5 +1,5 @@
 -- Digits at the front of a text, and the number that they write.
-use Rattle.std.proofs.Common.{◌≡◌, ◌∙◌, ℕ, ◌+◌, ◌-◌, ◌*◌, ◌^◌, ◌<◌, ◌≤◌, ◌≢◌, true, false, cond, nat_lt, List, [], ◌∷◌, ◌++◌, length, get_or, drop, refl, sym, ap, subst, inl, inr, ◌⊎◌, append_assoc, arith}
+use Rattle.std.proofs.Common.{◌≡◌, ◌∙◌, ℕ, ◌+◌, ◌-◌, ◌*◌, ◌^◌, ◌<◌, ◌≤◌, ◌≢◌, false, cond, nat_lt, List, [], ◌∷◌, ◌++◌, length, get_or, drop, refl, sym, ap, subst, inl, inr, ◌⊎◌, append_assoc, arith}
 use Rattle.std.specs.Prelude.{⊤, decimal}
 use Rattle.std.specs.Char.{digit_value, is_ascii_digit}
 use Rattle.std.specs.Int.{IsInRange}
@@ -70,39 +70,6 @@ no_number end ds behind h digits none never n rest small e =
 
 pub not_digit : (c : ℕ) → is_ascii_digit c ≡ false → 10 ≤ digit_value c
 not_digit c h = grind (arith, nat_tests)
-
-pub a_digit : (c : ℕ) → is_ascii_digit c ≡ true → IsInRange 48 57 c
-a_digit c h = grind (arith, nat_tests)
-
-pub small_digit : (c : ℕ) → IsInRange 48 57 c → digit_value c < 10
-small_digit c h = omega (arith, digit_value-is c h, h.0, h.1)
-
--- a digit is the text of its value
-pub decimal_one : (c : ℕ) → is_ascii_digit c ≡ true → decimal (c - 48) ≡ c ∷ []
-decimal_one c h =
-    let range = a_digit c h in
-    decimal_digit (c - 48) (omega (arith, range.0, range.1)) ∙ ap (λ (d : ℕ). d ∷ []) (omega (arith, range.0))
-
--- digits without a leading zero are the text of their value
-pub decimal_leading : (ds : List ℕ) (n : ℕ) → LeadingDigit ds → AllDigits 10 ds → n ≡ digits_value 10 ds → n < 2 ^ 32 → decimal n ≡ ds
-decimal_leading [] n leading digits is small = absurd leading
-decimal_leading (d ∷ ds) n leading digits is small =
-    ap decimal is ∙ decimal-digits_value numerals (d ∷ ds) digits (omega arith) (λ zero. absurd (omega (arith, zero, leading.0))) (omega (arith, is, small))
-
-pub decimal_two : (a b : ℕ) → IsInRange 49 57 a → is_ascii_digit b ≡ true → decimal (a * 10 + b - 528) ≡ a ∷ b ∷ []
-decimal_two a b h k =
-    let first : IsInRange 48 57 a = (omega (arith, h.0), h.1) in
-    let second = a_digit b k in
-    decimal_leading (a ∷ b ∷ []) (a * 10 + b - 528) h (small_digit a first, (small_digit b second, tt))
-    (omega (arith, digit_value-is a first, digit_value-is b second, first.0, second.0)) (omega (arith, h.1, second.1))
-
-pub decimal_three : (a b c : ℕ) → IsInRange 49 57 a → is_ascii_digit b ≡ true → is_ascii_digit c ≡ true → decimal (a * 100 + b * 10 + c - 5328) ≡ a ∷ b ∷ c ∷ []
-decimal_three a b c h k l =
-    let first : IsInRange 48 57 a = (omega (arith, h.0), h.1) in
-    let second = a_digit b k in
-    let third = a_digit c l in
-    decimal_leading (a ∷ b ∷ c ∷ []) (a * 100 + b * 10 + c - 5328) h (small_digit a first, (small_digit b second, (small_digit c third, tt)))
-    (omega (arith, digit_value-is a first, digit_value-is b second, digit_value-is c third, first.0, second.0, third.0)) (omega (arith, h.1, second.1, third.1))
 
 -- so much of a text was read: digits that write this value
 pub record IsReadTo (text rest : List ℕ) (value : ℕ) : Type 0 where

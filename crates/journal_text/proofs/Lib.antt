@@ -2,5 +2,4 @@ pub mod DigitLemmas
 pub mod StepLemmas
 pub mod LineLemmas
 pub mod TextLemmas
-pub mod JournalLemmas
 pub mod AnswerLemmas

@@ -1,8 +1,5 @@
 -- The lines of a text that begins with the line of a step.
-use Rattle.std.proofs.Common.{◌≡◌, ◌∙◌, ℕ, ◌+◌, ◌-◌, ◌^◌, ◌<◌, ◌≤◌, ◌==◌, Bool, true, false, cond, List, [], ◌∷◌, ◌++◌, get_or, length, take, drop, refl, sym, ap, subst, arith}
-use Rattle.std.proofs.lemmas.List.{take-append-drop, take_more, take_all}
-use Rattle.std.proofs.lemmas.List.Elements.{All-from_get_or}
-use Rattle.std.proofs.lemmas.List.Sums.{sum_by-cons, sum_by-append, sum_by-le, sum_by_more}
+use Rattle.std.proofs.Common.{◌≡◌, ◌∙◌, ℕ, ◌+◌, ◌-◌, ◌^◌, ◌<◌, ◌≤◌, ◌==◌, Bool, true, false, cond, List, [], ◌∷◌, ◌++◌, length, refl, sym, ap, subst, arith}
 use Rattle.std.specs.Prelude.{decimal}
 use Rattle.std.specs.List.{onto_first, concat}
 use Rattle.std.specs.Str.Parse.{AllDigits}
@@ -11,7 +8,7 @@ use Rattle.std.proofs.lemmas.Str.Parse.{digit_from_value}
 use Rattle.vlink.specs.declared.step.Step.{Step}
 use Rattle.vlink.specs.declared.step.Step.TheVariants.{Take, Arrive, Run, Post, Gvt, Commit}
 use Rattle.journal_text.specs.Text.{Fits, number_then, step_line}
-use Rattle.journal_text.specs.Lines.{lines, feeds}
+use Rattle.journal_text.specs.Lines.{lines}
 use Rattle.journal_text.proofs.DigitLemmas.{decimal_digits, number_then-append}
 
 -- a line whose line feed is its last byte
@@ -101,41 +98,3 @@ lines_begun-cons true b bs = first_byte b bs
 lines_begun-cons false b bs =
     let same = onto_first-same 0 (lines (b ∷ bs)) (lines-some (b ∷ bs) (omega arith)) in
     omega (arith, same, first_byte b bs)
-
--- each line but the last ends with a line feed
-begun-front : (begins : Bool) (front : List ℕ) (b : ℕ) → lines_begun begins (front ++ b ∷ []) ≡ cond begins 1 0 + feeds front
-begun-front begins [] b = lines_begun-cons begins b [] ∙ ap (λ (n : ℕ). cond begins 1 0 + n) (none (b == 10))
-  where
-    none : (t : Bool) → lines_begun t [] ≡ 0
-    none true = refl
-    none false = refl
-begun-front begins (x ∷ xs) b =
-    lines_begun-cons begins x (xs ++ b ∷ [])
-    ∙ ap (λ (n : ℕ). cond begins 1 0 + n) (begun-front (x == 10) xs b ∙ sym (sum_by-cons (λ (y : ℕ). cond (y == 10) 1 0) x xs))
-
-pub lines-front : (front : List ℕ) (b : ℕ) → length (lines (front ++ b ∷ [])) ≡ feeds front + 1
-lines-front front b = omega (arith, begun-front true front b)
-
-pub lines-last : (text : List ℕ) → 1 ≤ length text → feeds (take (length text - 1) text) + 1 ≡ length (lines text)
-lines-last text some =
-    let i = length text - 1 in
-    sym (lines-front (take i text) (get_or text i 0))
-    ∙ ap (λ (t : List ℕ). length (lines t)) (sym (take_more text i 0 (omega (arith, some))) ∙ take_all (i + 1) text (omega (arith, some)))
-
--- a part that is looked through a byte at a time
-pub feeds_more : (text : List ℕ) (i : ℕ) → i < length text → feeds (take (i + 1) text) ≡ feeds (take i text) + cond (get_or text i 0 == 10) 1 0
-feeds_more text i lt = sum_by_more (λ (y : ℕ). cond (y == 10) 1 0) text i 0 lt
-
-pub feeds_some : (text : List ℕ) (i : ℕ) → i < length text → get_or text i 0 ≡ 10 → feeds (take (i + 1) text) ≡ feeds (take i text) + 1
-feeds_some text i lt e = feeds_more text i lt ∙ ap (λ (b : ℕ). feeds (take i text) + cond (b == 10) 1 0) e
-
--- a text that is cut in two
-pub feeds-parts : (text : List ℕ) (n : ℕ) → feeds text ≡ feeds (take n text) + feeds (drop n text)
-feeds-parts text n = ap feeds (sym (take-append-drop n text)) ∙ sum_by-append (λ (y : ℕ). cond (y == 10) 1 0) (take n text) (drop n text)
-
-pub feeds-le : (text : List ℕ) → feeds text ≤ length text
-feeds-le text = omega (arith, sum_by-le (λ (y : ℕ). cond (y == 10) 1 0) 1 text (All-from_get_or (λ (y : ℕ). cond (y == 10) 1 0 ≤ 1) text 0 (λ i lt. one (get_or text i 0 == 10))))
-  where
-    one : (t : Bool) → cond t 1 0 ≤ 1
-    one true = omega arith
-    one false = omega arith

@@ -1,7 +1,7 @@
 -- The lines of a text, and which of them is refused.
-use Rattle.std.specs.Prelude.{ℕ, ◌≡◌, ◌<◌, ◌≤◌, ◌-◌, ◌==◌, ◌⊎◌, All, length, take, slice_index_or, if◌then◌else◌, cond, List, [], ◌∷◌, Result, MatchResult}
+use Rattle.std.specs.Prelude.{ℕ, ◌≡◌, ◌<◌, ◌≤◌, ◌-◌, ◌==◌, ◌⊎◌, All, length, take, slice_index_or, if◌then◌else◌, List, [], ◌∷◌, Result, MatchResult}
 use Rattle.std.specs.Global.{Vec}
-use Rattle.std.specs.List.{onto_first, sum_by}
+use Rattle.std.specs.List.{onto_first}
 use Rattle.vlink.specs.declared.step.Step.{Step}
 use Rattle.journal_text.specs.declared.fault.LinesFault.{LinesFault}
 use Rattle.journal_text.specs.declared.fault.LinesFault.TheVariants.{TooMany, BadLine, OutOfMemory}
@@ -11,10 +11,6 @@ use Rattle.journal_text.specs.Text.{Fits, step_line}
 abbrev pub lines : List ℕ → List (List ℕ)
 lines [] = []
 lines (b ∷ bs) = if b == 10 then (10 ∷ []) ∷ lines bs else onto_first b (lines bs)
-
--- how many line feeds a text has
-abbrev pub feeds : List ℕ → ℕ
-feeds text = sum_by (λ b. cond (b == 10) 1 0) text
 
 -- a line is the line of a step
 abbrev pub IsStepLine : List ℕ → Type 0

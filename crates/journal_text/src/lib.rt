@@ -3,11 +3,9 @@
 
 mod counting;
 mod fault;
-mod journal;
 mod line;
 mod number;
-mod read;
+mod steps;
 
 pub use fault::LinesFault;
-pub use journal::Journal;
-pub use read::read_steps;
+pub use steps::read_steps;

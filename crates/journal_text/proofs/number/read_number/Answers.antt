@@ -3,7 +3,7 @@ use Rattle.std.specs.Prelude.{IfNone}
 use Rattle.journal_text.specs.Text.{number_then}
 use Rattle.journal_text.specs.Fronts.{BeginsWithNone}
 use Rattle.journal_text.proofs.DigitLemmas.{no_digit_first, zero_is_cut, zero_is_read}
-use Rattle.journal_text.proofs.number.read_long.Goals as goal
+use Rattle.journal_text.proofs.number.read_number.Goals as goal
 
 pub returns-in_err-behind-clause-none : goal.returns-in_err-behind-clause-none
 returns-in_err-behind-clause-none c =

@@ -1,6 +1,6 @@
 use Rattle.std.proofs.Common.{◌≡◌, ◌++◌, All, length}
 use Rattle.journal_text.specs.Text.{Fits, steps_text}
-use Rattle.journal_text.proofs.read.read_lines.Given as goal
+use Rattle.journal_text.proofs.steps.read_lines.Given as goal
 
 abbrev pub invariant-loop-rest : goal.invariant-loop-rest
 invariant-loop-rest l = record {

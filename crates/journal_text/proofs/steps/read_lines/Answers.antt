@@ -2,7 +2,7 @@ use Rattle.std.proofs.Common.{◌<◌, length, subst, arith}
 use Rattle.std.proofs.lemmas.Grind.{common_steps}
 use Rattle.journal_text.specs.Lines.{IsFirstBad}
 use Rattle.journal_text.proofs.TextLemmas.{bad_behind}
-use Rattle.journal_text.proofs.read.read_lines.Goals as goal
+use Rattle.journal_text.proofs.steps.read_lines.Goals as goal
 
 pub returns-in-None-clause-fault : goal.returns-in-None-clause-fault
 returns-in-None-clause-fault c =

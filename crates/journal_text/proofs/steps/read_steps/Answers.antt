@@ -1,7 +1,7 @@
 use Rattle.std.proofs.Common.{arith}
 use Rattle.journal_text.proofs.AnswerLemmas.{accepted, refused, bounded}
 use Rattle.journal_text.proofs.TextLemmas.{length-lines}
-use Rattle.journal_text.proofs.read.read_steps.Goals as goal
+use Rattle.journal_text.proofs.steps.read_steps.Goals as goal
 
 pub returns-then-count-most-clause-accepts : goal.returns-then-count-most-clause-accepts
 returns-then-count-most-clause-accepts c steps fits is low = absurd (omega (arith, length-lines steps c.args.text.now fits is))
