@@ -988,7 +988,7 @@ def copies_panel(net, tables):
 def histogram(rising, marks):
     """The latencies of one virtual link at one destination as bars, with percentiles as lines."""
     least, greatest = rising[0], rising[-1]
-    step, high = 21, 30
+    step, high = 18, 30
     wide = BARS * step
     if least == greatest:
         ends = f'<text x="{wide // 2}" y="43" text-anchor="middle">{span(least)}, all</text>'
@@ -1199,7 +1199,7 @@ th:has(.axis){padding-left:0;padding-right:0}
 .hg svg{display:block}
 .hg text,.time text{font-size:10.5px;fill:var(--soft)}
 .bars{fill:#7fa8c9}
-.hg svg{width:588px;height:46px;background:linear-gradient(#8894a0,#8894a0) 0 29.5px/100% 1px no-repeat}
+.hg svg{width:504px;height:46px;background:linear-gradient(#8894a0,#8894a0) 0 29.5px/100% 1px no-repeat}
 path.p50,path.p95,path.p99{stroke-width:1.6;fill:none}
 path.p50{stroke:#217a57}
 path.p95{stroke:#d08700}
