@@ -29,7 +29,7 @@ pub(crate) fn post(rt: &impl Abort, stage: &mut Stage) -> Result<(), ProcFault> 
     stage.process.post(&mut stage.mail)
 }
 
-// A letter of another process is posted: its receiver, and how it is written.
+// A letter of another process is posted in room made before: its receiver, and how it is written.
 pub(crate) fn send(
     rt: &impl Abort,
     alloc: Global,
@@ -42,6 +42,7 @@ pub(crate) fn send(
     let mut outbox = Outbox::new(alloc);
     outbox.push(letter)?;
     assert!(rt; outbox.goes_within(usize::from(mail.processes())));
+    mail.reserve(&outbox)?;
     mail.post(&mut outbox)?;
     Ok(())
 }
