@@ -19,6 +19,7 @@ run +10 +20 +30 tray arrive arrive arrive arrive tray run run run run outbox => 
 +10 arrive run +20 arrive run +30 arrive run post +15 arrive seal seal => 0 10 0 20 0 30 2 1 0 sum 10 counter 1
 +10 arrive run +20 arrive run +30 arrive run +40 arrive run +15 arrive outbox count:15 oldest next => 0 10 0 20 0 30 0 40 3 +15.0 +25.1 +35.2 +45.3 -45.3 -35.2 -25.1 1 10 15@2 sum 0 counter 0
 +10 arrive run +20 arrive run +30 arrive run post +40 arrive +15 arrive outbox run run => 0 10 0 20 0 30 0 2 -35.2 -25.1 15 20 sum 0 counter 0
++1 arrive run +2 arrive run +3 arrive run +4 arrive run +5 arrive run +6 arrive run +7 arrive run +8 arrive run +9 arrive run +10 arrive run +11 arrive run +12 arrive run +13 arrive run +14 arrive run +15 arrive run +16 arrive run +17 arrive run +18 arrive run +19 arrive run +20 arrive run +21 arrive run +22 arrive run +23 arrive run +24 arrive run +25 arrive run +11@1 arrive oldest next post take:1:25 take:1:38 take:1:38 => 0 1 0 2 0 3 0 4 0 5 0 6 0 7 0 8 0 9 0 10 0 11 0 12 0 13 0 14 0 15 0 16 0 17 0 18 0 19 0 20 0 21 0 22 0 23 0 24 0 25 15 1 11@1 -30.24 -16.10 none sum 0 counter 0
 +10 arrive run +10@1 arrive next => 0 10 1 10@1 sum 0 counter 0
 +10@1 arrive run +10 arrive next => 0 10 0 10@2 sum 0 counter 0
 +10 arrive run +20 arrive run +30 arrive run post -20 arrive outbox run outbox run => 0 10 0 20 0 30 2 -35.2 -25.1 30 -35.2 -25.1 +35.1 none sum 0 counter 0
