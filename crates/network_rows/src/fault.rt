@@ -1,4 +1,5 @@
 use crate::key::{Key, Section};
+use std::alloc::AllocError;
 use thiserror::Error;
 
 /// Where a description has a fault.
@@ -44,4 +45,15 @@ pub enum DescFault {
     /// A growth was refused.
     #[error("out of memory")]
     OutOfMemory,
+}
+
+impl From<AllocError> for DescFault {
+    ghost use Rattle.std.specs.Prelude.{◌≡◌};
+    ghost use Rattle.network_rows.specs.declared.fault.DescFault.TheVariants.{OutOfMemory};
+
+    ghost from_gives = { λ _ fault. fault ≡ OutOfMemory };
+
+    fn from(_: AllocError) -> Self {
+        DescFault::OutOfMemory
+    }
 }
