@@ -1,6 +1,7 @@
 -- Lists with nothing in them.
-use Rattle.std.proofs.Common.{◌≡◌, Bool, true, false, List, [], ◌∷◌, ◌++◌, map, filter, cond, refl}
+use Rattle.std.proofs.Common.{◌≡◌, List, [], ◌∷◌, ◌++◌, map, None, refl}
 use Rattle.std.specs.List.{AllByRecursion, flat_map}
+use Rattle.network_rows.specs.Faults.{first}
 
 pub not_empty : {X : Type 0} (x : X) (xs : List X) → x ∷ xs ≡ [] → ⊥
 not_empty x xs e = cc
@@ -21,11 +22,7 @@ pub flat_map_empty : {X Y : Type 0} (f : X → List Y) (xs : List X) → flat_ma
 flat_map_empty f [] e = tt
 flat_map_empty f (x ∷ xs) e = (front_empty (f x) (flat_map f xs) e, flat_map_empty f xs (back_empty (f x) (flat_map f xs) e))
 
-head_fails : {X R : Type 0} (test : X → Bool) (x : X) (xs : List X) (b : Bool) → test x ≡ b → cond b (x ∷ xs) xs ≡ [] → (xs ≡ [] → R) → (test x ≡ false) × R
-head_fails test x xs true is e rest = absurd (not_empty x xs e)
-head_fails test x xs false is e rest = (is, rest e)
-
--- no element passes the test
-pub filter_empty : {X : Type 0} (test : X → Bool) (xs : List X) → filter test xs ≡ [] → AllByRecursion (λ x. test x ≡ false) xs
-filter_empty test [] e = tt
-filter_empty test (x ∷ xs) e = head_fails test x (filter test xs) (test x) refl e (filter_empty test xs)
+-- a list that has no first one
+pub first_none : {X : Type 0} (xs : List X) → first xs ≡ None → xs ≡ []
+first_none [] e = refl
+first_none (x ∷ xs) e = cc

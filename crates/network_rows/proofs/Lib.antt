@@ -1,13 +1,8 @@
 pub mod Items
-pub mod HeldLemmas
 pub mod Removed
-pub mod Firsts
+pub mod Noted
 pub mod Names
 pub mod Empty
 pub mod Sound
 pub mod Limits
 pub mod Examples
-pub mod Whole
-pub mod Known
-pub mod Next
-pub mod Turned

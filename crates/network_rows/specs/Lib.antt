@@ -1,8 +1,8 @@
 pub mod Keys
 pub mod Values
 pub mod Kinds
+pub mod Table
 pub mod Faults
+pub mod Firsts
 pub mod Rows
 pub mod Within
-pub mod Held
-pub mod InOrder

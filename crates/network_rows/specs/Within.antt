@@ -8,7 +8,7 @@ use Rattle.network_rows.specs.declared.rows.LinkRow.{LinkRow}
 use Rattle.network_rows.specs.declared.rows.OutageRow.{OutageRow}
 use Rattle.network_rows.specs.declared.rows.VlRow.{VlRow}
 use Rattle.network_rows.specs.declared.rows.Rows.{Rows}
-use Rattle.network_rows.specs.declared.table.TheConstants as keys
+use Rattle.network_rows.specs.Table as keys
 use Rattle.network_rows.specs.Kinds.{allows, allows_text, allows_path}
 
 -- the line of the table allows the number
@@ -17,19 +17,19 @@ Allows rule n = allows rule.kind n ≡ true
 
 abbrev pub IsNodeKindWithin : NodeKind → Type 0
 IsNodeKindWithin EndSystem = ⊤
-IsNodeKindWithin (Switch net latency_ns) = Allows keys.LATENCY_NS latency_ns
+IsNodeKindWithin (Switch net latency_ns) = Allows keys.latency_ns latency_ns
 
 pub record IsNodeWithin (row : NodeRow) : Type 0 where
-  pub name : allows_text keys.NAME.kind row.name ≡ true
+  pub name : allows_text keys.name.kind row.name ≡ true
   pub kind : IsNodeKindWithin row.kind
-  pub port_bytes : Allows keys.PORT_BYTES row.port_bytes
+  pub port_bytes : Allows keys.port_bytes row.port_bytes
 
 pub record IsLinkWithin (row : LinkRow) : Type 0 where
-  pub propagation_ns : Allows keys.PROPAGATION_NS row.propagation_ns
+  pub propagation_ns : Allows keys.propagation_ns row.propagation_ns
 
 pub record IsOutageWithin (row : OutageRow) : Type 0 where
-  pub from_ns : Allows keys.FROM_NS row.from_ns
-  pub to_ns : Allows keys.TO_NS row.to_ns
+  pub from_ns : Allows keys.from_ns row.from_ns
+  pub to_ns : Allows keys.to_ns row.to_ns
   pub in_order : row.from_ns < row.to_ns
 
 -- each path has so many names as the line of the table allows
@@ -37,22 +37,22 @@ abbrev pub ArePathsWithin : Rule → List (List (List ℕ)) → Type 0
 ArePathsWithin rule paths = All (λ path. allows_path rule.kind path ≡ true) paths
 
 pub record IsVlWithin (row : VlRow) : Type 0 where
-  pub id : Allows keys.ID row.id.0
-  pub bag_ms : Allows keys.BAG_MS row.bag_ms
-  pub smax : Allows keys.SMAX row.smax
-  pub policing_jitter_ns : Allows keys.POLICING_JITTER_NS row.policing_jitter_ns
-  pub skew_max_ns : Allows keys.SKEW_MAX_NS row.skew_max_ns
-  pub depth : Allows keys.DEPTH row.depth
-  pub size : Allows keys.SIZE row.size
-  pub offset_ns : Allows keys.OFFSET_NS row.offset_ns
-  pub period_ns : Allows keys.PERIOD_NS row.period_ns
-  pub jitter_ns : Allows keys.JITTER_NS row.jitter_ns
-  pub a : ArePathsWithin keys.PATHS_A row.a
-  pub b : ArePathsWithin keys.PATHS_B row.b
+  pub id : Allows keys.id row.id.0
+  pub bag_ms : Allows keys.bag_ms row.bag_ms
+  pub smax : Allows keys.smax row.smax
+  pub policing_jitter_ns : Allows keys.policing_jitter_ns row.policing_jitter_ns
+  pub skew_max_ns : Allows keys.skew_max_ns row.skew_max_ns
+  pub depth : Allows keys.depth row.depth
+  pub size : Allows keys.size row.size
+  pub offset_ns : Allows keys.offset_ns row.offset_ns
+  pub period_ns : Allows keys.period_ns row.period_ns
+  pub jitter_ns : Allows keys.jitter_ns row.jitter_ns
+  pub a : ArePathsWithin keys.paths_a row.a
+  pub b : ArePathsWithin keys.paths_b row.b
 
 pub record AreWithin (rows : Rows) : Type 0 where
-  pub until : Allows keys.UNTIL_NS rows.until
-  pub seed : Allows keys.SEED rows.seed
+  pub until : Allows keys.until_ns rows.until
+  pub seed : Allows keys.seed rows.seed
   pub nodes : All IsNodeWithin rows.nodes
   pub links : All IsLinkWithin rows.links
   pub outages : All IsOutageWithin rows.outages

@@ -12,6 +12,17 @@ pub struct Place {
     pub key: Option<Key>,
 }
 
+/// What is wrong with a key of a row, in the order in which it is told.
+#[derive(Clone, Copy, Debug, PartialEq, Eq)]
+pub enum KeyFault {
+    /// It is absent, and the row has to have it.
+    Missing,
+    /// Its value is of another kind.
+    WrongKind,
+    /// Its value is of the kind, and outside the limit.
+    OutOfLimit,
+}
+
 /// Why a text is no description of a network, numbered 1 to 10 in this order.
 #[derive(Clone, Copy, Debug, PartialEq, Eq, Error)]
 pub enum DescFault {

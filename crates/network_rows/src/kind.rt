@@ -1,5 +1,5 @@
 //! Whether a value is of a kind, and within its limit.
-ghost use Rattle.std.specs.Prelude.{◌≡◌, ◌&&◌, option_map, length};
+ghost use Rattle.std.specs.Prelude.{◌≡◌, option_map, length};
 ghost use Rattle.std.specs.List.{list_all};
 ghost use Rattle.toml.specs.Data.{as_str};
 ghost use Rattle.toml.specs.View.{view, table_view};
@@ -67,16 +67,6 @@ impl Kind {
             },
             Kind::Reference => true,
             Kind::Paths(least, greatest) => are_paths_within(least, greatest, value),
-        }
-    }
-
-    /// Whether a value in this row is of this kind and within its limit. Paths within their limit are paths, so they are gone through once.
-    pub fn admits(self, row: &Table, value: &Value) -> bool
-        ensures { result ≡ (has_kind self (view value.now) && keeps_limit self (table_view row.now) (view value.now)) }
-    {
-        match self {
-            Kind::Paths(least, greatest) => are_paths_within(least, greatest, value),
-            _ => self.has(value) && self.keeps_limit(row, value),
         }
     }
 }

@@ -1,22 +1,23 @@
 //! From the text of a network description to its rows: what each key alone tells, and the first fault of a text that has one.
 #![tactic(auto)]
 
-mod check;
 mod fault;
-mod held;
-mod in_order;
+mod find_faults;
+mod first_places;
 mod key;
+mod key_fault;
 mod kind;
+mod make_row;
 mod name;
 mod paths;
 mod read;
 mod read_row;
 mod read_value;
-mod read_vl;
 mod rows;
 mod rule;
 mod sequence;
 mod table;
+mod take;
 mod unknown;
 mod value;
 

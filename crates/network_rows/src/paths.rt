@@ -1,13 +1,13 @@
 //! The paths of a virtual link as the description has them: no name in them is copied.
-ghost use Rattle.std.specs.Prelude.{◌≡◌, ◌<◌, true, [], length, is_some, slice_index_or, unwrap_or};
-ghost use Rattle.std.specs.List.{list_all};
+ghost use Rattle.std.specs.Prelude.{◌≡◌, ◌<◌, [], length, slice_index_or, unwrap_or};
 ghost use Rattle.toml.specs.Data.{as_str};
 ghost use Rattle.toml.specs.View.{view, items_view};
 ghost use Rattle.network_rows.specs.Values.{all_as, as_list, as_paths};
 
+use crate::value::are_each_path;
 use std::alloc::Global;
 use std::marker::Model;
-use toml::{Table, Value};
+use toml::Value;
 
 /// A path: the names of the nodes that it goes through, the source first.
 ///
@@ -52,8 +52,6 @@ impl<'a> Path<'a> {
 #[derive(Debug, Drop)]
 pub struct Paths {
     paths: Vec<Value>,
-    // What is left of the row that they were read from: many small pieces, which are given back with the paths.
-    rest: Option<Table>,
 }
 
 impl Model for Paths {
@@ -77,36 +75,27 @@ impl Paths {
     {
         Paths {
             paths: Vec::new(alloc),
-            rest: None,
         }
     }
 
-    /// The paths that these values are. It does not look through them.
-    fn of_each(paths: Vec<Value>) -> Self
-        requires { list_all (λ v. is_some (as_list as_str (view v))) paths.items ≡ true }
+    /// The paths that these values are, if each is one; else none.
+    fn of_each(alloc: Global, paths: Vec<Value>) -> Self
         ensures { result ≡ unwrap_or (all_as (as_list as_str) (items_view paths.items)) [] }
     {
-        Paths { paths, rest: None }
+        if are_each_path(paths.as_slice()) {
+            Paths { paths }
+        } else {
+            Paths::none(alloc)
+        }
     }
 
-    /// The paths that a value is a list of. It does not look through them.
+    /// The paths that a value is a list of; none for what is no list of paths.
     pub(crate) fn from_value(alloc: Global, value: Value) -> Self
-        requires { is_some (as_paths (view value)) ≡ true }
         ensures { result ≡ unwrap_or (as_paths (view value)) [] }
     {
         match value {
-            Value::Array(paths) => Paths::of_each(paths),
+            Value::Array(paths) => Paths::of_each(alloc, paths),
             _ => Paths::none(alloc),
-        }
-    }
-
-    /// The same paths, with what is left of their row.
-    pub(crate) fn with_rest(self, rest: Table) -> Self
-        ensures { result ≡ self }
-    {
-        Paths {
-            paths: self.paths,
-            rest: Some(rest),
         }
     }
 

@@ -3,8 +3,8 @@ ghost use Rattle.network_rows.specs.Faults.{faults_of_text, IsFirstFault};
 ghost use Rattle.network_rows.specs.Rows.{Means};
 ghost use Rattle.network_rows.specs.Within.{AreWithin};
 
-use crate::check::first_fault;
 use crate::fault::DescFault;
+use crate::find_faults::first_fault;
 use crate::read_row::rows;
 use crate::rows::Rows;
 use std::alloc::Global;
@@ -26,8 +26,5 @@ pub fn read_rows(alloc: Global, text: &str) -> Result<Rows, DescFault>
     if let Some(fault) = first_fault(&document) {
         return Err(fault);
     }
-    match rows(alloc, document) {
-        Ok(rows) => Ok(rows),
-        Err(_) => Err(DescFault::OutOfMemory),
-    }
+    Ok(rows(alloc, document)?)
 }

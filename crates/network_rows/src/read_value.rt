@@ -1,40 +1,46 @@
 //! What stands in a table, made into values of rows.
-ghost use Rattle.std.specs.Prelude.{◌≡◌, IfOk};
-ghost use Rattle.toml.specs.View.{table_view};
+ghost use Rattle.std.specs.Prelude.{◌≡◌, [], option_map, option_and_then, unwrap_or};
+ghost use Rattle.toml.specs.Data.{as_str};
+ghost use Rattle.toml.specs.View.{view, table_view};
+ghost use Rattle.network_rows.specs.Values.{as_paths, text_of};
 ghost use Rattle.network_rows.specs.Kinds.{least_of};
-ghost use Rattle.network_rows.specs.Rows.{number_or_least, number_at, text_at};
+ghost use Rattle.network_rows.specs.Rows.{default_of, number_or_default, number_at};
 
-use crate::key::Key;
 use crate::name::Name;
-use crate::rule::{Kind, Rule};
-use crate::value::{number_in, text_in};
-use std::alloc::{AllocError, Global};
-use toml::Table;
+use crate::paths::Paths;
+use crate::rule::{Kind, Presence, Rule};
+use crate::value::number_in;
+use std::alloc::Global;
+use toml::{Table, Value};
 
-/// The number at the key of a line of the table, or the least number that the line allows.
+/// The number at the key of a line of the table. One that the line does not allow counts as the least that it allows.
 pub fn number_at(rule: Rule, row: &Table) -> u64
     ensures { result ≡ number_at rule (table_view row.now) }
 {
-    number_or_least(rule, number_in(row, rule.key))
+    number_or_default(rule, number_in(row, rule.key))
 }
 
-/// The number, if the line of the table allows it; else the least number that the line allows.
-#[inline]
-pub fn number_or_least(rule: Rule, number: Option<u64>) -> u64
-    ensures { result ≡ number_or_least rule number }
+// The number, if the line of the table allows it; else the least number that the line allows, and for none the default.
+fn number_or_default(rule: Rule, number: Option<u64>) -> u64
+    ensures { result ≡ number_or_default rule number }
 {
     match number {
         Some(n) if rule.kind.allows(n) => n,
-        _ => rule.kind.least(),
+        Some(_) => rule.kind.least(),
+        None => rule.number_if_absent(),
     }
 }
 
-/// The name at a key.
-pub fn name_at(alloc: Global, row: &Table, key: Key) -> Result<Name, AllocError>
-    ensures { IfOk result (λ name. name ≡ text_at key (table_view row.now)) }
-{
-    let text = text_in(row, key).unwrap_or("");
-    Ok(Name::from_string(String::from_str(alloc, text)?))
+impl Rule {
+    // The number that an absent key stands for.
+    fn number_if_absent(self) -> u64
+        ensures { result ≡ default_of self.presence self.kind }
+    {
+        match self.presence {
+            Presence::Optional(default) => default,
+            Presence::Required | Presence::ForSwitches => self.kind.least(),
+        }
+    }
 }
 
 impl Kind {
@@ -48,5 +54,35 @@ impl Kind {
             Kind::EitherInteger(first, _) => first,
             _ => 0,
         }
+    }
+}
+
+/// The name that a value is, if there is one; else the empty one.
+pub fn name_of(alloc: Global, value: Option<Value>) -> Name
+    ensures { result ≡ unwrap_or (option_and_then as_str (option_map view value)) [] }
+{
+    match value {
+        Some(value) => name_of_value(alloc, value),
+        None => Name::from_string(String::new(alloc)),
+    }
+}
+
+// The name that a value is; the empty one for what is no text.
+fn name_of_value(alloc: Global, value: Value) -> Name
+    ensures { result ≡ text_of (view value) }
+{
+    match value {
+        Value::String(text) => Name::from_string(text),
+        _ => Name::from_string(String::new(alloc)),
+    }
+}
+
+/// The paths that a value is a list of, if there is one; else none.
+pub fn paths_of(alloc: Global, value: Option<Value>) -> Paths
+    ensures { result ≡ unwrap_or (option_and_then as_paths (option_map view value)) [] }
+{
+    match value {
+        Some(value) => Paths::from_value(alloc, value),
+        None => Paths::none(alloc),
     }
 }

@@ -7,6 +7,8 @@ pub enum Presence {
     Required,
     /// Each row whose kind is `switch` has it, and no other.
     ForSwitches,
+    /// Each row may have it. Where one has it not, the number is this.
+    Optional(u64),
 }
 
 /// What the value at a key has to be: its kind, and with it the limit.
@@ -38,12 +40,4 @@ pub struct Rule {
     pub presence: Presence,
     /// What its value has to be.
     pub kind: Kind,
-}
-
-/// What is asked of a key: that it is there, that its value is of its kind, or that the value is within the limit.
-#[derive(Clone, Copy, Debug, PartialEq, Eq)]
-pub enum Check {
-    OfPresence,
-    OfKind,
-    OfLimit,
 }

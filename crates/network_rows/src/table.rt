@@ -1,4 +1,7 @@
-//! The keys of each section, in the order of checks, with their kinds and limits. They stand here and nowhere else.
+//! The keys of each section, in the order of checks, with their kinds and limits: the table of specs/Table.antt, line by line.
+ghost use Rattle.std.specs.Prelude.{◌≡◌};
+ghost use Rattle.network_rows.specs.Table.{keys_of};
+
 use crate::key::Word::{A, B, Es, High, Low, Switch};
 use crate::key::{Key, Section};
 use crate::rule::Kind::{
@@ -87,15 +90,15 @@ pub const PATHS_A: Rule = rule!(A, Required, Paths(3, 32));
 
 pub const PATHS_B: Rule = rule!(B, Required, Paths(3, 32));
 
-pub const TOP_KEYS: [Rule; 2] = [UNTIL_NS, SEED];
+const TOP_KEYS: [Rule; 2] = [UNTIL_NS, SEED];
 
-pub const NODE_KEYS: [Rule; 5] = [NAME, KIND, PORT_BYTES, NET, LATENCY_NS];
+const NODE_KEYS: [Rule; 5] = [NAME, KIND, PORT_BYTES, NET, LATENCY_NS];
 
-pub const LINK_KEYS: [Rule; 4] = [LINK_A, LINK_B, MBIT, PROPAGATION_NS];
+const LINK_KEYS: [Rule; 4] = [LINK_A, LINK_B, MBIT, PROPAGATION_NS];
 
-pub const OUTAGE_KEYS: [Rule; 4] = [FROM, TO, FROM_NS, TO_NS];
+const OUTAGE_KEYS: [Rule; 4] = [FROM, TO, FROM_NS, TO_NS];
 
-pub const VL_KEYS: [Rule; 13] = [
+const VL_KEYS: [Rule; 13] = [
     ID,
     BAG_MS,
     SMAX,
@@ -111,19 +114,15 @@ pub const VL_KEYS: [Rule; 13] = [
     PATHS_B,
 ];
 
-/// The keys of `VL_KEYS` in the order in which a table has them.
-pub const VL_KEYS_IN_ORDER: [Rule; 13] = [
-    PATHS_A,
-    PATHS_B,
-    BAG_MS,
-    DEPTH,
-    ID,
-    JITTER_NS,
-    OFFSET_NS,
-    PERIOD_NS,
-    POLICING_JITTER_NS,
-    PRIORITY,
-    SIZE,
-    SKEW_MAX_NS,
-    SMAX,
-];
+/// The keys of a section, in the order of checks.
+pub fn keys_of(section: Section) -> &'static [Rule]
+    ensures { result.now ≡ keys_of section }
+{
+    match section {
+        Section::Top => &TOP_KEYS,
+        Section::Node => &NODE_KEYS,
+        Section::Link => &LINK_KEYS,
+        Section::Outage => &OUTAGE_KEYS,
+        Section::Vl => &VL_KEYS,
+    }
+}

@@ -6,11 +6,11 @@ ghost use Rattle.toml.specs.View.{table_view};
 ghost use Rattle.network_rows.specs.Keys.{key_text, section_text};
 ghost use Rattle.network_rows.specs.Faults.{applies};
 ghost use Rattle.network_rows.specs.Rows.{is_known, has_unknown_key};
+ghost use Rattle.network_rows.specs.Table.{lists};
 
-use crate::check::keys_of;
 use crate::key::Section;
 use crate::rule::Rule;
-use crate::table::LISTS;
+use crate::table::{LISTS, keys_of};
 use toml::Table;
 
 /// Whether a table of a section has a key that it may not have.
@@ -39,7 +39,7 @@ fn is_key(rules: &[Rule], row: &Table, name: &str) -> bool
 
 // Whether the name is that of a section which is a list.
 fn is_list(name: &str) -> bool
-    ensures { result ≡ list_any (bytes_eq name.now) (map section_text LISTS) }
+    ensures { result ≡ list_any (bytes_eq name.now) (map section_text lists) }
 {
     LISTS.iter().any(|section| name == section.text())
 }

@@ -1,5 +1,5 @@
 //! What stands at a key of a table, read without copying.
-ghost use Rattle.std.specs.Prelude.{◌≡◌, is_some, length, option_map, option_and_then, option_copied};
+ghost use Rattle.std.specs.Prelude.{◌≡◌, is_some, length, option_map, option_and_then};
 ghost use Rattle.std.specs.List.{list_all};
 ghost use Rattle.std.specs.Str.{bytes_eq};
 ghost use Rattle.toml.specs.Data.{as_str, get_member};
@@ -44,16 +44,6 @@ pub fn number_in(row: &Table, key: Key) -> Option<u64>
     }
 }
 
-/// The text at a key.
-pub fn text_in<'a>(row: &'a Table, key: Key) -> Option<&'a str>
-    ensures { option_copied result ≡ option_and_then as_str (value_at key (table_view row.now)) }
-{
-    match value_at(row, key) {
-        Some(value) => value.as_str(),
-        None => None,
-    }
-}
-
 /// Whether the text at a key is this word.
 pub fn has_word(row: &Table, key: Key, word: Word) -> bool
     ensures { result ≡ has_word key word (table_view row.now) }
@@ -64,8 +54,8 @@ pub fn has_word(row: &Table, key: Key, word: Word) -> bool
     }
 }
 
-/// Whether the value is this word.
-pub fn is_word(value: &Value, word: Word) -> bool
+// Whether the value is this word.
+fn is_word(value: &Value, word: Word) -> bool
     ensures { result ≡ passes (bytes_eq (word_text word)) (as_str (view value.now)) }
 {
     match value.as_str() {
@@ -101,8 +91,8 @@ pub fn are_paths(value: &Value) -> bool
     }
 }
 
-// Whether each of these is a path.
-fn are_each_path(paths: &[Value]) -> bool
+/// Whether each of these is a path.
+pub fn are_each_path(paths: &[Value]) -> bool
     ensures { result ≡ list_all (λ v. is_some (as_list as_str (view v))) paths.now }
 {
     paths.iter().all(|path| is_path(path))

@@ -1,0 +1,28 @@
+-- The first place of each sort of fault, while a document is gone through.
+use Rattle.std.specs.Prelude.{List, [], ◌∷◌, Option, Some, None, option_map, unwrap_or}
+use Rattle.network_rows.specs.declared.fault.Place.{Place}
+use Rattle.network_rows.specs.declared.fault.KeyFault.{KeyFault}
+use Rattle.network_rows.specs.declared.fault.KeyFault.TheVariants as sort
+use Rattle.network_rows.specs.declared.fault.DescFault.{DescFault}
+use Rattle.network_rows.specs.declared.fault.DescFault.TheVariants.{Missing, WrongKind, OutOfLimit}
+use Rattle.network_rows.specs.declared.first_places.FirstPlaces.{FirstPlaces}
+
+abbrev pub nowhere : FirstPlaces
+nowhere = record { missing = None; wrong_kind = None; out_of_limit = None }
+
+-- with one more fault, which is the first of its sort unless there was one before
+abbrev pub noted : FirstPlaces → KeyFault → Place → FirstPlaces
+noted firsts sort.Missing place = record firsts { missing = Some (unwrap_or firsts.missing place) }
+noted firsts sort.WrongKind place = record firsts { wrong_kind = Some (unwrap_or firsts.wrong_kind place) }
+noted firsts sort.OutOfLimit place = record firsts { out_of_limit = Some (unwrap_or firsts.out_of_limit place) }
+
+-- with these faults, one after another
+abbrev pub all_noted : FirstPlaces → List (KeyFault × Place) → FirstPlaces
+all_noted firsts [] = firsts
+all_noted firsts (f ∷ fs) = all_noted (noted firsts f.0 f.1) fs
+
+-- the fault that is told, from the first place of each sort
+abbrev pub told : Option Place → Option Place → Option Place → Option DescFault
+told (Some place) wrong_kind out_of_limit = Some (Missing place)
+told None (Some place) out_of_limit = Some (WrongKind place)
+told None None out_of_limit = option_map OutOfLimit out_of_limit

@@ -1,0 +1,124 @@
+-- The table of keys: the keys of each section in the order of checks, each with the rows that have it, its kind and its limits. Times are in ns,
+-- sizes in bytes, and the bandwidth allocation gap (ARINC 664 Part 7) in ms.
+use Rattle.std.specs.Prelude.{List, [], ◌∷◌}
+use Rattle.network_rows.specs.declared.key.Section.{Section}
+use Rattle.network_rows.specs.declared.key.Section.TheVariants.{Top, Node, Link, Outage, Vl}
+use Rattle.network_rows.specs.declared.key.Key.{Key}
+use Rattle.network_rows.specs.declared.key.Key.TheVariants as key
+use Rattle.network_rows.specs.declared.key.Word.TheVariants as word
+use Rattle.network_rows.specs.declared.rule.Kind.{Kind}
+use Rattle.network_rows.specs.declared.rule.Kind.TheVariants.{Integer, IntegerAbove, OneOf, EitherInteger, EitherWord, NodeName, Reference, Paths}
+use Rattle.network_rows.specs.declared.rule.Presence.{Presence}
+use Rattle.network_rows.specs.declared.rule.Presence.TheVariants.{Required, ForSwitches}
+use Rattle.network_rows.specs.declared.rule.Rule.{Rule}
+
+abbrev pub asks : Key → Presence → Kind → Rule
+asks key presence kind = record { key = key; presence = presence; kind = kind }
+
+-- ---- the top table
+
+abbrev pub until_ns : Rule
+until_ns = asks key.UntilNs Required (Integer 1 1000000000000)
+
+abbrev pub seed : Rule
+seed = asks key.Seed Required (Integer 0 9223372036854775807)
+
+-- ---- node
+
+abbrev pub name : Rule
+name = asks key.Name Required (NodeName 1 32)
+
+abbrev pub kind : Rule
+kind = asks key.Kind Required (EitherWord word.Es word.Switch)
+
+abbrev pub port_bytes : Rule
+port_bytes = asks key.PortBytes Required (Integer 1518 1048576)
+
+abbrev pub net : Rule
+net = asks key.Net ForSwitches (EitherWord word.A word.B)
+
+abbrev pub latency_ns : Rule
+latency_ns = asks key.LatencyNs ForSwitches (Integer 1 1000000000)
+
+-- ---- link
+
+abbrev pub link_a : Rule
+link_a = asks key.A Required Reference
+
+abbrev pub link_b : Rule
+link_b = asks key.B Required Reference
+
+abbrev pub mbit : Rule
+mbit = asks key.Mbit Required (EitherInteger 10 100)
+
+abbrev pub propagation_ns : Rule
+propagation_ns = asks key.PropagationNs Required (Integer 1 1000000000)
+
+-- ---- outage
+
+abbrev pub from : Rule
+from = asks key.From Required Reference
+
+abbrev pub to : Rule
+to = asks key.To Required Reference
+
+abbrev pub from_ns : Rule
+from_ns = asks key.FromNs Required (Integer 0 1000000000000)
+
+abbrev pub to_ns : Rule
+to_ns = asks key.ToNs Required (IntegerAbove key.FromNs 0 1000000000000)
+
+-- ---- vl
+
+abbrev pub id : Rule
+id = asks key.Id Required (Integer 0 65535)
+
+abbrev pub bag_ms : Rule
+bag_ms = asks key.BagMs Required (OneOf (1 ∷ 2 ∷ 4 ∷ 8 ∷ 16 ∷ 32 ∷ 64 ∷ 128 ∷ []))
+
+abbrev pub smax : Rule
+smax = asks key.Smax Required (Integer 64 1518)
+
+abbrev pub priority : Rule
+priority = asks key.Priority Required (EitherWord word.High word.Low)
+
+abbrev pub policing_jitter_ns : Rule
+policing_jitter_ns = asks key.PolicingJitterNs Required (Integer 0 1000000000)
+
+abbrev pub skew_max_ns : Rule
+skew_max_ns = asks key.SkewMaxNs Required (Integer 0 1000000000)
+
+abbrev pub depth : Rule
+depth = asks key.Depth Required (Integer 1 1024)
+
+abbrev pub size : Rule
+size = asks key.Size Required (Integer 64 1518)
+
+abbrev pub offset_ns : Rule
+offset_ns = asks key.OffsetNs Required (Integer 0 1000000000000)
+
+abbrev pub period_ns : Rule
+period_ns = asks key.PeriodNs Required (Integer 1000 1000000000000)
+
+abbrev pub jitter_ns : Rule
+jitter_ns = asks key.JitterNs Required (Integer 0 1000000000)
+
+abbrev pub paths_a : Rule
+paths_a = asks key.A Required (Paths 3 32)
+
+abbrev pub paths_b : Rule
+paths_b = asks key.B Required (Paths 3 32)
+
+-- ---- the order of checks
+
+-- the sections that are lists of tables; the top table comes before them
+abbrev pub lists : List Section
+lists = Node ∷ Link ∷ Outage ∷ Vl ∷ []
+
+abbrev pub keys_of : Section → List Rule
+keys_of Top = until_ns ∷ seed ∷ []
+keys_of Node = name ∷ kind ∷ port_bytes ∷ net ∷ latency_ns ∷ []
+keys_of Link = link_a ∷ link_b ∷ mbit ∷ propagation_ns ∷ []
+keys_of Outage = from ∷ to ∷ from_ns ∷ to_ns ∷ []
+keys_of Vl =
+    id ∷ bag_ms ∷ smax ∷ priority ∷ policing_jitter_ns ∷ skew_max_ns ∷ depth ∷ size ∷ offset_ns ∷ period_ns ∷ jitter_ns ∷ paths_a ∷ paths_b ∷ []

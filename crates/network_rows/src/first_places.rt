@@ -1,0 +1,50 @@
+ghost use Rattle.std.specs.Prelude.{◌≡◌};
+ghost use Rattle.network_rows.specs.Firsts.{nowhere, noted, told};
+
+use crate::fault::{DescFault, KeyFault, Place};
+
+/// The first place of each sort of fault, while a document is gone through in its order.
+#[derive(Clone, Copy, Debug, PartialEq, Eq)]
+pub struct FirstPlaces {
+    pub missing: Option<Place>,
+    pub wrong_kind: Option<Place>,
+    pub out_of_limit: Option<Place>,
+}
+
+impl FirstPlaces {
+    /// Before the first fault.
+    pub fn none() -> Self
+        ensures { result ≡ nowhere }
+    {
+        FirstPlaces {
+            missing: None,
+            wrong_kind: None,
+            out_of_limit: None,
+        }
+    }
+
+    /// Notes a fault that comes after those noted before.
+    pub fn note(&mut self, fault: KeyFault, place: Place)
+        ensures { self.new ≡ noted self.old fault place }
+    {
+        match fault {
+            KeyFault::Missing => self.missing = Some(self.missing.unwrap_or(place)),
+            KeyFault::WrongKind => self.wrong_kind = Some(self.wrong_kind.unwrap_or(place)),
+            KeyFault::OutOfLimit => self.out_of_limit = Some(self.out_of_limit.unwrap_or(place)),
+        }
+    }
+
+    /// The fault that is told, if there is one: what is missing before what is of a wrong kind, and this before what is out of its limit.
+    pub fn told(&self) -> Option<DescFault>
+        ensures { result ≡ told self.now.missing self.now.wrong_kind self.now.out_of_limit }
+    {
+        if let Some(place) = self.missing {
+            return Some(DescFault::Missing(place));
+        }
+        if let Some(place) = self.wrong_kind {
+            return Some(DescFault::WrongKind(place));
+        }
+        let place = self.out_of_limit?;
+        Some(DescFault::OutOfLimit(place))
+    }
+}
