@@ -1,3 +1,4 @@
 pub mod Order
 pub mod Numbering
 pub mod Wire
+pub mod Moment

@@ -17,5 +17,5 @@ pub use note::{Cause, Note, Row};
 pub use numbering::{next_sn, steps};
 pub use order::{compare, message_order};
 pub use step::Step;
-pub use time::{GREATEST_NS, LATEST_NS, Time};
+pub use time::{GREATEST_NS, LATEST_NS, Time, moment_limits};
 pub use wire::{busy_ns, last_bit_ns};

@@ -1,12 +1,19 @@
 ghost use Rattle.std.specs.Prelude.{◌≡◌, ℕ, ◌≤◌, ◌↔◌, IsSome, IfSome};
+ghost use Rattle.vlink.specs.Moment.{latest_end, greatest_moment};
 
 use std::marker::Model;
 
-/// The latest end time of a run, in ns. The limit of all moments stands here and nowhere else.
+/// The latest end time of a run, in ns.
 pub const LATEST_NS: u64 = 1_000_000_000_000;
 
 /// The greatest moment, in ns: the one after the latest end time.
 pub const GREATEST_NS: u64 = LATEST_NS + 1;
+
+/// The limits of moments are the numbers that the rules state. It does nothing.
+pub fn moment_limits()
+    ensures latest { LATEST_NS ≡ latest_end }
+    ensures greatest { GREATEST_NS ≡ greatest_moment }
+{}
 
 /// A moment in simulated nanoseconds, from 0 to `GREATEST_NS`.
 ///
