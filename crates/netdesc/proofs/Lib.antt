@@ -11,3 +11,9 @@ pub mod RisingLemmas
 pub mod SourceLemmas
 pub mod OrderLemmas
 pub mod PathLemmas
+pub mod MemberLemmas
+pub mod StepLemmas
+pub mod LineLemmas
+pub mod RouteLemmas
+pub mod SwitchLemmas
+pub mod RoutedLemmas

@@ -13,3 +13,4 @@ pub mod Parts
 pub mod Tables
 pub mod Description
 pub mod Limits
+pub mod PortLaws

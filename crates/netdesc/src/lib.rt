@@ -11,6 +11,7 @@ mod finding;
 mod gaps;
 mod joined;
 mod kinds;
+mod laws;
 mod limits;
 mod lines;
 mod losses;
@@ -37,6 +38,7 @@ mod ways;
 mod wiring;
 
 pub use described::Described;
+pub use laws::port_laws;
 pub use limits::{GREATEST_DESTINATIONS, GREATEST_OUTAGES, GREATEST_PORTS, GREATEST_PROCESSES};
 pub use make::Remains;
 pub use network::Network;
