@@ -3,9 +3,3 @@ pub mod Turning
 pub mod Loading
 pub mod Errors
 pub mod Waits
-pub mod Keys
-pub mod Naming
-pub mod Parts
-pub mod Lanes
-pub mod Holding
-pub mod Queues

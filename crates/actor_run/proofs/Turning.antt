@@ -3,14 +3,13 @@ use Rattle.std.proofs.Common.{◌≡◌, ℕ, suc, ◌<◌, ◌⊎◌, inl, inr,
 use Rattle.std.proofs.Math.ListN.{set}
 use Rattle.std.proofs.lemmas.Bool.{cases_eq}
 use Rattle.std.proofs.lemmas.List.{get_or-set_same, get_or-set_other, length-set, map-append}
-use Rattle.std.proofs.lemmas.List.Sorted.{IsPermutation-refl}
 use Rattle.std.proofs.lemmas.Option.{slice_get-get_or, get_or_from_slice_get}
 use Rattle.vlink.specs.declared.message.Message.{Message}
 use Rattle.vlink.specs.declared.note.Note.{Note}
 use Rattle.vlink.specs.declared.note.Row.{Row as Noted}
 use Rattle.virtual_time.specs.Rules.{Rules, Row, rows_of}
-use Rattle.virtual_time.specs.Lists.{times_in, IsIn, least, without, events_at}
-use Rattle.virtual_time.specs.Simulation.{Simulation, Laws, IsReached, put}
+use Rattle.virtual_time.specs.Lists.{times_in, least, without}
+use Rattle.virtual_time.specs.Simulation.{Simulation, Laws, put}
 use Rattle.virtual_time.specs.OneThread.{OneThread, handle, one}
 use Rattle.virtual_time.proofs.Lists.{in-head, times-append}
 use Rattle.virtual_time.proofs.Least.{IsLeast, least-some}
@@ -19,7 +18,6 @@ use Rattle.virtual_time.proofs.OneThread.{right, times-without, put_same, put_ot
 use Rattle.actor_run.specs.Recording.{noted_at}
 use Rattle.actor_run.specs.Running.{Setting, simulation_of, Opens, AreInStates, AreOnTheWay, StandsAt, seen_row}
 use Rattle.actor_run.proofs.Counting.{times-permutation, taken-least}
-use Rattle.actor_run.proofs.Naming.{all-in, one-of-each}
 
 -- one actor is in a new state
 pub states-put : {S : Type 0} (processes : ℕ) (states : ℕ → S) (actors : List S) (p : ℕ) (s : S) → p < processes →
@@ -141,20 +139,6 @@ module _ {S K : Type 0} (f : Simulation Message S K Note) (L : Laws f) (n : ℕ)
         let y = ap (times_in f.rules x) s in
         let z = ap (λ (o : OneThread Message S Note). times_in f.rules x o.waiting) next in
         omega arith
-
-    -- each message sent is the only one that its sender gave its number, of those that wait then
-    pub named : (sent : List Message) → sent ≡ f.rules.sends now m →
-        All (λ y. All (λ x. f.rules.sender x ≡ f.rules.sender y → f.rules.number x ≡ f.rules.number y → x ≡ y) (rest ++ sent)) sent
-    named sent s =
-        all-in f.rules L.order (λ y. All (λ x. f.rules.sender x ≡ f.rules.sender y → f.rules.number x ≡ f.rules.number y → x ≡ y) (rest ++ sent)) sent (λ y j.
-        let p = f.rules.receiver m in
-        let there : IsReached f p now = (events_at f.rules p (one f n).handled, (right f L n).states_are p) in
-        let from : f.rules.sender y ≡ p = L.sender_is p receiver_there now there m y (subst (IsIn f.rules y) s j) in
-        let all = waits_after sent (rest ++ sent) s (IsPermutation-refl (rest ++ sent)) in
-        let b = times-append f.rules L.order y rest sent in
-        let waits : IsIn f.rules y (one f (suc n)).waiting = let a = all y in omega arith in
-        all-in f.rules L.order (λ x. f.rules.sender x ≡ f.rules.sender y → f.rules.number x ≡ f.rules.number y → x ≡ y) (rest ++ sent) (λ x i d e.
-        one-of-each f L (suc n) p receiver_there x y (d ∙ from) from e (let a = all x in omega arith) waits))
 
     -- the first message was handled, what was sent waits and what was noted is in the rows: that is one turn
     pub turned : (later : List S) (sent : List Message) (noted : List Note) (more : List Message) (rows' : List Noted) →

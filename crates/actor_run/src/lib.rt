@@ -2,19 +2,10 @@
 #![tactic(auto)]
 
 mod fault;
-mod held;
-mod keyed;
-mod lane;
 mod laws;
-mod listed;
-mod queue;
-mod queued;
-mod ranked;
 mod recorder;
 mod running;
 mod sent;
-mod slot;
-mod tops;
 mod waiting;
 
 pub use fault::SimFault;

@@ -54,14 +54,13 @@ fn act<A: Actor>(actors: &mut [A], message: &Message, out: &mut Outbound) -> boo
 }
 
 /// The first waiting message, if there is one, is handled by its receiver: what it sends waits, and `recorder` takes a row of each note.
-/// `message` is room for it, and `out` for what it sends and notes. The answer is whether there was one.
+/// `out` is room for what it sends and notes. The answer is whether there was one.
 #[inline(always)]
 fn take_turn<A: Actor, R: Recorder>(
     actors: &mut [A],
     waiting: &mut Waiting,
     recorder: &mut R,
     out: &mut Outbound,
-    message: &mut Message,
 ) -> Result<bool, SimFault>
     requires { (rows : List Noted) × R.has_taken recorder.old rows × IsRunning (rules_of A.plain A.counter) actors.old waiting.old rows }
     ensures turned { result ≡ Ok true → (rows : List Noted) → R.has_taken recorder.old rows → AtEach (rules_of A.plain A.counter) actors.old waiting.old rows
@@ -75,14 +74,14 @@ fn take_turn<A: Actor, R: Recorder>(
     ensures left { OnErr result ((rows : List Noted) → R.has_taken recorder.old rows → AtEach (rules_of A.plain A.counter) actors.old waiting.old rows
         (λ f n. AreOnTheWay f actors.new)) }
 {
-    if !waiting.pop(message)? {
+    let Some(message) = waiting.pop() else {
         return Ok(false);
-    }
-    if !act(actors, message, out) {
+    };
+    if !act(actors, &message, out) {
         return Err(SimFault::Exhausted);
     }
     waiting.push_all(out.messages())?;
-    record(recorder, message, out.notes())?;
+    record(recorder, &message, out.notes())?;
     Ok(true)
 }
 
@@ -108,9 +107,8 @@ pub fn take_all_turns<A: Actor, R: Recorder>(
     ensures left { OnErr result ((rows : List Noted) → R.has_taken recorder.old rows → AtEach (rules_of A.plain A.counter) actors.old waiting.old rows
         (λ f n. AreOnTheWay f actors.new)) }
 {
-    let mut message = Message::default();
     let mut out = Outbound::new(0, Time::default(), 0);
-    'turns: while take_turn(actors, waiting, recorder, &mut out, &mut message)? {}
+    'turns: while take_turn(actors, waiting, recorder, &mut out)? {}
     Ok(())
 }
 

@@ -1,82 +1,62 @@
-use Rattle.std.proofs.Common.{◌≡◌, refl, suc, true, false, Ok, ◌++◌, ◌∙◌, ap, sym, subst, length, List, IsPermutation, rules, arith}
+use Rattle.std.proofs.Common.{refl, suc, ◌++◌, ◌∙◌, ap, sym, subst, length, List, IsPermutation, arith}
 use Rattle.vlink.specs.declared.message.Message.{Message}
 use Rattle.vlink.specs.declared.time.TheConstants.{GREATEST_NS}
 use Rattle.reverse.specs.Rules.{rules_of}
 use Rattle.actor_run.specs.Recording.{noted_at}
 use Rattle.actor_run.specs.Running.{simulation_of, StandsAt}
-use Rattle.actor_run.proofs.Turning.{over, is_next, receiver_is, receiver_within, states_after, noted-behind, named, turned}
+use Rattle.actor_run.proofs.Turning.{over, is_next, receiver_is, receiver_within, states_after, noted-behind, turned}
 use Rattle.actor_run.proofs.Errors.{after-error}
 use Rattle.actor_run.proofs.Loading.{load-falls}
 use Rattle.actor_run.proofs.running.take_turn.Goals as goal
 
-pub returns-in_err-pop-clause-left : goal.returns-in_err-pop-clause-left
-returns-in_err-pop-clause-left g c = after-error (λ rows taken x L n h. (n, h.states)) c.from_residual.result
-
-pub returns-then-not-branch-clause-over : goal.returns-then-not-branch-clause-over
-returns-then-not-branch-clause-over g c = λ e rows taken x L n h.
-    let f = simulation_of (rules_of g.A.Reversible.plain g.A.Actor.counter) x in
-    let t : c.in_ok-pop.field-0 ≡ false = search rules in
-    let none = ap (λ b. Ok b) t in (
+pub returns-in_default-clause-over : goal.returns-in_default-clause-over
+returns-in_default-clause-over g c = λ e rows taken x L n h.
+    let f = simulation_of (rules_of g.A.Reversible.plain g.A.Actor.counter) x in (
       taken,
-      subst (λ (heap : List Message). StandsAt f n c.args.actors.now heap rows) (sym (c.in_ok-pop.ensures.unchanged none)) h,
-      over f L n _ _ _ h (c.in_ok-pop.ensures.none none),
+      subst (λ (heap : List Message). StandsAt f n c.args.actors.now heap rows) (sym c.in_default.ensures.unchanged) h,
+      over f L n _ _ _ h c.in_default.ensures.none,
     )
 
 pub act-requires : goal.act-requires
 act-requires g c =
-    let t : c.in_ok-pop.field-0 ≡ true = search rules in
-    let one = c.in_ok-pop.ensures.one (ap (λ b. Ok b) t) in
-    let first = c.in_ok-pop.ensures.first (ap (λ b. Ok b) t) in
+    let one = c.in-Some.ensures.one in
+    let first = c.in-Some.ensures.first in
     let now = c.requires.2 in
     let f = simulation_of (rules_of g.A.Reversible.plain g.A.Actor.counter) now.0 in
-    receiver_within f now.1 now.2 _ _ _ now.3 c.pop.new.first c.pop.new.self one first
+    receiver_within f now.1 now.2 _ _ _ now.3 c.in-Some.message c.pop.new.self one first
 
 pub returns-then-not-act-clause-exhausted : goal.returns-then-not-act-clause-exhausted
 returns-then-not-act-clause-exhausted g c =
-    let t : c.in_ok-pop.field-0 ≡ true = search rules in
-    let one = c.in_ok-pop.ensures.one (ap (λ b. Ok b) t) in
-    let first = c.in_ok-pop.ensures.first (ap (λ b. Ok b) t) in
+    let one = c.in-Some.ensures.one in
+    let first = c.in-Some.ensures.first in
     λ e rows taken x L n h.
     let f = simulation_of (rules_of g.A.Reversible.plain g.A.Actor.counter) x in (
-      c.pop.new.first,
-      is_next f L n _ _ _ h c.pop.new.first c.pop.new.self one first,
-      c.if-not-act.ensures.exhausted refl _ (receiver_is f L n _ _ _ h c.pop.new.first c.pop.new.self one first),
+      c.in-Some.message,
+      is_next f L n _ _ _ h c.in-Some.message c.pop.new.self one first,
+      c.if-not-act.ensures.exhausted refl _ (receiver_is f L n _ _ _ h c.in-Some.message c.pop.new.self one first),
     )
-
-pub push_all-requires : goal.push_all-requires
-push_all-requires g c =
-    let t : c.in_ok-pop.field-0 ≡ true = search rules in
-    let one = c.in_ok-pop.ensures.one (ap (λ b. Ok b) t) in
-    let first = c.in_ok-pop.ensures.first (ap (λ b. Ok b) t) in
-    let at = c.requires.2 in
-    let f = simulation_of (rules_of g.A.Reversible.plain g.A.Actor.counter) at.0 in
-    let r = receiver_is f at.1 at.2 _ _ _ at.3 c.pop.new.first c.pop.new.self one first in
-    named f at.1 at.2 _ _ _ at.3 c.pop.new.first c.pop.new.self one first c.messages.result.now
-    (c.messages.ensures.messages ∙ c.if-not-act.ensures.messages refl _ r)
 
 pub returns-in_err-push_all-clause-left : goal.returns-in_err-push_all-clause-left
 returns-in_err-push_all-clause-left g c =
-    let t : c.in_ok-pop.field-0 ≡ true = search rules in
-    let one = c.in_ok-pop.ensures.one (ap (λ b. Ok b) t) in
-    let first = c.in_ok-pop.ensures.first (ap (λ b. Ok b) t) in
+    let one = c.in-Some.ensures.one in
+    let first = c.in-Some.ensures.first in
     after-error (λ rows taken x L n h.
     let f = simulation_of (rules_of g.A.Reversible.plain g.A.Actor.counter) x in
-    let r = receiver_is f L n _ _ _ h c.pop.new.first c.pop.new.self one first in (
+    let r = receiver_is f L n _ _ _ h c.in-Some.message c.pop.new.self one first in (
       suc n,
-      states_after f L n _ _ _ h c.pop.new.first c.pop.new.self one first c.act.new.actors (c.if-not-act.ensures.state refl _ r),
+      states_after f L n _ _ _ h c.in-Some.message c.pop.new.self one first c.act.new.actors (c.if-not-act.ensures.state refl _ r),
     ))
-    c.from_residual-in_err-push_all.result
+    c.from_residual.result
 
 pub returns-in_err-record-clause-left : goal.returns-in_err-record-clause-left
 returns-in_err-record-clause-left g c =
-    let t : c.in_ok-pop.field-0 ≡ true = search rules in
-    let one = c.in_ok-pop.ensures.one (ap (λ b. Ok b) t) in
-    let first = c.in_ok-pop.ensures.first (ap (λ b. Ok b) t) in
+    let one = c.in-Some.ensures.one in
+    let first = c.in-Some.ensures.first in
     after-error (λ rows taken x L n h.
     let f = simulation_of (rules_of g.A.Reversible.plain g.A.Actor.counter) x in
-    let r = receiver_is f L n _ _ _ h c.pop.new.first c.pop.new.self one first in (
+    let r = receiver_is f L n _ _ _ h c.in-Some.message c.pop.new.self one first in (
       suc n,
-      states_after f L n _ _ _ h c.pop.new.first c.pop.new.self one first c.act.new.actors (c.if-not-act.ensures.state refl _ r),
+      states_after f L n _ _ _ h c.in-Some.message c.pop.new.self one first c.act.new.actors (c.if-not-act.ensures.state refl _ r),
     ))
     c.from_residual-in_err-record.result
 
@@ -85,30 +65,28 @@ record-requires g c = (c.requires.0, c.requires.1)
 
 pub returns-clause-turned : goal.returns-clause-turned
 returns-clause-turned g c =
-    let t : c.in_ok-pop.field-0 ≡ true = search rules in
-    let one = c.in_ok-pop.ensures.one (ap (λ b. Ok b) t) in
-    let first = c.in_ok-pop.ensures.first (ap (λ b. Ok b) t) in
+    let one = c.in-Some.ensures.one in
+    let first = c.in-Some.ensures.first in
     λ e rows taken x L n h.
     let f = simulation_of (rules_of g.A.Reversible.plain g.A.Actor.counter) x in
-    let r = receiver_is f L n _ _ _ h c.pop.new.first c.pop.new.self one first in
-    let later = rows ++ noted_at c.pop.new.first c.notes.result.now in (
+    let r = receiver_is f L n _ _ _ h c.in-Some.message c.pop.new.self one first in
+    let later = rows ++ noted_at c.in-Some.message c.notes.result.now in (
       later,
       c.in_ok-record.ensures.taken rows taken,
-      turned f L n _ _ _ h c.pop.new.first c.pop.new.self one first
+      turned f L n _ _ _ h c.in-Some.message c.pop.new.self one first
           c.act.new.actors c.messages.result.now c.notes.result.now c.push_all.new.self later
           (c.if-not-act.ensures.state refl _ r)
           (c.messages.ensures.messages ∙ c.if-not-act.ensures.messages refl _ r)
           (c.notes.ensures.notes ∙ c.if-not-act.ensures.notes refl _ r)
           c.in_ok-push_all.ensures.more
-          (noted-behind rows c.pop.new.first c.notes.result.now),
+          (noted-behind rows c.in-Some.message c.notes.result.now),
     )
 
 pub returns-clause-smaller : goal.returns-clause-smaller
 returns-clause-smaller g c =
-    let t : c.in_ok-pop.field-0 ≡ true = search rules in
-    let one = c.in_ok-pop.ensures.one (ap (λ b. Ok b) t) in
+    let one = c.in-Some.ensures.one in
     λ e.
-    load-falls GREATEST_NS c.pop.new.first _ c.pop.new.self c.act.new.out.messages _ one
+    load-falls GREATEST_NS c.in-Some.message _ c.pop.new.self c.act.new.out.messages _ one
     (subst (λ (sent : List Message). IsPermutation (c.pop.new.self ++ sent) c.push_all.new.self) c.messages.ensures.messages c.in_ok-push_all.ensures.more)
     (c.if-not-act.ensures.later refl) (c.if-not-act.ensures.in_limits refl)
     (let a = c.messages.ensures.few in let b = ap length c.messages.ensures.messages in omega arith)

@@ -1,0 +1,15 @@
+use Rattle.std.proofs.Common.{◌≡◌, true, subst, rules}
+use Rattle.std.specs.Prelude.{IsSomeAnd}
+use Rattle.std.specs.BinaryHeap.{heap_items}
+use Rattle.reverse.specs.Rules.{is_before}
+use Rattle.actor_run.proofs.Waits.{NoneBefore, top-first, before-sent}
+use Rattle.actor_run.proofs.waiting.is_offer_next.Goals as goal
+
+pub returns-in-Some-peek-clause-offer : goal.returns-in-Some-peek-clause-offer
+returns-in-Some-peek-clause-offer c = λ t.
+    let sent = heap_items c.args.sent.now in
+    let offer = c.in-Some.offer.now in
+    let top = c.in-Some-peek.top.now in
+    let before : is_before offer top ≡ true = search rules in
+    subst (λ o. IsSomeAnd o (λ m. NoneBefore m sent)) c.in-Some.ensures.value
+    (before-sent c.message_order.ensures.total sent top offer (top-first c.message_order.ensures.written top sent (c.in-Some-peek.ensures.greatest c.requires)) before)
