@@ -1,5 +1,5 @@
 -- What a table of drops says of its rows.
-use Rattle.std.proofs.Common.{◌≡◌, ℕ, ◌+◌, ◌<◌, Bool, true, false, cond, List, [], ◌∷◌, Option, Some, None, refl, ap, sym, ◌∙◌, arith}
+use Rattle.std.proofs.Common.{◌≡◌, ℕ, ◌+◌, ◌<◌, ◌≤◌, Bool, true, false, cond, List, [], ◌∷◌, ◌++◌, length, Option, Some, None, refl, ap, sym, ◌∙◌, arith}
 use Rattle.std.specs.Prelude.{◌&&◌}
 use Rattle.std.specs.List.{All, count_by, flat_map}
 use Rattle.std.specs.List.Sorted.{IsStrictlySortedBy}
@@ -7,15 +7,19 @@ use Rattle.std.specs.Option.{IfSome, option_map_or}
 use Rattle.std.specs.Ordering.{is_eq}
 use Rattle.std.specs.BTreeMap.{insert_entry, is_at}
 use Rattle.std.specs.Map.{lookup, keys_of, values_of}
-use Rattle.std.proofs.lemmas.List.Sums.{sum_by-append, sum_by-cons}
+use Rattle.std.proofs.lemmas.List.Sums.{sum_by-append, sum_by-cons, count_by-le-length}
+use Rattle.std.proofs.lemmas.List.{append-nil}
+use Rattle.std.proofs.lemmas.Grind.{flat_map-append}
 use Rattle.std.proofs.lemmas.Map.Views.{All-values-insert_entry, IfSome-lookup_from_All, tells_apart}
+use Rattle.vlink.specs.declared.frame.VlId.{VlId}
+use Rattle.vlink.specs.declared.note.Cause.{Cause}
 use Rattle.vlink.specs.declared.note.Row.{Row}
 use Rattle.vlink.specs.declared.note.Note.{Note}
 use Rattle.vlink.specs.declared.note.Note.TheVariants.{Delivered, Dropped}
 use Rattle.netdesc.specs.Plan.{Plan}
 use Rattle.trace_tables.specs.declared.loss.Loss.{Loss}
 use Rattle.trace_tables.specs.Losses.{loss_cmp, loss_in, loss_of, count_in, with_loss, with_losses}
-use Rattle.trace_tables.specs.Tables.{is_known, known_loss, drop_table}
+use Rattle.trace_tables.specs.Tables.{vl_of, is_in_network, is_known, known_loss, drop_table}
 use Rattle.trace_tables.specs.Counting.{is_loss, times_lost}
 use Rattle.trace_tables.proofs.LossOrderLemmas.{losses_total, exact_losses, is_eq-losses}
 use Rattle.trace_tables.proofs.CountedLemmas.{lookup-insert_entry, sorted-insert_entry, same-entries}
@@ -24,16 +28,13 @@ use Rattle.trace_tables.proofs.ListLemmas.{one_if}
 abbrev pub is_same : Loss → Loss → Bool
 is_same loss other = is_eq (loss_cmp loss other)
 
--- so many more of a loss are as many more of it, and none more of any other
-pub count-put : (counts : List (Loss × ℕ)) (more : Loss) (k : ℕ) (loss : Loss) → count_in (insert_entry loss_cmp counts more (count_in counts more + k)) loss ≡ count_in counts loss + cond (is_same loss more) k 0
-count-put counts more k loss = ap (λ o. option_map_or (λ n. n) o 0) (lookup-insert_entry losses_total more (count_in counts more + k) loss counts) ∙ go (is_same loss more) refl
-  where
-    go : (b : Bool) → is_same loss more ≡ b → option_map_or (λ n. n) (cond b (Some (count_in counts more + k)) (lookup (is_at (loss_cmp loss)) counts)) 0 ≡ count_in counts loss + cond b k 0
-    go true same = let e : loss ≡ more = tells_apart exact_losses loss more same in ap (λ (x : Loss). count_in counts x + k) (sym e)
-    go false differ = omega arith
-
+-- one more of a loss is one more of it, and none more of any other
 count-with_loss : (counts : List (Loss × ℕ)) (more loss : Loss) → count_in (with_loss counts more) loss ≡ count_in counts loss + cond (is_same loss more) 1 0
-count-with_loss counts more loss = count-put counts more 1 loss
+count-with_loss counts more loss = ap (λ o. option_map_or (λ n. n) o 0) (lookup-insert_entry losses_total more (count_in counts more + 1) loss counts) ∙ go (is_same loss more) refl
+  where
+    go : (b : Bool) → is_same loss more ≡ b → option_map_or (λ n. n) (cond b (Some (count_in counts more + 1)) (lookup (is_at (loss_cmp loss)) counts)) 0 ≡ count_in counts loss + cond b 1 0
+    go true same = let e : loss ≡ more = tells_apart exact_losses loss more same in ap (λ (x : Loss). count_in counts x + 1) (sym e)
+    go false differ = omega arith
 
 -- and of each of these
 count-with_losses : (losses : List Loss) (counts : List (Loss × ℕ)) (loss : Loss) → count_in (with_losses counts losses) loss ≡ count_in counts loss + count_by (is_same loss) losses
@@ -76,6 +77,40 @@ drops-counted plan rows loss =
     let told : count_in (drop_table plan rows) loss ≡ 0 + count_by (is_same loss) (flat_map (known_loss plan) rows) = count-with_losses (flat_map (known_loss plan) rows) [] loss in
     let same : count_by (is_same loss) (flat_map (known_loss plan) rows) ≡ times_lost plan loss rows = count-rows plan loss rows in
     omega arith
+
+-- no loss is counted more often than there are rows
+pub few-lost : (plan : Plan) (rows : List Row) (loss : Loss) → count_in (drop_table plan rows) loss ≤ length rows
+few-lost plan rows loss =
+    let few : times_lost plan loss rows ≤ length rows = count_by-le-length (λ row. is_known plan row && is_loss loss row.place row.note) rows in
+    let same = drops-counted plan rows loss in
+    omega arith
+
+with_losses-append : (counts : List (Loss × ℕ)) (xs ys : List Loss) → with_losses counts (xs ++ ys) ≡ with_losses (with_losses counts xs) ys
+with_losses-append counts [] ys = refl
+with_losses-append counts (x ∷ xs) ys = with_losses-append (with_loss counts x) xs ys
+
+-- one row more adds what it says was lost
+pub lost-more : (plan : Plan) (rows : List Row) (row : Row) → with_losses (drop_table plan rows) (known_loss plan row) ≡ drop_table plan (rows ++ row ∷ [])
+lost-more plan rows row =
+    sym (ap (with_losses []) (flat_map-append (known_loss plan) rows (row ∷ []) ∙ ap (λ (ls : List Loss). flat_map (known_loss plan) rows ++ ls) (append-nil (known_loss plan row)))
+    ∙ with_losses-append [] (flat_map (known_loss plan) rows) (known_loss plan row))
+
+-- a delivery says none
+pub none-lost : (plan : Plan) (rows : List Row) (row : Row) (vl : VlId) (latency : ℕ) → row.note ≡ Delivered vl latency → drop_table plan rows ≡ drop_table plan (rows ++ row ∷ [])
+none-lost plan rows row vl latency is =
+    ap (with_losses (drop_table plan rows)) (sym (ap (λ (note : Note). cond (is_known plan row) (loss_in row.place note) []) is ∙ none (is_known plan row)))
+    ∙ lost-more plan rows row
+  where
+    none : (b : Bool) → ◌≡◌ {A = List Loss} (cond b [] []) []
+    none true = refl
+    none false = refl
+
+-- a drop says one, if the network has its virtual link and process
+pub one-lost : (plan : Plan) (rows : List Row) (row : Row) (vl : VlId) (cause : Cause) (size : ℕ) → row.note ≡ Dropped vl cause size
+    → with_losses (drop_table plan rows) (cond (is_in_network plan vl.0 row.place) (record { vl = vl; place = row.place; cause = cause } ∷ []) []) ≡ drop_table plan (rows ++ row ∷ [])
+one-lost plan rows row vl cause size is =
+    ap (with_losses (drop_table plan rows)) (sym (ap (λ (note : Note). cond (is_in_network plan (vl_of note).0 row.place) (loss_in row.place note) []) is))
+    ∙ lost-more plan rows row
 
 ascending-with_losses : (losses : List Loss) (counts : List (Loss × ℕ)) → IsStrictlySortedBy loss_cmp (keys_of counts) → IsStrictlySortedBy loss_cmp (keys_of (with_losses counts losses))
 ascending-with_losses [] counts h = h

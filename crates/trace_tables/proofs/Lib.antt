@@ -1,12 +1,11 @@
 pub mod LatencyLemmas
 pub mod ListLemmas
-pub mod DeliveryLemmas
 pub mod WritingLemmas
 pub mod LossOrderLemmas
+pub mod DestinationLemmas
+pub mod DeliveryLemmas
 pub mod CountedLemmas
 pub mod DropCountLemmas
-pub mod DuplicateLemmas
-pub mod LossRowLemmas
 pub mod PlaceLemmas
 pub mod GatherLemmas
 pub mod LatencyCountLemmas

@@ -35,7 +35,7 @@ numbered_is Duplicate = refl
 same_cause : (a b : Cause) → cause_number a ≡ cause_number b → a ≡ b
 same_cause a b e = sym (numbered_is a) ∙ ap numbered e ∙ numbered_is b
 
-then-equal : (a b : Ordering) → ordering_then a b ≡ Equal → (a ≡ Equal) × (b ≡ Equal)
+pub then-equal : (a b : Ordering) → ordering_then a b ≡ Equal → (a ≡ Equal) × (b ≡ Equal)
 then-equal Less b e = absurd (cc)
 then-equal Equal b e = (refl, e)
 then-equal Greater b e = absurd (cc)
@@ -53,12 +53,12 @@ exact_losses a b e =
     loss-is a b (exact_unsigned a.vl.0 b.vl.0 first.0) (exact_unsigned a.place b.place second.0)
     (same_cause a.cause b.cause (exact_unsigned (cause_number a.cause) (cause_number b.cause) second.1))
 
-is_eq-then : (a b : Ordering) → is_eq (ordering_then a b) ≡ (is_eq a && is_eq b)
+pub is_eq-then : (a b : Ordering) → is_eq (ordering_then a b) ≡ (is_eq a && is_eq b)
 is_eq-then Less b = refl
 is_eq-then Equal b = refl
 is_eq-then Greater b = refl
 
-is_eq-nat : (x y : ℕ) → is_eq (nat_cmp x y) ≡ (x == y)
+pub is_eq-nat : (x y : ℕ) → is_eq (nat_cmp x y) ≡ (x == y)
 is_eq-nat x y = go (nat_cmp x y) refl
   where
     go : (r : Ordering) → r ≡ nat_cmp x y → is_eq r ≡ (x == y)

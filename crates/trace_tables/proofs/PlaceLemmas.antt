@@ -7,12 +7,13 @@ use Rattle.vlink.specs.declared.note.Row.{Row}
 use Rattle.vlink.specs.declared.note.Note.{Note}
 use Rattle.vlink.specs.declared.note.Note.TheVariants.{Delivered, Dropped}
 use Rattle.netdesc.specs.Plan.{Plan}
-use Rattle.netdesc.specs.Trees.{destinations_of}
+use Rattle.trace_tables.specs.declared.destination.Destination.{Destination}
 use Rattle.trace_tables.specs.declared.loss.Loss.{Loss}
 use Rattle.trace_tables.specs.Counting.{is_loss, times_lost, rows_at}
+use Rattle.trace_tables.specs.Destinations.{destinations_in}
 use Rattle.trace_tables.specs.Latencies.{Counts, counts_of, latency_in, latency_at, latencies_of}
 use Rattle.trace_tables.specs.Losses.{cause_number}
-use Rattle.trace_tables.specs.Tables.{TableLists, is_known, latencies_at, latency_table, drop_table, tables_of}
+use Rattle.trace_tables.specs.Tables.{TableLists, is_known, counted_at, latency_table, drop_table, tables_of}
 use Rattle.trace_tables.proofs.DeliveryLemmas.{map-same}
 use Rattle.trace_tables.proofs.DropCountLemmas.{same-drops}
 use Rattle.trace_tables.proofs.ListLemmas.{one_if}
@@ -65,14 +66,14 @@ lost-here plan loss rows = count_by-filter (λ row. row.place == loss.place) (λ
 pub same-tables : (plan : Plan) (xs ys : List Row) → ((p : ℕ) → rows_at p xs ≡ rows_at p ys) → tables_of plan xs ≡ tables_of plan ys
 same-tables plan xs ys same = ap (λ table. with_tables table (drop_table plan xs)) latencies ∙ ap (with_tables (latency_table plan.vls ys)) drops
   where
-    with_tables : List (List Counts) → List (Loss × ℕ) → TableLists
+    with_tables : List (Destination × Counts) → List (Loss × ℕ) → TableLists
     with_tables l d = record { latencies = l; drops = d }
 
     latencies : latency_table plan.vls xs ≡ latency_table plan.vls ys
     latencies =
-        map-same (λ vl. latencies_at vl xs) (λ vl. latencies_at vl ys) plan.vls (λ vl.
-        map-same (λ place. counts_of (latencies_of vl.link.id.0 place xs)) (λ place. counts_of (latencies_of vl.link.id.0 place ys)) (destinations_of vl) (λ place.
-        ap counts_of (latencies-here vl.link.id.0 place xs ∙ ap (latencies_of vl.link.id.0 place) (same place) ∙ sym (latencies-here vl.link.id.0 place ys))))
+        map-same (counted_at xs) (counted_at ys) (destinations_in plan.vls) (λ d.
+        ap (λ (counts : Counts). (d, counts)) (
+        ap counts_of (latencies-here d.vl.0 d.place xs ∙ ap (latencies_of d.vl.0 d.place) (same d.place) ∙ sym (latencies-here d.vl.0 d.place ys))))
 
     drops : drop_table plan xs ≡ drop_table plan ys
     drops = same-drops plan xs ys (λ loss. lost-here plan loss xs ∙ ap (times_lost plan loss) (same loss.place) ∙ sym (lost-here plan loss ys))

@@ -1,9 +1,8 @@
 pub mod Latencies
+pub mod Destinations
 pub mod Losses
 pub mod Tables
 pub mod Counting
-pub mod Delivering
-pub mod Duplicates
 pub mod Sinking
 pub mod Text
 pub mod Writing

@@ -2,24 +2,22 @@
 use Rattle.std.specs.Prelude.{ℕ, ◌≡◌, ◌≤◌, ◌^◌, length, List, ◌++◌}
 use Rattle.vlink.specs.declared.note.Row.{Row}
 use Rattle.netdesc.specs.Plan.{Plan}
+use Rattle.trace_tables.specs.declared.destination.Destination.{Destination}
 use Rattle.trace_tables.specs.declared.loss.Loss.{Loss}
 use Rattle.trace_tables.specs.Latencies.{Counts}
-use Rattle.trace_tables.specs.Tables.{latency_table}
-use Rattle.trace_tables.specs.Duplicates.{AreCounted}
+use Rattle.trace_tables.specs.Tables.{latency_table, drop_table}
 
--- latencies, second copies at destinations and all other losses, as far as they are counted; of how many rows; and rows that are kept
--- to be counted later
+-- latencies and losses, as far as they are counted; of how many rows; and rows that are kept to be counted later
 pub record SoFarLists : Type 0 where
-  pub latencies : List (List Counts)
-  pub duplicates : List (List ℕ)
+  pub latencies : List (Destination × Counts)
   pub drops : List (Loss × ℕ)
   pub counted : ℕ
   pub rest : List Row
 
--- what the rows tell is counted: latencies in one table, losses in two
-pub record AreInTables (plan : Plan) (rows : List Row) (latencies : List (List Counts)) (duplicates : List (List ℕ)) (drops : List (Loss × ℕ)) : Type 0 where
+-- what the rows tell is counted
+pub record AreInTables (plan : Plan) (rows : List Row) (latencies : List (Destination × Counts)) (drops : List (Loss × ℕ)) : Type 0 where
   pub delivered : latencies ≡ latency_table plan.vls rows
-  pub lost : AreCounted plan rows duplicates drops
+  pub lost : drops ≡ drop_table plan rows
 
 -- the rows so far: the first of them are counted, which are at most 2 ^ 63, and the rest of them is kept
 pub record IsSoFar (plan : Plan) (tables : SoFarLists) (rows : List Row) : Type 0 where
@@ -27,4 +25,4 @@ pub record IsSoFar (plan : Plan) (tables : SoFarLists) (rows : List Row) : Type 
   pub split : rows ≡ first ++ tables.rest
   pub many : tables.counted ≡ length first
   pub few : length first ≤ 2 ^ 63
-  pub counts : AreInTables plan first tables.latencies tables.duplicates tables.drops
+  pub counts : AreInTables plan first tables.latencies tables.drops

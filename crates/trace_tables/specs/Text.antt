@@ -1,5 +1,5 @@
 -- The texts of tables and of a trace: comma-separated rows, each with a line feed at its end. Times are in ns.
-use Rattle.std.specs.Prelude.{ℕ, ◌-◌, cond, nat_lt, codes, decimal, length, List, [], ◌∷◌, ◌++◌, slice_get, slice_index_or}
+use Rattle.std.specs.Prelude.{ℕ, ◌-◌, ◌&&◌, cond, nat_lt, codes, decimal, length, List, [], ◌∷◌, ◌++◌, slice_get}
 use Rattle.std.specs.List.{flat_map}
 use Rattle.std.specs.Option.{option_map_or}
 use Rattle.csv.specs.Writing.{default_writer, row_text}
@@ -8,13 +8,13 @@ use Rattle.vlink.specs.declared.note.Cause.TheVariants.{QueueFull, PortFull, Out
 use Rattle.vlink.specs.declared.note.Note.{Note}
 use Rattle.vlink.specs.declared.note.Note.TheVariants.{Delivered, Dropped}
 use Rattle.vlink.specs.declared.note.Row.{Row}
-use Rattle.netdesc.specs.Rows.{each}
-use Rattle.netdesc.specs.Plan.{Plan, VlPlan}
-use Rattle.netdesc.specs.Trees.{destinations_of}
+use Rattle.netdesc.specs.Plan.{Plan}
 use Rattle.netdesc.specs.Lines.{lines_of, node_name, line_name}
+use Rattle.trace_tables.specs.declared.destination.Destination.{Destination}
 use Rattle.trace_tables.specs.declared.loss.Loss.{Loss}
-use Rattle.trace_tables.specs.Latencies.{Counts, counts_of}
-use Rattle.trace_tables.specs.Tables.{TableLists, is_known}
+use Rattle.trace_tables.specs.Destinations.{counts_in, destinations_in}
+use Rattle.trace_tables.specs.Latencies.{Counts}
+use Rattle.trace_tables.specs.Tables.{TableLists, is_in_network, is_known}
 
 -- a row of these fields
 abbrev pub line : List (List ℕ) → List ℕ
@@ -48,20 +48,21 @@ abbrev pub latency_line : Plan → ℕ → ℕ → Counts → List ℕ
 latency_line plan vl place c =
     line (codes "latency" ∷ decimal vl ∷ place_name plan place ∷ [] ∷ decimal c.count ∷ decimal c.least ∷ decimal c.greatest ∷ decimal c.total ∷ [])
 
--- at all its destinations, and of all virtual links; what a table lacks is 0
-abbrev pub latency_after : Plan → ℕ → List Counts → List ℕ → ℕ → List ℕ
-latency_after plan vl counts earlier place = latency_line plan vl place (slice_index_or counts (length earlier) (counts_of []))
+-- at each destination of each virtual link of the network; what the tables lack is 0
+abbrev pub destination_line : Plan → List (Destination × Counts) → Destination → List ℕ
+destination_line plan table at = latency_line plan at.vl.0 at.place (counts_in table at)
 
-abbrev pub latencies_after : Plan → List (List Counts) → List VlPlan → VlPlan → List ℕ
-latencies_after plan table earlier vl = each (latency_after plan vl.link.id.0 (slice_index_or table (length earlier) [])) (destinations_of vl)
+abbrev pub latency_text : Plan → List (Destination × Counts) → List ℕ
+latency_text plan table = flat_map (destination_line plan table) (destinations_in plan.vls)
 
-abbrev pub latency_text : Plan → List (List Counts) → List ℕ
-latency_text plan table = each (latencies_after plan table) plan.vls
+-- how many frames were dropped, for one loss
+abbrev pub loss_line : Plan → Loss → ℕ → List ℕ
+loss_line plan loss count =
+    line (codes "dropped" ∷ decimal loss.vl.0 ∷ place_name plan loss.place ∷ cause_name loss.cause ∷ decimal count ∷ [] ∷ [] ∷ [] ∷ [])
 
--- how many frames were dropped, for each loss that is counted
+-- for each loss that is counted above 0 and has a virtual link and a process of the network
 abbrev pub drop_line : Plan → Loss × ℕ → List ℕ
-drop_line plan drop =
-    line (codes "dropped" ∷ decimal drop.0.vl.0 ∷ place_name plan drop.0.place ∷ cause_name drop.0.cause ∷ decimal drop.1 ∷ [] ∷ [] ∷ [] ∷ [])
+drop_line plan drop = cond (is_in_network plan drop.0.vl.0 drop.0.place && nat_lt 0 drop.1) (loss_line plan drop.0 drop.1) []
 
 abbrev pub drop_text : Plan → List (Loss × ℕ) → List ℕ
 drop_text plan drops = flat_map (drop_line plan) drops

@@ -1,11 +1,13 @@
-ghost use Rattle.std.specs.Prelude.{◌≡◌, [], map, OnOk, IfErr, slice_index_or};
-ghost use Rattle.netdesc.specs.Rows.{each};
-ghost use Rattle.netdesc.specs.Views.{items_of};
+ghost use Rattle.std.specs.Prelude.{◌≡◌, map, OnOk, IfErr};
+ghost use Rattle.std.specs.List.{flat_map};
 ghost use Rattle.trace_tables.specs.declared.fault.OutFault.TheVariants.{OutOfMemory};
-ghost use Rattle.trace_tables.specs.Latencies.{counts_of};
-ghost use Rattle.trace_tables.specs.Text.{tables_head, latency_line, latency_after, latency_text, drop_line, drop_text};
+ghost use Rattle.trace_tables.specs.Destinations.{destination};
+ghost use Rattle.trace_tables.specs.Text.{tables_head, latency_line, destination_line, latency_text, loss_line, drop_line, drop_text};
 ghost use Rattle.trace_tables.specs.Writing.{Adds};
 
+use crate::deliveries::latencies_at;
+use crate::destination::Destination;
+use crate::drops::is_in_network;
 use crate::fault::OutFault;
 use crate::latencies::Latencies;
 use crate::line::push;
@@ -68,14 +70,48 @@ fn push_latency(
     )
 }
 
+/// The latencies of a virtual link at these destinations.
+fn push_destinations(
+    out: &mut Writer<Vec<u8>>,
+    network: &Network,
+    vl: VlId,
+    places: &[usize],
+    table: &BTreeMap<Destination, Latencies>,
+) -> Result<(), OutFault>
+    ensures text { OnOk result (Adds out.old out.new (flat_map (destination_line network.now table.now.entries) (map (destination vl) places.now))) }
+    ensures memory { IfErr result (λ fault. fault ≡ OutOfMemory) }
+{
+    for place in places {
+        let here = latencies_at(table, Destination { vl, place: *place });
+        push_latency(out, network, vl, *place, &here)?;
+    }
+    Ok(())
+}
+
+/// The latencies at each destination of each virtual link of the network.
+pub fn push_latencies(
+    out: &mut Writer<Vec<u8>>,
+    network: &Network,
+    table: &BTreeMap<Destination, Latencies>,
+) -> Result<(), OutFault>
+    ensures text { OnOk result (Adds out.old out.new (latency_text network.now table.now.entries)) }
+    ensures memory { IfErr result (λ fault. fault ≡ OutOfMemory) }
+{
+    for vl in 0..network.vl_count() {
+        let id = network.virtual_link(vl).id;
+        push_destinations(out, network, id, network.destinations(vl), table)?;
+    }
+    Ok(())
+}
+
 /// How many frames were dropped, for one loss.
-fn push_drop(
+fn push_loss(
     out: &mut Writer<Vec<u8>>,
     network: &Network,
     loss: &Loss,
     count: u64,
 ) -> Result<(), OutFault>
-    ensures text { OnOk result (Adds out.old out.new (drop_line network.now (loss.now, count))) }
+    ensures text { OnOk result (Adds out.old out.new (loss_line network.now loss.now count)) }
     ensures memory { IfErr result (λ fault. fault ≡ OutOfMemory) }
 {
     let mut number = Buffer::new();
@@ -95,64 +131,20 @@ fn push_drop(
     )
 }
 
-/// The counts at a place; all 0 where there are none.
-fn counts_at(counts: &[Latencies], place: usize) -> Latencies
-    ensures { result ≡ slice_index_or counts.now place (counts_of []) }
-{
-    match counts.get(place) {
-        Some(here) => *here,
-        None => Latencies::none(),
-    }
-}
-
-/// The latencies of a virtual link at these destinations.
-fn push_destinations(
+/// A loss that is counted above 0, if the network has its virtual link and process.
+fn push_drop(
     out: &mut Writer<Vec<u8>>,
     network: &Network,
-    vl: VlId,
-    places: &[usize],
-    counts: &[Latencies],
+    loss: &Loss,
+    count: u64,
 ) -> Result<(), OutFault>
-    ensures text { OnOk result (Adds out.old out.new (each (latency_after network.now vl.0 counts.now) places.now)) }
+    ensures text { OnOk result (Adds out.old out.new (drop_line network.now (loss.now, count))) }
     ensures memory { IfErr result (λ fault. fault ≡ OutOfMemory) }
 {
-    for (i, place) in places.iter().enumerate() {
-        let here = counts_at(counts, i);
-        push_latency(out, network, vl, *place, &here)?;
+    if !is_in_network(network, loss.vl, loss.place) || count == 0 {
+        return Ok(());
     }
-    Ok(())
-}
-
-/// The counts of a virtual link; none where there are none.
-fn row_at(table: &[Vec<Latencies>], vl: usize) -> &[Latencies]
-    ensures { result.now ≡ slice_index_or (map items_of table.now) vl [] }
-{
-    match table.get(vl) {
-        Some(row) => row.as_slice(),
-        None => &[],
-    }
-}
-
-/// The latencies of all virtual links.
-pub fn push_latencies(
-    out: &mut Writer<Vec<u8>>,
-    network: &Network,
-    table: &[Vec<Latencies>],
-) -> Result<(), OutFault>
-    ensures text { OnOk result (Adds out.old out.new (latency_text network.now (map items_of table.now))) }
-    ensures memory { IfErr result (λ fault. fault ≡ OutOfMemory) }
-{
-    for vl in 0..network.vl_count() {
-        let id = network.virtual_link(vl).id;
-        push_destinations(
-            out,
-            network,
-            id,
-            network.destinations(vl),
-            row_at(table, vl),
-        )?;
-    }
-    Ok(())
+    push_loss(out, network, loss, count)
 }
 
 /// How many frames were dropped, for each loss.

@@ -1,10 +1,11 @@
 ghost use Rattle.std.specs.Prelude.{◌≡◌, [], ◌∷◌, decimal, OnOk, IfErr};
 ghost use Rattle.std.specs.List.{flat_map};
 ghost use Rattle.trace_tables.specs.declared.fault.OutFault.TheVariants.{OutOfMemory};
+ghost use Rattle.trace_tables.specs.Tables.{vl_of};
 ghost use Rattle.trace_tables.specs.Text.{line, trace_head, note_fields, trace_line};
 ghost use Rattle.trace_tables.specs.Writing.{Adds};
 
-use crate::drops::is_known;
+use crate::drops::is_in_network;
 use crate::fault::OutFault;
 use crate::line::push;
 use crate::naming::{cause_name, place_name};
@@ -73,12 +74,22 @@ fn push_note(out: &mut Writer<Vec<u8>>, time: u64, place: &str, note: &Note) -> 
     }
 }
 
+/// The virtual link of a note.
+fn vl_of(note: Note) -> VlId
+    ensures { result ≡ vl_of note }
+{
+    match note {
+        Note::Delivered { vl, .. } => vl,
+        Note::Dropped { vl, .. } => vl,
+    }
+}
+
 /// A row, if it is one of the network.
 fn push_row(out: &mut Writer<Vec<u8>>, network: &Network, row: &Row) -> Result<(), OutFault>
     ensures text { OnOk result (Adds out.old out.new (trace_line network.now row.now)) }
     ensures memory { IfErr result (λ fault. fault ≡ OutOfMemory) }
 {
-    if !is_known(network, row) {
+    if !is_in_network(network, vl_of(row.note), row.place) {
         return Ok(());
     }
     let place = place_name(network, usize::from(row.place));

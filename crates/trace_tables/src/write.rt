@@ -43,6 +43,9 @@ fn trace_bytes(alloc: Global, network: &Network, rows: &[Row]) -> Result<Vec<u8>
 /// a count above 0, by number and in the order of the causes, `dropped,VL,NAME,CAUSE,COUNT,,,`. Latencies are in ns. NAME is that of
 /// the node, or `from>to` for a line.
 ///
+/// The tables may be those of another network. The lines go by numbers: what this network lacks gives no line, and what the tables lack
+/// counts as 0.
+///
 /// The text is made whole before the first byte goes out. `Device` comes only where the sink failed; what went out is a beginning
 /// of the text. `OutOfMemory` comes only where memory was refused; nothing went out.
 pub fn write_csv<S: Sink>(

@@ -1,12 +1,21 @@
 //! What `seq` tells of a run by its tables and its trace, and how many offers `check` counts. What is expected was worked out by hand.
 use super::changes::{changed, lines_of};
-use super::host::{MemoryHost, says};
+use super::host::{MemoryHost, Page, says};
 use crate::perform;
+use netdesc::read;
+use seqsim::run;
 use std::alloc::Global;
 use std::test::Fail;
+use trace_tables::write_csv;
+
+const HEAD: &str = "table,vl,where,cause,count,least_ns,greatest_ns,sum_ns\n";
 
 /// Rows with an empty line between them; where a line goes on in the next, that begins with four blanks. A row tells the lines of the
 /// tables but the first, and behind the word `trace` those of the trace but the first; or it tells the line of `check`.
+///
+/// In the last rows `for` begins another network, and the tables of the first are written with it. What is expected there follows from
+/// the numbers: processes are the nodes in the order of their rows, and behind them two lines for each link. A virtual link or process
+/// that the other network lacks gives no line, and what the tables lack is 0.
 const ROWS: &str = r#"n1 => latency,1,ES2,,1,27720,27720,27720;
     trace 27720,ES2,1,delivered,27720;
 
@@ -180,7 +189,24 @@ n1 => until_ns = 2000000 -> until_ns = 3453 => id = 1 -> id = 54 => period_ns = 
     => ;jitter_ns = 0 -> ;jitter_ns = 5000 => ok: 7 processes, 1 virtual links, 1 offers
 
 n1 => until_ns = 2000000 -> until_ns = 3454 => id = 1 -> id = 54 => period_ns = 1000000000000 -> period_ns = 1000
-    => ;jitter_ns = 0 -> ;jitter_ns = 5000 => ok: 7 processes, 1 virtual links, 2 offers"#;
+    => ;jitter_ns = 0 -> ;jitter_ns = 5000 => ok: 7 processes, 1 virtual links, 2 offers
+
+n3 => until_ns = 2000000 -> until_ns = 1100000 => period_ns = 1000000000000 -> period_ns = 400000 => depth = 16 -> depth = 1
+    => for n3 => latency,1,ES2,,2,27720,627720,655440;latency,2,ES1,,1,27720,27720,27720;dropped,1,ES1,queue_full,1,,,;
+
+n3 => until_ns = 2000000 -> until_ns = 1100000 => period_ns = 1000000000000 -> period_ns = 400000 => depth = 16 -> depth = 1
+    => for n1 => latency,1,ES2,,2,27720,627720,655440;dropped,1,ES1,queue_full,1,,,;
+
+n3 => until_ns = 2000000 -> until_ns = 1100000 => period_ns = 1000000000000 -> period_ns = 400000 => depth = 16 -> depth = 1
+    => for n3 => id = 1 -> id = 3 => latency,2,ES1,,1,27720,27720,27720;latency,3,ES2,,0,0,0,0;
+
+n1 => for n1 => ["ES1", "SW1", "ES2"] -> ["ES2", "SW1", "ES1"] => latency,1,ES1,,0,0,0,0;
+
+n1 => + [[outage]];from = "ES1";to = "SW1";from_ns = 5760;to_ns = 5761; => + [[node]];name = "E0";kind = "es";port_bytes = 4096;
+    => for n1 => latency,1,ES2,,0,0,0,0;dropped,1,SW1>ES1,outage,1,,,;
+
+n1 => + [[outage]];from = "ES1";to = "SW1";from_ns = 5760;to_ns = 5761; => + 4 x [[node]];name = "E#";kind = "es";port_bytes = 4096;
+    => for n1 => latency,1,ES2,,0,0,0,0;"#;
 
 #[test]
 fn a_run_is_told_by_its_tables_and_its_trace(rt: HostRuntime) -> Result<(), Fail> {
@@ -190,8 +216,11 @@ fn a_run_is_told_by_its_tables_and_its_trace(rt: HostRuntime) -> Result<(), Fail
     Ok(())
 }
 
-// `check` tells the row's line, or `seq` its tables and its trace.
+// `check` tells the row's line, or `seq` its tables and its trace, or the tables are written with another network.
 fn is_told(alloc: Global, row: &str) -> Result<bool, Fail> {
+    if let Some((one, other)) = row.split_once("=> for ") {
+        return is_told_for(alloc, one, other);
+    }
     let (net, told) = changed(alloc, row)?;
     if told.starts_with("ok") {
         let line = format!(in alloc; "{told}\n")?;
@@ -208,8 +237,7 @@ fn is_told(alloc: Global, row: &str) -> Result<bool, Fail> {
         Some((tables, trace)) => (tables, Some(trace)),
         None => (told, None),
     };
-    let head = "table,vl,where,cause,count,least_ns,greatest_ns,sum_ns\n";
-    let tables = text_of(alloc, head, tables)?;
+    let tables = text_of(alloc, HEAD, tables)?;
     let alone = says(
         alloc,
         net.as_str(),
@@ -219,6 +247,23 @@ fn is_told(alloc: Global, row: &str) -> Result<bool, Fail> {
         "",
     )?;
     Ok(alone && is_traced(alloc, net.as_str(), tables.as_str(), trace)?)
+}
+
+// The tables of a run of one network, written with the other one, have the lines that it tells.
+fn is_told_for(alloc: Global, one: &str, other: &str) -> Result<bool, Fail> {
+    let one = format!(in alloc; "{one}=> ")?;
+    let (one, _) = changed(alloc, one.as_str())?;
+    let (other, told) = changed(alloc, other)?;
+    let finished = run(alloc, &read(alloc, one.as_str())?)?;
+    let mut page = Page::new(alloc);
+    write_csv(
+        alloc,
+        &read(alloc, other.as_str())?,
+        &finished.tables,
+        &mut page,
+    )?;
+    let lines = text_of(alloc, HEAD, told)?;
+    Ok(page.bytes.as_slice() == lines.as_bytes())
 }
 
 // Where `seq` is to keep the trace, it tells these tables, and the trace has these lines.

@@ -1,8 +1,9 @@
-use Rattle.std.proofs.Common.{take}
-use Rattle.netdesc.specs.Rows.{each}
-use Rattle.trace_tables.specs.Text.{latency_after}
+use Rattle.std.proofs.Common.{map, take}
+use Rattle.std.specs.List.{flat_map}
+use Rattle.trace_tables.specs.Destinations.{destination}
+use Rattle.trace_tables.specs.Text.{destination_line}
 use Rattle.trace_tables.specs.Writing.{Adds}
 use Rattle.trace_tables.proofs.text.push_destinations.Given as goal
 
-abbrev pub invariant-loop-i : goal.invariant-loop-i
-invariant-loop-i l = Adds l.initial.out l.out (each (latency_after l.network l.vl.0 l.counts) (take l.i l.places))
+abbrev pub invariant-loop-place : goal.invariant-loop-place
+invariant-loop-place l = Adds l.initial.out l.out (flat_map (destination_line l.network l.table.entries) (map (destination l.vl) (take l.place-index l.places)))

@@ -1,6 +1,6 @@
 use Rattle.std.proofs.Common.{◌≡◌, ℕ, List, [], ◌∷◌, ap, sym, ◌∙◌, subst, OnOk, cond, true}
 use Rattle.std.specs.Prelude.{decimal}
-use Rattle.trace_tables.specs.Tables.{is_known}
+use Rattle.trace_tables.specs.Tables.{is_known, is_in_network}
 use Rattle.trace_tables.specs.Text.{line, place_name, note_fields}
 use Rattle.trace_tables.specs.Writing.{Adds}
 use Rattle.trace_tables.proofs.trace.push_row.Goals as goal
@@ -9,7 +9,7 @@ pub returns-clause-text : goal.returns-clause-text
 returns-clause-text c =
     let plan = c.args.network.now in
     let row = c.args.row.now in
-    let known : is_known plan row ≡ true = sym c.is_known.ensures ∙ c.if-not-is_known.false in
+    let known : is_known plan row ≡ true = ap (λ vl. is_in_network plan vl.0 row.place) (sym c.vl_of.ensures) ∙ sym c.is_in_network.ensures ∙ c.if-not-is_in_network.false in
     let place = c.place_name-place.ensures ∙ ap (place_name plan) c.from.ensures in
     subst (λ (bytes : List ℕ). OnOk c.push_note.result (Adds c.args.out.now c.push_note.new.out bytes))
     (ap (λ time. line (decimal time ∷ c.place_name-place.result.now ∷ note_fields row.note)) c.ns.ensures.value

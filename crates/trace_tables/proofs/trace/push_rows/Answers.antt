@@ -1,10 +1,9 @@
-use Rattle.std.proofs.Common.{◌++◌, ◌∷◌, [], take, ap, sym, ◌∙◌}
+use Rattle.std.proofs.Common.{ap, sym}
 use Rattle.std.specs.List.{flat_map}
-use Rattle.std.proofs.lemmas.List.{take_all, append-nil}
-use Rattle.std.proofs.lemmas.Grind.{flat_map-append}
-use Rattle.netdesc.proofs.EachLemmas.{take-read}
+use Rattle.std.proofs.lemmas.List.{take_all}
+use Rattle.std.proofs.Common.{take}
 use Rattle.trace_tables.specs.Text.{trace_line}
-use Rattle.trace_tables.proofs.WritingLemmas.{adds-more, adds-same}
+use Rattle.trace_tables.proofs.WritingLemmas.{adds-more, adds-same, flat_map-more}
 use Rattle.trace_tables.proofs.trace.push_rows.Goals as goal
 
 pub loop-row-preserved : goal.loop-row-preserved
@@ -13,8 +12,7 @@ loop-row-preserved c =
     let i = c.loop-row.row-index in
     let write = trace_line c.args.network.now in
     let row = c.row-item.result in
-    adds-same c.args.out.now c.push_row.new.out _ _
-    (sym (ap (flat_map write) (take-read rows i row c.loop-row-test.true c.row-item.is) ∙ flat_map-append write (take i rows) (row ∷ []) ∙ ap (λ ys. flat_map write (take i rows) ++ ys) (append-nil (write row))))
+    adds-same c.args.out.now c.push_row.new.out _ _ (sym (flat_map-more write rows i row c.loop-row-test.true c.row-item.is))
     (adds-more c.args.out.now c.loop-row.out c.push_row.new.out (flat_map write (take i rows)) (write row) c.loop-row.invariant c.in_ok-push_row.ensures.text)
 
 pub returns-clause-text : goal.returns-clause-text

@@ -1,0 +1,9 @@
+use Rattle.std.proofs.Common.{List, ◌++◌, take}
+use Rattle.vlink.specs.declared.note.Row.{Row}
+use Rattle.trace_tables.specs.SoFar.{AreInTables}
+use Rattle.trace_tables.proofs.so_far.count_each.Given as goal
+
+abbrev pub invariant-loop-row : goal.invariant-loop-row
+invariant-loop-row l =
+    (earlier : List Row) → AreInTables l.network earlier l.initial.latencies.entries l.initial.drops.entries →
+    AreInTables l.network (earlier ++ take l.row-index l.rows) l.latencies.entries l.drops.entries

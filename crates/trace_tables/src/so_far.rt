@@ -1,0 +1,170 @@
+//! Tables that are counted while rows come.
+ghost use Rattle.std.specs.Prelude.{◌≡◌, ◌+◌, ◌-◌, ◌^◌, ◌<◌, ◌++◌, ◌∷◌, [], List, length, IfOk, OnOk};
+ghost use Rattle.vlink.specs.declared.note.Row.{Row};
+ghost use Rattle.trace_tables.specs.SoFar.{AreInTables, IsSoFar};
+ghost use Rattle.trace_tables.specs.Tables.{tables_of};
+
+use crate::deliveries::{add_latency, no_deliveries};
+use crate::destination::Destination;
+use crate::drops::add_known_loss;
+use crate::latencies::Latencies;
+use crate::loss::Loss;
+use crate::tables::Tables;
+use netdesc::Network;
+use std::alloc::{AllocError, Global};
+use std::collections::BTreeMap;
+use std::marker::Model;
+use vlink::{Message, Note, Row};
+
+/// So many rows are counted at most before all have come. What comes behind them is kept, so that no count of rows passes 64 bits.
+const MOST: u64 = 1 << 63;
+
+/// The tables of rows that come part by part. The rows need not be kept.
+///
+/// After an error it stands for no rows, and is of no use.
+///
+/// Clauses see what is counted, of how many rows, and the rows that are kept: none before 2^63 are counted. Latencies are in ns.
+#[derive(Drop)]
+pub struct TablesSoFar {
+    latencies: BTreeMap<Destination, Latencies>,
+    drops: BTreeMap<Loss, u64>,
+    counted: u64,
+    rest: Vec<Row>,
+}
+
+impl Model for TablesSoFar {
+    ghost use Rattle.trace_tables.specs.SoFar.{SoFarLists};
+
+    ghost Value = { SoFarLists };
+
+    ghost view = { λ t. record { latencies = t.latencies.entries; drops = t.drops.entries; counted = t.counted; rest = t.rest.items } };
+}
+
+/// A row is counted.
+#[inline(always)]
+fn count_row(
+    latencies: &mut BTreeMap<Destination, Latencies>,
+    drops: &mut BTreeMap<Loss, u64>,
+    network: &Network,
+    row: &Row,
+) -> Result<(), AllocError>
+    requires { (earlier : List Row) × AreInTables network.now earlier latencies.old.entries drops.old.entries × (length earlier < 2 ^ 64 - 1) }
+    ensures { OnOk result ((earlier : List Row) → AreInTables network.now earlier latencies.old.entries drops.old.entries
+        → AreInTables network.now (earlier ++ row.now ∷ []) latencies.new.entries drops.new.entries) }
+{
+    let _rising = network.vl_count();
+    match row.note {
+        Note::Delivered { vl, latency } => {
+            let place = usize::from(row.place);
+            add_latency(latencies, Destination { vl, place }, latency);
+            Ok(())
+        }
+        Note::Dropped { vl, cause, .. } => {
+            let place = row.place;
+            add_known_loss(drops, network, Loss { vl, place, cause })
+        }
+    }
+}
+
+/// Each of the rows is counted.
+fn count_each(
+    latencies: &mut BTreeMap<Destination, Latencies>,
+    drops: &mut BTreeMap<Loss, u64>,
+    network: &Network,
+    rows: &[Row],
+) -> Result<(), AllocError>
+    requires { (earlier : List Row) × AreInTables network.now earlier latencies.old.entries drops.old.entries × (length earlier + length rows.now < 2 ^ 64) }
+    ensures { OnOk result ((earlier : List Row) → AreInTables network.now earlier latencies.old.entries drops.old.entries
+        → AreInTables network.now (earlier ++ rows.now) latencies.new.entries drops.new.entries) }
+{
+    for row in rows {
+        count_row(latencies, drops, network, row)?;
+    }
+    Ok(())
+}
+
+/// A row behind those that are kept.
+#[cold]
+#[inline(never)]
+fn keep(rest: &mut Vec<Row>, message: &Message, note: &Note) -> Result<(), AllocError>
+    ensures { OnOk result (rest.new.items ≡ rest.old.items ++ record { message = message.now; place = message.now.receiver; note = note.now } ∷ []) }
+{
+    rest.push(Row {
+        message: *message,
+        place: message.receiver,
+        note: *note,
+    })?;
+    Ok(())
+}
+
+impl TablesSoFar {
+    /// No row has come. It fails only where memory is refused.
+    pub fn none(alloc: Global, network: &Network) -> Result<TablesSoFar, AllocError>
+        ensures { IfOk result (λ tables. IsSoFar network.now tables []) }
+    {
+        Ok(TablesSoFar {
+            latencies: no_deliveries(alloc, network)?,
+            drops: BTreeMap::new(alloc),
+            counted: 0,
+            rest: Vec::new(alloc),
+        })
+    }
+
+    /// These rows have come behind the others. It fails only where memory is refused.
+    ///
+    /// A row whose virtual link or process the network lacks is not counted, nor is a delivery at a process that is no destination of
+    /// its virtual link.
+    pub fn count(&mut self, network: &Network, rows: &[Row]) -> Result<(), AllocError>
+        requires { (earlier : List Row) × IsSoFar network.now self.old earlier }
+        ensures { OnOk result ((earlier : List Row) → IsSoFar network.now self.old earlier → IsSoFar network.now self.new (earlier ++ rows.now)) }
+    {
+        if !self.rest.is_empty() || rows.len() as u64 > MOST - self.counted {
+            return self.rest.extend_from_slice(rows);
+        }
+        count_each(&mut self.latencies, &mut self.drops, network, rows)?;
+        self.counted += rows.len() as u64;
+        Ok(())
+    }
+
+    /// A row has come behind the others: that of this note, of the event of this message at its receiver. It fails only where memory is
+    /// refused.
+    ///
+    /// It counts what `count` counts.
+    pub fn count_note(
+        &mut self,
+        network: &Network,
+        message: &Message,
+        note: &Note,
+    ) -> Result<(), AllocError>
+        requires { (earlier : List Row) × IsSoFar network.now self.old earlier }
+        ensures { OnOk result ((earlier : List Row) → IsSoFar network.now self.old earlier →
+            IsSoFar network.now self.new (earlier ++ record { message = message.now; place = message.now.receiver; note = note.now } ∷ [])) }
+    {
+        if !self.rest.is_empty() || self.counted >= MOST {
+            return keep(&mut self.rest, message, note);
+        }
+        let row = Row {
+            message: *message,
+            place: message.receiver,
+            note: *note,
+        };
+        count_row(&mut self.latencies, &mut self.drops, network, &row)?;
+        self.counted += 1;
+        Ok(())
+    }
+
+    /// The tables of all rows that have come. It fails only where memory is refused.
+    pub fn tables(self, network: &Network) -> Result<Tables, AllocError>
+        requires { (rows : List Row) × IsSoFar network.now self rows }
+        ensures { IfOk result (λ tables. (rows : List Row) → IsSoFar network.now self rows → tables ≡ tables_of network.now rows) }
+    {
+        let TablesSoFar {
+            mut latencies,
+            mut drops,
+            rest,
+            ..
+        } = self;
+        count_each(&mut latencies, &mut drops, network, rest.as_slice())?;
+        Ok(Tables::new(latencies, drops))
+    }
+}
