@@ -22,22 +22,22 @@ use worker_pool::{Exchange, PoolFault, Step};
 ///
 /// The words are those after the program's name. The answer is the status: 0 done, or help was asked for (`out` gets clap's text),
 /// 2 bad words (`out` gets clap's text), 5 where memory or numbers were wanting or `out` takes no more.
-pub fn first<'a, S: AsStr, W: fmt::Write>(words: &'a [S], alloc: Global, out: &mut W) -> u8
+pub fn first<'a, S: AsStr, W: fmt::Write>(alloc: Global, words: &'a [S], out: &mut W) -> u8
     ensures status { (result ≡ 0) ⊎ (result ≡ 2) ⊎ (result ≡ 5) }
     ensures bad_words { result ≡ 2 → fault_of program (map S.text words.entry.now) ≢ [] }
     ensures done { result ≡ 0 → (fault_of program (map S.text words.entry.now) ≡ []) ⊎ AsksForText (fault_of program (map S.text words.entry.now)) }
 {
-    match offered(words, alloc) {
-        Ok(ns) => show(ns, alloc, out),
+    match offered(alloc, words) {
+        Ok(ns) => show(alloc, ns, out),
         Err(error) => refuse(&error, out),
     }
 }
 
 /// Does the run and writes its text. The answer is the status.
-fn show<W: fmt::Write>(ns: u64, alloc: Global, out: &mut W) -> u8
+fn show<W: fmt::Write>(alloc: Global, ns: u64, out: &mut W) -> u8
     ensures status { (result ≡ 0) ⊎ (result ≡ 5) }
 {
-    let exchange = match exchange_after(Time::new(ns).unwrap_or_default(), alloc) {
+    let exchange = match exchange_after(alloc, Time::new(ns).unwrap_or_default()) {
         Ok(exchange) => exchange,
         Err(fault) => {
             let _written = writeln!(out, "afdxsim: {fault}");
@@ -91,13 +91,13 @@ fn write_run<W: fmt::Write>(exchange: &Exchange, out: &mut W) -> fmt::Result {
 }
 
 /// The exchange after process 0 has taken the offer at this moment, handled it and posted what it sent.
-fn exchange_after(at: Time, alloc: Global) -> Result<Exchange, PoolFault> {
+fn exchange_after(alloc: Global, at: Time) -> Result<Exchange, PoolFault> {
     let (exchange, _held) = run_once(alloc, Source::new(alloc)?, offer(at), 2)?;
     Ok(exchange)
 }
 
 /// The source after such a run, undone: what it was at the start, whatever the moment of the offer.
-pub fn first_undone(at: Time, alloc: Global) -> Result<Source, PoolFault>
+pub fn first_undone(alloc: Global, at: Time) -> Result<Source, PoolFault>
     ensures opening { IfOk result (λ source. source ≡ opening_source) }
 {
     undo_once(alloc, Source::new(alloc)?, offer(at), 2)

@@ -32,7 +32,7 @@ fn main(rt: HostRuntime) -> io::Result<ExitCode> {
         words.push(word)?;
     }
     let mut system = System::new(rt);
-    Ok(ExitCode::from(perform(&words, rt.alloc(), &mut system)))
+    Ok(ExitCode::from(perform(rt.alloc(), &words, &mut system)))
 }
 
 #[cfg(test)]

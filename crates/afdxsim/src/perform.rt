@@ -21,55 +21,55 @@ use trace_tables::write_all;
 ///
 /// What the words ask for goes to standard output and into files. A fault is told by one line on error output, bad words by clap's
 /// text; where error output fails, nothing more is said. A fault ends the program at once, and what was written before it stays.
-pub fn perform<S: AsStr, H: Host>(words: &[S], alloc: Global, host: &mut H) -> u8
+pub fn perform<S: AsStr, H: Host>(alloc: Global, words: &[S], host: &mut H) -> u8
     ensures status { IsStatus result }
 {
     match words.first() {
-        Some(word) if word.as_str() == "first" => perform_first(words, alloc, host),
-        _ => match order(words, alloc) {
-            Ok(order) => obey(&order, alloc, host),
-            Err(error) => answer(&error, alloc, host),
+        Some(word) if word.as_str() == "first" => perform_first(alloc, words, host),
+        _ => match order(alloc, words) {
+            Ok(order) => obey(alloc, &order, host),
+            Err(error) => answer(alloc, &error, host),
         },
     }
 }
 
 /// `first OFFERED`: what it tells goes to standard output, and what it refuses to error output.
-fn perform_first<S: AsStr, H: Host>(words: &[S], alloc: Global, host: &mut H) -> u8
+fn perform_first<S: AsStr, H: Host>(alloc: Global, words: &[S], host: &mut H) -> u8
     ensures status { IsStatus result }
 {
     let mut text = String::new(alloc);
-    let status = first(words, alloc, &mut text);
+    let status = first(alloc, words, &mut text);
     if status == DONE {
-        return show(text.as_str(), alloc, host);
+        return show(alloc, text.as_str(), host);
     }
     say(text.as_str(), host.errors());
     status
 }
 
 /// Does what is ordered.
-fn obey<H: Host>(order: &Order, alloc: Global, host: &mut H) -> u8
+fn obey<H: Host>(alloc: Global, order: &Order, host: &mut H) -> u8
     ensures status { IsStatus result }
 {
     match order {
         Order::Check(order) => {
             let outcome = check(alloc, order.net.as_str(), host);
-            end(outcome, alloc, host)
+            end(alloc, outcome, host)
         }
         Order::Seq(order) => {
             let trace = order.trace.as_ref().map(|path| path.as_str());
             let outcome = seq(alloc, order.net.as_str(), trace, host);
-            end(outcome, alloc, host)
+            end(alloc, outcome, host)
         }
         Order::Run(_) => lack("afdxsim: run is not there yet\n", host),
         Order::Replay(order) => {
             let outcome = replay(alloc, order.net.as_str(), order.steps.as_str(), host);
-            end(outcome, alloc, host)
+            end(alloc, outcome, host)
         }
     }
 }
 
 /// Tells a fault, if there was one.
-fn end<H: Host>(outcome: Result<(), Fault<'_>>, alloc: Global, host: &mut H) -> u8
+fn end<H: Host>(alloc: Global, outcome: Result<(), Fault<'_>>, host: &mut H) -> u8
     ensures status { IsStatus result }
 {
     match outcome {
@@ -87,7 +87,7 @@ fn lack<H: Host>(line: &str, host: &mut H) -> u8
 }
 
 /// Writes the help that the words ask for, or why they are refused.
-fn answer<H: Host>(error: &Error, alloc: Global, host: &mut H) -> u8
+fn answer<H: Host>(alloc: Global, error: &Error, host: &mut H) -> u8
     ensures status { IsStatus result }
 {
     match (error.kind(), error.to_string(alloc)) {
@@ -95,7 +95,7 @@ fn answer<H: Host>(error: &Error, alloc: Global, host: &mut H) -> u8
             tell(alloc, &Fault::OutOfMemory, host.errors())
         }
         (ErrorKind::DisplayHelp | ErrorKind::DisplayVersion, Ok(text)) => {
-            show(text.as_str(), alloc, host)
+            show(alloc, text.as_str(), host)
         }
         (_, Ok(text)) => {
             say(text.as_str(), host.errors());
@@ -105,7 +105,7 @@ fn answer<H: Host>(error: &Error, alloc: Global, host: &mut H) -> u8
 }
 
 /// Writes a text on standard output.
-fn show<H: Host>(text: &str, alloc: Global, host: &mut H) -> u8
+fn show<H: Host>(alloc: Global, text: &str, host: &mut H) -> u8
     ensures status { IsStatus result }
 {
     match write_all(host.output(), text.as_bytes()) {

@@ -15,7 +15,7 @@ pub const LATEST_OFFER_NS: u64 = 1_000_000_000;
 ///
 /// An error is clap's. Its `print` writes what the user is to read, help to the standard output and a mistake in the
 /// words to the standard error, and its `exit_code` is 0 or 2.
-pub fn offered<'a, S: AsStr>(words: &'a [S], alloc: Global) -> Result<u64, Error>
+pub fn offered<'a, S: AsStr>(alloc: Global, words: &'a [S]) -> Result<u64, Error>
     ensures within { IfOk result (λ ns. ns ≤ LATEST_OFFER_NS) }
     ensures kinds { FailsBy (fault_of program (map S.text words.entry.now)) result }
     ensures named { IfOk result (Names (map S.text words.entry.now)) }

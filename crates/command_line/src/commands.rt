@@ -13,9 +13,9 @@ use std::alloc::{AllocError, Global};
 
 /// The order of a command with these values. `None`: no command of that name, or a value is not there or not within its limits.
 pub(crate) fn order_of(
+    alloc: Global,
     name: &str,
     values: &ArgMatches<'_>,
-    alloc: Global,
 ) -> Result<Option<Order>, AllocError>
     ensures command { IfOk result (λ o. IfSome o (λ order. command_of order ≡ name.now)) }
     ensures names { IfOk result (λ o. IfSome o (Names (rows_of (found_of values.now)))) }
@@ -23,39 +23,39 @@ pub(crate) fn order_of(
     ensures limits { IfOk result (λ o. IfSome o IsWithinLimits) }
 {
     match name {
-        "check" => Ok(check_of(values, alloc)?.map(Order::Check)),
-        "seq" => Ok(seq_of(values, alloc)?.map(Order::Seq)),
-        "run" => Ok(run_of(values, alloc)?.map(Order::Run)),
-        "replay" => Ok(replay_of(values, alloc)?.map(Order::Replay)),
+        "check" => Ok(check_of(alloc, values)?.map(Order::Check)),
+        "seq" => Ok(seq_of(alloc, values)?.map(Order::Seq)),
+        "run" => Ok(run_of(alloc, values)?.map(Order::Run)),
+        "replay" => Ok(replay_of(alloc, values)?.map(Order::Replay)),
         _ => Ok(None),
     }
 }
 
-fn check_of(values: &ArgMatches<'_>, alloc: Global) -> Result<Option<Check>, AllocError>
+fn check_of(alloc: Global, values: &ArgMatches<'_>) -> Result<Option<Check>, AllocError>
     ensures names { IfOk result (λ o. IfSome o (NamesCheck (rows_of (found_of values.now)))) }
 {
-    let Some(net) = text_of(values, "NET", alloc)? else {
+    let Some(net) = text_of(alloc, values, "NET")? else {
         return Ok(None);
     };
     Ok(Some(Check { net }))
 }
 
-fn seq_of(values: &ArgMatches<'_>, alloc: Global) -> Result<Option<Seq>, AllocError>
+fn seq_of(alloc: Global, values: &ArgMatches<'_>) -> Result<Option<Seq>, AllocError>
     ensures names { IfOk result (λ o. IfSome o (NamesSeq (rows_of (found_of values.now)))) }
 {
-    let Some(net) = text_of(values, "NET", alloc)? else {
+    let Some(net) = text_of(alloc, values, "NET")? else {
         return Ok(None);
     };
-    let trace = text_of(values, "trace", alloc)?;
+    let trace = text_of(alloc, values, "trace")?;
     Ok(Some(Seq { net, trace }))
 }
 
-fn run_of(values: &ArgMatches<'_>, alloc: Global) -> Result<Option<Run>, AllocError>
+fn run_of(alloc: Global, values: &ArgMatches<'_>) -> Result<Option<Run>, AllocError>
     ensures names { IfOk result (λ o. IfSome o (NamesRun (rows_of (found_of values.now)))) }
     ensures defaults { IfOk result (λ o. IfSome o (RunDefaults (rows_of (found_of values.now)))) }
     ensures limits { IfOk result (λ o. IfSome o RunLimits) }
 {
-    let Some(net) = text_of(values, "NET", alloc)? else {
+    let Some(net) = text_of(alloc, values, "NET")? else {
         return Ok(None);
     };
     let Some(workers) = number_of(values, "workers", USUAL_WORKERS, MOST_WORKERS) else {
@@ -67,8 +67,8 @@ fn run_of(values: &ArgMatches<'_>, alloc: Global) -> Result<Option<Run>, AllocEr
     let Some(window_ns) = number_of(values, "window", USUAL_WINDOW_NS, MOST_WINDOW_NS) else {
         return Ok(None);
     };
-    let journal = text_of(values, "journal", alloc)?;
-    let trace = text_of(values, "trace", alloc)?;
+    let journal = text_of(alloc, values, "journal")?;
+    let trace = text_of(alloc, values, "trace")?;
     Ok(Some(Run {
         net,
         workers: workers as u8,
@@ -79,13 +79,13 @@ fn run_of(values: &ArgMatches<'_>, alloc: Global) -> Result<Option<Run>, AllocEr
     }))
 }
 
-fn replay_of(values: &ArgMatches<'_>, alloc: Global) -> Result<Option<Replay>, AllocError>
+fn replay_of(alloc: Global, values: &ArgMatches<'_>) -> Result<Option<Replay>, AllocError>
     ensures names { IfOk result (λ o. IfSome o (NamesReplay (rows_of (found_of values.now)))) }
 {
-    let Some(net) = text_of(values, "NET", alloc)? else {
+    let Some(net) = text_of(alloc, values, "NET")? else {
         return Ok(None);
     };
-    let Some(steps) = text_of(values, "STEPS", alloc)? else {
+    let Some(steps) = text_of(alloc, values, "STEPS")? else {
         return Ok(None);
     };
     Ok(Some(Replay { net, steps }))

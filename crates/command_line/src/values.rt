@@ -9,9 +9,9 @@ use std::alloc::{AllocError, Global};
 
 /// The text of an argument, if it has one.
 pub(crate) fn text_of(
+    alloc: Global,
     values: &ArgMatches<'_>,
     id: &str,
-    alloc: Global,
 ) -> Result<Option<String>, AllocError>
     ensures { IfOk result (λ text. first_of id.now (rows_of (found_of values.now)) ≡ option_map string_bytes text) }
 {

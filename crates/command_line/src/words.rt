@@ -15,7 +15,7 @@ use std::convert::AsStr;
 ///
 /// An error is clap's: a mistake in the words, a request for help, or want of memory. Its `Display` is the text for the user,
 /// and its `exit_code` is 0 for help and 2 for a mistake.
-pub fn order<'a, S: AsStr>(words: &'a [S], alloc: Global) -> Result<Order, Error>
+pub fn order<'a, S: AsStr>(alloc: Global, words: &'a [S]) -> Result<Order, Error>
     ensures command { IfOk result (λ order. command_in (map S.text words.entry.now) ≡ Some (command_of order)) }
     ensures names { IfOk result (Names (rows_in (map S.text words.entry.now))) }
     ensures defaults { IfOk result (HasDefaults (rows_in (map S.text words.entry.now))) }
@@ -24,7 +24,7 @@ pub fn order<'a, S: AsStr>(words: &'a [S], alloc: Global) -> Result<Order, Error
 {
     let matches = program(alloc)?.try_get_matches_from(words)?;
     if let Some((name, values)) = matches.subcommand() {
-        if let Some(order) = order_of(name, values, alloc)? {
+        if let Some(order) = order_of(alloc, name, values)? {
             return Ok(order);
         }
     }

@@ -126,7 +126,7 @@ fn each_beginning_is_answered(rt: HostRuntime) -> Result<(), Fail> {
 // A description is accepted or its fault is told; without both keys of the top table it is not accepted.
 fn is_answered(alloc: Global, net: &str) -> Result<bool, Fail> {
     let mut host = MemoryHost::new(alloc, net.as_bytes())?;
-    let status = perform(&["check", "net.toml"], alloc, &mut host);
+    let status = perform(alloc, &["check", "net.toml"], &mut host);
     Ok(status == 3 || status == 0 && net.starts_with("until_ns = 2000000\nseed = 4"))
 }
 
@@ -171,7 +171,7 @@ fn tells(
     status: u8,
     errors: &str,
 ) -> bool {
-    let ended = perform(words, alloc, host);
+    let ended = perform(alloc, words, host);
     ended == status && host.output.holds("") && host.errors.holds(errors)
 }
 
@@ -252,7 +252,7 @@ fn is_told_or_wants_memory(
     let mut host = MemoryHost::new(alloc, net.as_bytes())?;
     host.output = Page::with_room(alloc, 128)?;
     host.errors = Page::with_room(alloc, 128)?;
-    let ended = perform(&[command, "net.toml"], alloc, &mut host);
+    let ended = perform(alloc, &[command, "net.toml"], &mut host);
     let (page, other) = if ended == 0 {
         (&host.output, &host.errors)
     } else {

@@ -67,7 +67,7 @@ fn end(alloc: Global, net: &str, words: &str, most: usize, writes: u64) -> Resul
     host.errors.writes = writes;
     host.file.most = most;
     host.file.writes = writes;
-    let status = perform(&all, alloc, &mut host);
+    let status = perform(alloc, &all, &mut host);
     let trace = host.written();
     Ok(Outcome {
         status,

@@ -27,7 +27,7 @@ fn one_frame_is_shown_and_undone(rt: HostRuntime) -> Result<(), Fail> {
     for ns in ["0", "1000", "1000000000"] {
         assert!(rt; is_shown(rt.alloc(), ns)?, "{ns}");
     }
-    let source = first_undone(Time::default(), rt.alloc())?;
+    let source = first_undone(rt.alloc(), Time::default())?;
     assert_eq!(rt; (source.counter(), source.regulator().sn()), (0, 0));
     assert_eq!(rt; source.regulator().last(), None);
     Ok(())

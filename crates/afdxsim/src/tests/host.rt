@@ -192,6 +192,6 @@ pub fn says(
     errors: &str,
 ) -> Result<bool, Fail> {
     let mut host = MemoryHost::new(alloc, net.as_bytes())?;
-    let ended = perform(words, alloc, &mut host);
+    let ended = perform(alloc, words, &mut host);
     Ok(ended == status && host.output.holds(output) && host.errors.holds(errors))
 }

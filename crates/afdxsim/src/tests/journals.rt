@@ -143,7 +143,7 @@ fn steps_of(alloc: Global, row: &str) -> Result<String, Fail> {
 fn tables_of(alloc: Global, net: &str, lines: &str) -> Result<String, Fail> {
     if lines == "seq" {
         let mut host = MemoryHost::new(alloc, net.as_bytes())?;
-        let _done = perform(&["seq", "net.toml"], alloc, &mut host);
+        let _done = perform(alloc, &["seq", "net.toml"], &mut host);
         return Ok(String::from_utf8_lossy(alloc, host.output.bytes.as_slice())?);
     }
     let lines = lines_of(alloc, lines)?;
@@ -160,7 +160,7 @@ fn replays(
     errors: &str,
 ) -> Result<bool, Fail> {
     let mut host = MemoryHost::of(alloc, net.as_bytes(), Some(steps.as_bytes()))?;
-    let ended = perform(&WORDS, alloc, &mut host);
+    let ended = perform(alloc, &WORDS, &mut host);
     Ok(ended == status && host.output.holds(output) && host.errors.holds(errors))
 }
 
@@ -284,7 +284,7 @@ fn a_stream_that_takes_no_more_is_told(rt: HostRuntime) -> Result<(), Fail> {
     }
     let mut host = MemoryHost::of(rt.alloc(), net.as_bytes(), Some(b"G\n"))?;
     host.errors.writes = 0;
-    assert_eq!(rt; perform(&WORDS, rt.alloc(), &mut host), 0);
+    assert_eq!(rt; perform(rt.alloc(), &WORDS, &mut host), 0);
     assert!(rt; host.output.holds(whole.as_str()) && host.errors.holds(""));
     Ok(())
 }
@@ -294,7 +294,7 @@ fn is_cut(alloc: Global, net: &str, whole: &str, writes: usize) -> Result<bool, 
     let mut host = MemoryHost::of(alloc, net.as_bytes(), Some(b"G\n"))?;
     host.output.most = 1;
     host.output.writes = writes as u64;
-    let ended = perform(&WORDS, alloc, &mut host);
+    let ended = perform(alloc, &WORDS, &mut host);
     let shown = host.output.bytes.as_slice();
     let is_front = shown.len() == writes && whole.as_bytes().starts_with(shown);
     Ok(ended == 4 && is_front && host.errors.holds("afdxsim: cannot write\n"))

@@ -270,7 +270,7 @@ fn is_told_for(alloc: Global, one: &str, other: &str) -> Result<bool, Fail> {
 fn is_traced(alloc: Global, net: &str, tables: &str, lines: Option<&str>) -> Result<bool, Fail> {
     let mut host = MemoryHost::new(alloc, net.as_bytes())?;
     let words = ["seq", "net.toml", "--trace", "trace.csv"];
-    let ended = perform(&words, alloc, &mut host);
+    let ended = perform(alloc, &words, &mut host);
     let is_kept = match lines {
         Some(lines) => {
             let trace = text_of(alloc, "time_ns,where,vl,what,value\n", lines)?;

@@ -82,7 +82,7 @@ fn words_are_done_or_refused(rt: HostRuntime) -> Result<(), Fail> {
     }
     let mut host = MemoryHost::new(rt.alloc(), b"")?;
     host.output.writes = 0;
-    assert_eq!(rt; perform(&["--help"], rt.alloc(), &mut host), 4);
+    assert_eq!(rt; perform(rt.alloc(), &["--help"], &mut host), 4);
     assert!(rt; host.errors.holds("afdxsim: cannot write\n"));
     Ok(())
 }
@@ -106,7 +106,7 @@ pub fn is_told(alloc: Global, row: &str) -> Result<bool, Fail> {
     let net = network(alloc, base)?;
     let words = words_of(alloc, words)?;
     let mut host = MemoryHost::new(alloc, net.as_bytes())?;
-    let ended = perform(&words, alloc, &mut host);
+    let ended = perform(alloc, &words, &mut host);
     let is_ended = format!(in alloc; "{ended}")?.as_str() == status;
     let (told, other) = if ended == 0 {
         (&host.output, &host.errors)
@@ -144,7 +144,7 @@ fn has_all(alloc: Global, page: &Page, parts: &str) -> Result<bool, Fail> {
 // The order of these words.
 fn ordered(alloc: Global, words: &str) -> Result<String, Fail> {
     let words = words_of(alloc, words)?;
-    match order(&words, alloc) {
+    match order(alloc, &words) {
         Ok(order) => Ok(format!(in alloc; "{order:?}")?),
         Err(_) => Err("bad words")?,
     }
