@@ -17,7 +17,9 @@ mod system;
 mod telling;
 mod words;
 
+pub use command_line::order;
 pub use first::{first, first_undone};
+pub use journal_text::read_steps;
 pub use once::{run_once, undo_once};
 pub use perform::perform;
 pub use source::{Source, SourceRecord};
