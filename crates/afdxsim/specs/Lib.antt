@@ -2,6 +2,9 @@ pub mod Source
 pub mod SourceSending
 pub mod Words
 pub mod Telling
+pub mod Ending
 pub mod Checking
+pub mod Sequencing
 pub mod Reading
 pub mod Replaying
+pub mod Performing

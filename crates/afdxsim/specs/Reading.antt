@@ -1,8 +1,9 @@
--- What the bytes of a file are as a description.
-use Rattle.std.specs.Prelude.{◌≡◌, ◌⊎◌, ℕ, List, IsUtf8}
+-- What a read of a file gives, and what its bytes are as a description.
+use Rattle.std.specs.Prelude.{◌≡◌, ◌⊎◌, ℕ, List, [], Option, None, Some, IsUtf8}
 use Rattle.network_rows.specs.declared.fault.DescFault.TheVariants.{Syntax}
 use Rattle.netdesc.specs.Finding.{Tells}
-use Rattle.netdesc.specs.Description.{faults_of_description}
+use Rattle.netdesc.specs.Plan.{Plan}
+use Rattle.netdesc.specs.Description.{faults_of_description, Describes}
 use Rattle.afdxsim.specs.declared.fault.Fault.{Fault}
 use Rattle.afdxsim.specs.declared.fault.Fault.TheVariants.{Description, JournalLine, JournalFull, CannotRead, CannotWriteFile, CannotWrite, OutOfMemory, Exhausted}
 
@@ -16,3 +17,22 @@ TellsOf bytes (CannotWriteFile path) = ⊥
 TellsOf bytes CannotWrite = ⊥
 TellsOf bytes OutOfMemory = ⊥
 TellsOf bytes Exhausted = ⊥
+
+-- why the file with this path was not read, where this is what a read of it may give
+abbrev pub IsFaultOfFile : (Option (List ℕ) → Type 0) → List ℕ → Fault → Type 0
+IsFaultOfFile gives path (Description fault) = ⊥
+IsFaultOfFile gives path (JournalLine n) = ⊥
+IsFaultOfFile gives path JournalFull = ⊥
+IsFaultOfFile gives path (CannotRead at) = (at.now ≡ path) × gives None
+IsFaultOfFile gives path (CannotWriteFile at) = ⊥
+IsFaultOfFile gives path CannotWrite = ⊥
+IsFaultOfFile gives path OutOfMemory = Unit
+IsFaultOfFile gives path Exhausted = ⊥
+
+-- a read of the file may give a text without a fault, which describes this network
+abbrev pub GivesNetwork : (Option (List ℕ) → Type 0) → Plan → Type 0
+GivesNetwork gives plan = (bytes : List ℕ) × gives (Some bytes) × (faults_of_description bytes ≡ []) × Describes bytes plan
+
+-- why the file with this path gave no network: it was not read, or a read of it may give bytes with this fault
+abbrev pub IsFaultOfNet : (Option (List ℕ) → Type 0) → List ℕ → Fault → Type 0
+IsFaultOfNet gives path fault = IsFaultOfFile gives path fault ⊎ ((bytes : List ℕ) × gives (Some bytes) × TellsOf bytes fault)

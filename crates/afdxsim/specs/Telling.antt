@@ -1,7 +1,6 @@
 -- What the program says of a fault, on one line of error output, and the status that it then ends with.
 use Rattle.std.specs.Prelude.{◌≡◌, ◌⊎◌, ℕ, List, [], ◌∷◌, ◌++◌, Option, None, Some, codes, decimal}
 use Rattle.std.specs.Option.{option_map_or}
-use Rattle.std.specs.Io.KnownBytes.{append_known}
 use Rattle.network_rows.specs.Keys.{key_text, section_text}
 use Rattle.network_rows.specs.declared.fault.DescFault.{DescFault}
 use Rattle.network_rows.specs.declared.fault.DescFault.TheVariants as desc
@@ -60,10 +59,6 @@ fault_text Exhausted = codes "numbers used up"
 abbrev pub told : List ℕ → List ℕ
 told text = codes "afdxsim: " ++ text ++ 10 ∷ []
 
--- the line of this fault was added, or that of want of memory, which the line itself may meet
-abbrev pub TellsLine : Option (List ℕ) → Option (List ℕ) → Fault → Type 0
-TellsLine old new fault = (new ≡ append_known old (told (fault_text fault))) ⊎ (new ≡ append_known old (codes "afdxsim: out of memory\n"))
-
 -- 3 for a description or a line of a journal, 4 for a file or standard output, 5 for memory, numbers and a journal that is too long
 abbrev pub status_of : Fault → ℕ
 status_of (Description desc.OutOfMemory) = 5
@@ -75,6 +70,19 @@ status_of (CannotWriteFile path) = 4
 status_of CannotWrite = 4
 status_of OutOfMemory = 5
 status_of Exhausted = 5
+
+-- a line on error output, and the status that the program ends with
+pub record Telling : Type 0 where
+  pub line : List ℕ
+  pub status : ℕ
+
+-- what is told of a fault
+abbrev pub telling_of : Fault → Telling
+telling_of fault = record { line = told (fault_text fault); status = status_of fault }
+
+-- what is told is that of one fault: of this one, or of want of memory, which its line itself may meet
+abbrev pub TellsOne : Fault → (Telling → Type 0) → Type 0
+TellsOne fault IsTold = IsTold (telling_of fault) ⊎ IsTold (telling_of OutOfMemory)
 
 -- a status of the program: 0 done, 2 bad words, 3 a bad description or journal, 4 a file or standard output, 5 memory, numbers or a journal that is too long
 abbrev pub IsStatus : ℕ → Type 0

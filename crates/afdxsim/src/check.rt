@@ -1,7 +1,10 @@
 //! `check NET`: whether a network's description is accepted.
-ghost use Rattle.std.specs.Prelude.{◌≡◌, IfOk, OnOk, string_bytes};
-ghost use Rattle.std.specs.Io.KnownBytes.{append_known};
+ghost use Rattle.std.specs.Prelude.{◌≡◌, ◌≢◌, ◌⊎◌, IfOk, IfErr, OnOk, string_bytes};
+ghost use Rattle.netdesc.specs.Plan.{Plan};
+ghost use Rattle.afdxsim.specs.declared.fault.Fault.TheVariants.{CannotWrite};
 ghost use Rattle.afdxsim.specs.Checking.{counts_text, check_text};
+ghost use Rattle.afdxsim.specs.Ending.{Took, IsFaultOfOutput};
+ghost use Rattle.afdxsim.specs.Reading.{GivesNetwork, IsFaultOfNet};
 
 use crate::fault::Fault;
 use crate::host::Host;
@@ -39,7 +42,9 @@ fn show_counts<O: Sink>(
     network: &Described,
     output: &mut O,
 ) -> Result<(), Fault<'static>>
-    ensures text { OnOk result (O.taken output.new ≡ append_known (O.taken output.old) (check_text network.now)) }
+    ensures text { OnOk result (Took O.taken output.old output.new (check_text network.now)) }
+    ensures fault { IfErr result (IsFaultOfOutput O.failures output.old output.new) }
+    ensures kept { IfErr result (λ fault. fault ≢ CannotWrite → output.new ≡ output.old) }
 {
     let line = line_of(alloc, network)?;
     match write_all(output, line.as_bytes()) {
@@ -50,7 +55,14 @@ fn show_counts<O: Sink>(
 
 /// Judges the description in the file with this path, and tells on standard output what it describes. Nothing is run, so the tables and the
 /// list of offers that a run takes are not made.
-pub fn check<'a, H: Host>(alloc: Global, net: &'a str, host: &mut H) -> Result<(), Fault<'a>> {
+pub fn check<'a, H: Host>(alloc: Global, net: &'a str, host: &mut H) -> Result<(), Fault<'a>>
+    ensures text { OnOk result ((plan : Plan) × GivesNetwork (H.gives host.old net.entry.now) plan ×
+        Took H.Output.taken (H.output host.old) (H.output host.new) (check_text plan)) }
+    ensures fault { IfErr result (λ fault. IsFaultOfNet (H.gives host.old net.entry.now) net.entry.now fault ⊎
+        IsFaultOfOutput H.Output.failures (H.output host.old) (H.output host.new) fault) }
+    ensures kept { IfErr result (λ fault. fault ≢ CannotWrite → H.output host.new ≡ H.output host.old) }
+    ensures errors { H.errors host.new ≡ H.errors host.old }
+{
     let network = described_of(alloc, net, host)?;
     let shown = show_counts(alloc, &network, host.output());
     // The process ends here, and the system takes the network at once.

@@ -76,8 +76,13 @@ impl From<AllocError> for Fault<'_> {
 }
 
 impl From<SimFault> for Fault<'_> {
-    fn from(fault: SimFault) -> Self {
-        match fault {
+    ghost use Rattle.std.specs.Prelude.{◌≡◌};
+    ghost use Rattle.afdxsim.specs.Sequencing.{fault_of_run};
+
+    ghost from_gives = { λ it fault. fault ≡ fault_of_run it };
+
+    fn from(it: SimFault) -> Self {
+        match it {
             SimFault::OutOfMemory => Fault::OutOfMemory,
             SimFault::Exhausted => Fault::Exhausted,
         }

@@ -1,3 +1,7 @@
+ghost use Rattle.std.specs.Prelude.{◌≡◌, ℕ, [], List, Option, IfOk, IfErr, IfSome};
+ghost use Rattle.std.specs.Borrow.{sem, Lends};
+ghost use Rattle.afdxsim.specs.declared.host.ReadFault.TheVariants.{Device};
+
 use std::alloc::Global;
 use thiserror::Error;
 use trace_tables::{Sink, SinkFault};
@@ -24,15 +28,53 @@ pub trait Host {
     /// Error output.
     type Errors: Sink;
 
-    /// The bytes of the file with this path. `Device` comes where it cannot be read, and `OutOfMemory` only where a growth was refused.
-    fn read(&mut self, alloc: Global, path: &str) -> Result<Vec<u8>, ReadFault>;
-
-    /// A new, empty file with this path, in the place of one that was there. It fails where the file cannot be made.
-    fn make(&mut self, path: &str) -> Result<Self::File, SinkFault>;
+    /// What a read of the file with this path may give: its bytes, or none where it cannot be read. A host that knows its files allows
+    /// just what the file holds.
+    ghost gives: { Self → List ℕ → Option (List ℕ) → Type 0 };
 
     /// Standard output.
-    fn output(&mut self) -> &mut Self::Output;
+    ghost output: { Self → Self.Output };
 
     /// Error output.
-    fn errors(&mut self) -> &mut Self::Errors;
+    ghost errors: { Self → Self.Errors };
+
+    /// The host once standard output is this.
+    ghost with_output: { Self → Self.Output → Self };
+
+    /// The host once error output is this.
+    ghost with_errors: { Self → Self.Errors → Self };
+
+    /// The bytes of the file with this path. `Device` comes where it cannot be read, and `OutOfMemory` only where a growth was refused.
+    fn read(&mut self, alloc: Global, path: &str) -> Result<Vec<u8>, ReadFault>
+        ensures bytes { IfOk result (λ bytes. gives self.old path.now (Some bytes.items)) }
+        ensures absent { IfErr result (λ fault. fault ≡ Device → gives self.old path.now None) }
+        ensures host { self.new ≡ self.old };
+
+    /// A new, empty file with this path, in the place of one that was there. It fails where the file cannot be made.
+    fn make(&mut self, path: &str) -> Result<Self::File, SinkFault>
+        ensures empty { IfOk result (λ file. IfSome (Self.File.taken file) (λ bytes. bytes ≡ [])) }
+        ensures output { output self.new ≡ output self.old }
+        ensures errors { errors self.new ≡ errors self.old };
+
+    /// Standard output.
+    fn output(&mut self) -> &mut Self::Output
+        ensures* writes_back { sem 𝓛 (Lends Self.row Self.Output.row self.entry result (with_output self.old)) }
+        ensures value { result.now ≡ output self.old };
+
+    /// Error output.
+    fn errors(&mut self) -> &mut Self::Errors
+        ensures* writes_back { sem 𝓛 (Lends Self.row Self.Errors.row self.entry result (with_errors self.old)) }
+        ensures value { result.now ≡ errors self.old };
+
+    /// What is written on standard output stands there.
+    ghost output_stays: { (host : Self) → (out : Self.Output) → output (with_output host out) ≡ out };
+
+    /// What is written on error output stands there.
+    ghost errors_stay: { (host : Self) → (out : Self.Errors) → errors (with_errors host out) ≡ out };
+
+    /// What is written on standard output is not on error output.
+    ghost errors_beside: { (host : Self) → (out : Self.Output) → errors (with_output host out) ≡ errors host };
+
+    /// What is written on error output is not on standard output.
+    ghost output_beside: { (host : Self) → (out : Self.Errors) → output (with_errors host out) ≡ output host };
 }

@@ -2,11 +2,13 @@
 #![tactic(auto)]
 
 mod account;
+mod answering;
 mod check;
 mod fault;
 mod first;
 mod host;
 mod journal;
+mod obeying;
 mod once;
 mod perform;
 mod reading;

@@ -1,7 +1,7 @@
 //! From a file to the network that it describes.
 ghost use Rattle.std.specs.Prelude.{◌≡◌, [], OnOk, IfOk, IfErr};
 ghost use Rattle.netdesc.specs.Description.{faults_of_description, Describes};
-ghost use Rattle.afdxsim.specs.Reading.{TellsOf};
+ghost use Rattle.afdxsim.specs.Reading.{GivesNetwork, IsFaultOfFile, IsFaultOfNet, TellsOf};
 
 use crate::fault::Fault;
 use crate::host::{Host, ReadFault};
@@ -49,7 +49,11 @@ pub fn bytes_of<'a, H: Host>(
     alloc: Global,
     path: &'a str,
     host: &mut H,
-) -> Result<Vec<u8>, Fault<'a>> {
+) -> Result<Vec<u8>, Fault<'a>>
+    ensures bytes { IfOk result (λ bytes. H.gives host.old path.entry.now (Some bytes.items)) }
+    ensures fault { IfErr result (IsFaultOfFile (H.gives host.old path.entry.now) path.entry.now) }
+    ensures host { host.new ≡ host.old }
+{
     match host.read(alloc, path) {
         Ok(bytes) => Ok(bytes),
         Err(ReadFault::Device) => Err(Fault::CannotRead(path)),
@@ -62,7 +66,11 @@ pub fn network_of<'a, H: Host>(
     alloc: Global,
     path: &'a str,
     host: &mut H,
-) -> Result<Network, Fault<'a>> {
+) -> Result<Network, Fault<'a>>
+    ensures network { IfOk result (GivesNetwork (H.gives host.old path.entry.now)) }
+    ensures fault { IfErr result (IsFaultOfNet (H.gives host.old path.entry.now) path.entry.now) }
+    ensures host { host.new ≡ host.old }
+{
     let bytes = bytes_of(alloc, path, host)?;
     network_in(alloc, bytes.as_slice())
 }
@@ -72,7 +80,11 @@ pub fn described_of<'a, H: Host>(
     alloc: Global,
     path: &'a str,
     host: &mut H,
-) -> Result<Described, Fault<'a>> {
+) -> Result<Described, Fault<'a>>
+    ensures network { IfOk result (GivesNetwork (H.gives host.old path.entry.now)) }
+    ensures fault { IfErr result (IsFaultOfNet (H.gives host.old path.entry.now) path.entry.now) }
+    ensures host { host.new ≡ host.old }
+{
     let bytes = bytes_of(alloc, path, host)?;
     described_in(alloc, bytes.as_slice())
 }

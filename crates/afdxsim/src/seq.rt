@@ -1,7 +1,11 @@
 //! `seq NET [--trace FILE]`: the one-thread run of a network.
-ghost use Rattle.std.specs.Prelude.{◌≡◌, OnOk};
-ghost use Rattle.std.specs.Io.KnownBytes.{append_known};
+ghost use Rattle.std.specs.Prelude.{◌≡◌, ◌≢◌, ◌⊎◌, ℕ, List, IfErr, OnOk, option_map};
+ghost use Rattle.netdesc.specs.Plan.{Plan};
 ghost use Rattle.trace_tables.specs.Text.{tables_text, trace_text};
+ghost use Rattle.afdxsim.specs.declared.fault.Fault.TheVariants.{CannotWrite};
+ghost use Rattle.afdxsim.specs.Ending.{Took, IsFaultOfOutput};
+ghost use Rattle.afdxsim.specs.Reading.{GivesNetwork, IsFaultOfNet};
+ghost use Rattle.afdxsim.specs.Sequencing.{IsTablesText, IsFaultOfRun, IsFaultOfSeq, IsFaultOfTrace};
 
 use crate::fault::Fault;
 use crate::host::Host;
@@ -20,7 +24,9 @@ pub fn show_tables<O: Sink>(
     tables: &Tables,
     output: &mut O,
 ) -> Result<(), Fault<'static>>
-    ensures text { OnOk result (O.taken output.new ≡ append_known (O.taken output.old) (tables_text network.now tables.now)) }
+    ensures text { OnOk result (Took O.taken output.old output.new (tables_text network.now tables.now)) }
+    ensures fault { IfErr result (IsFaultOfOutput O.failures output.old output.new) }
+    ensures kept { IfErr result (λ fault. fault ≢ CannotWrite → output.new ≡ output.old) }
 {
     match write_csv(alloc, network, tables, output) {
         Ok(()) => Ok(()),
@@ -37,7 +43,8 @@ fn write_trace_of<'a, F: Sink>(
     path: &'a str,
     file: &mut F,
 ) -> Result<(), Fault<'a>>
-    ensures text { OnOk result (F.taken file.new ≡ append_known (F.taken file.old) (trace_text network.now rows.now)) }
+    ensures text { OnOk result (Took F.taken file.old file.new (trace_text network.now rows.now)) }
+    ensures fault { IfErr result (IsFaultOfTrace path.entry.now) }
 {
     match write_trace(alloc, network, rows, file) {
         Ok(()) => Ok(()),
@@ -53,7 +60,11 @@ fn keep_trace<'a, H: Host>(
     rows: &[Row],
     path: &'a str,
     host: &mut H,
-) -> Result<(), Fault<'a>> {
+) -> Result<(), Fault<'a>>
+    ensures fault { IfErr result (IsFaultOfTrace path.entry.now) }
+    ensures output { H.output host.new ≡ H.output host.old }
+    ensures errors { H.errors host.new ≡ H.errors host.old }
+{
     match host.make(path) {
         Ok(mut file) => write_trace_of(alloc, network, rows, path, &mut file),
         Err(_) => Err(Fault::CannotWriteFile(path)),
@@ -65,7 +76,12 @@ fn run_to_tables<H: Host>(
     alloc: Global,
     network: &Network,
     host: &mut H,
-) -> Result<(), Fault<'static>> {
+) -> Result<(), Fault<'static>>
+    ensures text { OnOk result ((text : List ℕ) × IsTablesText network.now text × Took H.Output.taken (H.output host.old) (H.output host.new) text) }
+    ensures fault { IfErr result (λ fault. IsFaultOfRun network.now fault ⊎ IsFaultOfOutput H.Output.failures (H.output host.old) (H.output host.new) fault) }
+    ensures kept { IfErr result (λ fault. fault ≢ CannotWrite → H.output host.new ≡ H.output host.old) }
+    ensures errors { H.errors host.new ≡ H.errors host.old }
+{
     let (tables, remains) = run_tables_with_remains(alloc, network)?;
     // The process ends soon, and the system takes at once what piece by piece takes longer.
     forget(remains);
@@ -79,7 +95,12 @@ fn run_to_trace<'a, H: Host>(
     network: &Network,
     path: &'a str,
     host: &mut H,
-) -> Result<(), Fault<'a>> {
+) -> Result<(), Fault<'a>>
+    ensures text { OnOk result ((text : List ℕ) × IsTablesText network.now text × Took H.Output.taken (H.output host.old) (H.output host.new) text) }
+    ensures fault { IfErr result (λ fault. IsFaultOfRun network.now fault ⊎ (IsFaultOfTrace path.entry.now fault ⊎ IsFaultOfOutput H.Output.failures (H.output host.old) (H.output host.new) fault)) }
+    ensures kept { IfErr result (λ fault. fault ≢ CannotWrite → H.output host.new ≡ H.output host.old) }
+    ensures errors { H.errors host.new ≡ H.errors host.old }
+{
     let finished = run(alloc, network)?;
     keep_trace(alloc, network, finished.rows.as_slice(), path, host)?;
     show_tables(alloc, network, &finished.tables, host.output())
@@ -92,7 +113,14 @@ pub fn seq<'a, H: Host>(
     net: &'a str,
     trace: Option<&'a str>,
     host: &mut H,
-) -> Result<(), Fault<'a>> {
+) -> Result<(), Fault<'a>>
+    ensures text { OnOk result ((plan : Plan) × (text : List ℕ) × GivesNetwork (H.gives host.old net.entry.now) plan × IsTablesText plan text ×
+        Took H.Output.taken (H.output host.old) (H.output host.new) text) }
+    ensures fault { IfErr result (IsFaultOfSeq (H.gives host.old net.entry.now) net.entry.now (option_map (λ path. path.now) trace.entry)
+        (IsFaultOfOutput H.Output.failures (H.output host.old) (H.output host.new))) }
+    ensures kept { IfErr result (λ fault. fault ≢ CannotWrite → H.output host.new ≡ H.output host.old) }
+    ensures errors { H.errors host.new ≡ H.errors host.old }
+{
     let network = network_of(alloc, net, host)?;
     let shown = match trace {
         Some(path) => run_to_trace(alloc, &network, path, host),

@@ -76,11 +76,32 @@ impl System {
 }
 
 impl Host for System {
+    ghost use Rattle.std.proofs.Common.{refl};
+
     type File = Device<File>;
 
     type Output = Device<Stdout>;
 
     type Errors = Device<Stderr>;
+
+    // What a file of the system holds is for the system to tell: a read may give any bytes, or none.
+    ghost gives = { λ _ _ _. Unit };
+
+    ghost output = { λ system. system.output };
+
+    ghost errors = { λ system. system.errors };
+
+    ghost with_output = { λ system out. record system { output = out } };
+
+    ghost with_errors = { λ system out. record system { errors = out } };
+
+    ghost output_stays = { λ system out. refl };
+
+    ghost errors_stay = { λ system out. refl };
+
+    ghost errors_beside = { λ system out. refl };
+
+    ghost output_beside = { λ system out. refl };
 
     fn read(&mut self, alloc: Global, path: &str) -> Result<Vec<u8>, ReadFault> {
         match fs::read(&self.runtime, path) {

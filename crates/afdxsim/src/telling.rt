@@ -1,8 +1,9 @@
 //! What the program says of a fault, on one line of error output.
 ghost use Rattle.std.specs.Prelude.{◌≡◌, ◌⊎◌, ◌++◌, [], codes, decimal, OnOk, IfOk, string_bytes};
 ghost use Rattle.std.specs.Option.{option_map_or};
-ghost use Rattle.std.specs.Io.KnownBytes.{append_known};
-ghost use Rattle.afdxsim.specs.Telling.{place_text, place_of, fault_name, description_text, fault_text, told, status_of, IsStatus, TellsLine};
+ghost use Rattle.afdxsim.specs.Telling.{place_text, place_of, fault_name, description_text, fault_text, told, TellsOne};
+ghost use Rattle.afdxsim.specs.Ending.{Took, Told};
+ghost use Rattle.afdxsim.specs.declared.fault.Fault.TheVariants.{OutOfMemory};
 
 use crate::fault::Fault;
 use netdesc::{DescFault, Place};
@@ -107,14 +108,14 @@ fn line_of(alloc: Global, fault: &Fault<'_>) -> Result<String, AllocError>
 
 /// The line that tells of want of memory.
 fn want_of_memory() -> &'static str
-    ensures { result.now ≡ codes "afdxsim: out of memory\n" }
+    ensures { result.now ≡ told (fault_text OutOfMemory) }
 {
     "afdxsim: out of memory\n"
 }
 
 /// Writes a line on error output. Where that fails, nothing more is said.
 pub fn say<E: Sink>(line: &str, errors: &mut E)
-    ensures { E.failures errors.new ≡ E.failures errors.old → E.taken errors.new ≡ append_known (E.taken errors.old) line.now }
+    ensures { E.failures errors.new ≡ E.failures errors.old → Took E.taken errors.old errors.new line.now }
 {
     let _said = write_all(errors, line.as_bytes());
 }
@@ -122,9 +123,8 @@ pub fn say<E: Sink>(line: &str, errors: &mut E)
 /// Tells a fault on error output, by one line, and gives the status that the program ends with. Where the line itself wants memory it
 /// tells of that in place of the fault. Where error output fails, nothing more is said.
 pub fn tell<E: Sink>(alloc: Global, fault: &Fault<'_>, errors: &mut E) -> u8
-    ensures status { (result ≡ status_of fault.now) ⊎ (result ≡ 5) }
-    ensures known { IsStatus result }
-    ensures line { E.failures errors.new ≡ E.failures errors.old → TellsLine (E.taken errors.old) (E.taken errors.new) fault.now }
+    ensures told { TellsOne fault.now (Told E.taken E.failures errors.old errors.new result) }
+    ensures known { (result ≡ 3) ⊎ (result ≡ 4) ⊎ (result ≡ 5) }
 {
     match line_of(alloc, fault) {
         Ok(line) => {
@@ -133,7 +133,7 @@ pub fn tell<E: Sink>(alloc: Global, fault: &Fault<'_>, errors: &mut E) -> u8
         }
         Err(_) => {
             say(want_of_memory(), errors);
-            5
+            Fault::OutOfMemory.status()
         }
     }
 }

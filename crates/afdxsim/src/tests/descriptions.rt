@@ -164,13 +164,7 @@ fn files_that_are_no_text_and_devices_that_fail_are_told(rt: HostRuntime) -> Res
 }
 
 // These words end with this status and this on error output, and nothing is on standard output.
-fn tells(
-    alloc: Global,
-    host: &mut MemoryHost<'_>,
-    words: &[&str],
-    status: u8,
-    errors: &str,
-) -> bool {
+fn tells(alloc: Global, host: &mut MemoryHost, words: &[&str], status: u8, errors: &str) -> bool {
     let ended = perform(alloc, words, host);
     ended == status && host.output.holds("") && host.errors.holds(errors)
 }

@@ -99,13 +99,13 @@ impl Sink for Leaf {
 
 /// A host with a file or two to read and one that can be written.
 #[derive(Drop)]
-pub struct MemoryHost<'a> {
+pub struct MemoryHost {
     /// The bytes of the file `net.toml`.
-    bytes: &'a [u8],
+    bytes: Vec<u8>,
     /// The bytes of the file `steps.txt`, where it is there.
-    steps: Option<&'a [u8]>,
+    steps: Option<Vec<u8>>,
     /// The path of the file that can be made.
-    made: &'a str,
+    made: &'static str,
     written: Rc<Cell<Vec<u8>>>,
     /// How that file takes what is written, at most so much at a time and so often.
     pub file: Page,
@@ -114,16 +114,20 @@ pub struct MemoryHost<'a> {
     alloc: Global,
 }
 
-impl<'a> MemoryHost<'a> {
+impl MemoryHost {
     /// A host with the file `net.toml` alone, where `trace.csv` can be made. The standard streams take all.
-    pub fn new(alloc: Global, bytes: &'a [u8]) -> Result<Self, AllocError> {
+    pub fn new(alloc: Global, bytes: &[u8]) -> Result<Self, AllocError> {
         MemoryHost::of(alloc, bytes, None)
     }
 
     /// That host with the file `steps.txt` as well, where there are bytes for it.
-    pub fn of(alloc: Global, bytes: &'a [u8], steps: Option<&'a [u8]>) -> Result<Self, AllocError> {
+    pub fn of(alloc: Global, bytes: &[u8], steps: Option<&[u8]>) -> Result<Self, AllocError> {
+        let steps = match steps {
+            Some(steps) => Some(Vec::from_slice(alloc, steps)?),
+            None => None,
+        };
         Ok(MemoryHost {
-            bytes,
+            bytes: Vec::from_slice(alloc, bytes)?,
             steps,
             made: "trace.csv",
             written: Rc::new(alloc, Cell::new(Vec::new(alloc)))?,
@@ -134,24 +138,51 @@ impl<'a> MemoryHost<'a> {
         })
     }
 
+    // The bytes of the file with this path, if it is there.
+    fn file(&self, path: &str) -> Option<&[u8]> {
+        match (path, &self.steps) {
+            ("net.toml", _) => Some(self.bytes.as_slice()),
+            ("steps.txt", Some(steps)) => Some(steps.as_slice()),
+            _ => None,
+        }
+    }
+
     /// What the file that was made holds. It is empty afterwards.
     pub fn written(&self) -> Vec<u8> {
         self.written.replace(Vec::new(self.alloc))
     }
 }
 
-impl Host for MemoryHost<'_> {
+impl Host for MemoryHost {
+    ghost use Rattle.std.proofs.Common.{refl};
+
     type File = Leaf;
 
     type Output = Page;
 
     type Errors = Page;
 
+    ghost gives = { λ _ _ _. Unit };
+
+    ghost output = { λ host. host.output };
+
+    ghost errors = { λ host. host.errors };
+
+    ghost with_output = { λ host out. record host { output = out } };
+
+    ghost with_errors = { λ host out. record host { errors = out } };
+
+    ghost output_stays = { λ host out. refl };
+
+    ghost errors_stay = { λ host out. refl };
+
+    ghost errors_beside = { λ host out. refl };
+
+    ghost output_beside = { λ host out. refl };
+
     fn read(&mut self, alloc: Global, path: &str) -> Result<Vec<u8>, ReadFault> {
-        let bytes = match (path, self.steps) {
-            ("net.toml", _) => self.bytes,
-            ("steps.txt", Some(steps)) => steps,
-            _ => return Err(ReadFault::Device),
+        let Some(bytes) = self.file(path) else {
+            return Err(ReadFault::Device);
         };
         match Vec::from_slice(alloc, bytes) {
             Ok(bytes) => Ok(bytes),

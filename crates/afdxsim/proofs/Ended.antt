@@ -1,0 +1,111 @@
+-- A command that was done, or whose fault was told, has ended.
+use Rattle.std.proofs.Common.{◌≡◌, ◌∙◌, ◌⊎◌, ℕ, inl, inr, List, [], ◌∷◌, Option, Some, None, Result, Ok, Err, refl, sym, ap, subst, arith}
+use Rattle.std.specs.Prelude.{◌≢◌, OnOk, IfErr, option_map, codes, string_bytes}
+use Rattle.clap.specs.Words.{IsAmong, Text, first_of}
+use Rattle.clap.specs.declared.error.kind.ErrorKind.{ErrorKind}
+use Rattle.clap.specs.declared.error.kind.ErrorKind.TheVariants as kind
+use Rattle.netdesc.specs.Plan.{Plan}
+use Rattle.command_line.specs.Meaning.{Names, command_in, command_of, rows_in}
+use Rattle.command_line.specs.declared.orders.Check.{Check}
+use Rattle.command_line.specs.declared.orders.Seq.{Seq}
+use Rattle.command_line.specs.declared.orders.Order.{Order}
+use Rattle.command_line.specs.declared.orders.Order.TheVariants as ordered
+use Rattle.afdxsim.specs.declared.fault.Fault.{Fault}
+use Rattle.afdxsim.specs.declared.fault.Fault.TheVariants.{CannotWrite, OutOfMemory}
+use Rattle.afdxsim.specs.Checking.{check_text}
+use Rattle.afdxsim.specs.Telling.{TellsOne}
+use Rattle.afdxsim.specs.Ending.{Ends, IsFaultOfOutput, Told, Took}
+use Rattle.afdxsim.specs.Performing.{EndsCheck, EndsSeq, found_in}
+use Rattle.afdxsim.specs.Reading.{GivesNetwork, IsFaultOfNet}
+use Rattle.afdxsim.specs.Sequencing.{IsFaultOfSeq, IsTablesText}
+
+-- the first of some letters
+first_letter : Option Text → ℕ
+first_letter None = 0
+first_letter (Some []) = 0
+first_letter (Some (c ∷ cs)) = c
+
+some_same : (x y : Text) → Some x ≡ Some y → x ≡ y
+some_same x y is = cc
+
+-- standard output was o₀ before and o₁ after the command, and error output e₀ and e₁; then a fault was told, and they are o₂ and e₂
+module _ {O E : Type 0} (r : Result (Unit {0}) Fault) (status : ℕ) (took : O → Option (List ℕ)) (failed : O → ℕ)
+    (said : E → Option (List ℕ)) (unsaid : E → ℕ) (o₀ o₁ o₂ : O) (e₀ e₁ e₂ : E) where
+  ended : (Done : O → Type 0) (IsMet : O → Fault → Type 0) →
+      OnOk r (Done o₁) → IfErr r (IsMet o₁) → IfErr r (λ fault. fault ≢ CannotWrite → o₁ ≡ o₀) → e₁ ≡ e₀ →
+      OnOk r ((status ≡ 0) × (e₂ ≡ e₁)) → IfErr r (λ fault. TellsOne fault (Told said unsaid e₁ e₂ status)) → o₂ ≡ o₁ →
+      Ends status (Done o₂ × (e₂ ≡ e₀)) (λ fault. IsMet o₂ fault × (fault ≢ CannotWrite → o₂ ≡ o₀)) (Told said unsaid e₀ e₂ status)
+  ended Done IsMet done met kept quiet zero told same = go r done met kept zero told
+    where
+      go : (r : Result (Unit {0}) Fault) → OnOk r (Done o₁) → IfErr r (IsMet o₁) → IfErr r (λ fault. fault ≢ CannotWrite → o₁ ≡ o₀) →
+          OnOk r ((status ≡ 0) × (e₂ ≡ e₁)) → IfErr r (λ fault. TellsOne fault (Told said unsaid e₁ e₂ status)) →
+          Ends status (Done o₂ × (e₂ ≡ e₀)) (λ fault. IsMet o₂ fault × (fault ≢ CannotWrite → o₂ ≡ o₀)) (Told said unsaid e₀ e₂ status)
+      go (Ok x) done met kept zero told = inl (zero.0, (subst Done (sym same) done, zero.1 ∙ quiet))
+      go (Err fault) done met kept zero told =
+          inr (
+            fault,
+            (subst (λ o. IsMet o fault) (sym same) met, λ other. same ∙ kept other),
+            subst (λ e. TellsOne fault (Told said unsaid e e₂ status)) quiet told,
+          )
+
+  pub ended_check : (gives : List ℕ → Option (List ℕ) → Type 0) (path net : List ℕ) → path ≡ net →
+      OnOk r ((plan : Plan) × GivesNetwork (gives path) plan × Took took o₀ o₁ (check_text plan)) →
+      IfErr r (λ fault. IsFaultOfNet (gives path) path fault ⊎ IsFaultOfOutput failed o₀ o₁ fault) →
+      IfErr r (λ fault. fault ≢ CannotWrite → o₁ ≡ o₀) → e₁ ≡ e₀ →
+      OnOk r ((status ≡ 0) × (e₂ ≡ e₁)) → IfErr r (λ fault. TellsOne fault (Told said unsaid e₁ e₂ status)) → o₂ ≡ o₁ →
+      EndsCheck (gives net) net took failed o₀ o₂ said unsaid e₀ e₂ status
+  ended_check gives path net at done met kept quiet zero told same =
+      subst (λ (n : List ℕ). EndsCheck (gives n) n took failed o₀ o₂ said unsaid e₀ e₂ status) at
+      (ended (λ o. (plan : Plan) × GivesNetwork (gives path) plan × Took took o₀ o (check_text plan))
+      (λ o fault. IsFaultOfNet (gives path) path fault ⊎ IsFaultOfOutput failed o₀ o fault) done met kept quiet zero told same)
+
+  pub ended_seq : (gives : List ℕ → Option (List ℕ) → Type 0) (path net : List ℕ) (given trace : Option (List ℕ)) → path ≡ net → given ≡ trace →
+      OnOk r ((plan : Plan) × (text : List ℕ) × GivesNetwork (gives path) plan × IsTablesText plan text × Took took o₀ o₁ text) →
+      IfErr r (IsFaultOfSeq (gives path) path given (IsFaultOfOutput failed o₀ o₁)) →
+      IfErr r (λ fault. fault ≢ CannotWrite → o₁ ≡ o₀) → e₁ ≡ e₀ →
+      OnOk r ((status ≡ 0) × (e₂ ≡ e₁)) → IfErr r (λ fault. TellsOne fault (Told said unsaid e₁ e₂ status)) → o₂ ≡ o₁ →
+      EndsSeq (gives net) net trace took failed o₀ o₂ said unsaid e₀ e₂ status
+  ended_seq gives path net given trace at same_trace done met kept quiet zero told same =
+      subst (λ (n : List ℕ). EndsSeq (gives n) n trace took failed o₀ o₂ said unsaid e₀ e₂ status) at
+      (subst (λ (t : Option (List ℕ)). EndsSeq (gives path) path t took failed o₀ o₂ said unsaid e₀ e₂ status) same_trace
+      (ended (λ o. (plan : Plan) × (text : List ℕ) × GivesNetwork (gives path) plan × IsTablesText plan text × Took took o₀ o text)
+      (λ o fault. IsFaultOfSeq (gives path) path given (IsFaultOfOutput failed o₀ o) fault) done met kept quiet zero told same))
+
+-- the order of words that name a command
+module _ {O E : Type 0} (words : List Text) (status : ℕ) (gives : List ℕ → Option (List ℕ) → Type 0) (net : List ℕ)
+    (took : O → Option (List ℕ)) (failed : O → ℕ) (o o' : O) (said : E → Option (List ℕ)) (unsaid : E → ℕ) (e e' : E) where
+  pub check_words : (order : Order) → command_in words ≡ Some (command_of order) → Names (rows_in words) order →
+      ((c : Check) → order ≡ ordered.Check c → EndsCheck (gives (string_bytes c.net)) (string_bytes c.net) took failed o o' said unsaid e e' status) →
+      command_in words ≡ Some (codes "check") → first_of (codes "NET") (rows_in words) ≡ Some net →
+      EndsCheck (gives net) net took failed o o' said unsaid e e' status
+  check_words (ordered.Check c) is names ends named given =
+      subst (λ (n : List ℕ). EndsCheck (gives n) n took failed o o' said unsaid e e' status) (some_same (string_bytes c.net) net (sym names.net ∙ given)) (ends c refl)
+  check_words (ordered.Seq c) is names ends named given = absurd (let bad : 115 ≡ 99 = ap first_letter (sym is ∙ named) in omega arith)
+  check_words (ordered.Run c) is names ends named given = absurd (let bad : 114 ≡ 99 = ap first_letter (sym is ∙ named) in omega arith)
+  check_words (ordered.Replay c) is names ends named given = absurd (let bad : 114 ≡ 99 = ap first_letter (sym is ∙ named) in omega arith)
+
+  pub seq_words : (order : Order) → command_in words ≡ Some (command_of order) → Names (rows_in words) order →
+      ((c : Seq) → order ≡ ordered.Seq c → EndsSeq (gives (string_bytes c.net)) (string_bytes c.net) (option_map string_bytes c.trace) took failed o o' said unsaid e e' status) →
+      command_in words ≡ Some (codes "seq") → first_of (codes "NET") (rows_in words) ≡ Some net →
+      EndsSeq (gives net) net (first_of (codes "trace") (rows_in words)) took failed o o' said unsaid e e' status
+  seq_words (ordered.Seq c) is names ends named given =
+      subst (λ (n : List ℕ). EndsSeq (gives n) n (first_of (codes "trace") (rows_in words)) took failed o o' said unsaid e e' status) (some_same (string_bytes c.net) net (sym names.net ∙ given))
+      (subst (λ (t : Option (List ℕ)). EndsSeq (gives (string_bytes c.net)) (string_bytes c.net) t took failed o o' said unsaid e e' status) (sym names.trace) (ends c refl))
+  seq_words (ordered.Check c) is names ends named given = absurd (let bad : 99 ≡ 115 = ap first_letter (sym is ∙ named) in omega arith)
+  seq_words (ordered.Run c) is names ends named given = absurd (let bad : 114 ≡ 115 = ap first_letter (sym is ∙ named) in omega arith)
+  seq_words (ordered.Replay c) is names ends named given = absurd (let bad : 114 ≡ 115 = ap first_letter (sym is ∙ named) in omega arith)
+
+  -- words that are accepted, where memory was refused before they were an order
+  memory : (k : ErrorKind) → found_in words ≡ [] → (k ≡ kind.OutOfMemory) ⊎ IsAmong k (found_in words) → k ≡ kind.OutOfMemory
+  memory k none (inl is) = is
+  memory k none (inr among) = absurd (subst (IsAmong k) none among)
+
+  pub check_memory : (k : ErrorKind) → found_in words ≡ [] → (k ≡ kind.OutOfMemory) ⊎ IsAmong k (found_in words) →
+      (k ≡ kind.OutOfMemory → TellsOne OutOfMemory (Told said unsaid e e' status)) → (k ≡ kind.OutOfMemory → o' ≡ o) →
+      EndsCheck (gives net) net took failed o o' said unsaid e e' status
+  check_memory k none has told same = let is = memory k none has in inr (OutOfMemory, (inl (inl tt), λ other. same is), told is)
+
+  pub seq_memory : (k : ErrorKind) (trace : Option (List ℕ)) → found_in words ≡ [] → (k ≡ kind.OutOfMemory) ⊎ IsAmong k (found_in words) →
+      (k ≡ kind.OutOfMemory → TellsOne OutOfMemory (Told said unsaid e e' status)) → (k ≡ kind.OutOfMemory → o' ≡ o) →
+      EndsSeq (gives net) net trace took failed o o' said unsaid e e' status
+  seq_memory k trace none has told same = let is = memory k none has in inr (OutOfMemory, (inl (inl tt), λ other. same is), told is)

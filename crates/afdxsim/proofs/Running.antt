@@ -1,0 +1,18 @@
+-- Why a one-thread run was given up, as a fault of the program.
+use Rattle.std.proofs.Common.{◌≡◌, ℕ, Result, Err, refl, sym, subst}
+use Rattle.nodes.specs.Simulation.{simulation_of}
+use Rattle.netdesc.specs.Plan.{Plan}
+use Rattle.actor_run.specs.Running.{IsExhaustedAt}
+use Rattle.actor_run.specs.declared.fault.SimFault.{SimFault}
+use Rattle.actor_run.specs.declared.fault.SimFault.TheVariants as sim
+use Rattle.afdxsim.specs.declared.fault.Fault.{Fault}
+use Rattle.afdxsim.specs.Sequencing.{fault_of_run, IsFaultOfRun}
+
+-- a run's own fault is named
+pub given_up : {X : Type 0} (plan : Plan) (r : Result X SimFault) (e : SimFault) (fault : Fault) → r ≡ Err e →
+    (r ≡ Err sim.Exhausted → (n : ℕ) × IsExhaustedAt (simulation_of plan) n) → fault ≡ fault_of_run e → IsFaultOfRun plan fault
+given_up plan r e fault is exhausted named = subst (IsFaultOfRun plan) (sym named) (of e is)
+  where
+    of : (e : SimFault) → r ≡ Err e → IsFaultOfRun plan (fault_of_run e)
+    of sim.OutOfMemory is = tt
+    of sim.Exhausted is = exhausted is

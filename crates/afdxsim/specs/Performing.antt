@@ -1,0 +1,57 @@
+-- What the words after the program's name come to, as its status tells.
+use Rattle.std.specs.Prelude.{◌≡◌, ◌≢◌, ◌⊎◌, ℕ, List, [], ◌∷◌, Option, Some, codes}
+use Rattle.clap.specs.Words.{Kinds, Text, fault_of}
+use Rattle.command_line.specs.Meaning.{command_in}
+use Rattle.command_line.specs.Program.{program}
+use Rattle.netdesc.specs.Plan.{Plan}
+use Rattle.afdxsim.specs.declared.fault.Fault.{Fault}
+use Rattle.afdxsim.specs.declared.fault.Fault.TheVariants.{CannotWrite}
+use Rattle.afdxsim.specs.Checking.{check_text}
+use Rattle.afdxsim.specs.Ending.{Ends, IsFaultOfOutput, Told, Took}
+use Rattle.afdxsim.specs.Reading.{GivesNetwork, IsFaultOfNet}
+use Rattle.afdxsim.specs.Sequencing.{IsFaultOfSeq, IsTablesText}
+use Rattle.afdxsim.specs.Words.{AsksFor, AsksForText}
+
+-- the first of the words is `first`, which is a command of its own
+abbrev pub IsFirst : List Text → Type 0
+IsFirst [] = ⊥
+IsFirst (word ∷ words) = word ≡ codes "first"
+
+-- among these kinds is a mistake in the words
+abbrev pub HasMistake : Kinds → Type 0
+HasMistake [] = ⊥
+HasMistake (kind ∷ kinds) = ¬ (AsksFor kind) ⊎ HasMistake kinds
+
+-- what clap finds wrong with the words, or is asked for by them; nothing where they are accepted
+abbrev pub found_in : List Text → Kinds
+found_in words = fault_of program words
+
+-- a status where words were read and no order was done, by what was found in them. Want of memory has the status 5.
+pub record AnswersWords (words : List Text) (status : ℕ) : Type 0 where
+  -- 2 comes for a mistake alone, and for `run`, which is not there yet
+  pub bad_words : status ≡ 2 → HasMistake (found_in words) ⊎ (command_in words ≡ Some (codes "run"))
+  -- words with a mistake, and without one that asks for help, have no other, but for want of memory
+  pub mistaken : found_in words ≢ [] → ¬ (AsksForText (found_in words)) → (status ≡ 2) ⊎ (status ≡ 5)
+  -- 0 comes where they are accepted, or where they ask for help
+  pub done : status ≡ 0 → (found_in words ≡ []) ⊎ AsksForText (found_in words)
+  -- where they ask for help it is 0, unless standard output failed or memory was refused
+  pub asked : found_in words ≢ [] → ¬ (HasMistake (found_in words)) → (status ≡ 0) ⊎ (status ≡ 4) ⊎ (status ≡ 5)
+
+-- `check NET` ends with this status, where this is what a read of NET may give; o and e are standard output and error output before, and o'
+-- and e' after. The network's line is all that goes out, or one fault is told and standard output took nothing, unless it is what failed
+abbrev pub EndsCheck : {O E : Type 0} → (Option (List ℕ) → Type 0) → List ℕ →
+    (O → Option (List ℕ)) → (O → ℕ) → O → O → (E → Option (List ℕ)) → (E → ℕ) → E → E → ℕ → Type 0
+EndsCheck gives net took failed o o' said unsaid e e' status =
+    Ends status
+    (((plan : Plan) × GivesNetwork gives plan × Took took o o' (check_text plan)) × (e' ≡ e))
+    (λ fault. (IsFaultOfNet gives net fault ⊎ IsFaultOfOutput failed o o' fault) × (fault ≢ CannotWrite → o' ≡ o))
+    (Told said unsaid e e' status)
+
+-- the same of `seq NET` with the trace for this file, if there is one: what goes out is the text of the tables of the one-thread run
+abbrev pub EndsSeq : {O E : Type 0} → (Option (List ℕ) → Type 0) → List ℕ → Option (List ℕ) →
+    (O → Option (List ℕ)) → (O → ℕ) → O → O → (E → Option (List ℕ)) → (E → ℕ) → E → E → ℕ → Type 0
+EndsSeq gives net trace took failed o o' said unsaid e e' status =
+    Ends status
+    (((plan : Plan) × (text : List ℕ) × GivesNetwork gives plan × IsTablesText plan text × Took took o o' text) × (e' ≡ e))
+    (λ fault. IsFaultOfSeq gives net trace (IsFaultOfOutput failed o o') fault × (fault ≢ CannotWrite → o' ≡ o))
+    (Told said unsaid e e' status)

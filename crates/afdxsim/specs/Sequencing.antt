@@ -1,0 +1,55 @@
+-- What the program writes of a one-thread run, and why it gives one up.
+use Rattle.std.specs.Prelude.{◌≡◌, ◌⊎◌, ℕ, List, Option, Some}
+use Rattle.vlink.specs.declared.note.Row.{Row as Noted}
+use Rattle.netdesc.specs.Plan.{Plan}
+use Rattle.nodes.specs.Simulation.{simulation_of}
+use Rattle.actor_run.specs.Running.{IsExhaustedAt}
+use Rattle.actor_run.specs.declared.fault.SimFault.{SimFault}
+use Rattle.actor_run.specs.declared.fault.SimFault.TheVariants as sim
+use Rattle.trace_tables.specs.Tables.{tables_of}
+use Rattle.trace_tables.specs.Text.{tables_text}
+use Rattle.seqsim.specs.Networks.{AreRowsOf}
+use Rattle.afdxsim.specs.declared.fault.Fault.{Fault}
+use Rattle.afdxsim.specs.declared.fault.Fault.TheVariants.{Description, JournalLine, JournalFull, CannotRead, CannotWriteFile, CannotWrite, OutOfMemory, Exhausted}
+use Rattle.afdxsim.specs.Reading.{GivesNetwork, IsFaultOfNet}
+
+-- why a one-thread run was given up, as a fault of the program
+abbrev pub fault_of_run : SimFault → Fault
+fault_of_run sim.OutOfMemory = OutOfMemory
+fault_of_run sim.Exhausted = Exhausted
+
+-- this is the text of the tables of the one-thread run of the network
+abbrev pub IsTablesText : Plan → List ℕ → Type 0
+IsTablesText plan text = (rows : List Noted) × AreRowsOf plan rows × (text ≡ tables_text plan (tables_of plan rows))
+
+-- why the one-thread run of a network was given up: after some events the process whose turn it is has not enough numbers left, or a growth
+-- was refused
+abbrev pub IsFaultOfRun : Plan → Fault → Type 0
+IsFaultOfRun plan (Description fault) = ⊥
+IsFaultOfRun plan (JournalLine n) = ⊥
+IsFaultOfRun plan JournalFull = ⊥
+IsFaultOfRun plan (CannotRead path) = ⊥
+IsFaultOfRun plan (CannotWriteFile path) = ⊥
+IsFaultOfRun plan CannotWrite = ⊥
+IsFaultOfRun plan OutOfMemory = Unit
+IsFaultOfRun plan Exhausted = (n : ℕ) × IsExhaustedAt (simulation_of plan) n
+
+-- why a trace is not in the file with this path: the file was not made or not written, or a growth was refused
+abbrev pub IsFaultOfTrace : List ℕ → Fault → Type 0
+IsFaultOfTrace path (Description fault) = ⊥
+IsFaultOfTrace path (JournalLine n) = ⊥
+IsFaultOfTrace path JournalFull = ⊥
+IsFaultOfTrace path (CannotRead at) = ⊥
+IsFaultOfTrace path (CannotWriteFile at) = at.now ≡ path
+IsFaultOfTrace path CannotWrite = ⊥
+IsFaultOfTrace path OutOfMemory = Unit
+IsFaultOfTrace path Exhausted = ⊥
+
+-- why `seq` ended early, of a network in the file with this path and a trace for the file with that path, if there is one: there was no
+-- network, its run was given up, the trace was not written, or the tables were not
+abbrev pub IsFaultOfSeq : (Option (List ℕ) → Type 0) → List ℕ → Option (List ℕ) → (Fault → Type 0) → Fault → Type 0
+IsFaultOfSeq gives net trace IsOfOutput fault =
+    IsFaultOfNet gives net fault
+    ⊎ (((plan : Plan) × GivesNetwork gives plan × IsFaultOfRun plan fault)
+    ⊎ (((path : List ℕ) × (trace ≡ Some path) × IsFaultOfTrace path fault)
+    ⊎ IsOfOutput fault))

@@ -1,0 +1,100 @@
+//! What an order comes to: it is done, or the fault that it met is told.
+ghost use Rattle.std.specs.Prelude.{◌≡◌, ◌⊎◌, OnOk, IfErr, codes, option_map, string_bytes};
+ghost use Rattle.command_line.specs.Meaning.{command_of};
+ghost use Rattle.command_line.specs.declared.orders.Check.{Check as Checked};
+ghost use Rattle.command_line.specs.declared.orders.Seq.{Seq as Sequenced};
+ghost use Rattle.command_line.specs.declared.orders.Order.TheVariants as ordered;
+ghost use Rattle.afdxsim.specs.Telling.{IsStatus, TellsOne};
+ghost use Rattle.afdxsim.specs.Ending.{Told};
+ghost use Rattle.afdxsim.specs.Performing.{EndsCheck, EndsSeq};
+
+use crate::check::check;
+use crate::fault::{BAD_WORDS, DONE, Fault};
+use crate::host::Host;
+use crate::replay::replay;
+use crate::seq::seq;
+use crate::telling::{say, tell};
+use command_line::{Check, Order, Replay, Seq};
+use std::alloc::Global;
+
+/// Tells a fault, if there was one.
+fn end<H: Host>(alloc: Global, outcome: Result<(), Fault<'_>>, host: &mut H) -> u8
+    ensures status { (result ≡ 0) ⊎ (result ≡ 3) ⊎ (result ≡ 4) ⊎ (result ≡ 5) }
+    ensures done { OnOk outcome.entry ((result ≡ 0) × (H.errors host.new ≡ H.errors host.old)) }
+    ensures told { IfErr outcome.entry (λ fault. TellsOne fault (Told H.Errors.taken H.Errors.failures (H.errors host.old) (H.errors host.new) result)) }
+    ensures output { H.output host.new ≡ H.output host.old }
+{
+    match outcome {
+        Ok(()) => DONE,
+        Err(fault) => tell(alloc, &fault, host.errors()),
+    }
+}
+
+/// Does `check NET`.
+#[tactic(auto, using(crate::proofs::Ended::ended_check))]
+fn obey_check<H: Host>(alloc: Global, order: &Check, host: &mut H) -> u8
+    ensures status { (result ≡ 0) ⊎ (result ≡ 3) ⊎ (result ≡ 4) ⊎ (result ≡ 5) }
+    ensures ends { EndsCheck (H.gives host.old (string_bytes order.now.net)) (string_bytes order.now.net)
+        H.Output.taken H.Output.failures (H.output host.old) (H.output host.new)
+        H.Errors.taken H.Errors.failures (H.errors host.old) (H.errors host.new) result }
+{
+    let outcome = check(alloc, order.net.as_str(), host);
+    end(alloc, outcome, host)
+}
+
+/// The path of the file that is to get the trace, if one is.
+fn path_in(trace: &Option<String>) -> Option<&str>
+    ensures { option_map (λ path. path.now) result ≡ option_map string_bytes trace.now }
+{
+    match trace {
+        Some(path) => Some(path.as_str()),
+        None => None,
+    }
+}
+
+/// Does `seq NET [--trace FILE]`.
+#[tactic(auto, using(crate::proofs::Ended::ended_seq))]
+fn obey_seq<H: Host>(alloc: Global, order: &Seq, host: &mut H) -> u8
+    ensures status { (result ≡ 0) ⊎ (result ≡ 3) ⊎ (result ≡ 4) ⊎ (result ≡ 5) }
+    ensures ends { EndsSeq (H.gives host.old (string_bytes order.now.net)) (string_bytes order.now.net) (option_map string_bytes order.now.trace)
+        H.Output.taken H.Output.failures (H.output host.old) (H.output host.new)
+        H.Errors.taken H.Errors.failures (H.errors host.old) (H.errors host.new) result }
+{
+    let outcome = seq(alloc, order.net.as_str(), path_in(&order.trace), host);
+    end(alloc, outcome, host)
+}
+
+/// Does `replay NET STEPS`.
+fn obey_replay<H: Host>(alloc: Global, order: &Replay, host: &mut H) -> u8
+    ensures status { (result ≡ 0) ⊎ (result ≡ 3) ⊎ (result ≡ 4) ⊎ (result ≡ 5) }
+{
+    let outcome = replay(alloc, order.net.as_str(), order.steps.as_str(), host);
+    end(alloc, outcome, host)
+}
+
+/// Says that a command is not there yet.
+fn lack<H: Host>(line: &str, host: &mut H) -> u8
+    ensures { result ≡ 2 }
+{
+    say(line, host.errors());
+    BAD_WORDS
+}
+
+/// Does what is ordered.
+pub fn obey<H: Host>(alloc: Global, order: &Order, host: &mut H) -> u8
+    ensures status { IsStatus result }
+    ensures lacks { result ≡ 2 → command_of order.now ≡ codes "run" }
+    ensures check { (o : Checked) → order.now ≡ ordered.Check o → EndsCheck (H.gives host.old (string_bytes o.net)) (string_bytes o.net)
+        H.Output.taken H.Output.failures (H.output host.old) (H.output host.new)
+        H.Errors.taken H.Errors.failures (H.errors host.old) (H.errors host.new) result }
+    ensures seq { (o : Sequenced) → order.now ≡ ordered.Seq o → EndsSeq (H.gives host.old (string_bytes o.net)) (string_bytes o.net) (option_map string_bytes o.trace)
+        H.Output.taken H.Output.failures (H.output host.old) (H.output host.new)
+        H.Errors.taken H.Errors.failures (H.errors host.old) (H.errors host.new) result }
+{
+    match order {
+        Order::Check(order) => obey_check(alloc, order, host),
+        Order::Seq(order) => obey_seq(alloc, order, host),
+        Order::Run(_) => lack("afdxsim: run is not there yet\n", host),
+        Order::Replay(order) => obey_replay(alloc, order, host),
+    }
+}
