@@ -16,7 +16,8 @@ use Rattle.virtual_time.proofs.Least.{IsLeast, least-some}
 use Rattle.virtual_time.proofs.Reading.{least-from}
 use Rattle.virtual_time.proofs.OneThread.{right, times-without, put_same, put_other}
 use Rattle.actor_run.specs.Recording.{noted_at}
-use Rattle.actor_run.specs.Running.{Setting, simulation_of, Opens, AreInStates, AreOnTheWay, StandsAt, seen_row}
+use Rattle.reverse.specs.Setting.{Setting, simulation_of, Opens, AreInStates}
+use Rattle.actor_run.specs.Running.{AreOnTheWay, StandsAt, seen_row}
 use Rattle.actor_run.proofs.Counting.{times-permutation, taken-least}
 
 -- one actor is in a new state

@@ -2,14 +2,12 @@
 #![tactic(auto)]
 
 mod fault;
-mod laws;
 mod recorder;
 mod running;
 mod sent;
 mod waiting;
 
 pub use fault::SimFault;
-pub use laws::actor_laws;
 pub use recorder::Recorder;
 pub use running::{run_actors, take_all_turns};
 pub use waiting::Waiting;

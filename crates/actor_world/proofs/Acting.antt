@@ -11,6 +11,7 @@ use Rattle.virtual_time.specs.Part.{Part, arrive, run_one, next_of, can_seal, se
 use Rattle.virtual_time.specs.Simulation.{Simulation}
 use Rattle.virtual_time.specs.World.{World, start, run, is_enabled, effect, with_part, is_early}
 use Rattle.virtual_time.specs.World.Step.{Arrive, Run, Commit}
+use Rattle.reverse.specs.Setting.{simulation_of}
 use Rattle.fossil.specs.Committed
 use Rattle.fossil.specs.Committed.{is_ready, committed_once}
 use Rattle.process_queues.specs.declared.fault.ProcFault.{ProcFault}
@@ -22,7 +23,6 @@ use Rattle.actor_world.specs.declared.done.Done.{Done}
 use Rattle.actor_world.specs.declared.done.Done.TheVariants.{Did, NotEnabled}
 use Rattle.actor_world.specs.declared.fault.StepFault.{StepFault}
 use Rattle.actor_world.specs.Faults.{fault_of}
-use Rattle.actor_run.specs.Running.{simulation_of}
 use Rattle.actor_world.specs.Worlds.{Held, StandsForWorld, AtEachWorld}
 use Rattle.actor_world.specs.Stepping.{IsStepped}
 use Rattle.actor_world.proofs.Holding.{some-is, process-within, with_part-stands, HasNumbers, when-did, when-not_enabled, when-no_memory, when-exhausted, the_same, the_same-when}

@@ -18,6 +18,7 @@ use Rattle.virtual_time.proofs.Letters.{named-head}
 use Rattle.virtual_time.proofs.Reading.{reached-keeps}
 use Rattle.virtual_time.proofs.Kept.{put_elim, start-kept}
 use Rattle.virtual_time.proofs.KeptRun.{run-kept}
+use Rattle.reverse.specs.Setting.{Setting, simulation_of, IsLaidOut}
 use Rattle.antimessages.specs.Letters.{Store}
 use Rattle.antimessages.specs.Mailing.{letters_for}
 use Rattle.process_queues.specs.declared.fault.ProcFault.TheVariants as process
@@ -27,7 +28,6 @@ use Rattle.actor_world.specs.declared.done.Done.{Done}
 use Rattle.actor_world.specs.declared.done.Done.TheVariants.{Did, NotEnabled}
 use Rattle.actor_world.specs.declared.fault.StepFault.{StepFault}
 use Rattle.actor_world.specs.Faults.{fault_of}
-use Rattle.actor_run.specs.Running.{Setting, simulation_of, IsLaidOut}
 use Rattle.actor_world.specs.Worlds.{Held, StandsForWorld, AtEachWorld, IsAWorld}
 use Rattle.actor_world.specs.Stepping.{IsStepped}
 use Rattle.actor_world.proofs.Holding.{process-within, parts-set, when-did, when-not_enabled, when-no_memory, the_same, the_same-when}

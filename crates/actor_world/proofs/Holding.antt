@@ -14,12 +14,12 @@ use Rattle.virtual_time.specs.Part.{Part, next_of}
 use Rattle.virtual_time.specs.Simulation.{Simulation, put}
 use Rattle.virtual_time.specs.World.{World, Step, start, run, is_enabled, effect, with_part}
 use Rattle.virtual_time.specs.World.Step.{Take, Arrive, Run, Post, Gvt, Commit}
+use Rattle.reverse.specs.Setting.{simulation_of}
 use Rattle.process_queues.specs.Queues.{Queues, InHand, StandsFor}
 use Rattle.actor_world.specs.declared.done.Done.{Done}
 use Rattle.actor_world.specs.declared.done.Done.TheVariants.{Did, NotEnabled}
 use Rattle.actor_world.specs.declared.fault.StepFault.{StepFault}
 use Rattle.actor_world.specs.declared.fault.StepFault.TheVariants.{OutOfMemory, Exhausted}
-use Rattle.actor_run.specs.Running.{simulation_of}
 use Rattle.actor_world.specs.Worlds.{Held, StandsForWorld, HoldsTheSame, IsExhausted, AtEachWorld}
 use Rattle.actor_world.specs.Stepping.{IsStepped}
 

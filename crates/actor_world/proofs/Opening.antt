@@ -12,11 +12,11 @@ use Rattle.virtual_time.specs.Letters.{plus_of, received_by}
 use Rattle.virtual_time.specs.Part.{opened}
 use Rattle.virtual_time.specs.World.{start}
 use Rattle.virtual_time.proofs.Lists.{in-head}
+use Rattle.reverse.specs.Setting.{Setting, simulation_of, Opens}
 use Rattle.antimessages.specs.Letters.{Store}
 use Rattle.antimessages.specs.Mailing.{letters_for}
 use Rattle.process_queues.specs.Queues.{Queues, StandsFor}
 use Rattle.process_queues.proofs.Standing.{opened-stands}
-use Rattle.actor_run.specs.Running.{Setting, simulation_of, Opens}
 use Rattle.actor_world.specs.Worlds.{opened_queues, StandsForWorld, CanOpen}
 
 -- messages to processes of which there are so many

@@ -1,4 +1,3 @@
 pub mod Faults
-pub mod Steps
 pub mod Worlds
 pub mod Stepping

@@ -8,10 +8,10 @@ use Rattle.virtual_time.specs.Part.{next_of}
 use Rattle.virtual_time.specs.Simulation.{Simulation}
 use Rattle.virtual_time.specs.World.{World, Step, start, run}
 use Rattle.virtual_time.specs.World.Step.{Run}
+use Rattle.reverse.specs.Setting.{Setting, simulation_of, Opens, IsLaidOut}
 use Rattle.antimessages.specs.Letters.{Store}
 use Rattle.antimessages.specs.Mailing.{letters_for}
 use Rattle.process_queues.specs.Queues.{Queues, StandsFor}
-use Rattle.actor_run.specs.Running.{Setting, simulation_of, Opens, IsLaidOut}
 
 -- the processes by their numbers, the mail, the floors, GVT and the end time
 pub record Held (S K : Type 0) : Type 0 where

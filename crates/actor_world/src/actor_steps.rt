@@ -5,18 +5,17 @@ ghost use Rattle.virtual_time.specs.World.{is_enabled, step as stepped};
 ghost use Rattle.virtual_time.specs.World.Step.{Take, Arrive, Run, Post, Gvt, Commit};
 ghost use Rattle.reverse.specs.Rules.{rules_of};
 ghost use Rattle.antimessages.specs.Letters.{signed};
+ghost use Rattle.antimessages.specs.Steps.{step_of, names_none};
 ghost use Rattle.actor_world.specs.declared.done.Done.TheVariants.{Did, NotEnabled};
 ghost use Rattle.actor_world.specs.declared.fault.StepFault.TheVariants.{NoProcess, OutOfMemory, Exhausted};
-ghost use Rattle.actor_world.specs.Steps.{step_of, names_none};
 ghost use Rattle.actor_world.specs.Worlds.{StandsForWorld, HoldsTheSame, IsExhausted, AtEachWorld, IsAWorld};
 ghost use Rattle.actor_world.specs.Stepping.{IsStepped};
 
 use crate::actors::ActorWorld;
 use crate::done::Done;
 use crate::fault::StepFault;
-use actor_run::actor_laws;
 use gvt::{gvt_law, horizon};
-use reverse::{Actor, actor_rules};
+use reverse::{Actor, actor_laws, actor_rules};
 use vlink::{Letter, Note, Step, Time};
 
 impl<R: Actor> ActorWorld<R> {

@@ -7,11 +7,11 @@ ghost use Rattle.virtual_time.specs.Letters.{plus_of};
 ghost use Rattle.virtual_time.specs.Part.{undo_all};
 ghost use Rattle.virtual_time.specs.World.{start};
 ghost use Rattle.reverse.specs.Rules.{rules_of};
+ghost use Rattle.reverse.specs.Setting.{Setting, simulation_of, Opens, IsLaidOut};
 ghost use Rattle.antimessages.specs.Letters.{signed};
 ghost use Rattle.antimessages.specs.Mailing.{letters_for};
 ghost use Rattle.process_queues.specs.Past.{seen_row};
 ghost use Rattle.actor_world.specs.declared.fault.StepFault.TheVariants.{OutOfMemory};
-ghost use Rattle.actor_run.specs.Running.{Setting, simulation_of, Opens, IsLaidOut};
 ghost use Rattle.actor_world.specs.Worlds.{opened_queues, StandsForWorld, AtEachWorld, IsAWorld, CanOpen};
 
 use crate::fault::StepFault;

@@ -12,7 +12,7 @@ use Rattle.journal_text.specs.Text.{Fits, steps_text}
 use Rattle.journal_text.specs.Lines.{lines, IsFirstBad}
 use Rattle.trace_tables.specs.Tables.{TableLists, tables_of}
 use Rattle.seqsim.specs.Networks.{AreRowsOf}
-use Rattle.timewarp.specs.Steps.{step_of}
+use Rattle.antimessages.specs.Steps.{step_of}
 use Rattle.timewarp.specs.Worlds.{IsExhausted}
 use Rattle.timewarp.specs.Networks.{after, AreCommittedRows}
 use Rattle.timewarp.specs.Replaying.{did, not_enabled, refused}

@@ -1,3 +1,4 @@
 pub mod Letters
 pub mod Counting
 pub mod Mailing
+pub mod Steps

@@ -1,4 +1,5 @@
 pub mod Answers
 pub mod Plain
 pub mod Rules
+pub mod Setting
 pub mod Sending

@@ -1,8 +1,10 @@
-//! What can be undone: elements that take an event back by the record that it left, and actors, which send messages.
+//! What can be undone: elements that take an event back by the record that it left, and actors, which send messages; and when
+//! actors are those of a simulation.
 #![tactic(auto)]
 
 mod actor;
 mod events;
+mod laws;
 mod outbound;
 mod reversible;
 mod rules;
@@ -10,6 +12,7 @@ mod sends;
 
 pub use actor::Actor;
 pub use events::{act_and_undo, forth_and_back};
+pub use laws::actor_laws;
 pub use outbound::Outbound;
 pub use reversible::Reversible;
 pub use rules::actor_rules;

@@ -5,6 +5,7 @@ use Rattle.virtual_time.specs.Rules.{IsOrder}
 use Rattle.virtual_time.specs.Simulation.{IsReached}
 use Rattle.virtual_time.proofs.Reading.{reached-keeps}
 use Rattle.reverse.proofs.Members.{in-all}
+use Rattle.reverse.specs.Setting.{AreInStates, IsLaidOut, Opens}
 use Rattle.netdesc.specs.Plan.{Plan}
 use Rattle.netdesc.specs.Accepted.{IsAccepted}
 use Rattle.netdesc.specs.Faults.{process_count}
@@ -16,7 +17,6 @@ use Rattle.nodes.specs.NodeSending.{sends-near, wiring-stays}
 use Rattle.nodes.specs.Opening.{opening}
 use Rattle.nodes.specs.Simulation.{simulation_of}
 use Rattle.nodes.proofs.OpeningLaws.{opening-placed, opening-wired}
-use Rattle.actor_run.specs.Running.{AreInStates, IsLaidOut, Opens}
 use Rattle.seqsim.specs.Networks.{setting_of}
 
 -- the processes of the network open its simulation, from its offers on

@@ -4,7 +4,7 @@ use Rattle.std.specs.Prelude.{slice_get}
 use Rattle.std.proofs.lemmas.Bool.{cases_lt}
 use Rattle.std.proofs.lemmas.List.{get_or_append_left, get_or_push, length_push}
 use Rattle.std.proofs.lemmas.Option.{get_or_from_slice_get, slice_get-get_or}
-use Rattle.actor_run.specs.Running.{AreInStates}
+use Rattle.reverse.specs.Setting.{AreInStates}
 
 pub states-more : {S : Type 0} (k : ℕ) (states : ℕ → S) (actors more : List S) (s : S) → AreInStates k states actors → more ≡ actors ++ s ∷ [] → s ≡ states k → AreInStates (k + 1) states more
 states-more {S} k states actors more s were pushed is = record { count = count; each = each }

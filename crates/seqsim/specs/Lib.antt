@@ -1,2 +1,1 @@
-pub use Rattle.actor_run.specs.Running
 pub mod Networks

@@ -2,13 +2,14 @@
 use Rattle.std.specs.Prelude.{◌≡◌, ℕ, [], map, List}
 use Rattle.vlink.specs.declared.note.Row.{Row as Noted}
 use Rattle.virtual_time.specs.OneThread.{one}
+use Rattle.reverse.specs.Setting.{Setting}
 use Rattle.netdesc.specs.Plan.{Plan}
 use Rattle.netdesc.specs.Faults.{process_count}
 use Rattle.traffic.specs.Offers.{offers_of}
 use Rattle.nodes.specs.Node.{NodeState}
 use Rattle.nodes.specs.Opening.{opening}
 use Rattle.nodes.specs.Simulation.{simulation_of}
-use Rattle.actor_run.specs.Running.{Setting, seen_row}
+use Rattle.actor_run.specs.Running.{seen_row}
 
 -- what a network simulates, but for the rules of its nodes and lines
 abbrev pub setting_of : Plan → Setting NodeState

@@ -6,7 +6,7 @@ mod networks;
 mod simulating;
 mod tables;
 
-pub use actor_run::{SimFault, actor_laws, run_actors};
-pub use networks::network_laws;
+pub use actor_run::{SimFault, run_actors};
+pub use networks::{network_laws, network_layout};
 pub use simulating::{Finished, nodes_of, run};
 pub use tables::{Remains, run_tables, run_tables_with_remains};

@@ -1,23 +1,34 @@
 //! Networks meet the laws of a simulation.
 ghost use Rattle.virtual_time.specs.Simulation.{Laws};
+ghost use Rattle.reverse.specs.Setting.{IsLaidOut};
+ghost use Rattle.nodes.specs.Placed.{IsPlaced};
 ghost use Rattle.nodes.specs.Simulation.{simulation_of};
+ghost use Rattle.seqsim.specs.Networks.{setting_of};
 
-use actor_run::actor_laws;
 use netdesc::Network;
 use nodes::{Node, NodeRecord};
-use reverse::actor_rules;
+use reverse::{actor_laws, actor_rules};
 use traffic::lawful_offers;
 use vlink::Note;
 
-/// Every network is simulated as the law of virtual time asks: its nodes and lines are actors that know their places and send to
-/// processes, and its offers are as they must be.
+/// The layout of a network is what a simulation of actors asks: its nodes and lines know their places and send to processes, and its
+/// offers are as they must be.
+///
+/// A call does nothing: its caller learns what the clause says.
+pub fn network_layout(network: &Network)
+    ensures { IsLaidOut (simulation_of network.now).rules (λ s. s.sender.number) (λ s. s.sender.until) IsPlaced (setting_of network.now) }
+{
+    network.accepted();
+    actor_rules::<Node>();
+    lawful_offers::<Node, NodeRecord, Note>(network);
+}
+
+/// Every network is simulated as the law of virtual time asks: its layout is what actors need, and they meet their own laws.
 ///
 /// A call does nothing: its caller learns what the clause says.
 pub fn network_laws(network: &Network)
     ensures { Laws (simulation_of network.now) }
 {
-    network.accepted();
-    actor_rules::<Node>();
+    network_layout(network);
     actor_laws::<Node>();
-    lawful_offers::<Node, NodeRecord, Note>(network);
 }

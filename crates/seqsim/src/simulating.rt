@@ -1,11 +1,12 @@
 //! The run of a network.
 ghost use Rattle.std.specs.Prelude.{◌≡◌, ℕ, Err, IfOk};
+ghost use Rattle.reverse.specs.Setting.{AreInStates};
 ghost use Rattle.netdesc.specs.Faults.{process_count};
 ghost use Rattle.nodes.specs.Opening.{opening};
 ghost use Rattle.nodes.specs.Simulation.{simulation_of};
 ghost use Rattle.trace_tables.specs.Tables.{tables_of};
 ghost use Rattle.actor_run.specs.declared.fault.SimFault.TheVariants.{Exhausted};
-ghost use Rattle.actor_run.specs.Running.{AreInStates, IsExhaustedAt};
+ghost use Rattle.actor_run.specs.Running.{IsExhaustedAt};
 ghost use Rattle.seqsim.specs.Networks.{AreRowsOf};
 
 use crate::networks::network_laws;

@@ -8,8 +8,8 @@ use Rattle.virtual_time.specs.Lists.{one_if}
 use Rattle.virtual_time.specs.Simulation.{Simulation}
 use Rattle.virtual_time.specs.World.{World, is_enabled, step, run, start}
 use Rattle.nodes.specs.Simulation.{simulation_of}
+use Rattle.antimessages.specs.Steps.{step_of, names_none}
 use Rattle.timewarp.specs.declared.counting.Replay.{Replay}
-use Rattle.actor_world.specs.Steps.{step_of, names_none}
 use Rattle.timewarp.specs.Replaying.{did, not_enabled, refused}
 use Rattle.timewarp.specs.Networks.{after, IsAfter}
 use Rattle.timewarp.specs.Replayed.{IsReplayed}

@@ -7,6 +7,7 @@ use Rattle.virtual_time.specs.OneThread.{IsLeft}
 use Rattle.virtual_time.specs.Part.{undo_all}
 use Rattle.virtual_time.specs.Safe.{Safe}
 use Rattle.virtual_time.specs.World.{World, Step, start, step, run, is_enabled}
+use Rattle.reverse.specs.Setting.{IsLaidOut}
 use Rattle.netdesc.specs.Plan.{Plan}
 use Rattle.nodes.specs.declared.node.NodeRecord.{NodeRecord}
 use Rattle.nodes.specs.Node.{NodeState}
@@ -14,7 +15,6 @@ use Rattle.nodes.specs.NodeUndoing.{IsNodeValue}
 use Rattle.nodes.specs.Opening.{opening}
 use Rattle.nodes.specs.Placed.{IsPlaced}
 use Rattle.nodes.specs.Simulation.{simulation_of}
-use Rattle.actor_run.specs.Running.{IsLaidOut}
 use Rattle.seqsim.specs.Networks.{setting_of}
 use Rattle.actor_world.specs.declared.done.Done.{Done}
 use Rattle.actor_world.specs.declared.done.Done.TheVariants.{Did}

@@ -1,4 +1,3 @@
-pub use Rattle.actor_world.specs.Steps
 pub use Rattle.actor_world.specs.Worlds
 pub mod Replaying
 pub mod Networks

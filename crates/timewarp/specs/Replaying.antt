@@ -4,7 +4,7 @@ use Rattle.vlink.specs.declared.step.Step.{Step as Noted}
 use Rattle.virtual_time.specs.Lists.{one_if}
 use Rattle.virtual_time.specs.Simulation.{Simulation}
 use Rattle.virtual_time.specs.World.{World, is_enabled, step}
-use Rattle.actor_world.specs.Steps.{step_of, names_none}
+use Rattle.antimessages.specs.Steps.{step_of, names_none}
 
 module _ {M S K N : Type 0} (f : Simulation M S K N) where
   -- how many of these steps are done, one after another, from the world w on

@@ -6,8 +6,8 @@ ghost use Rattle.virtual_time.specs.Lists.{earlier};
 ghost use Rattle.virtual_time.specs.World.{start};
 ghost use Rattle.virtual_time.specs.Safe.{Safe, history, CountLaw, IsFinished, IsWhole};
 ghost use Rattle.nodes.specs.Simulation.{simulation_of};
+ghost use Rattle.antimessages.specs.Steps.{step_of};
 ghost use Rattle.actor_world.specs.declared.fault.StepFault.TheVariants.{NoProcess, Exhausted};
-ghost use Rattle.actor_world.specs.Steps.{step_of};
 ghost use Rattle.actor_world.specs.Worlds.{IsExhausted};
 ghost use Rattle.timewarp.specs.Networks.{after, IsAfter};
 ghost use Rattle.timewarp.specs.Replaying.{did, not_enabled, refused};
@@ -21,7 +21,8 @@ use vlink::Step;
 
 /// Does all steps of a journal on a network, in their order, and counts them. A step that is not enabled, or names a process that there
 /// is not, is counted and passed over: it changes nothing. The first other refusal ends the replay: `OutOfMemory` comes only where a
-/// growth was refused, and `Exhausted` only at `Run` of a process that has not enough numbers left for what one event can send.
+/// growth was refused, and `Exhausted` only at `Run` of a process that has a next message, and not enough numbers left for what one
+/// event can send.
 ///
 /// Whatever the steps are, and in whatever order, after each beginning of them (clauses `safe` to `balances`):
 /// undoing the events of a process that are not committed, the newest first, gives its state in the one-thread run after just its

@@ -3,37 +3,21 @@ ghost use Rattle.std.specs.Prelude.{ℕ, ◌≡◌, ◌<◌, ◌≤◌, List, �
 ghost use Rattle.vlink.specs.declared.message.Message.{Message};
 ghost use Rattle.virtual_time.specs.Rules.{rowed};
 ghost use Rattle.virtual_time.specs.Lists.{IsAscending, IsIn, earlier, times_in};
-ghost use Rattle.virtual_time.specs.Simulation.{Laws, made};
+ghost use Rattle.virtual_time.specs.Simulation.{made};
 ghost use Rattle.virtual_time.specs.OneThread.{IsBelow, one, events, rows_at};
 ghost use Rattle.virtual_time.specs.Letters.{IsNamed};
 ghost use Rattle.virtual_time.specs.World.{Step};
 ghost use Rattle.virtual_time.specs.Safe.{Safe, history, CountLaw, NothingBefore, IsFinished, IsWhole};
 ghost use Rattle.netdesc.specs.Faults.{process_count};
 ghost use Rattle.nodes.specs.Opening.{opening};
-ghost use Rattle.nodes.specs.Placed.{IsPlaced};
 ghost use Rattle.nodes.specs.Simulation.{simulation_of};
-ghost use Rattle.actor_run.specs.Running.{IsLaidOut};
-ghost use Rattle.seqsim.specs.Networks.{setting_of};
 ghost use Rattle.timewarp.specs.Networks.{after};
 
 use netdesc::Network;
 use nodes::{Node, NodeRecord};
-use reverse::actor_rules;
 use seqsim::network_laws;
-use traffic::lawful_offers;
 use virtual_time::headline;
 use vlink::{Message, Note};
-
-/// The processes and offers of a network are laid out as a world of actors asks. Nothing is done.
-pub(crate) fn layout(network: &Network)
-    ensures layout { IsLaidOut (simulation_of network.now).rules (λ s. s.sender.number) (λ s. s.sender.until) IsPlaced (setting_of network.now) }
-    ensures laws { Laws (simulation_of network.now) }
-{
-    network.accepted();
-    actor_rules::<Node>();
-    lawful_offers::<Node, NodeRecord, Note>(network);
-    network_laws(network);
-}
 
 /// The law of virtual time for a network: what holds after any steps, done in any order. It is the headline of `virtual_time`, for
 /// the simulation of the network, whose one-thread run is that of `seqsim::run`.

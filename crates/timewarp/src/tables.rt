@@ -9,9 +9,10 @@ ghost use Rattle.seqsim.specs.Networks.{AreRowsOf};
 ghost use Rattle.actor_world.specs.declared.fault.StepFault.TheVariants.{OutOfMemory};
 ghost use Rattle.timewarp.specs.Networks.{after, IsAfter, AreCommittedRows};
 
-use crate::laws::{layout, world_laws};
+use crate::laws::world_laws;
 use crate::world::World;
 use actor_world::StepFault;
+use seqsim::{network_laws, network_layout};
 use std::alloc::{AllocError, Global};
 use trace_tables::{Tables, TablesSoFar, tables_by_place};
 
@@ -21,7 +22,8 @@ impl World {
         ensures { IfOk result (λ tables. (rows : List Noted) × (tables ≡ tables_of self.now.plan rows) ×
             ((steps : List Stepped) → IsAfter self.now steps → AreCommittedRows self.now.plan steps rows)) }
     {
-        layout(&self.network);
+        network_layout(&self.network);
+        network_laws(&self.network);
         let mut tables = TablesSoFar::none(alloc, &self.network)?;
         for process in 0..self.network.process_count() {
             tables.count(&self.network, self.actors.sealed(process as u32))?;
@@ -40,7 +42,7 @@ impl World {
             tables ≡ tables_of self.now.plan rows) }
         ensures memory { IfErr result (λ fault. fault ≡ OutOfMemory) }
     {
-        layout(&self.network);
+        network_laws(&self.network);
         world_laws(&self.network);
         tables_by_place();
         Ok(self.committed_tables(alloc)?)

@@ -7,20 +7,20 @@ ghost use Rattle.virtual_time.specs.Part.{undo_all};
 ghost use Rattle.virtual_time.specs.World.{Step as Stepped, is_enabled};
 ghost use Rattle.virtual_time.specs.Safe.{IsFinished};
 ghost use Rattle.antimessages.specs.Letters.{signed};
+ghost use Rattle.antimessages.specs.Steps.{step_of, names_none};
 ghost use Rattle.netdesc.specs.Faults.{process_count};
 ghost use Rattle.nodes.specs.Opening.{opening};
 ghost use Rattle.nodes.specs.Simulation.{simulation_of};
 ghost use Rattle.actor_world.specs.declared.done.Done.TheVariants.{Did};
 ghost use Rattle.actor_world.specs.declared.fault.StepFault.TheVariants.{NoProcess, OutOfMemory, Exhausted};
-ghost use Rattle.actor_world.specs.Steps.{step_of, names_none};
 ghost use Rattle.actor_world.specs.Worlds.{HoldsTheSame, IsExhausted};
 ghost use Rattle.timewarp.specs.Networks.{after, IsAfter};
 
-use crate::laws::{layout, world_laws};
+use crate::laws::world_laws;
 use actor_world::{ActorWorld, Done, StepFault};
 use netdesc::Network;
 use nodes::Node;
-use seqsim::nodes_of;
+use seqsim::{network_layout, nodes_of};
 use std::alloc::Global;
 use std::marker::Model;
 use traffic::offers;
@@ -55,7 +55,7 @@ impl World {
         ensures network { IfOk result (λ world. world.plan ≡ network) }
         ensures memory { IfErr result (λ fault. fault ≡ OutOfMemory) }
     {
-        layout(&network);
+        network_layout(&network);
         let offers = offers(alloc, &network)?;
         let nodes = nodes_of(alloc, &network)?;
         let actors = ActorWorld::new(alloc, nodes, &offers, network.until())?;
@@ -81,7 +81,7 @@ impl World {
             is_enabled (simulation_of self.old.plan) (step_of step) (after self.old.plan steps) ≡ true }
         ensures gvt { step ≡ NotedGvt → result ≡ Ok Did }
     {
-        layout(&self.network);
+        network_layout(&self.network);
         self.actors.step(step)
     }
 
@@ -122,7 +122,7 @@ impl World {
             option_map signed result ≡ slice_get ((after self.now.plan steps).mail process) place }
         ensures none { process_count self.now.plan ≤ process → result ≡ None }
     {
-        layout(&self.network);
+        network_layout(&self.network);
         self.actors.look(process, place)
     }
 
@@ -136,7 +136,7 @@ impl World {
         ensures left { IfSome result (λ node. (steps : List Stepped) → IsAfter self steps →
             IsLeft (simulation_of self.plan) process (length ((after self.plan steps).parts process).committed) node) }
     {
-        layout(&self.network);
+        network_layout(&self.network);
         world_laws(&self.network);
         self.actors.undo_all(process)
     }

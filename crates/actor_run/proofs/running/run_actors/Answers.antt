@@ -3,7 +3,8 @@ use Rattle.reverse.specs.Rules.{rules_of}
 use Rattle.std.proofs.lemmas.Result.{err_from_is_err_and}
 use Rattle.actor_run.specs.declared.fault.SimFault.TheVariants.{Exhausted}
 use Rattle.vlink.specs.declared.note.Row.{Row as Noted}
-use Rattle.actor_run.specs.Running.{simulation_of, IsWholeRun}
+use Rattle.reverse.specs.Setting.{simulation_of}
+use Rattle.actor_run.specs.Running.{IsWholeRun}
 use Rattle.actor_run.proofs.Turning.{begun, started}
 use Rattle.actor_run.proofs.Errors.{after-error}
 use Rattle.actor_run.proofs.running.run_actors.Goals as goal

@@ -3,7 +3,8 @@ use Rattle.vlink.specs.declared.message.Message.{Message}
 use Rattle.vlink.specs.declared.time.TheConstants.{GREATEST_NS}
 use Rattle.reverse.specs.Rules.{rules_of}
 use Rattle.actor_run.specs.Recording.{noted_at}
-use Rattle.actor_run.specs.Running.{simulation_of, StandsAt}
+use Rattle.reverse.specs.Setting.{simulation_of}
+use Rattle.actor_run.specs.Running.{StandsAt}
 use Rattle.actor_run.proofs.Turning.{over, is_next, receiver_is, receiver_within, states_after, noted-behind, turned}
 use Rattle.actor_run.proofs.Errors.{after-error}
 use Rattle.actor_run.proofs.Loading.{load-falls}

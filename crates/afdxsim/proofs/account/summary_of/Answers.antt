@@ -1,5 +1,5 @@
 use Rattle.std.proofs.Common.{map, string_bytes}
-use Rattle.timewarp.specs.Steps.{step_of}
+use Rattle.antimessages.specs.Steps.{step_of}
 use Rattle.afdxsim.proofs.Accounts.{summary}
 use Rattle.afdxsim.proofs.account.summary_of.Goals as goal
 

@@ -1,5 +1,5 @@
 use Rattle.std.proofs.Common.{map}
-use Rattle.timewarp.specs.Steps.{step_of}
+use Rattle.antimessages.specs.Steps.{step_of}
 use Rattle.afdxsim.proofs.account.told.Goals as goal
 
 pub returns-clause-told : goal.returns-clause-told

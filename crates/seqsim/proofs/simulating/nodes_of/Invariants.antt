@@ -1,5 +1,5 @@
 use Rattle.nodes.specs.Opening.{opening}
-use Rattle.actor_run.specs.Running.{AreInStates}
+use Rattle.reverse.specs.Setting.{AreInStates}
 use Rattle.seqsim.proofs.simulating.nodes_of.Given as goal
 
 abbrev pub invariant-loop-process : goal.invariant-loop-process

@@ -6,11 +6,11 @@ use Rattle.vlink.specs.declared.step.Step.TheVariants.{Take as NotedTake}
 use Rattle.virtual_time.specs.World.{Step}
 use Rattle.netdesc.specs.Plan.{Plan}
 use Rattle.nodes.specs.Simulation.{simulation_of}
+use Rattle.antimessages.specs.Steps.{step_of}
 use Rattle.actor_world.specs.declared.fault.StepFault.TheVariants.{Exhausted}
 use Rattle.timewarp.specs.Networks.{after}
 use Rattle.timewarp.specs.Replayed.{IsReplayed}
 use Rattle.actor_world.specs.Worlds.{IsExhausted}
-use Rattle.actor_world.specs.Steps.{step_of}
 use Rattle.timewarp.proofs.Beginnings.{beginnings-rise, beginnings-stay}
 use Rattle.timewarp.proofs.journal.replay.Goals as goal
 

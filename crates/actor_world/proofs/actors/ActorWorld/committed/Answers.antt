@@ -1,7 +1,7 @@
 use Rattle.std.proofs.Common.{◌<◌, length, refl, sym, subst}
 use Rattle.virtual_time.specs.World.{start, run}
 use Rattle.reverse.specs.Rules.{rules_of}
-use Rattle.actor_run.specs.Running.{simulation_of}
+use Rattle.reverse.specs.Setting.{simulation_of}
 use Rattle.actor_world.specs.Worlds.{Held, StandsForWorld}
 use Rattle.actor_world.proofs.Holding.{queues-at}
 use Rattle.actor_world.proofs.actors.ActorWorld.committed.Goals as goal

@@ -1,6 +1,6 @@
 use Rattle.std.proofs.Common.{ap}
 use Rattle.reverse.specs.Rules.{rules_of}
-use Rattle.actor_world.specs.Steps.{step_of}
+use Rattle.antimessages.specs.Steps.{step_of}
 use Rattle.actor_world.proofs.Answering.{stands-at, exhausted-at}
 use Rattle.actor_world.proofs.actors.ActorWorld.step.Goals as goal
 

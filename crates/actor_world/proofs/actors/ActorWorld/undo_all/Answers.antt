@@ -2,8 +2,8 @@ use Rattle.std.proofs.Common.{◌<◌, length, map, refl, sym, subst, arith}
 use Rattle.std.proofs.lemmas.List.{length-map}
 use Rattle.virtual_time.specs.World.{start, run}
 use Rattle.reverse.specs.Rules.{rules_of}
+use Rattle.reverse.specs.Setting.{simulation_of}
 use Rattle.process_queues.specs.Queues.{InHand}
-use Rattle.actor_run.specs.Running.{simulation_of}
 use Rattle.actor_world.specs.Worlds.{StandsForWorld}
 use Rattle.actor_world.proofs.Holding.{queues-at}
 use Rattle.actor_world.proofs.actors.ActorWorld.undo_all.Goals as goal

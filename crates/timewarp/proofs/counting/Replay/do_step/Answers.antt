@@ -3,10 +3,10 @@ use Rattle.std.specs.Prelude.{is_ok}
 use Rattle.std.proofs.lemmas.Bool.{false≢true, false_from_ne_true}
 use Rattle.nodes.specs.Simulation.{simulation_of}
 use Rattle.netdesc.specs.Plan.{Plan}
+use Rattle.antimessages.specs.Steps.{step_of, names_none}
 use Rattle.timewarp.specs.declared.counting.Replay.{Replay}
 use Rattle.actor_world.specs.declared.done.Done.TheVariants.{Did, NotEnabled}
 use Rattle.actor_world.specs.declared.fault.StepFault.{StepFault}
-use Rattle.actor_world.specs.Steps.{step_of, names_none}
 use Rattle.timewarp.specs.Networks.{after}
 use Rattle.actor_world.proofs.Answering.{step-not}
 use Rattle.timewarp.proofs.Counts.{replayed, unknown-not-enabled}

@@ -1,6 +1,7 @@
 use Rattle.std.proofs.Common.{◌≡◌, ◌∙◌, List, [], sym}
 use Rattle.vlink.specs.declared.message.Message.{Message}
 use Rattle.virtual_time.specs.World.{run, start}
+use Rattle.reverse.specs.Setting.{AreInStates, Opens}
 use Rattle.netdesc.specs.Faults.{process_count}
 use Rattle.netdesc.specs.Plan.{Plan}
 use Rattle.traffic.specs.Offers.{offers_of}
@@ -9,7 +10,6 @@ use Rattle.nodes.specs.Node.{NodeState}
 use Rattle.nodes.specs.NodeUndoing.{IsNodeValue}
 use Rattle.nodes.specs.Opening.{opening}
 use Rattle.nodes.specs.Simulation.{simulation_of}
-use Rattle.actor_run.specs.Running.{AreInStates, Opens}
 use Rattle.seqsim.specs.Networks.{setting_of}
 use Rattle.actor_world.specs.Worlds.{Held, StandsForWorld}
 use Rattle.timewarp.specs.Networks.{IsAfter}

@@ -32,4 +32,4 @@ returns-clause-rows c = λ steps h.
 pub returns-clause-whole : goal.returns-clause-whole
 returns-clause-whole c = λ steps h d rows r.
     let w : NetworkWorld = record { plan = c.self.inside.network; held = c.self.inside.actors } in
-    returns-clause-sealed c steps h rows (subst AreWhole c.self.view_is (whole w c.layout.ensures.laws c.world_laws.ensures.whole) steps d rows r)
+    returns-clause-sealed c steps h rows (subst AreWhole c.self.view_is (whole w c.network_laws.ensures c.world_laws.ensures.whole) steps d rows r)

@@ -1,9 +1,10 @@
 //! When actors meet the laws of a simulation.
 ghost use Rattle.virtual_time.specs.Simulation.{Laws};
 ghost use Rattle.reverse.specs.Rules.{rules_of};
-ghost use Rattle.actor_run.specs.Running.{Setting, simulation_of, IsLaidOut};
+ghost use Rattle.reverse.specs.Setting.{Setting, simulation_of, IsLaidOut};
 
-use reverse::{Actor, actor_rules};
+use crate::actor::Actor;
+use crate::rules::actor_rules;
 
 /// Actors that know their places meet the laws of a simulation: each keeps to its own part of them, so that only the layout is left
 /// to be seen to.

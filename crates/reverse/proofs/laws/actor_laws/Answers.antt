@@ -5,8 +5,8 @@ use Rattle.virtual_time.proofs.Reading.{reached-keeps}
 use Rattle.vlink.specs.declared.message.Message.{Message}
 use Rattle.vlink.specs.declared.note.Note.{Note}
 use Rattle.reverse.specs.Rules.{rules_of}
-use Rattle.actor_run.specs.Running.{Setting, simulation_of}
-use Rattle.actor_run.proofs.laws.actor_laws.Goals as goal
+use Rattle.reverse.specs.Setting.{Setting, simulation_of}
+use Rattle.reverse.proofs.laws.actor_laws.Goals as goal
 
 -- what the opening state of p has and each message keeps, each reached state has
 reached-has : {S K : Type 0} (r : Rules Message S K Note) (O : IsOrder r) (x : Setting S) (p : ℕ) (s : S) (Good : S → Type 0) →
