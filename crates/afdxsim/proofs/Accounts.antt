@@ -19,21 +19,20 @@ use Rattle.timewarp.specs.Networks.{NetworkWorld, after, IsAfter, AreCommittedRo
 use Rattle.timewarp.specs.Replaying.{did, not_enabled, refused}
 use Rattle.timewarp.specs.Replayed.{IsReplayed}
 use Rattle.afdxsim.specs.declared.account.Account.{Account}
-use Rattle.afdxsim.specs.declared.journal.TheConstants.{MOST_LINES}
 use Rattle.afdxsim.specs.declared.fault.Fault.{Fault}
 use Rattle.afdxsim.specs.declared.fault.Fault.TheVariants.{OutOfMemory, Exhausted}
-use Rattle.afdxsim.specs.Replaying.{summary_text, fault_of_lines, IsSummary, IsJournal, AreCommittedTables, TellsOfSteps, TellsOfJournal, IsExhaustedIn, IsFaultOfJournal}
+use Rattle.afdxsim.specs.Replaying.{most_lines, summary_text, fault_of_lines, IsSummary, IsJournal, AreCommittedTables, TellsOfSteps, TellsOfJournal, IsExhaustedIn, IsFaultOfJournal}
 
 -- a text that was read has at most as many lines as are allowed
 pub few_lines : (n most : ℕ) (r : Result (Vec Noting) LinesFault) (v : Vec Noting) → r ≡ Ok v → (most < n → IsErrOf r journal.TooMany) → n ≤ most
 few_lines n most r v is full = elim (cases_lt most n) [ inl i ↦ absurd (let a = full i in cc) | inr i ↦ omega arith ]
 
 -- why a text was not read is why its journal was not done, on whatever network
-pub lines_fault : (plan : Plan) (text : List ℕ) (refusal : LinesFault) (fault : Fault) → HasCause text MOST_LINES refusal → fault ≡ fault_of_lines refusal →
+pub lines_fault : (plan : Plan) (text : List ℕ) (refusal : LinesFault) (fault : Fault) → HasCause text most_lines refusal → fault ≡ fault_of_lines refusal →
     IsFaultOfJournal plan text fault
 lines_fault plan text refusal fault cause is = subst (IsFaultOfJournal plan text) (sym is) (of refusal cause)
   where
-    of : (refusal : LinesFault) → HasCause text MOST_LINES refusal → IsFaultOfJournal plan text (fault_of_lines refusal)
+    of : (refusal : LinesFault) → HasCause text most_lines refusal → IsFaultOfJournal plan text (fault_of_lines refusal)
     of journal.TooMany cause = cause
     of (journal.BadLine n) cause = cause
     of journal.OutOfMemory cause = cause

@@ -17,9 +17,12 @@ use Rattle.timewarp.specs.Worlds.{IsExhausted}
 use Rattle.timewarp.specs.Networks.{after, AreCommittedRows}
 use Rattle.timewarp.specs.Replaying.{did, not_enabled, refused}
 use Rattle.afdxsim.specs.declared.account.Account.{Account}
-use Rattle.afdxsim.specs.declared.journal.TheConstants.{MOST_LINES}
 use Rattle.afdxsim.specs.declared.fault.Fault.{Fault}
 use Rattle.afdxsim.specs.declared.fault.Fault.TheVariants.{Description, JournalLine, JournalFull, CannotRead, CannotWriteFile, CannotWrite, OutOfMemory, Exhausted}
+
+-- the most lines of a journal
+abbrev pub most_lines : ℕ
+most_lines = 67108864
 
 -- how many steps were done, were not enabled and were refused, and GVT in ns
 abbrev pub counted_text : ℕ → ℕ → ℕ → ℕ → List ℕ
@@ -62,7 +65,7 @@ pub record TellsOfSteps (plan : Plan) (steps : List Noting) (account : Account) 
 pub record IsJournal (text : List ℕ) (steps : List Noting) : Type 0 where
   pub written : steps_text steps ≡ text
   pub fits : All Fits steps
-  pub within : length (lines text) ≤ MOST_LINES
+  pub within : length (lines text) ≤ most_lines
 
 -- the account tells of the journal with this text, done on this network
 abbrev pub TellsOfJournal : Plan → List ℕ → Account → Type 0
@@ -82,10 +85,10 @@ IsExhaustedIn plan steps =
 -- why the journal with this text was not done on this network
 abbrev pub IsFaultOfJournal : Plan → List ℕ → Fault → Type 0
 IsFaultOfJournal plan text (Description fault) = ⊥
-IsFaultOfJournal plan text (JournalLine n) = (length (lines text) ≤ MOST_LINES) × IsFirstBad text n
-IsFaultOfJournal plan text JournalFull = MOST_LINES < length (lines text)
+IsFaultOfJournal plan text (JournalLine n) = (length (lines text) ≤ most_lines) × IsFirstBad text n
+IsFaultOfJournal plan text JournalFull = most_lines < length (lines text)
 IsFaultOfJournal plan text (CannotRead path) = ⊥
 IsFaultOfJournal plan text (CannotWriteFile path) = ⊥
 IsFaultOfJournal plan text CannotWrite = ⊥
-IsFaultOfJournal plan text OutOfMemory = length (lines text) ≤ MOST_LINES
+IsFaultOfJournal plan text OutOfMemory = length (lines text) ≤ most_lines
 IsFaultOfJournal plan text Exhausted = (steps : List Noting) × IsJournal text steps × IsExhaustedIn plan steps
