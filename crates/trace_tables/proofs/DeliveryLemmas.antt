@@ -69,26 +69,29 @@ tells row vl l d is =
     both false true = refl
     both false false = refl
 
+abbrev with_counts : (Destination → Counts) → Destination → Destination × Counts
+with_counts f d = (d, f d)
+
 -- one more latency in a table in which each destination is there once
 one-latency : (ds : List Destination) (f g : Destination → Counts) (at : Destination) (l : ℕ) → AreOrdered ds
     → ((d : Destination) → is_eq (destination_cmp at d) ≡ true → with_latency (f d) l ≡ g d) → ((d : Destination) → is_eq (destination_cmp at d) ≡ false → f d ≡ g d)
-    → with_latency_at (map (λ d. (d, f d)) ds) at l ≡ map (λ d. (d, g d)) ds
+    → with_latency_at (map (with_counts f) ds) at l ≡ map (with_counts g) ds
 unfolding IsStrictlySortedBy
 one-latency [] f g at l h here other = refl
 one-latency (d ∷ ds) f g at l h here other = go (is_eq (destination_cmp at d)) refl (one-latency ds f g at l h.1 here other)
   where
-    behind : (xs : List Destination) → at ≡ d → AllByRecursion (λ x. destination_cmp d x ≡ Less) xs → map (λ d. (d, f d)) xs ≡ map (λ d. (d, g d)) xs
+    behind : (xs : List Destination) → at ≡ d → AllByRecursion (λ x. destination_cmp d x ≡ Less) xs → map (with_counts f) xs ≡ map (with_counts g) xs
     behind [] same later = refl
     behind (x ∷ xs) same later =
-        ap (λ (c : Counts). (x, c) ∷ map (λ d. (d, f d)) xs) (other x (ap is_eq (ap (λ (z : Destination). destination_cmp z x) same ∙ later.0)))
+        ap (λ (c : Counts). (x, c) ∷ map (with_counts f) xs) (other x (ap is_eq (ap (λ (z : Destination). destination_cmp z x) same ∙ later.0)))
         ∙ ap (λ (es : List (Destination × Counts)). (x, g x) ∷ es) (behind xs same later.1)
 
-    go : (b : Bool) → is_eq (destination_cmp at d) ≡ b → with_latency_at (map (λ d. (d, f d)) ds) at l ≡ map (λ d. (d, g d)) ds
-        → cond b ((d, with_latency (f d) l) ∷ map (λ d. (d, f d)) ds) ((d, f d) ∷ with_latency_at (map (λ d. (d, f d)) ds) at l) ≡ (d, g d) ∷ map (λ d. (d, g d)) ds
+    go : (b : Bool) → is_eq (destination_cmp at d) ≡ b → with_latency_at (map (with_counts f) ds) at l ≡ map (with_counts g) ds
+        → cond b ((d, with_latency (f d) l) ∷ map (with_counts f) ds) ((d, f d) ∷ with_latency_at (map (with_counts f) ds) at l) ≡ (d, g d) ∷ map (with_counts g) ds
     go true t next =
-        ap (λ (c : Counts). (d, c) ∷ map (λ d. (d, f d)) ds) (here d t)
+        ap (λ (c : Counts). (d, c) ∷ map (with_counts f) ds) (here d t)
         ∙ ap (λ (es : List (Destination × Counts)). (d, g d) ∷ es) (behind ds (tells_apart exact_destinations at d t) h.0)
-    go false t next = ap (λ (c : Counts). (d, c) ∷ with_latency_at (map (λ d. (d, f d)) ds) at l) (other d t) ∙ ap (λ (es : List (Destination × Counts)). (d, g d) ∷ es) next
+    go false t next = ap (λ (c : Counts). (d, c) ∷ with_latency_at (map (with_counts f) ds) at l) (other d t) ∙ ap (λ (es : List (Destination × Counts)). (d, g d) ∷ es) next
 
 -- a delivery
 pub delivered : (vls : List VlPlan) (rows : List Row) (row : Row) (vl : VlId) (l : ℕ) → Rises (ids_of vls) → row.note ≡ Delivered vl l

@@ -1,12 +1,13 @@
 use Rattle.std.proofs.Common.{◌≡◌, ℕ, ◌+◌, List, Option, refl, ap, ◌∙◌, arith}
 use Rattle.std.proofs.Math.Path.{fun_ext}
+use Rattle.std.specs.BTreeMap.Entry.{map_with_value}
 use Rattle.std.specs.BTreeMap.{insert_entry, is_at}
 use Rattle.std.specs.Map.{lookup}
 use Rattle.std.specs.Option.{unwrap_or, option_map_or}
 use Rattle.std.specs.declared.cmp.Ordering.{Ordering}
 use Rattle.std.specs.declared.option.Option.TheVariants.{None, Some}
 use Rattle.trace_tables.specs.declared.loss.Loss.{Loss}
-use Rattle.trace_tables.specs.Losses.{loss_cmp, count_in}
+use Rattle.trace_tables.specs.Losses.{loss_cmp, count_in, with_loss}
 use Rattle.trace_tables.proofs.drops.add_loss.Goals as goal
 
 or-none : (o : Option ℕ) → unwrap_or o 0 ≡ option_map_or (λ n. n) o 0
@@ -32,6 +33,8 @@ returns c =
     let counts = c.args.drops.now.entries in
     let e : c.or_insert.result.now ≡ count_in counts c.args.loss =
     c.or_insert.ensures.value ∙ ap (λ o. unwrap_or o 0) c.in_ok-drops.ensures.value ∙ found _ c.loss_order.ensures counts c.args.loss in
+    let all : (map_with_value c.in_ok-drops.field-0 (c.or_insert.result.now + 1)).entries ≡ with_loss counts c.args.loss =
     c.in_ok-drops.ensures.update.1 (c.or_insert.result.now + 1)
     ∙ put _ c.loss_order.ensures counts c.args.loss (c.or_insert.result.now + 1)
-    ∙ ap (λ n. insert_entry loss_cmp counts c.args.loss (n + 1)) e
+    ∙ ap (λ n. insert_entry loss_cmp counts c.args.loss (n + 1)) e in
+    grind (arith, all)

@@ -1,11 +1,12 @@
-use Rattle.std.proofs.Common.{◌≡◌, ◌≤◌, length, ap, sym, subst, ◌∙◌, arith}
+use Rattle.std.proofs.Common.{◌≡◌, ◌≤◌, [], ◌∷◌, cond, length, ap, sym, subst, ◌∙◌, arith}
 use Rattle.std.proofs.lemmas.Result.{on_ok_weaker}
 use Rattle.std.proofs.lemmas.Map.Keys.{sorted_from_strictly_increasing}
 use Rattle.netdesc.specs.Accepted.{ids_of}
+use Rattle.trace_tables.specs.declared.loss.Loss.{Loss}
 use Rattle.trace_tables.specs.Destinations.{counts_in, destination, destinations_in, with_latency_at}
 use Rattle.trace_tables.specs.Latencies.{latency_in}
 use Rattle.trace_tables.specs.Losses.{count_in, with_losses}
-use Rattle.trace_tables.specs.Tables.{latency_table}
+use Rattle.trace_tables.specs.Tables.{is_in_network, latency_table}
 use Rattle.trace_tables.proofs.DeliveryLemmas.{delivered, dropped, few}
 use Rattle.trace_tables.proofs.DropCountLemmas.{few-lost, none-lost, one-lost}
 use Rattle.trace_tables.proofs.ListLemmas.{rises-of}
@@ -23,7 +24,7 @@ add_latency-requires c =
 pub add_known_loss-requires : goal.add_known_loss-requires
 add_known_loss-requires c =
     let rows = c.requires.0 in
-    let loss = record { vl = c.in-Dropped.vl; place = c.args.row.now.place; cause = c.in-Dropped.cause } in
+    let loss : Loss = record { vl = c.in-Dropped.vl; place = c.args.row.now.place; cause = c.in-Dropped.cause } in
     let small : count_in c.args.drops.now.entries loss ≤ length rows =
     subst (λ drops. count_in drops loss ≤ length rows) (sym c.requires.1.lost) (few-lost c.args.network.now rows loss) in
     let room = c.requires.2 in
@@ -47,8 +48,9 @@ pub returns-in-Dropped : goal.returns-in-Dropped
 returns-in-Dropped c = on_ok_weaker c.add_known_loss.result (λ more earlier are.
     let plan = c.args.network.now in
     let row = c.args.row.now in
+    let loss : Loss = record { vl = c.in-Dropped.vl; place = row.place; cause = c.in-Dropped.cause } in
     record {
       delivered = are.delivered ∙ dropped plan.vls earlier row (λ vl. ap (latency_in vl) c.in-Dropped.is);
-      lost = more ∙ ap (λ counts. with_losses counts _) are.lost ∙ one-lost plan earlier row c.in-Dropped.vl c.in-Dropped.cause _ c.in-Dropped.is;
+      lost = more ∙ ap (λ counts. with_losses counts (cond (is_in_network plan loss.vl.0 loss.place) (loss ∷ []) [])) are.lost ∙ one-lost plan earlier row c.in-Dropped.vl c.in-Dropped.cause _ c.in-Dropped.is;
     })
     c.add_known_loss.ensures
