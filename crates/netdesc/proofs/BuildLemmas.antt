@@ -16,14 +16,14 @@ use Rattle.std.specs.List.Sorted.{IsNonDecreasing, IsNonDecreasingBy}
 use Rattle.network_rows.specs.declared.fault.DescFault.{DescFault}
 use Rattle.network_rows.specs.declared.rows.LinkRow.{LinkRow}
 use Rattle.network_rows.specs.declared.rows.Rows.{Rows}
-use Rattle.netdesc.specs.declared.limits.TheConstants.{GREATEST_PROCESSES}
+use Rattle.netdesc.specs.Limits.{greatest_processes}
 use Rattle.netdesc.specs.declared.wiring.Link.{Link}
 use Rattle.netdesc.specs.declared.wiring.Line.{Line}
 use Rattle.netdesc.specs.Rows.{each, each_after, when, top, place_by}
 use Rattle.netdesc.specs.Names.{names_of, is_among, number_of}
 use Rattle.netdesc.specs.Plan.{Plan, NodePlan, node_plan, link_plan, plan_of}
 use Rattle.netdesc.specs.Lines.{directions, lines_of}
-use Rattle.netdesc.specs.Faults.{faults_of, unknown_names, double_names, not_links, not_trees, too_many, double_at_link, double_at_node, unknown_at_link, process_count}
+use Rattle.netdesc.specs.Faults.{faults_of, unknown_names, double_names, not_links, not_trees, too_many, unknown_at_link, process_count}
 use Rattle.netdesc.specs.Accepted.{IsAccepted}
 
 -- a link ends at nodes up to this number; so does a line
@@ -78,24 +78,17 @@ when-none true fault h = cc
 when-none false fault h = refl
 
 -- rows without a fault have few processes
-pub few-processes : (rows : Rows) → faults_of rows ≡ [] → process_count (plan_of rows) ≤ GREATEST_PROCESSES
+pub few-processes : (rows : Rows) → faults_of rows ≡ [] → process_count (plan_of rows) ≤ greatest_processes
 few-processes rows none =
     let plan = plan_of rows in
     let many : too_many plan ≡ [] = behind-none (unknown_names rows ++ double_names plan ++ not_links plan ++ not_trees plan) (too_many plan) none in
-    let first : when (nat_lt GREATEST_PROCESSES (process_count plan)) (TooMany top) ≡ [] = front-none _ _ (front-none _ _ (front-none _ _ many)) in
-    let test : nat_lt GREATEST_PROCESSES (process_count plan) ≡ false = when-none _ _ first in
+    let first : when (nat_lt greatest_processes (process_count plan)) (TooMany top) ≡ [] = front-none _ _ (front-none _ _ (front-none _ _ many)) in
+    let test : nat_lt greatest_processes (process_count plan) ≡ false = when-none _ _ first in
     grind (arith, nat_tests)
 
-pub few-accepted : (plan : Plan) → IsAccepted plan → process_count plan ≤ GREATEST_PROCESSES
+pub few-accepted : (plan : Plan) → IsAccepted plan → process_count plan ≤ greatest_processes
 few-accepted plan accepted =
     omega (arith, few-processes accepted.rows accepted.stands.none, ap length accepted.stands.nodes, ap length accepted.stands.links)
-
--- and no two links of the same nodes
-pub links-apart : (rows : Rows) → faults_of rows ≡ [] → each double_at_link (plan_of rows).links ≡ []
-links-apart rows none =
-    let plan = plan_of rows in
-    let double : double_names plan ≡ [] = behind-none (unknown_names rows) (double_names plan) (front-none _ _ (front-none _ _ (front-none _ _ none))) in
-    behind-none (each double_at_node plan.nodes) _ (front-none _ _ double)
 
 -- a list sorted by a number has rising numbers
 pub rising-map : {X : Type 0} (n : X → ℕ) (xs : List X) → IsNonDecreasingBy n xs → IsNonDecreasing (map n xs)
@@ -134,6 +127,10 @@ lines-from-links P nodes earlier (link ∷ links) h = (h.0, ((h.0.1, h.0.0), lin
 pub not-false : (b : Bool) → not b ≡ false → b ≡ true
 not-false true h = refl
 not-false false h = absurd (false≢true (sym h))
+
+pub not-true : (b : Bool) → not b ≡ true → b ≡ false
+not-true true h = absurd (false≢true h)
+not-true false h = refl
 
 -- a known name stands for a number below the count of names
 number_of-below : (names : List (List ℕ)) (name : List ℕ) → not (is_among names name) ≡ false → number_of names name < length names

@@ -1,11 +1,11 @@
 -- Lists made row by row, and the first fault of them.
-use Rattle.std.proofs.Common.{◌≡◌, ℕ, ◌+◌, ◌<◌, Bool, ◌||◌, cond, add-zero, List, [], ◌∷◌, ◌++◌, length, take, drop, get_or, Some, inl, inr, refl, ap, sym, subst, map, ◌∙◌, arith, append_assoc}
+use Rattle.std.proofs.Common.{◌≡◌, ℕ, ◌+◌, ◌<◌, Bool, true, false, ◌||◌, cond, add-zero, List, [], ◌∷◌, ◌++◌, length, take, drop, get_or, Some, inl, inr, refl, ap, sym, subst, map, ◌∙◌, arith, append_assoc}
 use Rattle.std.specs.Prelude.{slice_get}
 use Rattle.std.proofs.lemmas.List.{take_more, append-nil, take-append-drop, drop_more, map-append, length-map, get_or-map, length-take-le}
 use Rattle.std.specs.List.{list_any, count_by}
 use Rattle.std.proofs.lemmas.Bool.{cases_Bool}
 use Rattle.std.proofs.lemmas.List.Sums.{count_by_more_yes, count_by_more_no}
-use Rattle.std.proofs.lemmas.List.Folds.{list_any_more}
+use Rattle.std.proofs.lemmas.List.Folds.{list_any-append}
 use Rattle.network_rows.specs.declared.fault.DescFault.{DescFault}
 use Rattle.netdesc.specs.Rows.{each, each_after}
 use Rattle.netdesc.specs.Finding.{Tells}
@@ -58,21 +58,12 @@ pub Tells-read : {X : Type 0} (f : List X → X → List DescFault) (xs : List X
 Tells-read {X} f xs i x fault h read before here =
     Tells-each f xs i x fault h before (subst (λ (y : X). Tells fault (f (take i xs) y)) read here)
 
--- one row more of a list made of each row
-pub map-read : {X Y : Type 0} (g : X → Y) (xs : List X) (i : ℕ) (x : X) → i < length xs → x ≡ get_or xs i x → map g (take (i + 1) xs) ≡ map g (take i xs) ++ g x ∷ []
-map-read g xs i x h read = ap (map g) (take_more xs i x h) ∙ map-append g (take i xs) _ ∙ ap (λ y. map g (take i xs) ++ g y ∷ []) (sym read)
-
 pub length-before : {X : Type 0} (xs : List X) (i : ℕ) → i < length xs → length (take i xs) ≡ i
 length-before xs i h = length-take-le i xs (omega arith)
 
--- what a row makes is pushed behind what the rows before it made
-pub map-pushed : {X Y : Type 0} (g : X → Y) (xs : List X) (i : ℕ) (x : X) (old new : List Y) (y : Y) → i < length xs → x ≡ get_or xs i x → old ≡ map g (take i xs) → new ≡ old ++ y ∷ [] → y ≡ g x → new ≡ map g (take (i + 1) xs)
-map-pushed g xs i x old new y h read before pushed made =
-    pushed ∙ ap (λ z. z ++ y ∷ []) before ∙ ap (λ z. map g (take i xs) ++ z ∷ []) made ∙ sym (map-read g xs i x h read)
-
-pub map-pushed-by : {X Y Z : Type 0} (v : Z → Y) (g : X → Y) (xs : List X) (i : ℕ) (x : X) (old new : List Z) (z : Z) → i < length xs → x ≡ get_or xs i x → map v old ≡ map g (take i xs) → new ≡ old ++ z ∷ [] → v z ≡ g x → map v new ≡ map g (take (i + 1) xs)
-map-pushed-by v g xs i x old new z h read before pushed made =
-    map-pushed g xs i x (map v old) (map v new) (v z) h read before (ap (map v) pushed ∙ map-append v old (z ∷ [])) made
+-- a row more of a list that is made of rows
+pub map-push : {X Y : Type 0} (f : X → Y) (xs : List X) (x : X) (old new : List Y) (y : Y) → old ≡ map f xs → new ≡ old ++ y ∷ [] → y ≡ f x → new ≡ map f (xs ++ x ∷ [])
+map-push f xs x old new y before pushed made = pushed ∙ ap (λ ys. ys ++ y ∷ []) before ∙ ap (λ z. map f xs ++ z ∷ []) made ∙ sym (map-append f xs (x ∷ []))
 
 -- the same over a list that is made of another
 pub read-map : {X Y : Type 0} (g : X → Y) (rows : List X) (i : ℕ) (x : X) → i < length rows → x ≡ get_or rows i x → g x ≡ get_or (map g rows) i (g x)
@@ -88,11 +79,12 @@ pub length-before-mapped : {X Y : Type 0} (g : X → Y) (rows : List X) (i : ℕ
 length-before-mapped g rows i h = length-before (map g rows) i (omega (arith, length-map rows g))
 
 -- a test of one more
-pub list_any-read : {X : Type 0} (p : X → Bool) (xs : List X) (i : ℕ) (x : X) → i < length xs → x ≡ get_or xs i x → list_any p (take (i + 1) xs) ≡ (list_any p (take i xs) || p x)
-list_any-read p xs i x h read = list_any_more p xs i x h ∙ ap (λ y. list_any p (take i xs) || p y) (sym read)
-
-pub list_any-more-mapped : {X Y : Type 0} (p : Y → Bool) (g : X → Y) (rows : List X) (i : ℕ) (x : X) → i < length rows → x ≡ get_or rows i x → list_any p (take (i + 1) (map g rows)) ≡ (list_any p (take i (map g rows)) || p (g x))
-list_any-more-mapped p g rows i x h read = list_any-read p (map g rows) i (g x) (omega (arith, length-map rows g)) (read-map g rows i x h read)
+pub list_any-push : {X : Type 0} (p : X → Bool) (xs : List X) (x : X) → list_any p (xs ++ x ∷ []) ≡ (list_any p xs || p x)
+list_any-push p xs x = list_any-append p xs (x ∷ []) ∙ ap (λ b. list_any p xs || b) (or-false (p x))
+  where
+    or-false : (b : Bool) → (b || false) ≡ b
+    or-false true = refl
+    or-false false = refl
 
 pub take-read : {X : Type 0} (xs : List X) (i : ℕ) (x : X) → i < length xs → x ≡ get_or xs i x → take (i + 1) xs ≡ take i xs ++ x ∷ []
 take-read xs i x h read = take_more xs i x h ∙ ap (λ y. take i xs ++ y ∷ []) (sym read)

@@ -10,7 +10,6 @@ pub mod PortLemmas
 pub mod RisingLemmas
 pub mod SourceLemmas
 pub mod OrderLemmas
-pub mod PathLemmas
 pub mod MemberLemmas
 pub mod StepLemmas
 pub mod LineLemmas

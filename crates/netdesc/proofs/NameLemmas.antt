@@ -13,7 +13,7 @@ use Rattle.std.proofs.lemmas.Map.Text.{btree_map_updates_str}
 use Rattle.network_rows.specs.declared.rows.NodeRow.{NodeRow}
 use Rattle.netdesc.specs.Plan.{node_plan}
 use Rattle.netdesc.specs.Names.{names_of, is_among, place_among, number_of}
-use Rattle.netdesc.specs.Finding.{AreNumbers, AreFirsts}
+use Rattle.netdesc.specs.Finding.{AreNumbers}
 use Rattle.netdesc.specs.Rows.{place_by}
 use Rattle.std.specs.Option.{option_map}
 use Rattle.std.proofs.lemmas.Bool.Decides.{nat_tests}
@@ -72,60 +72,8 @@ pub number_of-place : (names : List (List ℕ)) (q : List ℕ) (o : Option ℕ) 
 number_of-place names q None h = tt
 number_of-place names q (Some n) h = ap (λ p. unwrap_or p (length names)) h
 
--- the name at i stands before it already just where its number is less
-pub number_of-early : (names : List (List ℕ)) (i : ℕ) (q : List ℕ) (o : Option ℕ) → i < length names → q ≡ get_or names i q → o ≡ place_among names q
-    → (unwrap_or o i < i → is_among (take i names) q ≡ true) × (i ≤ unwrap_or o i → is_among (take i names) q ≡ false)
-number_of-early names i q o h read place = (early, late)
-  where
-    early : unwrap_or o i < i → is_among (take i names) q ≡ true
-    early lt = elim (cases_Bool (is_among (take i names) q)) [
-      | inl t ↦ t
-      | inr f ↦ (let at : o ≡ Some i = place ∙ place_by-at (bytes_eq q) names i q h ((bytes_eq-Decides q (get_or names i q)).1 read) f in
-          let same : unwrap_or o i ≡ i = ap (λ p. unwrap_or p i) at in absurd (omega arith))
-    ]
-
-    late : i ≤ unwrap_or o i → is_among (take i names) q ≡ false
-    late le = elim (cases_Bool (is_among (take i names) q)) [
-      | inl t ↦ (let found = place_by-early (bytes_eq q) names i t in
-          let same : unwrap_or o i ≡ found.0 = ap (λ p. unwrap_or p i) (place ∙ found.1) in
-          let lt : found.0 < i = found.2 in absurd (omega arith))
-      | inr f ↦ f
-    ]
-
 -- the names of the rows before one
 pub names_of-before : (nodes : List NodeRow) (i : ℕ) → map (λ other. other.name) (take i (map node_plan nodes)) ≡ take i (names_of nodes)
 names_of-before nodes zero = refl
 names_of-before [] (suc i) = refl
 names_of-before (node ∷ nodes) (suc i) = ap (λ r. node.name ∷ r) (names_of-before nodes i)
-
--- ---- numbers that are kept near
-
--- what stands at the place that is found, passes
-place_by-passes : {X : Type 0} (test : X → Bool) (xs : List X) (n : ℕ) (d : X) → place_by test xs ≡ Some n → test (get_or xs n d) ≡ true
-place_by-passes test [] n d h = cc
-place_by-passes test (x ∷ xs) n d h = go (test x) refl h (λ m. place_by-passes test xs m d)
-  where
-    later : (o : Option ℕ) → place_by test xs ≡ o → option_map (λ m. m + 1) o ≡ Some n → ((m : ℕ) → place_by test xs ≡ Some m → test (get_or xs m d) ≡ true) → test (get_or (x ∷ xs) n d) ≡ true
-    later None e k passes = cc
-    later (Some m) e k passes = let n_is : m + 1 ≡ n = cc in rw (← n_is, add-one) (passes m e)
-
-    go : (b : Bool) → test x ≡ b → cond b (Some 0) (option_map (λ m. m + 1) (place_by test xs)) ≡ Some n → ((m : ℕ) → place_by test xs ≡ Some m → test (get_or xs m d) ≡ true) → test (get_or (x ∷ xs) n d) ≡ true
-    go true e k passes = let n_is : 0 ≡ n = cc in rw (← n_is) e
-    go false e k passes = later (place_by test xs) refl k passes
-
--- the node that a name leads to is the first with its own name
-pub first-found : (names : List (List ℕ)) (q : List ℕ) (n : ℕ) → place_among names q ≡ Some n → place_among names (get_or names n []) ≡ Some n
-first-found names q n h =
-    let same : q ≡ get_or names n [] = (bytes_eq-Decides q (get_or names n [])).0 (place_by-passes (bytes_eq q) names n [] h) in
-    ap (place_among names) (sym same) ∙ h
-
--- one more is kept
-pub AreFirsts-set : (near : List (Option ℕ)) (names : List (List ℕ)) (slot : ℕ) (q : List ℕ) (first : Option ℕ) → slot < length near → AreFirsts near names
-    → IfSome first (λ n. place_among names q ≡ Some n) → AreFirsts (set near slot first) names
-AreFirsts-set near names slot q first lt are is = λ k n there. elim (cases_Bool (k == slot)) [
-  | inl same ↦ (let at : k ≡ slot = grind (arith, nat_tests) in
-      let here : first ≡ Some n = sym (get_or-set_same near slot first None lt) ∙ ap (λ j. get_or (set near slot first) j None) (sym at) ∙ there in
-      first-found names q n (subst (λ (o : Option ℕ). IfSome o (λ m. place_among names q ≡ Some m)) here is))
-  | inr other ↦ (let apart : k ≡ slot → ⊥ = grind (arith, nat_tests) in
-      are k n (sym (get_or-set_other near slot k first None apart) ∙ there))
-]

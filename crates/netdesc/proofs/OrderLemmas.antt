@@ -1,4 +1,4 @@
--- A number put at its place among rising ones; and how many numbers there are, once each is there once.
+-- How many numbers there are, once each is there once.
 use Rattle.std.proofs.Common.{◌≡◌, ℕ, suc, ◌+◌, ◌≤◌, true, false, cond, nat_lt, ◌==◌, List, [], ◌∷◌, ◌++◌, length, refl, ap, sym, ◌∙◌, arith, inl, inr, Option, None, Some}
 use Rattle.std.specs.Prelude.{slice_get}
 use Rattle.std.specs.List.{insert, prefix_len}
@@ -15,46 +15,6 @@ use Rattle.std.specs.Option.{option_to_list}
 use Rattle.netdesc.specs.Plan.{VlPlan}
 use Rattle.netdesc.specs.Wiring.{passes}
 use Rattle.netdesc.specs.Trees.{last_of, end_of, ends_of, rising_from, destinations_of}
-
-one-more : (k : ℕ) → 1 + k ≡ suc k
-one-more k = omega arith
-
-pub there : (xs : List ℕ) (n : ℕ) → passes (λ m. m == n) (slice_get xs (prefix_len (λ m. nat_lt m n) xs)) ≡ true → insert_key nat_cmp xs n ≡ xs
-there [] n h = cc
-there (x ∷ xs) n h = elim (cases_order n x) [
-  | inl same ↦ ap (λ o. match_ordering o (n ∷ x ∷ xs) (x ∷ xs) (x ∷ insert_key nat_cmp xs n)) (sym (nat_cmp_is n x Equal same))
-  | inr (inl lt) ↦ (let no : nat_lt x n ≡ false = grind (arith, nat_tests) in
-      let apart : (x == n) ≡ false = grind (arith, nat_tests) in
-      let first : (x == n) ≡ true = sym (ap (λ b. passes (λ m. m == n) (slice_get (x ∷ xs) (cond b (1 + prefix_len (λ m. nat_lt m n) xs) 0))) no) ∙ h in
-      absurd (false≢true (sym apart ∙ first)))
-  | inr (inr gt) ↦ (let yes : nat_lt x n ≡ true = grind (arith, nat_tests) in
-      let behind : passes (λ m. m == n) (slice_get xs (prefix_len (λ m. nat_lt m n) xs)) ≡ true =
-      sym (ap (λ b. passes (λ m. m == n) (slice_get (x ∷ xs) (cond b (1 + prefix_len (λ m. nat_lt m n) xs) 0))) yes
-      ∙ ap (λ k. passes (λ m. m == n) (slice_get (x ∷ xs) k)) (one-more (prefix_len (λ m. nat_lt m n) xs))) ∙ h in
-      ap (λ o. match_ordering o (n ∷ x ∷ xs) (x ∷ xs) (x ∷ insert_key nat_cmp xs n)) (sym (nat_cmp_is n x Greater gt))
-      ∙ ap (λ r. x ∷ r) (there xs n behind))
-]
-
-pub absent : (xs : List ℕ) (n : ℕ) → passes (λ m. m == n) (slice_get xs (prefix_len (λ m. nat_lt m n) xs)) ≡ false
-    → insert xs (prefix_len (λ m. nat_lt m n) xs) n ≡ insert_key nat_cmp xs n
-absent [] n h = refl
-absent (x ∷ xs) n h = elim (cases_order n x) [
-  | inl same ↦ (let no : nat_lt x n ≡ false = grind (arith, nat_tests) in
-      let equal : (x == n) ≡ true = grind (arith, nat_tests) in
-      let first : (x == n) ≡ false = sym (ap (λ b. passes (λ m. m == n) (slice_get (x ∷ xs) (cond b (1 + prefix_len (λ m. nat_lt m n) xs) 0))) no) ∙ h in
-      absurd (false≢true (sym first ∙ equal)))
-  | inr (inl lt) ↦ (let no : nat_lt x n ≡ false = grind (arith, nat_tests) in
-      ap (λ b. insert (x ∷ xs) (cond b (1 + prefix_len (λ m. nat_lt m n) xs) 0) n) no
-      ∙ sym (ap (λ o. match_ordering o (n ∷ x ∷ xs) (x ∷ xs) (x ∷ insert_key nat_cmp xs n)) (sym (nat_cmp_is n x Less lt))))
-  | inr (inr gt) ↦ (let yes : nat_lt x n ≡ true = grind (arith, nat_tests) in
-      let behind : passes (λ m. m == n) (slice_get xs (prefix_len (λ m. nat_lt m n) xs)) ≡ false =
-      sym (ap (λ b. passes (λ m. m == n) (slice_get (x ∷ xs) (cond b (1 + prefix_len (λ m. nat_lt m n) xs) 0))) yes
-      ∙ ap (λ k. passes (λ m. m == n) (slice_get (x ∷ xs) k)) (one-more (prefix_len (λ m. nat_lt m n) xs))) ∙ h in
-      ap (λ b. insert (x ∷ xs) (cond b (1 + prefix_len (λ m. nat_lt m n) xs) 0) n) yes
-      ∙ ap (λ k. insert (x ∷ xs) k n) (one-more (prefix_len (λ m. nat_lt m n) xs))
-      ∙ ap (λ r. x ∷ r) (absent xs n behind)
-      ∙ sym (ap (λ o. match_ordering o (n ∷ x ∷ xs) (x ∷ xs) (x ∷ insert_key nat_cmp xs n)) (sym (nat_cmp_is n x Greater gt))))
-]
 
 -- a number more is at most one number more
 one-of : (o : Ordering) (n x : ℕ) (xs more : List ℕ) → length more ≤ length xs + 1 → length (match_ordering o (n ∷ x ∷ xs) (x ∷ xs) (x ∷ more)) ≤ length (x ∷ xs) + 1

@@ -1,8 +1,8 @@
 -- The first place that passes a test.
-use Rattle.std.proofs.Common.{◌≡◌, ℕ, zero, suc, ◌+◌, ◌<◌, Bool, true, false, cond, ◌||◌, ◌&&◌, is_none, List, [], ◌∷◌, ◌++◌, length, take, get_or, Option, Some, None, is_some, refl, ap, sym, ◌∙◌, arith, add-one}
+use Rattle.std.proofs.Common.{◌≡◌, ℕ, zero, suc, ◌+◌, ◌<◌, Bool, true, false, cond, ◌||◌, ◌&&◌, is_none, List, [], ◌∷◌, ◌++◌, length, take, get_or, Option, Some, None, is_some, unwrap_or, ◌≤◌, inl, inr, refl, ap, sym, ◌∙◌, arith, add-one}
 use Rattle.std.specs.Option.{option_map}
 use Rattle.std.specs.List.{list_any}
-use Rattle.std.proofs.lemmas.Bool.{false≢true}
+use Rattle.std.proofs.lemmas.Bool.{cases_Bool, false≢true}
 use Rattle.netdesc.specs.Rows.{place_by}
 
 -- the first of two that is there
@@ -72,6 +72,25 @@ place_by-at test (x ∷ xs) (suc i) d h here before = go (test x) refl before (p
     go : (b : Bool) → test x ≡ b → (b || list_any test (take i xs)) ≡ false → (list_any test (take i xs) ≡ false → place_by test xs ≡ Some i) → place_by test (x ∷ xs) ≡ Some (suc i)
     go true e k later = absurd (false≢true (sym k))
     go false e k later = rw (e, later k) (ap Some (add-one i))
+
+-- where the one at i passes, one that passes stands before it just where the first place is less
+pub place_by-before : {X : Type 0} (test : X → Bool) (xs : List X) (i : ℕ) (d : X) (o : Option ℕ) → i < length xs → test (get_or xs i d) ≡ true → o ≡ place_by test xs
+    → (unwrap_or o i < i → list_any test (take i xs) ≡ true) × (i ≤ unwrap_or o i → list_any test (take i xs) ≡ false)
+place_by-before test xs i d o h here place = (early, late)
+  where
+    early : unwrap_or o i < i → list_any test (take i xs) ≡ true
+    early lt = elim (cases_Bool (list_any test (take i xs))) [
+      | inl t ↦ t
+      | inr f ↦ (let same : unwrap_or o i ≡ i = ap (λ p. unwrap_or p i) (place ∙ place_by-at test xs i d h here f) in absurd (omega arith))
+    ]
+
+    late : i ≤ unwrap_or o i → list_any test (take i xs) ≡ false
+    late le = elim (cases_Bool (list_any test (take i xs))) [
+      | inl t ↦ (let found = place_by-early test xs i t in
+          let same : unwrap_or o i ≡ found.0 = ap (λ p. unwrap_or p i) (place ∙ found.1) in
+          let lt : found.0 < i = found.2 in absurd (omega arith))
+      | inr f ↦ f
+    ]
 
 -- a place that is noted only where there is none yet
 pub or_else-noted : {X : Type 0} (p : Option X) (b : Bool) (x : X) → cond (b && is_none p) (Some x) p ≡ or_else p (cond b (Some x) None)

@@ -12,7 +12,7 @@ use Rattle.network_rows.specs.declared.rows.NodeKind.TheVariants.{EndSystem}
 use Rattle.network_rows.specs.declared.rows.Rate.{Rate}
 use Rattle.network_rows.specs.declared.rows.Rate.TheVariants.{Mbit10, Mbit100}
 use Rattle.network_rows.specs.Within.{IsLinkWithin}
-use Rattle.netdesc.specs.declared.limits.TheConstants.{GREATEST_PORTS}
+use Rattle.netdesc.specs.Limits.{greatest_ports}
 use Rattle.netdesc.specs.declared.wiring.Link.{Link}
 use Rattle.netdesc.specs.declared.wiring.Line.{Line}
 use Rattle.netdesc.specs.Rows.{each, each_after}
@@ -38,8 +38,8 @@ IsLinkTimely link = AreTimesWithin link.byte_ns link.propagation_ns
 
 pub record IsLineWithin (line : Line) : Type 0 where
   pub times : AreTimesWithin line.byte_ns line.propagation_ns
-  pub from_port : line.from_port < GREATEST_PORTS
-  pub to_port : line.to_port < GREATEST_PORTS
+  pub from_port : line.from_port < greatest_ports
+  pub to_port : line.to_port < greatest_ports
 
 -- ---- times
 
@@ -62,15 +62,15 @@ no_node = record { name = []; kind = EndSystem; port_bytes = 0 }
 
 -- no switch has too many links
 abbrev pub HasFewLinks : List NodePlan → List Link → ℕ → Type 0
-HasFewLinks nodes links n = n < length nodes → is_end_system nodes n ≡ false → count_by (touches n) links ≤ GREATEST_PORTS
+HasFewLinks nodes links n = n < length nodes → is_end_system nodes n ≡ false → count_by (touches n) links ≤ greatest_ports
 
 few-links : (nodes : List NodePlan) (links : List Link) (n : ℕ) → each (too_many_at_node nodes links) nodes ≡ [] → HasFewLinks nodes links n
 few-links nodes links n none below is_switch =
     let check = too_many_at_node nodes links in
     let none_at : check (take n nodes) (get_or nodes n no_node) ≡ [] = front-none _ _ (behind-none (each check (take n nodes)) _ (sym (each-at check nodes n no_node below) ∙ none)) in
-    let test : (not (is_end_system nodes n) && nat_lt GREATEST_PORTS (count_by (touches n) links)) ≡ false =
-    subst (λ k. (not (is_end_system nodes k) && nat_lt GREATEST_PORTS (count_by (touches k) links)) ≡ false) (length-before nodes n below) (when-none _ _ none_at) in
-    let few : nat_lt GREATEST_PORTS (count_by (touches n) links) ≡ false = rw is_switch at test in
+    let test : (not (is_end_system nodes n) && nat_lt greatest_ports (count_by (touches n) links)) ≡ false =
+    subst (λ k. (not (is_end_system nodes k) && nat_lt greatest_ports (count_by (touches k) links)) ≡ false) (length-before nodes n below) (when-none _ _ none_at) in
+    let few : nat_lt greatest_ports (count_by (touches n) links) ≡ false = rw is_switch at test in
     grind (arith, nat_tests)
 
 -- the earlier links that pass, where one behind them does too
@@ -81,13 +81,13 @@ count-earlier p earlier links link passed =
 
 -- the port of a node for one of its links
 port-below : (nodes : List NodePlan) (earlier links : List Link) (link : Link) (node other : ℕ) → HasFewLinks nodes (earlier ++ link ∷ links) node → node < length nodes → touches node link ≡ true
-    → port_at nodes earlier node other < GREATEST_PORTS
+    → port_at nodes earlier node other < greatest_ports
 port-below nodes earlier links link node other few below touched = go (is_end_system nodes node) refl (is_switch_of nodes A other)
   where
-    go : (is_end : Bool) → is_end_system nodes node ≡ is_end → (on_a : Bool) → cond is_end (cond on_a 0 1) (count_by (touches node) earlier) < GREATEST_PORTS
+    go : (is_end : Bool) → is_end_system nodes node ≡ is_end → (on_a : Bool) → cond is_end (cond on_a 0 1) (count_by (touches node) earlier) < greatest_ports
     go true e true = omega arith
     go true e false = omega arith
-    go false e on_a = let at_most : count_by (touches node) (earlier ++ link ∷ links) ≤ GREATEST_PORTS = few below e in
+    go false e on_a = let at_most : count_by (touches node) (earlier ++ link ∷ links) ≤ greatest_ports = few below e in
         omega (arith, count-earlier (touches node) earlier links link touched)
 
 touches-a : (link : Link) → touches link.a link ≡ true

@@ -10,14 +10,12 @@ use Rattle.std.proofs.lemmas.Option.{slice_get-map, slice_get_read, slice_get_wi
 use Rattle.std.proofs.lemmas.List.{length-map}
 use Rattle.vlink.specs.declared.frame.Net.{Net}
 use Rattle.vlink.specs.declared.frame.Net.TheVariants.{A, B}
-use Rattle.netdesc.specs.declared.vl.Routed.{Routed}
 use Rattle.netdesc.specs.Rows.{each_after}
 use Rattle.netdesc.specs.Plan.{Plan, NodePlan, VlPlan, plan_of}
 use Rattle.netdesc.specs.Wiring.{passes, is_end_kind, is_end_system}
 use Rattle.netdesc.specs.Trees.{first_of, is_bad_path, is_no_tree, source_among, source_of, differ, is_none}
 use Rattle.netdesc.specs.Faults.{unknown_names, double_names, not_links, not_trees, too_many, no_tree_at_vl}
 use Rattle.netdesc.specs.Accepted.{IsAccepted}
-use Rattle.netdesc.specs.Views.{vl_view}
 use Rattle.netdesc.proofs.BuildLemmas.{front-none, behind-none, when-none, not-false, read-item}
 
 -- an end system that is there
@@ -69,13 +67,12 @@ all-have plan accepted =
     subst (λ (nodes : List NodePlan). All (HasSource nodes) plan.vls) (sym stands.nodes) (All-permutation (HasSource made.nodes) made.vls plan.vls stands.vls in_rows)
 
 -- the virtual link that is read in an accepted network, and its source
-pub vl-read : (plan : Plan) (vls : List Routed) (n k : ℕ) (routed : Routed) → IsAccepted plan → map vl_view vls ≡ plan.vls → n ≡ length vls → k < length plan.vls → routed ≡ get_or vls k routed
-    → (slice_get plan.vls k ≡ Some (vl_view routed)) × HasSource plan.nodes (vl_view routed)
-vl-read plan vls n k routed accepted same len below read =
-    let lt : k < n = omega (arith, ap length same, length-map vls vl_view) in
-    let here : slice_get plan.vls k ≡ Some (vl_view routed) =
-    ap (λ xs. slice_get xs k) (sym same) ∙ slice_get-map vl_view vls k ∙ ap (option_map vl_view) (slice_get_read vls n k routed len lt read) in
-    (here, read-item (HasSource plan.nodes) plan.vls k (vl_view routed) (all-have plan accepted) here)
+pub vl-read : (plan : Plan) (vls : List VlPlan) (n k : ℕ) (vl : VlPlan) → IsAccepted plan → vls ≡ plan.vls → n ≡ length vls → k < length plan.vls → vl ≡ get_or vls k vl
+    → (slice_get plan.vls k ≡ Some vl) × HasSource plan.nodes vl
+vl-read plan vls n k vl accepted same len below read =
+    let lt : k < n = omega (arith, ap length same) in
+    let here : slice_get plan.vls k ≡ Some vl = ap (λ xs. slice_get xs k) (sym same) ∙ slice_get_read vls n k vl len lt read in
+    (here, read-item (HasSource plan.nodes) plan.vls k vl (all-have plan accepted) here)
 
 -- the end system that is there
 pub end-system-is : (nodes : List NodePlan) (at : Option ℕ) (n : ℕ) → IsEndSystem nodes at → at ≡ Some n → is_end_system nodes n ≡ true

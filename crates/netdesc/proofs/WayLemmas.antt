@@ -10,7 +10,7 @@ use Rattle.std.proofs.lemmas.List.Elements.{Contains-append_left, Contains-push,
 use Rattle.std.proofs.lemmas.List.Folds.{list_any_none, list_any-from_Any}
 use Rattle.netdesc.specs.declared.wiring.Step.{Step}
 use Rattle.netdesc.specs.Trees.{is_other_way, has_other_way}
-use Rattle.netdesc.specs.Finding.{AreWaysBy, AreWays, AreWaysIn, way_to}
+use Rattle.netdesc.specs.Finding.{AreWaysBy, AreWays}
 use Rattle.netdesc.proofs.JoinLemmas.{is_eq-nat_cmp}
 
 -- a test that one element passes
@@ -58,22 +58,6 @@ AreWays-more old new steps t are absent at = (first, second)
 pub AreWays-put : (old new : BTreeMap ℕ ℕ) (steps : List Step) (t : Step) → AreWays old steps → get nat_cmp old t.to ≡ None → UpdatesBy nat_cmp (nat_cmp t.to) old new (Some t.from) → AreWays new (steps ++ t ∷ [])
 AreWays-put old new steps t are absent put =
     AreWays-more (get nat_cmp old) (get nat_cmp new) steps t are absent (λ to. put.0 to ∙ ap (λ b. cond b (Some t.from) (get nat_cmp old to)) (is_eq-nat_cmp t.to to))
-
--- a way more at the end, to a node that no way leads to
-way_to-push : (ways : List Step) (t : Step) (to : ℕ) → way_to ways t.to ≡ None → way_to (ways ++ t ∷ []) to ≡ cond (t.to == to) (Some t.from) (way_to ways to)
-way_to-push [] t to absent = refl
-way_to-push (way ∷ ways) t to absent = elim (cases_Bool (way.to == t.to)) [
-  | inl same ↦ (let gone : Some way.from ≡ None = sym (ap (λ b. cond b (Some way.from) (way_to ways t.to)) same) ∙ absent in cc)
-  | inr apart ↦ (let behind : way_to ways t.to ≡ None = sym (ap (λ b. cond b (Some way.from) (way_to ways t.to)) apart) ∙ absent in
-      ap (λ r. cond (way.to == to) (Some way.from) r) (way_to-push ways t to behind)
-      ∙ elim (cases_Bool (way.to == to)) [
-        | inl here ↦ (let other : (t.to == to) ≡ false = grind (arith, nat_tests) in rw (here, other) refl)
-        | inr there ↦ rw there refl
-      ])
-]
-
-pub AreWaysIn-push : (ways steps : List Step) (t : Step) → AreWaysIn ways steps → way_to ways t.to ≡ None → AreWaysIn (ways ++ t ∷ []) (steps ++ t ∷ [])
-AreWaysIn-push ways steps t are absent = AreWays-more (way_to ways) (way_to (ways ++ t ∷ [])) steps t are absent (λ to. way_to-push ways t to absent)
 
 -- a step that leads to a node from another one than it was reached from
 pub other-way : (ways : ℕ → Option ℕ) (steps : List Step) (t : Step) (from : ℕ) → AreWaysBy ways steps → ways t.to ≡ Some from → (from == t.from) ≡ false

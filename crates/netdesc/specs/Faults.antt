@@ -11,7 +11,7 @@ use Rattle.network_rows.specs.declared.rows.LinkRow.{LinkRow}
 use Rattle.network_rows.specs.declared.rows.OutageRow.{OutageRow}
 use Rattle.network_rows.specs.declared.rows.VlRow.{VlRow}
 use Rattle.network_rows.specs.declared.rows.Rows.{Rows}
-use Rattle.netdesc.specs.declared.limits.TheConstants.{GREATEST_PROCESSES, GREATEST_PORTS, GREATEST_OUTAGES, GREATEST_DESTINATIONS}
+use Rattle.netdesc.specs.Limits.{greatest_processes, greatest_ports, greatest_outages, greatest_destinations}
 use Rattle.netdesc.specs.declared.wiring.Link.{Link}
 use Rattle.netdesc.specs.declared.wiring.Outage.{Outage}
 use Rattle.netdesc.specs.declared.wiring.Step.{Step}
@@ -115,16 +115,16 @@ touches node link = (link.a == node) || (link.b == node)
 
 abbrev pub too_many_at_node : List NodePlan → List Link → List NodePlan → NodePlan → List DescFault
 too_many_at_node nodes links earlier node =
-    when (not (is_end_system nodes (length earlier)) && nat_lt GREATEST_PORTS (count_by (touches (length earlier)) links)) (TooMany (row_at section.Node earlier))
+    when (not (is_end_system nodes (length earlier)) && nat_lt greatest_ports (count_by (touches (length earlier)) links)) (TooMany (row_at section.Node earlier))
 
 abbrev pub too_many_at_vl : List VlPlan → VlPlan → List DescFault
-too_many_at_vl earlier vl = when (nat_lt GREATEST_DESTINATIONS (length (destinations_of vl))) (TooMany (row_at section.Vl earlier))
+too_many_at_vl earlier vl = when (nat_lt greatest_destinations (length (destinations_of vl))) (TooMany (row_at section.Vl earlier))
 
 abbrev pub too_many : Plan → List DescFault
 too_many plan =
-    when (nat_lt GREATEST_PROCESSES (process_count plan)) (TooMany top)
+    when (nat_lt greatest_processes (process_count plan)) (TooMany top)
     ++ each (too_many_at_node plan.nodes plan.links) plan.nodes
-    ++ when (nat_lt GREATEST_OUTAGES (length plan.outages)) (TooMany (record { section = section.Outage; row = Some (GREATEST_OUTAGES + 1); key = None }))
+    ++ when (nat_lt greatest_outages (length plan.outages)) (TooMany (record { section = section.Outage; row = Some (greatest_outages + 1); key = None }))
     ++ each too_many_at_vl plan.vls
 
 -- the faults of rows, in the order in which they are tried

@@ -1,5 +1,5 @@
 -- What checks answer, and what maps of numbers hold.
-use Rattle.std.specs.Prelude.{ℕ, ◌≡◌, ◌⊎◌, ◌==◌, cond, List, [], ◌∷◌, Option, None, Some, Result, Ok, Err, slice_get, slice_index_or, Contains}
+use Rattle.std.specs.Prelude.{ℕ, ◌≡◌, ◌⊎◌, List, [], Option, None, Some, Result, Ok, Err, slice_get, Contains}
 use Rattle.std.specs.Cmp.Lexicographic.{slice_cmp}
 use Rattle.std.specs.Ordering.{nat_cmp, ordering_then}
 use Rattle.std.specs.declared.cmp.Ordering.{Ordering}
@@ -29,10 +29,6 @@ Finds (Err fault) faults = Tells fault faults
 abbrev pub AreNumbers : BTreeMap (Bor (List ℕ)) ℕ → List (List ℕ) → Type 0
 AreNumbers numbers names = (name : List ℕ) → get_by (λ k. slice_cmp nat_cmp name k.now) numbers ≡ place_among names name
 
--- each of these numbers is that of the first node with its name
-abbrev pub AreFirsts : List (Option ℕ) → List (List ℕ) → Type 0
-AreFirsts numbers names = (k n : ℕ) → slice_index_or numbers k None ≡ Some n → place_among names (slice_index_or names n []) ≡ Some n
-
 -- pairs of numbers, by the first and then by the second
 abbrev pub pair_cmp : ℕ × ℕ → ℕ × ℕ → Ordering
 pair_cmp p q = ordering_then (nat_cmp p.0 q.0) (nat_cmp p.1 q.1)
@@ -53,12 +49,3 @@ AreWaysBy from_of steps = ((s : Step) → Contains steps s → from_of s.to ≡ 
 -- the map has them
 abbrev pub AreWays : BTreeMap ℕ ℕ → List Step → Type 0
 AreWays ways steps = AreWaysBy (get nat_cmp ways) steps
-
--- where the first of these ways to a node leads from
-abbrev pub way_to : List Step → ℕ → Option ℕ
-way_to [] to = None
-way_to (way ∷ ways) to = cond (way.to == to) (Some way.from) (way_to ways to)
-
--- the list has them
-abbrev pub AreWaysIn : List Step → List Step → Type 0
-AreWaysIn ways steps = AreWaysBy (way_to ways) steps

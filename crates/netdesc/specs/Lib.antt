@@ -1,6 +1,5 @@
 pub mod Rows
 pub mod Names
-pub mod NodePaths
 pub mod Plan
 pub mod Wiring
 pub mod Trees

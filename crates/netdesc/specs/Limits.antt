@@ -1,10 +1,24 @@
--- Which numbers a network has, as the limits of the keys of its description leave them. Times are in ns, and the bandwidth allocation gap is in ms.
-use Rattle.std.specs.Prelude.{◌≤◌, ⊤}
+-- How large a network is at most, and which numbers it has, as the limits of the keys of its description leave them. Times are in ns, and the
+-- bandwidth allocation gap is in ms.
+use Rattle.std.specs.Prelude.{ℕ, ◌≤◌, ⊤}
 use Rattle.vlink.specs.declared.time.TheConstants.{LATEST_NS}
 use Rattle.network_rows.specs.declared.table.TheConstants.{SECOND_NS}
 use Rattle.network_rows.specs.declared.rows.NodeKind.{NodeKind}
 use Rattle.network_rows.specs.declared.rows.NodeKind.TheVariants.{EndSystem, Switch}
 use Rattle.netdesc.specs.declared.vl.VirtualLink.{VirtualLink}
+
+-- the most processes of a network, ports of a switch, outages of a network, and destinations of a virtual link
+abbrev pub greatest_processes : ℕ
+greatest_processes = 4096
+
+abbrev pub greatest_ports : ℕ
+greatest_ports = 24
+
+abbrev pub greatest_outages : ℕ
+greatest_outages = 1024
+
+abbrev pub greatest_destinations : ℕ
+greatest_destinations = 64
 
 -- what is agreed of the frames of a virtual link; their sizes are within the limits of all frames
 pub record IsLinkInLimits (link : VirtualLink) : Type 0 where

@@ -4,9 +4,8 @@ use Rattle.network_rows.specs.declared.rows.NodeRow.{NodeRow}
 use Rattle.network_rows.specs.declared.rows.Rows.{Rows}
 use Rattle.netdesc.specs.declared.wiring.Link.{Link}
 use Rattle.netdesc.specs.declared.wiring.Outage.{Outage}
-use Rattle.netdesc.specs.declared.numbered.Numbered.{Numbered}
+use Rattle.netdesc.specs.declared.plan.Numbered.{Numbered}
 use Rattle.netdesc.specs.Plan.{Plan, VlPlan, node_plan, plan_of}
-use Rattle.netdesc.specs.Views.{vl_views}
 
 pub record Parts : Type 0 where
   pub links : List Link
@@ -14,11 +13,11 @@ pub record Parts : Type 0 where
   pub vls : List VlPlan
 
 abbrev pub parts_of : Numbered → Parts
-parts_of numbered = record { links = numbered.links.items; outages = numbered.outages.items; vls = vl_views numbered.vls }
+parts_of numbered = record { links = numbered.links.items; outages = numbered.outages.items; vls = numbered.vls.items }
 
 abbrev pub parts_in : Rows → Parts
 parts_in rows = let plan = plan_of rows in record { links = plan.links; outages = plan.outages; vls = plan.vls }
 
 -- nodes and the other rows, as a plan (its end and its seed do not matter to a fault)
 abbrev pub plan_in : List NodeRow → Numbered → Plan
-plan_in nodes numbered = record { until = 0; seed = 0; nodes = map node_plan nodes; links = numbered.links.items; outages = numbered.outages.items; vls = vl_views numbered.vls }
+plan_in nodes numbered = record { until = 0; seed = 0; nodes = map node_plan nodes; links = numbered.links.items; outages = numbered.outages.items; vls = numbered.vls.items }

@@ -1,14 +1,14 @@
 -- The tables of a network, against its plan.
 use Rattle.std.specs.Prelude.{ℕ, ◌≡◌, ◌+◌, ◌<◌, ◌≤◌, List, length, map, None, vec_len, string_bytes, slice_index_or}
 use Rattle.network_rows.specs.declared.rows.NodeRow.{NodeRow}
-use Rattle.netdesc.specs.declared.numbered.Numbered.{Numbered}
+use Rattle.netdesc.specs.declared.plan.Numbered.{Numbered}
 use Rattle.netdesc.specs.declared.tables.Tables.{Tables}
-use Rattle.netdesc.specs.declared.limits.TheConstants.{GREATEST_PROCESSES}
+use Rattle.netdesc.specs.Limits.{greatest_processes}
 use Rattle.netdesc.specs.Plan.{Plan, node_plan}
 use Rattle.netdesc.specs.Trees.{destinations_of}
 use Rattle.netdesc.specs.Faults.{process_count}
 use Rattle.netdesc.specs.Lines.{lines_of, line_name, outages_of, departures_of, arrivals_of, place_of_vl}
-use Rattle.netdesc.specs.Views.{lists_of, ways_at, outages_at, vl_views}
+use Rattle.netdesc.specs.Views.{lists_of, ways_at, outages_at}
 
 -- the plan that these fields of a network make
 abbrev pub plan_with : ℕ → ℕ → List NodeRow → Numbered → Plan
@@ -18,7 +18,7 @@ plan_with until seed nodes numbered = record {
   nodes = map node_plan nodes;
   links = numbered.links.items;
   outages = numbered.outages.items;
-  vls = vl_views numbered.vls;
+  vls = numbered.vls.items;
 }
 
 pub record AreTables (plan : Plan) (tables : Tables) : Type 0 where
@@ -32,4 +32,4 @@ pub record AreTables (plan : Plan) (tables : Tables) : Type 0 where
   pub arrivals_len : vec_len tables.meetings.arrivals ≡ length plan.nodes + 1
   pub destinations : lists_of tables.destinations ≡ map destinations_of plan.vls
   pub places : (id : ℕ) → slice_index_or tables.places.items id None ≡ place_of_vl plan.vls id
-  pub few : process_count plan ≤ GREATEST_PROCESSES
+  pub few : process_count plan ≤ greatest_processes

@@ -1,13 +1,16 @@
 -- What checks and tables see of the code's vectors.
 use Rattle.std.specs.Prelude.{ℕ, ◌≡◌, slice_index_or, Bool, true, false, List, [], map, Option, Some, None, Result, Ok, Err}
-use Rattle.network_rows.specs.declared.fault.DescFault.TheVariants.{OutOfMemory}
 use Rattle.std.specs.declared.alloc.Global.{Global}
 use Rattle.std.specs.declared.vec.Vec.{Vec}
 use Rattle.network_rows.specs.declared.fault.DescFault.{DescFault}
-use Rattle.netdesc.specs.declared.vl.Routed.{Routed}
+use Rattle.network_rows.specs.declared.fault.DescFault.TheVariants.{OutOfMemory}
+use Rattle.netdesc.specs.declared.routes.End.{End}
+use Rattle.netdesc.specs.declared.routes.End.TheVariants.{From, To}
+use Rattle.netdesc.specs.declared.wiring.Line.{Line}
 use Rattle.netdesc.specs.declared.wiring.Outage.{Outage}
 use Rattle.netdesc.specs.declared.wiring.Way.{Way}
-use Rattle.netdesc.specs.Plan.{VlPlan}
+use Rattle.vlink.specs.declared.frame.VlId.{VlId}
+use Rattle.netdesc.specs.Lines.{out_at, in_at}
 use Rattle.netdesc.specs.Finding.{Tells}
 
 abbrev pub items_of : {X : Type 0} → Vec X Global → List X
@@ -15,16 +18,6 @@ items_of v = v.items
 
 abbrev pub lists_of : {X : Type 0} → Vec (Vec X Global) Global → List (List X)
 lists_of v = map items_of v.items
-
--- paths of numbers are seen as they are
-abbrev pub paths_seen : List (List ℕ) → List (List ℕ)
-paths_seen paths = paths
-
-abbrev pub vl_view : Routed → VlPlan
-vl_view routed = record { link = routed.link; a = routed.a; b = routed.b }
-
-abbrev pub vl_views : Vec Routed Global → List VlPlan
-vl_views v = map vl_view v.items
 
 -- the value is there, seen by view, and there is none of these faults; or the first one is told
 abbrev pub Gives : {X Y : Type 0} → (X → Y) → Result X DescFault → List DescFault → Y → Type 0
@@ -49,3 +42,12 @@ ways_at table node = slice_index_or (lists_of table) node []
 -- the outages of a line
 abbrev pub outages_at : Vec (Vec Outage Global) Global → ℕ → List Outage
 outages_at table k = slice_index_or (lists_of table) k []
+
+-- the node at an end of a line, and the port there, if it is this node
+abbrev pub end_at : End → Line → ℕ
+end_at From line = line.from
+end_at To line = line.to
+
+abbrev pub way_at : End → ℕ → VlId → Line → Option Way
+way_at From node vl line = out_at node vl line
+way_at To node vl line = in_at node vl line

@@ -1,8 +1,8 @@
 ghost use Rattle.std.specs.Prelude.{◌≡◌, ◌<◌, ◌≤◌, true, Some, length, slice_get, IfOk, IfErr};
+ghost use Rattle.network_rows.specs.declared.fault.DescFault.TheVariants.{OutOfMemory};
 ghost use Rattle.std.specs.List.Sorted.{IsStrictlyIncreasing};
 ghost use Rattle.std.specs.Option.{option_map, option_and_then};
 ghost use Rattle.vlink.specs.declared.time.TheConstants.{LATEST_NS};
-ghost use Rattle.network_rows.specs.declared.fault.DescFault.TheVariants.{OutOfMemory};
 ghost use Rattle.netdesc.specs.declared.limits.TheConstants.{GREATEST_PROCESSES};
 ghost use Rattle.netdesc.specs.Accepted.{ids_of};
 ghost use Rattle.netdesc.specs.Limits.{IsLinkInLimits, IsKindInLimits};
@@ -12,10 +12,8 @@ ghost use Rattle.netdesc.specs.Faults.{process_count};
 ghost use Rattle.netdesc.specs.Lines.{node_name};
 ghost use Rattle.netdesc.specs.Tables.{AreTables};
 
-use crate::numbered::Numbered;
-use crate::tables::Tables;
-use crate::tabling::tables_of;
-use crate::trees::source_of;
+use crate::plan::Numbered;
+use crate::tables::{Tables, tables_of};
 use crate::vl::VirtualLink;
 use network_rows::{DescFault, NodeKind, NodeRow};
 use std::alloc::Global;
@@ -148,7 +146,7 @@ impl Described {
         ensures value { option_map (λ vl. vl.link) (slice_get self.now.vls vl) ≡ Some result }
         ensures limits { IsLinkInLimits result }
     {
-        self.numbered.vls[vl].link
+        self.numbered.vls[vl].link()
     }
 
     /// Where the frames of a virtual link begin: an end system.
@@ -158,6 +156,6 @@ impl Described {
         ensures node { result < length self.now.nodes }
         ensures end_system { is_end_system self.now.nodes result ≡ true }
     {
-        source_of(&self.numbered.vls[vl]).unwrap()
+        self.numbered.vls[vl].source().unwrap()
     }
 }

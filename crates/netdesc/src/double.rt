@@ -1,17 +1,21 @@
-ghost use Rattle.std.specs.Prelude.{◌≡◌, ℕ, ◌<◌, ◌≤◌, false, ◌==◌, ◌||◌, All, map, vec_len, slice_index_or, IfOk, IfErr};
-ghost use Rattle.network_rows.specs.declared.fault.DescFault.TheVariants.{OutOfMemory};
+//! A name of a node, a pair of linked nodes and a number of a virtual link that an earlier row has.
+ghost use Rattle.std.specs.Prelude.{◌≡◌, ℕ, ◌==◌, map};
+ghost use Rattle.std.specs.List.{list_any};
+ghost use Rattle.std.specs.Ordering.{nat_cmp};
+ghost use Rattle.std.specs.BTreeSet.{contains};
 ghost use Rattle.netdesc.specs.Rows.{each};
 ghost use Rattle.netdesc.specs.Plan.{node_plan};
-ghost use Rattle.netdesc.specs.Faults.{double_at_node, double_at_vl};
+ghost use Rattle.netdesc.specs.Faults.{double_at_node, double_at_link, double_at_vl};
 ghost use Rattle.netdesc.specs.Finding.{Finds};
-ghost use Rattle.netdesc.specs.Views.{vl_view};
 
-use crate::memory::refused;
+use crate::each::{Check, check_each, key_at};
+use crate::links::Joined;
+use crate::memory::add;
 use crate::names::Names;
-use crate::place::key_at;
-use crate::vl::Routed;
+use crate::plan::Routed;
 use network_rows::{DescFault, Key, Section};
 use std::alloc::Global;
+use std::collections::BTreeSet;
 
 /// No two nodes have one name: the number of each name is that of its own node.
 pub fn check_nodes(names: &Names) -> Result<(), DescFault>
@@ -26,58 +30,46 @@ pub fn check_nodes(names: &Names) -> Result<(), DescFault>
     Ok(())
 }
 
-/// None of so many numbers is marked.
-fn no_marks(alloc: Global, count: usize) -> Result<Vec<bool>, DescFault>
-    ensures none { IfOk result (λ marks. (n : ℕ) → slice_index_or marks.items n false ≡ false) }
-    ensures len { IfOk result (λ marks. vec_len marks ≡ count) }
-    ensures memory { IfErr result (λ fault. fault ≡ OutOfMemory) }
+/// No two links join the same nodes: the place that the nodes of each link have is its own.
+pub fn check_links(joined: &Joined) -> Result<(), DescFault>
+    ensures { Finds result (each double_at_link joined.now.links.now) }
 {
-    match vec![in alloc; false; count] {
-        Ok(marks) => Ok(marks),
-        Err(error) => Err(refused(error)),
-    }
-}
-
-/// Marks a number.
-fn mark(marks: &mut Vec<bool>, id: usize)
-    requires { id < vec_len marks.old }
-    ensures marked { (n : ℕ) → n < vec_len marks.old → slice_index_or marks.new.items n false ≡ (slice_index_or marks.old.items n false || (id == n)) }
-    ensures len { vec_len marks.new ≡ vec_len marks.old }
-{
-    marks[id] = true;
-}
-
-/// The greater of two numbers.
-fn greater(a: usize, b: usize) -> usize
-    ensures left { a ≤ result }
-    ensures right { b ≤ result }
-{
-    if a < b { b } else { a }
-}
-
-/// A number beyond those of all these virtual links.
-fn beyond(vls: &[Routed]) -> usize
-    ensures { All (λ vl. vl.link.id.0 < result) vls.now }
-{
-    let mut beyond = 0;
-    for vl in vls {
-        beyond = greater(beyond, usize::from(vl.link.id.0) + 1);
-    }
-    beyond
-}
-
-/// No two virtual links have one number: each is marked, and none was marked before.
-pub fn check_vls(alloc: Global, vls: &[Routed]) -> Result<(), DescFault>
-    ensures { Finds result (each double_at_vl (map vl_view vls.now)) }
-{
-    let count = beyond(vls);
-    let mut marks = no_marks(alloc, count)?;
-    for (i, vl) in vls.iter().enumerate() {
-        let id = usize::from(vl.link.id.0);
-        if marks[id] {
-            return Err(DescFault::DoubleName(key_at(Section::Vl, i, Key::Id)));
+    for (i, link) in joined.links.iter().enumerate() {
+        let place = joined.place(link.a, link.b).unwrap_or(i);
+        if place < i {
+            return Err(DescFault::DoubleName(key_at(Section::Link, i, Key::B)));
         }
-        mark(&mut marks, id);
     }
     Ok(())
+}
+
+/// Marks the numbers of virtual links.
+#[derive(Drop)]
+struct Ids {}
+
+impl Check for Ids {
+    type Row = Routed;
+
+    type Kept = BTreeSet<usize>;
+
+    ghost faults = { λ _. double_at_vl };
+
+    ghost keeps = { λ _ ids vls. (id : ℕ) → contains nat_cmp ids id ≡ list_any (λ vl. vl.link.id.0 == id) vls };
+
+    fn check(&self, ids: &mut BTreeSet<usize>, i: usize, vl: &Routed) -> Result<(), DescFault> {
+        let id = usize::from(vl.link().id.0);
+        if ids.contains(&id) {
+            return Err(DescFault::DoubleName(key_at(Section::Vl, i, Key::Id)));
+        }
+        add(ids, id)?;
+        Ok(())
+    }
+}
+
+/// No two virtual links have one number.
+pub fn check_vls(alloc: Global, vls: &[Routed]) -> Result<(), DescFault>
+    ensures { Finds result (each double_at_vl vls.now) }
+{
+    let mut ids = BTreeSet::new(alloc);
+    check_each(&Ids {}, &mut ids, vls)
 }

@@ -1,17 +1,19 @@
-ghost use Rattle.std.specs.Prelude.{◌≡◌, ◌+◌, ◌*◌, ◌^◌, ◌<◌, ◌≤◌, ◌++◌, length, map, cond, All, IfOk, OnOk, IfErr};
-ghost use Rattle.vlink.specs.declared.frame.Net.TheVariants.{A};
+//! Lines, which are the directions of links: their ports, their names and their outages.
+ghost use Rattle.std.specs.Prelude.{◌≡◌, ℕ, ◌+◌, ◌*◌, ◌^◌, ◌<◌, ◌≤◌, [], ◌∷◌, ◌++◌, length, map, filter, cond, All, vec_len, string_bytes, IfOk, OnOk, IfErr};
 ghost use Rattle.network_rows.specs.declared.fault.DescFault.TheVariants.{OutOfMemory};
+ghost use Rattle.vlink.specs.declared.frame.Net.TheVariants.{A};
 ghost use Rattle.netdesc.specs.Rows.{each};
 ghost use Rattle.netdesc.specs.Plan.{node_plan};
 ghost use Rattle.netdesc.specs.Wiring.{is_end_system, is_switch_of};
-ghost use Rattle.netdesc.specs.Lines.{both, directions};
+ghost use Rattle.netdesc.specs.Lines.{both, directions, line_between, node_name, line_name, is_outage_of};
+ghost use Rattle.netdesc.specs.Views.{outages_at};
 
-use crate::counts::{count_link, no_counts};
 use crate::kinds::{is_end_system, is_switch_of};
-use crate::memory::push;
-use crate::wiring::{Line, Link};
+use crate::links::{Joined, count_link, no_counts};
+use crate::memory::{no_lists, push, put, refused};
+use crate::wiring::{Line, Link, Outage};
 use network_rows::{DescFault, NodeRow};
-use std::alloc::Global;
+use std::alloc::{AllocError, Global};
 use vlink::Net;
 
 /// The port of a node for its link to `other`, where `count` earlier links name the node.
@@ -76,4 +78,101 @@ pub fn lines_of(alloc: Global, nodes: &[NodeRow], links: &[Link]) -> Result<Vec<
         count_link(&mut counts, *link);
     }
     Ok(lines)
+}
+
+/// The name of a node; of no node the empty text.
+fn node_name(nodes: &[NodeRow], n: usize) -> &str
+    ensures { result.now ≡ node_name (map node_plan nodes.now) n }
+{
+    match nodes.get(n) {
+        Some(node) => node.name.as_str(),
+        None => "",
+    }
+}
+
+/// The names of two nodes with > between.
+fn name_between(alloc: Global, from: &str, to: &str) -> Result<String, AllocError>
+    ensures { IfOk result (λ name. string_bytes name ≡ from.now ++ 62 ∷ to.now) }
+{
+    let mut name = String::from_str(alloc, from)?;
+    name.push_str(">")?;
+    name.push_str(to)?;
+    Ok(name)
+}
+
+/// The name of a line.
+fn line_name(alloc: Global, nodes: &[NodeRow], line: Line) -> Result<String, DescFault>
+    ensures name { IfOk result (λ name. string_bytes name ≡ line_name (map node_plan nodes.now) line) }
+    ensures memory { IfErr result (λ fault. fault ≡ OutOfMemory) }
+{
+    let from = node_name(nodes, usize::from(line.from));
+    let to = node_name(nodes, usize::from(line.to));
+    match name_between(alloc, from, to) {
+        Ok(name) => Ok(name),
+        Err(error) => Err(refused(error)),
+    }
+}
+
+/// The names of lines.
+pub fn line_names(
+    alloc: Global,
+    nodes: &[NodeRow],
+    lines: &[Line],
+) -> Result<Vec<String>, DescFault>
+    ensures names { IfOk result (λ names. map string_bytes names.items ≡ map (line_name (map node_plan nodes.now)) lines.now) }
+    ensures memory { IfErr result (λ fault. fault ≡ OutOfMemory) }
+{
+    let mut names = Vec::new(alloc);
+    for line in lines {
+        let name = line_name(alloc, nodes, *line)?;
+        push(&mut names, name)?;
+    }
+    Ok(names)
+}
+
+/// The line from one node to another, or none where no link joins them.
+pub fn line_between(joined: &Joined, from: usize, to: usize) -> Option<usize>
+    requires { length joined.now.links.now < 2 ^ 32 }
+    ensures { result ≡ line_between joined.now.links.now from to }
+{
+    let place = joined.place(from, to)?;
+    let link = joined.links.get(place)?;
+    let back = if link.a == from { 0 } else { 1 };
+    Some(2 * place + back)
+}
+
+/// Puts an outage at the end of the list of its line, if it has one.
+fn put_outage(
+    table: &mut Vec<Vec<Outage>>,
+    joined: &Joined,
+    outage: Outage,
+) -> Result<(), DescFault>
+    requires { length joined.now.links.now < 2 ^ 32 }
+    ensures put { OnOk result ((k : ℕ) → k < vec_len table.old → outages_at table.new k ≡ outages_at table.old k ++ filter (is_outage_of joined.now.links.now k) (outage ∷ [])) }
+    ensures len { vec_len table.new ≡ vec_len table.old }
+    ensures memory { IfErr result (λ fault. fault ≡ OutOfMemory) }
+{
+    match line_between(joined, outage.from, outage.to) {
+        Some(k) if k < table.len() => put(table, k, outage),
+        _ => Ok(()),
+    }
+}
+
+/// For each of `count` lines its outages, in their order.
+pub fn losses_of(
+    alloc: Global,
+    count: usize,
+    joined: &Joined,
+    outages: &[Outage],
+) -> Result<Vec<Vec<Outage>>, DescFault>
+    requires { length joined.now.links.now < 2 ^ 32 }
+    ensures outages { IfOk result (λ table. (k : ℕ) → k < count → outages_at table k ≡ filter (is_outage_of joined.now.links.now k) outages.now) }
+    ensures len { IfOk result (λ table. vec_len table ≡ count) }
+    ensures memory { IfErr result (λ fault. fault ≡ OutOfMemory) }
+{
+    let mut table = no_lists(alloc, count)?;
+    for outage in outages {
+        put_outage(&mut table, joined, *outage)?;
+    }
+    Ok(table)
 }

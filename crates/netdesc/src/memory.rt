@@ -1,3 +1,4 @@
+//! Growth that can be refused.
 ghost use Rattle.std.specs.Prelude.{◌≡◌, [], ◌∷◌, ◌++◌, IfOk, IfErr, OnOk, ℕ, ◌||◌, ◌==◌, ◌<◌, ◌≤◌, vec_len, slice_set, slice_index_or};
 ghost use Rattle.netdesc.specs.Views.{lists_of};
 ghost use Rattle.std.specs.Ordering.{nat_cmp};
@@ -13,28 +14,6 @@ pub fn refused<E: Drop>(_error: E) -> DescFault
     ensures { result ≡ OutOfMemory }
 {
     DescFault::OutOfMemory
-}
-
-/// How many slots of a table serve for so many things, at least one and at most `most`: so many more than things that few share one, and
-/// where `most` is a power of two, so are they.
-pub fn slots_for(count: usize, most: usize) -> usize
-    requires { 0 < most }
-    ensures some { 0 < result }
-    ensures few { result ≤ most }
-{
-    let slots = count.saturating_mul(16).checked_next_power_of_two();
-    slots.unwrap_or(most).clamp(1, most)
-}
-
-/// An empty list with room for so many values.
-pub fn with_room<T>(alloc: Global, room: usize) -> Result<Vec<T>, DescFault>
-    ensures empty { IfOk result (λ list. list.items ≡ []) }
-    ensures memory { IfErr result (λ fault. fault ≡ OutOfMemory) }
-{
-    match Vec::with_capacity(alloc, room) {
-        Ok(list) => Ok(list),
-        Err(error) => Err(refused(error)),
-    }
 }
 
 /// Puts a value at the end of a list.
@@ -69,4 +48,17 @@ pub fn put<T: Drop>(table: &mut Vec<Vec<T>>, place: usize, value: T) -> Result<(
 {
     let list = &mut table[place];
     push(list, value)
+}
+
+/// So many empty lists.
+pub fn no_lists<T: Drop>(alloc: Global, count: usize) -> Result<Vec<Vec<T>>, DescFault>
+    ensures empty { IfOk result (λ table. (k : ℕ) → slice_index_or (lists_of table) k [] ≡ []) }
+    ensures len { IfOk result (λ table. vec_len table ≡ count) }
+    ensures memory { IfErr result (λ fault. fault ≡ OutOfMemory) }
+{
+    let mut table = Vec::new(alloc);
+    for _ in 0..count {
+        push(&mut table, Vec::new(alloc))?;
+    }
+    Ok(table)
 }

@@ -1,11 +1,29 @@
-ghost use Rattle.std.specs.Prelude.{◌≡◌, [], OnOk, IfOk, IfErr};
-ghost use Rattle.netdesc.specs.Finding.{Tells};
+//! From the text of a network description to the network, or to the first fault.
+ghost use Rattle.std.specs.Prelude.{◌≡◌, [], ◌++◌, map, IsPermutation, MatchResult, OnOk, IfOk, IfErr};
+ghost use Rattle.network_rows.specs.declared.fault.DescFault.TheVariants.{OutOfMemory};
+ghost use Rattle.std.specs.List.Sorted.{IsNonDecreasing};
+ghost use Rattle.network_rows.specs.Within.{AreWithin};
+ghost use Rattle.netdesc.specs.Rows.{each};
+ghost use Rattle.netdesc.specs.Plan.{node_plan};
+ghost use Rattle.netdesc.specs.Faults.{faults_of, double_names, not_links, not_trees, too_many, double_at_node, double_at_link, double_at_vl};
+ghost use Rattle.netdesc.specs.Finding.{Finds, Tells};
+ghost use Rattle.netdesc.specs.Accepted.{ids_of, IsPlanOf};
 ghost use Rattle.netdesc.specs.Description.{faults_of_description, Describes};
+ghost use Rattle.netdesc.specs.Parts.{parts_of, parts_in, plan_in};
+ghost use Rattle.netdesc.specs.Views.{Gives};
 
 use crate::described::Described;
-use crate::make::{Remains, described, network};
+use crate::double;
+use crate::links::Joined;
+use crate::memory::refused;
+use crate::names::Names;
 use crate::network::Network;
-use network_rows::{DescFault, read_rows};
+use crate::no_link::check_no_link;
+use crate::no_tree::check_no_tree;
+use crate::plan::{Numbered, Routed};
+use crate::too_many::check_too_many;
+use crate::unknown::number_rows;
+use network_rows::{DescFault, LinkRow, OutageRow, Rows, Sequence, VlRow, read_rows};
 use std::alloc::Global;
 
 /// Reads a network description, a text in TOML.
@@ -29,7 +47,9 @@ pub fn read_with_remains(alloc: Global, text: &str) -> Result<(Network, Remains)
     ensures fault { IfErr result (λ fault. Tells fault (faults_of_description text.now)) }
 {
     let rows = read_rows(alloc, text)?;
-    network(alloc, rows)
+    let (described, remains) = described(alloc, rows)?;
+    let network = Network::of(alloc, described)?;
+    Ok((network, remains))
 }
 
 /// Reads a network description as `read_with_remains` does, and makes no tables of it: that is less work, where nothing is to be run.
@@ -40,4 +60,100 @@ pub fn read_described(alloc: Global, text: &str) -> Result<(Described, Remains),
 {
     let rows = read_rows(alloc, text)?;
     described(alloc, rows)
+}
+
+/// What is left of the rows of a network once it is made of them: of no more use, and many small pieces, which take time to give back.
+#[derive(Debug, Drop)]
+pub struct Remains {
+    links: Sequence<LinkRow>,
+    outages: Sequence<OutageRow>,
+    vls: Sequence<VlRow>,
+}
+
+/// The network that these rows describe, and what is left of them.
+fn described(alloc: Global, rows: Rows) -> Result<(Described, Remains), DescFault>
+    requires { AreWithin rows }
+    ensures { MatchResult result (λ made. IsPlanOf rows made.0) (λ fault. Tells fault (faults_of rows)) }
+{
+    let mut numbered = checked(alloc, &rows)?;
+    sort_vls(&mut numbered.vls)?;
+    let Rows {
+        until,
+        seed,
+        nodes,
+        links,
+        outages,
+        vls,
+        ..
+    } = rows;
+    let nodes = nodes.into_vec();
+    let described = Described::new(until, seed, nodes, numbered);
+    let remains = Remains {
+        links,
+        outages,
+        vls,
+    };
+    Ok((described, remains))
+}
+
+/// Puts virtual links into the order of their numbers.
+fn sort_vls(vls: &mut Vec<Routed>) -> Result<(), DescFault>
+    ensures moved { IsPermutation vls.old.items vls.new.items }
+    ensures in_order { OnOk result (IsNonDecreasing (ids_of vls.new.items)) }
+    ensures memory { IfErr result (λ fault. fault ≡ OutOfMemory) }
+{
+    match vls.sort_by_key(|vl| vl.link().id.0) {
+        Ok(()) => Ok(()),
+        Err(error) => Err(refused(error)),
+    }
+}
+
+/// The rows with numbers in place of names, where they make a network.
+fn checked(alloc: Global, rows: &Rows) -> Result<Numbered, DescFault>
+    ensures { Gives parts_of result (faults_of rows.now) (parts_in rows.now) }
+{
+    let names = match Names::new(alloc, rows.nodes.as_slice()) {
+        Ok(names) => names,
+        Err(error) => return Err(refused(error)),
+    };
+    let numbered = number_rows(alloc, &names, rows)?;
+    check_numbered(alloc, &names, &numbered)?;
+    Ok(numbered)
+}
+
+/// Rows with numbers in place of names have no double names, go over links that may be, have trees, and are within the limits.
+fn check_numbered(alloc: Global, names: &Names, numbered: &Numbered) -> Result<(), DescFault>
+    ensures { Finds result
+        (double_names (plan_in names.now.nodes.now numbered.now)
+        ++ not_links (plan_in names.now.nodes.now numbered.now)
+        ++ not_trees (plan_in names.now.nodes.now numbered.now)
+        ++ too_many (plan_in names.now.nodes.now numbered.now)) }
+{
+    let joined = join_links(alloc, names, numbered)?;
+    check_no_link(alloc, names.nodes, &joined, numbered)?;
+    check_no_tree(alloc, names.nodes, numbered.vls.as_slice())?;
+    check_too_many(
+        alloc,
+        names.nodes,
+        numbered.links.as_slice(),
+        numbered.outages.len(),
+        numbered.vls.as_slice(),
+    )
+}
+
+/// The links, where no name, no pair of nodes and no number of a virtual link is there twice.
+fn join_links<'a>(
+    alloc: Global,
+    names: &Names,
+    numbered: &'a Numbered,
+) -> Result<Joined<'a>, DescFault>
+    ensures { Gives (λ joined. joined.links.now) result
+        (each double_at_node (map node_plan names.now.nodes.now) ++ each double_at_link numbered.now.links.items ++ each double_at_vl numbered.now.vls.items)
+        numbered.now.links.items }
+{
+    double::check_nodes(names)?;
+    let joined = Joined::new(alloc, numbered.links.as_slice())?;
+    double::check_links(&joined)?;
+    double::check_vls(alloc, numbered.vls.as_slice())?;
+    Ok(joined)
 }

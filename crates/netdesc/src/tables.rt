@@ -1,5 +1,19 @@
-use crate::meetings::Meetings;
+//! What is looked up in a network by number.
+ghost use Rattle.std.specs.Prelude.{◌≡◌, ℕ, ◌+◌, ◌*◌, ◌<◌, ◌≤◌, None, Some, is_none, ◌==◌, ◌&&◌, if◌then◌else◌, All, length, vec_len, slice_index_or, IfOk, OnOk, IfErr};
+ghost use Rattle.network_rows.specs.declared.fault.DescFault.TheVariants.{OutOfMemory};
+ghost use Rattle.netdesc.specs.Limits.{greatest_processes};
+ghost use Rattle.netdesc.specs.Lines.{place_of_vl};
+ghost use Rattle.netdesc.specs.Tables.{plan_with, AreTables};
+
+use crate::lines::{line_names, lines_of, losses_of};
+use crate::links::Joined;
+use crate::memory::push;
+use crate::plan::{Numbered, Routed};
+use crate::routes::{Meetings, all_destinations, meetings_of};
 use crate::wiring::{Line, Outage};
+use network_rows::{DescFault, NodeRow};
+use std::alloc::Global;
+use vlink::VlId;
 
 /// What is looked up in a network by number.
 #[derive(Debug, Drop)]
@@ -14,4 +28,73 @@ pub struct Tables {
     pub destinations: Vec<Vec<usize>>,
     /// For each number the place of the virtual link that has it.
     pub places: Vec<Option<usize>>,
+}
+
+/// The list reaches as far as this number; the numbers that come to it have no place.
+fn reach(places: &mut Vec<Option<usize>>, id: VlId) -> Result<(), DescFault>
+    ensures reached { OnOk result (id.0 < vec_len places.new) }
+    ensures same { OnOk result ((n : ℕ) → slice_index_or places.new.items n None ≡ slice_index_or places.old.items n None) }
+    ensures memory { IfErr result (λ fault. fault ≡ OutOfMemory) }
+{
+    for _ in places.len()..usize::from(id.0) + 1 {
+        push(places, None)?;
+    }
+    Ok(())
+}
+
+/// The number has this place, if it had none.
+fn note_place(places: &mut Vec<Option<usize>>, id: usize, place: usize)
+    requires { id < vec_len places.old }
+    ensures noted { (n : ℕ) → slice_index_or places.new.items n None ≡ (if (id == n) && is_none (slice_index_or places.old.items n None) then Some place else slice_index_or places.old.items n None) }
+    ensures len { vec_len places.new ≡ vec_len places.old }
+{
+    if places[id].is_none() {
+        places[id] = Some(place);
+    }
+}
+
+/// For each number the place of the virtual link that has it, as far as the greatest number: so few numbers that are small take little
+/// memory.
+pub fn places_of(alloc: Global, vls: &[Routed]) -> Result<Vec<Option<usize>>, DescFault>
+    ensures places { IfOk result (λ places. (id : ℕ) → slice_index_or places.items id None ≡ place_of_vl vls.now id) }
+    ensures memory { IfErr result (λ fault. fault ≡ OutOfMemory) }
+{
+    let mut places = Vec::new(alloc);
+    for (i, vl) in vls.iter().enumerate() {
+        let agreed = vl.link();
+        reach(&mut places, agreed.id)?;
+        let id = usize::from(agreed.id.0);
+        note_place(&mut places, id, i);
+    }
+    Ok(places)
+}
+
+/// The tables of a network with these nodes, links, outages and virtual links.
+pub fn tables_of(alloc: Global, nodes: &[NodeRow], numbered: &Numbered) -> Result<Tables, DescFault>
+    requires ends { All (λ link. (link.a ≤ length nodes.now) × (link.b ≤ length nodes.now)) numbered.now.links.items }
+    requires few { length nodes.now + 2 * length numbered.now.links.items ≤ greatest_processes }
+    ensures tables { (until seed : ℕ) → IfOk result (AreTables (plan_with until seed nodes.now numbered.now)) }
+    ensures memory { IfErr result (λ fault. fault ≡ OutOfMemory) }
+{
+    let joined = Joined::new(alloc, numbered.links.as_slice())?;
+    let lines = lines_of(alloc, nodes, joined.links)?;
+    let line_names = line_names(alloc, nodes, lines.as_slice())?;
+    let losses = losses_of(alloc, lines.len(), &joined, numbered.outages.as_slice())?;
+    let meetings = meetings_of(
+        alloc,
+        nodes.len() + 1,
+        &joined,
+        lines.as_slice(),
+        numbered.vls.as_slice(),
+    )?;
+    let destinations = all_destinations(alloc, numbered.vls.as_slice())?;
+    let places = places_of(alloc, numbered.vls.as_slice())?;
+    Ok(Tables {
+        lines,
+        line_names,
+        losses,
+        meetings,
+        destinations,
+        places,
+    })
 }

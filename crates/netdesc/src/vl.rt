@@ -1,4 +1,3 @@
-use crate::node_paths::NodePaths;
 use network_rows::Priority;
 use vlink::{FrameSize, VlId};
 
@@ -26,12 +25,4 @@ pub struct VirtualLink {
     pub period_ns: u64,
     /// The greatest delay of an offer, in ns.
     pub jitter_ns: u32,
-}
-
-/// A virtual link with its paths on the networks A and B. A path is a list of nodes.
-#[derive(Debug, Drop)]
-pub struct Routed {
-    pub link: VirtualLink,
-    pub a: NodePaths,
-    pub b: NodePaths,
 }

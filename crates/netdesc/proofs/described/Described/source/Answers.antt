@@ -9,13 +9,13 @@ pub unwrap-requires : goal.unwrap-requires
 unwrap-requires c =
     let vls = c.self.inside.numbered.vls in
     let found = vl-read c.args.self.now vls.items vls.len c.args.vl c.index.result.now (subst IsAccepted c.self.view_is c.self.invariant) (ap (λ p. p.vls) c.self.view_is) vls.ok.0 c.requires c.index.ensures in
-    subst IsSome (sym (c.source_of.ensures ∙ found.1.is)) refl
+    subst IsSome (sym (c.source.ensures ∙ found.1.is)) refl
 
 pub returns : goal.returns
 returns c =
     let plan = c.args.self.now in
     let vls = c.self.inside.numbered.vls in
     let found = vl-read plan vls.items vls.len c.args.vl c.index.result.now (subst IsAccepted c.self.view_is c.self.invariant) (ap (λ p. p.vls) c.self.view_is) vls.ok.0 c.requires c.index.ensures in
-    let is = sym c.source_of.ensures ∙ c.unwrap.ensures in
+    let is = sym c.source.ensures ∙ c.unwrap.ensures in
     let end_system = end-system-is plan.nodes _ c.unwrap.result found.1 is in
     record { value = ap (option_and_then source_of) found.0 ∙ is; node = end-system-below plan.nodes c.unwrap.result end_system; end_system = end_system }

@@ -1,11 +1,9 @@
 use Rattle.std.proofs.Common.{◌≡◌, length, map, ap, sym, ◌∙◌, subst, arith}
 use Rattle.std.specs.Prelude.{All}
 use Rattle.std.proofs.lemmas.List.{length-map}
-use Rattle.netdesc.specs.Rows.{each}
 use Rattle.netdesc.specs.Names.{names_of}
 use Rattle.netdesc.specs.Plan.{node_plan, link_plan, plan_of}
-use Rattle.netdesc.specs.Faults.{double_at_link}
-use Rattle.netdesc.proofs.BuildLemmas.{EndsWithin, links-within, few-processes, links-apart}
+use Rattle.netdesc.proofs.BuildLemmas.{EndsWithin, links-within, few-processes}
 use Rattle.netdesc.proofs.described.Described.tables.Goals as goal
 
 pub tables_of-requires-clause-ends : goal.tables_of-requires-clause-ends
@@ -26,8 +24,3 @@ tables_of-requires-clause-few c =
     let count : length (plan_of rows).nodes ≡ length c.as_slice.result.now =
     sym (ap length accepted.stands.nodes) ∙ length-map c.self.inside.nodes.items node_plan ∙ ap length (sym c.as_slice.ensures.value) in
     omega (arith, few-processes rows accepted.stands.none, links_are, count)
-
-pub tables_of-requires-clause-apart : goal.tables_of-requires-clause-apart
-tables_of-requires-clause-apart c =
-    let accepted = c.self.invariant in
-    ap (each double_at_link) accepted.stands.links ∙ links-apart accepted.rows accepted.stands.none

@@ -1,7 +1,0 @@
-use Rattle.std.proofs.Common.{◌≡◌, take, map, string_bytes}
-use Rattle.netdesc.specs.Plan.{node_plan}
-use Rattle.netdesc.specs.Lines.{line_name}
-use Rattle.netdesc.proofs.finding.line_names.Given as goal
-
-abbrev pub invariant-loop-line : goal.invariant-loop-line
-invariant-loop-line l = map string_bytes l.names.items ≡ map (line_name (map node_plan l.nodes)) (take l.line-index l.lines)

@@ -1,0 +1,11 @@
+use Rattle.std.proofs.Common.{◌≡◌, ℕ, ◌<◌, ◌++◌, drop, vec_len}
+use Rattle.std.specs.Prelude.{filter}
+use Rattle.netdesc.specs.Lines.{is_outage_of}
+use Rattle.netdesc.specs.Views.{outages_at}
+use Rattle.netdesc.proofs.lines.losses_of.Given as goal
+
+abbrev pub invariant-loop-outage : goal.invariant-loop-outage
+invariant-loop-outage l = record {
+  len : vec_len l.table ≡ l.count;
+  put : (k : ℕ) → k < l.count → outages_at l.table k ++ filter (is_outage_of l.joined.links.now k) (drop l.outage-index l.outages) ≡ filter (is_outage_of l.joined.links.now k) l.outages;
+}

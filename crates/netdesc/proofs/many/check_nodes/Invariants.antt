@@ -1,8 +1,0 @@
-use Rattle.std.proofs.Common.{◌≡◌, [], take, map}
-use Rattle.netdesc.specs.Rows.{each}
-use Rattle.netdesc.specs.Plan.{node_plan}
-use Rattle.netdesc.specs.Faults.{too_many_at_node}
-use Rattle.netdesc.proofs.many.check_nodes.Given as goal
-
-abbrev pub invariant-loop-i : goal.invariant-loop-i
-invariant-loop-i l = each (too_many_at_node (map node_plan l.nodes) l.links) (take l.i (map node_plan l.nodes)) ≡ []

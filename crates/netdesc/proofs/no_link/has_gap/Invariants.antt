@@ -1,0 +1,7 @@
+use Rattle.std.proofs.Common.{◌≡◌, drop, map}
+use Rattle.netdesc.specs.Faults.{has_gap}
+use Rattle.netdesc.specs.Views.{items_of}
+use Rattle.netdesc.proofs.no_link.has_gap.Given as goal
+
+abbrev pub invariant-loop-path : goal.invariant-loop-path
+invariant-loop-path l = has_gap l.joined.links.now (map items_of (drop l.path-index l.paths)) ≡ has_gap l.joined.links.now (map items_of l.paths)

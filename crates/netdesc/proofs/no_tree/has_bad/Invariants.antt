@@ -1,0 +1,10 @@
+use Rattle.std.proofs.Common.{◌≡◌, drop, map}
+use Rattle.std.specs.List.{list_any}
+use Rattle.netdesc.specs.Plan.{node_plan}
+use Rattle.netdesc.specs.Trees.{is_bad_path}
+use Rattle.netdesc.specs.Views.{items_of}
+use Rattle.netdesc.proofs.no_tree.has_bad.Given as goal
+
+abbrev pub invariant-loop-path : goal.invariant-loop-path
+invariant-loop-path l =
+    list_any (is_bad_path (map node_plan l.nodes) l.net) (map items_of (drop l.path-index l.paths)) ≡ list_any (is_bad_path (map node_plan l.nodes) l.net) (map items_of l.paths)

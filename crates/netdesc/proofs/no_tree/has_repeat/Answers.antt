@@ -1,0 +1,24 @@
+use Rattle.std.proofs.Common.{◌≡◌, ◌+◌, ◌<◌, true, false, ◌==◌, ◌||◌, length, take, get_or, refl, ap, sym, ◌∙◌, arith}
+use Rattle.std.specs.List.{list_any}
+use Rattle.std.proofs.lemmas.List.Folds.{list_any_more}
+use Rattle.netdesc.proofs.DoubleLemmas.{has_double-more, has_double-taken}
+use Rattle.netdesc.proofs.no_tree.has_repeat.Goals as goal
+
+pub returns-then-contains : goal.returns-then-contains
+returns-then-contains c =
+    let xs = c.args.numbers.now in
+    let i = c.loop-n.n-index in
+    let lt : i < length xs = omega arith in
+    let there : list_any (λ n. n == get_or xs i 0) (take i xs) ≡ true = sym (c.loop-n.invariant.had (get_or xs i 0)) ∙ (sym c.contains.ensures ∙ c.if-contains.true) in
+    sym (has_double-taken xs (i + 1) (has_double-more xs i 0 lt ∙ rw (c.loop-n.invariant.apart, there) refl))
+
+pub loop-n-preserved : goal.loop-n-preserved
+loop-n-preserved c =
+    let xs = c.args.numbers.now in
+    let i = c.loop-n.n-index in
+    let lt : i < length xs = omega arith in
+    let absent : list_any (λ n. n == get_or xs i 0) (take i xs) ≡ false = sym (c.loop-n.invariant.had (get_or xs i 0)) ∙ (sym c.contains.ensures ∙ c.if-contains.false) in
+    record {
+      apart = has_double-more xs i 0 lt ∙ rw (c.loop-n.invariant.apart, absent) refl;
+      had = λ m. c.in_ok-add.ensures.added m ∙ ap (λ b. b || (get_or xs i 0 == m)) (c.loop-n.invariant.had m) ∙ sym (list_any_more (λ n. n == m) xs i 0 lt);
+    }

@@ -1,0 +1,10 @@
+use Rattle.std.proofs.Common.{rules}
+use Rattle.std.proofs.lemmas.List.Sorted.{IsNonDecreasingBy-from_sort_by_key}
+use Rattle.netdesc.specs.Accepted.{id_of}
+use Rattle.netdesc.proofs.BuildLemmas.{rising-map}
+use Rattle.netdesc.proofs.reading.sort_vls.Goals as goal
+
+pub returns-in-Ok-clause-in_order : goal.returns-in-Ok-clause-in_order
+returns-in-Ok-clause-in_order c =
+    let xs = c.sort_by_key.new.self.items in
+    rising-map id_of xs (IsNonDecreasingBy-from_sort_by_key id_of xs c.in-Ok.ensures.sorted (λ a r q k. search rules))

@@ -1,0 +1,7 @@
+use Rattle.std.proofs.Common.{◌≡◌, take, map}
+use Rattle.netdesc.specs.Trees.{destinations_of}
+use Rattle.netdesc.specs.Views.{lists_of}
+use Rattle.netdesc.proofs.routes.all_destinations.Given as goal
+
+abbrev pub invariant-loop-vl : goal.invariant-loop-vl
+invariant-loop-vl l = lists_of l.table ≡ map destinations_of (take l.vl-index l.vls)

@@ -1,0 +1,39 @@
+use Rattle.std.proofs.Common.{◌≡◌, ℕ, ◌+◌, ◌<◌, List, ◌∷◌, ◌++◌, length, drop, get_or, vec_len, ap, sym, ◌∙◌, arith, append_assoc}
+use Rattle.std.specs.List.{flat_map}
+use Rattle.std.proofs.lemmas.List.{drop_more}
+use Rattle.netdesc.specs.declared.wiring.Way.{Way}
+use Rattle.netdesc.specs.declared.routes.End.TheVariants.{From, To}
+use Rattle.netdesc.specs.Plan.{VlPlan}
+use Rattle.netdesc.specs.Lines.{leaves, comes_in, ways_over, route_over}
+use Rattle.netdesc.specs.Views.{ways_at, way_at}
+use Rattle.netdesc.proofs.routes.meetings_of.Goals as goal
+
+-- what one virtual link more puts behind
+met-more : (f : VlPlan → List Way) (vls : List VlPlan) (i : ℕ) (vl : VlPlan) (old new : List Way) → i < length vls → vl ≡ get_or vls i vl
+    → old ++ flat_map f (drop i vls) ≡ flat_map f vls → new ≡ old ++ f vl → new ++ flat_map f (drop (i + 1) vls) ≡ flat_map f vls
+met-more f vls i vl old new lt read before put =
+    ap (λ ws. ws ++ flat_map f (drop (i + 1) vls)) put ∙ append_assoc old (f vl) (flat_map f (drop (i + 1) vls))
+    ∙ ap (λ x. old ++ (f x ++ flat_map f (drop (i + 1) vls))) read ∙ ap (λ xs. old ++ flat_map f xs) (sym (drop_more vls i vl lt)) ∙ before
+
+pub loop-vl-preserved : goal.loop-vl-preserved
+loop-vl-preserved c =
+    let vls = c.args.vls.now in
+    let i = c.loop-vl.vl-index in
+    let vl = c.vl-item.result in
+    let lines = c.args.lines.now in
+    let links = c.args.joined.now.links.now in
+    let lt : i < length vls = omega arith in
+    let there = c.deref.ensures.value ∙ c.in_ok-route.ensures.route in
+    let back = c.deref-in-loop-vl.ensures.value ∙ c.in_ok-route.ensures.route in
+    record {
+      departures_len = c.in_ok-put_route.ensures.len ∙ c.loop-vl.invariant.departures_len;
+      arrivals_len = c.in_ok-put_route-2.ensures.len ∙ c.loop-vl.invariant.arrivals_len;
+      departed = λ node h. met-more (leaves node lines links) vls i vl _ _ lt c.vl-item.is (c.loop-vl.invariant.departed node h)
+          (c.in_ok-put_route.ensures.put node (omega (arith, c.loop-vl.invariant.departures_len))
+          ∙ ap (λ l. ways_at c.loop-vl.departures node ++ ways_over (way_at From node l.id) lines c.deref.result.now) c.link.ensures
+          ∙ ap (λ r. ways_at c.loop-vl.departures node ++ ways_over (way_at From node vl.link.id) lines r) there);
+      arrived = λ node h. met-more (comes_in node lines links) vls i vl _ _ lt c.vl-item.is (c.loop-vl.invariant.arrived node h)
+          (c.in_ok-put_route-2.ensures.put node (omega (arith, c.loop-vl.invariant.arrivals_len))
+          ∙ ap (λ l. ways_at c.loop-vl.arrivals node ++ ways_over (way_at To node l.id) lines c.deref-in-loop-vl.result.now) c.link-in-loop-vl.ensures
+          ∙ ap (λ r. ways_at c.loop-vl.arrivals node ++ ways_over (way_at To node vl.link.id) lines r) back);
+    }

@@ -1,0 +1,110 @@
+//! Links by the nodes that they join.
+ghost use Rattle.std.specs.Prelude.{◌≡◌, ℕ, ◌+◌, ◌^◌, ◌<◌, ◌==◌, if◌then◌else◌, Some, is_some, slice_index, vec_len, count_by, OnOk, IfOk, IfErr};
+ghost use Rattle.network_rows.specs.declared.fault.DescFault.TheVariants.{OutOfMemory};
+ghost use Rattle.std.specs.BTreeMap.{Updates};
+ghost use Rattle.netdesc.specs.Wiring.{link_between, is_linked};
+ghost use Rattle.netdesc.specs.Faults.{touches};
+ghost use Rattle.netdesc.specs.Finding.{AreJoined, pair_cmp};
+
+use crate::memory::refused;
+use crate::wiring::Link;
+use network_rows::DescFault;
+use std::alloc::Global;
+use std::collections::BTreeMap;
+
+/// Links, with the place of the link for each two nodes that one joins.
+#[derive(Drop)]
+pub struct Joined<'a> {
+    pub links: &'a [Link],
+    places: BTreeMap<(usize, usize), usize>,
+    ghost placed: { AreJoined places links.now },
+}
+
+impl<'a> Joined<'a> {
+    /// These links: the place for two nodes is that of the first link that joins them.
+    pub fn new(alloc: Global, links: &'a [Link]) -> Result<Self, DescFault>
+        ensures links { IfOk result (λ joined. joined.links.now ≡ links.now) }
+        ensures memory { IfErr result (λ fault. fault ≡ OutOfMemory) }
+    {
+        let mut places = BTreeMap::new(alloc);
+        for (i, link) in links.iter().enumerate() {
+            if !places.contains_key(&(link.a, link.b)) {
+                put(&mut places, link.b, link.a, i)?;
+                put(&mut places, link.a, link.b, i)?;
+            }
+        }
+        Ok(Joined { links, places })
+    }
+
+    /// The place of the first link that joins these nodes, or none where no link does.
+    pub fn place(&self, x: usize, y: usize) -> Option<usize>
+        ensures place { result ≡ link_between self.now.links.now x y }
+        ensures linked { is_some result ≡ is_linked self.now.links.now x y }
+    {
+        self.places.get(&(x, y)).copied()
+    }
+}
+
+/// Puts the place of the link from `x` to `y` into the map.
+fn put(
+    places: &mut BTreeMap<(usize, usize), usize>,
+    x: usize,
+    y: usize,
+    place: usize,
+) -> Result<(), DescFault>
+    ensures updates { OnOk result (Updates pair_cmp places.old places.new (x, y) (Some place)) }
+    ensures memory { IfErr result (λ fault. fault ≡ OutOfMemory) }
+{
+    match places.insert((x, y), place) {
+        Ok(_) => Ok(()),
+        Err(error) => Err(refused(error)),
+    }
+}
+
+/// One more at the place `k`, if there is such a place.
+fn count_up(counts: &mut Vec<usize>, k: usize)
+    requires { (j : ℕ) → j < vec_len counts.old → slice_index counts.old.items j + 1 < 2 ^ 64 }
+    ensures counted { (j : ℕ) → j < vec_len counts.old → slice_index counts.new.items j ≡ slice_index counts.old.items j + (if k == j then 1 else 0) }
+    ensures len { vec_len counts.new ≡ vec_len counts.old }
+{
+    if k < counts.len() {
+        counts[k] += 1;
+    }
+}
+
+/// One more for each node that the link names.
+pub fn count_link(counts: &mut Vec<usize>, link: Link)
+    requires { (j : ℕ) → j < vec_len counts.old → slice_index counts.old.items j + 2 < 2 ^ 64 }
+    ensures counted { (j : ℕ) → j < vec_len counts.old → slice_index counts.new.items j ≡ slice_index counts.old.items j + (if touches j link then 1 else 0) }
+    ensures len { vec_len counts.new ≡ vec_len counts.old }
+{
+    count_up(counts, link.a);
+    if link.b != link.a {
+        count_up(counts, link.b);
+    }
+}
+
+/// For each of `count` nodes none.
+pub fn no_counts(alloc: Global, count: usize) -> Result<Vec<usize>, DescFault>
+    ensures counts { IfOk result (λ counts. (j : ℕ) → slice_index counts.items j ≡ 0) }
+    ensures len { IfOk result (λ counts. vec_len counts ≡ count) }
+    ensures memory { IfErr result (λ fault. fault ≡ OutOfMemory) }
+{
+    match vec![in alloc; 0usize; count] {
+        Ok(counts) => Ok(counts),
+        Err(error) => Err(refused(error)),
+    }
+}
+
+/// For each of `count` nodes, how many links name it.
+pub fn link_counts(alloc: Global, count: usize, links: &[Link]) -> Result<Vec<usize>, DescFault>
+    ensures counts { IfOk result (λ counts. (j : ℕ) → j < count → slice_index counts.items j ≡ count_by (touches j) links.now) }
+    ensures len { IfOk result (λ counts. vec_len counts ≡ count) }
+    ensures memory { IfErr result (λ fault. fault ≡ OutOfMemory) }
+{
+    let mut counts = no_counts(alloc, count)?;
+    for link in links {
+        count_link(&mut counts, *link);
+    }
+    Ok(counts)
+}

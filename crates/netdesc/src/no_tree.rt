@@ -1,0 +1,225 @@
+//! Paths of a virtual link that are no tree.
+ghost use Rattle.std.specs.Prelude.{◌≡◌, ⊤, [], ◌∷◌, ◌++◌, true, List, Contains, MatchBool, map, not, ◌||◌, IfOk, IfErr};
+ghost use Rattle.network_rows.specs.declared.fault.DescFault.TheVariants.{OutOfMemory};
+ghost use Rattle.std.specs.List.{list_any};
+ghost use Rattle.std.specs.Option.{option_copied};
+ghost use Rattle.netdesc.specs.declared.wiring.Step.{Step};
+ghost use Rattle.netdesc.specs.Rows.{each};
+ghost use Rattle.netdesc.specs.Plan.{node_plan};
+ghost use Rattle.netdesc.specs.Wiring.{passes, is_end_system, is_switch_of};
+ghost use Rattle.netdesc.specs.Trees.{inner_of, is_bad_path, differ, begin_apart, has_double, is_other_way, has_other_way, is_no_tree};
+ghost use Rattle.netdesc.specs.Faults.{no_tree_at_vl};
+ghost use Rattle.netdesc.specs.Finding.{Finds, AreWays};
+ghost use Rattle.netdesc.specs.Views.{Tests, items_of};
+
+use crate::each::{Check, check_each, key_at};
+use crate::kinds::{is_end_system, is_switch_of};
+use crate::memory::{add, refused};
+use crate::plan::{Routed, source_among};
+use crate::steps::{push_all, push_ends};
+use crate::wiring::Step;
+use network_rows::{DescFault, Key, NodeRow, Section};
+use std::alloc::Global;
+use std::collections::{BTreeMap, BTreeSet};
+use vlink::Net;
+
+/// There is a node, and it is an end system.
+fn is_at_end_system(nodes: &[NodeRow], node: Option<&usize>) -> bool
+    ensures { result ≡ passes (is_end_system (map node_plan nodes.now)) (option_copied node.entry) }
+{
+    match node {
+        Some(n) => is_end_system(nodes, *n),
+        None => false,
+    }
+}
+
+/// One of these nodes is no switch of the network.
+fn has_other(nodes: &[NodeRow], net: Net, inner: &[usize]) -> bool
+    ensures { result ≡ list_any (λ node. not (is_switch_of (map node_plan nodes.now) net node)) inner.now }
+{
+    for node in inner {
+        if !is_switch_of(nodes, net, *node) {
+            return true;
+        }
+    }
+    false
+}
+
+/// What is between the two ends of a path.
+fn inner_of(path: &[usize]) -> &[usize]
+    ensures { result.now ≡ inner_of path.now }
+{
+    match path.split_first() {
+        Some((_, others)) => match others.split_last() {
+            Some((_, inner)) => inner,
+            None => others,
+        },
+        None => path,
+    }
+}
+
+/// The path does not begin and end at an end system, or an inner node is no switch of the network, or a node is there twice.
+fn is_bad_path(nodes: &[NodeRow], net: Net, path: &[usize]) -> bool
+    ensures { result ≡ is_bad_path (map node_plan nodes.now) net path.now }
+{
+    !is_at_end_system(nodes, path.first())
+        || !is_at_end_system(nodes, path.last())
+        || has_other(nodes, net, inner_of(path))
+        || has_double(path)
+}
+
+/// Both are there and they differ.
+fn differ(x: Option<usize>, y: Option<usize>) -> bool
+    ensures { result ≡ differ x y }
+{
+    match (x, y) {
+        (Some(x), Some(y)) => x != y,
+        _ => false,
+    }
+}
+
+/// A number is there twice. For few numbers: each is compared with all behind it.
+pub fn has_double(numbers: &[usize]) -> bool
+    ensures { result ≡ has_double numbers.now }
+{
+    let mut rest = numbers;
+    while let Some((first, others)) = rest.split_first() {
+        if others.contains(first) {
+            return true;
+        }
+        rest = others;
+    }
+    false
+}
+
+/// A number is there twice. For any number of them: each is sought in a set of those before it.
+fn has_repeat(alloc: Global, numbers: &[usize]) -> Result<bool, DescFault>
+    ensures { Tests result (has_double numbers.now) }
+{
+    let mut seen = BTreeSet::new(alloc);
+    for n in numbers {
+        if seen.contains(n) {
+            return Ok(true);
+        }
+        add(&mut seen, *n)?;
+    }
+    Ok(false)
+}
+
+/// One of these paths is a bad one, or begins at another node than the first one.
+fn has_bad_path(nodes: &[NodeRow], net: Net, paths: &[Vec<usize>]) -> bool
+    ensures { result ≡ (list_any (is_bad_path (map node_plan nodes.now) net) (map items_of paths.now) || begin_apart (map items_of paths.now)) }
+{
+    has_bad(nodes, net, paths) || begin_apart(paths)
+}
+
+/// One of these paths is a bad one.
+fn has_bad(nodes: &[NodeRow], net: Net, paths: &[Vec<usize>]) -> bool
+    ensures { result ≡ list_any (is_bad_path (map node_plan nodes.now) net) (map items_of paths.now) }
+{
+    for path in paths {
+        if is_bad_path(nodes, net, path.as_slice()) {
+            return true;
+        }
+    }
+    false
+}
+
+/// Two of these paths begin at different nodes.
+fn begin_apart(paths: &[Vec<usize>]) -> bool
+    ensures { result ≡ begin_apart (map items_of paths.now) }
+{
+    let source = source_among(paths);
+    for path in paths {
+        if differ(source, path.first().copied()) {
+            return true;
+        }
+    }
+    false
+}
+
+/// The step leads to a node that was reached from another one; else it joins the ways that were found.
+fn is_other_way(ways: &mut BTreeMap<usize, usize>, step: Step) -> Result<bool, DescFault>
+    ensures other { (steps : List Step) → AreWays ways.old steps → IfOk result (λ other. MatchBool other
+        ((s : Step) × Contains steps s × (is_other_way s step ≡ true)) (AreWays ways.new (steps ++ step ∷ []))) }
+    ensures memory { IfErr result (λ fault. fault ≡ OutOfMemory) }
+{
+    match ways.get(&step.to) {
+        Some(from) => Ok(*from != step.from),
+        None => match ways.insert(step.to, step.from) {
+            Ok(_) => Ok(false),
+            Err(error) => Err(refused(error)),
+        },
+    }
+}
+
+/// Two of these steps lead to one node from different ones.
+pub fn has_other_way(alloc: Global, steps: &[Step]) -> Result<bool, DescFault>
+    ensures { Tests result (has_other_way steps.now) }
+{
+    let mut ways = BTreeMap::new(alloc);
+    for step in steps {
+        if is_other_way(&mut ways, *step)? {
+            return Ok(true);
+        }
+    }
+    Ok(false)
+}
+
+/// The paths of one network are no tree.
+fn is_no_tree(
+    alloc: Global,
+    nodes: &[NodeRow],
+    net: Net,
+    paths: &[Vec<usize>],
+) -> Result<bool, DescFault>
+    ensures { Tests result (is_no_tree (map node_plan nodes.now) net (map items_of paths.now)) }
+{
+    if has_bad_path(nodes, net, paths) {
+        return Ok(true);
+    }
+    let mut ends = Vec::new(alloc);
+    push_ends(&mut ends, paths)?;
+    if has_repeat(alloc, &ends)? {
+        return Ok(true);
+    }
+    let mut steps = Vec::new(alloc);
+    push_all(&mut steps, paths)?;
+    has_other_way(alloc, &steps)
+}
+
+/// The paths of each virtual link are trees from one source.
+#[derive(Drop)]
+struct Vls<'a> {
+    alloc: Global,
+    nodes: &'a [NodeRow],
+}
+
+impl<'a> Check for Vls<'a> {
+    type Row = Routed;
+
+    type Kept = ();
+
+    ghost faults = { λ s. no_tree_at_vl (map node_plan s.nodes.now) };
+
+    ghost keeps = { λ _ _ _. ⊤ };
+
+    fn check(&self, _kept: &mut (), i: usize, vl: &Routed) -> Result<(), DescFault> {
+        let has_none = vl.a().is_empty() && vl.b().is_empty();
+        if has_none || is_no_tree(self.alloc, self.nodes, Net::A, vl.a())? {
+            return Err(DescFault::NotATree(key_at(Section::Vl, i, Key::A)));
+        }
+        let begin_apart = differ(source_among(vl.a()), source_among(vl.b()));
+        if is_no_tree(self.alloc, self.nodes, Net::B, vl.b())? || begin_apart {
+            return Err(DescFault::NotATree(key_at(Section::Vl, i, Key::B)));
+        }
+        Ok(())
+    }
+}
+
+/// The paths of each virtual link are trees from one source.
+pub fn check_no_tree(alloc: Global, nodes: &[NodeRow], vls: &[Routed]) -> Result<(), DescFault>
+    ensures { Finds result (each (no_tree_at_vl (map node_plan nodes.now)) vls.now) }
+{
+    check_each(&Vls { alloc, nodes }, &mut (), vls)
+}
