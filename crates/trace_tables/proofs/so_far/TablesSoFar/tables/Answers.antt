@@ -1,3 +1,4 @@
+use Rattle.std.proofs.Common.{◌∙◌}
 use Rattle.trace_tables.specs.SoFar.{AreInTables}
 use Rattle.trace_tables.proofs.SoFarLemmas.{all-so-far, tables-in}
 use Rattle.trace_tables.proofs.so_far.TablesSoFar.tables.Goals as goal
