@@ -1,12 +1,16 @@
 -- Why a one-thread run was given up, as a fault of the program.
-use Rattle.std.proofs.Common.{◌≡◌, ℕ, Result, Err, refl, sym, subst}
+use Rattle.std.proofs.Common.{◌≡◌, ℕ, List, Result, Err, sym, ap, subst}
 use Rattle.nodes.specs.Simulation.{simulation_of}
 use Rattle.netdesc.specs.Plan.{Plan}
 use Rattle.actor_run.specs.Running.{IsExhaustedAt}
 use Rattle.actor_run.specs.declared.fault.SimFault.{SimFault}
 use Rattle.actor_run.specs.declared.fault.SimFault.TheVariants as sim
 use Rattle.afdxsim.specs.declared.fault.Fault.{Fault}
-use Rattle.afdxsim.specs.Sequencing.{fault_of_run, IsFaultOfRun}
+use Rattle.vlink.specs.declared.note.Row.{Row as Noted}
+use Rattle.trace_tables.specs.Tables.{TableLists, tables_of}
+use Rattle.trace_tables.specs.Text.{tables_text}
+use Rattle.seqsim.specs.Networks.{AreRowsOf}
+use Rattle.afdxsim.specs.Sequencing.{fault_of_run, IsFaultOfRun, IsTablesText}
 
 -- a run's own fault is named
 pub given_up : {X : Type 0} (plan : Plan) (r : Result X SimFault) (e : SimFault) (fault : Fault) → r ≡ Err e →
@@ -16,3 +20,8 @@ given_up plan r e fault is exhausted named = subst (IsFaultOfRun plan) (sym name
     of : (e : SimFault) → r ≡ Err e → IsFaultOfRun plan (fault_of_run e)
     of sim.OutOfMemory is = tt
     of sim.Exhausted is = exhausted is
+
+-- the text of the tables of a run
+pub tables_made : (plan : Plan) (tables : TableLists) (rows : List Noted) → AreRowsOf plan rows → tables ≡ tables_of plan rows →
+    IsTablesText plan (tables_text plan tables)
+tables_made plan tables rows are is = (rows, are, ap (tables_text plan) is)

@@ -1,5 +1,5 @@
 //! `seq NET [--trace FILE]`: the one-thread run of a network.
-ghost use Rattle.std.specs.Prelude.{◌≡◌, ◌≢◌, ◌⊎◌, ℕ, List, IfErr, OnOk, option_map};
+ghost use Rattle.std.specs.Prelude.{◌≡◌, ◌≢◌, ◌⊎◌, ℕ, List, IfErr, IfOk, OnOk, option_map};
 ghost use Rattle.netdesc.specs.Plan.{Plan};
 ghost use Rattle.trace_tables.specs.Text.{tables_text, trace_text};
 ghost use Rattle.afdxsim.specs.declared.fault.Fault.TheVariants.{CannotWrite};
@@ -11,7 +11,7 @@ use crate::fault::Fault;
 use crate::host::Host;
 use crate::reading::network_of;
 use netdesc::Network;
-use seqsim::{run, run_tables_with_remains};
+use seqsim::{Finished, run, run_tables_with_remains};
 use std::alloc::Global;
 use std::mem::forget;
 use trace_tables::{OutFault, Sink, Tables, write_csv, write_trace};
@@ -71,6 +71,27 @@ fn keep_trace<'a, H: Host>(
     }
 }
 
+/// The tables of the one-thread run of the network.
+#[tactic(auto, using(crate::proofs::Running::tables_made, crate::proofs::Running::given_up))]
+fn tables_of_run(alloc: Global, network: &Network) -> Result<Tables, Fault<'static>>
+    ensures text { IfOk result (λ tables. IsTablesText network.now (tables_text network.now tables)) }
+    ensures fault { IfErr result (IsFaultOfRun network.now) }
+{
+    let (tables, remains) = run_tables_with_remains(alloc, network)?;
+    // The process ends soon, and the system takes at once what piece by piece takes longer.
+    forget(remains);
+    Ok(tables)
+}
+
+/// The one-thread run of the network, with its rows.
+#[tactic(auto, using(crate::proofs::Running::tables_made, crate::proofs::Running::given_up))]
+fn whole_run(alloc: Global, network: &Network) -> Result<Finished, Fault<'static>>
+    ensures text { IfOk result (λ finished. IsTablesText network.now (tables_text network.now finished.tables)) }
+    ensures fault { IfErr result (IsFaultOfRun network.now) }
+{
+    Ok(run(alloc, network)?)
+}
+
 /// Simulates the network on one thread, and writes its tables on standard output.
 fn run_to_tables<H: Host>(
     alloc: Global,
@@ -82,9 +103,7 @@ fn run_to_tables<H: Host>(
     ensures kept { IfErr result (λ fault. fault ≢ CannotWrite → H.output host.new ≡ H.output host.old) }
     ensures errors { H.errors host.new ≡ H.errors host.old }
 {
-    let (tables, remains) = run_tables_with_remains(alloc, network)?;
-    // The process ends soon, and the system takes at once what piece by piece takes longer.
-    forget(remains);
+    let tables = tables_of_run(alloc, network)?;
     show_tables(alloc, network, &tables, host.output())
 }
 
@@ -101,7 +120,7 @@ fn run_to_trace<'a, H: Host>(
     ensures kept { IfErr result (λ fault. fault ≢ CannotWrite → H.output host.new ≡ H.output host.old) }
     ensures errors { H.errors host.new ≡ H.errors host.old }
 {
-    let finished = run(alloc, network)?;
+    let finished = whole_run(alloc, network)?;
     keep_trace(alloc, network, finished.rows.as_slice(), path, host)?;
     show_tables(alloc, network, &finished.tables, host.output())
 }
