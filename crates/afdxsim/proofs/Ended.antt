@@ -1,5 +1,5 @@
 -- A command that was done, or whose fault was told, has ended.
-use Rattle.std.proofs.Common.{◌≡◌, ◌∙◌, ◌⊎◌, ℕ, inl, inr, List, [], ◌∷◌, Option, Some, None, Result, Ok, Err, refl, sym, ap, subst, arith}
+use Rattle.std.proofs.Common.{◌≡◌, ◌∙◌, ◌⊎◌, ℕ, inl, inr, List, [], ◌∷◌, Option, Some, Result, Ok, Err, refl, sym, subst, arith}
 use Rattle.std.specs.Prelude.{◌≢◌, OnOk, IfErr, option_map, codes, string_bytes}
 use Rattle.clap.specs.Words.{IsAmong, Text, first_of}
 use Rattle.clap.specs.declared.error.kind.ErrorKind.{ErrorKind}
@@ -19,11 +19,9 @@ use Rattle.afdxsim.specs.Performing.{EndsCheck, EndsSeq, found_in}
 use Rattle.afdxsim.specs.Reading.{GivesNetwork, IsFaultOfNet}
 use Rattle.afdxsim.specs.Sequencing.{IsFaultOfSeq, IsTablesText}
 
--- the first of some letters
-first_letter : Option Text → ℕ
-first_letter None = 0
-first_letter (Some []) = 0
-first_letter (Some (c ∷ cs)) = c
+-- texts that are the same begin with the same letter
+same_first : (x y : ℕ) (xs ys : Text) → Some (x ∷ xs) ≡ Some (y ∷ ys) → x ≡ y
+same_first x y xs ys is = cc
 
 some_same : (x y : Text) → Some x ≡ Some y → x ≡ y
 some_same x y is = cc
@@ -71,6 +69,10 @@ module _ {O E : Type 0} (r : Result (Unit {0}) Fault) (status : ℕ) (took : O �
       (ended (λ o. (plan : Plan) × (text : List ℕ) × GivesNetwork (gives path) plan × IsTablesText plan text × Took took o₀ o text)
       (λ o fault. IsFaultOfSeq (gives path) path given (IsFaultOfOutput failed o₀ o) fault) done met kept quiet zero told same))
 
+-- what holds of the order that was named
+pub of_named : (order : Order) (x : Seq) (P : Seq → Type 0) → order ≡ ordered.Seq x → P x → (o : Seq) → order ≡ ordered.Seq o → P o
+of_named order x P is holds o named = let same : x ≡ o = cc in subst P same holds
+
 -- the order of words that name a command
 module _ {O E : Type 0} (words : List Text) (status : ℕ) (gives : List ℕ → Option (List ℕ) → Type 0) (net : List ℕ)
     (took : O → Option (List ℕ)) (failed : O → ℕ) (o o' : O) (said : E → Option (List ℕ)) (unsaid : E → ℕ) (e e' : E) where
@@ -80,9 +82,9 @@ module _ {O E : Type 0} (words : List Text) (status : ℕ) (gives : List ℕ →
       EndsCheck (gives net) net took failed o o' said unsaid e e' status
   check_words (ordered.Check c) is names ends named given =
       subst (λ (n : List ℕ). EndsCheck (gives n) n took failed o o' said unsaid e e' status) (some_same (string_bytes c.net) net (sym names.net ∙ given)) (ends c refl)
-  check_words (ordered.Seq c) is names ends named given = absurd (let bad : 115 ≡ 99 = ap first_letter (sym is ∙ named) in omega arith)
-  check_words (ordered.Run c) is names ends named given = absurd (let bad : 114 ≡ 99 = ap first_letter (sym is ∙ named) in omega arith)
-  check_words (ordered.Replay c) is names ends named given = absurd (let bad : 114 ≡ 99 = ap first_letter (sym is ∙ named) in omega arith)
+  check_words (ordered.Seq c) is names ends named given = absurd (let bad : 115 ≡ 99 = same_first 115 99 _ _ (sym is ∙ named) in omega arith)
+  check_words (ordered.Run c) is names ends named given = absurd (let bad : 114 ≡ 99 = same_first 114 99 _ _ (sym is ∙ named) in omega arith)
+  check_words (ordered.Replay c) is names ends named given = absurd (let bad : 114 ≡ 99 = same_first 114 99 _ _ (sym is ∙ named) in omega arith)
 
   pub seq_words : (order : Order) → command_in words ≡ Some (command_of order) → Names (rows_in words) order →
       ((c : Seq) → order ≡ ordered.Seq c → EndsSeq (gives (string_bytes c.net)) (string_bytes c.net) (option_map string_bytes c.trace) took failed o o' said unsaid e e' status) →
@@ -91,9 +93,9 @@ module _ {O E : Type 0} (words : List Text) (status : ℕ) (gives : List ℕ →
   seq_words (ordered.Seq c) is names ends named given =
       subst (λ (n : List ℕ). EndsSeq (gives n) n (first_of (codes "trace") (rows_in words)) took failed o o' said unsaid e e' status) (some_same (string_bytes c.net) net (sym names.net ∙ given))
       (subst (λ (t : Option (List ℕ)). EndsSeq (gives (string_bytes c.net)) (string_bytes c.net) t took failed o o' said unsaid e e' status) (sym names.trace) (ends c refl))
-  seq_words (ordered.Check c) is names ends named given = absurd (let bad : 99 ≡ 115 = ap first_letter (sym is ∙ named) in omega arith)
-  seq_words (ordered.Run c) is names ends named given = absurd (let bad : 114 ≡ 115 = ap first_letter (sym is ∙ named) in omega arith)
-  seq_words (ordered.Replay c) is names ends named given = absurd (let bad : 114 ≡ 115 = ap first_letter (sym is ∙ named) in omega arith)
+  seq_words (ordered.Check c) is names ends named given = absurd (let bad : 99 ≡ 115 = same_first 99 115 _ _ (sym is ∙ named) in omega arith)
+  seq_words (ordered.Run c) is names ends named given = absurd (let bad : 114 ≡ 115 = same_first 114 115 _ _ (sym is ∙ named) in omega arith)
+  seq_words (ordered.Replay c) is names ends named given = absurd (let bad : 114 ≡ 115 = same_first 114 115 _ _ (sym is ∙ named) in omega arith)
 
   -- words that are accepted, where memory was refused before they were an order
   memory : (k : ErrorKind) → found_in words ≡ [] → (k ≡ kind.OutOfMemory) ⊎ IsAmong k (found_in words) → k ≡ kind.OutOfMemory

@@ -1,12 +1,13 @@
 -- The status of words, by the kind of clap's error.
-use Rattle.std.proofs.Common.{◌≡◌, ◌⊎◌, ℕ, inl, inr, List, [], ◌∷◌, arith, subst}
-use Rattle.std.specs.Prelude.{◌≢◌, Some, codes}
+use Rattle.std.proofs.Common.{◌≡◌, ◌∙◌, ◌⊎◌, ℕ, inl, inr, List, [], ◌∷◌, arith, sym, ap, subst}
+use Rattle.std.specs.Prelude.{◌≢◌, Some, codes, map}
+use Rattle.std.specs.List.{slice_get}
+use Rattle.std.proofs.lemmas.Option.{none-some}
 use Rattle.clap.specs.declared.error.kind.ErrorKind.{ErrorKind}
 use Rattle.clap.specs.declared.error.kind.ErrorKind.TheVariants.{OutOfMemory}
 use Rattle.clap.specs.Words.{IsAmong, Kinds, Text}
-use Rattle.command_line.specs.Meaning.{command_in}
 use Rattle.afdxsim.specs.Words.{AsksFor, AsksForText}
-use Rattle.afdxsim.specs.Performing.{AnswersWords, HasMistake, found_in}
+use Rattle.afdxsim.specs.Performing.{AnswersWords, HasMistake, IsFirst, found_in}
 use Rattle.afdxsim.proofs.Asking.{among-asks}
 
 among-mistakes : (kind : ErrorKind) (kinds : Kinds) → IsAmong kind kinds → ¬ (AsksFor kind) → HasMistake kinds
@@ -50,12 +51,8 @@ answered words kind status has known memory only_done only_shown only_mistake =
       ];
     }
 
--- the answer to words that are accepted
-pub accepted : (words : List Text) (status : ℕ) → found_in words ≡ [] → (status ≡ 2 → command_in words ≡ Some (codes "run")) → AnswersWords words status
-accepted words status is lacks =
-    record {
-      bad_words = λ two. inr (lacks two);
-      mistaken = λ some none. absurd (some is);
-      done = λ zero. inl is;
-      asked = λ some none. absurd (some is);
-    }
+-- the first of the words, as a read of it gives it
+pub first_word : {W : Type 0} (text : W → Text) (words : List W) (word : W) → Some word ≡ slice_get words 0 → text word ≡ codes "first" →
+    IsFirst (map text words)
+first_word text [] word is same = none-some word (sym is)
+first_word text (w ∷ ws) word is same = let it : w ≡ word = cc in ap text it ∙ same

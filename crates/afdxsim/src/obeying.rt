@@ -31,7 +31,6 @@ fn end<H: Host>(alloc: Global, outcome: Result<(), Fault<'_>>, host: &mut H) -> 
 }
 
 /// Does `check NET`.
-#[tactic(auto, using(crate::proofs::Ended::ended_check))]
 fn obey_check<H: Host>(alloc: Global, order: &Check, host: &mut H) -> u8
     ensures status { (result ≡ 0) ⊎ (result ≡ 3) ⊎ (result ≡ 4) ⊎ (result ≡ 5) }
     ensures ends { EndsCheck (H.gives host.old (string_bytes order.now.net)) (string_bytes order.now.net)
@@ -53,7 +52,6 @@ fn path_in(trace: &Option<String>) -> Option<&str>
 }
 
 /// Does `seq NET [--trace FILE]`.
-#[tactic(auto, using(crate::proofs::Ended::ended_seq))]
 fn obey_seq<H: Host>(alloc: Global, order: &Seq, host: &mut H) -> u8
     ensures status { (result ≡ 0) ⊎ (result ≡ 3) ⊎ (result ≡ 4) ⊎ (result ≡ 5) }
     ensures ends { EndsSeq (H.gives host.old (string_bytes order.now.net)) (string_bytes order.now.net) (option_map string_bytes order.now.trace)

@@ -1,5 +1,5 @@
 //! The whole program: from its words to its status.
-ghost use Rattle.std.specs.Prelude.{◌≡◌, [], ℕ, List, map, option_map, codes};
+ghost use Rattle.std.specs.Prelude.{◌≡◌, [], ℕ, List, true, map, option_map, codes};
 ghost use Rattle.clap.specs.Words.{first_of};
 ghost use Rattle.command_line.specs.Meaning.{command_in, rows_in};
 ghost use Rattle.afdxsim.specs.Telling.{IsStatus};
@@ -37,9 +37,24 @@ pub fn perform<'a, S: AsStr, H: Host>(alloc: Global, words: &'a [S], host: &mut 
         H.Output.taken H.Output.failures (H.output host.old) (H.output host.new)
         H.Errors.taken H.Errors.failures (H.errors host.old) (H.errors host.new) result }
 {
+    if is_first(words) {
+        perform_first(alloc, words, host)
+    } else {
+        perform_words(alloc, words, host)
+    }
+}
+
+/// Whether the first of the words is `first`.
+#[tactic(auto, using(crate::proofs::Statuses::first_word))]
+fn is_first<S: AsStr>(words: &[S]) -> bool
+    ensures { result ≡ true → IsFirst (map S.text words.now) }
+{
     match words.first() {
-        Some(word) if word.as_str() == "first" => perform_first(alloc, words, host),
-        _ => perform_words(alloc, words, host),
+        Some(word) => match word.as_str() {
+            "first" => true,
+            _ => false,
+        },
+        None => false,
     }
 }
 
@@ -57,7 +72,6 @@ fn perform_first<'a, S: AsStr, H: Host>(alloc: Global, words: &'a [S], host: &mu
 }
 
 /// What the words order, or the answer to words that are no order.
-#[tactic(auto, using(crate::proofs::Statuses::answered, crate::proofs::Statuses::accepted, crate::proofs::Ended::check_words, crate::proofs::Ended::seq_words, crate::proofs::Ended::check_memory, crate::proofs::Ended::seq_memory,))]
 fn perform_words<'a, S: AsStr, H: Host>(alloc: Global, words: &'a [S], host: &mut H) -> u8
     ensures status { IsStatus result }
     ensures words { AnswersWords (map S.text words.entry.now) result }

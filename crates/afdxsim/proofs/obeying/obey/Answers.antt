@@ -1,0 +1,15 @@
+use Rattle.std.proofs.Common.{option_map, string_bytes}
+use Rattle.command_line.specs.declared.orders.Seq.{Seq}
+use Rattle.afdxsim.specs.Performing.{EndsSeq}
+use Rattle.afdxsim.proofs.Ended.{of_named}
+use Rattle.afdxsim.proofs.obeying.obey.Goals as goal
+
+pub returns-in-Seq-clause-seq : goal.returns-in-Seq-clause-seq
+returns-in-Seq-clause-seq g c =
+    let before = c.args.host.now in
+    let after = c.obey_seq.new.host in
+    of_named c.args.order.now c.in-Seq.order
+    (λ (o : Seq). EndsSeq (g.H.Host.gives before (string_bytes o.net)) (string_bytes o.net) (option_map string_bytes o.trace)
+    g.H.Output.Sink.taken g.H.Output.Sink.failures (g.H.Host.output before) (g.H.Host.output after)
+    g.H.Errors.Sink.taken g.H.Errors.Sink.failures (g.H.Host.errors before) (g.H.Host.errors after) c.obey_seq.result)
+    c.in-Seq.is c.obey_seq.ensures.ends

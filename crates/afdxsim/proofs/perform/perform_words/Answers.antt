@@ -1,0 +1,49 @@
+use Rattle.std.proofs.Common.{codes, map}
+use Rattle.clap.specs.Words.{first_of}
+use Rattle.clap.specs.Values.{kind_of}
+use Rattle.command_line.specs.Meaning.{rows_in}
+use Rattle.afdxsim.proofs.Statuses.{answered}
+use Rattle.afdxsim.proofs.Ended.{check_words, seq_words, check_memory, seq_memory}
+use Rattle.afdxsim.proofs.perform.perform_words.Goals as goal
+
+pub returns-in-Ok-clause-check : goal.returns-in-Ok-clause-check
+returns-in-Ok-clause-check g c = λ none named net given.
+    let output = g.H.Host.output in
+    let errors = g.H.Host.errors in
+    check_words (map g.S.AsStr.text c.args.words.now) c.obey.result (g.H.Host.gives c.args.host.now) net
+    g.H.Output.Sink.taken g.H.Output.Sink.failures (output c.args.host.now) (output c.obey.new.host)
+    g.H.Errors.Sink.taken g.H.Errors.Sink.failures (errors c.args.host.now) (errors c.obey.new.host)
+    c.in-Ok.order c.in-Ok.ensures.command c.in-Ok.ensures.names c.obey.ensures.check named given
+
+pub returns-in-Ok-clause-seq : goal.returns-in-Ok-clause-seq
+returns-in-Ok-clause-seq g c = λ none named net given.
+    let output = g.H.Host.output in
+    let errors = g.H.Host.errors in
+    seq_words (map g.S.AsStr.text c.args.words.now) c.obey.result (g.H.Host.gives c.args.host.now) net
+    g.H.Output.Sink.taken g.H.Output.Sink.failures (output c.args.host.now) (output c.obey.new.host)
+    g.H.Errors.Sink.taken g.H.Errors.Sink.failures (errors c.args.host.now) (errors c.obey.new.host)
+    c.in-Ok.order c.in-Ok.ensures.command c.in-Ok.ensures.names c.obey.ensures.seq named given
+
+pub returns-in-Err-clause-words : goal.returns-in-Err-clause-words
+returns-in-Err-clause-words g c =
+    let by = c.answer.ensures in
+    answered (map g.S.AsStr.text c.args.words.now) (kind_of c.in-Err.error) c.answer.result c.in-Err.ensures.mistake
+    by.status by.memory by.only_done by.only_shown by.only_mistake
+
+pub returns-in-Err-clause-check : goal.returns-in-Err-clause-check
+returns-in-Err-clause-check g c = λ none named net given.
+    let output = g.H.Host.output in
+    let errors = g.H.Host.errors in
+    check_memory (map g.S.AsStr.text c.args.words.now) c.answer.result (g.H.Host.gives c.args.host.now) net
+    g.H.Output.Sink.taken g.H.Output.Sink.failures (output c.args.host.now) (output c.answer.new.host)
+    g.H.Errors.Sink.taken g.H.Errors.Sink.failures (errors c.args.host.now) (errors c.answer.new.host)
+    (kind_of c.in-Err.error) none c.in-Err.ensures.mistake c.answer.ensures.told c.answer.ensures.output
+
+pub returns-in-Err-clause-seq : goal.returns-in-Err-clause-seq
+returns-in-Err-clause-seq g c = λ none named net given.
+    let output = g.H.Host.output in
+    let errors = g.H.Host.errors in
+    seq_memory (map g.S.AsStr.text c.args.words.now) c.answer.result (g.H.Host.gives c.args.host.now) net
+    g.H.Output.Sink.taken g.H.Output.Sink.failures (output c.args.host.now) (output c.answer.new.host)
+    g.H.Errors.Sink.taken g.H.Errors.Sink.failures (errors c.args.host.now) (errors c.answer.new.host)
+    (kind_of c.in-Err.error) (first_of (codes "trace") (rows_in (map g.S.AsStr.text c.args.words.now))) none c.in-Err.ensures.mistake c.answer.ensures.told c.answer.ensures.output
