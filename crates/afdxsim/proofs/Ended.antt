@@ -17,7 +17,7 @@ use Rattle.afdxsim.specs.Telling.{TellsOne}
 use Rattle.afdxsim.specs.Ending.{Ends, IsFaultOfOutput, Told, Took}
 use Rattle.afdxsim.specs.Performing.{EndsCheck, EndsSeq, found_in}
 use Rattle.afdxsim.specs.Reading.{GivesNetwork, IsFaultOfNet}
-use Rattle.afdxsim.specs.Sequencing.{IsFaultOfSeq, IsTablesText}
+use Rattle.afdxsim.specs.Sequencing.{IsFaultOfRun, IsFaultOfSeq, IsFaultOfTrace, IsTablesText}
 
 -- texts that are the same begin with the same letter
 same_first : (x y : ℕ) (xs ys : Text) → Some (x ∷ xs) ≡ Some (y ∷ ys) → x ≡ y
@@ -69,7 +69,35 @@ module _ {O E : Type 0} (r : Result (Unit {0}) Fault) (status : ℕ) (took : O �
       (ended (λ o. (plan : Plan) × (text : List ℕ) × GivesNetwork (gives path) plan × IsTablesText plan text × Took took o₀ o text)
       (λ o fault. IsFaultOfSeq (gives path) path given (IsFaultOfOutput failed o₀ o) fault) done met kept quiet zero told same))
 
+-- what follows from what holds of an answer that is good, and of a fault
+pub ok_then : {T F P Q : Type 0} (r : Result T F) → OnOk r P → (P → Q) → OnOk r Q
+ok_then (Ok x) p f = f p
+ok_then (Err e) p f = tt
+
+pub err_then : {T F : Type 0} {P Q : F → Type 0} (r : Result T F) → IfErr r P → ((e : F) → P e → Q e) → IfErr r Q
+err_then (Ok x) p f = tt
+err_then (Err e) p f = f e p
+
+-- why a run with a trace, or without one, was no success is why `seq` was none
+pub fault_with_trace : {O : Type 0} (failed : O → ℕ) (gives : Option (List ℕ) → Type 0) (net path : List ℕ) (trace : Option (List ℕ)) (plan : Plan) (fault : Fault) (o o' p p' : O) →
+    GivesNetwork gives plan → trace ≡ Some path → p ≡ o → p' ≡ o' →
+    IsFaultOfRun plan fault ⊎ (IsFaultOfTrace path fault ⊎ IsFaultOfOutput failed p p' fault) → IsFaultOfSeq gives net trace (IsFaultOfOutput failed o o') fault
+fault_with_trace failed gives net path trace plan fault o o' p p' given is before after (inl run) = inr (inl (plan, given, run))
+fault_with_trace failed gives net path trace plan fault o o' p p' given is before after (inr (inl written)) = inr (inr (inl (path, is, written)))
+fault_with_trace failed gives net path trace plan fault o o' p p' given is before after (inr (inr shown)) =
+    inr (inr (inr (subst (λ x. IsFaultOfOutput failed x o' fault) before (subst (λ x. IsFaultOfOutput failed p x fault) after shown))))
+
+pub fault_without_trace : {O : Type 0} (failed : O → ℕ) (gives : Option (List ℕ) → Type 0) (net : List ℕ) (trace : Option (List ℕ)) (plan : Plan) (fault : Fault) (o o' p p' : O) →
+    GivesNetwork gives plan → p ≡ o → p' ≡ o' →
+    IsFaultOfRun plan fault ⊎ IsFaultOfOutput failed p p' fault → IsFaultOfSeq gives net trace (IsFaultOfOutput failed o o') fault
+fault_without_trace failed gives net trace plan fault o o' p p' given before after (inl run) = inr (inl (plan, given, run))
+fault_without_trace failed gives net trace plan fault o o' p p' given before after (inr shown) =
+    inr (inr (inr (subst (λ x. IsFaultOfOutput failed x o' fault) before (subst (λ x. IsFaultOfOutput failed p x fault) after shown))))
+
 -- what holds of the order that was named
+pub of_check : (order : Order) (x : Check) (P : Check → Type 0) → order ≡ ordered.Check x → P x → (o : Check) → order ≡ ordered.Check o → P o
+of_check order x P is holds o named = let same : x ≡ o = cc in subst P same holds
+
 pub of_named : (order : Order) (x : Seq) (P : Seq → Type 0) → order ≡ ordered.Seq x → P x → (o : Seq) → order ≡ ordered.Seq o → P o
 of_named order x P is holds o named = let same : x ≡ o = cc in subst P same holds
 

@@ -1,7 +1,8 @@
 use Rattle.std.proofs.Common.{option_map, string_bytes}
+use Rattle.command_line.specs.declared.orders.Check.{Check}
 use Rattle.command_line.specs.declared.orders.Seq.{Seq}
-use Rattle.afdxsim.specs.Performing.{EndsSeq}
-use Rattle.afdxsim.proofs.Ended.{of_named}
+use Rattle.afdxsim.specs.Performing.{EndsCheck, EndsSeq}
+use Rattle.afdxsim.proofs.Ended.{of_check, of_named}
 use Rattle.afdxsim.proofs.obeying.obey.Goals as goal
 
 pub returns-in-Seq-clause-seq : goal.returns-in-Seq-clause-seq
@@ -13,3 +14,13 @@ returns-in-Seq-clause-seq g c =
     g.H.Output.Sink.taken g.H.Output.Sink.failures (g.H.Host.output before) (g.H.Host.output after)
     g.H.Errors.Sink.taken g.H.Errors.Sink.failures (g.H.Host.errors before) (g.H.Host.errors after) c.obey_seq.result)
     c.in-Seq.is c.obey_seq.ensures.ends
+
+pub returns-in-Check-clause-check : goal.returns-in-Check-clause-check
+returns-in-Check-clause-check g c =
+    let before = c.args.host.now in
+    let after = c.obey_check.new.host in
+    of_check c.args.order.now c.in-Check.order
+    (λ (o : Check). EndsCheck (g.H.Host.gives before (string_bytes o.net)) (string_bytes o.net)
+    g.H.Output.Sink.taken g.H.Output.Sink.failures (g.H.Host.output before) (g.H.Host.output after)
+    g.H.Errors.Sink.taken g.H.Errors.Sink.failures (g.H.Host.errors before) (g.H.Host.errors after) c.obey_check.result)
+    c.in-Check.is c.obey_check.ensures.ends
