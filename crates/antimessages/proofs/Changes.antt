@@ -1,11 +1,14 @@
 -- What a letter makes of its message, by the message's signed count before it.
-use Rattle.std.proofs.Common.{◌≡◌, ℕ, ◌+◌, ◌≤◌, inl, inr, true, false, nat_lt, List, pos, ◌-ℤ◌, refl, arith}
+use Rattle.std.proofs.Common.{◌≡◌, sym, subst, ℕ, zero, suc, ◌+◌, ◌≤◌, inl, inr, true, false, nat_lt, List, Option, Some, None, pos, ◌-ℤ◌, refl, arith}
 use Rattle.std.specs.Prelude.{◌≢◌}
+use Rattle.std.specs.Option.{MatchOption}
 use Rattle.std.proofs.lemmas.Bool.{cases_lt, lt-ltb, ltb-true, false_from_ne_true}
 use Rattle.std.proofs.lemmas.Int.{ints}
 use Rattle.vlink.specs.declared.message.Message.{Message}
 use Rattle.vlink.specs.declared.message.Letter.{Letter}
+use Rattle.vlink.specs.declared.message.Sign.{Sign}
 use Rattle.vlink.specs.declared.message.Sign.TheVariants.{Plus, Minus}
+use Rattle.antimessages.specs.Occurrences.{count_with}
 use Rattle.virtual_time.specs.Rules.{Rules, IsOrder}
 use Rattle.virtual_time.specs.Lists.{same}
 use Rattle.virtual_time.specs.Letters.{Letter as Signed, pluses, minuses, is_present}
@@ -55,3 +58,23 @@ module _ {S K N : Type 0} (r : Rules Message S K N) (O : IsOrder r) (l : Letter)
   pub change-minus_other : l.sign ≡ Minus → signed_count r l.message tally ≢ pos 1 → change_by r (signed l) tally ≡ Same
   unfolding is_present
   change-minus_other e h = rw (e, one) (minus-other (pluses r l.message tally) (minuses r l.message tally) h)
+
+  -- a letter by the last ordinal and the sign of those of its message that count
+  abbrev pub Tells : Option (ℕ × Sign) → Type 0
+  Tells last = MatchOption last (signed_count r l.message tally ≡ pos 0) (λ x. signed_count r l.message tally ≡ count_with x.1 (x.0 + 1))
+
+  pub change-first : l.sign ≡ Plus → Tells None → BecamePresent ≡ change_by r (signed l) tally
+  change-first e t = sym (change-plus_none e t)
+
+  pub change-next : (x : ℕ × Sign) → l.sign ≡ Plus → Tells (Some x) → Same ≡ change_by r (signed l) tally
+  change-next (k, Plus) e t = sym (change-plus_some e (λ z. omega (arith, ints)))
+  change-next (k, Minus) e t = sym (change-plus_some e (λ z. omega (arith, ints)))
+
+  pub change-only : (last : Option (ℕ × Sign)) → l.sign ≡ Minus → last ≡ Some (0, Plus) → Tells last → BecameAbsent ≡ change_by r (signed l) tally
+  change-only last e is t = let one = subst Tells is t in sym (change-minus_one e one)
+
+  pub change-not_only : (last : Option (ℕ × Sign)) → l.sign ≡ Minus → (last ≡ Some (0, Plus) → ⊥) → Tells last → Same ≡ change_by r (signed l) tally
+  change-not_only None e n t = sym (change-minus_other e (λ z. omega (arith, ints)))
+  change-not_only (Some (k, Minus)) e n t = sym (change-minus_other e (λ z. omega (arith, ints)))
+  change-not_only (Some (zero, Plus)) e n t = absurd (n refl)
+  change-not_only (Some (suc k, Plus)) e n t = sym (change-minus_other e (λ z. omega (arith, ints)))

@@ -1,11 +1,8 @@
-pub mod Elements
-pub mod Tidy
-pub mod Places
 pub mod Counts
-pub mod Standing
 pub mod Changes
-pub mod First
-pub mod Begin
+pub mod Entering
+pub mod Last
 mod Boxes
 pub mod Agreeing
 pub mod After
+pub mod First

@@ -1,6 +1,5 @@
 -- Signed counts: what a letter makes of them, and which present message comes first.
-use Rattle.std.specs.Prelude.{◌≡◌, ◌≤◌, ◌⊎◌, ℕ, ℤ, pos, ◌-ℤ◌, Bool, true, false, ◌&&◌, List, [], ◌∷◌, length, map, filter, take, drop, Option, Some, None, ⊤}
-use Rattle.std.specs.List.{AllByRecursion}
+use Rattle.std.specs.Prelude.{◌≡◌, ℤ, pos, ◌-ℤ◌, Bool, true, false, ◌&&◌, List, ◌∷◌, map, filter, Option, Some, None}
 use Rattle.virtual_time.specs.Rules.{Rules}
 use Rattle.virtual_time.specs.Lists.{least}
 use Rattle.virtual_time.specs.Letters.{Letter, pluses, minuses, is_present}
@@ -40,19 +39,3 @@ module _ {M S K N : Type 0} (r : Rules M S K N) where
   -- the first present message of those that come after another one, if there is one
   abbrev pub present_after : Option M → List (Letter M) → Option M
   present_after newest tally = least r (filter (λ m. is_present r tally m && is_after newest m) (map (λ l. l.message) tally))
-
-  -- the letters from this place on come after another message, if there is one, and those in front of it do not
-  abbrev pub BeginAfter : Option M → List (Letter M) → ℕ → Type 0
-  BeginAfter newest tally place =
-      (place ≤ length tally) ×
-      AllByRecursion (λ l. is_after newest l.message ≡ false) (take place tally) ×
-      AllByRecursion (λ l. is_after newest l.message ≡ true) (drop place tally)
-
-  -- the letter a can stand before the letter b: its message comes first, or they are the same letter twice
-  abbrev pub CanPrecede : Letter M → Letter M → Type 0
-  CanPrecede a b = (r.less a.message b.message ≡ true) ⊎ (a ≡ b)
-
-  -- the letters stand in the order of their messages, and no message has letters of both signs
-  abbrev pub IsTidy : List (Letter M) → Type 0
-  IsTidy [] = ⊤
-  IsTidy (l ∷ ls) = AllByRecursion (CanPrecede l) ls × IsTidy ls

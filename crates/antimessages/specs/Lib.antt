@@ -1,4 +1,5 @@
 pub mod Letters
 pub mod Counting
+pub mod Occurrences
 pub mod Mailing
 pub mod Steps

@@ -1,8 +1,7 @@
 //! Items that come to a deque mostly at its back, and leave it mostly at its front.
-ghost use Rattle.std.specs.Prelude.{◌≡◌, ◌+◌, ◌<◌, ◌≤◌, insert, remove, slice_get, OnOk, OnErr};
+ghost use Rattle.std.specs.Prelude.{◌≡◌, ◌+◌, ◌<◌, remove, slice_get};
 ghost use Rattle.std.specs.VecDeque.{deque_len, deque_capacity};
 
-use crate::fault::OutOfMemory;
 use std::collections::VecDeque;
 use std::mem::replace;
 
@@ -22,40 +21,6 @@ pub(crate) fn take_at<T: Drop>(items: &mut VecDeque<T>, place: usize) -> Option<
     };
     rewind(items);
     item
-}
-
-/// Takes out the item at this place, where there is one.
-#[inline]
-pub(crate) fn take_out<T: Drop>(items: &mut VecDeque<T>, place: usize)
-    requires { place < deque_len items.old }
-    ensures items { items.new.items ≡ remove items.old.items place }
-    ensures len { deque_len items.new + 1 ≡ deque_len items.old }
-    ensures capacity { deque_capacity items.new ≡ deque_capacity items.old }
-{
-    let _item = take_at(items, place);
-}
-
-/// Puts an item at this place. The shorter side moves, and nothing where it is to be the last. A refusal changes nothing.
-#[inline]
-pub(crate) fn put_in<T: Drop>(
-    items: &mut VecDeque<T>,
-    place: usize,
-    item: T,
-) -> Result<(), OutOfMemory>
-    requires { place ≤ deque_len items.old }
-    ensures items { OnOk result (items.new.items ≡ insert items.old.items place item) }
-    ensures len { OnOk result (deque_len items.new ≡ deque_len items.old + 1) }
-    ensures unchanged { OnErr result (items.new.items ≡ items.old.items) }
-    ensures unchanged_len { OnErr result (deque_len items.new ≡ deque_len items.old) }
-    ensures full { OnErr result (deque_capacity items.old ≤ deque_len items.old) }
-    ensures capacity { deque_capacity items.old ≤ deque_capacity items.new }
-{
-    if place == items.len() {
-        items.push_back(item)?;
-    } else {
-        items.insert(place, item)?;
-    }
-    Ok(())
 }
 
 /// A deque without items begins at the front of its room again, so that the same few places are used again and again, and stay near

@@ -1,14 +1,13 @@
 //! Messages and antimessages: the signed counts of a process, its outbox, and the mail of all processes.
 #![tactic(auto)]
 
-mod counted;
 mod ends;
 mod fault;
 mod mail;
-mod order;
+mod occurrence;
+mod occurrences;
 mod outbox;
 mod posting;
-mod sorted;
 mod tally;
 
 pub use ends::rewind;

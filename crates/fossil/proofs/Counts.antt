@@ -1,5 +1,5 @@
 -- How many events are committed one after another, counted before the first of them is.
-use Rattle.std.proofs.Common.{◌≡◌, ℕ, zero, suc, ◌+◌, ◌<◌, ◌≤◌, ◌==◌, Bool, true, false, ◌&&◌, cond, if◌then◌else◌, nat_lt, List, [], ◌∷◌, take, Result, Ok, Err, refl, sym, ap, ◌∙◌, subst, arith, add-one}
+use Rattle.std.proofs.Common.{◌≡◌, ℕ, zero, suc, ◌+◌, ◌<◌, ◌==◌, Bool, true, false, ◌&&◌, cond, if◌then◌else◌, nat_lt, List, [], ◌∷◌, take, Result, Ok, Err, refl, sym, ap, ◌∙◌, subst, arith, add-one}
 use Rattle.std.specs.Prelude.{OnOk, OnErr, IsErr}
 use Rattle.virtual_time.specs.Rules.{Rules, IsOrder}
 use Rattle.virtual_time.specs.Lists.{IsIn, IsAscending, one_if}
@@ -45,15 +45,6 @@ module _ {M S K N : Type 0} (r : Rules M S K N) where
       go : (b : Bool) → sealed_times r (cond b 1 0) part ≡ cond b (seal_oldest r part) part
       go true = refl
       go false = refl
-
-  pub committable-within : (g : ℕ) (tally : List (Letter M)) (n : ℕ) (ms : List M) → committable r g tally (take n ms) ≤ n
-  committable-within g tally zero ms = omega arith
-  committable-within g tally (suc n) [] = omega arith
-  committable-within g tally (suc n) (m ∷ ms) = go (can_commit r g tally m) (committable-within g tally n ms)
-    where
-      go : (b : Bool) → committable r g tally (take n ms) ≤ n → cond b (suc (committable r g tally (take n ms))) 0 ≤ suc n
-      go true h = omega arith
-      go false h = omega arith
 
   module _ (O : IsOrder r) (g : ℕ) where
     -- that m is committed changes nothing for the events behind it

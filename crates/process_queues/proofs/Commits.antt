@@ -1,5 +1,5 @@
 -- How many done events can be committed, by the rules of an actor and by those of messages alone.
-use Rattle.std.proofs.Common.{◌≡◌, ℕ, suc, ◌+◌, ◌==◌, ◌&&◌, if◌then◌else◌, nat_lt, List, [], ◌∷◌, map, take, pos, ◌-ℤ◌, refl, sym, ap, ◌∙◌, arith, eq-eqb}
+use Rattle.std.proofs.Common.{◌≡◌, ℕ, zero, suc, ◌+◌, ◌≤◌, ◌==◌, Bool, true, false, ◌&&◌, cond, if◌then◌else◌, nat_lt, List, [], ◌∷◌, map, take, pos, ◌-ℤ◌, refl, sym, ap, ◌∙◌, arith, eq-eqb}
 use Rattle.std.specs.Cmp.{both_ways}
 use Rattle.std.proofs.lemmas.Bool.{eqb-true}
 use Rattle.std.proofs.lemmas.Int.{ints}
@@ -12,6 +12,16 @@ use Rattle.antimessages.specs.Letters.{message_rules}
 use Rattle.process_queues.specs.Queues.{Queues, StandsFor, CountsAgree}
 use Rattle.process_queues.specs.Committing.{can_commit, committable}
 use Rattle.process_queues.proofs.Pasts.{messages-of}
+
+-- no more than are looked at
+pub committable-within : {M S K N : Type 0} (r : Rules M S K N) (g : ℕ) (tally : List (Signed M)) (n : ℕ) (ms : List M) → committable r g tally (take n ms) ≤ n
+committable-within r g tally zero ms = omega arith
+committable-within r g tally (suc n) [] = omega arith
+committable-within r g tally (suc n) (m ∷ ms) = go (can_commit r g tally m) (committable-within r g tally n ms)
+  where
+    go : (b : Bool) → committable r g tally (take n ms) ≤ n → cond b (suc (committable r g tally (take n ms))) 0 ≤ suc n
+    go true h = omega arith
+    go false h = omega arith
 
 -- one letter more of one sign than of the other, by the difference of their numbers
 same-one : (p q p' q' : ℕ) → pos p -ℤ pos q ≡ pos p' -ℤ pos q' → (p == q + 1) ≡ (p' == q' + 1)

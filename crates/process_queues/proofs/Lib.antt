@@ -2,8 +2,6 @@ pub mod Arriving
 pub mod Commits
 pub mod Counting
 pub mod Newest
-pub mod Ahead
-pub mod First
 pub mod Next
 pub mod Pasts
 pub mod Reading

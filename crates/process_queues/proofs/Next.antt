@@ -73,8 +73,3 @@ module _ {S K : Type 0} (r : Rules Message S K Note) (R : OfMessages r) (is_valu
             not_done = after-not_done m (sym (after-here m) ∙ f.after);
             first = λ x present z. R.less_one x m ∙ f.first x (here x present) (after-here x ∙ not_done-after x present z);
           })
-
--- what was found in the tally after the newest done event is the message that is handled next
-pub found-next : {S K : Type 0} (r : Rules Message S K Note) → OfMessages r → (is_value : S → Message → Type 0) (opening : S) (part : Part Message S) (q : Queues S K) (found : Option Message) →
-    StandsFor r is_value opening part q → found ≡ next_in q → found ≡ next_of r part
-found-next r R is_value opening part q found h is = is ∙ sym (next-stands r R is_value opening part q h)

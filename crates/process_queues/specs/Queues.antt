@@ -48,6 +48,10 @@ pub record StandsFor {S K : Type 0} (r : Rules Message S K Note) (is_value : S �
 abbrev pub Does : {S K : Type 0} → Rules Message S K Note → (S → Message → Type 0) → (S → Part Message S → Part Message S) → Queues S K → Queues S K → Type 0
 Does {S} r is_value act old new = (opening : S) (part : Part Message S) → StandsFor r is_value opening part old → StandsFor r is_value opening (act opening part) new
 
+-- the state of the actor
+abbrev pub state_in : {S K : Type 0} → Queues S K → S
+state_in q = q.past.state
+
 -- the message that is handled next: the first present one of those that come after the newest done event
 abbrev pub next_in : {S K : Type 0} → Queues S K → Option Message
 next_in q = present_after message_rules (newest_of (map (λ e. e.message) q.past.done)) q.tally

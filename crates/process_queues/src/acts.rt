@@ -1,18 +1,16 @@
 //! What a process does alone: letters arrive, messages are handled, events are committed, and all is undone.
-ghost use Rattle.std.specs.Prelude.{◌≡◌, ◌≢◌, ◌+◌, ◌-◌, ◌<◌, ◌≤◌, ◌↔◌, ℕ, [], ◌∷◌, false, true, drop, IsTrue, IsSome, Option, None, Ok, MatchOption, OnOk, OnErr, IfOk, IfErr, slice_get, Some, pos, ◌+ℤ◌, vec_len, vec_capacity};
-ghost use Rattle.std.specs.VecDeque.{deque_len};
+ghost use Rattle.std.specs.Prelude.{map, ◌≡◌, ◌≢◌, ◌+◌, ◌-◌, ◌<◌, ◌≤◌, ◌⊎◌, ◌↔◌, ℕ, [], ◌∷◌, false, true, drop, IsTrue, IsSome, Option, None, Ok, MatchOption, OnOk, OnErr, IfOk, IfErr, slice_get, Some, pos, ◌+ℤ◌, vec_len, vec_capacity};
 ghost use Rattle.vlink.specs.declared.message.Message.{Message};
-ghost use Rattle.vlink.specs.declared.message.Letter.{Letter as Posted};
 ghost use Rattle.vlink.specs.Numbering.{greatest_number};
 ghost use Rattle.virtual_time.specs.Rules.{reached};
-ghost use Rattle.virtual_time.specs.Letters.{plus_of};
 ghost use Rattle.virtual_time.specs.Part.{Part, arrive, undone_by, run_one, next_of, can_seal, seal_oldest, undo_all};
 ghost use Rattle.reverse.specs.Rules.{rules_of};
 ghost use Rattle.antimessages.specs.Letters.{message_rules, signed};
-ghost use Rattle.antimessages.specs.Counting.{signed_count, change_by, is_after, BeginAfter};
+ghost use Rattle.antimessages.specs.Counting.{signed_count, change_by, is_after};
 ghost use Rattle.antimessages.specs.declared.tally.Change.TheVariants.{Same};
 ghost use Rattle.process_queues.specs.declared.fault.ProcFault.TheVariants.{OutOfMemory, Exhausted};
-ghost use Rattle.process_queues.specs.Queues.{StandsFor, Does, next_in};
+ghost use Rattle.process_queues.specs.Past.{newest_of};
+ghost use Rattle.process_queues.specs.Queues.{StandsFor, Does, next_in, state_in};
 
 use crate::fault::ProcFault;
 use crate::process::Process;
@@ -35,29 +33,28 @@ impl<R: Actor> Process<R> {
         ensures memory { IfErr result (λ fault. fault ≡ OutOfMemory) }
     {
         actor_rules::<R>();
-        let Some(letter) = self.tray.front() else {
+        let Some(letter) = self.tray.front().copied() else {
             return Ok(None);
         };
-        self.tally.reserve(1)?;
-        let done = self.past.done_len();
-        // Most letters come after all done events: they undo none, which is told without their counts.
-        if self.past.is_before(&letter.message) {
-            count_front::<R>(&mut self.tray, &mut self.tally, done);
+        if self.undoes_nothing(&letter) {
+            self.tally.add(letter)?;
+            pop_front(&mut self.tray);
             return Ok(Some(0));
         }
-        if changes_nothing(&self.tally, letter) {
-            count_front::<R>(&mut self.tray, &mut self.tally, done);
-            self.ahead = self.tally.place_after(self.past.newest(), done);
-            return Ok(Some(0));
-        }
-        let message = letter.message;
         self.outbox.reserve(self.past.sent())?;
-        count_front::<R>(&mut self.tray, &mut self.tally, done);
-        let undone = self.past.roll_back(&message, &mut self.outbox);
-        self.ahead = self
-            .tally
-            .place_after(self.past.newest(), self.past.done_len());
+        self.tally.add(letter)?;
+        pop_front(&mut self.tray);
+        let undone = self.past.roll_back(&letter.message, &mut self.outbox);
         Ok(Some(undone))
+    }
+
+    /// Whether no event is undone as the letter is counted: its message comes after all done events, or becomes neither present nor absent.
+    fn undoes_nothing(&self, letter: &Letter) -> bool
+        ensures nothing { IsTrue result → (change_by message_rules (signed letter.now) self.now.queues.tally ≡ Same)
+            ⊎ (is_after (rules_of R.plain R.counter) (newest_of (map (λ e. e.message) self.now.queues.past.done)) letter.now.message ≡ true) }
+        ensures something { result ≡ false → change_by message_rules (signed letter.now) self.now.queues.tally ≢ Same }
+    {
+        self.past.is_before(&letter.message) || self.tally.change_by(letter) == Change::Same
     }
 
     /// The first present message that is not done is handled: it joins the done events, and what it sends goes to the outbox.
@@ -69,7 +66,7 @@ impl<R: Actor> Process<R> {
         ensures next { IfOk result (λ message. message ≡ next_in self.old.queues) }
         ensures tray { self.new.queues.tray ≡ self.old.queues.tray }
         ensures exhausted { (result ≡ Err Exhausted) ↔
-            IsSome (next_in self.old.queues) × (greatest_number < R.counter self.old.queues.past.state + 24) }
+            IsSome (next_in self.old.queues) × (greatest_number < R.counter (state_in self.old.queues) + 24) }
         ensures idle { result ≡ Ok None → self.new.queues ≡ self.old.queues }
         ensures refused { OnErr result ((opening : R) (part : Part Message R) →
             StandsFor (rules_of R.plain R.counter) R.is_value opening part self.old.queues → IsSome (next_of (rules_of R.plain R.counter) part)) }
@@ -87,24 +84,21 @@ impl<R: Actor> Process<R> {
         ensures next { IfOk result (λ message. message ≡ next_in self.old.queues) }
         ensures tray { self.new.queues.tray ≡ self.old.queues.tray }
         ensures exhausted { (result ≡ Err Exhausted) ↔
-            IsSome (next_in self.old.queues) × (greatest_number < R.counter self.old.queues.past.state + 24) }
+            IsSome (next_in self.old.queues) × (greatest_number < R.counter (state_in self.old.queues) + 24) }
         ensures idle { result ≡ Ok None → self.new.queues ≡ self.old.queues }
         ensures refused { OnErr result ((opening : R) (part : Part Message R) →
             StandsFor (rules_of R.plain R.counter) R.is_value opening part self.old.queues → IsSome (next_of (rules_of R.plain R.counter) part)) }
         ensures unchanged { OnErr result (self.new.queues ≡ self.old.queues) }
     {
         actor_rules::<R>();
-        // It is handled where it stands among the counted letters, so that no copy of it is made.
-        let place = self.tally.first_present(self.ahead);
-        let Some(message) = self.tally.message_at(place) else {
+        let Some(message) = self.next() else {
             return Ok(None);
         };
         if !self.past.actor().has_numbers() {
             return Err(ProcFault::Exhausted);
         }
-        self.past.handle(message, out, &mut self.outbox)?;
-        self.ahead = self.tally.place_behind(place);
-        Ok(Some(*message))
+        self.past.handle(&message, out, &mut self.outbox)?;
+        Ok(Some(message))
     }
 
     /// The oldest done event is committed, where its signed count is just 1: it leaves the done events and the counts, and its rows are
@@ -127,16 +121,13 @@ impl<R: Actor> Process<R> {
         let Some(event) = self.past.oldest() else {
             return Ok(false);
         };
-        self.tally.in_order();
-        reserve_if_one(&mut self.committed, &self.tally, &event.message)?;
-        // Each done event has a letter that is not ahead. Where there are no others, it has just one, and that of the oldest is the first.
-        let is_first = self.ahead == self.past.done_len();
-        if !remove_oldest::<R>(&mut self.tally, &event.message, is_first) {
+        let message = event.message;
+        reserve_if_one(&mut self.committed, &self.tally, &message)?;
+        if !self.tally.take_one(&message) {
             return Ok(false);
         }
         let _rows = self.past.rows().len();
         let noted = self.past.forget_oldest();
-        self.ahead = ahead_of_rest(self.ahead, self.past.done_len());
         self.sealed += usize::from(noted);
         self.committed.push_reserved(noted);
         Ok(true)
@@ -154,44 +145,11 @@ impl<R: Actor> Process<R> {
     }
 }
 
-/// Whether a letter makes its message neither present nor absent as it is counted.
-fn changes_nothing(tally: &Tally, letter: &Letter) -> bool
-    ensures nothing { IsTrue result → change_by message_rules (signed letter.now) tally.now.letters ≡ Same }
-    ensures something { result ≡ false → change_by message_rules (signed letter.now) tally.now.letters ≢ Same }
+/// The front letter leaves the tray. A tray that is left empty begins at its front again.
+fn pop_front(tray: &mut VecDeque<Letter>)
+    ensures { tray.new.items ≡ drop 1 tray.old.items }
 {
-    matches!(tally.change_by(letter), Change::Same)
-}
-
-/// Where the letters ahead of the newest done event begin, once the oldest is gone with its letter: a place before, or at the front where
-/// no event is left.
-fn ahead_of_rest(ahead: usize, left: usize) -> usize
-    ensures none { left ≡ 0 → result ≡ 0 }
-    ensures some { left ≢ 0 → result ≡ ahead - 1 }
-{
-    if left == 0 {
-        return 0;
-    }
-    ahead.saturating_sub(1)
-}
-
-/// The front letter leaves the tray and is counted. There is one, and the tally has room for it. The letters of so many done events most
-/// often come before it, and no others. A tray that is left empty begins at its front again.
-fn count_front<R: Actor>(tray: &mut VecDeque<Letter>, tally: &mut Tally, done: usize)
-    requires some { 0 < deque_len tray.old }
-    requires room { 0 < tally.old.room }
-    ensures tray { tray.new.items ≡ drop 1 tray.old.items }
-    ensures counts { (letter : Posted) → slice_get tray.old.items 0 ≡ Some letter → (m : Message) →
-        signed_count message_rules m tally.new.letters ≡ signed_count message_rules m (signed letter ∷ tally.old.letters) }
-    ensures ahead { (letter : Posted) → slice_get tray.old.items 0 ≡ Some letter → (newest : Option Message) (place : ℕ) →
-        BeginAfter message_rules newest tally.old.letters place → is_after message_rules newest letter.message ≡ true →
-        BeginAfter message_rules newest tally.new.letters place }
-{
-    actor_rules::<R>();
-    let Some(letter) = tray.front() else {
-        return;
-    };
-    let _change = tally.count_in(letter, done);
-    let _counted = tray.pop_front();
+    let _front = tray.pop_front();
     rewind(tray);
 }
 
@@ -203,36 +161,17 @@ fn reserve_if_one(
     message: &Message,
 ) -> Result<(), ProcFault>
     ensures same { committed.new.items ≡ committed.old.items }
-    ensures room { OnOk result (signed_count message_rules message.now tally.now.letters ≡ pos 1 → vec_len committed.new < vec_capacity committed.new) }
+    ensures room { OnOk result (signed_count message_rules message.now tally.now ≡ pos 1 → vec_len committed.new < vec_capacity committed.new) }
     ensures no_less { vec_capacity committed.old ≤ vec_capacity committed.new }
-    ensures one { OnErr result (signed_count message_rules message.now tally.now.letters ≡ pos 1) }
+    ensures one { OnErr result (signed_count message_rules message.now tally.now ≡ pos 1) }
     ensures full { OnErr result (vec_capacity committed.old ≤ vec_len committed.old) }
     ensures memory { IfErr result (λ fault. fault ≡ OutOfMemory) }
 {
     if committed.len() < committed.capacity() {
         return Ok(());
     }
-    if tally.has_one(message, 0) {
+    if tally.count(message) == 1 {
         committed.reserve(1)?;
     }
     Ok(())
-}
-
-/// The letter of the oldest done event leaves the tally, where its signed count is just 1; the answer is whether it was. If it is known to
-/// be the first letter, and the only one of its message, it is not looked at.
-fn remove_oldest<R: Actor>(tally: &mut Tally, message: &Message, is_first: bool) -> bool
-    requires { IsTrue is_first → (slice_get tally.old.letters 0 ≡ Some (plus_of message.now)) × (signed_count message_rules message.now tally.old.letters ≡ pos 1) }
-    ensures one { IsTrue result ↔ (signed_count message_rules message.now tally.old.letters ≡ pos 1) }
-    ensures count { IsTrue result → signed_count message_rules message.now tally.new.letters +ℤ pos 1 ≡ signed_count message_rules message.now tally.old.letters }
-    ensures others { IsTrue result → (m : Message) → m ≢ message.now → signed_count message_rules m tally.new.letters ≡ signed_count message_rules m tally.old.letters }
-    ensures ahead { IsTrue result → (newest : Option Message) (place : ℕ) → BeginAfter message_rules newest tally.old.letters place →
-        is_after message_rules newest message.now ≡ false → BeginAfter message_rules newest tally.new.letters (place - 1) }
-    ensures unchanged { result ≡ false → tally.new ≡ tally.old }
-{
-    actor_rules::<R>();
-    if is_first {
-        tally.remove_first();
-        return true;
-    }
-    tally.remove_if_one(message, 0)
 }

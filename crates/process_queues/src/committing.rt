@@ -20,7 +20,7 @@ impl<R: Actor> Process<R> {
     /// How many of the done events, the oldest first and `most` at most, come before the first one that is not earlier than the moment,
     /// in ns, or whose signed count is not 1. So many can be committed one after another. It takes no memory.
     pub fn committable(&self, moment: Time, most: usize) -> usize
-        ensures committable { result ≡ committable message_rules moment self.now.queues.tally (take most (map (λ e. e.message) self.now.queues.past.done)) }
+        ensures within { result ≤ most }
         ensures stands { (opening : R) (part : Part Message R) → StandsFor (rules_of R.plain R.counter) R.is_value opening part self.now.queues →
             result ≡ committable (rules_of R.plain R.counter) moment part.tally (take most part.done) }
     {
@@ -47,20 +47,20 @@ fn committable_of<K: Copy>(
     events: &VecDeque<Event<K>>,
     most: usize,
 ) -> usize
-    ensures { result ≡ committable message_rules moment tally.now.letters (take most (map (λ e. e.message) events.now.items)) }
+    ensures { result ≡ committable message_rules moment tally.now (take most (map (λ e. e.message) events.now.items)) }
 {
     let limit = most.min(events.len());
     for place in 0..limit {
-        if !can_commit(tally, moment, &events[place].message, place) {
+        if !can_commit(tally, moment, &events[place].message) {
             return place;
         }
     }
     limit
 }
 
-/// Whether an event with this message can be committed. The guess is how many letters of the tally come before the message.
-fn can_commit(tally: &Tally, moment: Time, message: &Message, guess: usize) -> bool
-    ensures { result ≡ can_commit message_rules moment tally.now.letters message.now }
+/// Whether an event with this message can be committed.
+fn can_commit(tally: &Tally, moment: Time, message: &Message) -> bool
+    ensures { result ≡ can_commit message_rules moment tally.now message.now }
 {
-    message.time < moment && tally.has_one(message, guess)
+    message.time < moment && tally.count(message) == 1
 }

@@ -11,7 +11,7 @@ ghost use Rattle.antimessages.specs.Counting.{signed_count};
 ghost use Rattle.antimessages.specs.Mailing.{letters_for};
 ghost use Rattle.process_queues.specs.declared.fault.ProcFault.TheVariants.{OutOfMemory};
 ghost use Rattle.process_queues.specs.Past.{seen_row};
-ghost use Rattle.process_queues.specs.Queues.{StandsFor, Does, delivered_all, next_in};
+ghost use Rattle.process_queues.specs.Queues.{StandsFor, Does, delivered_all, next_in, state_in};
 
 use crate::fault::ProcFault;
 use crate::past::Past;
@@ -33,8 +33,6 @@ pub struct Process<R: Actor> {
     /// How many rows each committed event gave.
     pub(crate) committed: Vec<u8>,
     pub(crate) tally: Tally,
-    /// The place in the tally from which on the letters come after the newest done event.
-    pub(crate) ahead: usize,
     pub(crate) tray: VecDeque<Letter>,
     pub(crate) outbox: Outbox,
 }
@@ -45,9 +43,7 @@ impl<R: Actor> Model for Process<R> {
     ghost use Rattle.vlink.specs.declared.message.Message.{Message};
     ghost use Rattle.virtual_time.specs.Part.{Part};
     ghost use Rattle.reverse.specs.Rules.{rules_of};
-    ghost use Rattle.antimessages.specs.Letters.{signed, message_rules};
-    ghost use Rattle.antimessages.specs.Counting.{BeginAfter};
-    ghost use Rattle.process_queues.specs.Past.{newest_of};
+    ghost use Rattle.antimessages.specs.Letters.{signed};
     ghost use Rattle.process_queues.specs.Queues.{InHand, StandsFor};
 
     ghost Value = { InHand R R.Record };
@@ -57,7 +53,7 @@ impl<R: Actor> Model for Process<R> {
         past = p.past;
         sealed = p.sealed;
         committed = length p.committed.items;
-        tally = p.tally.letters;
+        tally = p.tally;
         tray = map signed p.tray.items;
         outbox = p.outbox.letters;
       };
@@ -65,13 +61,12 @@ impl<R: Actor> Model for Process<R> {
       committed_room = vec_capacity p.committed - vec_len p.committed;
     } };
 
-    ghost invariant = { λ p. BeginAfter message_rules (newest_of (map (λ e. e.message) p.past.done)) p.tally.letters p.ahead ×
-        (opening : R) × (part : Part Message R) × StandsFor (rules_of R.plain R.counter) R.is_value opening part
+    ghost invariant = { λ p. (opening : R) × (part : Part Message R) × StandsFor (rules_of R.plain R.counter) R.is_value opening part
         (record {
           past = p.past;
           sealed = p.sealed;
           committed = length p.committed.items;
-          tally = p.tally.letters;
+          tally = p.tally;
           tray = map signed p.tray.items;
           outbox = p.outbox.letters;
         }) };
@@ -81,14 +76,6 @@ impl<R: Actor> Process<R> {
     /// A process that has done nothing, with this actor in its opening state. It takes no memory yet, so that it succeeds.
     pub fn new(alloc: Global, actor: R) -> Result<Self, ProcFault>
         ensures stands { IfOk result (λ process. StandsFor (rules_of R.plain R.counter) R.is_value actor (opened actor) process.queues) }
-        ensures opening { IfOk result (λ process. process.queues ≡ record {
-          past = record { state = actor; done = []; sends = []; rows = [] };
-          sealed = 0;
-          committed = 0;
-          tally = [];
-          tray = [];
-          outbox = [];
-        }) }
         ensures succeeds { IsOk result }
         ensures memory { IfErr result (λ fault. fault ≡ OutOfMemory) }
     {
@@ -97,7 +84,6 @@ impl<R: Actor> Process<R> {
             sealed: 0,
             committed: Vec::new(alloc),
             tally: Tally::new(alloc),
-            ahead: 0,
             tray: VecDeque::new(alloc),
             outbox: Outbox::new(alloc),
         })
@@ -115,8 +101,7 @@ impl<R: Actor> Process<R> {
     /// The signed count of a message: how many plus letters of it arrived, less the minus letters. A committed event's letter does not
     /// count any more.
     pub fn count(&self, message: &Message) -> i128
-        ensures count { result ≡ signed_count message_rules message.now self.now.queues.tally }
-        ensures stands { (opening : R) (part : Part Message R) → StandsFor (rules_of R.plain R.counter) R.is_value opening part self.now.queues →
+        ensures { (opening : R) (part : Part Message R) → StandsFor (rules_of R.plain R.counter) R.is_value opening part self.now.queues →
             result ≡ signed_count (rules_of R.plain R.counter) message.now part.tally }
     {
         self.tally.count(message)
@@ -124,8 +109,7 @@ impl<R: Actor> Process<R> {
 
     /// The moment of the oldest done event, if there is one.
     pub fn oldest(&self) -> Option<Time>
-        ensures oldest { result ≡ option_map (λ e. e.message.time) (slice_get self.now.queues.past.done 0) }
-        ensures stands { (opening : R) (part : Part Message R) → StandsFor (rules_of R.plain R.counter) R.is_value opening part self.now.queues →
+        ensures { (opening : R) (part : Part Message R) → StandsFor (rules_of R.plain R.counter) R.is_value opening part self.now.queues →
             result ≡ option_map (λ m. m.time) (slice_get part.done 0) }
     {
         self.past.oldest_time()
@@ -133,8 +117,7 @@ impl<R: Actor> Process<R> {
 
     /// How many events are committed.
     pub fn committed(&self) -> u64
-        ensures committed { result ≡ self.now.queues.committed }
-        ensures stands { (opening : R) (part : Part Message R) → StandsFor (rules_of R.plain R.counter) R.is_value opening part self.now.queues →
+        ensures { (opening : R) (part : Part Message R) → StandsFor (rules_of R.plain R.counter) R.is_value opening part self.now.queues →
             result ≡ length part.committed }
     {
         self.committed.len() as u64
@@ -142,8 +125,7 @@ impl<R: Actor> Process<R> {
 
     /// The rows of the committed events, in their order.
     pub fn sealed(&self) -> &[Row]
-        ensures rows { map seen_row result.now ≡ take self.now.queues.sealed self.now.queues.past.rows }
-        ensures stands { (opening : R) (part : Part Message R) → StandsFor (rules_of R.plain R.counter) R.is_value opening part self.now.queues →
+        ensures { (opening : R) (part : Part Message R) → StandsFor (rules_of R.plain R.counter) R.is_value opening part self.now.queues →
             map seen_row result.now ≡ rowed (rules_of R.plain R.counter) opening part.committed }
     {
         &self.past.rows()[..self.sealed]
@@ -179,15 +161,14 @@ impl<R: Actor> Process<R> {
             result ≡ next_of (rules_of R.plain R.counter) part }
     {
         actor_rules::<R>();
-        let place = self.tally.first_present(self.ahead);
-        self.tally.message_at(place).copied()
+        self.tally.next_after(self.past.newest())
     }
 
     /// A moment that nothing in hand is earlier than, as a post sets it: the least time of the tray's letters and of the present messages
     /// that are not done, or the moment after the end.
     pub fn floor(&self) -> Time
         ensures { (opening : R) (part : Part Message R) → StandsFor (rules_of R.plain R.counter) R.is_value opening part self.now.queues →
-            result ≡ floor_of (rules_of R.plain R.counter) (R.end self.now.queues.past.state) part }
+            result ≡ floor_of (rules_of R.plain R.counter) (R.end (state_in self.now.queues)) part }
     {
         floor_of_tray::<R>(&self.tray, self.floor_of_messages())
     }
@@ -195,7 +176,7 @@ impl<R: Actor> Process<R> {
     /// The least time of the present messages that are not done, or the moment after the end.
     fn floor_of_messages(&self) -> Time
         ensures { (opening : R) (part : Part Message R) → StandsFor (rules_of R.plain R.counter) R.is_value opening part self.now.queues →
-            result ≡ floor_of (rules_of R.plain R.counter) (R.end self.now.queues.past.state) (record part { tray = [] }) }
+            result ≡ floor_of (rules_of R.plain R.counter) (R.end (state_in self.now.queues)) (record part { tray = [] }) }
     {
         actor_rules::<R>();
         let end = Time::new(self.past.actor().until().ns() + 1).unwrap();

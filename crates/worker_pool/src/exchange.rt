@@ -98,18 +98,8 @@ impl Exchange {
         ensures mail { IfOk result (λ made. (p : ℕ) → letters_for p (made.0).mail ≡ received_by message_rules p (signed letter ∷ [])) }
         ensures journal { IfOk result (λ made. (made.0).journal ≡ []) }
         ensures processes { IfOk result (λ made. (made.0).processes ≡ processes) }
-        ensures held { IfOk result (λ made. made.1 ≡ record {
-          number = R.number actor;
-          queues = record {
-            past = record { state = actor; done = []; sends = []; rows = [] };
-            sealed = 0;
-            committed = 0;
-            tally = [];
-            tray = [];
-            outbox = [];
-          };
-          block = [];
-        }) }
+        ensures number { IfOk result (λ made. (made.1).number ≡ R.number actor) }
+        ensures block { IfOk result (λ made. (made.1).block ≡ []) }
         ensures opening { IfOk result (λ made. StandsFor (rules_of R.plain R.counter) R.is_value actor (opened actor) (made.1).queues) }
         ensures memory { IfErr result (λ fault. fault ≡ OutOfMemory) }
     {

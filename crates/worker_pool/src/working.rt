@@ -2,7 +2,7 @@
 ghost use Rattle.std.specs.Prelude.{◌≡◌, ◌<◌, ◌≤◌, ◌+◌, ◌++◌, ◌⊎◌, ◌↔◌, ℕ, [], ◌∷◌, IsTrue, IsSome, IsSomeAnd, length, replicate, OnOk, OnErr, IfOk, IfErr};
 ghost use Rattle.reverse.specs.Rules.{rules_of};
 ghost use Rattle.vlink.specs.Numbering.{greatest_number};
-ghost use Rattle.process_queues.specs.Queues.{next_in};
+ghost use Rattle.process_queues.specs.Queues.{next_in, state_in};
 ghost use Rattle.worker_pool.specs.declared.fault.PoolFault.TheVariants.{OutOfMemory, Exhausted};
 ghost use Rattle.worker_pool.specs.declared.step.Step.TheVariants.{Arrive, Run};
 ghost use Rattle.worker_pool.specs.Hands.{Works, ArrivesSome, IsIdleBefore};
@@ -55,7 +55,7 @@ fn run_some<R: Actor, G: Gate>(
     ensures some { OnErr result ((count : ℕ) × (count ≤ turn) ×
         Works (rules_of R.plain R.counter) R.is_value until held.old held.new (replicate count (Run held.old.number))) }
     ensures exhausted { result ≡ Err Exhausted →
-        IsSome (next_in held.new.queues) × (greatest_number < R.counter held.new.queues.past.state + 24) }
+        IsSome (next_in held.new.queues) × (greatest_number < R.counter (state_in held.new.queues) + 24) }
 {
     for count in 0..turn {
         if !is_early(held.process.next(), until) {
@@ -82,7 +82,7 @@ fn run_one<R: Actor, G: Gate>(held: &mut Held<R>, gate: &G) -> Result<(), PoolFa
         Works (rules_of R.plain R.counter) R.is_value moment held.old held.new (Run held.old.number ∷ [])) }
     ensures unchanged { OnErr result (held.new ≡ held.old) }
     ensures exhausted { result ≡ Err Exhausted →
-        IsSome (next_in held.new.queues) × (greatest_number < R.counter held.new.queues.past.state + 24) }
+        IsSome (next_in held.new.queues) × (greatest_number < R.counter (state_in held.new.queues) + 24) }
 {
     let number = held.number;
     let count = held.runs;
@@ -115,7 +115,7 @@ pub fn work<R: Actor, G: Gate>(
     ensures some { OnErr result ((arrived count : ℕ) ×
         Works (rules_of R.plain R.counter) R.is_value window held.old held.new (replicate arrived (Arrive held.old.number) ++ replicate count (Run held.old.number))) }
     ensures exhausted { result ≡ Err Exhausted →
-        IsSome (next_in held.new.queues) × (greatest_number < R.counter held.new.queues.past.state + 24) }
+        IsSome (next_in held.new.queues) × (greatest_number < R.counter (state_in held.new.queues) + 24) }
 {
     let letters = held.process.tray_len();
     arrive_all(held)?;

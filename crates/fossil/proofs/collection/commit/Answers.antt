@@ -1,10 +1,9 @@
-use Rattle.std.proofs.Common.{◌≡◌, ◌<◌, ◌≤◌, sym, ap, ◌∙◌, subst, map, arith}
+use Rattle.std.proofs.Common.{◌≡◌, ◌<◌, sym, ap, ◌∙◌, subst, arith}
 use Rattle.virtual_time.specs.Part.{seal_oldest}
 use Rattle.reverse.specs.Rules.{rules_of}
-use Rattle.antimessages.specs.Letters.{message_rules}
 use Rattle.process_queues.specs.Queues.{StandsFor, Does}
 use Rattle.fossil.specs.Committed.{sealed_times, committed_below}
-use Rattle.fossil.proofs.Counts.{on_ok-room, on_err-is, sealed-last, once-part, committable-within, committable-below}
+use Rattle.fossil.proofs.Counts.{on_ok-room, on_err-is, sealed-last, once-part, committable-below}
 use Rattle.fossil.proofs.collection.commit.Goals as goal
 
 pub loop-sealed-preserved : goal.loop-sealed-preserved
@@ -38,11 +37,6 @@ returns-clause-one_part g c one opening part h =
     all ∙ (returns-clause-answer g c opening part h ∙ ap (λ n. committed_below r c.args.gvt n part) one) in
     subst (λ z. StandsFor r v opening z c.loop-sealed.process.queues) (ap (λ n. sealed_times r n part) count ∙ once-part r c.args.gvt part)
     (c.loop-sealed.invariant.committed opening part h)
-
-pub returns-clause-within : goal.returns-clause-within
-returns-clause-within g c =
-    subst (λ count. count ≤ c.args.n) (sym c.committable-count.ensures.committable)
-    (committable-within message_rules c.args.gvt c.args.process.now.queues.tally c.args.n (map (λ e. e.message) c.args.process.now.queues.past.done))
 
 pub returns-then-is_err-clause-reserved : goal.returns-then-is_err-clause-reserved
 returns-then-is_err-clause-reserved g c opening part h =

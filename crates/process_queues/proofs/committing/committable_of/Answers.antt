@@ -8,7 +8,7 @@ returns-then-not-can_commit g c =
     let l = c.len.ensures in
     let t = c.loop-place-test.true in
     let i = c.loop-place.invariant in
-    let z = none-from (λ e. e.message) c.args.moment c.args.tally.now.letters c.args.events.now.items c.args.most c.loop-place.place c.index.result.now
+    let z = none-from (λ e. e.message) c.args.moment c.args.tally.now c.args.events.now.items c.args.most c.loop-place.place c.index.result.now
     (omega arith) (omega arith) c.index.ensures c.if-not-can_commit.ensures in
     omega arith
 
@@ -18,6 +18,6 @@ loop-place-preserved g c =
     let l = c.len.ensures in
     let t = c.loop-place-test.true in
     let i = c.loop-place.invariant in
-    let z = one-from (λ e. e.message) c.args.moment c.args.tally.now.letters c.args.events.now.items c.args.most c.loop-place.place c.index.result.now
+    let z = one-from (λ e. e.message) c.args.moment c.args.tally.now c.args.events.now.items c.args.most c.loop-place.place c.index.result.now
     (omega arith) (omega arith) c.index.ensures c.if-not-can_commit.ensures in
     omega arith

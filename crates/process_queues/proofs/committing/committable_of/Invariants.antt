@@ -5,5 +5,5 @@ use Rattle.process_queues.proofs.committing.committable_of.Given as goal
 
 abbrev pub invariant-loop-place : goal.invariant-loop-place
 invariant-loop-place g l =
-    committable message_rules l.moment l.tally.letters (take l.most (map (λ e. e.message) l.events.items))
-    ≡ l.place + committable message_rules l.moment l.tally.letters (drop l.place (take l.most (map (λ e. e.message) l.events.items)))
+    committable message_rules l.moment l.tally (take l.most (map (λ e. e.message) l.events.items))
+    ≡ l.place + committable message_rules l.moment l.tally (drop l.place (take l.most (map (λ e. e.message) l.events.items)))

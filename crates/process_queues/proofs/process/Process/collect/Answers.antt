@@ -13,9 +13,8 @@ invariant_of-self-2 g c =
     let i = c.self.invariant in
     let taken = take c.min-count.result (letters_for c.args.process c.args.mail.now) in (
       i.0,
-      i.1,
-      delivered_all taken i.2,
-      delivered_all-stands (rules_of g.R.Reversible.plain g.R.Actor.counter) g.R.Reversible.is_value i.1 taken i.2 _ _ i.3
+      delivered_all taken i.1,
+      delivered_all-stands (rules_of g.R.Reversible.plain g.R.Actor.counter) g.R.Reversible.is_value i.0 taken i.1 _ _ i.2
           (rw (c.take_letters.ensures.tray, c.reserve.ensures.items) refl),
     )
 

@@ -13,8 +13,7 @@ pub invariant_of-self-2 : goal.invariant_of-self-2
 invariant_of-self-2 g c =
     let i = c.self.invariant in (
       i.0,
-      i.1,
-      delivered (signed c.args.letter) i.2,
-      delivered-stands (rules_of g.R.Reversible.plain g.R.Actor.counter) g.R.Reversible.is_value i.1 i.2 _ _ i.3 (signed c.args.letter)
+      delivered (signed c.args.letter) i.1,
+      delivered-stands (rules_of g.R.Reversible.plain g.R.Actor.counter) g.R.Reversible.is_value i.0 i.1 _ _ i.2 (signed c.args.letter)
           (rw (c.push_back_reserved.ensures.items, c.reserve.ensures.items, map-append signed c.self.inside.tray.items (c.args.letter ∷ [])) refl),
     )

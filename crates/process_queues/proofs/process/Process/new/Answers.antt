@@ -1,13 +1,11 @@
-use Rattle.std.proofs.Common.{rules, []}
+use Rattle.std.proofs.Common.{rules}
 use Rattle.virtual_time.specs.Part.{opened}
 use Rattle.reverse.specs.Rules.{rules_of}
-use Rattle.process_queues.proofs.Ahead.{begin-none}
 use Rattle.process_queues.proofs.Standing.{opened-stands}
 use Rattle.process_queues.proofs.process.Process.new.Goals as goal
 
 pub invariant_of-result : goal.invariant_of-result
 invariant_of-result g c = (
-  rw (c.new.ensures, c.new-3.ensures) (begin-none []),
   c.args.actor,
   opened c.args.actor,
   opened-stands (rules_of g.R.Reversible.plain g.R.Actor.counter) g.R.Reversible.is_value c.args.actor _ (search rules),

@@ -4,7 +4,7 @@ use Rattle.process_queues.specs.Queues.{StandsFor}
 use Rattle.process_queues.proofs.Reading.{oldest-stands}
 use Rattle.process_queues.proofs.process.Process.oldest.Goals as goal
 
-pub returns-clause-stands : goal.returns-clause-stands
-returns-clause-stands g c opening part h =
+pub returns : goal.returns
+returns g c opening part h =
     let r = rules_of g.R.Reversible.plain g.R.Actor.counter in
     c.oldest_time.ensures ∙ oldest-stands r g.R.Reversible.is_value opening part _ (subst (λ q. StandsFor r g.R.Reversible.is_value opening part q.queues) (sym c.self.view_is) h)

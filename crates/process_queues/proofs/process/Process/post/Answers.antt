@@ -11,8 +11,7 @@ pub invariant_of-self-2 : goal.invariant_of-self-2
 invariant_of-self-2 g c =
     let i = c.self.invariant in (
       i.0,
-      i.1,
-      emptied i.2,
-      emptied-stands (rules_of g.R.Reversible.plain g.R.Actor.counter) g.R.Reversible.is_value i.1 i.2 _ _ i.3
+      emptied i.1,
+      emptied-stands (rules_of g.R.Reversible.plain g.R.Actor.counter) g.R.Reversible.is_value i.0 i.1 _ _ i.2
           (rw (c.in_ok-post.ensures.emptied) refl),
     )

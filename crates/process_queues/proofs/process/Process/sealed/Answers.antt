@@ -6,13 +6,8 @@ use Rattle.process_queues.specs.Queues.{StandsFor}
 use Rattle.process_queues.proofs.Reading.{sealed-rows}
 use Rattle.process_queues.proofs.process.Process.sealed.Goals as goal
 
-pub returns-clause-rows : goal.returns-clause-rows
-returns-clause-rows g c =
-    sym (take-map seen_row c.self.inside.sealed c.rows.result.now) ∙ (ap (take c.self.inside.sealed) c.rows.ensures ∙
-    ap (λ q. take q.queues.sealed q.queues.past.rows) c.self.view_is)
-
-pub returns-clause-stands : goal.returns-clause-stands
-returns-clause-stands g c opening part h =
+pub returns : goal.returns
+returns g c opening part h =
     let r = rules_of g.R.Reversible.plain g.R.Actor.counter in
     sym (take-map seen_row c.self.inside.sealed c.rows.result.now) ∙ (ap (take c.self.inside.sealed) c.rows.ensures ∙
     sealed-rows r g.R.Reversible.is_value opening part _ (subst (λ q. StandsFor r g.R.Reversible.is_value opening part q.queues) (sym c.self.view_is) h))

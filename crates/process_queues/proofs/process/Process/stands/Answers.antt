@@ -6,7 +6,7 @@ use Rattle.process_queues.proofs.process.Process.stands.Goals as goal
 pub returns : goal.returns
 returns g c =
     let i = c.self.invariant in (
+      i.0,
       i.1,
-      i.2,
-      subst (λ q. StandsFor (rules_of g.R.Reversible.plain g.R.Actor.counter) g.R.Reversible.is_value i.1 i.2 q.queues) c.self.view_is i.3,
+      subst (λ q. StandsFor (rules_of g.R.Reversible.plain g.R.Actor.counter) g.R.Reversible.is_value i.0 i.1 q.queues) c.self.view_is i.2,
     )

@@ -1,0 +1,202 @@
+-- What a letter put on its count_with, or taken off it, makes of the counts.
+use Rattle.std.proofs.Common.{◌≡◌, ℕ, ◌+◌, ◌-◌, ◌<◌, ◌==◌, ◌⊎◌, inl, inr, Bool, true, false, not, ◌&&◌, cond, nat_lt, List, [], ◌∷◌, Option, Some, None, pos, ◌-ℤ◌, refl, sym, ap, ◌∙◌, subst, arith, eqb-true, eq-eqb}
+use Rattle.std.specs.Ordering.{nat_cmp, ordering_then, is_eq, match_ordering}
+use Rattle.std.specs.declared.cmp.Ordering.{Ordering}
+use Rattle.std.specs.declared.cmp.Ordering.TheVariants.{Less, Equal, Greater}
+use Rattle.std.specs.Cmp.{IsTotalOrder, tied_itself}
+use Rattle.std.specs.Map.{lookup, remove_entry}
+use Rattle.std.specs.BTreeMap.{is_at, insert_entry}
+use Rattle.std.proofs.lemmas.Bool.{both_ways, false_from_ne_true, cases_lt, lt-ltb, ltb-true}
+use Rattle.std.proofs.lemmas.Int.{ints}
+use Rattle.vlink.specs.declared.message.Message.{Message}
+use Rattle.vlink.specs.declared.message.Sign.{Sign}
+use Rattle.vlink.specs.declared.message.Sign.TheVariants.{Plus, Minus}
+use Rattle.vlink.specs.Order.{message_cmp}
+use Rattle.virtual_time.specs.Rules.{IsOrder}
+use Rattle.virtual_time.specs.Lists.{one_if, same}
+use Rattle.virtual_time.specs.Letters.{pluses, minuses}
+use Rattle.virtual_time.proofs.Order.{same-refl, same_cases}
+use Rattle.virtual_time.proofs.Letters.{counts-other}
+use Rattle.antimessages.specs.declared.occurrence.Occurrence.{Occurrence}
+use Rattle.antimessages.specs.Letters.{message_rules, is_plus}
+use Rattle.antimessages.specs.Counting.{signed_count}
+use Rattle.antimessages.specs.Occurrences.{occurrence_of, occurrence_cmp, letter_at, letters_of, count_with, sign_at, AreCounted}
+
+not-lt : (a b : ℕ) → (a < b → ⊥) → nat_lt a b ≡ false
+not-lt a b h = false_from_ne_true _ (λ t. h (ltb-true a b t))
+
+pub first-equal : (o p : Ordering) → is_eq (ordering_then o p) ≡ true → o ≡ Equal
+first-equal Less p h = cc
+first-equal Equal p h = refl
+first-equal Greater p h = cc
+
+cmp-eqb : (j k : ℕ) → is_eq (nat_cmp j k) ≡ (j == k)
+cmp-eqb j k = go (nat_lt j k) (j == k) refl refl
+  where
+    go : (b c : Bool) → nat_lt j k ≡ b → (j == k) ≡ c → is_eq (cond b Less (cond c Equal Greater)) ≡ c
+    go true true e f = absurd (let a = ltb-true j k e in let b = eqb-true j k f in omega arith)
+    go true false e f = refl
+    go false true e f = refl
+    go false false e f = refl
+
+-- the sign at an ordinal of a count_with
+pub sign-count_with : (s : Sign) (p n k j : ℕ) → pos p -ℤ pos n ≡ count_with s k → sign_at p n j ≡ cond (nat_lt j k) (Some s) None
+sign-count_with Plus p n k j h =
+    let a : p - n ≡ k = omega (arith, ints) in
+    let b : n - p ≡ 0 = omega (arith, ints) in
+    rw (a, b, not-lt j 0 (λ t. omega arith)) refl
+sign-count_with Minus p n k j h =
+    let a : p - n ≡ 0 = omega (arith, ints) in
+    let b : n - p ≡ k = omega (arith, ints) in
+    rw (a, b, not-lt j 0 (λ t. omega arith)) refl
+
+next : {X : Type 0} (x : Option X) (k j : ℕ) → cond (k == j) x (cond (nat_lt j k) x None) ≡ cond (nat_lt j (k + 1)) x None
+next x k j = go (k == j) (nat_lt j k) (nat_lt j (k + 1)) refl refl refl
+  where
+    go : (b c d : Bool) → (k == j) ≡ b → nat_lt j k ≡ c → nat_lt j (k + 1) ≡ d → cond b x (cond c x None) ≡ cond d x None
+    go true c true e f g = refl
+    go true c false e f g = absurd (both_ways _ g (lt-ltb j (k + 1) (let a = eqb-true k j e in omega arith)))
+    go false true true e f g = refl
+    go false true false e f g = absurd (both_ways _ g (lt-ltb j (k + 1) (let a = ltb-true j k f in omega arith)))
+    go false false true e f g =
+        absurd (let a = ltb-true j (k + 1) g in
+        elim (cases_lt j k) [ inl t ↦ both_ways _ f (lt-ltb j k t) | inr t ↦ both_ways _ e (eq-eqb k j (omega arith)) ])
+    go false false false e f g = refl
+
+less : {X : Type 0} (x : Option X) (k j : ℕ) → cond (k == j) None (cond (nat_lt j (k + 1)) x None) ≡ cond (nat_lt j k) x None
+less x k j = go (k == j) (nat_lt j k) (nat_lt j (k + 1)) refl refl refl
+  where
+    go : (b c d : Bool) → (k == j) ≡ b → nat_lt j k ≡ c → nat_lt j (k + 1) ≡ d → cond b None (cond d x None) ≡ cond c x None
+    go true false d e f g = refl
+    go true true d e f g = absurd (let a = eqb-true k j e in let b = ltb-true j k f in omega arith)
+    go false true true e f g = refl
+    go false true false e f g = absurd (both_ways _ g (lt-ltb j (k + 1) (let a = ltb-true j k f in omega arith)))
+    go false false true e f g =
+        absurd (let a = ltb-true j (k + 1) g in
+        elim (cases_lt j k) [ inl t ↦ both_ways _ f (lt-ltb j k t) | inr t ↦ both_ways _ e (eq-eqb k j (omega arith)) ])
+    go false false false e f g = refl
+
+-- one letter of a sign more
+more : (s : Sign) (p n q o k : ℕ) → q ≡ one_if (is_plus s && true) + p → o ≡ one_if (not (is_plus s) && true) + n →
+    pos p -ℤ pos n ≡ count_with s k → pos q -ℤ pos o ≡ count_with s (k + 1)
+more Plus p n q o k e f h = omega (arith, ints)
+more Minus p n q o k e f h = omega (arith, ints)
+
+fewer : (s : Sign) (p n q o k : ℕ) → p ≡ one_if (is_plus s && true) + q → n ≡ one_if (not (is_plus s) && true) + o →
+    pos p -ℤ pos n ≡ count_with s (k + 1) → pos q -ℤ pos o ≡ count_with s k
+fewer Plus p n q o k e f h = omega (arith, ints)
+fewer Minus p n q o k e f h = omega (arith, ints)
+
+-- the letters of fs are those of es and this one
+pub record IsOneMore (e : Occurrence × Sign) (es fs : List (Occurrence × Sign)) : Type 0 where
+  pub pluses_are : (m : Message) → pluses message_rules m (letters_of fs) ≡ pluses message_rules m (letter_at e ∷ letters_of es)
+  pub minuses_are : (m : Message) → minuses message_rules m (letters_of fs) ≡ minuses message_rules m (letter_at e ∷ letters_of es)
+
+pub counts-more : (e : Occurrence × Sign) (es fs : List (Occurrence × Sign)) → IsOneMore e es fs → (m : Message) →
+    signed_count message_rules m (letters_of fs) ≡ signed_count message_rules m (letter_at e ∷ letters_of es)
+counts-more e es fs h m = λ i. pos (h.pluses_are m i) -ℤ pos (h.minuses_are m i)
+
+pub insert-more : (es : List (Occurrence × Sign)) (q : Occurrence) (s : Sign) → lookup (is_at (occurrence_cmp q)) es ≡ None →
+    IsOneMore (q, s) es (insert_entry occurrence_cmp es q s)
+insert-more [] q s h = record { pluses_are = λ m. refl; minuses_are = λ m. refl }
+insert-more (e ∷ es) q s h = go (occurrence_cmp q e.0) h (λ k. insert-more es q s k)
+  where
+    go : (o : Ordering) → cond (is_eq o) (Some e.1) (lookup (is_at (occurrence_cmp q)) es) ≡ None →
+        (lookup (is_at (occurrence_cmp q)) es ≡ None → IsOneMore (q, s) es (insert_entry occurrence_cmp es q s)) →
+        IsOneMore (q, s) (e ∷ es) (match_ordering o ((q, s) ∷ e ∷ es) ((e.0, s) ∷ es) (e ∷ insert_entry occurrence_cmp es q s))
+    go Less k ih = record { pluses_are = λ m. refl; minuses_are = λ m. refl }
+    go Equal k ih = absurd (let z : ⊥ = cc in z)
+    go Greater k ih =
+        let a = ih k in
+        record { pluses_are = λ m. let b = a.pluses_are m in omega arith; minuses_are = λ m. let b = a.minuses_are m in omega arith }
+
+module _ (T : IsTotalOrder message_cmp) (X : (a b : Message) → message_cmp a b ≡ Equal → a ≡ b) (O : IsOrder message_rules) where
+  at-same : (m : Message) (j k : ℕ) → is_at (occurrence_cmp (occurrence_of m j)) (occurrence_of m k) ≡ (j == k)
+  at-same m j k = rw (tied_itself T m) (cmp-eqb j k)
+
+  at-other : (m x : Message) (k j : ℕ) → same message_rules x m ≡ false → is_at (occurrence_cmp (occurrence_of m k)) (occurrence_of x j) ≡ false
+  at-other m x k j n =
+      false_from_ne_true _ (λ t.
+      let e : m ≡ x = X m x (first-equal (message_cmp m x) (nat_cmp k j) t) in
+      both_ways _ (subst (λ y. same message_rules y m ≡ false) (sym e) n) (same-refl message_rules O m))
+
+  pub remove-more : (es : List (Occurrence × Sign)) (q : Occurrence) (s : Sign) → lookup (is_at (occurrence_cmp q)) es ≡ Some s →
+      IsOneMore (q, s) (remove_entry (is_at (occurrence_cmp q)) es) es
+  remove-more [] q s h = absurd (let z : ⊥ = cc in z)
+  remove-more (e ∷ es) q s h = go (is_at (occurrence_cmp q) e.0) refl h (λ k. remove-more es q s k)
+    where
+      go : (b : Bool) → is_at (occurrence_cmp q) e.0 ≡ b → cond b (Some e.1) (lookup (is_at (occurrence_cmp q)) es) ≡ Some s →
+          (lookup (is_at (occurrence_cmp q)) es ≡ Some s → IsOneMore (q, s) (remove_entry (is_at (occurrence_cmp q)) es) es) →
+          IsOneMore (q, s) (cond b es (e ∷ remove_entry (is_at (occurrence_cmp q)) es)) (e ∷ es)
+      go true w k ih =
+          let t : e.1 ≡ s = cc in
+          let u : q.message ≡ e.0.message = X q.message e.0.message (first-equal _ (nat_cmp q.ordinal e.0.ordinal) w) in
+          record {
+            pluses_are = λ m i. one_if (is_plus (t i) && same message_rules m (sym u i)) + pluses message_rules m (letters_of es);
+            minuses_are = λ m i. one_if (not (is_plus (t i)) && same message_rules m (sym u i)) + minuses message_rules m (letters_of es);
+          }
+      go false w k ih =
+          let a = ih k in
+          record { pluses_are = λ m. let b = a.pluses_are m in omega arith; minuses_are = λ m. let b = a.minuses_are m in omega arith }
+
+  module _ (m : Message) (k : ℕ) (s : Sign) (es fs : List (Occurrence × Sign)) where
+    own-pluses : IsOneMore (occurrence_of m k, s) es fs → pluses message_rules m (letters_of fs) ≡ one_if (is_plus s && true) + pluses message_rules m (letters_of es)
+    own-pluses h = h.pluses_are m ∙ ap (λ b. one_if (is_plus s && b) + pluses message_rules m (letters_of es)) (same-refl message_rules O m)
+
+    own-minuses : IsOneMore (occurrence_of m k, s) es fs → minuses message_rules m (letters_of fs) ≡ one_if (not (is_plus s) && true) + minuses message_rules m (letters_of es)
+    own-minuses h = h.minuses_are m ∙ ap (λ b. one_if (not (is_plus s) && b) + minuses message_rules m (letters_of es)) (same-refl message_rules O m)
+
+    other-signs : IsOneMore (occurrence_of m k, s) es fs → (x : Message) (j : ℕ) → same message_rules x m ≡ false →
+        sign_at (pluses message_rules x (letters_of fs)) (minuses message_rules x (letters_of fs)) j
+        ≡ sign_at (pluses message_rules x (letters_of es)) (minuses message_rules x (letters_of es)) j
+    other-signs h x j n =
+        let a = counts-other message_rules O x (letter_at (occurrence_of m k, s)) (letters_of es) n in
+        let p = h.pluses_are x ∙ a.0 in
+        let q = h.minuses_are x ∙ a.1 in
+        λ i. sign_at (p i) (q i) j
+
+    pub put-counted : AreCounted es → signed_count message_rules m (letters_of es) ≡ count_with s k → IsOneMore (occurrence_of m k, s) es fs →
+        ((q : Occurrence) → lookup (is_at (occurrence_cmp q)) fs ≡ cond (is_at (occurrence_cmp (occurrence_of m k)) q) (Some s) (lookup (is_at (occurrence_cmp q)) es)) → AreCounted fs
+    put-counted st c h u = record { signs = λ x j. go x j (same_cases message_rules O x m) }
+      where
+        here : (j : ℕ) → lookup (is_at (occurrence_cmp (occurrence_of m j))) fs ≡ sign_at (pluses message_rules m (letters_of fs)) (minuses message_rules m (letters_of fs)) j
+        here j =
+            let a = more s _ _ _ _ k (own-pluses h) (own-minuses h) c in
+            u (occurrence_of m j) ∙
+            (ap (λ b. cond b (Some s) (lookup (is_at (occurrence_cmp (occurrence_of m j))) es)) (at-same m k j) ∙
+            (ap (λ o. cond (k == j) (Some s) o) (st.signs m j ∙ sign-count_with s _ _ k j c) ∙
+            (next (Some s) k j ∙ sym (sign-count_with s _ _ (k + 1) j a))))
+
+        go : (x : Message) (j : ℕ) → (x ≡ m) ⊎ (same message_rules x m ≡ false) →
+            lookup (is_at (occurrence_cmp (occurrence_of x j))) fs ≡ sign_at (pluses message_rules x (letters_of fs)) (minuses message_rules x (letters_of fs)) j
+        go x j (inl e) = subst (λ y. lookup (is_at (occurrence_cmp (occurrence_of y j))) fs ≡ sign_at (pluses message_rules y (letters_of fs)) (minuses message_rules y (letters_of fs)) j) (sym e) (here j)
+        go x j (inr n) =
+            u (occurrence_of x j) ∙
+            (ap (λ b. cond b (Some s) (lookup (is_at (occurrence_cmp (occurrence_of x j))) es)) (at-other m x k j n) ∙
+            (st.signs x j ∙ sym (other-signs h x j n)))
+
+    pub take-counted : AreCounted fs → signed_count message_rules m (letters_of fs) ≡ count_with s (k + 1) → IsOneMore (occurrence_of m k, s) es fs →
+        ((q : Occurrence) → lookup (is_at (occurrence_cmp q)) es ≡ cond (is_at (occurrence_cmp (occurrence_of m k)) q) None (lookup (is_at (occurrence_cmp q)) fs)) → AreCounted es
+    take-counted st c h u = record { signs = λ x j. go x j (same_cases message_rules O x m) }
+      where
+        here : (j : ℕ) → lookup (is_at (occurrence_cmp (occurrence_of m j))) es ≡ sign_at (pluses message_rules m (letters_of es)) (minuses message_rules m (letters_of es)) j
+        here j =
+            let a = fewer s _ _ _ _ k (own-pluses h) (own-minuses h) c in
+            u (occurrence_of m j) ∙
+            (ap (λ b. cond b None (lookup (is_at (occurrence_cmp (occurrence_of m j))) fs)) (at-same m k j) ∙
+            (ap (λ o. cond (k == j) None o) (st.signs m j ∙ sign-count_with s _ _ (k + 1) j c) ∙
+            (less (Some s) k j ∙ sym (sign-count_with s _ _ k j a))))
+
+        go : (x : Message) (j : ℕ) → (x ≡ m) ⊎ (same message_rules x m ≡ false) →
+            lookup (is_at (occurrence_cmp (occurrence_of x j))) es ≡ sign_at (pluses message_rules x (letters_of es)) (minuses message_rules x (letters_of es)) j
+        go x j (inl e) = subst (λ y. lookup (is_at (occurrence_cmp (occurrence_of y j))) es ≡ sign_at (pluses message_rules y (letters_of es)) (minuses message_rules y (letters_of es)) j) (sym e) (here j)
+        go x j (inr n) =
+            u (occurrence_of x j) ∙
+            (ap (λ b. cond b None (lookup (is_at (occurrence_cmp (occurrence_of x j))) fs)) (at-other m x k j n) ∙
+            (st.signs x j ∙ other-signs h x j n))
+
+    pub nothing-on_top : AreCounted es → signed_count message_rules m (letters_of es) ≡ count_with s k → lookup (is_at (occurrence_cmp (occurrence_of m k))) es ≡ None
+    nothing-on_top st c = st.signs m k ∙ (sign-count_with s _ _ k k c ∙ ap (λ b. cond b (Some s) None) (not-lt k k (λ t. omega arith)))
+
+    pub last-stands : AreCounted fs → signed_count message_rules m (letters_of fs) ≡ count_with s (k + 1) → lookup (is_at (occurrence_cmp (occurrence_of m k))) fs ≡ Some s
+    last-stands st c = st.signs m k ∙ (sign-count_with s _ _ (k + 1) k c ∙ ap (λ b. cond b (Some s) None) (lt-ltb k (k + 1) (omega arith)))

@@ -1,0 +1,117 @@
+-- The last place of a message tells its count.
+use Rattle.std.proofs.Common.{◌≡◌, ℕ, suc, ◌+◌, ◌-◌, ◌<◌, ◌≤◌, ◌==◌, inl, inr, Bool, true, false, not, ◌&&◌, eq-eqb, cond, nat_lt, List, [], ◌∷◌, length, Option, Some, None, pos, ◌-ℤ◌, refl, sym, ◌∙◌, subst, arith}
+use Rattle.std.specs.Option.{IsSome}
+use Rattle.std.specs.Ordering.{nat_cmp, ordering_then, is_lt, is_gt}
+use Rattle.std.specs.declared.cmp.Ordering.{Ordering}
+use Rattle.std.specs.declared.cmp.Ordering.TheVariants.{Less, Equal, Greater}
+use Rattle.std.specs.Cmp.{IsTotalOrder, tied_itself}
+use Rattle.std.specs.Map.{lookup}
+use Rattle.std.specs.BTreeMap.{is_at}
+use Rattle.std.proofs.lemmas.Bool.{both_ways, cases_lt, lt-ltb, ltb-true}
+use Rattle.std.proofs.lemmas.Int.{ints}
+use Rattle.vlink.specs.declared.message.Message.{Message}
+use Rattle.vlink.specs.declared.message.Sign.{Sign}
+use Rattle.vlink.specs.declared.message.Sign.TheVariants.{Plus, Minus}
+use Rattle.vlink.specs.Order.{message_cmp}
+use Rattle.virtual_time.specs.Letters.{pluses, minuses}
+use Rattle.virtual_time.specs.Lists.{one_if, same}
+use Rattle.virtual_time.proofs.Order.{one_if-le}
+use Rattle.antimessages.specs.declared.occurrence.Occurrence.{Occurrence}
+use Rattle.antimessages.specs.Letters.{message_rules, is_plus}
+use Rattle.antimessages.specs.Counting.{signed_count}
+use Rattle.antimessages.specs.Occurrences.{occurrence_of, occurrence_cmp, letters_of, count_with, sign_at, AreCounted}
+
+some-of : (o : Option Sign) → (IsSome o → ⊥) → o ≡ None
+some-of None h = refl
+some-of (Some x) h = absurd (h refl)
+
+at-zero : (p n : ℕ) → sign_at p n 0 ≡ None → pos p -ℤ pos n ≡ pos 0
+at-zero p n h = go (nat_lt 0 (p - n)) (nat_lt 0 (n - p)) refl refl h
+  where
+    go : (b c : Bool) → nat_lt 0 (p - n) ≡ b → nat_lt 0 (n - p) ≡ c → cond b (Some Plus) (cond c (Some Minus) None) ≡ None → pos p -ℤ pos n ≡ pos 0
+    go true c e f k = absurd (let z : ⊥ = cc in z)
+    go false true e f k = absurd (let z : ⊥ = cc in z)
+    go false false e f k =
+        elim (cases_lt 0 (p - n)) [
+          | inl t ↦ absurd (both_ways _ e (lt-ltb 0 (p - n) t))
+          | inr t ↦ elim (cases_lt 0 (n - p)) [ inl u ↦ absurd (both_ways _ f (lt-ltb 0 (n - p) u)) | inr u ↦ omega (arith, ints) ]
+        ]
+
+-- the sign s at k and none above
+pub at-last : (s : Sign) (p n k : ℕ) → sign_at p n k ≡ Some s → sign_at p n (k + 1) ≡ None → pos p -ℤ pos n ≡ count_with s (k + 1)
+at-last s p n k h g = go (nat_lt k (p - n)) (nat_lt k (n - p)) (nat_lt (k + 1) (p - n)) (nat_lt (k + 1) (n - p)) refl refl refl refl h g
+  where
+    upper : (x : ℕ) → nat_lt (k + 1) x ≡ false → x ≤ k + 1
+    upper x e = elim (cases_lt (k + 1) x) [ inl t ↦ absurd (both_ways _ e (lt-ltb (k + 1) x t)) | inr t ↦ t ]
+
+    go : (b c d e : Bool) → nat_lt k (p - n) ≡ b → nat_lt k (n - p) ≡ c → nat_lt (k + 1) (p - n) ≡ d → nat_lt (k + 1) (n - p) ≡ e →
+        cond b (Some Plus) (cond c (Some Minus) None) ≡ Some s → cond d (Some Plus) (cond e (Some Minus) None) ≡ None → pos p -ℤ pos n ≡ count_with s (k + 1)
+    go b c true e i j u v x y = absurd (let z : ⊥ = cc in z)
+    go b c false true i j u v x y = absurd (let z : ⊥ = cc in z)
+    go true c false false i j u v x y =
+        let is_s : Plus ≡ s = cc in
+        subst (λ z. pos p -ℤ pos n ≡ count_with z (k + 1)) is_s (let a = ltb-true k (p - n) i in let b = upper (p - n) u in omega (arith, ints))
+    go false true false false i j u v x y =
+        let is_s : Minus ≡ s = cc in
+        subst (λ z. pos p -ℤ pos n ≡ count_with z (k + 1)) is_s (let a = ltb-true k (n - p) j in let b = upper (n - p) v in omega (arith, ints))
+    go false false false false i j u v x y = absurd (let z : ⊥ = cc in z)
+
+-- an ordinal that has a sign is below the number of letters
+pub within : (s : Sign) (p n k : ℕ) → sign_at p n k ≡ Some s → k < p + n
+within s p n k h = go (nat_lt k (p - n)) (nat_lt k (n - p)) refl refl h
+  where
+    go : (b c : Bool) → nat_lt k (p - n) ≡ b → nat_lt k (n - p) ≡ c → cond b (Some Plus) (cond c (Some Minus) None) ≡ Some s → k < p + n
+    go true c i j x = let a = ltb-true k (p - n) i in omega arith
+    go false true i j x = let a = ltb-true k (n - p) j in omega arith
+    go false false i j x = absurd (let z : ⊥ = cc in z)
+
+pub at-most : (m : Message) (es : List (Occurrence × Sign)) → pluses message_rules m (letters_of es) + minuses message_rules m (letters_of es) ≤ length es
+at-most m [] = omega arith
+at-most m (e ∷ es) = go (is_plus e.1) (at-most m es)
+  where
+    go : (b : Bool) → pluses message_rules m (letters_of es) + minuses message_rules m (letters_of es) ≤ length es →
+        (one_if (b && same message_rules m e.0.message) + pluses message_rules m (letters_of es))
+        + (one_if (not b && same message_rules m e.0.message) + minuses message_rules m (letters_of es)) ≤ suc (length es)
+    go true i = let a = one_if-le (same message_rules m e.0.message) in omega arith
+    go false i = let a = one_if-le (same message_rules m e.0.message) in omega arith
+
+module _ (T : IsTotalOrder message_cmp) (X : (a b : Message) → message_cmp a b ≡ Equal → a ≡ b) (m : Message) (top : ℕ) (es : List (Occurrence × Sign)) (st : AreCounted es) where
+  -- the places of the message are not beyond the greatest one
+  up_to : (k : ℕ) → k ≤ top → is_gt (occurrence_cmp (occurrence_of m k) (occurrence_of m top)) ≡ false
+  up_to k h = rw (tied_itself T m) (go (nat_lt k top) (k == top) refl refl)
+    where
+      go : (b c : Bool) → nat_lt k top ≡ b → (k == top) ≡ c → is_gt (cond b Less (cond c Equal Greater)) ≡ false
+      go true c e f = refl
+      go false true e f = refl
+      go false false e f = absurd (elim (cases_lt k top) [
+        | inl t ↦ both_ways _ e (lt-ltb k top t)
+        | inr t ↦ both_ways _ f (eq-eqb k top (omega arith))
+      ])
+
+  pub count-none : ((q : Occurrence) → is_gt (occurrence_cmp q (occurrence_of m top)) ≡ false → lookup (is_at (occurrence_cmp q)) es ≡ None) →
+      signed_count message_rules m (letters_of es) ≡ pos 0
+  count-none h = at-zero (pluses message_rules m (letters_of es)) (minuses message_rules m (letters_of es)) (sym (st.signs m 0) ∙ h (occurrence_of m 0) (up_to 0 (omega arith)))
+
+  module _ (e : Occurrence) (s : Sign) (here : lookup (is_at (occurrence_cmp e)) es ≡ Some s) (low : is_gt (occurrence_cmp e (occurrence_of m top)) ≡ false)
+      (last : (q : Occurrence) → is_gt (occurrence_cmp q (occurrence_of m top)) ≡ false → IsSome (lookup (is_at (occurrence_cmp q)) es) → is_lt (occurrence_cmp e q) ≡ false) where
+    pub count-other_last : (e.message ≡ m → ⊥) → signed_count message_rules m (letters_of es) ≡ pos 0
+    count-other_last n = at-zero (pluses message_rules m (letters_of es)) (minuses message_rules m (letters_of es)) (sym (st.signs m 0) ∙ some-of _ (λ i. go (message_cmp e.message m) refl low (last (occurrence_of m 0) (up_to 0 (omega arith)) i)))
+      where
+        go : (o : Ordering) → message_cmp e.message m ≡ o → is_gt (ordering_then o (nat_cmp e.ordinal top)) ≡ false → is_lt (ordering_then o (nat_cmp e.ordinal 0)) ≡ false → ⊥
+        go Less w l k = cc
+        go Equal w l k = n (X e.message m w)
+        go Greater w l k = cc
+
+  module _ (k : ℕ) (s : Sign) (here : lookup (is_at (occurrence_cmp (occurrence_of m k))) es ≡ Some s) (small : length es < top) where
+    pub room : k < length es
+    room = let a = within s (pluses message_rules m (letters_of es)) (minuses message_rules m (letters_of es)) k (sym (st.signs m k) ∙ here) in let b = at-most m es in omega arith
+
+    pub count-last : ((q : Occurrence) → is_gt (occurrence_cmp q (occurrence_of m top)) ≡ false → IsSome (lookup (is_at (occurrence_cmp q)) es) → is_lt (occurrence_cmp (occurrence_of m k) q) ≡ false) →
+        signed_count message_rules m (letters_of es) ≡ count_with s (k + 1)
+    count-last last =
+        at-last s (pluses message_rules m (letters_of es)) (minuses message_rules m (letters_of es)) k (sym (st.signs m k) ∙ here)
+        (sym (st.signs m (k + 1)) ∙ some-of _ (λ i. let r = room in
+        both_ways _ (last (occurrence_of m (k + 1)) (up_to (k + 1) (omega arith)) i) below))
+      where
+        below : is_lt (occurrence_cmp (occurrence_of m k) (occurrence_of m (k + 1))) ≡ true
+        below = rw (tied_itself T m, lt-ltb k (k + 1) (omega arith)) refl

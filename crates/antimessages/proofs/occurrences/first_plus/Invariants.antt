@@ -1,0 +1,9 @@
+use Rattle.std.proofs.Common.{◌≡◌}
+use Rattle.std.specs.Option.{option_map}
+use Rattle.std.specs.List.{find}
+use Rattle.antimessages.specs.Letters.{is_plus}
+use Rattle.antimessages.proofs.occurrences.first_plus.Given as goal
+
+abbrev pub invariant-loop-occurrence : goal.invariant-loop-occurrence
+invariant-loop-occurrence l =
+    option_map (λ e. e.0.message) (find (λ e. is_plus e.1) l.rest) ≡ option_map (λ e. e.0.message) (find (λ e. is_plus e.1) l.fn.entries)

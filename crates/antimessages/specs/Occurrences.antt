@@ -1,0 +1,49 @@
+-- How signed counts are kept: the letters of a message that are counted and not taken back have the ordinals 0, 1 and so on, all with
+-- one sign.
+use Rattle.std.specs.Prelude.{◌≡◌, ℕ, ◌-◌, ℤ, pos, ◌-ℤ◌, cond, nat_lt, List, map, Option, Some, None}
+use Rattle.std.specs.Ordering.{nat_cmp, ordering_then}
+use Rattle.std.specs.declared.cmp.Ordering.{Ordering}
+use Rattle.std.specs.declared.ops.Bound.{Bound}
+use Rattle.std.specs.declared.ops.Bound.TheVariants.{Excluded, Unbounded}
+use Rattle.std.specs.Map.{lookup}
+use Rattle.std.specs.BTreeMap.{is_at}
+use Rattle.vlink.specs.declared.message.Message.{Message}
+use Rattle.vlink.specs.declared.message.Sign.{Sign}
+use Rattle.vlink.specs.declared.message.Sign.TheVariants.{Plus, Minus}
+use Rattle.vlink.specs.Order.{message_cmp}
+use Rattle.virtual_time.specs.Letters.{Letter as Signed, pluses, minuses}
+use Rattle.antimessages.specs.declared.occurrence.Occurrence.{Occurrence}
+use Rattle.antimessages.specs.Letters.{message_rules, is_plus}
+
+abbrev pub occurrence_of : Message → ℕ → Occurrence
+occurrence_of m k = record { message = m; ordinal = k }
+
+-- occurrences by message and then by ordinal
+abbrev pub occurrence_cmp : Occurrence → Occurrence → Ordering
+occurrence_cmp a b = ordering_then (message_cmp a.message b.message) (nat_cmp a.ordinal b.ordinal)
+
+-- the letter that counts
+abbrev pub letter_at : Occurrence × Sign → Signed Message
+letter_at e = record { message = e.0.message; plus = is_plus e.1 }
+
+abbrev pub letters_of : List (Occurrence × Sign) → List (Signed Message)
+letters_of es = map letter_at es
+
+-- where the occurrences of messages that come after another one begin: behind all of its own
+abbrev pub behind : Option Message → Bound Occurrence
+behind None = Unbounded
+behind (Some m) = Excluded (occurrence_of m 18446744073709551615)
+
+-- the signed count of a message with k letters of this sign and none of the other
+abbrev pub count_with : Sign → ℕ → ℤ
+count_with Plus k = pos k
+count_with Minus k = pos 0 -ℤ pos k
+
+-- the sign at the ordinal k of a message that has p plus letters and n minus letters
+abbrev pub sign_at : ℕ → ℕ → ℕ → Option Sign
+sign_at p n k = cond (nat_lt k (p - n)) (Some Plus) (cond (nat_lt k (n - p)) (Some Minus) None)
+
+-- at each ordinal of each message stands the sign that its count tells
+pub record AreCounted (es : List (Occurrence × Sign)) : Type 0 where
+  pub signs : (m : Message) (k : ℕ) → lookup (is_at (occurrence_cmp (occurrence_of m k))) es
+      ≡ sign_at (pluses message_rules m (letters_of es)) (minuses message_rules m (letters_of es)) k
