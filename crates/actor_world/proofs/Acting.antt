@@ -23,11 +23,11 @@ use Rattle.actor_world.specs.declared.done.Done.{Done}
 use Rattle.actor_world.specs.declared.done.Done.TheVariants.{Did, NotEnabled}
 use Rattle.actor_world.specs.declared.fault.StepFault.{StepFault}
 use Rattle.actor_world.specs.Faults.{fault_of}
-use Rattle.actor_world.specs.Worlds.{Held, StandsForWorld, AtEachWorld}
+use Rattle.actor_world.specs.Worlds.{Holdings, StandsForWorld, AtEachWorld}
 use Rattle.actor_world.specs.Stepping.{IsStepped}
 use Rattle.actor_world.proofs.Holding.{some-is, process-within, with_part-stands, HasNumbers, when-did, when-not_enabled, when-no_memory, when-exhausted, the_same, the_same-when}
 
-module _ {S K : Type 0} (f : Simulation Message S K Note) (is_value : S → Message → Type 0) (w : World Message S) (old : Held S K) (h : StandsForWorld f is_value w old)
+module _ {S K : Type 0} (f : Simulation Message S K Note) (is_value : S → Message → Type 0) (w : World Message S) (old : Holdings S K) (h : StandsForWorld f is_value w old)
     (p : ℕ) (q : Queues S K) (here : slice_get old.processes p ≡ Some q) where
   part-here : StandsFor f.rules is_value (f.opening p) (w.parts p) q
   part-here = h.parts p q here
@@ -83,7 +83,7 @@ module _ {S K : Type 0} (f : Simulation Message S K Note) (is_value : S → Mess
       (acted (λ opening. committed_once f.rules old.gvt) q' does ps d)
 
 module _ {S K : Type 0} (r : Rules Message S K Note) (number end : S → ℕ) (is_placed : S → Type 0) (is_value : S → Message → Type 0)
-    (old : Held S K) (p : ℕ) (q : Queues S K) (here : slice_get old.processes p ≡ Some q) where
+    (old : Holdings S K) (p : ℕ) (q : Queues S K) (here : slice_get old.processes p ≡ Some q) where
   pub arrive-none : length q.tray ≡ 0 → IsStepped r number end is_placed is_value (Arrive p) old old (Ok NotEnabled)
   arrive-none e =
       when-not_enabled r number end is_placed is_value (Arrive p) old old

@@ -12,11 +12,11 @@ use Rattle.actor_world.specs.declared.done.Done.{Done}
 use Rattle.actor_world.specs.declared.done.Done.TheVariants.{Did, NotEnabled}
 use Rattle.actor_world.specs.declared.fault.StepFault.{StepFault}
 use Rattle.actor_world.specs.declared.fault.StepFault.TheVariants.{Exhausted}
-use Rattle.actor_world.specs.Worlds.{Held, StandsForWorld, HoldsTheSame, IsExhausted, AtEachWorld}
+use Rattle.actor_world.specs.Worlds.{Holdings, StandsForWorld, HoldsTheSame, IsExhausted, AtEachWorld}
 use Rattle.actor_world.specs.Stepping.{IsStepped}
 
 -- what holds the same stands for the same worlds
-pub stands-same : {S K : Type 0} (f : Simulation Message S K Note) (is_value : S → Message → Type 0) (w : World Message S) (old new : Held S K) →
+pub stands-same : {S K : Type 0} (f : Simulation Message S K Note) (is_value : S → Message → Type 0) (w : World Message S) (old new : Holdings S K) →
     HoldsTheSame old new → StandsForWorld f is_value w old → StandsForWorld f is_value w new
 stands-same f is_value w old new s h = record {
   count = rw s.processes h.count;
@@ -37,7 +37,7 @@ pub step-not : {M S K N : Type 0} (f : Simulation M S K N) (x : Step) (w : World
 unfolding step
 step-not f x w e = rw e refl
 
-module _ {S K : Type 0} (r : Rules Message S K Note) (number end : S → ℕ) (is_placed : S → Type 0) (is_value : S → Message → Type 0) (x : Step) (old new : Held S K) where
+module _ {S K : Type 0} (r : Rules Message S K Note) (number end : S → ℕ) (is_placed : S → Type 0) (is_value : S → Message → Type 0) (x : Step) (old new : Holdings S K) where
   answer-stands : (answer : Result Done StepFault) → IsStepped r number end is_placed is_value x old new answer →
       OnOk answer (AtEachWorld r number end is_placed is_value old (λ f w. StandsForWorld f is_value (step f x w) new))
   answer-stands (Ok Did) s = λ y laid steps h.

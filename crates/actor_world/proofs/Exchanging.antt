@@ -28,7 +28,7 @@ use Rattle.actor_world.specs.declared.done.Done.{Done}
 use Rattle.actor_world.specs.declared.done.Done.TheVariants.{Did, NotEnabled}
 use Rattle.actor_world.specs.declared.fault.StepFault.{StepFault}
 use Rattle.actor_world.specs.Faults.{fault_of}
-use Rattle.actor_world.specs.Worlds.{Held, StandsForWorld, AtEachWorld, IsAWorld}
+use Rattle.actor_world.specs.Worlds.{Holdings, StandsForWorld, AtEachWorld, IsAWorld}
 use Rattle.actor_world.specs.Stepping.{IsStepped}
 use Rattle.actor_world.proofs.Holding.{process-within, parts-set, when-did, when-not_enabled, when-no_memory, the_same, the_same-when}
 
@@ -36,7 +36,7 @@ use Rattle.actor_world.proofs.Holding.{process-within, parts-set, when-did, when
 none-past : {X : Type 0} (xs : List X) (i : ℕ) → slice_get xs i ≡ None → length xs ≤ i
 none-past xs i e = elim (slice_get_cases xs i).1 [ inl h ↦ (let d = h.2 in absurd cc) | inr h ↦ h.0 ]
 
-module _ {S K : Type 0} (f : Simulation Message S K Note) (is_value : S → Message → Type 0) (w : World Message S) (old : Held S K) (h : StandsForWorld f is_value w old)
+module _ {S K : Type 0} (f : Simulation Message S K Note) (is_value : S → Message → Type 0) (w : World Message S) (old : Holdings S K) (h : StandsForWorld f is_value w old)
     (p : ℕ) (q : Queues S K) (here : slice_get old.processes p ≡ Some q) where
   part-here : StandsFor f.rules is_value (f.opening p) (w.parts p) q
   part-here = h.parts p q here
@@ -99,7 +99,7 @@ module _ {S K : Type 0} (f : Simulation Message S K Note) (is_value : S → Mess
       subst Good (sym (sym part-here.past.state ∙ part-here.well.state_is))
       (reached-keeps f.rules O Good stays (f.opening p) ((w.parts p).committed ++ (w.parts p).done) good)
 
-take-not : {S K : Type 0} (f : Simulation Message S K Note) (is_value : S → Message → Type 0) (w : World Message S) (old : Held S K) → StandsForWorld f is_value w old →
+take-not : {S K : Type 0} (f : Simulation Message S K Note) (is_value : S → Message → Type 0) (w : World Message S) (old : Holdings S K) → StandsForWorld f is_value w old →
     (p : ℕ) → p < f.processes → (i : ℕ) → slice_get (letters_for p old.mail) i ≡ None → is_enabled f (Take p i) w ≡ false
 unfolding is_enabled
 take-not f is_value w old h p within i e =
@@ -113,7 +113,7 @@ letters-go r O n (l ∷ ls) h =
     All-cons (λ z. r.receiver z.message < n) l ls (h l.message (named-head r O l ls)) (letters-go r O n ls (λ m k. h m (let a = k in omega arith)))
 
 module _ {S K : Type 0} (r : Rules Message S K Note) (number end : S → ℕ) (is_placed : S → Type 0) (is_value : S → Message → Type 0)
-    (old : Held S K) (p : ℕ) (q : Queues S K) (here : slice_get old.processes p ≡ Some q) where
+    (old : Holdings S K) (p : ℕ) (q : Queues S K) (here : slice_get old.processes p ≡ Some q) where
   pub take-refused : (i : ℕ) (l : Signed Message) → slice_get (letters_for p old.mail) i ≡ Some l → (ps : List (Queues S K)) → ps ≡ old.processes →
       (answer : Result Done StepFault) → answer ≡ Err (fault_of process.OutOfMemory) →
       IsStepped r number end is_placed is_value (Take p i) old (record { processes = ps; mail = old.mail; floors = old.floors; gvt = old.gvt; until = old.until }) answer
@@ -183,7 +183,7 @@ module _ {S K : Type 0} (r : Rules Message S K Note) (number end : S → ℕ) (i
       (subst (λ ls. All (λ l. r.receiver l.message < x.processes) ls) (sym (part-here f is_value w old h p q here).outbox)
       (letters-go r L.order x.processes (w.parts p).outbox (λ m j. ((k.sound p i).outbox_from m j).1)))
 
-module _ {S K : Type 0} (r : Rules Message S K Note) (number end : S → ℕ) (is_placed : S → Type 0) (is_value : S → Message → Type 0) (old : Held S K) where
+module _ {S K : Type 0} (r : Rules Message S K Note) (number end : S → ℕ) (is_placed : S → Type 0) (is_value : S → Message → Type 0) (old : Holdings S K) where
   pub floors-within : IsAWorld r number end is_placed is_value old → length old.floors ≡ length old.processes
   floors-within world = world.3.floor_count ∙ sym world.3.count
 

@@ -20,7 +20,7 @@ use Rattle.actor_world.specs.declared.done.Done.{Done}
 use Rattle.actor_world.specs.declared.done.Done.TheVariants.{Did, NotEnabled}
 use Rattle.actor_world.specs.declared.fault.StepFault.{StepFault}
 use Rattle.actor_world.specs.declared.fault.StepFault.TheVariants.{OutOfMemory, Exhausted}
-use Rattle.actor_world.specs.Worlds.{Held, StandsForWorld, HoldsTheSame, IsExhausted, AtEachWorld}
+use Rattle.actor_world.specs.Worlds.{Holdings, StandsForWorld, HoldsTheSame, IsExhausted, AtEachWorld}
 use Rattle.actor_world.specs.Stepping.{IsStepped}
 
 pub some-is : {A : Type 0} (o : Option A) → IsSome o → is_some o ≡ true
@@ -39,10 +39,10 @@ exhausted-enabled f (Commit p) w d = absurd d
 
 module _ {S K : Type 0} (r : Rules Message S K Note) (number end : S → ℕ) (is_placed : S → Type 0) (is_value : S → Message → Type 0) where
   -- no numbers are wanting
-  abbrev pub HasNumbers : Step → Held S K → Type 0
+  abbrev pub HasNumbers : Step → Holdings S K → Type 0
   HasNumbers x old = AtEachWorld r number end is_placed is_value old (λ f w. IsExhausted f x w → ⊥)
 
-  pub when-did : (x : Step) (old new : Held S K) → HasNumbers x old →
+  pub when-did : (x : Step) (old new : Holdings S K) → HasNumbers x old →
       AtEachWorld r number end is_placed is_value old (λ f w. (is_enabled f x w ≡ true) × StandsForWorld f is_value (effect f x w) new) →
       IsStepped r number end is_placed is_value x old new (Ok Did)
   when-did x old new n h = record {
@@ -54,7 +54,7 @@ module _ {S K : Type 0} (r : Rules Message S K Note) (number end : S → ℕ) (i
     exhausted = λ y laid steps k. (λ e. absurd cc, λ d. absurd (n y laid steps k d));
   }
 
-  pub when-not_enabled : (x : Step) (old new : Held S K) →
+  pub when-not_enabled : (x : Step) (old new : Holdings S K) →
       AtEachWorld r number end is_placed is_value old (λ f w. is_enabled f x w ≡ false) → HoldsTheSame old new →
       IsStepped r number end is_placed is_value x old new (Ok NotEnabled)
   when-not_enabled x old new h s = record {
@@ -71,7 +71,7 @@ module _ {S K : Type 0} (r : Rules Message S K Note) (number end : S → ℕ) (i
         );
   }
 
-  pub when-no_memory : (x : Step) (old new : Held S K) → HasNumbers x old →
+  pub when-no_memory : (x : Step) (old new : Holdings S K) → HasNumbers x old →
       AtEachWorld r number end is_placed is_value old (λ f w. is_enabled f x w ≡ true) → HoldsTheSame old new →
       IsStepped r number end is_placed is_value x old new (Err OutOfMemory)
   when-no_memory x old new n h s = record {
@@ -83,7 +83,7 @@ module _ {S K : Type 0} (r : Rules Message S K Note) (number end : S → ℕ) (i
     exhausted = λ y laid steps k. (λ e. absurd cc, λ d. absurd (n y laid steps k d));
   }
 
-  pub when-exhausted : (x : Step) (old new : Held S K) →
+  pub when-exhausted : (x : Step) (old new : Holdings S K) →
       AtEachWorld r number end is_placed is_value old (λ f w. IsExhausted f x w) → HoldsTheSame old new →
       IsStepped r number end is_placed is_value x old new (Err Exhausted)
   when-exhausted x old new h s = record {
@@ -96,15 +96,15 @@ module _ {S K : Type 0} (r : Rules Message S K Note) (number end : S → ℕ) (i
   }
 
   -- what is held is told otherwise
-  pub seen-as : (x : Step) (old seen new : Held S K) (answer : Result Done StepFault) → old ≡ seen →
+  pub seen-as : (x : Step) (old seen new : Holdings S K) (answer : Result Done StepFault) → old ≡ seen →
       IsStepped r number end is_placed is_value x old new answer → IsStepped r number end is_placed is_value x seen new answer
   seen-as x old seen new answer e h = subst (λ held. IsStepped r number end is_placed is_value x held new answer) e h
 
-pub the_same : {S K : Type 0} (held : Held S K) → HoldsTheSame held held
+pub the_same : {S K : Type 0} (held : Holdings S K) → HoldsTheSame held held
 the_same held = record { processes = refl; boxes = refl; mail = λ p. refl; floors = refl; gvt = refl; until = refl }
 
 -- the processes hold the same, and so does all
-pub the_same-when : {S K : Type 0} (held : Held S K) (ps : List (Queues S K)) → ps ≡ held.processes →
+pub the_same-when : {S K : Type 0} (held : Holdings S K) (ps : List (Queues S K)) → ps ≡ held.processes →
     HoldsTheSame held (record { processes = ps; mail = held.mail; floors = held.floors; gvt = held.gvt; until = held.until })
 the_same-when held ps e = record { processes = e; boxes = refl; mail = λ p. refl; floors = refl; gvt = refl; until = refl }
 
@@ -146,7 +146,7 @@ set_there xs p k x y n e =
     let a : get_or xs k y ≡ y = sym (get_or-set_other xs p k x y n) ∙ get_or_from_slice_get (set xs p x) k y y e in
     slice_get-get_or xs k y i ∙ ap (λ z. Some z) a
 
-module _ {S K : Type 0} (f : Simulation Message S K Note) (is_value : S → Message → Type 0) (w : World Message S) (held : Held S K) (h : StandsForWorld f is_value w held) where
+module _ {S K : Type 0} (f : Simulation Message S K Note) (is_value : S → Message → Type 0) (w : World Message S) (held : Holdings S K) (h : StandsForWorld f is_value w held) where
   pub process-within : (p : ℕ) (q : Queues S K) → slice_get held.processes p ≡ Some q → p < f.processes
   process-within p q e = let a = slice_get_within held.processes p q e in let b = h.count in omega arith
 

@@ -1,10 +1,10 @@
 -- What a program holds of a world, and when that stands for a world of the law of virtual time.
-use Rattle.std.specs.Prelude.{◌≡◌, ℕ, ◌+◌, ◌<◌, List, [], length, slice_get, Some, IsSome}
+use Rattle.std.specs.Prelude.{◌≡◌, ℕ, ◌+◌, ◌<◌, List, [], ◌∷◌, length, slice_get, Some, IsSome, ⊤}
 use Rattle.vlink.specs.declared.message.Message.{Message}
 use Rattle.vlink.specs.declared.note.Note.{Note}
 use Rattle.vlink.specs.Numbering.{greatest_number}
 use Rattle.virtual_time.specs.Rules.{Rules}
-use Rattle.virtual_time.specs.Part.{next_of}
+use Rattle.virtual_time.specs.Part.{opened, next_of}
 use Rattle.virtual_time.specs.Simulation.{Simulation}
 use Rattle.virtual_time.specs.World.{World, Step, start, run}
 use Rattle.virtual_time.specs.World.Step.{Run}
@@ -14,20 +14,22 @@ use Rattle.antimessages.specs.Mailing.{letters_for}
 use Rattle.process_queues.specs.Queues.{Queues, StandsFor}
 
 -- the processes by their numbers, the mail, the floors, GVT and the end time
-pub record Held (S K : Type 0) : Type 0 where
+pub record Holdings (S K : Type 0) : Type 0 where
   pub processes : List (Queues S K)
   pub mail : List Store
   pub floors : List ℕ
   pub gvt : ℕ
   pub until : ℕ
 
--- the queues of a process that has done nothing, with this actor in its opening state
-abbrev pub opened_queues : {S K : Type 0} → S → Queues S K
-opened_queues actor =
-    record { past = record { state = actor; done = []; sends = []; rows = [] }; sealed = 0; committed = 0; tally = []; tray = []; outbox = [] }
+-- process for process, the queues are those of a process that has done nothing, with this actor in its opening state
+abbrev pub AreOpened : {S K : Type 0} → Rules Message S K Note → (S → Message → Type 0) → List S → List (Queues S K) → Type 0
+AreOpened r is_value [] [] = ⊤
+AreOpened r is_value (actor ∷ actors) (q ∷ qs) = StandsFor r is_value actor (opened actor) q × AreOpened r is_value actors qs
+AreOpened r is_value [] (q ∷ qs) = ⊥
+AreOpened r is_value (actor ∷ actors) [] = ⊥
 
 -- process for process, what is held is the world of a simulation
-pub record StandsForWorld {S K : Type 0} (f : Simulation Message S K Note) (is_value : S → Message → Type 0) (w : World Message S) (held : Held S K) : Type 0 where
+pub record StandsForWorld {S K : Type 0} (f : Simulation Message S K Note) (is_value : S → Message → Type 0) (w : World Message S) (held : Holdings S K) : Type 0 where
   pub count : length held.processes ≡ f.processes
   pub parts : (p : ℕ) (q : Queues S K) → slice_get held.processes p ≡ Some q → StandsFor f.rules is_value (f.opening p) (w.parts p) q
   pub boxes : length held.mail ≡ f.processes
@@ -38,7 +40,7 @@ pub record StandsForWorld {S K : Type 0} (f : Simulation Message S K Note) (is_v
   pub until : held.until ≡ f.until
 
 -- both hold the same, whatever room their mail has
-pub record HoldsTheSame {S K : Type 0} (old new : Held S K) : Type 0 where
+pub record HoldsTheSame {S K : Type 0} (old new : Holdings S K) : Type 0 where
   pub processes : new.processes ≡ old.processes
   pub boxes : length new.mail ≡ length old.mail
   pub mail : (p : ℕ) → letters_for p new.mail ≡ letters_for p old.mail
@@ -53,14 +55,14 @@ IsExhausted f _ w = ⊥
 
 module _ {S K : Type 0} (r : Rules Message S K Note) (number end : S → ℕ) (is_placed : S → Type 0) (is_value : S → Message → Type 0) where
   -- P holds of the simulation of each setting that is laid out, and of the world after each list of steps for which this stands
-  abbrev pub AtEachWorld : Held S K → (Simulation Message S K Note → World Message S → Type 0) → Type 0
+  abbrev pub AtEachWorld : Holdings S K → (Simulation Message S K Note → World Message S → Type 0) → Type 0
   AtEachWorld held P =
       (x : Setting S) → IsLaidOut r number end is_placed x → (steps : List Step) →
       StandsForWorld (simulation_of r x) is_value (run (simulation_of r x) steps (start (simulation_of r x))) held →
       P (simulation_of r x) (run (simulation_of r x) steps (start (simulation_of r x)))
 
   -- it stands for the world after some steps, in the simulation of some setting that is laid out
-  abbrev pub IsAWorld : Held S K → Type 0
+  abbrev pub IsAWorld : Holdings S K → Type 0
   IsAWorld held =
       (x : Setting S) × IsLaidOut r number end is_placed x × (steps : List Step) ×
       StandsForWorld (simulation_of r x) is_value (run (simulation_of r x) steps (start (simulation_of r x))) held

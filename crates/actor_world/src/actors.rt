@@ -12,7 +12,7 @@ ghost use Rattle.antimessages.specs.Letters.{signed};
 ghost use Rattle.antimessages.specs.Mailing.{letters_for};
 ghost use Rattle.process_queues.specs.Past.{seen_row};
 ghost use Rattle.actor_world.specs.declared.fault.StepFault.TheVariants.{OutOfMemory};
-ghost use Rattle.actor_world.specs.Worlds.{opened_queues, StandsForWorld, AtEachWorld, IsAWorld, CanOpen};
+ghost use Rattle.actor_world.specs.Worlds.{AreOpened, StandsForWorld, AtEachWorld, IsAWorld, CanOpen};
 
 use crate::fault::StepFault;
 use antimessages::{Mail, Outbox};
@@ -38,9 +38,9 @@ pub struct ActorWorld<R: Actor> {
 
 impl<R: Actor> Model for ActorWorld<R> {
     ghost use Rattle.std.specs.Prelude.{map};
-    ghost use Rattle.actor_world.specs.Worlds.{Held};
+    ghost use Rattle.actor_world.specs.Worlds.{Holdings};
 
-    ghost Value = { Held R R.Record };
+    ghost Value = { Holdings R R.Record };
 
     ghost view = { λ a. record {
       processes = map (λ process. process.queues) a.processes.items;
@@ -110,7 +110,8 @@ impl<R: Actor + Drop> ActorWorld<R> {
 
     /// Whether every done event of every process is committed.
     pub fn all_committed(&self) -> bool
-        ensures { IsTrue result ↔ All (λ q. q.past.done ≡ []) self.now.processes }
+        ensures { AtEachWorld (rules_of R.plain R.counter) R.number R.end R.is_placed R.is_value self.now
+            (λ f w. IsTrue result ↔ ((p : ℕ) → p < f.processes → (w.parts p).done ≡ [])) }
     {
         for process in &self.processes {
             if process.oldest().is_some() {
@@ -123,8 +124,7 @@ impl<R: Actor + Drop> ActorWorld<R> {
     /// How many events of process `process` are committed.
     pub fn committed(&self, process: u32) -> u64
         requires { process < length self.now.processes }
-        ensures committed { IfSome (slice_get self.now.processes process) (λ q. result ≡ q.committed) }
-        ensures stands { AtEachWorld (rules_of R.plain R.counter) R.number R.end R.is_placed R.is_value self.now (λ f w. result ≡ length (w.parts process).committed) }
+        ensures { AtEachWorld (rules_of R.plain R.counter) R.number R.end R.is_placed R.is_value self.now (λ f w. result ≡ length (w.parts process).committed) }
     {
         self.processes[process as usize].committed()
     }
@@ -132,8 +132,7 @@ impl<R: Actor + Drop> ActorWorld<R> {
     /// The rows of the committed events of process `process`, in their order.
     pub fn sealed(&self, process: u32) -> &[Row]
         requires { process < length self.now.processes }
-        ensures rows { IfSome (slice_get self.now.processes process) (λ q. map seen_row result.now ≡ take q.sealed q.past.rows) }
-        ensures stands { AtEachWorld (rules_of R.plain R.counter) R.number R.end R.is_placed R.is_value self.now
+        ensures { AtEachWorld (rules_of R.plain R.counter) R.number R.end R.is_placed R.is_value self.now
             (λ f w. map seen_row result.now ≡ rowed f.rules (f.opening process) (w.parts process).committed) }
     {
         self.processes[process as usize].sealed()
@@ -176,7 +175,7 @@ fn processes_of<R: Actor + Drop>(
     alloc: Global,
     actors: Vec<R>,
 ) -> Result<Vec<Process<R>>, StepFault>
-    ensures processes { IfOk result (λ processes. map (λ process. process.queues) processes.items ≡ map opened_queues actors.items) }
+    ensures processes { IfOk result (λ processes. AreOpened (rules_of R.plain R.counter) R.is_value actors.items (map (λ process. process.queues) processes.items)) }
     ensures memory { IfErr result (λ fault. fault ≡ OutOfMemory) }
 {
     let mut processes = Vec::new(alloc);

@@ -4,7 +4,7 @@ use Rattle.virtual_time.specs.World.Step.{Arrive}
 use Rattle.reverse.specs.Rules.{rules_of}
 use Rattle.process_queues.specs.Queues.{Queues}
 use Rattle.actor_world.specs.declared.done.Done.TheVariants.{NotEnabled}
-use Rattle.actor_world.specs.Worlds.{Held}
+use Rattle.actor_world.specs.Worlds.{Holdings}
 use Rattle.actor_world.specs.Faults.{fault_of}
 use Rattle.actor_world.specs.Stepping.{IsStepped}
 use Rattle.actor_world.proofs.Holding.{queues-at, queues-set, queues-same, same-at, seen-as}
@@ -16,9 +16,9 @@ returns-then-tray_len-eq0 g c =
     let r = rules_of g.R.Reversible.plain g.R.Actor.counter in
     let p = c.args.process in
     let vs = c.self.inside.processes.items in
-    let there = subst (λ (h : Held g.row.R.Denot g.row.R-Record.Denot). p < length h.processes) (sym c.self.view_is) c.requires.there in
+    let there = subst (λ (h : Holdings g.row.R.Denot g.row.R-Record.Denot). p < length h.processes) (sym c.self.view_is) c.requires.there in
     let here = queues-at vs p c.from.result c.index.result.now c.from.ensures there c.index.ensures in
-    subst (λ (h : Held g.row.R.Denot g.row.R-Record.Denot). IsStepped r g.R.Actor.number g.R.Actor.end g.R.Actor.is_placed g.R.Reversible.is_value (Arrive p) h h (Ok NotEnabled))
+    subst (λ (h : Holdings g.row.R.Denot g.row.R-Record.Denot). IsStepped r g.R.Actor.number g.R.Actor.end g.R.Actor.is_placed g.R.Reversible.is_value (Arrive p) h h (Ok NotEnabled))
     c.self.view_is
     (arrive-none r g.R.Actor.number g.R.Actor.end g.R.Actor.is_placed g.R.Reversible.is_value _ p _ here (sym c.tray_len.ensures.value ∙ c.if-tray_len-eq0.true))
 
@@ -27,7 +27,7 @@ returns-in_err-arrive g c =
     let r = rules_of g.R.Reversible.plain g.R.Actor.counter in
     let p = c.args.process in
     let vs = c.self.inside.processes.items in
-    let there = subst (λ (h : Held g.row.R.Denot g.row.R-Record.Denot). p < length h.processes) (sym c.self.view_is) c.requires.there in
+    let there = subst (λ (h : Holdings g.row.R.Denot g.row.R-Record.Denot). p < length h.processes) (sym c.self.view_is) c.requires.there in
     let here = queues-at vs p c.from.result c.index.result.now c.from.ensures there c.index.ensures in
     let now = queues-at vs p c.from-2.result c.index_mut.result.now c.from-2.ensures there c.index_mut.ensures.value in
     let same = same-at _ p _ _ here now in
@@ -42,7 +42,7 @@ returns g c =
     let r = rules_of g.R.Reversible.plain g.R.Actor.counter in
     let p = c.args.process in
     let vs = c.self.inside.processes.items in
-    let there = subst (λ (h : Held g.row.R.Denot g.row.R-Record.Denot). p < length h.processes) (sym c.self.view_is) c.requires.there in
+    let there = subst (λ (h : Holdings g.row.R.Denot g.row.R-Record.Denot). p < length h.processes) (sym c.self.view_is) c.requires.there in
     let here = queues-at vs p c.from.result c.index.result.now c.from.ensures there c.index.ensures in
     let now = queues-at vs p c.from-2.result c.index_mut.result.now c.from-2.ensures there c.index_mut.ensures.value in
     let same = same-at _ p _ _ here now in

@@ -2,7 +2,7 @@ use Rattle.std.proofs.Common.{◌<◌, length, Ok, Err, sym, ap, ◌∙◌, subs
 use Rattle.std.proofs.lemmas.Result.{err_from_is_err_and}
 use Rattle.virtual_time.specs.World.Step.{Commit}
 use Rattle.reverse.specs.Rules.{rules_of}
-use Rattle.actor_world.specs.Worlds.{Held}
+use Rattle.actor_world.specs.Worlds.{Holdings}
 use Rattle.actor_world.proofs.Holding.{queues-at, queues-set, queues-same, seen-as}
 use Rattle.actor_world.proofs.Acting.{commit-none, commit-did, commit-refused}
 use Rattle.actor_world.proofs.actors.ActorWorld.commit.Goals as goal
@@ -12,7 +12,7 @@ returns-in_err-committed g c =
     let r = rules_of g.R.Reversible.plain g.R.Actor.counter in
     let p = c.args.process in
     let vs = c.self.inside.processes.items in
-    let there = subst (λ (h : Held g.row.R.Denot g.row.R-Record.Denot). p < length h.processes) (sym c.self.view_is) c.requires.there in
+    let there = subst (λ (h : Holdings g.row.R.Denot g.row.R-Record.Denot). p < length h.processes) (sym c.self.view_is) c.requires.there in
     let now = queues-at vs p c.from.result c.index_mut.result.now c.from.ensures there c.index_mut.ensures.value in
     let e = err_from_is_err_and c.from_residual.result c.from_residual.ensures.1 in
     let unchanged = queues-same vs c.from.result c.index_mut.result.now c.commit_oldest.new.process c.index_mut.ensures.value c.in_err-committed.ensures.unchanged in
@@ -24,7 +24,7 @@ returns-then-not-committed g c =
     let r = rules_of g.R.Reversible.plain g.R.Actor.counter in
     let p = c.args.process in
     let vs = c.self.inside.processes.items in
-    let there = subst (λ (h : Held g.row.R.Denot g.row.R-Record.Denot). p < length h.processes) (sym c.self.view_is) c.requires.there in
+    let there = subst (λ (h : Holdings g.row.R.Denot g.row.R-Record.Denot). p < length h.processes) (sym c.self.view_is) c.requires.there in
     let now = queues-at vs p c.from.result c.index_mut.result.now c.from.ensures there c.index_mut.ensures.value in
     let none = c.if-not-committed.true in
     let unchanged = queues-same vs c.from.result c.index_mut.result.now c.commit_oldest.new.process c.index_mut.ensures.value (c.commit_oldest.ensures.none (c.in_ok-committed.was ∙ ap (λ z. Ok z) none)) in
@@ -36,7 +36,7 @@ returns g c =
     let r = rules_of g.R.Reversible.plain g.R.Actor.counter in
     let p = c.args.process in
     let vs = c.self.inside.processes.items in
-    let there = subst (λ (h : Held g.row.R.Denot g.row.R-Record.Denot). p < length h.processes) (sym c.self.view_is) c.requires.there in
+    let there = subst (λ (h : Holdings g.row.R.Denot g.row.R-Record.Denot). p < length h.processes) (sym c.self.view_is) c.requires.there in
     let now = queues-at vs p c.from.result c.index_mut.result.now c.from.ensures there c.index_mut.ensures.value in
     seen-as r g.R.Actor.number g.R.Actor.end g.R.Actor.is_placed g.R.Reversible.is_value (Commit p) _ _ _ _ c.self.view_is
     (commit-did r g.R.Actor.number g.R.Actor.end g.R.Actor.is_placed g.R.Reversible.is_value _ p _ now (λ opening part h. sym c.if-not-committed.false ∙ c.in_ok-committed.ensures.answer opening part h)

@@ -2,15 +2,15 @@ use Rattle.std.proofs.Common.{◌<◌, length, refl, sym, subst}
 use Rattle.virtual_time.specs.World.{start, run}
 use Rattle.reverse.specs.Rules.{rules_of}
 use Rattle.reverse.specs.Setting.{simulation_of}
-use Rattle.actor_world.specs.Worlds.{Held, StandsForWorld}
+use Rattle.actor_world.specs.Worlds.{Holdings, StandsForWorld}
 use Rattle.actor_world.proofs.Holding.{queues-at}
 use Rattle.actor_world.proofs.actors.ActorWorld.committed.Goals as goal
 
-pub returns-clause-stands : goal.returns-clause-stands
-returns-clause-stands g c = λ x laid steps h.
+pub returns : goal.returns
+returns g c = λ x laid steps h.
     let f = simulation_of (rules_of g.R.Reversible.plain g.R.Actor.counter) x in
     let w = run f steps (start f) in
     let p = c.args.process in
-    let there = subst (λ (o : Held g.row.R.Denot g.row.R-Record.Denot). p < length o.processes) (sym c.self.view_is) c.requires in
+    let there = subst (λ (o : Holdings g.row.R.Denot g.row.R-Record.Denot). p < length o.processes) (sym c.self.view_is) c.requires in
     let k = subst (StandsForWorld f g.R.Reversible.is_value w) (sym c.self.view_is) h in
-    c.committed.ensures.stands (x.opening p) (w.parts p) (k.parts p _ (queues-at c.self.inside.processes.items p p c.index.result.now refl there c.index.ensures))
+    c.committed.ensures (x.opening p) (w.parts p) (k.parts p _ (queues-at c.self.inside.processes.items p p c.index.result.now refl there c.index.ensures))

@@ -5,7 +5,7 @@ use Rattle.virtual_time.specs.Part.{Part, floor_of}
 use Rattle.virtual_time.specs.World.Step.{Post}
 use Rattle.reverse.specs.Rules.{rules_of}
 use Rattle.process_queues.specs.Queues.{Queues, InHand, StandsFor}
-use Rattle.actor_world.specs.Worlds.{Held, IsAWorld}
+use Rattle.actor_world.specs.Worlds.{Holdings, IsAWorld}
 use Rattle.actor_world.specs.Faults.{fault_of}
 use Rattle.actor_world.proofs.Holding.{queues-at, queues-set, queues-same, read-written, seen-as}
 use Rattle.actor_world.proofs.Exchanging.{post-did, post-refused, outbox-goes, floors-within}
@@ -16,7 +16,7 @@ post-requires g c =
     let r = rules_of g.R.Reversible.plain g.R.Actor.counter in
     let p = c.args.process in
     let vs = c.self.inside.processes.items in
-    let there = subst (λ (h : Held g.row.R.Denot g.row.R-Record.Denot). p < length h.processes) (sym c.self.view_is) c.requires.there in
+    let there = subst (λ (h : Holdings g.row.R.Denot g.row.R-Record.Denot). p < length h.processes) (sym c.self.view_is) c.requires.there in
     let world = subst (IsAWorld r g.R.Actor.number g.R.Actor.end g.R.Actor.is_placed g.R.Reversible.is_value) (sym c.self.view_is) c.requires.world in
     let now = queues-at vs p c.from.result c.index_mut.result.now c.from.ensures there c.index_mut.ensures.value in
     outbox-goes r g.R.Actor.number g.R.Actor.end g.R.Actor.is_placed g.R.Reversible.is_value _ p _ now (λ x laid. c.actor_laws.ensures x laid) world
@@ -26,7 +26,7 @@ returns-in_err-post g c =
     let r = rules_of g.R.Reversible.plain g.R.Actor.counter in
     let p = c.args.process in
     let vs = c.self.inside.processes.items in
-    let there = subst (λ (h : Held g.row.R.Denot g.row.R-Record.Denot). p < length h.processes) (sym c.self.view_is) c.requires.there in
+    let there = subst (λ (h : Holdings g.row.R.Denot g.row.R-Record.Denot). p < length h.processes) (sym c.self.view_is) c.requires.there in
     let now = queues-at vs p c.from.result c.index_mut.result.now c.from.ensures there c.index_mut.ensures.value in
     let e = err_from_is_err_and c.from_residual.result c.from_residual.ensures.1 in
     let unchanged = queues-same vs c.from.result c.index_mut.result.now c.post.new.self c.index_mut.ensures.value c.in_err-post.ensures.unchanged in
@@ -39,7 +39,7 @@ set-requires g c =
     let r = rules_of g.R.Reversible.plain g.R.Actor.counter in
     let p = c.args.process in
     let vs = c.self.inside.processes.items in
-    let there = subst (λ (h : Held g.row.R.Denot g.row.R-Record.Denot). p < length h.processes) (sym c.self.view_is) c.requires.there in
+    let there = subst (λ (h : Holdings g.row.R.Denot g.row.R-Record.Denot). p < length h.processes) (sym c.self.view_is) c.requires.there in
     let world = subst (IsAWorld r g.R.Actor.number g.R.Actor.end g.R.Actor.is_placed g.R.Reversible.is_value) (sym c.self.view_is) c.requires.world in
     let e = floors-within r g.R.Actor.number g.R.Actor.end g.R.Actor.is_placed g.R.Reversible.is_value _ world in
     omega (arith, e, there)
@@ -49,7 +49,7 @@ returns g c =
     let r = rules_of g.R.Reversible.plain g.R.Actor.counter in
     let p = c.args.process in
     let vs = c.self.inside.processes.items in
-    let there = subst (λ (h : Held g.row.R.Denot g.row.R-Record.Denot). p < length h.processes) (sym c.self.view_is) c.requires.there in
+    let there = subst (λ (h : Holdings g.row.R.Denot g.row.R-Record.Denot). p < length h.processes) (sym c.self.view_is) c.requires.there in
     let world = subst (IsAWorld r g.R.Actor.number g.R.Actor.end g.R.Actor.is_placed g.R.Reversible.is_value) (sym c.self.view_is) c.requires.world in
     let now = queues-at vs p c.from.result c.index_mut.result.now c.from.ensures there c.index_mut.ensures.value in
     let read = read-written vs p c.from.result c.from-2.result c.index.result.now c.post.new.self c.from.ensures c.from-2.ensures there c.index.ensures in

@@ -5,7 +5,7 @@ use Rattle.virtual_time.specs.World.Step.{Take}
 use Rattle.reverse.specs.Rules.{rules_of}
 use Rattle.antimessages.specs.Letters.{signed}
 use Rattle.actor_world.specs.declared.done.Done.TheVariants.{NotEnabled}
-use Rattle.actor_world.specs.Worlds.{Held, IsAWorld}
+use Rattle.actor_world.specs.Worlds.{Holdings, IsAWorld}
 use Rattle.actor_world.specs.Faults.{fault_of}
 use Rattle.actor_world.specs.Stepping.{IsStepped}
 use Rattle.actor_world.proofs.Holding.{queues-at, queues-set, queues-same, seen-as}
@@ -17,8 +17,8 @@ returns-in_default g c =
     let r = rules_of g.R.Reversible.plain g.R.Actor.counter in
     let p = c.args.process in
     let vs = c.self.inside.processes.items in
-    let there = subst (λ (h : Held g.row.R.Denot g.row.R-Record.Denot). p < length h.processes) (sym c.self.view_is) c.requires.there in
-    subst (λ (h : Held g.row.R.Denot g.row.R-Record.Denot). IsStepped r g.R.Actor.number g.R.Actor.end g.R.Actor.is_placed g.R.Reversible.is_value (Take p c.args.place) h h (Ok NotEnabled))
+    let there = subst (λ (h : Holdings g.row.R.Denot g.row.R-Record.Denot). p < length h.processes) (sym c.self.view_is) c.requires.there in
+    subst (λ (h : Holdings g.row.R.Denot g.row.R-Record.Denot). IsStepped r g.R.Actor.number g.R.Actor.end g.R.Actor.is_placed g.R.Reversible.is_value (Take p c.args.place) h h (Ok NotEnabled))
     c.self.view_is
     (take-none r g.R.Actor.number g.R.Actor.end g.R.Actor.is_placed g.R.Reversible.is_value _ p there c.args.place (sym c.in_default.ensures))
 
@@ -27,7 +27,7 @@ returns-in_err-deliver g c =
     let r = rules_of g.R.Reversible.plain g.R.Actor.counter in
     let p = c.args.process in
     let vs = c.self.inside.processes.items in
-    let there = subst (λ (h : Held g.row.R.Denot g.row.R-Record.Denot). p < length h.processes) (sym c.self.view_is) c.requires.there in
+    let there = subst (λ (h : Holdings g.row.R.Denot g.row.R-Record.Denot). p < length h.processes) (sym c.self.view_is) c.requires.there in
     let now = queues-at vs p c.from.result c.index_mut.result.now c.from.ensures there c.index_mut.ensures.value in
     let e = err_from_is_err_and c.from_residual.result c.from_residual.ensures.1 in
     let unchanged = queues-same vs c.from.result c.index_mut.result.now c.deliver.new.self c.index_mut.ensures.value c.in_err-deliver.ensures.unchanged in
@@ -40,7 +40,7 @@ lower-requires g c =
     let r = rules_of g.R.Reversible.plain g.R.Actor.counter in
     let p = c.args.process in
     let vs = c.self.inside.processes.items in
-    let there = subst (λ (h : Held g.row.R.Denot g.row.R-Record.Denot). p < length h.processes) (sym c.self.view_is) c.requires.there in
+    let there = subst (λ (h : Holdings g.row.R.Denot g.row.R-Record.Denot). p < length h.processes) (sym c.self.view_is) c.requires.there in
     let world = subst (IsAWorld r g.R.Actor.number g.R.Actor.end g.R.Actor.is_placed g.R.Reversible.is_value) (sym c.self.view_is) c.requires.world in
     let e = floors-within r g.R.Actor.number g.R.Actor.end g.R.Actor.is_placed g.R.Reversible.is_value _ world in
     omega (arith, e, there)
@@ -50,7 +50,7 @@ returns g c =
     let r = rules_of g.R.Reversible.plain g.R.Actor.counter in
     let p = c.args.process in
     let vs = c.self.inside.processes.items in
-    let there = subst (λ (h : Held g.row.R.Denot g.row.R-Record.Denot). p < length h.processes) (sym c.self.view_is) c.requires.there in
+    let there = subst (λ (h : Holdings g.row.R.Denot g.row.R-Record.Denot). p < length h.processes) (sym c.self.view_is) c.requires.there in
     let now = queues-at vs p c.from.result c.index_mut.result.now c.from.ensures there c.index_mut.ensures.value in
     seen-as r g.R.Actor.number g.R.Actor.end g.R.Actor.is_placed g.R.Reversible.is_value (Take p c.args.place) _ _ _ _ c.self.view_is
     (take-did r g.R.Actor.number g.R.Actor.end g.R.Actor.is_placed g.R.Reversible.is_value _ p _ now c.deliver.new.self.queues _ (queues-set vs p c.from.result c.deliver.new.self c.from.ensures)
