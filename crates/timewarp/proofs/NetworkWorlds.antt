@@ -19,12 +19,12 @@ use Rattle.seqsim.specs.Networks.{setting_of}
 use Rattle.actor_world.specs.declared.done.Done.{Done}
 use Rattle.actor_world.specs.declared.done.Done.TheVariants.{Did}
 use Rattle.actor_world.specs.declared.fault.StepFault.{StepFault}
-use Rattle.actor_world.specs.Worlds.{Held, StandsForWorld, HoldsTheSame, AtEachWorld}
+use Rattle.actor_world.specs.Worlds.{Holdings, StandsForWorld, HoldsTheSame, AtEachWorld}
 use Rattle.timewarp.specs.Networks.{NetworkWorld, after, IsAfter}
 use Rattle.actor_world.proofs.Answering.{stands-same}
 
 -- the network with this plan, of which this is held
-abbrev pub world : Plan → Held NodeState NodeRecord → NetworkWorld
+abbrev pub world : Plan → Holdings NodeState NodeRecord → NetworkWorld
 world plan held = record { plan = plan; held = held }
 
 -- nodes and offers of the network are laid out as a world of actors asks
@@ -38,18 +38,18 @@ run-push f [] x w = refl
 run-push f (y ∷ ys) x w = run-push f ys x (step f y w)
 
 -- what stands for the world that a step makes is the world after that step too
-stepped : (plan : Plan) (held : Held NodeState NodeRecord) (steps : List Step) (x : Step) →
+stepped : (plan : Plan) (held : Holdings NodeState NodeRecord) (steps : List Step) (x : Step) →
     StandsForWorld (simulation_of plan) IsNodeValue (step (simulation_of plan) x (after plan steps)) held → IsAfter (world plan held) (steps ++ x ∷ [])
 stepped plan held steps x h =
     subst (λ w. StandsForWorld (simulation_of plan) IsNodeValue w held) (sym (run-push (simulation_of plan) steps x (start (simulation_of plan)))) h
 
 -- where a step changes nothing, what is held is the world after that step too
-pub stepped-same : (plan : Plan) (held : Held NodeState NodeRecord) (steps : List Step) (x : Step) →
+pub stepped-same : (plan : Plan) (held : Holdings NodeState NodeRecord) (steps : List Step) (x : Step) →
     step (simulation_of plan) x (after plan steps) ≡ after plan steps → IsAfter (world plan held) steps → IsAfter (world plan held) (steps ++ x ∷ [])
 stepped-same plan held steps x e h =
     stepped plan held steps x (subst (λ w. StandsForWorld (simulation_of plan) IsNodeValue w held) (sym e) h)
 
-module _ (plan : Plan) (layout : IsLayout plan) (x : Step) (old new : Held NodeState NodeRecord) where
+module _ (plan : Plan) (layout : IsLayout plan) (x : Step) (old new : Holdings NodeState NodeRecord) where
   -- what the step of the actors promises of what is held afterwards
   abbrev pub Stands : Result Done StepFault → Type 0
   Stands answer =
@@ -78,12 +78,12 @@ module _ (plan : Plan) (layout : IsLayout plan) (x : Step) (old new : Held NodeS
   step-enabled (Err fault) s = tt
 
 -- where a node is given back, there is such a process
-pub within : (held : Held NodeState NodeRecord) (p : ℕ) (plan : Plan) → length held.processes ≡ (simulation_of plan).processes → (node : Option NodeState) →
+pub within : (held : Holdings NodeState NodeRecord) (p : ℕ) (plan : Plan) → length held.processes ≡ (simulation_of plan).processes → (node : Option NodeState) →
     (length held.processes ≤ p → IsNone node) → node ≢ None → p < (simulation_of plan).processes
 within held p plan e (Some s) h d = elim (cases_lt p (length held.processes)) [ inl i ↦ omega arith | inr i ↦ absurd (false≢true (sym (h i))) ]
 within held p plan e None h d = absurd (d refl)
 
-module _ (plan : Plan) (layout : IsLayout plan) (held : Held NodeState NodeRecord) (p : ℕ) where
+module _ (plan : Plan) (layout : IsLayout plan) (held : Holdings NodeState NodeRecord) (p : ℕ) where
   -- the state that is left when all done events are undone
   pub undone-at : (node : Option NodeState) →
       IfSome node (λ s. AtEachWorld (simulation_of plan).rules (λ s. s.sender.number) (λ s. s.sender.until) IsPlaced IsNodeValue held

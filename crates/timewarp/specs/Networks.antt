@@ -12,12 +12,12 @@ use Rattle.nodes.specs.NodeUndoing.{IsNodeValue}
 use Rattle.nodes.specs.Opening.{opening}
 use Rattle.nodes.specs.Simulation.{simulation_of}
 use Rattle.actor_run.specs.Running.{seen_row}
-use Rattle.actor_world.specs.Worlds.{Held, StandsForWorld}
+use Rattle.actor_world.specs.Worlds.{Holdings, StandsForWorld}
 
 -- a network, and what is held of a world of it
 pub record NetworkWorld : Type 0 where
   pub plan : Plan
-  pub held : Held NodeState NodeRecord
+  pub held : Holdings NodeState NodeRecord
 
 -- the world of a network after these steps, done one after another from the start
 abbrev pub after : Plan → List Step → World Message NodeState

@@ -111,6 +111,7 @@ impl World {
     pub fn is_finished(&self) -> bool
         ensures { (steps : List Stepped) → IsAfter self.now steps → IsTrue result ↔ IsFinished (simulation_of self.now.plan) (after self.now.plan steps) }
     {
+        network_layout(&self.network);
         let is_over = self.gvt().ns() == self.network.until().ns() + 1;
         is_over && self.actors.all_committed()
     }

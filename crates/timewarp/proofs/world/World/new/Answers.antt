@@ -11,13 +11,13 @@ use Rattle.nodes.specs.NodeUndoing.{IsNodeValue}
 use Rattle.nodes.specs.Opening.{opening}
 use Rattle.nodes.specs.Simulation.{simulation_of}
 use Rattle.seqsim.specs.Networks.{setting_of}
-use Rattle.actor_world.specs.Worlds.{Held, StandsForWorld}
+use Rattle.actor_world.specs.Worlds.{Holdings, StandsForWorld}
 use Rattle.timewarp.specs.Networks.{IsAfter}
 use Rattle.timewarp.proofs.NetworkWorlds.{world}
 use Rattle.timewarp.proofs.world.World.new.Goals as goal
 
 -- what stands for the start is the world after no steps
-at-start : (plan : Plan) (held : Held NodeState NodeRecord) → StandsForWorld (simulation_of plan) IsNodeValue (start (simulation_of plan)) held → IsAfter (world plan held) []
+at-start : (plan : Plan) (held : Holdings NodeState NodeRecord) → StandsForWorld (simulation_of plan) IsNodeValue (start (simulation_of plan)) held → IsAfter (world plan held) []
 unfolding run
 at-start plan held h = h
 
