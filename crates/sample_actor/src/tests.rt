@@ -1,10 +1,14 @@
 //! Scripts for the test actor, a line each: its words, and behind the arrow what they tell (`player.rt` says how). A word for which memory is
 //! refused is done again: each line holds with ample memory, and where any one request for memory is refused.
 mod asking;
+mod drawing;
 mod mailing;
 mod player;
 mod pool;
+mod second;
+mod sorted;
 
+use drawing::play_drawn;
 use player::{actor, letter, play};
 use reverse::act_and_undo;
 use std::test::Fail;
@@ -81,4 +85,9 @@ fn three_messages_are_answered_and_undone(rt: HostRuntime) -> Result<(), Fail> {
     act_and_undo(&mut actor, &messages, &mut answers)?;
     assert_eq!(rt; (answers.len(), actor.sum, actor.counter), (3, 0, 0));
     Ok(())
+}
+
+#[test]
+fn ten_thousand_drawn_scripts_answer_as_a_second_process(rt: HostRuntime) -> Result<(), Fail> {
+    play_drawn(&rt, rt.alloc(), 10_000)
 }
