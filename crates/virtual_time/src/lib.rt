@@ -4,23 +4,28 @@
 //! `Simulation` (processes, offers, and the laws asked of them), `OneThread` (the run that every other is compared with), `Letters`
 //! (messages with a sign, and signed counts), `Part` (one process, which runs ahead and rolls back), `World` (processes with mail,
 //! floors and GVT, and the six steps), `Safe` (the count law, what floors bound; a safe and a finished world), `Own` (what a process
-//! does alone) and `Well` (what holds of it alone). In `proofs`, `Cut`, `OneThread` and `Turns` are about the one-thread run; the files
+//! does alone), `Well` (what holds of it alone), `SafePart` (what holds of it below a GVT that it has seen) and `Journal` (a run put
+//! together from what one process did at one go). In `proofs`, `Cut`, `OneThread` and `Turns` are about the one-thread run; the files
 //! named `Well..` about one process alone, `Sound..` about one process in the world, `Kept..` about the world; `Safety` has the theorem,
-//! and `Examples` small cases that are computed. `Reading`, `Rolling` and `Handling` are also for code that stands for a process.
+//! `SafePart` and `Journal` the laws of these names, and `Examples` small cases that are computed. `Reading`, `Rolling` and `Handling`
+//! are also for code that stands for a process.
 #![tactic(auto)]
 
-ghost use Rattle.std.specs.Prelude.{ℕ, ◌+◌, ◌≡◌, ◌<◌, ◌≤◌, Bool, true, false, List, ◌++◌, length};
+ghost use Rattle.std.specs.Prelude.{ℕ, ◌+◌, ◌≡◌, ◌<◌, ◌≤◌, Bool, true, false, List, ◌++◌, [], ◌∷◌, length, replicate};
 ghost use Rattle.virtual_time.specs.Rules.{Rules, IsOrder, reached, sent, rowed};
 ghost use Rattle.virtual_time.specs.Lists.{IsNumbered, IsAscending, IsIn, times_in, earlier};
-ghost use Rattle.virtual_time.specs.Simulation.{Simulation, Laws, made};
+ghost use Rattle.virtual_time.specs.Simulation.{Simulation, Laws, made, put};
 ghost use Rattle.virtual_time.specs.OneThread.{IsBelow, one, events, rows_at};
-ghost use Rattle.virtual_time.specs.Letters.{IsNamed};
+ghost use Rattle.virtual_time.specs.Letters.{Letter, IsNamed};
 ghost use Rattle.virtual_time.specs.Part.{Part, opened, undo_all};
-ghost use Rattle.virtual_time.specs.World.{World, Step, start, step, run, is_enabled};
+ghost use Rattle.virtual_time.specs.World.{World, Step, start, step, run, gvt_over, is_enabled};
+ghost use Rattle.virtual_time.specs.World.Step.{Take};
 ghost use Rattle.virtual_time.specs.Safe.{Safe, history, CountLaw, NothingBefore, IsFinished, IsWhole};
 ghost use Rattle.virtual_time.specs.Own.{Act, acted, local, own};
 ghost use Rattle.virtual_time.specs.Own.Act.{Running, Emptying};
 ghost use Rattle.virtual_time.specs.Well.{IsWell, SendsKept};
+ghost use Rattle.virtual_time.specs.SafePart.{IsSafePart, MayAct};
+ghost use Rattle.virtual_time.specs.Journal.{Move, Entry, Posted, Published, steps_of, acts_of, own_in, reach, after_own, AreEnabled, fetched, delivered_block};
 
 /// The headline: whatever steps are done, in whatever order and however many, for every simulation that meets its laws.
 /// It says nothing of how soon anything comes: GVT need not rise, and a run need not finish.
@@ -100,4 +105,40 @@ pub fn process_law<M, S, K, N>()
     ensures sent_once { (r : Rules M S K N) → IsOrder r → ((s : S) (e : M) → IsNumbered r.number (r.counter s) (r.sends s e)) →
         ((s : S) (e : M) → r.counter (r.after s e) ≡ r.counter s + length (r.sends s e)) →
         (opening : S) (events : List M) (m : M) → times_in r m (sent r opening events) ≤ 1 }
+{}
+
+/// The law of one process that has seen GVT at some moment, and goes on with that moment while GVT rises.
+///
+/// - `there`: in every run each process is safe below GVT (`IsSafePart`).
+/// - `acts`: a process that is safe below a moment stays so at each act, where a letter that is delivered is not earlier than the moment,
+///   and a done event that is committed is.
+pub fn seen_law<M, S, K, N>()
+    ensures there { (f : Simulation M S K N) → Laws f → (steps : List Step) (p : ℕ) → p < f.processes →
+        IsSafePart f p (run f steps (start f)).gvt ((run f steps (start f)).parts p) }
+    ensures acts { (f : Simulation M S K N) → Laws f → (p g : ℕ) → p < f.processes → (a : Act M) (part : Part M S) →
+        IsSafePart f p g part → MayAct f g a part → IsSafePart f p g (acted f.rules (f.opening p) a part) }
+{}
+
+/// The law of a journal, whose entries tell what one process did at one go: what each makes of the world.
+///
+/// - `takes`: letters at the front of a process's mail go to its tray, its floor falls to the least of their times, and all else stays.
+/// - `posts`: where each step of a block can be done when its turn comes, the process does them, its outbox goes to the mail, its floor
+///   is what it has left, and all other floors and processes stay.
+/// - `publishes`: GVT alone changes: it is the least of the floors and of the times of the letters in the mail.
+/// - `later`: what can be done at one GVT can be done at a later one.
+/// - `alone`: where an entry does to its process what it tells, and nothing to any other, each process is what its own entries make of it.
+pub fn journal_law<M, S, K, N>()
+    ensures takes { (f : Simulation M S K N) (p : ℕ) → p < f.processes → (taken rest : List (Letter M)) (w : World M S) → w.mail p ≡ taken ++ rest →
+        run f (replicate (length taken) (Take p 0)) w ≡ fetched f p taken rest w }
+    ensures posts { (f : Simulation M S K N) (p : ℕ) → p < f.processes → (block : List Move) (w : World M S) →
+        AreEnabled f (f.opening p) w.gvt block (w.parts p) → run f (steps_of {M = M} p (Posted block)) w ≡ delivered_block f p block w }
+    ensures publishes { (f : Simulation M S K N) (w : World M S) → run f (steps_of {M = M} 0 Published) w
+        ≡ record { parts = w.parts; mail = w.mail; floors = w.floors; gvt = gvt_over f f.processes w } }
+    ensures later { (f : Simulation M S K N) (opening : S) (g h : ℕ) → g ≤ h → (block : List Move) (part : Part M S) →
+        AreEnabled f opening g block part → AreEnabled f opening h block part }
+    ensures alone { (f : Simulation M S K N) (entries : List (Entry M)) (e : Entry M) →
+        (reach f (entries ++ e ∷ [])).parts
+        ≡ put e.process (local f.rules (f.opening e.process) (acts_of e.deed) ((reach f entries).parts e.process)) (reach f entries).parts →
+        ((q : ℕ) → (reach f entries).parts q ≡ after_own f q (own_in q entries)) →
+        (q : ℕ) → (reach f (entries ++ e ∷ [])).parts q ≡ after_own f q (own_in q (entries ++ e ∷ [])) }
 {}
