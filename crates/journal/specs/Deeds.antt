@@ -1,0 +1,32 @@
+-- What an entry tells, as plain data.
+use Rattle.std.specs.Prelude.{ℕ, List, [], ◌++◌, Option, Some, None, take}
+use Rattle.vlink.specs.declared.message.Message.{Message}
+use Rattle.virtual_time.specs.Journal.{Deed as SeenDeed, Took, Posted, Published, Entry as SeenEntry, acts_of}
+use Rattle.virtual_time.specs.Own.{Act}
+use Rattle.antimessages.specs.Mailing.{letters_for}
+use Rattle.journal.specs.declared.entry.Deed.{Deed}
+use Rattle.journal.specs.declared.entry.Deed.TheVariants.{Collect, Post, Publish}
+use Rattle.journal.specs.declared.entry.Past.{Past, Opening, After'}
+use Rattle.journal.specs.declared.entry.Entry.{Entry}
+
+-- what process p did, as the laws of virtual time see it
+abbrev pub seen_deed : ℕ → Deed → SeenDeed Message
+seen_deed p (Collect count mail) = Took (take count (letters_for p mail.value))
+seen_deed p (Post block) = Posted block
+seen_deed p Publish = Published
+
+-- what the process of the entries that lead here did or had done to it, oldest first
+abbrev pub past_own : Past → List (Act Message)
+past_own Opening = []
+past_own (After' place entry past deed process) = past_own past ++ acts_of (seen_deed process deed)
+
+abbrev pub entry_own : Entry → List (Act Message)
+entry_own entry = past_own entry.past ++ acts_of (seen_deed entry.process entry.deed)
+
+abbrev pub place_of : Past → Option ℕ
+place_of Opening = None
+place_of (After' place entry past deed process) = Some place
+
+-- an entry, as the laws of virtual time see it
+abbrev pub seen_entry : Entry → SeenEntry Message
+seen_entry entry = record { process = entry.process; prior = place_of entry.past; deed = seen_deed entry.process entry.deed }

@@ -1,0 +1,135 @@
+//! What one process did alone since its last post.
+ghost use Rattle.std.specs.Prelude.{◌≡◌, ◌↔◌, List, IsTrue, [], ◌∷◌, ◌++◌, length, slice_get, OnOk, OnErr, IfOk};
+ghost use Rattle.std.specs.Option.{option_map};
+ghost use Rattle.virtual_time.specs.Journal.{Move};
+ghost use Rattle.journal.specs.Moves.{seen_move, counted, longer};
+
+use crate::moved::Moved;
+use crate::turn::Turn;
+use antimessages::OutOfMemory;
+use std::alloc::Global;
+use std::marker::Model;
+
+/// A turn, and the steps behind it that no count of it takes.
+#[derive(Drop)]
+pub(crate) struct Longer {
+    pub(crate) turn: Turn,
+    pub(crate) rest: Vec<Moved>,
+}
+
+/// How the steps are kept: a turn takes no allocation.
+#[derive(Drop)]
+pub(crate) enum Kind {
+    Counted(Turn),
+    Listed(Box<Longer>),
+}
+
+/// The steps that a process did alone and that are not in the journal yet, in order.
+#[derive(Drop)]
+pub struct Block {
+    kind: Kind,
+}
+
+impl Model for Block {
+    ghost use Rattle.std.specs.Prelude.{List};
+    ghost use Rattle.virtual_time.specs.Journal.{Move};
+    ghost use Rattle.journal.specs.Moves.{moves_of};
+
+    ghost Value = { List Move };
+
+    ghost view = { λ b. moves_of b.kind };
+}
+
+impl Block {
+    /// No step.
+    pub fn new() -> Self
+        ensures { result ≡ [] }
+    {
+        Block {
+            kind: Kind::Counted(Turn {
+                arrivals: 0,
+                runs: 0,
+                commits: 0,
+            }),
+        }
+    }
+
+    /// How many steps there are.
+    pub fn len(&self) -> usize
+        ensures { result ≡ length self.now }
+    {
+        match &self.kind {
+            Kind::Counted(turn) => turn.len(),
+            Kind::Listed(longer) => longer.turn.len() + longer.rest.len(),
+        }
+    }
+
+    /// Whether there is no step.
+    pub fn is_empty(&self) -> bool
+        ensures { IsTrue result ↔ (self.now ≡ []) }
+    {
+        self.len() == 0
+    }
+
+    /// The step number `at`, from 0. `None`: there are no more.
+    pub fn get(&self, at: usize) -> Option<Moved>
+        ensures { option_map seen_move result ≡ slice_get self.now at }
+    {
+        match &self.kind {
+            Kind::Counted(turn) => turn.get(at),
+            Kind::Listed(longer) => longer.get(at),
+        }
+    }
+
+    /// One step more. `OutOfMemory`: a growth was refused, and the steps are as they were.
+    pub fn push(&mut self, alloc: Global, moved: Moved) -> Result<(), OutOfMemory>
+        ensures pushed { OnOk result (self.new ≡ self.old ++ seen_move moved ∷ []) }
+        ensures unchanged { OnErr result (self.new ≡ self.old) }
+    {
+        match &mut self.kind {
+            Kind::Counted(turn) => {
+                if turn.add(moved) {
+                    return Ok(());
+                }
+                let longer = Longer::new(alloc, *turn, moved)?;
+                self.kind = Kind::Listed(Box::new(alloc, longer)?);
+            }
+            Kind::Listed(longer) => longer.rest.push(moved)?,
+        }
+        Ok(())
+    }
+
+    /// One step less: the last one goes.
+    pub fn pop(&mut self)
+        ensures { (moves : List Move) (last : Move) → self.old ≡ moves ++ last ∷ [] → self.new ≡ moves }
+    {
+        match &mut self.kind {
+            Kind::Counted(turn) => turn.pop(),
+            Kind::Listed(longer) => {
+                if longer.rest.pop().is_none() {
+                    longer.turn.pop();
+                }
+            }
+        }
+    }
+}
+
+impl Longer {
+    fn new(alloc: Global, turn: Turn, moved: Moved) -> Result<Longer, OutOfMemory>
+        ensures { IfOk result (λ l. longer l ≡ counted turn ++ seen_move moved ∷ []) }
+    {
+        let mut rest = Vec::new(alloc);
+        rest.push(moved)?;
+        Ok(Longer { turn, rest })
+    }
+
+    fn get(&self, at: usize) -> Option<Moved>
+        ensures { option_map seen_move result ≡ slice_get (longer self.now) at }
+    {
+        let counted = self.turn.len();
+        if at < counted {
+            return self.turn.get(at);
+        }
+        self.rest.get(at - counted).copied()
+    }
+}

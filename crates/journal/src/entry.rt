@@ -1,0 +1,38 @@
+//! The entries of a journal.
+use crate::block::Block;
+use antimessages::Mail;
+use std::snapshot::Snapshot;
+
+/// What an entry tells that a process did at one go.
+#[derive(Drop)]
+pub enum Deed {
+    /// So many letters were taken from the front of the mail of the process, one after another. The mail was this one: it has no bytes here,
+    /// and is read in proofs alone.
+    Collect(u32, Snapshot<Mail>),
+    /// These steps were done, and then the outbox was posted.
+    Post(Block),
+    /// GVT was set anew.
+    Publish,
+}
+
+/// The entry of the same process before this one, with its place in the journal.
+#[cycle(entry)]
+#[derive(Drop)]
+pub enum Past {
+    /// There is none.
+    Opening,
+    /// It has this place, from 0.
+    After(u32, Snapshot<Entry>),
+}
+
+/// An entry of the journal.
+#[cycle(entry)]
+#[derive(Drop)]
+pub struct Entry {
+    /// The entry of the process before it.
+    pub past: Past,
+    /// What was done.
+    pub deed: Deed,
+    /// The process that did it; for `Publish` it is 0 and means nothing.
+    pub process: u16,
+}

@@ -1,0 +1,17 @@
+//! The journal of a run by workers: its entries, each written once into a cell of a table that outlives the run.
+#![tactic(auto)]
+
+mod block;
+mod entry;
+mod fault;
+mod moved;
+mod table;
+mod tokens;
+mod turn;
+
+pub use block::Block;
+pub use entry::{Deed, Entry, Past};
+pub use fault::PoolFault;
+pub use moved::Moved;
+pub use table::{CELLS, Entries, PAGES, Page};
+pub use tokens::{EntryPlace, Tokens};

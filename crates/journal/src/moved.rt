@@ -1,0 +1,10 @@
+/// A step that a process does alone.
+#[derive(Clone, Copy, Debug, PartialEq, Eq)]
+pub enum Moved {
+    /// The front letter of its tray arrived.
+    Arrived,
+    /// Its first unhandled message was handled.
+    Ran,
+    /// Its oldest done event was committed.
+    Sealed,
+}

@@ -1,0 +1,83 @@
+//! The steps of a turn, as three counts.
+ghost use Rattle.std.specs.Prelude.{◌≡◌, ◌<◌, ◌^◌, ℕ, List, true, false, [], ◌∷◌, ◌++◌, length, slice_get};
+ghost use Rattle.std.specs.Option.{option_map};
+ghost use Rattle.virtual_time.specs.Journal.{Move};
+ghost use Rattle.journal.specs.Moves.{seen_move, counted};
+
+use crate::moved::Moved;
+
+/// So many arrivals, then so many runs, then so many commits: what a process does in a turn.
+#[derive(Clone, Copy)]
+pub(crate) struct Turn {
+    pub(crate) arrivals: u32,
+    pub(crate) runs: u32,
+    pub(crate) commits: u32,
+}
+
+impl Turn {
+    /// How many steps there are.
+    pub(crate) fn len(self) -> usize
+        ensures count { result ≡ length (counted self) }
+        ensures few { result < 2 ^ 34 }
+    {
+        self.arrivals as usize + self.runs as usize + self.commits as usize
+    }
+
+    /// The step number `at`, from 0.
+    pub(crate) fn get(self, at: usize) -> Option<Moved>
+        ensures { option_map seen_move result ≡ slice_get (counted self) at }
+    {
+        let ran = self.arrivals as usize;
+        let sealed = ran + self.runs as usize;
+        if at < ran {
+            Some(Moved::Arrived)
+        } else if at < sealed {
+            Some(Moved::Ran)
+        } else if at < sealed + self.commits as usize {
+            Some(Moved::Sealed)
+        } else {
+            None
+        }
+    }
+
+    /// Counts one step more. `false`: it does not go behind the steps that are counted, or its count is at its greatest.
+    pub(crate) fn add(&mut self, moved: Moved) -> bool
+        ensures added { result ≡ true → counted self.new ≡ counted self.old ++ seen_move moved ∷ [] }
+        ensures unchanged { result ≡ false → self.new ≡ self.old }
+    {
+        match moved {
+            Moved::Arrived => {
+                if self.runs > 0 || self.commits > 0 || self.arrivals == u32::MAX {
+                    return false;
+                }
+                self.arrivals += 1;
+            }
+            Moved::Ran => {
+                if self.commits > 0 || self.runs == u32::MAX {
+                    return false;
+                }
+                self.runs += 1;
+            }
+            Moved::Sealed => {
+                if self.commits == u32::MAX {
+                    return false;
+                }
+                self.commits += 1;
+            }
+        }
+        true
+    }
+
+    /// The last step goes.
+    pub(crate) fn pop(&mut self)
+        ensures { (moves : List Move) (last : Move) → counted self.old ≡ moves ++ last ∷ [] → counted self.new ≡ moves }
+    {
+        if self.commits > 0 {
+            self.commits -= 1;
+        } else if self.runs > 0 {
+            self.runs -= 1;
+        } else if self.arrivals > 0 {
+            self.arrivals -= 1;
+        }
+    }
+}
