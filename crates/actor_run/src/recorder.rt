@@ -42,29 +42,29 @@ pub(crate) fn record<R: Recorder>(
     Ok(())
 }
 
-/// Keeps the rows.
+/// Keeps all rows.
 #[derive(Drop)]
-pub(crate) struct Kept {
+pub(crate) struct AllRows {
     pub(crate) rows: Vec<Row>,
 }
 
-impl Kept {
+impl AllRows {
     /// No row yet.
     pub(crate) fn none(alloc: Global) -> Self
         ensures { result.rows.items ≡ [] }
     {
-        Kept {
+        AllRows {
             rows: Vec::new(alloc),
         }
     }
 }
 
-impl Recorder for Kept {
+impl Recorder for AllRows {
     type Purpose = ();
 
-    ghost has_taken = { λ kept rows. kept.rows.items ≡ rows };
+    ghost has_taken = { λ all rows. all.rows.items ≡ rows };
 
-    ghost purpose = { λ kept. tt };
+    ghost purpose = { λ all. tt };
 
     /// It stays a call, so that the message is kept whole in memory: in the loop of the run its fields would be copied one by one.
     #[inline(never)]

@@ -12,7 +12,7 @@ ghost use Rattle.actor_run.specs.Running.{StandsAt, IsExhaustedAt, IsRunning, At
 ghost use Rattle.actor_run.specs.Load.{load};
 
 use crate::fault::SimFault;
-use crate::recorder::{Kept, Recorder, record};
+use crate::recorder::{AllRows, Recorder, record};
 use crate::waiting::Waiting;
 use reverse::{Actor, Outbound, actor_rules};
 use std::alloc::Global;
@@ -49,7 +49,7 @@ fn act<A: Actor>(actors: &mut [A], message: &Message, out: &mut Outbound) -> boo
         return false;
     }
     in_limits(actor);
-    let _kept = actor.handle(message, out);
+    let _record = actor.handle(message, out);
     true
 }
 
@@ -129,7 +129,7 @@ pub fn run_actors<A: Actor>(
     ensures left { OnErr result (OfEach (rules_of A.plain A.counter) actors.old offers.now (λ f. AreOnTheWay f actors.new)) }
 {
     let mut waiting = Waiting::with_offers(alloc, offers, actors.len())?;
-    let mut kept = Kept::none(alloc);
-    take_all_turns(actors, &mut waiting, &mut kept)?;
-    Ok(kept.rows)
+    let mut all = AllRows::none(alloc);
+    take_all_turns(actors, &mut waiting, &mut all)?;
+    Ok(all.rows)
 }

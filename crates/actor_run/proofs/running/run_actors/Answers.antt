@@ -12,7 +12,7 @@ use Rattle.actor_run.proofs.running.run_actors.Goals as goal
 pub take_all_turns-requires : goal.take_all_turns-requires
 take_all_turns-requires g c = (
   [],
-  c.none-kept.ensures,
+  c.none-all.ensures,
   (
     c.requires.0,
     c.requires.2,
@@ -30,18 +30,18 @@ returns-in_err-take_all_turns-clause-exhausted g c = λ e x o L.
     let q : p.0 ≡ c.in_err-take_all_turns.field-0.0 = p.2 in
     let w : c.take_all_turns.result ≡ Err c.in_err-take_all_turns.field-0.0 = c.in_err-take_all_turns.was in
     let k : c.take_all_turns.result ≡ Err Exhausted = cc in
-    c.take_all_turns.ensures.exhausted k [] c.none-kept.ensures x L 0
+    c.take_all_turns.ensures.exhausted k [] c.none-all.ensures x L 0
     (started (rules_of g.A.Reversible.plain g.A.Actor.counter) x _ c.args.offers.now _ [] o c.in_ok-waiting.ensures.offered refl)
 
 pub returns-in_err-take_all_turns-clause-left : goal.returns-in_err-take_all_turns-clause-left
 returns-in_err-take_all_turns-clause-left g c = after-error (λ x o L.
-    c.in_err-take_all_turns.ensures.left [] c.none-kept.ensures x L 0
+    c.in_err-take_all_turns.ensures.left [] c.none-all.ensures x L 0
     (started (rules_of g.A.Reversible.plain g.A.Actor.counter) x _ c.args.offers.now _ [] o c.in_ok-waiting.ensures.offered refl))
     c.from_residual-in_err-take_all_turns.result
 
 pub returns-clause-whole : goal.returns-clause-whole
 returns-clause-whole g c = λ x o L.
     let f = simulation_of (rules_of g.A.Reversible.plain g.A.Actor.counter) x in
-    let whole = c.in_ok-take_all_turns.ensures.whole [] c.none-kept.ensures x L 0
+    let whole = c.in_ok-take_all_turns.ensures.whole [] c.none-all.ensures x L 0
     (started (rules_of g.A.Reversible.plain g.A.Actor.counter) x _ c.args.offers.now _ [] o c.in_ok-waiting.ensures.offered refl) in
     subst (λ (rows : List Noted). IsWholeRun f rows c.take_all_turns.new.actors) (sym whole.1) whole.2
