@@ -1,9 +1,9 @@
 //! The text of a journal: the steps of a run, one a line.
 #![tactic(auto)]
 
-mod counting;
 mod fault;
 mod line;
+mod line_counting;
 mod number;
 mod steps;
 

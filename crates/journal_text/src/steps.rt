@@ -4,9 +4,9 @@ ghost use Rattle.journal_text.specs.declared.fault.LinesFault.TheVariants.{TooMa
 ghost use Rattle.journal_text.specs.Text.{Fits, steps_text};
 ghost use Rattle.journal_text.specs.Lines.{lines, IsFirstBad, HasCause, AreRead, IsRefused};
 
-use crate::counting::count_lines;
 use crate::fault::LinesFault;
 use crate::line::read_step;
+use crate::line_counting::count_lines;
 use std::alloc::Global;
 use vlink::Step;
 
