@@ -1,11 +1,11 @@
 //! The offers of a network: the frames that applications offer to the sources of virtual links, and when.
 #![tactic(auto)]
 
-mod counting;
 mod drawing;
 mod law;
+mod offer_counting;
 mod offering;
 
-pub use counting::offer_count;
 pub use law::lawful_offers;
+pub use offer_counting::offer_count;
 pub use offering::offers;

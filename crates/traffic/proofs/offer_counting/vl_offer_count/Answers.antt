@@ -3,8 +3,8 @@ use Rattle.std.specs.Prelude.{nat_le}
 use Rattle.traffic.specs.Offers.{moment_of}
 use Rattle.traffic.proofs.DrawingLemmas.{drawn_at}
 use Rattle.traffic.proofs.CountingLemmas.{generator_at-jumped, come_count_more, come_count_sure}
-use Rattle.traffic.proofs.counting.vl_offer_count.Goals.{then-comes, else-comes}
-use Rattle.traffic.proofs.counting.vl_offer_count.Goals as goal
+use Rattle.traffic.proofs.offer_counting.vl_offer_count.Goals.{then-comes, else-comes}
+use Rattle.traffic.proofs.offer_counting.vl_offer_count.Goals as goal
 
 pub loop-number-init : goal.loop-number-init
 loop-number-init c = record {

@@ -2,7 +2,7 @@ use Rattle.std.proofs.Common.{◌≡◌, ◌+◌, ◌*◌, ◌≤◌, length, ta
 use Rattle.std.specs.List.{flat_map}
 use Rattle.vlink.specs.declared.time.TheConstants.{LATEST_NS}
 use Rattle.traffic.specs.Offers.{offers_of_vl}
-use Rattle.traffic.proofs.counting.offer_count.Given as goal
+use Rattle.traffic.proofs.offer_counting.offer_count.Given as goal
 
 abbrev pub invariant-loop-vl : goal.invariant-loop-vl
 invariant-loop-vl l = record {

@@ -1,6 +1,6 @@
 use Rattle.std.proofs.Common.{◌+◌, ◌<◌, ap, ◌∙◌, sym, arith}
 use Rattle.traffic.proofs.CountingLemmas.{place-below, offer_count_more}
-use Rattle.traffic.proofs.counting.offer_count.Goals as goal
+use Rattle.traffic.proofs.offer_counting.offer_count.Goals as goal
 
 pub overflow_add-count : goal.overflow_add-count
 overflow_add-count c =

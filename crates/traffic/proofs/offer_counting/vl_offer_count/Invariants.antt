@@ -1,7 +1,7 @@
 use Rattle.std.proofs.Common.{◌≡◌, ℕ, ◌≤◌}
 use Rattle.traffic.specs.Offers.{generator_at}
 use Rattle.traffic.proofs.CountingLemmas.{come_count}
-use Rattle.traffic.proofs.counting.vl_offer_count.Given as goal
+use Rattle.traffic.proofs.offer_counting.vl_offer_count.Given as goal
 
 abbrev pub invariant-loop-number : goal.invariant-loop-number
 invariant-loop-number l = record {
