@@ -1,3 +1,5 @@
 pub mod Adding
 pub mod Entering
+pub mod Giving
 pub mod Reading
+pub mod Walking

@@ -1,7 +1,8 @@
 //! The values that clap has for an argument.
-ghost use Rattle.std.specs.Prelude.{◌≡◌, ◌≤◌, None, IfOk, IfSome, option_map};
+ghost use Rattle.std.specs.Prelude.{◌≡◌, ◌≤◌, None, Some, true, IfOk, is_some, option_map};
 ghost use Rattle.std.specs.String.{string_bytes};
 ghost use Rattle.clap.specs.Words.{found_of, first_of, one_of, rows_of};
+ghost use Rattle.command_line.specs.Given.{IsUpTo};
 ghost use Rattle.command_line.specs.Meaning.{IsNumberOf};
 
 use clap::ArgMatches;
@@ -21,16 +22,26 @@ pub(crate) fn text_of(
     }
 }
 
-/// The number of an argument, or the usual one where it has none. `None`: its text is no number from 1 to the most.
-pub(crate) fn number_of(values: &ArgMatches<'_>, id: &str, usual: u64, most: u64) -> Option<u64>
-    ensures value { IfSome result (IsNumberOf (one_of id.now (rows_of (found_of values.now)))) }
-    ensures usual { IfSome result (λ n. one_of id.now (rows_of (found_of values.now)) ≡ None → n ≡ usual) }
-    ensures limits { IfSome result (λ n. (1 ≤ n) × (n ≤ most)) }
+/// The text of an argument that has one.
+pub(crate) fn given_text_of(
+    alloc: Global,
+    values: &ArgMatches<'_>,
+    id: &str,
+) -> Result<String, AllocError>
+    requires { is_some (first_of id.now (rows_of (found_of values.now))) ≡ true }
+    ensures { IfOk result (λ text. first_of id.now (rows_of (found_of values.now)) ≡ Some (string_bytes text)) }
 {
-    let number = values.try_get_one::<u64>(id).ok()?.unwrap_or(usual);
-    if 1 <= number && number <= most {
-        Some(number)
-    } else {
-        None
-    }
+    let text = values.get_str(id).unwrap();
+    String::from_str(alloc, text)
+}
+
+/// The number of an argument, which is at most the greatest, or the usual one where it has none.
+pub(crate) fn number_of(values: &ArgMatches<'_>, id: &str, usual: u64, most: u64) -> u64
+    requires given { IsUpTo most (one_of id.now (rows_of (found_of values.now))) }
+    requires usual { (1 ≤ usual) × (usual ≤ most) }
+    ensures value { IsNumberOf (one_of id.now (rows_of (found_of values.now))) result }
+    ensures usual { one_of id.now (rows_of (found_of values.now)) ≡ None → result ≡ usual }
+    ensures limits { (1 ≤ result) × (result ≤ most) }
+{
+    values.try_get_one::<u64>(id).unwrap().unwrap_or(usual)
 }

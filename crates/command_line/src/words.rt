@@ -8,12 +8,12 @@ use crate::commands::order_of;
 use crate::orders::Order;
 use crate::program::program;
 use clap::Error;
-use std::alloc::{AllocError, Global};
+use std::alloc::Global;
 use std::convert::AsStr;
 
 /// Reads the words after the program's name: gives the command with its values.
 ///
-/// An error is clap's: a mistake in the words, a request for help, or want of memory. Its `Display` is the text for the user,
+/// An error is clap's: a mistake in the words, a request for help, or want of memory, which comes only where a growth was refused. Its `Display` is the text for the user,
 /// and its `exit_code` is 0 for help and 2 for a mistake.
 pub fn order<'a, S: AsStr>(alloc: Global, words: &'a [S]) -> Result<Order, Error>
     ensures command { IfOk result (λ order. command_in (map S.text words.entry.now) ≡ Some (command_of order)) }
@@ -23,11 +23,6 @@ pub fn order<'a, S: AsStr>(alloc: Global, words: &'a [S]) -> Result<Order, Error
     ensures mistake { FailsBy (fault_of program (map S.text words.entry.now)) result }
 {
     let matches = program(alloc)?.try_get_matches_from(words)?;
-    if let Some((name, values)) = matches.subcommand() {
-        if let Some(order) = order_of(alloc, name, values)? {
-            return Ok(order);
-        }
-    }
-    // Not reached: clap refuses the words that come here, but has no contract on the values behind a command that says so.
-    Err(Error::from(AllocError))
+    let (name, values) = matches.subcommand().unwrap();
+    Ok(order_of(alloc, name, values)?)
 }
