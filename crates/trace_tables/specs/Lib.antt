@@ -7,3 +7,4 @@ pub mod Sinking
 pub mod Text
 pub mod Writing
 pub mod SoFar
+pub mod Layout

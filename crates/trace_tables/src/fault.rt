@@ -15,6 +15,9 @@ pub enum OutFault {
     /// A growth was refused. Nothing went out.
     #[error("out of memory")]
     OutOfMemory,
+    /// The library that lays out rows failed, though no growth was refused. Nothing went out.
+    #[error("cannot lay out rows")]
+    Layout,
 }
 
 impl From<AllocError> for OutFault {

@@ -7,6 +7,7 @@ mod drops;
 mod fault;
 mod latencies;
 mod laws;
+mod layout;
 mod line;
 mod loss;
 mod naming;

@@ -1,9 +1,10 @@
-ghost use Rattle.std.specs.Prelude.{◌≡◌, ℕ, [], List, map, OnOk, IfOk, IfErr};
-ghost use Rattle.trace_tables.specs.declared.fault.OutFault.TheVariants.{OutOfMemory};
+ghost use Rattle.std.specs.Prelude.{◌≡◌, ◌≢◌, ℕ, [], List, map, OnOk, IfOk, IfErr};
+ghost use Rattle.trace_tables.specs.declared.fault.OutFault.TheVariants.{Device};
 ghost use Rattle.trace_tables.specs.Text.{line};
 ghost use Rattle.trace_tables.specs.Writing.{Holds, Adds};
 
 use crate::fault::OutFault;
+use crate::layout::{row_fault, write_fault};
 use csv::{Writer, WriterBuilder};
 use std::alloc::Global;
 
@@ -17,21 +18,21 @@ pub fn empty(alloc: Global) -> Writer<Vec<u8>>
 /// Puts a row of these fields at the end.
 pub fn push(out: &mut Writer<Vec<u8>>, fields: &[&[u8]]) -> Result<(), OutFault>
     ensures text { OnOk result (Adds out.old out.new (line (map (λ f. f.now) fields.now))) }
-    ensures memory { IfErr result (λ fault. fault ≡ OutOfMemory) }
+    ensures fault { IfErr result (λ fault. fault ≢ Device) }
 {
     match out.write_fields(fields) {
         Ok(()) => Ok(()),
-        Err(_) => Err(OutFault::OutOfMemory),
+        Err(error) => Err(row_fault(&error)),
     }
 }
 
 /// The text that a writer holds.
 pub fn text_of(out: Writer<Vec<u8>>) -> Result<Vec<u8>, OutFault>
     ensures text { IfOk result (λ bytes. (text : List ℕ) → Holds out text → bytes.items ≡ text) }
-    ensures memory { IfErr result (λ fault. fault ≡ OutOfMemory) }
+    ensures fault { IfErr result (λ fault. fault ≢ Device) }
 {
     match out.into_inner() {
         Ok(bytes) => Ok(bytes),
-        Err(_) => Err(OutFault::OutOfMemory),
+        Err(error) => Err(write_fault(error.error())),
     }
 }

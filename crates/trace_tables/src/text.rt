@@ -1,6 +1,6 @@
-ghost use Rattle.std.specs.Prelude.{◌≡◌, map, OnOk, IfErr};
+ghost use Rattle.std.specs.Prelude.{◌≡◌, ◌≢◌, map, OnOk, IfErr};
 ghost use Rattle.std.specs.List.{flat_map};
-ghost use Rattle.trace_tables.specs.declared.fault.OutFault.TheVariants.{OutOfMemory};
+ghost use Rattle.trace_tables.specs.declared.fault.OutFault.TheVariants.{Device};
 ghost use Rattle.trace_tables.specs.Destinations.{destination};
 ghost use Rattle.trace_tables.specs.Text.{tables_head, latency_line, destination_line, latency_text, loss_line, drop_line, drop_text};
 ghost use Rattle.trace_tables.specs.Writing.{Adds};
@@ -22,7 +22,7 @@ use vlink::VlId;
 /// The first line of the tables.
 pub fn push_head(out: &mut Writer<Vec<u8>>) -> Result<(), OutFault>
     ensures text { OnOk result (Adds out.old out.new tables_head) }
-    ensures memory { IfErr result (λ fault. fault ≡ OutOfMemory) }
+    ensures fault { IfErr result (λ fault. fault ≢ Device) }
 {
     push(
         out,
@@ -48,7 +48,7 @@ fn push_latency(
     counts: &Latencies,
 ) -> Result<(), OutFault>
     ensures text { OnOk result (Adds out.old out.new (latency_line network.now vl.0 place counts.now)) }
-    ensures memory { IfErr result (λ fault. fault ≡ OutOfMemory) }
+    ensures fault { IfErr result (λ fault. fault ≢ Device) }
 {
     let mut number = Buffer::new();
     let mut count = Buffer::new();
@@ -79,7 +79,7 @@ fn push_destinations(
     table: &BTreeMap<Destination, Latencies>,
 ) -> Result<(), OutFault>
     ensures text { OnOk result (Adds out.old out.new (flat_map (destination_line network.now table.now.entries) (map (destination vl) places.now))) }
-    ensures memory { IfErr result (λ fault. fault ≡ OutOfMemory) }
+    ensures fault { IfErr result (λ fault. fault ≢ Device) }
 {
     for place in places {
         let here = latencies_at(table, Destination { vl, place: *place });
@@ -95,7 +95,7 @@ pub fn push_latencies(
     table: &BTreeMap<Destination, Latencies>,
 ) -> Result<(), OutFault>
     ensures text { OnOk result (Adds out.old out.new (latency_text network.now table.now.entries)) }
-    ensures memory { IfErr result (λ fault. fault ≡ OutOfMemory) }
+    ensures fault { IfErr result (λ fault. fault ≢ Device) }
 {
     for vl in 0..network.vl_count() {
         let id = network.virtual_link(vl).id;
@@ -112,7 +112,7 @@ fn push_loss(
     count: u64,
 ) -> Result<(), OutFault>
     ensures text { OnOk result (Adds out.old out.new (loss_line network.now loss.now count)) }
-    ensures memory { IfErr result (λ fault. fault ≡ OutOfMemory) }
+    ensures fault { IfErr result (λ fault. fault ≢ Device) }
 {
     let mut number = Buffer::new();
     let mut many = Buffer::new();
@@ -139,7 +139,7 @@ fn push_drop(
     count: u64,
 ) -> Result<(), OutFault>
     ensures text { OnOk result (Adds out.old out.new (drop_line network.now (loss.now, count))) }
-    ensures memory { IfErr result (λ fault. fault ≡ OutOfMemory) }
+    ensures fault { IfErr result (λ fault. fault ≢ Device) }
 {
     if !is_in_network(network, loss.vl, loss.place) || count == 0 {
         return Ok(());
@@ -154,7 +154,7 @@ pub fn push_drops(
     drops: &BTreeMap<Loss, u64>,
 ) -> Result<(), OutFault>
     ensures text { OnOk result (Adds out.old out.new (drop_text network.now drops.now.entries)) }
-    ensures memory { IfErr result (λ fault. fault ≡ OutOfMemory) }
+    ensures fault { IfErr result (λ fault. fault ≢ Device) }
 {
     for (loss, count) in drops.iter() {
         push_drop(out, network, loss, *count)?;

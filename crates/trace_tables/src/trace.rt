@@ -1,6 +1,6 @@
-ghost use Rattle.std.specs.Prelude.{◌≡◌, [], ◌∷◌, decimal, OnOk, IfErr};
+ghost use Rattle.std.specs.Prelude.{◌≡◌, ◌≢◌, [], ◌∷◌, decimal, OnOk, IfErr};
 ghost use Rattle.std.specs.List.{flat_map};
-ghost use Rattle.trace_tables.specs.declared.fault.OutFault.TheVariants.{OutOfMemory};
+ghost use Rattle.trace_tables.specs.declared.fault.OutFault.TheVariants.{Device};
 ghost use Rattle.trace_tables.specs.Tables.{vl_of};
 ghost use Rattle.trace_tables.specs.Text.{line, trace_head, note_fields, trace_line};
 ghost use Rattle.trace_tables.specs.Writing.{Adds};
@@ -17,7 +17,7 @@ use vlink::{Note, Row, VlId};
 /// The first line of a trace.
 pub fn push_head(out: &mut Writer<Vec<u8>>) -> Result<(), OutFault>
     ensures text { OnOk result (Adds out.old out.new trace_head) }
-    ensures memory { IfErr result (λ fault. fault ≡ OutOfMemory) }
+    ensures fault { IfErr result (λ fault. fault ≢ Device) }
 {
     push(
         out,
@@ -41,7 +41,7 @@ fn push_fields(
     value: u64,
 ) -> Result<(), OutFault>
     ensures text { OnOk result (Adds out.old out.new (line (decimal time ∷ place.now ∷ decimal vl.0 ∷ what.now ∷ decimal value ∷ []))) }
-    ensures memory { IfErr result (λ fault. fault ≡ OutOfMemory) }
+    ensures fault { IfErr result (λ fault. fault ≢ Device) }
 {
     let mut moment = Buffer::new();
     let mut number = Buffer::new();
@@ -61,7 +61,7 @@ fn push_fields(
 /// What a row tells.
 fn push_note(out: &mut Writer<Vec<u8>>, time: u64, place: &str, note: &Note) -> Result<(), OutFault>
     ensures text { OnOk result (Adds out.old out.new (line (decimal time ∷ place.now ∷ note_fields note.now))) }
-    ensures memory { IfErr result (λ fault. fault ≡ OutOfMemory) }
+    ensures fault { IfErr result (λ fault. fault ≢ Device) }
 {
     match *note {
         Note::Delivered { vl, latency } => {
@@ -87,7 +87,7 @@ fn vl_of(note: Note) -> VlId
 /// A row, if it is one of the network.
 fn push_row(out: &mut Writer<Vec<u8>>, network: &Network, row: &Row) -> Result<(), OutFault>
     ensures text { OnOk result (Adds out.old out.new (trace_line network.now row.now)) }
-    ensures memory { IfErr result (λ fault. fault ≡ OutOfMemory) }
+    ensures fault { IfErr result (λ fault. fault ≢ Device) }
 {
     if !is_in_network(network, vl_of(row.note), row.place) {
         return Ok(());
@@ -99,7 +99,7 @@ fn push_row(out: &mut Writer<Vec<u8>>, network: &Network, row: &Row) -> Result<(
 /// These rows, in their order.
 pub fn push_rows(out: &mut Writer<Vec<u8>>, network: &Network, rows: &[Row]) -> Result<(), OutFault>
     ensures text { OnOk result (Adds out.old out.new (flat_map (trace_line network.now) rows.now)) }
-    ensures memory { IfErr result (λ fault. fault ≡ OutOfMemory) }
+    ensures fault { IfErr result (λ fault. fault ≢ Device) }
 {
     for row in rows {
         push_row(out, network, row)?;

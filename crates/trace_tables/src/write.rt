@@ -1,6 +1,6 @@
-ghost use Rattle.std.specs.Prelude.{◌≡◌, ◌+◌, OnOk, IfOk, IfErr};
+ghost use Rattle.std.specs.Prelude.{◌≡◌, ◌≢◌, ◌+◌, OnOk, IfOk, IfErr};
 ghost use Rattle.std.specs.Io.KnownBytes.{append_known};
-ghost use Rattle.trace_tables.specs.declared.fault.OutFault.TheVariants.{Device, OutOfMemory};
+ghost use Rattle.trace_tables.specs.declared.fault.OutFault.TheVariants.{Device};
 ghost use Rattle.trace_tables.specs.Sinking.{IsBeginning};
 ghost use Rattle.trace_tables.specs.Text.{tables_text, trace_text};
 
@@ -16,7 +16,7 @@ use vlink::Row;
 /// The text of the tables of a network.
 fn csv_text(alloc: Global, network: &Network, tables: &Tables) -> Result<Vec<u8>, OutFault>
     ensures text { IfOk result (λ bytes. bytes.items ≡ tables_text network.now tables.now) }
-    ensures memory { IfErr result (λ fault. fault ≡ OutOfMemory) }
+    ensures fault { IfErr result (λ fault. fault ≢ Device) }
 {
     let mut out = empty(alloc);
     text::push_head(&mut out)?;
@@ -28,7 +28,7 @@ fn csv_text(alloc: Global, network: &Network, tables: &Tables) -> Result<Vec<u8>
 /// The text of a trace.
 fn trace_bytes(alloc: Global, network: &Network, rows: &[Row]) -> Result<Vec<u8>, OutFault>
     ensures text { IfOk result (λ bytes. bytes.items ≡ trace_text network.now rows.now) }
-    ensures memory { IfErr result (λ fault. fault ≡ OutOfMemory) }
+    ensures fault { IfErr result (λ fault. fault ≢ Device) }
 {
     let mut out = empty(alloc);
     trace::push_head(&mut out)?;
@@ -47,7 +47,8 @@ fn trace_bytes(alloc: Global, network: &Network, rows: &[Row]) -> Result<Vec<u8>
 /// counts as 0.
 ///
 /// The text is made whole before the first byte goes out. `Device` comes only where the sink failed; what went out is a beginning
-/// of the text. `OutOfMemory` comes only where memory was refused; nothing went out.
+/// of the text. `OutOfMemory` comes only where memory was refused, and `Layout` only where the
+/// library that lays out rows failed otherwise; then nothing went out.
 pub fn write_csv<S: Sink>(
     alloc: Global,
     network: &Network,
@@ -58,7 +59,7 @@ pub fn write_csv<S: Sink>(
     ensures went_well { OnOk result (S.failures sink.new ≡ S.failures sink.old) }
     ensures device { IfErr result (λ fault. fault ≡ Device → IsBeginning (S.taken sink.old) (S.taken sink.new) (tables_text network.now tables.now)) }
     ensures failed { IfErr result (λ fault. fault ≡ Device → S.failures sink.new ≡ S.failures sink.old + 1) }
-    ensures memory { IfErr result (λ fault. fault ≡ OutOfMemory → sink.new ≡ sink.old) }
+    ensures kept { IfErr result (λ fault. fault ≢ Device → sink.new ≡ sink.old) }
 {
     let bytes = csv_text(alloc, network, tables)?;
     match write_all(sink, bytes.as_slice()) {
@@ -74,7 +75,8 @@ pub fn write_csv<S: Sink>(
 /// or `from>to` for a line.
 ///
 /// The text is made whole before the first byte goes out. `Device` comes only where the sink failed; what went out is a beginning
-/// of the text. `OutOfMemory` comes only where memory was refused; nothing went out.
+/// of the text. `OutOfMemory` comes only where memory was refused, and `Layout` only where the
+/// library that lays out rows failed otherwise; then nothing went out.
 pub fn write_trace<S: Sink>(
     alloc: Global,
     network: &Network,
@@ -85,7 +87,7 @@ pub fn write_trace<S: Sink>(
     ensures went_well { OnOk result (S.failures sink.new ≡ S.failures sink.old) }
     ensures device { IfErr result (λ fault. fault ≡ Device → IsBeginning (S.taken sink.old) (S.taken sink.new) (trace_text network.now rows.now)) }
     ensures failed { IfErr result (λ fault. fault ≡ Device → S.failures sink.new ≡ S.failures sink.old + 1) }
-    ensures memory { IfErr result (λ fault. fault ≡ OutOfMemory → sink.new ≡ sink.old) }
+    ensures kept { IfErr result (λ fault. fault ≢ Device → sink.new ≡ sink.old) }
 {
     let bytes = trace_bytes(alloc, network, rows)?;
     match write_all(sink, bytes.as_slice()) {
