@@ -1,16 +1,14 @@
 -- The items of an array, read one by one.
-use Rattle.std.proofs.Common.{◌≡◌, ℕ, suc, ◌<◌, get_or, inl, inr, Bool, true, false, ◌&&◌, cond, List, [], ◌∷◌, length, map, Option, Some, None, option_map, option_and_then, is_some, unwrap_or, refl, ap, sym, ◌∙◌}
+use Rattle.std.proofs.Common.{◌≡◌, ℕ, suc, ◌<◌, get_or, inl, inr, Bool, true, false, ◌&&◌, cond, List, [], ◌∷◌, length, map, All, Option, Some, None, option_map, option_and_then, is_some, unwrap_or, refl, ap, sym, subst, ◌∙◌}
 use Rattle.std.proofs.lemmas.Bool.{cases_Bool, false≢true}
 use Rattle.std.proofs.lemmas.List.Folds.{list_all_at}
-use Rattle.std.specs.List.{list_all}
+use Rattle.std.proofs.lemmas.List.{length-map, get_or-map}
+use Rattle.std.proofs.lemmas.List.Elements.{All-from_recursion}
+use Rattle.std.specs.List.{list_all, AllByRecursion, AllZip}
 use Rattle.toml.specs.Data.{Data, as_array, as_str}
 use Rattle.toml.specs.View.{view, items_view}
 use Rattle.toml.specs.declared.value.Value.{Value}
 use Rattle.network_rows.specs.Values.{passes, all_as, as_list, text_of, path_of, list_of}
-
-none_of : {X : Type 0} (o : Option X) → is_some o ≡ false → o ≡ None
-none_of None e = refl
-none_of (Some x) e = cc
 
 and_false : (b : Bool) → false ≡ (b && false)
 and_false true = refl
@@ -67,29 +65,16 @@ module _ {X : Type 0} (read : Data → Option X) (none : X) where
   made_both None rest xs b e h = cc
   made_both (Some x) rest xs b e h = ap (option_map (λ xs. x ∷ xs)) (h e)
 
-  all_as-each : (vs : List Value) → list_all (λ v. is_some (read (view v))) vs ≡ true → all_as read (items_view vs) ≡ Some (map (λ v. unwrap_or (read (view v)) none) vs)
+  -- what they all are, if each is such a thing
+  pub all_as-each : (vs : List Value) → list_all (λ v. is_some (read (view v))) vs ≡ true → all_as read (items_view vs) ≡ Some (map (λ v. unwrap_or (read (view v)) none) vs)
   unfolding both
   all_as-each [] e = refl
   all_as-each (v ∷ vs) e = made_both (read (view v)) (all_as read (items_view vs)) _ (list_all (λ v. is_some (read (view v))) vs) e (all_as-each vs)
-
-  all_as-some : (vs : List Value) (b : Bool) → list_all (λ v. is_some (read (view v))) vs ≡ b → unwrap_or (all_as read (items_view vs)) [] ≡ cond b (map (λ v. unwrap_or (read (view v)) none) vs) []
-  all_as-some vs true e = rw (all_as-each vs e)
-  all_as-some vs false e = rw (none_of (all_as read (items_view vs)) (is_some-all_as read vs ∙ e))
-
-  -- what they all are, or nothing
-  pub unwrap_or-all_as : (vs : List Value)
-      → unwrap_or (all_as read (items_view vs)) [] ≡ cond (list_all (λ v. is_some (read (view v))) vs) (map (λ v. unwrap_or (read (view v)) none) vs) []
-  unwrap_or-all_as vs = all_as-some vs _ refl
 
 -- the items as a list again
 pub list_of-items_view : (vs : List Value) → list_of (items_view vs) ≡ map view vs
 list_of-items_view [] = refl
 list_of-items_view (v ∷ vs) = ap (λ ds. view v ∷ ds) (list_of-items_view vs)
-
--- what is made of each of them
-pub map-list_of : {X : Type 0} (make : Data → X) (vs : List Value) → map make (list_of (items_view vs)) ≡ map (λ v. make (view v)) vs
-map-list_of make [] = refl
-map-list_of make (v ∷ vs) = ap (λ xs. make (view v) ∷ xs) (map-list_of make vs)
 
 -- a test that each passes is passed at each place
 pub passes_at : {X : Type 0} (test : X → Bool) (xs : List X) (i : ℕ) (d : X) → i < length xs → list_all test xs ≡ true → test (get_or xs i d) ≡ true
@@ -104,4 +89,14 @@ pub path_of-names : (v : Value) (names : List Value) → Some (items_view names)
 path_of-names v names is all =
     let some : is_some (all_as as_str (items_view names)) ≡ true = rw (← is) at all in
     let each : list_all (λ n. is_some (as_str (view n))) names ≡ true = sym (is_some-all_as as_str names) ∙ some in
-    rw (← is, unwrap_or-all_as as_str [] names, each) refl
+    rw (← is, all_as-each as_str [] names each) refl
+
+-- what holds of the values, seen as data, holds of the items
+pub AllZip-list_of : {R : Type 0} (Q : Data → R → Type 0) (vs : List Value) (rows : List R) → AllZip (λ v row. Q (view v) row) vs rows → AllZip Q (list_of (items_view vs)) rows
+AllZip-list_of Q [] [] each = tt
+AllZip-list_of Q [] (row ∷ rows) each = absurd each
+AllZip-list_of Q (v ∷ vs) [] each = absurd each
+AllZip-list_of Q (v ∷ vs) (row ∷ rows) each = (each.0, AllZip-list_of Q vs rows each.1)
+
+pub All-list_of : (P : Data → Type 0) (vs : List Value) → AllByRecursion P (list_of (items_view vs)) → All (λ v. P (view v)) vs
+All-list_of P vs each = λ k d lt. subst P (get_or-map view vs k d (view d) lt) (All-from_recursion P (map view vs) (rw (list_of-items_view vs) at each) k (view d) (rw (length-map vs view) lt))

@@ -4,5 +4,6 @@ pub mod Noted
 pub mod Names
 pub mod Empty
 pub mod Sound
+pub mod Standing
 pub mod Limits
 pub mod Examples

@@ -1,5 +1,5 @@
 -- What a kind of values asks of a value: first that it is such a value at all, then that it is within the limit.
-use Rattle.std.specs.Prelude.{ℕ, Bool, true, ◌&&◌, ◌||◌, ◌==◌, nat_le, nat_lt, List, codes, length, slice_index, Option, Some, None, is_some, option_and_then}
+use Rattle.std.specs.Prelude.{ℕ, Bool, true, ◌&&◌, ◌||◌, ◌==◌, nat_le, nat_lt, List, codes, length, Option, Some, None, is_some, option_and_then}
 use Rattle.std.specs.List.{list_any, list_all}
 use Rattle.std.specs.Char.{is_ascii_alphanumeric}
 use Rattle.std.specs.Str.{bytes_eq}
@@ -66,11 +66,3 @@ keeps_limit (EitherWord first second) row d = passes (allows_text (EitherWord fi
 keeps_limit (NodeName least greatest) row d = passes (allows_text (NodeName least greatest)) (as_str d)
 keeps_limit Reference row d = true
 keeps_limit (Paths least greatest) row d = passes (list_all (allows_path (Paths least greatest))) (as_paths d)
-
--- the number that stands for one that is not there
-abbrev pub least_of : Kind → ℕ
-least_of (Integer least greatest) = least
-least_of (IntegerAbove key least greatest) = least
-least_of (OneOf numbers) = slice_index numbers 0
-least_of (EitherInteger first second) = first
-least_of _ = 0

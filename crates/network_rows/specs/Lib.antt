@@ -4,5 +4,6 @@ pub mod Kinds
 pub mod Table
 pub mod Faults
 pub mod Firsts
+pub mod Sound
 pub mod Rows
 pub mod Within

@@ -1,19 +1,17 @@
--- The rows that a document stands for. For a document with a fault of a key they mean nothing.
-use Rattle.std.specs.Prelude.{◌≡◌, ℕ, Bool, not, List, [], ◌∷◌, ◌++◌, map, filter, ◌==◌, if◌then◌else◌, Option, Some, None, option_and_then, unwrap_or}
-use Rattle.std.specs.Option.{option_map_or}
-use Rattle.std.specs.List.{list_any}
+-- The rows that a document means. No value is made up: a table that lacks a key which it has to have, or has another value there than the table of
+-- keys asks for, means no row at all.
+use Rattle.std.specs.Prelude.{◌≡◌, ◌⊎◌, ℕ, Bool, true, not, List, [], ◌∷◌, ◌++◌, map, filter, Option, Some, None}
+use Rattle.std.specs.List.{list_any, AllZip}
 use Rattle.std.specs.Str.{bytes_eq}
-use Rattle.toml.specs.Data.{Data, Members, no_members, member, as_str, as_array, as_table, get_member}
+use Rattle.toml.specs.Data.{Data, Items, Members, no_members, member, as_str, as_array, as_table, get_member}
 use Rattle.toml.specs.Parse.{parse_document}
+use Rattle.vlink.specs.declared.frame.Net.{Net}
 use Rattle.vlink.specs.declared.frame.Net.TheVariants as net
-use Rattle.network_rows.specs.declared.key.Key.{Key}
-use Rattle.network_rows.specs.declared.key.Key.TheVariants as key
 use Rattle.network_rows.specs.declared.key.Section.{Section}
 use Rattle.network_rows.specs.declared.key.Section.TheVariants.{Top, Node, Link, Outage, Vl}
+use Rattle.network_rows.specs.declared.key.Word.{Word}
 use Rattle.network_rows.specs.declared.key.Word.TheVariants as word
-use Rattle.network_rows.specs.declared.rule.Kind.{Kind}
-use Rattle.network_rows.specs.declared.rule.Presence.{Presence}
-use Rattle.network_rows.specs.declared.rule.Presence.TheVariants.{Required, ForSwitches, Optional}
+use Rattle.network_rows.specs.declared.rule.Presence.TheVariants.{Optional}
 use Rattle.network_rows.specs.declared.rule.Rule.{Rule}
 use Rattle.network_rows.specs.declared.rows.NodeKind.{NodeKind}
 use Rattle.network_rows.specs.declared.rows.NodeKind.TheVariants.{EndSystem, Switch}
@@ -27,31 +25,37 @@ use Rattle.network_rows.specs.declared.rows.OutageRow.{OutageRow}
 use Rattle.network_rows.specs.declared.rows.VlRow.{VlRow}
 use Rattle.network_rows.specs.declared.rows.Rows.{Rows}
 use Rattle.network_rows.specs.Table as keys
-use Rattle.network_rows.specs.Keys.{key_text, section_text}
-use Rattle.network_rows.specs.Values.{value_at, as_number, as_paths, has_word, list_of}
-use Rattle.network_rows.specs.Kinds.{allows, least_of}
+use Rattle.network_rows.specs.Keys.{key_text, section_text, word_text}
+use Rattle.network_rows.specs.Values.{value_at, as_number, as_paths, list_of}
+use Rattle.network_rows.specs.Kinds.{has_kind, keeps_limit}
 use Rattle.network_rows.specs.Faults.{applies, faults_of_document}
 
--- the number that an absent key stands for: the default, or the least number that the kind allows
-abbrev pub default_of : Presence → Kind → ℕ
-default_of Required kind = least_of kind
-default_of ForSwitches kind = least_of kind
-default_of (Optional default) kind = default
+-- ---- what stands at the key of a line of the table of keys
 
--- the number, if it is one that the line of the table allows; else the least that it allows
-abbrev pub number_or_default : Rule → Option ℕ → ℕ
-number_or_default rule None = default_of rule.presence rule.kind
-number_or_default rule (Some n) = if allows rule.kind n then n else least_of rule.kind
+-- the value at the key, which is of the kind and within the limit, is x
+pub record IsAt {X : Type 0} (read : Data → Option X) (rule : Rule) (table : Members) (x : X) : Type 0 where
+  pub value : Data
+  pub there : value_at rule.key table ≡ Some value
+  pub kind : has_kind rule.kind value ≡ true
+  pub limit : keeps_limit rule.kind table value ≡ true
+  pub is : read value ≡ Some x
 
--- the number, the text and the paths at a key
-abbrev pub number_at : Rule → Members → ℕ
-number_at rule row = number_or_default rule (option_and_then as_number (value_at rule.key row))
+abbrev pub IsTextAt : Rule → Members → List ℕ → Type 0
+IsTextAt = IsAt as_str
 
-abbrev pub text_at : Key → Members → List ℕ
-text_at key row = unwrap_or (option_and_then as_str (value_at key row)) []
+abbrev pub IsWordAt : Rule → Members → Word → Type 0
+IsWordAt rule table word = IsTextAt rule table (word_text word)
 
-abbrev pub paths_at : Key → Members → List (List (List ℕ))
-paths_at key row = unwrap_or (option_and_then as_paths (value_at key row)) []
+abbrev pub ArePathsAt : Rule → Members → List (List (List ℕ)) → Type 0
+ArePathsAt = IsAt as_paths
+
+-- the key is absent, and the number is the default that the line gives
+pub record IsDefaultAt (rule : Rule) (table : Members) (n : ℕ) : Type 0 where
+  pub absent : value_at rule.key table ≡ None
+  pub default : rule.presence ≡ Optional n
+
+abbrev pub IsNumberAt : Rule → Members → ℕ → Type 0
+IsNumberAt rule table n = IsAt as_number rule table n ⊎ IsDefaultAt rule table n
 
 -- ---- unknown keys
 
@@ -76,88 +80,85 @@ has_unknown_key section row = list_any (λ name. not (is_known section row name)
 
 -- ---- rows
 
-abbrev pub node_kind_of : Members → NodeKind
-node_kind_of row =
-    if has_word key.Kind word.Switch row
-    then Switch (if has_word key.Net word.B row then net.B else net.A) (number_at keys.latency_ns row)
-    else EndSystem
+abbrev pub word_of_net : Net → Word
+word_of_net net.A = word.A
+word_of_net net.B = word.B
 
-abbrev pub priority_of : Members → Priority
-priority_of row = if has_word key.Priority word.High row then High else Low
+abbrev pub word_of_priority : Priority → Word
+word_of_priority High = word.High
+word_of_priority Low = word.Low
 
-abbrev pub rate_of : Members → Rate
-rate_of row = if number_at keys.mbit row == 100 then Mbit100 else Mbit10
+abbrev pub mbit_of : Rate → ℕ
+mbit_of Mbit10 = 10
+mbit_of Mbit100 = 100
 
-abbrev pub node_row_of : Members → NodeRow
-node_row_of row = record {
-  name = text_at key.Name row;
-  kind = node_kind_of row;
-  port_bytes = number_at keys.port_bytes row;
-  has_unknown_key = has_unknown_key Node row;
-}
+abbrev pub MeansKind : Members → NodeKind → Type 0
+MeansKind table EndSystem = IsWordAt keys.kind table word.Es
+MeansKind table (Switch net latency_ns) =
+    IsWordAt keys.kind table word.Switch × IsWordAt keys.net table (word_of_net net) × IsNumberAt keys.latency_ns table latency_ns
 
-abbrev pub link_row_of : Members → LinkRow
-link_row_of row = record {
-  a = text_at key.A row;
-  b = text_at key.B row;
-  mbit = rate_of row;
-  propagation_ns = number_at keys.propagation_ns row;
-  has_unknown_key = has_unknown_key Link row;
-}
+pub record MeansNode (table : Members) (row : NodeRow) : Type 0 where
+  pub name : IsTextAt keys.name table row.name
+  pub kind : MeansKind table row.kind
+  pub port_bytes : IsNumberAt keys.port_bytes table row.port_bytes
+  pub has_unknown_key : row.has_unknown_key ≡ has_unknown_key Node table
 
-abbrev pub outage_row_of : Members → OutageRow
-outage_row_of row = record {
-  from = text_at key.From row;
-  to = text_at key.To row;
-  from_ns = number_at keys.from_ns row;
-  to_ns = number_at keys.to_ns row;
-  has_unknown_key = has_unknown_key Outage row;
-}
+pub record MeansLink (table : Members) (row : LinkRow) : Type 0 where
+  pub a : IsTextAt keys.link_a table row.a
+  pub b : IsTextAt keys.link_b table row.b
+  pub mbit : IsNumberAt keys.mbit table (mbit_of row.mbit)
+  pub propagation_ns : IsNumberAt keys.propagation_ns table row.propagation_ns
+  pub has_unknown_key : row.has_unknown_key ≡ has_unknown_key Link table
 
-abbrev pub vl_row_of : Members → VlRow
-vl_row_of row = record {
-  id = record { 0 = number_at keys.id row };
-  bag_ms = number_at keys.bag_ms row;
-  smax = number_at keys.smax row;
-  priority = priority_of row;
-  policing_jitter_ns = number_at keys.policing_jitter_ns row;
-  skew_max_ns = number_at keys.skew_max_ns row;
-  depth = number_at keys.depth row;
-  size = number_at keys.size row;
-  offset_ns = number_at keys.offset_ns row;
-  period_ns = number_at keys.period_ns row;
-  jitter_ns = number_at keys.jitter_ns row;
-  a = paths_at key.A row;
-  b = paths_at key.B row;
-  has_unknown_key = has_unknown_key Vl row;
-}
+pub record MeansOutage (table : Members) (row : OutageRow) : Type 0 where
+  pub from : IsTextAt keys.from table row.from
+  pub to : IsTextAt keys.to table row.to
+  pub from_ns : IsNumberAt keys.from_ns table row.from_ns
+  pub to_ns : IsNumberAt keys.to_ns table row.to_ns
+  pub has_unknown_key : row.has_unknown_key ≡ has_unknown_key Outage table
 
--- a row as a table
-abbrev pub table_of : Data → Members
-table_of d = unwrap_or (as_table d) no_members
+pub record MeansVl (table : Members) (row : VlRow) : Type 0 where
+  pub id : IsNumberAt keys.id table row.id.0
+  pub bag_ms : IsNumberAt keys.bag_ms table row.bag_ms
+  pub smax : IsNumberAt keys.smax table row.smax
+  pub priority : IsWordAt keys.priority table (word_of_priority row.priority)
+  pub policing_jitter_ns : IsNumberAt keys.policing_jitter_ns table row.policing_jitter_ns
+  pub skew_max_ns : IsNumberAt keys.skew_max_ns table row.skew_max_ns
+  pub depth : IsNumberAt keys.depth table row.depth
+  pub size : IsNumberAt keys.size table row.size
+  pub offset_ns : IsNumberAt keys.offset_ns table row.offset_ns
+  pub period_ns : IsNumberAt keys.period_ns table row.period_ns
+  pub jitter_ns : IsNumberAt keys.jitter_ns table row.jitter_ns
+  pub a : ArePathsAt keys.paths_a table row.a
+  pub b : ArePathsAt keys.paths_b table row.b
+  pub has_unknown_key : row.has_unknown_key ≡ has_unknown_key Vl table
 
--- the values of a list; of what is no list there are none
-abbrev pub values_of : Option Data → List Data
-values_of value = option_map_or list_of (option_and_then as_array value) []
+-- ---- lists of rows
 
--- the rows of a section of a document, each made so of its table
-abbrev pub rows_in : {R : Type 0} → (Members → R) → Section → Members → List R
-rows_in make section document = map (λ d. make (table_of d)) (values_of (get_member (section_text section) document))
+-- the value is a table, and means the row
+abbrev pub MeansRow : {R : Type 0} → (Members → R → Type 0) → Data → R → Type 0
+MeansRow means d row = (table : Members) × (as_table d ≡ Some table) × means table row
 
-abbrev pub rows_of : Members → Rows
-rows_of document = record {
-  until = number_at keys.until_ns document;
-  seed = number_at keys.seed document;
-  nodes = rows_in node_row_of Node document;
-  links = rows_in link_row_of Link document;
-  outages = rows_in outage_row_of Outage document;
-  vls = rows_in vl_row_of Vl document;
-  has_unknown_key = has_unknown_key Top document;
-}
+-- what a document has for a section: nothing, which is no row; or a list with a table for each row
+abbrev pub MeansList : {R : Type 0} → (Members → R → Type 0) → Option Data → List R → Type 0
+MeansList means None rows = rows ≡ []
+MeansList means (Some d) rows = (items : Items) × (as_array d ≡ Some items) × AllZip (MeansRow means) (list_of items) rows
+
+abbrev pub MeansSection : {R : Type 0} → (Members → R → Type 0) → Section → Members → List R → Type 0
+MeansSection means section document rows = MeansList means (get_member (section_text section) document) rows
+
+pub record MeansRows (document : Members) (rows : Rows) : Type 0 where
+  pub until : IsNumberAt keys.until_ns document rows.until
+  pub seed : IsNumberAt keys.seed document rows.seed
+  pub nodes : MeansSection MeansNode Node document rows.nodes
+  pub links : MeansSection MeansLink Link document rows.links
+  pub outages : MeansSection MeansOutage Outage document rows.outages
+  pub vls : MeansSection MeansVl Vl document rows.vls
+  pub has_unknown_key : rows.has_unknown_key ≡ has_unknown_key Top document
 
 -- the text means a document without a fault of a key, and these are its rows
 pub record Means (text : List ℕ) (rows : Rows) : Type 0 where
   pub document : Members
   pub parsed : parse_document text ≡ Some document
   pub sound : faults_of_document document ≡ []
-  pub rows_are : rows ≡ rows_of document
+  pub rows_are : MeansRows document rows

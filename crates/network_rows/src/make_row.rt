@@ -1,7 +1,9 @@
-//! What each kind of row is made of: numbers and words that are read, names and paths that are moved out of the table.
-ghost use Rattle.std.specs.Prelude.{◌≡◌};
+//! What each kind of row is made of, where nothing is wrong with its table: numbers and words that are read, names and paths that are moved out of the table.
 ghost use Rattle.toml.specs.View.{table_view};
-ghost use Rattle.network_rows.specs.Rows.{node_kind_of, rate_of, priority_of, node_row_of, link_row_of, outage_row_of, vl_row_of};
+ghost use Rattle.network_rows.specs.declared.key.Section.TheVariants.{Node, Link, Outage, Vl};
+ghost use Rattle.network_rows.specs.Table.{mbit, priority};
+ghost use Rattle.network_rows.specs.Sound.{IsSoundAt, IsSoundTable};
+ghost use Rattle.network_rows.specs.Rows.{IsNumberAt, IsWordAt, mbit_of, word_of_priority, MeansKind, MeansNode, MeansLink, MeansOutage, MeansVl};
 
 use crate::key::{Key, Section, Word};
 use crate::read_value::{name_of, number_at, paths_of};
@@ -10,54 +12,57 @@ use crate::table;
 use crate::take::take_value;
 use crate::unknown::has_unknown_key;
 use crate::value::has_word;
-use std::alloc::Global;
 use toml::Table;
 use vlink::{FrameSize, Net, VlId};
 
 /// The node of a row.
-pub fn node_of(alloc: Global, row: Table) -> NodeRow
-    ensures { result ≡ node_row_of (table_view row) }
+pub fn node_of(row: Table) -> NodeRow
+    requires { IsSoundTable Node (table_view row) }
+    ensures { MeansNode (table_view row) result }
 {
     let mut row = row;
     NodeRow {
         kind: node_kind(&row),
         port_bytes: number_at(table::PORT_BYTES, &row) as u32,
         has_unknown_key: has_unknown_key(Section::Node, &row),
-        name: name_of(alloc, take_value(&mut row, Key::Name)),
+        name: name_of(take_value(&mut row, Key::Name)),
     }
 }
 
 /// The link of a row.
-pub fn link_of(alloc: Global, row: Table) -> LinkRow
-    ensures { result ≡ link_row_of (table_view row) }
+pub fn link_of(row: Table) -> LinkRow
+    requires { IsSoundTable Link (table_view row) }
+    ensures { MeansLink (table_view row) result }
 {
     let mut row = row;
     LinkRow {
         mbit: rate(&row),
         propagation_ns: number_at(table::PROPAGATION_NS, &row) as u32,
         has_unknown_key: has_unknown_key(Section::Link, &row),
-        a: name_of(alloc, take_value(&mut row, Key::A)),
-        b: name_of(alloc, take_value(&mut row, Key::B)),
+        a: name_of(take_value(&mut row, Key::A)),
+        b: name_of(take_value(&mut row, Key::B)),
     }
 }
 
 /// The outage of a row.
-pub fn outage_of(alloc: Global, row: Table) -> OutageRow
-    ensures { result ≡ outage_row_of (table_view row) }
+pub fn outage_of(row: Table) -> OutageRow
+    requires { IsSoundTable Outage (table_view row) }
+    ensures { MeansOutage (table_view row) result }
 {
     let mut row = row;
     OutageRow {
         from_ns: number_at(table::FROM_NS, &row),
         to_ns: number_at(table::TO_NS, &row),
         has_unknown_key: has_unknown_key(Section::Outage, &row),
-        from: name_of(alloc, take_value(&mut row, Key::From)),
-        to: name_of(alloc, take_value(&mut row, Key::To)),
+        from: name_of(take_value(&mut row, Key::From)),
+        to: name_of(take_value(&mut row, Key::To)),
     }
 }
 
 /// The virtual link of a row.
-pub fn vl_of(alloc: Global, row: Table) -> VlRow
-    ensures { result ≡ vl_row_of (table_view row) }
+pub fn vl_of(row: Table) -> VlRow
+    requires { IsSoundTable Vl (table_view row) }
+    ensures { MeansVl (table_view row) result }
 {
     let mut row = row;
     VlRow {
@@ -73,14 +78,15 @@ pub fn vl_of(alloc: Global, row: Table) -> VlRow
         period_ns: number_at(table::PERIOD_NS, &row),
         jitter_ns: number_at(table::JITTER_NS, &row) as u32,
         has_unknown_key: has_unknown_key(Section::Vl, &row),
-        a: paths_of(alloc, take_value(&mut row, Key::A)),
-        b: paths_of(alloc, take_value(&mut row, Key::B)),
+        a: paths_of(take_value(&mut row, Key::A)),
+        b: paths_of(take_value(&mut row, Key::B)),
     }
 }
 
 // What the node of a row is.
 fn node_kind(row: &Table) -> NodeKind
-    ensures { result ≡ node_kind_of (table_view row.now) }
+    requires { IsSoundTable Node (table_view row.now) }
+    ensures { MeansKind (table_view row.now) result }
 {
     if has_word(row, Key::Kind, Word::Switch) {
         NodeKind::Switch {
@@ -98,7 +104,8 @@ fn node_kind(row: &Table) -> NodeKind
 
 // How fast the link of a row is.
 fn rate(row: &Table) -> Rate
-    ensures { result ≡ rate_of (table_view row.now) }
+    requires { IsSoundAt mbit (table_view row.now) }
+    ensures { IsNumberAt mbit (table_view row.now) (mbit_of result) }
 {
     if number_at(table::MBIT, row) == 100 {
         Rate::Mbit100
@@ -109,7 +116,8 @@ fn rate(row: &Table) -> Rate
 
 // Where the frames of the virtual link of a row wait.
 fn priority(row: &Table) -> Priority
-    ensures { result ≡ priority_of (table_view row.now) }
+    requires { IsSoundAt priority (table_view row.now) }
+    ensures { IsWordAt priority (table_view row.now) (word_of_priority result) }
 {
     if has_word(row, Key::Priority, Word::High) {
         Priority::High

@@ -1,11 +1,8 @@
 //! The paths of a virtual link as the description has them: no name in them is copied.
-ghost use Rattle.std.specs.Prelude.{◌≡◌, ◌<◌, [], length, slice_index_or, unwrap_or};
-ghost use Rattle.toml.specs.Data.{as_str};
-ghost use Rattle.toml.specs.View.{view, items_view};
-ghost use Rattle.network_rows.specs.Values.{all_as, as_list, as_paths};
+ghost use Rattle.std.specs.Prelude.{◌≡◌, ◌<◌, true, Some, is_some, [], length, slice_index_or};
+ghost use Rattle.toml.specs.View.{view};
+ghost use Rattle.network_rows.specs.Values.{as_paths};
 
-use crate::value::are_each_path;
-use std::alloc::Global;
 use std::marker::Model;
 use toml::Value;
 
@@ -69,33 +66,14 @@ impl Model for Paths {
 }
 
 impl Paths {
-    /// No paths.
-    pub(crate) fn none(alloc: Global) -> Self
-        ensures { result ≡ [] }
-    {
-        Paths {
-            paths: Vec::new(alloc),
-        }
-    }
-
-    /// The paths that these values are, if each is one; else none.
-    fn of_each(alloc: Global, paths: Vec<Value>) -> Self
-        ensures { result ≡ unwrap_or (all_as (as_list as_str) (items_view paths.items)) [] }
-    {
-        if are_each_path(paths.as_slice()) {
-            Paths { paths }
-        } else {
-            Paths::none(alloc)
-        }
-    }
-
-    /// The paths that a value is a list of; none for what is no list of paths.
-    pub(crate) fn from_value(alloc: Global, value: Value) -> Self
-        ensures { result ≡ unwrap_or (as_paths (view value)) [] }
+    /// The paths that a value is a list of.
+    pub(crate) fn from_value(value: Value) -> Self
+        requires { is_some (as_paths (view value)) ≡ true }
+        ensures { as_paths (view value) ≡ Some result }
     {
         match value {
-            Value::Array(paths) => Paths::of_each(alloc, paths),
-            _ => Paths::none(alloc),
+            Value::Array(paths) => Paths { paths },
+            _ => unreachable!(),
         }
     }
 

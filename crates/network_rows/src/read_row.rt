@@ -1,8 +1,13 @@
 //! The rows of a document, which it is taken apart into.
-ghost use Rattle.std.specs.Prelude.{◌≡◌, Some, map, option_map, IfOk};
+ghost use Rattle.std.specs.Prelude.{◌≡◌, [], Some, All, option_map, IfOk};
+ghost use Rattle.std.specs.List.{AllZip};
 ghost use Rattle.toml.specs.Data.{Members};
 ghost use Rattle.toml.specs.View.{view, table_view};
-ghost use Rattle.network_rows.specs.Rows.{node_row_of, link_row_of, outage_row_of, vl_row_of, table_of, values_of, rows_of};
+ghost use Rattle.network_rows.specs.declared.key.Section.{Section};
+ghost use Rattle.network_rows.specs.declared.key.Section.TheVariants.{Node, Link, Outage, Vl};
+ghost use Rattle.network_rows.specs.Faults.{faults_of_document};
+ghost use Rattle.network_rows.specs.Sound.{IsSoundTable, IsSoundRow, IsSoundList};
+ghost use Rattle.network_rows.specs.Rows.{MeansNode, MeansLink, MeansOutage, MeansVl, MeansRow, MeansList, MeansRows};
 
 use crate::key::Section;
 use crate::make_row::{link_of, node_of, outage_of, vl_of};
@@ -16,9 +21,10 @@ use std::alloc::{AllocError, Global};
 use toml::{Table, Value};
 use vlink::Time;
 
-/// The rows of a document.
+/// The rows of a document without a fault of a key.
 pub fn rows(alloc: Global, document: Table) -> Result<Rows, AllocError>
-    ensures { IfOk result (λ made. made ≡ rows_of (table_view document)) }
+    requires { faults_of_document (table_view document) ≡ [] }
+    ensures { IfOk result (MeansRows (table_view document)) }
 {
     let mut document = document;
     let until = Time::new(number_at(table::UNTIL_NS, &document)).unwrap();
@@ -41,7 +47,8 @@ pub fn rows(alloc: Global, document: Table) -> Result<Rows, AllocError>
 
 // The rows of a section, which has this value or none.
 fn rows_in<R: ReadRow>(alloc: Global, value: Option<Value>) -> Result<Sequence<R>, AllocError>
-    ensures { IfOk result (λ rows. rows ≡ map (λ d. R.row_of (table_of d)) (values_of (option_map view value))) }
+    requires { IsSoundList R.section (option_map view value) }
+    ensures { IfOk result (MeansList R.means (option_map view value)) }
 {
     match value {
         Some(value) => rows_of_list(alloc, value),
@@ -51,73 +58,88 @@ fn rows_in<R: ReadRow>(alloc: Global, value: Option<Value>) -> Result<Sequence<R
 
 // The rows of a list.
 fn rows_of_list<R: ReadRow>(alloc: Global, value: Value) -> Result<Sequence<R>, AllocError>
-    ensures { IfOk result (λ rows. rows ≡ map (λ d. R.row_of (table_of d)) (values_of (Some (view value)))) }
+    requires { IsSoundList R.section (Some (view value)) }
+    ensures { IfOk result (MeansList R.means (Some (view value))) }
 {
     match value {
         Value::Array(rows) => rows_of_values(alloc, rows),
-        _ => Ok(Sequence::from_vec(Vec::new(alloc))),
+        _ => unreachable!(),
     }
 }
 
 // The rows that these values are.
+#[tactic(auto, using(std::proofs::lemmas::Grind::common_steps, std::proofs::lemmas::Slice::Zip::all_zipped_more))]
 fn rows_of_values<R: ReadRow>(alloc: Global, values: Vec<Value>) -> Result<Sequence<R>, AllocError>
-    ensures { IfOk result (λ rows. rows ≡ map (λ v. R.row_of (table_of (view v))) values.items) }
+    requires { All (λ v. IsSoundRow R.section (view v)) values.items }
+    ensures { IfOk result (AllZip (λ v row. MeansRow R.means (view v) row) values.items) }
 {
     let mut rows = Vec::with_capacity(alloc, values.len())?;
     for value in values {
-        rows.push(row_of_value(alloc, value))?;
+        rows.push(row_of_value(value))?;
     }
     Ok(Sequence::from_vec(rows))
 }
 
-// The row that a value is. What is no table counts as an empty one.
-fn row_of_value<R: ReadRow>(alloc: Global, value: Value) -> R
-    ensures { result ≡ R.row_of (table_of (view value)) }
+// The row that a value is.
+fn row_of_value<R: ReadRow>(value: Value) -> R
+    requires { IsSoundRow R.section (view value) }
+    ensures { MeansRow R.means (view value) result }
 {
     match value {
-        Value::Table(row) => R::read(alloc, row),
-        _ => R::read(alloc, Table::new(alloc)),
+        Value::Table(row) => R::read(row),
+        _ => unreachable!(),
     }
 }
 
-/// A row that a table stands for.
+/// A row of a section, which a table means.
 trait ReadRow: Sized + Drop {
-    /// The row that a table stands for.
-    ghost row_of: { Members → Self };
+    ghost section: { Section };
 
-    /// Makes it of the table. It takes no memory.
-    fn read(alloc: Global, row: Table) -> Self
-        ensures { result ≡ row_of (table_view row) };
+    /// The table means the row.
+    ghost means: { Members → Self → Type 0 };
+
+    /// Makes it of a table at which nothing is wrong. It takes no memory.
+    fn read(row: Table) -> Self
+        requires { IsSoundTable section (table_view row) }
+        ensures { means (table_view row) result };
 }
 
 impl ReadRow for NodeRow {
-    ghost row_of = { node_row_of };
+    ghost section = { Node };
 
-    fn read(alloc: Global, row: Table) -> Self {
-        node_of(alloc, row)
+    ghost means = { MeansNode };
+
+    fn read(row: Table) -> Self {
+        node_of(row)
     }
 }
 
 impl ReadRow for LinkRow {
-    ghost row_of = { link_row_of };
+    ghost section = { Link };
 
-    fn read(alloc: Global, row: Table) -> Self {
-        link_of(alloc, row)
+    ghost means = { MeansLink };
+
+    fn read(row: Table) -> Self {
+        link_of(row)
     }
 }
 
 impl ReadRow for OutageRow {
-    ghost row_of = { outage_row_of };
+    ghost section = { Outage };
 
-    fn read(alloc: Global, row: Table) -> Self {
-        outage_of(alloc, row)
+    ghost means = { MeansOutage };
+
+    fn read(row: Table) -> Self {
+        outage_of(row)
     }
 }
 
 impl ReadRow for VlRow {
-    ghost row_of = { vl_row_of };
+    ghost section = { Vl };
 
-    fn read(alloc: Global, row: Table) -> Self {
-        vl_of(alloc, row)
+    ghost means = { MeansVl };
+
+    fn read(row: Table) -> Self {
+        vl_of(row)
     }
 }
