@@ -6,4 +6,5 @@ pub mod Empty
 pub mod Sound
 pub mod Standing
 pub mod Limits
+pub mod OneMeaning
 pub mod Examples

@@ -1,4 +1,5 @@
-ghost use Rattle.std.specs.Prelude.{IfOk, IfErr};
+ghost use Rattle.std.specs.Prelude.{◌≡◌, IfOk, IfErr};
+ghost use Rattle.network_rows.specs.declared.rows.Rows.{Rows};
 ghost use Rattle.network_rows.specs.Faults.{faults_of_text, IsFirstFault};
 ghost use Rattle.network_rows.specs.Rows.{Means};
 ghost use Rattle.network_rows.specs.Within.{AreWithin};
@@ -15,6 +16,8 @@ use std::alloc::Global;
 pub fn read_rows(alloc: Global, text: &str) -> Result<Rows, DescFault>
     // The text means a document without such a fault, and these are its rows.
     ensures rows { IfOk result (Means text.now) }
+    // It means no other rows.
+    ensures only { IfOk result (λ rows. (other : Rows) → Means text.now other → other ≡ rows) }
     ensures within { IfOk result AreWithin }
     ensures fault { IfErr result (IsFirstFault (faults_of_text text.now)) }
 {
