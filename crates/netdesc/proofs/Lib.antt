@@ -1,4 +1,5 @@
 pub mod PlaceLemmas
+pub mod FaultLemmas
 pub mod NameLemmas
 pub mod EachLemmas
 pub mod JoinLemmas

@@ -1,24 +1,28 @@
--- The faults of a text, in the order in which they are tried, and what a text without a fault stands for.
-use Rattle.std.specs.Prelude.{ℕ, ◌≡◌, List, [], ◌++◌, Some}
-use Rattle.std.specs.Option.{option_map_or}
-use Rattle.toml.specs.Parse.{parse_document}
-use Rattle.toml.specs.Data.{Members}
+-- What a text describes: which faults it has, and which network where it has none.
+use Rattle.std.specs.Prelude.{ℕ, ◌≡◌, ◌⊎◌, List, Some, slice_get}
 use Rattle.network_rows.specs.declared.fault.DescFault.{DescFault}
+use Rattle.network_rows.specs.declared.fault.DescFault.TheVariants.{OutOfMemory}
+use Rattle.network_rows.specs.declared.rows.Rows.{Rows}
 use Rattle.network_rows.specs.Faults.{faults_of_text}
-use Rattle.network_rows.specs.Rows.{rows_of}
+use Rattle.network_rows.specs.Rows.{Means}
 use Rattle.netdesc.specs.Plan.{Plan}
 use Rattle.netdesc.specs.Faults.{faults_of}
 use Rattle.netdesc.specs.Accepted.{IsPlanOf}
 
--- those that each key alone tells (1 to 4), and then those of the rows (5 to 9)
-abbrev pub faults_of_rows : Members → List DescFault
-faults_of_rows document = faults_of (rows_of document)
+-- the first fault of a text is the first that each key alone tells (1 to 4); where there is none, the text means rows, and it is the first that these tell
+-- of each other (5 to 9)
+abbrev pub IsFirstFaultOf : List ℕ → DescFault → Type 0
+IsFirstFaultOf text fault = (slice_get (faults_of_text text) 0 ≡ Some fault) ⊎ ((rows : Rows) × Means text rows × (slice_get (faults_of rows) 0 ≡ Some fault))
 
-abbrev pub faults_of_description : List ℕ → List DescFault
-faults_of_description text = faults_of_text text ++ option_map_or faults_of_rows (parse_document text) []
+abbrev pub HasNoFault : List ℕ → Type 0
+HasNoFault text = (fault : DescFault) → ¬ (IsFirstFaultOf text fault)
 
--- the text means a document, and the plan is what its rows say
+-- the first fault is told, or memory was refused
+abbrev pub TellsFaultOf : List ℕ → DescFault → Type 0
+TellsFaultOf text fault = (fault ≡ OutOfMemory) ⊎ IsFirstFaultOf text fault
+
+-- the text means rows, and the plan is what they say
 pub record Describes (text : List ℕ) (plan : Plan) : Type 0 where
-  pub document : Members
-  pub parsed : parse_document text ≡ Some document
-  pub stands : IsPlanOf (rows_of document) plan
+  pub rows : Rows
+  pub meant : Means text rows
+  pub stands : IsPlanOf rows plan

@@ -1,5 +1,5 @@
 //! From the text of a network description to the network, or to the first fault.
-ghost use Rattle.std.specs.Prelude.{◌≡◌, [], ◌++◌, map, IsPermutation, MatchResult, OnOk, IfOk, IfErr};
+ghost use Rattle.std.specs.Prelude.{◌≡◌, ◌++◌, map, IsPermutation, MatchResult, OnOk, IfOk, IfErr};
 ghost use Rattle.network_rows.specs.declared.fault.DescFault.TheVariants.{OutOfMemory};
 ghost use Rattle.std.specs.List.Sorted.{IsNonDecreasing};
 ghost use Rattle.network_rows.specs.Within.{AreWithin};
@@ -8,7 +8,7 @@ ghost use Rattle.netdesc.specs.Plan.{node_plan};
 ghost use Rattle.netdesc.specs.Faults.{faults_of, double_names, not_links, not_trees, too_many, double_at_node, double_at_link, double_at_vl};
 ghost use Rattle.netdesc.specs.Finding.{Finds, Tells};
 ghost use Rattle.netdesc.specs.Accepted.{ids_of, IsPlanOf};
-ghost use Rattle.netdesc.specs.Description.{faults_of_description, Describes};
+ghost use Rattle.netdesc.specs.Description.{HasNoFault, TellsFaultOf, Describes};
 ghost use Rattle.netdesc.specs.Parts.{parts_of, parts_in, plan_in};
 ghost use Rattle.netdesc.specs.Views.{Gives};
 
@@ -31,9 +31,9 @@ use std::alloc::Global;
 /// An error is the first fault of the text, in the order of their numbers, sections, rows and keys; or a growth was refused.
 pub fn read(alloc: Global, text: &str) -> Result<Network, DescFault>
     // What is read has no fault, and what has no fault is read, unless memory is refused.
-    ensures sound { OnOk result (faults_of_description text.now ≡ []) }
+    ensures sound { OnOk result (HasNoFault text.now) }
     ensures network { IfOk result (Describes text.now) }
-    ensures fault { IfErr result (λ fault. Tells fault (faults_of_description text.now)) }
+    ensures fault { IfErr result (TellsFaultOf text.now) }
 {
     let (network, _remains) = read_with_remains(alloc, text)?;
     Ok(network)
@@ -41,10 +41,11 @@ pub fn read(alloc: Global, text: &str) -> Result<Network, DescFault>
 
 /// Reads a network description as `read` does, and tells with the network what is left of its rows, which the caller gives back when
 /// there is time for it.
+#[tactic(auto, using(crate::proofs::FaultLemmas::told_of_key))]
 pub fn read_with_remains(alloc: Global, text: &str) -> Result<(Network, Remains), DescFault>
-    ensures sound { OnOk result (faults_of_description text.now ≡ []) }
+    ensures sound { OnOk result (HasNoFault text.now) }
     ensures network { IfOk result (λ made. Describes text.now made.0) }
-    ensures fault { IfErr result (λ fault. Tells fault (faults_of_description text.now)) }
+    ensures fault { IfErr result (TellsFaultOf text.now) }
 {
     let rows = read_rows(alloc, text)?;
     let (described, remains) = described(alloc, rows)?;
@@ -53,10 +54,11 @@ pub fn read_with_remains(alloc: Global, text: &str) -> Result<(Network, Remains)
 }
 
 /// Reads a network description as `read_with_remains` does, and makes no tables of it: that is less work, where nothing is to be run.
+#[tactic(auto, using(crate::proofs::FaultLemmas::told_of_key))]
 pub fn read_described(alloc: Global, text: &str) -> Result<(Described, Remains), DescFault>
-    ensures sound { OnOk result (faults_of_description text.now ≡ []) }
+    ensures sound { OnOk result (HasNoFault text.now) }
     ensures network { IfOk result (λ made. Describes text.now made.0) }
-    ensures fault { IfErr result (λ fault. Tells fault (faults_of_description text.now)) }
+    ensures fault { IfErr result (TellsFaultOf text.now) }
 {
     let rows = read_rows(alloc, text)?;
     described(alloc, rows)
