@@ -1,14 +1,12 @@
 -- A text means the rows of one description alone.
-use Rattle.std.proofs.Common.{◌≡◌, ℕ, Bool, true, false, List, [], ◌∷◌, codes, Option, Some, None, refl, ap, sym, ◌∙◌, subst, inl, inr}
+use Rattle.std.proofs.Common.{◌≡◌, ℕ, Bool, true, false, List, [], ◌∷◌, Option, Some, None, refl, ap, sym, ◌∙◌, subst, inl, inr}
 use Rattle.std.proofs.lemmas.Bool.{false≢true}
 use Rattle.std.specs.List.{AllZip}
 use Rattle.std.specs.Str.{bytes_eq}
-use Rattle.toml.specs.Data.{Data, Items, Members, as_str, as_array, as_table}
-use Rattle.toml.specs.Parse.{parse_document}
+use Rattle.toml.specs.Data.{Data, Members, as_str}
 use Rattle.vlink.specs.declared.frame.Net.{Net}
 use Rattle.vlink.specs.declared.frame.Net.TheVariants as net
 use Rattle.network_rows.specs.declared.key.Word.TheVariants as word
-use Rattle.network_rows.specs.declared.rule.Presence.{Presence}
 use Rattle.network_rows.specs.declared.rule.Presence.TheVariants.{Optional}
 use Rattle.network_rows.specs.declared.rule.Rule.{Rule}
 use Rattle.network_rows.specs.declared.rows.NodeKind.{NodeKind}
@@ -24,8 +22,8 @@ use Rattle.network_rows.specs.declared.rows.VlRow.{VlRow}
 use Rattle.network_rows.specs.declared.rows.Rows.{Rows}
 use Rattle.network_rows.specs.Table as keys
 use Rattle.network_rows.specs.Keys.{word_text}
-use Rattle.network_rows.specs.Values.{value_at, as_number, as_paths, list_of}
-use Rattle.network_rows.specs.Rows.{IsAt, IsDefaultAt, IsNumberAt, word_of_net, word_of_priority, mbit_of, MeansKind, MeansNode, MeansLink, MeansOutage, MeansVl, MeansRow, MeansList, MeansRows, Means}
+use Rattle.network_rows.specs.Values.{as_number, as_paths, list_of}
+use Rattle.network_rows.specs.Rows.{IsAt, IsNumberAt, word_of_net, word_of_priority, mbit_of, MeansKind, MeansNode, MeansLink, MeansOutage, MeansVl, MeansRow, MeansList, MeansRows, Means}
 
 -- ---- one key
 

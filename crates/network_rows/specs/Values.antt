@@ -33,7 +33,7 @@ as_list read d = option_and_then (all_as read) (as_array d)
 abbrev pub as_paths : Data → Option (List (List (List ℕ)))
 as_paths = as_list (as_list as_str)
 
--- the text that data is, and the path; of other data the empty one
+-- how the vectors of a row's paths are seen, whose values are texts and paths; of other data these would be the empty one
 abbrev pub text_of : Data → List ℕ
 text_of d = unwrap_or (as_str d) []
 
