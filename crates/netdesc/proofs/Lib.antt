@@ -12,6 +12,7 @@ pub mod RisingLemmas
 pub mod SourceLemmas
 pub mod OrderLemmas
 pub mod MemberLemmas
+pub mod RisingLaw
 pub mod StepLemmas
 pub mod LineLemmas
 pub mod RouteLemmas

@@ -1,6 +1,7 @@
 -- The paths of a virtual link: when they make a tree, and where it ends.
-use Rattle.std.specs.Prelude.{ℕ, ◌-◌, ◌==◌, ◌&&◌, ◌||◌, not, Bool, true, false, List, [], ◌∷◌, ◌++◌, length, take, Option, Some, None, slice_get}
+use Rattle.std.specs.Prelude.{ℕ, ◌↔◌, Contains, ◌-◌, ◌==◌, ◌&&◌, ◌||◌, not, Bool, true, false, List, [], ◌∷◌, ◌++◌, length, take, Option, Some, None, slice_get}
 use Rattle.std.specs.List.{list_any, flat_map}
+use Rattle.std.specs.List.Sorted.{IsStrictlyIncreasing}
 use Rattle.std.specs.Option.{option_to_list}
 use Rattle.std.specs.Ordering.{nat_cmp}
 use Rattle.std.specs.BTreeSet.{insert_key}
@@ -86,7 +87,12 @@ abbrev pub is_none : {X : Type 0} → List X → Bool
 is_none [] = true
 is_none (x ∷ xs) = false
 
--- the numbers, each once, rising
+-- ys is the list of the numbers of xs, each once and rising
+pub record IsRisingOf (xs ys : List ℕ) : Type 0 where
+  pub increasing : IsStrictlyIncreasing ys
+  pub members : (n : ℕ) → Contains ys n ↔ Contains xs n
+
+-- that list (`rising_is` proves that it is the one), made number by number
 abbrev pub rising_from : List ℕ → List ℕ → List ℕ
 rising_from found [] = found
 rising_from found (x ∷ xs) = rising_from (insert_key nat_cmp found x) xs

@@ -1,9 +1,10 @@
-//! Where the virtual links of a network are configured.
-ghost use Rattle.std.specs.Prelude.{ℕ, ◌≡◌, ◌↔◌, true, Contains};
+//! Where the virtual links of a network are configured, and which list is a rising one.
+ghost use Rattle.std.specs.Prelude.{ℕ, ◌≡◌, ◌↔◌, true, List, Contains};
 ghost use Rattle.vlink.specs.declared.frame.Net.{Net};
 ghost use Rattle.netdesc.specs.declared.wiring.Way.{Way};
 ghost use Rattle.netdesc.specs.Plan.{VlPlan};
 ghost use Rattle.netdesc.specs.Wiring.{is_end_system};
+ghost use Rattle.netdesc.specs.Trees.{IsRisingOf, rising};
 ghost use Rattle.netdesc.specs.Lines.{arrivals_of, departures_of};
 ghost use Rattle.netdesc.specs.PortLaws.{IsInput, IsOutput, FacesPredecessor, FacesSuccessor, IsArrival, IsDeparture, GoesThrough, ExactlyOne, Precedes, Faces, port_for};
 
@@ -28,3 +29,12 @@ pub fn port_laws(network: &Network)
 {
     network.accepted();
 }
+
+/// The destinations of a virtual link, and the lines that it goes over, are told by `rising`: of some numbers it is the one strictly
+/// increasing list with the same members.
+///
+/// A call does nothing: its caller learns what the clauses say.
+pub fn rising_is()
+    ensures rising { (numbers : List ℕ) → IsRisingOf numbers (rising numbers) }
+    ensures only { (numbers list : List ℕ) → IsRisingOf numbers list → list ≡ rising numbers }
+{}

@@ -25,7 +25,7 @@ mod vl;
 mod wiring;
 
 pub use described::Described;
-pub use laws::port_laws;
+pub use laws::{port_laws, rising_is};
 pub use limits::{GREATEST_DESTINATIONS, GREATEST_OUTAGES, GREATEST_PORTS, GREATEST_PROCESSES};
 pub use network::Network;
 pub use network_rows::{DescFault, Key, NodeKind, Place, Priority, Section};
