@@ -8,7 +8,7 @@ use Rattle.vlink.specs.declared.step.Step.{Step as Noting}
 use Rattle.virtual_time.specs.World.{Step, start}
 use Rattle.virtual_time.specs.Safe.{IsFinished}
 use Rattle.netdesc.specs.Plan.{Plan}
-use Rattle.nodes.specs.Simulation.{simulation_of}
+use Rattle.nodes.specs.rules.Simulation.{simulation_of}
 use Rattle.journal_text.specs.declared.fault.LinesFault.{LinesFault}
 use Rattle.journal_text.specs.declared.fault.LinesFault.TheVariants as journal
 use Rattle.journal_text.specs.Lines.{HasCause}

@@ -1,6 +1,6 @@
 -- Why a one-thread run was given up, as a fault of the program.
 use Rattle.std.proofs.Common.{◌≡◌, ℕ, List, Result, Err, sym, ap, subst}
-use Rattle.nodes.specs.Simulation.{simulation_of}
+use Rattle.nodes.specs.rules.Simulation.{simulation_of}
 use Rattle.netdesc.specs.Plan.{Plan}
 use Rattle.actor_run.specs.Running.{IsExhaustedAt}
 use Rattle.actor_run.specs.declared.fault.SimFault.{SimFault}

@@ -2,7 +2,7 @@
 use Rattle.std.specs.Prelude.{◌≡◌, ◌⊎◌, ℕ, List, Option, Some}
 use Rattle.vlink.specs.declared.note.Row.{Row as Noted}
 use Rattle.netdesc.specs.Plan.{Plan}
-use Rattle.nodes.specs.Simulation.{simulation_of}
+use Rattle.nodes.specs.rules.Simulation.{simulation_of}
 use Rattle.actor_run.specs.Running.{IsExhaustedAt}
 use Rattle.actor_run.specs.declared.fault.SimFault.{SimFault}
 use Rattle.actor_run.specs.declared.fault.SimFault.TheVariants as sim

@@ -5,7 +5,7 @@ ghost use Rattle.vlink.specs.declared.step.Step.{Step as Noting};
 ghost use Rattle.virtual_time.specs.World.{Step as Stepped};
 ghost use Rattle.virtual_time.specs.Safe.{IsFinished};
 ghost use Rattle.netdesc.specs.Plan.{Plan};
-ghost use Rattle.nodes.specs.Simulation.{simulation_of};
+ghost use Rattle.nodes.specs.rules.Simulation.{simulation_of};
 ghost use Rattle.trace_tables.specs.Tables.{tables_of};
 ghost use Rattle.seqsim.specs.Networks.{AreRowsOf};
 ghost use Rattle.timewarp.specs.Networks.{after, IsAfter};

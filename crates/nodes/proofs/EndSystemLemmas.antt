@@ -1,24 +1,29 @@
 -- What an end system makes of events, once it is known what its look-ups find.
-use Rattle.std.proofs.Common.{◌≡◌, ℕ, [], Option, None, Some, slice_get, slice_index_or, option_map, option_and_then, refl, sym, ap, subst, ◌∙◌}
+use Rattle.std.proofs.Common.{Bool, true, false, cond, slice_get, option_map, option_and_then, ◌≡◌, ℕ, List, [], slice_index_or, Option, None, Some, refl, sym, ap, subst, ◌∙◌}
 use Rattle.std.proofs.lemmas.Option.{none-some, same_Some, get_or_from_slice_get}
 use Rattle.vlink.specs.declared.frame.Frame.{Frame}
 use Rattle.vlink.specs.declared.frame.VlId.{VlId}
+use Rattle.vlink.specs.declared.frame.Net.{Net}
+use Rattle.vlink.specs.declared.message.Body.TheVariants as body
 use Rattle.vlink.specs.declared.note.Cause.TheVariants.{Unknown}
-use Rattle.bag_regulator.specs.Regulator.{Regulator, regulator}
+use Rattle.bag_regulator.specs.Regulator.{regulator}
 use Rattle.bag_regulator.specs.declared.event.RegEvent.{RegEvent}
 use Rattle.bag_regulator.specs.declared.event.RegEvent.TheVariants.{Offer, Release}
 use Rattle.bag_regulator.specs.declared.event.RegAnswer.TheVariants.{Released}
 use Rattle.bag_regulator.specs.declared.event.RegRecord.{RegRecord}
 use Rattle.output_port.specs.declared.event.PutRecord.{PutRecord}
-use Rattle.nodes.specs.declared.kept.Kept.TheVariants as kept
-use Rattle.nodes.specs.declared.vl_end.VlEnd.{VlEnd}
+use Rattle.nodes.specs.declared.part_record.PartRecord.TheVariants as kept
+use Rattle.nodes.specs.declared.source.Source.{Source}
 use Rattle.reverse.specs.Sending.{silent}
-use Rattle.nodes.specs.Finding.{place_of}
-use Rattle.nodes.specs.Places.{found-again}
-use Rattle.nodes.specs.EndSystem.{EndSystemState, SourceAt, asked, full, lost, numbers_of, regulated, source_at, source_with}
-use Rattle.nodes.specs.EndSystemLaws.{source-with, with_regulator}
-use Rattle.nodes.specs.EndSystemParts.{RegulatedCameFrom, SendingCameFrom}
-use Rattle.nodes.specs.EndSystemUndoing.{regulated_kept, IsRegulatedValue}
+use Rattle.nodes.specs.rules.Finding.{Found, find}
+use Rattle.nodes.specs.declared.sink.Sink.{Sink}
+use Rattle.nodes.specs.rules.Ports.{exists}
+use Rattle.integrity.specs.Integrity.{integrity}
+use Rattle.nodes.specs.laws.Places.{found-again, found-there}
+use Rattle.nodes.specs.rules.EndSystem.{EndSystemState, asked, full, lost, regulated, source_at, source_number, sink_at, sink_number, ending_on, is_on, check_of, received, taken}
+use Rattle.nodes.specs.laws.EndSystem.{sink-again}
+use Rattle.nodes.specs.undoing.EndSystemParts.{ReceivedCameFrom, RegulatedCameFrom, SendingCameFrom}
+use Rattle.nodes.specs.undoing.EndSystem.{delivery_kept, regulated_kept, taken_kept, EndSystemCameFrom, IsRegulatedValue}
 
 -- a regulator that releases a frame has room in its queue
 pub full-released : (e : RegEvent) (frame : Frame) → full e (Released frame) ≡ silent
@@ -30,43 +35,60 @@ pub asked-quiet : (n : ℕ) (vl : VlId) (at : Option ℕ) → (asked n vl at).no
 asked-quiet n vl None = refl
 asked-quiet n vl (Some at) = refl
 
--- a virtual link that begins here at this place: its networks and its regulator are those that were read there
-pub source-found : {read s : EndSystemState} (vl : VlId) (i : ℕ) (end : VlEnd) (g : Regulator) → read ≡ s →
-    Some i ≡ option_map (λ (source : SourceAt). source.place) (source_at s vl) → end ≡ slice_index_or read.sources i end → g ≡ slice_index_or read.regulators i g →
-    source_at s vl ≡ Some (record { place = i; end = end; regulator = g })
-source-found {read} {s} vl i end g is e h k =
-    go (place_of (numbers_of s.sources) vl.0) e (subst (λ s. end ≡ slice_index_or s.sources i end) is h) (subst (λ s. g ≡ slice_index_or s.regulators i g) is k)
+-- a virtual link that ends here: the one that was read at its place
+pub sink-found : (s : EndSystemState) (read : List Sink) (vl : VlId) (net : Net) (i : ℕ) (sink : Sink) → read ≡ s.sinks →
+    Some i ≡ option_map (λ (found : Found Sink). found.place) (sink_at s vl net) → sink ≡ slice_index_or read i sink → sink_at s vl net ≡ Some (record { place = i; entry = sink })
+sink-found s read vl net i sink same placed is = go (find sink_number s.sinks vl.0) refl placed
   where
-    at : (j : ℕ) (x : Option VlEnd) (y : Option Regulator) → slice_get s.sources j ≡ x → slice_get s.regulators j ≡ y →
-        Some i ≡ option_map (λ (source : SourceAt). source.place) (source_with j x y) → end ≡ slice_index_or s.sources i end → g ≡ slice_index_or s.regulators i g →
-        source_with j x y ≡ Some (record { place = i; end = end; regulator = g })
-    at j (Some x) (Some y) a b e h k =
-        let same = same_Some i j e in
-        let is_end : x ≡ end = sym (get_or_from_slice_get s.sources j x end a) ∙ ap (λ k. slice_index_or s.sources k end) (sym same) ∙ sym h in
-        let is_regulator : y ≡ g = sym (get_or_from_slice_get s.regulators j y g b) ∙ ap (λ k. slice_index_or s.regulators k g) (sym same) ∙ sym k in
-        λ t. Some (record { place = sym same t; end = is_end t; regulator = is_regulator t })
-    at j (Some x) None a b e h k = absurd (none-some i (sym e))
-    at j None y a b e h k = absurd (none-some i (sym e))
+    here : (f : Found Sink) → find sink_number s.sinks vl.0 ≡ Some f → (b : Bool) → Some i ≡ option_map (λ (found : Found Sink). found.place) (cond b (Some f) None) →
+        cond b (Some f) None ≡ Some (record { place = i; entry = sink })
+    here f found true e =
+        let place : f.place ≡ i = sym (same_Some i f.place e) in
+        let there = ap (slice_get s.sinks) (sym place) ∙ found-there sink_number s.sinks vl.0 f found in
+        let entry : f.entry ≡ sink = sym (get_or_from_slice_get s.sinks i f.entry sink there) ∙ sym (is ∙ ap (λ sinks. slice_index_or sinks i sink) same) in
+        λ t. Some (record { place = place t; entry = entry t })
+    here f found false e = absurd (none-some i (sym e))
 
-    go : (p : Option ℕ) → Some i ≡ option_map (λ (source : SourceAt). source.place) (option_and_then (λ i. source_with i (slice_get s.sources i) (slice_get s.regulators i)) p) →
-        end ≡ slice_index_or s.sources i end → g ≡ slice_index_or s.regulators i g →
-        option_and_then (λ i. source_with i (slice_get s.sources i) (slice_get s.regulators i)) p ≡ Some (record { place = i; end = end; regulator = g })
-    go None e h k = absurd (none-some i (sym e))
-    go (Some j) e h k = at j (slice_get s.sources j) (slice_get s.regulators j) refl refl e h k
+    go : (o : Option (Found Sink)) → find sink_number s.sinks vl.0 ≡ o → Some i ≡ option_map (λ (found : Found Sink). found.place) (option_and_then (ending_on net) o) →
+        option_and_then (ending_on net) o ≡ Some (record { place = i; entry = sink })
+    go None found e = absurd (none-some i (sym e))
+    go (Some f) found e = here f found (is_on f.entry.end net) e
 
 -- a virtual link whose regulator was asked is found with that regulator, and the records are those of the asking
 pub sending-came : (n t : ℕ) (vl : VlId) (e : RegEvent) (now : EndSystemState) (k : RegRecord) (a b : Option PutRecord) →
-    RegulatedCameFrom n t vl e now (kept.Regulated a b k) → (source : SourceAt) → source_at now vl ≡ Some source →
-    SendingCameFrom e source.end source.regulator now.ports k a b
-sending-came n t vl e now k a b came source found = go (source_at came.0 vl) refl came.1 came.2 came.3
+    RegulatedCameFrom n t vl e now (kept.Regulated a b k) → (found : Found Source) → source_at now vl ≡ Some found →
+    SendingCameFrom e found.entry.end found.entry.regulator now.ports k a b
+sending-came n t vl e now k a b came found is = go (source_at came.0 vl) refl came.1 came.2 came.3
   where
-    go : (o : Option SourceAt) → source_at came.0 vl ≡ o → IsRegulatedValue e came.0 o → now ≡ (regulated n t e (lost Unknown e) came.0 o).state →
-        kept.Regulated a b k ≡ regulated_kept e came.0 o → SendingCameFrom e source.end source.regulator now.ports k a b
+    go : (o : Option (Found Source)) → source_at came.0 vl ≡ o → IsRegulatedValue e came.0 o → now ≡ (regulated n t e (lost Unknown e) came.0 o).state →
+        kept.Regulated a b k ≡ regulated_kept e came.0 o → SendingCameFrom e found.entry.end found.entry.regulator now.ports k a b
     go None h value is_now is_kept = absurd (cc)
     go (Some before) h value is_now is_kept =
         let s = came.0 in
-        let after = regulator.after before.regulator e in
-        let again = found-again source-with s.sources s.regulators (place_of (numbers_of s.sources) vl.0) before after h in
-        let same : with_regulator after before ≡ source = same_Some _ source (sym again ∙ ap (λ s. source_at s vl) (sym is_now) ∙ found) in
-        subst (λ (source : SourceAt). SendingCameFrom e source.end source.regulator now.ports k a b) same
-        (before.regulator, s.ports, value.0, value.1, refl, ap (λ (s : EndSystemState). s.ports) is_now, is_kept)
+        let new : Source = record before.entry { regulator = regulator.after before.entry.regulator e } in
+        let again = found-again source_number s.sources vl.0 before h new refl in
+        let same : record { place = before.place; entry = new } ≡ found = same_Some _ found (sym again ∙ ap (λ s. source_at s vl) (sym is_now) ∙ is) in
+        subst (λ (found : Found Source). SendingCameFrom e found.entry.end found.entry.regulator now.ports k a b) same
+        (before.entry.regulator, s.ports, value.0, value.1, refl, ap (λ (s : EndSystemState). s.ports) is_now, is_kept)
+
+-- a virtual link whose frame came is found with the checks that saw the frame
+pub receiving-came : (n t q : ℕ) (frame : Frame) (now : EndSystemState) (c : Option ℕ) (d : Option (Option (ℕ × ℕ))) →
+    EndSystemCameFrom n t (body.Arrive q frame) now (kept.Received c d) → (found : Found Sink) → sink_at now frame.vl frame.net ≡ Some found →
+    ReceivedCameFrom t frame found.entry.receiving c d
+receiving-came n t q frame now c d came found is = by_port (exists came.0.ports q) came.2 came.3
+  where
+    by_sink : (o : Option (Found Sink)) → sink_at came.0 frame.vl frame.net ≡ o → now ≡ (taken t frame came.0 o).state →
+        kept.Received c d ≡ taken_kept frame o → ReceivedCameFrom t frame found.entry.receiving c d
+    by_sink None h is_now is_kept = absurd (cc)
+    by_sink (Some before) h is_now is_kept =
+        let r = before.entry.receiving in
+        let again = (sink-again came.0 frame.vl frame.net before (received t frame r) h).1 in
+        let same : record before { entry = record before.entry { receiving = received t frame r } } ≡ found = same_Some _ found (sym again ∙ ap (λ s. sink_at s frame.vl frame.net) (sym is_now) ∙ is) in
+        let check : c ≡ check_of frame.net r = cc in
+        let delivery : d ≡ delivery_kept r (integrity.out (check_of frame.net r) frame.number) = cc in
+        subst (λ (found : Found Sink). ReceivedCameFrom t frame found.entry.receiving c d) same (r, refl, check, delivery)
+
+    by_port : (b : Bool) → now ≡ (cond b (taken t frame came.0 (sink_at came.0 frame.vl frame.net)) (record { state = came.0; reply = silent })).state →
+        kept.Received c d ≡ cond b (taken_kept frame (sink_at came.0 frame.vl frame.net)) kept.Nothing → ReceivedCameFrom t frame found.entry.receiving c d
+    by_port true is_now is_kept = by_sink (sink_at came.0 frame.vl frame.net) refl is_now is_kept
+    by_port false is_now is_kept = absurd (cc)

@@ -12,8 +12,8 @@ use Rattle.std.proofs.lemmas.Map.Keys.{sorted_head, sorted_tail}
 use Rattle.netdesc.specs.declared.wiring.Way.{Way}
 use Rattle.netdesc.specs.Plan.{VlPlan}
 use Rattle.netdesc.specs.Accepted.{ids_of}
-use Rattle.nodes.specs.Meeting.{with_ways}
-use Rattle.nodes.specs.Grouping.{groups, grouped}
+use Rattle.nodes.specs.rules.Meeting.{with_ways}
+use Rattle.nodes.specs.laws.Grouping.{groups, grouped}
 
 -- the ways are all of the virtual link with this number; the first of them, if there is one, is not
 abbrev pub AreOf : ℕ → List Way → Type 0

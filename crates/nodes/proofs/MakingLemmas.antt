@@ -1,13 +1,12 @@
 -- What is made of the virtual links at a node, against the virtual links of the network.
-use Rattle.std.proofs.Common.{◌≡◌, ℕ, ◌+◌, ◌<◌, ◌==◌, ◌&&◌, Less, not, Bool, true, false, cond, List, [], ◌∷◌, length, map, get_or, Option, Some, None, refl, ap, sym, ◌∙◌, arith, add-one}
-use Rattle.std.specs.Prelude.{filter, replicate}
+use Rattle.std.proofs.Common.{◌≡◌, ℕ, suc, ◌+◌, ◌==◌, ◌&&◌, Less, not, Bool, true, false, cond, List, [], ◌∷◌, map, Option, Some, None, refl, ap, sym, ◌∙◌, arith, add-one}
+use Rattle.std.specs.Prelude.{filter, replicate, slice_get}
 use Rattle.std.specs.List.{AllByRecursion}
-use Rattle.std.specs.Option.{option_map}
+use Rattle.std.specs.Option.{option_map, option_and_then}
 use Rattle.std.specs.Ordering.{nat_cmp}
 use Rattle.std.specs.List.Sorted.{IsStrictlySortedBy}
 use Rattle.std.proofs.lemmas.Bool.Decides.{nat_tests}
 use Rattle.std.proofs.lemmas.Map.Keys.{sorted_head, sorted_tail, sorted_from_strictly_increasing}
-use Rattle.std.proofs.lemmas.List.{length-map}
 use Rattle.netdesc.specs.declared.limits.TheConstants.{GREATEST_PORTS}
 use Rattle.nodes.specs.declared.meeting.Meeting.{Meeting}
 use Rattle.netdesc.specs.declared.wiring.Way.{Way}
@@ -16,40 +15,27 @@ use Rattle.netdesc.specs.Accepted.{IsAccepted, ids_of}
 use Rattle.netdesc.specs.Trees.{is_none}
 use Rattle.netdesc.proofs.RisingLemmas.{ids-rise}
 use Rattle.nodes.specs.declared.meeting.Side.TheVariants.{Out, In}
-use Rattle.nodes.specs.Meeting.{ways_at, with_ways, ports_by, meeting, meetings}
-use Rattle.nodes.specs.EndSystem as end
-use Rattle.nodes.specs.Switch as through
-use Rattle.nodes.specs.Opening.{regulator_of, receiving_of, account_of, end_of, transit_of}
-use Rattle.nodes.specs.Finding.{place_of}
-use Rattle.nodes.specs.Making.{numbers_met, ports_among, end_met, transit_met}
+use Rattle.nodes.specs.rules.Meeting.{ways_at, with_ways, ports_by, meeting, meetings}
+use Rattle.nodes.specs.rules.EndSystem.{source_number, sink_number}
+use Rattle.nodes.specs.rules.Switch.{transit_number}
+use Rattle.nodes.specs.rules.Opening.{source_of, sink_of, transit_of}
+use Rattle.nodes.specs.rules.Finding.{place_of, found_at}
+use Rattle.nodes.specs.laws.Making.{number_met, ports_among, ports_found, source_met, sink_met, transit_met}
 use Rattle.nodes.proofs.GroupLemmas.{below}
-use Rattle.nodes.proofs.VlLemmas.{place_by-within}
 
--- a number's place among virtual links
-pub placed-within : (meetings : List Meeting) (id place : ℕ) → place_of (numbers_met meetings) id ≡ Some place → place < length meetings
-placed-within meetings id place e =
-    let below = place_by-within (λ n. n == id) (numbers_met meetings) place e in
-    omega (arith, length-map meetings (λ (m : Meeting). m.link.id.0))
-
-pub ports-placed : (meetings : List Meeting) (id place : ℕ) (d : Meeting) → place_of (numbers_met meetings) id ≡ Some place → (get_or meetings place d).ports ≡ ports_among meetings id
-ports-placed [] id place d e = absurd (cc)
-ports-placed (m ∷ meetings) id place d e = go (m.link.id.0 == id) (place_of (numbers_met meetings) id) refl (λ j. ports-placed meetings id j d) e
+-- the ports of the first virtual link, or of a later one
+ports_among-cons : (m : Meeting) (meetings : List Meeting) (id : ℕ) → ports_among (m ∷ meetings) id ≡ cond (m.link.id.0 == id) m.ports (ports_among meetings id)
+ports_among-cons m meetings id = go (m.link.id.0 == id) (place_of (map number_met meetings) id)
   where
-    go : (b : Bool) (o : Option ℕ) → place_of (numbers_met meetings) id ≡ o → ((j : ℕ) → place_of (numbers_met meetings) id ≡ Some j → (get_or meetings j d).ports ≡ ports_among meetings id)
-        → cond b (Some 0) (option_map (λ n. n + 1) o) ≡ Some place → (get_or (m ∷ meetings) place d).ports ≡ cond b m.ports (ports_among meetings id)
-    go true o is later f = let here : place ≡ 0 = cc in rw here refl
-    go false None is later f = absurd (cc)
-    go false (Some j) is later f = let behind : place ≡ j + 1 = cc in rw (behind, add-one j) (later j is)
+    same : (i j : ℕ) (o : Option Meeting) → ports_found (option_map (λ x. record { place = i; entry = x }) o) ≡ ports_found (option_map (λ x. record { place = j; entry = x }) o)
+    same i j None = refl
+    same i j (Some x) = refl
 
-pub ports-nowhere : (meetings : List Meeting) (id : ℕ) → place_of (numbers_met meetings) id ≡ None → ports_among meetings id ≡ replicate GREATEST_PORTS false
-ports-nowhere [] id e = refl
-ports-nowhere (m ∷ meetings) id e = go (m.link.id.0 == id) (place_of (numbers_met meetings) id) refl (ports-nowhere meetings id) e
-  where
-    go : (b : Bool) (o : Option ℕ) → place_of (numbers_met meetings) id ≡ o → (place_of (numbers_met meetings) id ≡ None → ports_among meetings id ≡ replicate GREATEST_PORTS false)
-        → cond b (Some 0) (option_map (λ n. n + 1) o) ≡ None → cond b m.ports (ports_among meetings id) ≡ replicate GREATEST_PORTS false
-    go true o is later f = absurd (cc)
-    go false None is later f = later is
-    go false (Some j) is later f = absurd (cc)
+    go : (b : Bool) (o : Option ℕ) → ports_found (option_and_then (found_at (m ∷ meetings)) (cond b (Some 0) (option_map (λ k. k + 1) o)))
+        ≡ cond b m.ports (ports_found (option_and_then (found_at meetings) o))
+    go true o = refl
+    go false None = refl
+    go false (Some k) = rw (add-one k) (same (suc k) k (slice_get meetings k))
 
 -- ---- what is made of the virtual links that meet a node is what is made of those of the network
 
@@ -57,25 +43,23 @@ map-map : {X Y Z : Type 0} (g : Y → Z) (f : X → Y) (xs : List X) → map g (
 map-map g f [] = refl
 map-map g f (x ∷ xs) = ap (λ zs. g (f x) ∷ zs) (map-map g f xs)
 
-pub regulators-made : (by : VlPlan → List Way) (vls : List VlPlan) → map (λ (m : Meeting). regulator_of m.link) (map (meeting by) vls) ≡ map (λ vl. regulator_of vl.link) vls
-regulators-made by vls = map-map _ _ vls
-
-pub receivers-made : (by : VlPlan → List Way) (vls : List VlPlan) → map (λ (m : Meeting). receiving_of m.link) (map (meeting by) vls) ≡ map (λ vl. receiving_of vl.link) vls
-receivers-made by vls = map-map _ _ vls
-
-pub accounts-made : (by : VlPlan → List Way) (vls : List VlPlan) → map (λ (m : Meeting). account_of m.link) (map (meeting by) vls) ≡ map (λ vl. account_of vl.link) vls
-accounts-made by vls = map-map _ _ vls
-
-pub ends-made : (by : VlPlan → List Way) (vls : List VlPlan) → map end_met (map (meeting by) vls) ≡ map (end_of by) vls
+pub sources-made : (by : VlPlan → List Way) (vls : List VlPlan) → map source_met (map (meeting by) vls) ≡ map (source_of by) vls
 unfolding ports_by
-ends-made by vls = map-map end_met (meeting by) vls
+sources-made by vls = map-map source_met (meeting by) vls
+
+pub sinks-made : (by : VlPlan → List Way) (vls : List VlPlan) → map sink_met (map (meeting by) vls) ≡ map (sink_of by) vls
+unfolding ports_by
+sinks-made by vls = map-map sink_met (meeting by) vls
 
 -- the numbers stay
-pub numbers-ends : (meetings : List Meeting) → end.numbers_of (map end_met meetings) ≡ numbers_met meetings
-numbers-ends meetings = map-map _ end_met meetings
+pub source-numbers : (meetings : List Meeting) → map source_number (map source_met meetings) ≡ map number_met meetings
+source-numbers meetings = map-map source_number source_met meetings
 
-pub numbers-transits : (departing meetings : List Meeting) → through.numbers_of (map (transit_met departing) meetings) ≡ numbers_met meetings
-numbers-transits departing meetings = map-map _ (transit_met departing) meetings
+pub sink-numbers : (meetings : List Meeting) → map sink_number (map sink_met meetings) ≡ map number_met meetings
+sink-numbers meetings = map-map sink_number sink_met meetings
+
+pub transit-numbers : (departing meetings : List Meeting) → map transit_number (map (transit_met departing) meetings) ≡ map number_met meetings
+transit-numbers departing meetings = map-map transit_number (transit_met departing) meetings
 
 -- ---- a virtual link leaves a switch by the ports of its ways out, also where it has none
 
@@ -90,7 +74,7 @@ same-made {X} f g test (x ∷ xs) same = go (test x) (same-made f g test xs same
 ports-first : (by : VlPlan → List Way) (vl : VlPlan) (vls : List VlPlan) (id : ℕ) (ways : List Way)
     → ports_among (map (meeting by) (cond (not (is_none ways)) (vl ∷ with_ways by vls) (with_ways by vls))) id ≡ cond (not (is_none ways) && (vl.link.id.0 == id)) (ports_by (by vl)) (ports_among (map (meeting by) (with_ways by vls)) id)
 ports-first by vl vls id [] = refl
-ports-first by vl vls id (way ∷ ways) = refl
+ports-first by vl vls id (way ∷ ways) = ports_among-cons (meeting by vl) (map (meeting by) (with_ways by vls)) id
 
 -- a number below all others has no ports
 ports-absent : (by : VlPlan → List Way) (id : ℕ) (vls : List VlPlan) → AllByRecursion (λ other. nat_cmp id other ≡ Less) (ids_of vls) → ports_among (map (meeting by) (with_ways by vls)) id ≡ replicate GREATEST_PORTS false

@@ -1,9 +1,16 @@
 -- Where a number stands among rising ones.
-use Rattle.std.proofs.Common.{◌≡◌, ℕ, zero, suc, ◌<◌, ◌==◌, true, false, List, [], ◌∷◌, length, get_or, Some, None, refl, ap, arith, add-one}
-use Rattle.std.specs.Ordering.{nat_cmp}
+use Rattle.std.proofs.Common.{◌≡◌, ℕ, zero, suc, ◌<◌, ◌≤◌, ◌==◌, Less, Equal, Greater, Bool, true, false, cond, List, [], ◌∷◌, length, map, get_or, slice_get, slice_set, slice_index_or, Option, Some, None, IfSome, option_map, option_and_then, ◌+◌, Result, Ok, Err, refl, sym, subst, ap, ◌∙◌, inl, inr, arith, add-one}
+use Rattle.std.specs.Result.{result_ok}
+use Rattle.std.specs.List.Sorted.{IsSearchInRange, IsBinarySearchResult, IsNonDecreasingBy}
+use Rattle.std.specs.Ordering.{nat_cmp, ordering_index}
+use Rattle.std.proofs.Math.Seq.{map-set_same}
+use Rattle.std.proofs.lemmas.Bool.{cases_lt}
 use Rattle.std.proofs.lemmas.Bool.Decides.{nat_tests}
-use Rattle.std.proofs.lemmas.Map.Keys.{below_from_sorted, sorted_tail}
-use Rattle.nodes.specs.Finding.{place_of, IsRising}
+use Rattle.std.proofs.lemmas.List.{get_or-map, length-map}
+use Rattle.std.proofs.lemmas.List.Sorted.{IsNonDecreasingBy-from_default}
+use Rattle.std.proofs.lemmas.Map.Keys.{below_from_sorted, sorted_tail, non_decreasing_from_sorted}
+use Rattle.std.proofs.lemmas.Option.{none-some, same_Some, slice_get-get_or}
+use Rattle.nodes.specs.rules.Finding.{place_of, find, found_at, IsRising}
 
 -- the number at a place is found there, since each one before it is less
 pub place-there : (numbers : List ℕ) (id i : ℕ) → IsRising numbers → i < length numbers → get_or numbers i 0 ≡ id → place_of numbers id ≡ Some i
@@ -25,3 +32,75 @@ place-nowhere (n ∷ numbers) id none =
     let other : (n == id) ≡ false = grind (arith, nat_tests) in
     let later = place-nowhere numbers id (λ k h. none (suc k) (omega arith)) in
     rw (other, later) refl
+
+equal : (a b : ℕ) → nat_cmp a b ≡ Equal → a ≡ b
+equal a b h = grind (arith, nat_tests)
+
+less : (a b : ℕ) → nat_cmp a b ≡ Less → a < b
+less a b h = grind (arith, nat_tests)
+
+more : (a b : ℕ) → nat_cmp a b ≡ Greater → b < a
+more a b h = grind (arith, nat_tests)
+
+rises : (a b id : ℕ) → a ≤ b → ordering_index (nat_cmp a id) ≤ ordering_index (nat_cmp b id)
+rises a b id h = grind (arith, nat_tests)
+
+-- a place is one of the list
+pub place-within : (numbers : List ℕ) (id i : ℕ) → place_of numbers id ≡ Some i → i < length numbers
+place-within [] id i e = absurd (none-some i e)
+place-within (n ∷ numbers) id i e = go (n == id) (place_of numbers id) (place-within numbers id) e
+  where
+    go : (b : Bool) (o : Option ℕ) → ((j : ℕ) → o ≡ Some j → j < length numbers) → cond b (Some 0) (option_map (λ k. k + 1) o) ≡ Some i → i < length (n ∷ numbers)
+    go true o later e = omega (arith, same_Some 0 i e)
+    go false None later e = absurd (none-some i e)
+    go false (Some j) later e = omega (arith, later j refl, same_Some (j + 1) i e)
+
+-- the entry that was read at the place of a number is the one that is found
+pub found-read : {X : Type 0} (number : X → ℕ) (searched read xs : List X) (id i : ℕ) (x : X) → searched ≡ read → read ≡ xs →
+    Some i ≡ place_of (map number searched) id → x ≡ slice_index_or read i x → find number xs id ≡ Some (record { place = i; entry = x })
+found-read number searched read xs id i x same inside placed is =
+    let here : Some i ≡ place_of (map number read) id = placed ∙ ap (λ xs. place_of (map number xs) id) same in
+    let within : i < length read = omega (arith, place-within (map number read) id i (sym here), length-map read number) in
+    let there : slice_get read i ≡ Some x = slice_get-get_or read i x within ∙ ap (λ y. Some y) (sym is) in
+    ap (λ xs. find number xs id) (sym inside) ∙ ap (option_and_then (found_at read)) (sym here) ∙ ap (option_map (λ x. record { place = i; entry = x })) there
+
+-- the numbers still rise when an entry is set where one with the same number was read
+pub rising-kept : {X : Type 0} (number : X → ℕ) (xs : List X) (i : ℕ) (x y : X) → x ≡ slice_index_or xs i x → number y ≡ number x →
+    IsRising (map number xs) → IsRising (map number (slice_set xs i y))
+rising-kept number xs i x y is same rising = subst IsRising (sym (map-set_same number xs i y x (same ∙ ap number is))) rising
+
+-- a place that a search answers is one of the list
+pub ok-within : (r : Result ℕ ℕ) (n : ℕ) → IsSearchInRange r n → IfSome (result_ok r) (λ i. i < n)
+ok-within (Ok i) n h = h
+ok-within (Err i) n h = tt
+
+-- what a binary search finds among entries whose numbers rise
+pub place-searched : {X : Type 0} (number : X → ℕ) (xs : List X) (id : ℕ) (r : Result ℕ ℕ) → IsRising (map number xs) →
+    IsSearchInRange r (length xs) → IsBinarySearchResult (λ x. nat_cmp (number x) id) xs r → result_ok r ≡ place_of (map number xs) id
+place-searched number [] id (Ok i) rising range found = absurd (omega (arith, range))
+place-searched number [] id (Err i) rising range found = refl
+place-searched {X} number (first ∷ rest) id r rising range found = go r range found
+  where
+    xs : List X
+    xs = first ∷ rest
+
+    numbers : List ℕ
+    numbers = map number xs
+
+    read : (i : ℕ) → i < length xs → get_or numbers i 0 ≡ number (get_or xs i first)
+    read i h = get_or-map number xs i first 0 h
+
+    rise : IsNonDecreasingBy (λ x. ordering_index (nat_cmp (number x) id)) xs
+    rise = IsNonDecreasingBy-from_default (λ x. ordering_index (nat_cmp (number x) id)) xs first (λ i j le lt.
+        let up = non_decreasing_from_sorted numbers rising i j 0 le (omega (arith, lt, length-map xs number)) in
+        rises (number (get_or xs i first)) (number (get_or xs j first)) id (omega (arith, up, read i (omega arith), read j lt)))
+
+    go : (r : Result ℕ ℕ) → IsSearchInRange r (length xs) → IsBinarySearchResult (λ x. nat_cmp (number x) id) xs r → result_ok r ≡ place_of numbers id
+    go (Ok i) range found = sym (place-there numbers id i rising (omega (arith, range, length-map xs number)) (read i range ∙ equal _ id (found first)))
+    go (Err i) range found = sym (place-nowhere numbers id (λ k h e.
+        let within : k < length xs = omega (arith, h, length-map xs number) in
+        let parted = found rise in
+        elim (cases_lt k i) [
+          | inl below ↦ (omega (arith, less (number (get_or xs k first)) id (parted.0 k first (omega arith) below), read k within, e))
+          | inr behind ↦ (omega (arith, more (number (get_or xs k first)) id (parted.1 k first behind within), read k within, e))
+        ]))

@@ -2,11 +2,11 @@
 use Rattle.std.proofs.Common.{◌≡◌, ℕ, zero, suc, ◌+◌, ◌-◌, ◌<◌, ◌≤◌, Bool, true, false, cond, List, [], ◌∷◌, map, length, Option, Some, None, All, refl, ap, sym, ◌∙◌, subst, arith}
 use Rattle.std.specs.Prelude.{slice_get, IfSome, filter, not}
 use Rattle.std.specs.Option.{option_map}
-use Rattle.bag_regulator.specs.Regulator.{Regulator}
+use Rattle.nodes.specs.declared.source.Source.{Source}
 use Rattle.netdesc.specs.declared.wiring.Way.{Way}
 use Rattle.netdesc.specs.Trees.{is_none}
 use Rattle.nodes.specs.declared.meeting.Side.TheVariants.{Out}
-use Rattle.nodes.specs.Meeting.{ways_at, with_ways}
+use Rattle.nodes.specs.rules.Meeting.{ways_at, with_ways}
 use Rattle.std.specs.List.{AllByRecursion, range_with_len}
 use Rattle.std.proofs.lemmas.List.Elements.{All-from_recursion}
 use Rattle.std.proofs.lemmas.Option.{slice_get_within, none-some}
@@ -23,8 +23,8 @@ use Rattle.netdesc.proofs.PortLemmas.{line-within}
 use Rattle.netdesc.proofs.LimitLemmas.{kind-read, link-read}
 use Rattle.nodes.specs.declared.ports.Wire.{Wire}
 use Rattle.nodes.specs.declared.part.Part.TheVariants as part
-use Rattle.nodes.specs.Opening.{leaves_by, wire_among, wires_of, ports_of, regulator_of, node_opening, part_opening, line_opening, opening}
-use Rattle.nodes.specs.Placed.{AllWires, IsPlacedPart, IsPlaced, IsWiredPart, IsWired}
+use Rattle.nodes.specs.rules.Opening.{leaves_by, wire_among, wires_of, ports_of, source_of, node_opening, part_opening, line_opening, opening}
+use Rattle.nodes.specs.rules.Placed.{AllWires, IsPlacedPart, IsPlaced, IsWiredPart, IsWired}
 
 -- what holds of each line, as the wire of a process behind these, holds of the wire that is found
 wire-holds : (P : Wire → Type 0) (n q process : ℕ) (lines : List Line) →
@@ -80,10 +80,10 @@ module _ (plan : Plan) (accepted : IsAccepted plan) where
   has-bag : VlPlan → Type 0
   has-bag vl = 1 ≤ vl.link.bag_ms
 
-  spaced : (ways : VlPlan → List Way) → All (λ (g : Regulator). 1 ≤ g.bag) (map (λ vl. regulator_of vl.link) (with_ways ways plan.vls))
+  spaced : (ways : VlPlan → List Way) → All (λ (source : Source). 1 ≤ source.regulator.bag) (map (source_of ways) (with_ways ways plan.vls))
   unfolding has-bag
   spaced ways =
-      All-from_recursion (λ (g : Regulator). 1 ≤ g.bag) _ (all-passed has-bag (λ g. 1 ≤ g.bag) (λ vl. regulator_of vl.link) (λ vl. not (is_none (ways vl))) (λ vl h. omega (arith, h)) plan.vls
+      All-from_recursion (λ (source : Source). 1 ≤ source.regulator.bag) _ (all-passed has-bag (λ source. 1 ≤ source.regulator.bag) (source_of ways) (λ vl. not (is_none (ways vl))) (λ vl h. omega (arith, h)) plan.vls
       (all-read has-bag plan.vls (λ k vl there. (link-read plan k vl.link accepted (ap (option_map (λ vl. vl.link)) there)).least_bag)))
 
   node-placed : (n : ℕ) (node : NodePlan) → slice_get plan.nodes n ≡ Some node → (k : NodeKind) → node.kind ≡ k → IsPlacedPart (node_opening plan n node.port_bytes k)

@@ -5,8 +5,8 @@ use Rattle.vlink.specs.declared.frame.Frame.{Frame}
 use Rattle.output_port.specs.declared.event.PortEvent.{PortEvent}
 use Rattle.output_port.specs.declared.event.Priority.{Priority}
 use Rattle.nodes.specs.declared.ports.Wire.{Wire}
-use Rattle.nodes.specs.Ports.{PortsState, wire_at, changed_at, changed, reply_at, reply}
-use Rattle.nodes.specs.Undoing.{kept_at, port_kept, put_kept_at, port_put_kept, IsThere, IsPortValue}
+use Rattle.nodes.specs.rules.Ports.{PortsState, wire_at, changed_at, changed, reply_at, reply}
+use Rattle.nodes.specs.undoing.Ports.{kept_at, port_kept, put_kept_at, port_put_kept, IsThere, IsPortValue}
 
 -- what is there at port q
 module _ (q : ℕ) (e : PortEvent) (ports : PortsState) (w : Option Wire) (p : Option PortState) (is_wire : wire_at ports q ≡ w) (is_port : slice_get ports.states q ≡ p) where

@@ -1,71 +1,73 @@
--- The virtual links that go through a switch: what is found there, and what then happens with a frame.
-use Rattle.std.proofs.Common.{◌≡◌, ℕ, ◌<◌, ◌≤◌, length, cond, nat_lt, Option, Some, None, ap, refl, sym, ◌∙◌, subst, slice_get}
-use Rattle.std.specs.Option.{option_map, option_and_then}
-use Rattle.std.proofs.lemmas.Bool.{le-ltb, eq-eqb}
-use Rattle.std.proofs.lemmas.Option.{slice_get_within, none-some, same_Some}
-use Rattle.vlink.specs.declared.note.Cause.TheVariants.{TooLong, Unknown}
+-- What a switch makes of a frame, once it is known what virtual link is found there.
+use Rattle.std.proofs.Common.{◌≡◌, ℕ, ◌==◌, ◌≤◌, nat_lt, Bool, true, false, cond, Option, None, Some, slice_set, refl, ap, sym, ◌∙◌, subst, arith}
+use Rattle.std.proofs.lemmas.Bool.Decides.{nat_tests}
+use Rattle.std.proofs.lemmas.Option.{same_Some}
 use Rattle.vlink.specs.declared.frame.Frame.{Frame}
-use Rattle.vlink.specs.declared.frame.VlId.{VlId}
+use Rattle.vlink.specs.declared.message.Body.TheVariants as body
 use Rattle.policer.specs.Account.{Policing, account, cap}
-use Rattle.nodes.specs.declared.kept.Kept.TheVariants as kept
+use Rattle.policer.specs.declared.account.Arrival.{Arrival}
+use Rattle.policer.specs.declared.account.AccountRecord.{AccountRecord}
+use Rattle.reverse.specs.Plain.{CameFrom}
+use Rattle.reverse.specs.Sending.{silent}
+use Rattle.nodes.specs.declared.part_record.PartRecord.TheVariants as kept
 use Rattle.nodes.specs.declared.transit.Transit.{Transit}
-use Rattle.reverse.specs.Sending.{loss}
-use Rattle.nodes.specs.Finding.{place_of}
-use Rattle.nodes.specs.Switch.{SwitchState, TransitAt, transit_with, transit_at, numbers_of, taken, policed}
-use Rattle.nodes.specs.SwitchUndoing.{taken_kept, IsTakenValue}
+use Rattle.nodes.specs.rules.Finding.{Found}
+use Rattle.nodes.specs.rules.Ports.{exists}
+use Rattle.nodes.specs.rules.Switch.{SwitchState, transit_at, transit_number, entered, taken}
+use Rattle.nodes.specs.undoing.Switch.{taken_kept, IsEnteredValue, IsTakenValue, SwitchCameFrom}
+use Rattle.nodes.specs.laws.Places.{found-again}
 
--- the virtual link that is found has the place, the route and the account that were read
-pub transit-is : (s : SwitchState) (vl : VlId) (i : ℕ) (t : Transit) (a : Policing) →
-    option_map (λ (found : TransitAt). found.place) (transit_at s vl) ≡ Some i → slice_get s.transits i ≡ Some t → slice_get s.accounts i ≡ Some a →
-    transit_at s vl ≡ Some (record { place = i; transit = t; account = a })
-transit-is s vl i t a is there account_there = go (place_of (numbers_of s.transits) vl.0) is
+-- the number of the virtual link stays
+pub entered-number : (t q : ℕ) (frame : Frame) (transit : Transit) → transit_number (entered t q frame transit) ≡ transit_number transit
+entered-number t q frame transit = go (transit.input == q) (nat_lt transit.smax frame.size)
   where
-    with : (j : ℕ) (ot : Option Transit) (oa : Option Policing) → slice_get s.transits j ≡ ot → slice_get s.accounts j ≡ oa →
-        option_map (λ (found : TransitAt). found.place) (transit_with j ot oa) ≡ Some i → transit_with j ot oa ≡ Some (record { place = i; transit = t; account = a })
-    with j (Some u) (Some b) e f h =
-        let same : j ≡ i = same_Some _ _ h in
-        let tu : u ≡ t = same_Some _ _ (sym e ∙ ap (λ k. slice_get s.transits k) same ∙ there) in
-        let ab : b ≡ a = same_Some _ _ (sym f ∙ ap (λ k. slice_get s.accounts k) same ∙ account_there) in
-        ap (λ (k : ℕ). Some (record { place = k; transit = u; account = b })) same
-        ∙ ap (λ (v : Transit). Some (record { place = i; transit = v; account = b })) tu
-        ∙ ap (λ (v : Policing). Some (record { place = i; transit = t; account = v })) ab
-    with j (Some u) None e f h = absurd (none-some i h)
-    with j None oa e f h = absurd (none-some i h)
+    judged : Transit
+    judged = record transit { account = account.after transit.account (record { at = t; size = frame.size }) }
 
-    go : (o : Option ℕ) → option_map (λ (found : TransitAt). found.place) (option_and_then (λ j. transit_with j (slice_get s.transits j) (slice_get s.accounts j)) o) ≡ Some i →
-        option_and_then (λ j. transit_with j (slice_get s.transits j) (slice_get s.accounts j)) o ≡ Some (record { place = i; transit = t; account = a })
-    go None h = absurd (none-some i h)
-    go (Some j) h = with j (slice_get s.transits j) (slice_get s.accounts j) refl refl h
+    go : (b c : Bool) → transit_number (cond b (cond c transit judged) transit) ≡ transit_number transit
+    go true true = refl
+    go true false = refl
+    go false c = refl
 
--- its place lies within both lists
-pub transit-within : (s : SwitchState) (vl : VlId) (i : ℕ) → option_map (λ (found : TransitAt). found.place) (transit_at s vl) ≡ Some i → (i < length s.transits) × (i < length s.accounts)
-transit-within s vl i is = go (place_of (numbers_of s.transits) vl.0) is
+same : (a b : ℕ) → (a == b) ≡ true → a ≡ b
+same a b h = grind (arith, nat_tests)
+
+at_most : (a b : ℕ) → nat_lt a b ≡ false → b ≤ a
+at_most a b h = grind (arith, nat_tests)
+
+abbrev IsJudged : Policing → Arrival → AccountRecord → Type 0
+IsJudged now arrival k = CameFrom account (λ a _. a.level ≤ cap a) now arrival k
+
+-- a virtual link whose frame came is found with the account that judged the frame
+pub judging-came : (n t q : ℕ) (frame : Frame) (now : SwitchState) (k : AccountRecord) → SwitchCameFrom n t (body.Arrive q frame) now (kept.Policed k) →
+    (found : Found Transit) → transit_at now frame.vl ≡ Some found → IsJudged found.entry.account (record { at = t; size = frame.size }) k
+judging-came n t q frame now k came found is = by_port (exists came.0.ports q) refl came.2 came.3
   where
-    with : (j : ℕ) (ot : Option Transit) (oa : Option Policing) → slice_get s.transits j ≡ ot → slice_get s.accounts j ≡ oa →
-        option_map (λ (found : TransitAt). found.place) (transit_with j ot oa) ≡ Some i → (i < length s.transits) × (i < length s.accounts)
-    with j (Some u) (Some b) e f h =
-        subst (λ k. (k < length s.transits) × (k < length s.accounts)) (same_Some _ _ h) (slice_get_within s.transits j u e, slice_get_within s.accounts j b f)
-    with j (Some u) None e f h = absurd (none-some i h)
-    with j None oa e f h = absurd (none-some i h)
+    arrival : Arrival
+    arrival = record { at = t; size = frame.size }
 
-    go : (o : Option ℕ) → option_map (λ (found : TransitAt). found.place) (option_and_then (λ j. transit_with j (slice_get s.transits j) (slice_get s.accounts j)) o) ≡ Some i →
-        (i < length s.transits) × (i < length s.accounts)
-    go None h = absurd (none-some i h)
-    go (Some j) h = with j (slice_get s.transits j) (slice_get s.accounts j) refl refl h
+    by_test : (before : Found Transit) → transit_at came.0 frame.vl ≡ Some before → IsEnteredValue q frame before.entry →
+        (b : Bool) → (before.entry.input == q) ≡ b → (c : Bool) → nat_lt before.entry.smax frame.size ≡ c →
+        now ≡ record came.0 { transits = slice_set came.0.transits before.place (cond b (cond c before.entry (record before.entry { account = account.after before.entry.account arrival })) before.entry) } →
+        kept.Policed k ≡ cond b (cond c kept.Nothing (kept.Policed (account.saves before.entry.account arrival))) kept.Nothing →
+        IsJudged found.entry.account arrival k
+    by_test before at value true input true long is_now is_kept = absurd (cc)
+    by_test before at value true input false fits is_now is_kept =
+        let new : Transit = record before.entry { account = account.after before.entry.account arrival } in
+        let again = found-again transit_number came.0.transits frame.vl.0 before at new refl in
+        let here : record { place = before.place; entry = new } ≡ found = same_Some _ found (sym again ∙ ap (λ s. transit_at s frame.vl) (sym is_now) ∙ is) in
+        let saved : k ≡ account.saves before.entry.account arrival = cc in
+        subst (λ (found : Found Transit). IsJudged found.entry.account arrival k) here
+        (before.entry.account, value (same before.entry.input q input) (at_most before.entry.smax frame.size fits), refl, saved)
+    by_test before at value false input c fits is_now is_kept = absurd (cc)
 
--- a frame that comes in where its virtual link does, and is not too long, is judged by the account
-module _ (n t q : ℕ) (frame : Frame) (s : SwitchState) (f : TransitAt) (is : transit_at s frame.vl ≡ Some f) (input : f.transit.input ≡ q) (fits : frame.size ≤ f.transit.smax) where
-  pub taken-judged : taken n t q frame s (transit_at s frame.vl) ≡ policed n t frame f s
-  taken-judged =
-      ap (λ o. taken n t q frame s o) is
-      ∙ ap (λ b. cond b (cond (nat_lt f.transit.smax frame.size) (record { state = s; reply = loss TooLong frame }) (policed n t frame f s)) (record { state = s; reply = loss Unknown frame })) (eq-eqb f.transit.input q input)
-      ∙ ap (λ b. cond b (record { state = s; reply = loss TooLong frame }) (policed n t frame f s)) (le-ltb f.transit.smax frame.size fits)
+    by_found : (o : Option (Found Transit)) → transit_at came.0 frame.vl ≡ o → IsTakenValue q frame o → now ≡ (taken n t q frame came.0 o).state →
+        kept.Policed k ≡ taken_kept t q frame o → IsJudged found.entry.account arrival k
+    by_found None at value is_now is_kept = absurd (cc)
+    by_found (Some before) at value is_now is_kept =
+        by_test before at value (before.entry.input == q) refl (nat_lt before.entry.smax frame.size) refl is_now is_kept
 
-  pub kept-judged : taken_kept t q frame (transit_at s frame.vl) ≡ kept.Policed (account.saves f.account (record { at = t; size = frame.size }))
-  kept-judged =
-      ap (λ o. taken_kept t q frame o) is
-      ∙ ap (λ b. cond b (cond (nat_lt f.transit.smax frame.size) kept.Nothing (kept.Policed (account.saves f.account (record { at = t; size = frame.size })))) kept.Nothing) (eq-eqb f.transit.input q input)
-      ∙ ap (λ b. cond b kept.Nothing (kept.Policed (account.saves f.account (record { at = t; size = frame.size })))) (le-ltb f.transit.smax frame.size fits)
-
-  pub value-judged : f.account.level ≤ cap f.account → IsTakenValue q frame (transit_at s frame.vl)
-  value-judged h = subst (λ o. IsTakenValue q frame o) (sym is) (λ _ _. h)
+    by_port : (b : Bool) → exists came.0.ports q ≡ b → now ≡ (cond b (taken n t q frame came.0 (transit_at came.0 frame.vl)) (record { state = came.0; reply = silent })).state →
+        kept.Policed k ≡ cond b (taken_kept t q frame (transit_at came.0 frame.vl)) kept.Nothing → IsJudged found.entry.account arrival k
+    by_port true there is_now is_kept = by_found (transit_at came.0 frame.vl) refl (came.1 there) is_now is_kept
+    by_port false there is_now is_kept = absurd (cc)

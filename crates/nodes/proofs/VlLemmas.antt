@@ -8,9 +8,9 @@ use Rattle.netdesc.specs.declared.wiring.Way.{Way}
 use Rattle.netdesc.specs.Rows.{place_by}
 use Rattle.netdesc.specs.Plan.{Plan, VlPlan}
 use Rattle.netdesc.specs.Lines.{place_of_vl}
-use Rattle.nodes.specs.Meeting.{ports_by}
+use Rattle.nodes.specs.rules.Meeting.{ports_by}
 use Rattle.nodes.specs.declared.meeting.Meeting.{Meeting}
-use Rattle.nodes.specs.Grouping.{groups, met, met_by, all_met}
+use Rattle.nodes.specs.laws.Grouping.{groups, met, met_by, all_met}
 
 -- a place is one of the list
 pub place_by-within : {X : Type 0} (test : X → Bool) (xs : List X) (k : ℕ) → place_by test xs ≡ Some k → k < length xs

@@ -19,10 +19,10 @@ use Rattle.netdesc.proofs.PortLemmas.{line-within}
 use Rattle.netdesc.proofs.RisingLemmas.{ids-rise}
 use Rattle.nodes.specs.declared.meeting.Side.{Side}
 use Rattle.nodes.specs.declared.meeting.Side.TheVariants.{Out, In}
-use Rattle.nodes.specs.Meeting.{ways_at, with_ways, first_port, ports_by, meeting, meetings}
-use Rattle.nodes.specs.Finding.{IsRising}
-use Rattle.nodes.specs.Making.{numbers_met}
-use Rattle.nodes.specs.Grouping.{met, met_by, vl_with, all_met}
+use Rattle.nodes.specs.rules.Meeting.{ways_at, with_ways, first_port, ports_by, meeting, meetings}
+use Rattle.nodes.specs.rules.Finding.{IsRising}
+use Rattle.nodes.specs.laws.Making.{number_met}
+use Rattle.nodes.specs.laws.Grouping.{met, met_by, vl_with, all_met}
 use Rattle.nodes.proofs.GroupLemmas.{AreOf, below, groups-flat_map}
 
 abbrev pub IsFound : List VlPlan → VlPlan → Type 0
@@ -110,22 +110,22 @@ all_met-is plan by own accepted =
     ap (flat_map (met plan)) (groups-flat_map by own plan.vls rising) ∙ all-told plan by own plan.vls (all-found plan.vls rising)
 
 -- the virtual links at a node rise
-below-kept : (by : VlPlan → List Way) (test : VlPlan → Bool) (id : ℕ) (vls : List VlPlan) → AllByRecursion (λ other. nat_cmp id other ≡ Less) (ids_of vls) → AllByRecursion (λ other. nat_cmp id other ≡ Less) (numbers_met (map (meeting by) (filter test vls)))
+below-kept : (by : VlPlan → List Way) (test : VlPlan → Bool) (id : ℕ) (vls : List VlPlan) → AllByRecursion (λ other. nat_cmp id other ≡ Less) (ids_of vls) → AllByRecursion (λ other. nat_cmp id other ≡ Less) (map number_met (map (meeting by) (filter test vls)))
 below-kept by test id [] less = tt
 below-kept by test id (vl ∷ vls) less = go (test vl) (below-kept by test id vls less.1)
   where
-    go : (b : Bool) → AllByRecursion (λ other. nat_cmp id other ≡ Less) (numbers_met (map (meeting by) (filter test vls))) → AllByRecursion (λ other. nat_cmp id other ≡ Less) (numbers_met (map (meeting by) (cond b (vl ∷ filter test vls) (filter test vls))))
+    go : (b : Bool) → AllByRecursion (λ other. nat_cmp id other ≡ Less) (map number_met (map (meeting by) (filter test vls))) → AllByRecursion (λ other. nat_cmp id other ≡ Less) (map number_met (map (meeting by) (cond b (vl ∷ filter test vls) (filter test vls))))
     go true later = (less.0, later)
     go false later = later
 
-rising-kept : (by : VlPlan → List Way) (test : VlPlan → Bool) (vls : List VlPlan) → IsStrictlySortedBy nat_cmp (ids_of vls) → IsStrictlySortedBy nat_cmp (numbers_met (map (meeting by) (filter test vls)))
+rising-kept : (by : VlPlan → List Way) (test : VlPlan → Bool) (vls : List VlPlan) → IsStrictlySortedBy nat_cmp (ids_of vls) → IsStrictlySortedBy nat_cmp (map number_met (map (meeting by) (filter test vls)))
 unfolding IsStrictlySortedBy
 rising-kept by test [] rising = tt
 rising-kept by test (vl ∷ vls) rising = go (test vl) (rising-kept by test vls rising.1)
   where
-    go : (b : Bool) → IsStrictlySortedBy nat_cmp (numbers_met (map (meeting by) (filter test vls))) → IsStrictlySortedBy nat_cmp (numbers_met (map (meeting by) (cond b (vl ∷ filter test vls) (filter test vls))))
+    go : (b : Bool) → IsStrictlySortedBy nat_cmp (map number_met (map (meeting by) (filter test vls))) → IsStrictlySortedBy nat_cmp (map number_met (map (meeting by) (cond b (vl ∷ filter test vls) (filter test vls))))
     go true later = (below-kept by test vl.link.id.0 vls rising.0, later)
     go false later = later
 
-pub meetings-rise : (plan : Plan) (n : ℕ) (side : Side) → IsAccepted plan → IsRising (numbers_met (meetings plan n side))
+pub meetings-rise : (plan : Plan) (n : ℕ) (side : Side) → IsAccepted plan → IsRising (map number_met (meetings plan n side))
 meetings-rise plan n side accepted = rising-kept (ways_at plan n side) _ plan.vls (sorted_from_strictly_increasing (ids_of plan.vls) (ids-rise plan accepted))

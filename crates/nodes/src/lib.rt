@@ -2,25 +2,26 @@
 #![tactic(auto)]
 
 mod end_system;
-mod guesses;
-mod kept;
+mod finding;
 mod line;
 mod making;
 mod meeting;
 mod networks;
 mod node;
-mod numbers;
 mod opening;
 mod outputs;
 mod part;
+mod part_record;
 mod ports;
 mod receiving;
 mod sending;
+mod sink;
+mod source;
 mod switch;
 mod taking_back;
 mod transit;
 mod vl_end;
 mod wiring;
 
-pub use kept::Kept;
 pub use node::{Node, NodeRecord};
+pub use part_record::PartRecord;

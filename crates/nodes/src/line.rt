@@ -2,7 +2,7 @@ ghost use Rattle.std.specs.Prelude.{◌≡◌, ◌+◌, ◌<◌, ◌≤◌, leng
 ghost use Rattle.std.specs.List.{list_any};
 ghost use Rattle.vlink.specs.Numbering.{greatest_number};
 ghost use Rattle.reverse.specs.Sending.{replied};
-ghost use Rattle.nodes.specs.Line.{carried, is_within, line};
+ghost use Rattle.nodes.specs.rules.Line.{carried, is_within, line};
 
 use netdesc::Outage;
 use reverse::Outbound;
@@ -19,7 +19,7 @@ pub struct Line {
 }
 
 impl Model for Line {
-    ghost use Rattle.nodes.specs.Line.{LineState};
+    ghost use Rattle.nodes.specs.rules.Line.{LineState};
 
     ghost Value = { LineState };
 

@@ -1,13 +1,15 @@
 ghost use Rattle.std.specs.Prelude.{◌≡◌, All, map, IfOk};
 ghost use Rattle.netdesc.specs.Limits.{IsLinkInLimits};
-ghost use Rattle.nodes.specs.Finding.{IsRising};
-ghost use Rattle.nodes.specs.Opening.{regulator_of, receiving_of, account_of, port_priority};
-ghost use Rattle.nodes.specs.Making.{numbers_met, end_met, ports_among, transit_met};
+ghost use Rattle.nodes.specs.rules.Finding.{IsRising};
+ghost use Rattle.nodes.specs.rules.Opening.{regulator_of, receiving_of, account_of, port_priority};
+ghost use Rattle.nodes.specs.laws.Making.{number_met, end_met, source_met, sink_met, ports_among, transit_met};
 
+use crate::finding::place_of;
 use crate::meeting::Meeting;
-use crate::numbers::Numbers;
 use crate::outputs::Outputs;
 use crate::receiving::Receiving;
+use crate::sink::Sink;
+use crate::source::Source;
 use crate::transit::Transit;
 use crate::vl_end::VlEnd;
 use bag_regulator::BagRegulator;
@@ -18,40 +20,37 @@ use redundancy::Redundancy;
 use std::alloc::{AllocError, Global};
 use vlink::VlId;
 
-/// The table of the numbers of these virtual links.
-pub fn numbers_of(alloc: Global, meetings: &[Meeting]) -> Result<Numbers, AllocError>
-    requires { IsRising (numbers_met meetings.now) }
-    ensures { IfOk result (λ numbers. numbers ≡ numbers_met meetings.now) }
+/// A virtual link at an end system: port 0 leads to network A and port 1 to network B.
+fn end_of(met: &Meeting) -> VlEnd
+    ensures { result ≡ end_met met.now }
 {
-    let ids = meetings.iter().map(|m| m.link.id.0).collect(alloc)?;
-    Numbers::new(alloc, ids)
-}
-
-/// The virtual links with their networks: port 0 leads to network A and port 1 to network B.
-pub fn ends_of(alloc: Global, meetings: &[Meeting]) -> Result<Vec<VlEnd>, AllocError>
-    ensures { IfOk result (λ ends. ends.items ≡ map end_met meetings.now) }
-{
-    meetings
-        .iter()
-        .map(|m| VlEnd {
-            vl: m.link.id,
-            a: m.ports[0],
-            b: m.ports[1],
-        })
-        .collect(alloc)
-}
-
-/// A regulator for each virtual link.
-pub fn regulators_of(alloc: Global, meetings: &[Meeting]) -> Result<Vec<BagRegulator>, AllocError>
-    ensures { IfOk result (λ regulators. regulators.items ≡ map (λ m. regulator_of m.link) meetings.now) }
-{
-    let mut regulators = Vec::new(alloc);
-    for m in meetings {
-        let bag_ns = u32::from(m.link.bag_ms) * 1_000_000;
-        let regulator = BagRegulator::new(alloc, bag_ns, u32::from(m.link.depth))?;
-        regulators.push(regulator)?;
+    VlEnd {
+        vl: met.link.id,
+        a: met.ports[0],
+        b: met.ports[1],
     }
-    Ok(regulators)
+}
+
+/// The regulator of a virtual link, of which nothing was offered.
+fn regulator_of(alloc: Global, link: &VirtualLink) -> Result<BagRegulator, AllocError>
+    ensures { IfOk result (λ regulator. regulator ≡ regulator_of link.now) }
+{
+    let bag_ns = u32::from(link.bag_ms) * 1_000_000;
+    BagRegulator::new(alloc, bag_ns, u32::from(link.depth))
+}
+
+/// The virtual links that an end system sends.
+pub fn sources_of(alloc: Global, meetings: &[Meeting]) -> Result<Vec<Source>, AllocError>
+    ensures { IfOk result (λ sources. sources.items ≡ map source_met meetings.now) }
+{
+    let mut sources = Vec::new(alloc);
+    for met in meetings {
+        sources.push(Source {
+            end: end_of(met),
+            regulator: regulator_of(alloc, &met.link)?,
+        })?;
+    }
+    Ok(sources)
 }
 
 /// What checks the frames of a virtual link, of which none was received.
@@ -66,16 +65,19 @@ fn receiving_of(link: &VirtualLink) -> Receiving
     }
 }
 
-/// The same for each virtual link.
-pub fn receivers_of(alloc: Global, meetings: &[Meeting]) -> Result<Vec<Receiving>, AllocError>
-    requires { All (λ m. IsLinkInLimits m.link) meetings.now }
-    ensures { IfOk result (λ receivers. receivers.items ≡ map (λ m. receiving_of m.link) meetings.now) }
+/// The virtual links that an end system receives.
+pub fn sinks_of(alloc: Global, meetings: &[Meeting]) -> Result<Vec<Sink>, AllocError>
+    requires { All (λ met. IsLinkInLimits met.link) meetings.now }
+    ensures { IfOk result (λ sinks. sinks.items ≡ map sink_met meetings.now) }
 {
-    let mut receivers = Vec::new(alloc);
-    for m in meetings {
-        receivers.push(receiving_of(&m.link))?;
+    let mut sinks = Vec::new(alloc);
+    for met in meetings {
+        sinks.push(Sink {
+            end: end_of(met),
+            receiving: receiving_of(&met.link),
+        })?;
     }
-    Ok(receivers)
+    Ok(sinks)
 }
 
 /// The account of a virtual link, full.
@@ -85,18 +87,6 @@ fn account_of(link: &VirtualLink) -> Account
 {
     let bag_ns = u64::from(link.bag_ms) * 1_000_000;
     Account::new(link.smax, bag_ns, u64::from(link.policing_jitter_ns)).unwrap()
-}
-
-/// The same for each virtual link.
-pub fn accounts_of(alloc: Global, meetings: &[Meeting]) -> Result<Vec<Account>, AllocError>
-    requires { All (λ m. IsLinkInLimits m.link) meetings.now }
-    ensures { IfOk result (λ accounts. accounts.items ≡ map (λ m. account_of m.link) meetings.now) }
-{
-    let mut accounts = Vec::new(alloc);
-    for m in meetings {
-        accounts.push(account_of(&m.link))?;
-    }
-    Ok(accounts)
 }
 
 /// Which list of an output port the frames of a virtual link wait in.
@@ -109,12 +99,12 @@ fn port_priority(priority: netdesc::Priority) -> output_port::Priority
     }
 }
 
-/// The ports of the virtual link with this number, where these are the numbers.
-fn ports_among(numbers: &Numbers, meetings: &[Meeting], vl: VlId) -> [bool; 24]
-    requires { numbers.now ≡ numbers_met meetings.now }
+/// The ports of the virtual link with this number.
+fn ports_among(meetings: &[Meeting], vl: VlId) -> [bool; 24]
+    requires { IsRising (map number_met meetings.now) }
     ensures { result ≡ ports_among meetings.now vl.0 }
 {
-    match numbers.search(vl) {
+    match place_of(meetings, vl) {
         Some(place) => meetings[place].ports,
         None => [false; 24],
     }
@@ -126,18 +116,19 @@ pub fn transits_of(
     arriving: &[Meeting],
     departing: &[Meeting],
 ) -> Result<Vec<Transit>, AllocError>
-    requires { IsRising (numbers_met departing.now) }
+    requires rising { IsRising (map number_met departing.now) }
+    requires limits { All (λ met. IsLinkInLimits met.link) arriving.now }
     ensures { IfOk result (λ transits. transits.items ≡ map (transit_met departing.now) arriving.now) }
 {
-    let numbers = numbers_of(alloc, departing)?;
     let mut transits = Vec::new(alloc);
-    for m in arriving {
+    for met in arriving {
         transits.push(Transit {
-            vl: m.link.id,
-            input: m.first,
-            outputs: Outputs::new(ports_among(&numbers, departing, m.link.id)),
-            smax: m.link.smax,
-            priority: port_priority(m.link.priority),
+            vl: met.link.id,
+            input: met.first,
+            outputs: Outputs::new(ports_among(departing, met.link.id)),
+            smax: met.link.smax,
+            priority: port_priority(met.link.priority),
+            account: account_of(&met.link),
         })?;
     }
     Ok(transits)

@@ -1,12 +1,13 @@
-ghost use Rattle.std.specs.Prelude.{◌≡◌, ◌<◌, ◌≤◌, ◌++◌, ◌∷◌, All, length, take, drop, IfOk, OnOk};
+ghost use Rattle.std.specs.Prelude.{◌≡◌, ◌<◌, ◌≤◌, ◌++◌, ◌∷◌, All, length, map, take, drop, IfOk, OnOk};
 ghost use Rattle.std.specs.List.{flat_map};
 ghost use Rattle.netdesc.specs.declared.limits.TheConstants.{GREATEST_PORTS};
 ghost use Rattle.netdesc.specs.Limits.{IsLinkInLimits};
-ghost use Rattle.nodes.specs.Finding.{IsRising};
-ghost use Rattle.nodes.specs.Meeting.{ports_by, ways_at, meetings};
-ghost use Rattle.nodes.specs.Grouping.{groups, met, all_met};
-ghost use Rattle.nodes.specs.Making.{numbers_met};
+ghost use Rattle.nodes.specs.rules.Finding.{IsRising};
+ghost use Rattle.nodes.specs.rules.Meeting.{ports_by, ways_at, meetings};
+ghost use Rattle.nodes.specs.laws.Grouping.{groups, met, all_met};
+ghost use Rattle.nodes.specs.laws.Making.{number_met};
 
+use crate::finding::Entry;
 use netdesc::{Network, VirtualLink, Way};
 use std::alloc::{AllocError, Global};
 
@@ -25,6 +26,14 @@ pub struct Meeting {
     pub first: u8,
     /// Whether it does so by the port with this place.
     pub ports: [bool; 24],
+}
+
+impl Entry for Meeting {
+    ghost number = { number_met };
+
+    fn number(&self) -> u16 {
+        self.link.id.0
+    }
 }
 
 /// How many of these ways the virtual link of the first one has, where its ways stand together.
@@ -112,7 +121,7 @@ pub fn meetings(
 ) -> Result<Vec<Meeting>, AllocError>
     requires { node < length network.now.nodes }
     ensures meetings { IfOk result (λ found. found.items ≡ meetings network.now node side) }
-    ensures rising { IfOk result (λ found. IsRising (numbers_met found.items)) }
+    ensures rising { IfOk result (λ found. IsRising (map number_met found.items)) }
     ensures limits { IfOk result (λ found. All (λ m. IsLinkInLimits m.link) found.items) }
 {
     network.accepted();

@@ -1,6 +1,6 @@
 //! What a virtual link and an end system have on each of the two networks.
 ghost use Rattle.std.specs.Prelude.{◌≡◌};
-ghost use Rattle.nodes.specs.EndSystem.{is_on, port_of};
+ghost use Rattle.nodes.specs.rules.EndSystem.{is_on, port_of};
 
 use crate::vl_end::VlEnd;
 use vlink::Net;

@@ -2,13 +2,12 @@ ghost use Rattle.std.specs.Prelude.{◌≡◌, ◌+◌, ◌<◌, ◌≤◌};
 ghost use Rattle.vlink.specs.declared.time.TheConstants.{GREATEST_NS};
 ghost use Rattle.std.specs.Option.{option_copied};
 ghost use Rattle.vlink.specs.Numbering.{greatest_number};
-ghost use Rattle.nodes.specs.Node.{after, sends, notes};
-ghost use Rattle.nodes.specs.NodeUndoing.{node, IsNodeValue};
-ghost use Rattle.nodes.specs.Placed.{IsPlacedPart};
-ghost use Rattle.nodes.specs.Reading.{port_in, regulator_in};
+ghost use Rattle.nodes.specs.rules.Node.{after, sends, notes, port_in, regulator_in};
+ghost use Rattle.nodes.specs.undoing.Node.{node, IsNodeValue};
+ghost use Rattle.nodes.specs.rules.Placed.{IsPlacedPart};
 
-use crate::kept::Kept;
 use crate::part::Part;
+use crate::part_record::PartRecord;
 use bag_regulator::BagRegulator;
 use output_port::Port;
 use reverse::{Actor, Outbound, Reversible, Sends};
@@ -19,7 +18,7 @@ use vlink::{Message, Time, VlId};
 #[derive(Clone, Copy, Debug, PartialEq, Eq)]
 pub struct NodeRecord {
     pub sends: u8,
-    pub kept: Kept,
+    pub part: PartRecord,
 }
 
 /// A node of a network, or one direction of a link, as a process that handles messages.
@@ -36,8 +35,8 @@ pub struct Node {
 impl Model for Node {
     ghost use Rattle.std.specs.Prelude.{◌<◌};
     ghost use Rattle.vlink.specs.declared.time.TheConstants.{GREATEST_NS};
-    ghost use Rattle.nodes.specs.Node.{NodeState};
-    ghost use Rattle.nodes.specs.Placed.{IsPlaced};
+    ghost use Rattle.nodes.specs.rules.Node.{NodeState};
+    ghost use Rattle.nodes.specs.rules.Placed.{IsPlaced};
 
     ghost Value = { NodeState };
 
@@ -73,11 +72,11 @@ impl Node {
         ensures valid { IsNodeValue self.old event.now }
     {
         out.open(self.number, self.until, self.counter);
-        let kept = self.part.handle(event, out);
+        let part = self.part.handle(event, out);
         self.counter = out.counter();
         NodeRecord {
             sends: out.messages().len() as u8,
-            kept,
+            part,
         }
     }
 
@@ -106,8 +105,8 @@ impl Node {
 impl Reversible for Node {
     ghost use Rattle.std.specs.Prelude.{◌+◌, ◌≤◌};
     ghost use Rattle.vlink.specs.Numbering.{greatest_number};
-    ghost use Rattle.nodes.specs.NodeUndoing.{node, IsNodeValue};
-    ghost use Rattle.nodes.specs.NodeLaws.{node-undoes};
+    ghost use Rattle.nodes.specs.undoing.Node.{node, IsNodeValue};
+    ghost use Rattle.nodes.specs.laws.Node.{node-undoes};
 
     type Event = Message;
 
@@ -131,14 +130,14 @@ impl Reversible for Node {
 
     fn undo(&mut self, event: &Message, kept: NodeRecord) {
         self.counter -= u64::from(kept.sends);
-        self.part.undo(event, kept.kept);
+        self.part.undo(event, kept.part);
     }
 }
 
 impl Actor for Node {
-    ghost use Rattle.nodes.specs.Placed.{IsPlaced};
-    ghost use Rattle.nodes.specs.NodeLaws.{number-stays, end-stays, sends-own, sends-timely, sends-numbered, sends-counted};
-    ghost use Rattle.nodes.specs.NodeSending.{place-stays, sends-later};
+    ghost use Rattle.nodes.specs.rules.Placed.{IsPlaced};
+    ghost use Rattle.nodes.specs.laws.Node.{number-stays, end-stays, sends-own, sends-timely, sends-numbered, sends-counted};
+    ghost use Rattle.nodes.specs.laws.NodeSending.{place-stays, sends-later};
 
     ghost number = { λ s. s.sender.number };
 

@@ -2,11 +2,11 @@ ghost use Rattle.std.specs.Prelude.{◌≡◌, ◌<◌, length, slice_get, IfOk}
 ghost use Rattle.netdesc.specs.declared.limits.TheConstants.{GREATEST_PORTS};
 ghost use Rattle.netdesc.specs.Faults.{process_count};
 ghost use Rattle.netdesc.specs.Lines.{lines_of};
-ghost use Rattle.nodes.specs.Opening.{end_system_opening, switch_opening, line_opening, part_opening, opening};
+ghost use Rattle.nodes.specs.rules.Opening.{end_system_opening, switch_opening, line_opening, part_opening, opening};
 
 use crate::end_system::EndSystem;
 use crate::line::Line;
-use crate::making::{accounts_of, ends_of, numbers_of, receivers_of, regulators_of, transits_of};
+use crate::making::{sinks_of, sources_of, transits_of};
 use crate::meeting::{Side, meetings};
 use crate::node::Node;
 use crate::part::Part;
@@ -28,12 +28,8 @@ fn end_system(
     let sent = meetings(alloc, network, node, Side::Out)?;
     let received = meetings(alloc, network, node, Side::In)?;
     Ok(EndSystem::new(
-        numbers_of(alloc, &sent)?,
-        ends_of(alloc, &sent)?,
-        regulators_of(alloc, &sent)?,
-        numbers_of(alloc, &received)?,
-        ends_of(alloc, &received)?,
-        receivers_of(alloc, &received)?,
+        sources_of(alloc, &sent)?,
+        sinks_of(alloc, &received)?,
         ports_of(alloc, network, node, 2, bytes)?,
     ))
 }
@@ -54,9 +50,7 @@ fn switch(
     let departing = meetings(alloc, network, node, Side::Out)?;
     Ok(Switch::new(
         latency_ns,
-        numbers_of(alloc, &arriving)?,
         transits_of(alloc, &arriving, &departing)?,
-        accounts_of(alloc, &arriving)?,
         ports_of(alloc, network, node, GREATEST_PORTS, bytes)?,
     ))
 }

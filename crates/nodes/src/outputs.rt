@@ -1,5 +1,5 @@
 ghost use Rattle.std.specs.Prelude.{◌≡◌, ◌≤◌, length};
-ghost use Rattle.nodes.specs.Outputs.{marked_from};
+ghost use Rattle.nodes.specs.rules.Outputs.{marked_from};
 
 use arrayvec::ArrayVec;
 use std::marker::Model;
@@ -15,7 +15,7 @@ pub struct Outputs {
 
 impl Model for Outputs {
     ghost use Rattle.std.specs.Prelude.{◌≡◌, Bool, List};
-    ghost use Rattle.nodes.specs.Outputs.{marked_from};
+    ghost use Rattle.nodes.specs.rules.Outputs.{marked_from};
 
     ghost Value = { List Bool };
 

@@ -1,14 +1,13 @@
 ghost use Rattle.std.specs.Prelude.{◌≡◌, ℕ, ◌+◌, ◌≤◌, []};
 ghost use Rattle.vlink.specs.Numbering.{greatest_number};
 ghost use Rattle.std.specs.Option.{option_copied};
-ghost use Rattle.nodes.specs.Reading.{port_in, regulator_in};
 ghost use Rattle.reverse.specs.Sending.{replied};
-ghost use Rattle.nodes.specs.Node.{handled};
-ghost use Rattle.nodes.specs.NodeUndoing.{part_kept, part_restored, PartCameFrom, IsPartValue};
+ghost use Rattle.nodes.specs.rules.Node.{handled, port_in, regulator_in};
+ghost use Rattle.nodes.specs.undoing.Node.{part_kept, part_restored, PartCameFrom, IsPartValue};
 
 use crate::end_system::EndSystem;
-use crate::kept::Kept;
 use crate::line::Line;
+use crate::part_record::PartRecord;
 use crate::switch::Switch;
 use bag_regulator::BagRegulator;
 use output_port::Port;
@@ -26,7 +25,7 @@ pub enum Part {
 impl Part {
     /// Handles a message, and gives the record by which it is undone.
     #[inline(always)]
-    pub(crate) fn handle(&mut self, message: &Message, out: &mut Outbound) -> Kept
+    pub(crate) fn handle(&mut self, message: &Message, out: &mut Outbound) -> PartRecord
         requires messages { out.old.messages ≡ [] }
         requires notes { out.old.notes ≡ [] }
         requires numbers { out.old.sender.counter + 24 ≤ greatest_number }
@@ -40,13 +39,13 @@ impl Part {
             Part::Switch(switch) => switch.handle(message, out),
             Part::Line(line) => {
                 line.handle(message, out);
-                Kept::Nothing
+                PartRecord::Nothing
             }
         }
     }
 
     /// Takes a message back by the record that was kept of it.
-    pub(crate) fn undo(&mut self, message: &Message, kept: Kept)
+    pub(crate) fn undo(&mut self, message: &Message, kept: PartRecord)
         requires { PartCameFrom message.now self.old kept }
         ensures { self.new ≡ part_restored message.now kept self.old }
     {

@@ -2,11 +2,11 @@ ghost use Rattle.std.specs.Prelude.{◌≡◌, ◌+◌, ◌<◌, ◌≤◌, leng
 ghost use Rattle.std.specs.Option.{option_copied};
 ghost use Rattle.vlink.specs.Numbering.{greatest_number};
 ghost use Rattle.reverse.specs.Sending.{replied};
-ghost use Rattle.nodes.specs.Ports.{answered, changed, exists, port_at, reply, start, wire_at};
+ghost use Rattle.nodes.specs.rules.Ports.{answered, changed, exists, port_at, reply, start, wire_at};
 ghost use Rattle.output_port.specs.Port.{free_answer, put_answer};
 ghost use Rattle.output_port.specs.declared.event.Priority.{Priority};
 ghost use Rattle.output_port.specs.declared.event.PortEvent.TheVariants.{Put, Free};
-ghost use Rattle.nodes.specs.Undoing.{port_kept, port_put_kept, restored, unput, IsPortValue, PortCameFrom};
+ghost use Rattle.nodes.specs.undoing.Ports.{port_kept, port_put_kept, restored, unput, IsPortValue, PortCameFrom};
 
 use output_port::{FreeRecord, Port, PortEvent, PortRecord, Priority, PutRecord};
 use reverse::{Outbound, Reversible};
@@ -30,7 +30,7 @@ pub struct Ports {
 }
 
 impl Model for Ports {
-    ghost use Rattle.nodes.specs.Ports.{PortsState};
+    ghost use Rattle.nodes.specs.rules.Ports.{PortsState};
 
     ghost Value = { PortsState };
 

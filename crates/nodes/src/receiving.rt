@@ -2,11 +2,11 @@ ghost use Rattle.std.specs.Prelude.{◌≡◌, ◌<◌, length};
 ghost use Rattle.integrity.specs.Integrity.{integrity};
 ghost use Rattle.integrity.specs.declared.checking.Check.TheVariants.{Passed};
 ghost use Rattle.reverse.specs.Sending.{replied};
-ghost use Rattle.nodes.specs.EndSystem.{check_of, checked, received, received_reply, redundant, with_check};
-ghost use Rattle.nodes.specs.EndSystemUndoing.{delivery_kept, unreceived};
-ghost use Rattle.nodes.specs.EndSystemParts.{ReceivedCameFrom};
+ghost use Rattle.nodes.specs.rules.EndSystem.{check_of, checked, received, received_reply, redundant, with_check};
+ghost use Rattle.nodes.specs.undoing.EndSystem.{delivery_kept, unreceived};
+ghost use Rattle.nodes.specs.undoing.EndSystemParts.{ReceivedCameFrom};
 
-use crate::kept::Kept;
+use crate::part_record::PartRecord;
 use integrity::{Check, Integrity};
 use redundancy::{Delivery, Received, Redundancy};
 use reverse::{Outbound, Reversible};
@@ -25,12 +25,12 @@ impl Receiving {
     /// A frame has come: it is delivered if it passes the check of its network and redundancy management then lets it
     /// through, and lost otherwise.
     #[inline(always)]
-    pub fn receive(&mut self, at: Time, frame: &Frame, out: &mut Outbound) -> Kept
+    pub fn receive(&mut self, at: Time, frame: &Frame, out: &mut Outbound) -> PartRecord
         requires { length out.old.notes < 2 }
         ensures state { self.new ≡ received at frame.now self.old }
         ensures reply { out.new ≡ replied out.old (received_reply at frame.now self.old) }
         ensures kept { let check = check_of frame.now.net self.old in
-            result ≡ Kept.Received check (delivery_kept self.old (integrity.out check frame.now.number)) }
+            result ≡ PartRecord.Received check (delivery_kept self.old (integrity.out check frame.now.number)) }
     {
         let (verdict, check) = self.check(frame);
         let delivery = match verdict {
@@ -40,7 +40,7 @@ impl Receiving {
                 None
             }
         };
-        Kept::Received { check, delivery }
+        PartRecord::Received { check, delivery }
     }
 
     /// Takes back that a frame came, by the records of the check of its network and of redundancy management.

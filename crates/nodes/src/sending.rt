@@ -5,14 +5,15 @@ ghost use Rattle.vlink.specs.declared.frame.Frame.{Frame};
 ghost use Rattle.bag_regulator.specs.declared.event.RegAnswer.TheVariants.{Released};
 ghost use Rattle.bag_regulator.specs.Regulator.{regulator as plain, IsRegulator};
 ghost use Rattle.reverse.specs.Sending.{joined, replied};
-ghost use Rattle.nodes.specs.EndSystem.{asked, copied, copied_reply, full, lost, released_out, released_reply};
-ghost use Rattle.nodes.specs.EndSystemUndoing.{copied_kept, regulated_kept_by, AreCopiesValues, IsCopyValue};
+ghost use Rattle.nodes.specs.rules.EndSystem.{asked, copied, copied_reply, full, lost, released_out, released_reply};
+ghost use Rattle.nodes.specs.undoing.EndSystem.{copied_kept, regulated_kept_by, AreCopiesValues, IsCopyValue};
 
-use crate::kept::Kept;
 use crate::networks::{is_on, port_of};
+use crate::part_record::PartRecord;
 use crate::ports::Ports;
+use crate::source::Source;
 use crate::vl_end::VlEnd;
-use bag_regulator::{BagRegulator, RegAnswer, RegEvent, RegRecord};
+use bag_regulator::{RegAnswer, RegEvent, RegRecord};
 use output_port::{Priority, PutRecord};
 use reverse::{Outbound, Reversible};
 use vlink::{Body, Cause, Frame, Net, Time, VlId};
@@ -22,27 +23,26 @@ use vlink::{Body, Cause, Frame, Net, Time, VlId};
 pub fn regulate(
     at: Time,
     event: &RegEvent,
-    end: &VlEnd,
-    regulator: &mut BagRegulator,
+    source: &mut Source,
     ports: &mut Ports,
     out: &mut Outbound,
-) -> Kept
+) -> PartRecord
     requires messages { out.old.messages ≡ [] }
     requires notes { out.old.notes ≡ [] }
     requires numbers { out.old.sender.counter + 24 ≤ greatest_number }
-    ensures regulator { regulator.new ≡ plain.after regulator.old event.now }
-    ensures ports { ports.new ≡ released_out end.now (plain.out regulator.old event.now).answer ports.old }
-    ensures reply { let told = plain.out regulator.old event.now in
-        out.new ≡ replied out.old (joined (joined (full event.now told.answer) (asked out.old.sender.number end.now.vl told.release_at))
-        (released_reply out.old.sender.number at end.now told.answer ports.old)) }
-    ensures kept { result ≡ regulated_kept_by (plain.saves regulator.old event.now) end.now (plain.out regulator.old event.now).answer ports.old }
-    ensures valid { IsRegulator regulator.old }
-    ensures valid_ports { AreCopiesValues end.now (plain.out regulator.old event.now).answer ports.old }
+    ensures source { source.new ≡ record source.old { regulator = plain.after source.old.regulator event.now } }
+    ensures ports { ports.new ≡ released_out source.old.end (plain.out source.old.regulator event.now).answer ports.old }
+    ensures reply { let told = plain.out source.old.regulator event.now in
+        out.new ≡ replied out.old (joined (joined (full event.now told.answer) (asked out.old.sender.number source.old.end.vl told.release_at))
+        (released_reply out.old.sender.number at source.old.end told.answer ports.old)) }
+    ensures kept { result ≡ regulated_kept_by (plain.saves source.old.regulator event.now) source.old.end (plain.out source.old.regulator event.now).answer ports.old }
+    ensures valid { IsRegulator source.old.regulator }
+    ensures valid_ports { AreCopiesValues source.old.end (plain.out source.old.regulator event.now).answer ports.old }
 {
-    let (told, kept) = regulator.apply(event);
+    let (told, kept) = source.regulator.apply(event);
     lose_if_full(event, told.answer, out);
-    ask(end.vl, told.release_at, out);
-    release(at, kept, end, told.answer, ports, out)
+    ask(source.end.vl, told.release_at, out);
+    release(at, kept, &source.end, told.answer, ports, out)
 }
 
 /// A frame that is offered is lost for this cause.
@@ -85,7 +85,7 @@ fn release(
     answer: RegAnswer,
     ports: &mut Ports,
     out: &mut Outbound,
-) -> Kept
+) -> PartRecord
     requires room { length out.old.messages + 4 ≤ 24 }
     requires notes { (frame : Frame) → answer ≡ Released frame → out.old.notes ≡ [] }
     requires numbers { out.old.sender.counter + 4 ≤ greatest_number }
@@ -95,7 +95,7 @@ fn release(
     ensures valid { AreCopiesValues end.now answer ports.old }
 {
     let RegAnswer::Released(frame) = answer else {
-        return Kept::Regulated {
+        return PartRecord::Regulated {
             regulator,
             a: None,
             b: None,
@@ -103,7 +103,7 @@ fn release(
     };
     let a = copy_out(at, end, Net::A, &frame, ports, out);
     let b = copy_out(at, end, Net::B, &frame, ports, out);
-    Kept::Regulated { regulator, a, b }
+    PartRecord::Regulated { regulator, a, b }
 }
 
 /// The copy of a frame for this network is put to the network's port, where the virtual link is on it.

@@ -1,70 +1,64 @@
-ghost use Rattle.std.specs.Prelude.{◌≡◌, ◌+◌, ◌<◌, ◌≤◌, ℕ, [], Some};
+ghost use Rattle.std.specs.Prelude.{◌≡◌, ◌+◌, ◌≤◌, ℕ, [], map};
 ghost use Rattle.std.specs.Option.{option_copied, option_map};
 ghost use Rattle.vlink.specs.Numbering.{greatest_number};
 ghost use Rattle.vlink.specs.declared.message.Body.TheVariants as body;
-ghost use Rattle.nodes.specs.declared.kept.Kept.TheVariants as saved;
+ghost use Rattle.nodes.specs.declared.part_record.PartRecord.TheVariants as saved;
 ghost use Rattle.reverse.specs.Sending.{replied};
-ghost use Rattle.nodes.specs.Finding.{place_of};
-ghost use Rattle.nodes.specs.Ports.{port_at};
-ghost use Rattle.nodes.specs.Switch.{numbers_of, forwarded, judged, outputs_of, switch, taken, put, TransitAt, transit_at};
-ghost use Rattle.nodes.specs.SwitchUndoing.{taken_kept, put_kept, switch_kept, switch_restored, unported, unpoliced, SwitchCameFrom, IsSwitchValue, IsTakenValue, IsPutValue};
+ghost use Rattle.nodes.specs.rules.Finding.{Found, IsRising};
+ghost use Rattle.nodes.specs.declared.transit.Transit.{Transit};
+ghost use Rattle.nodes.specs.rules.Ports.{port_at};
+ghost use Rattle.nodes.specs.rules.Switch.{entered, entered_reply, forwarded, judged, outputs_of, switch, taken, put, transit_at, transit_number};
+ghost use Rattle.nodes.specs.undoing.Switch.{entered_kept, taken_kept, put_kept, switch_kept, switch_restored, unported, unpoliced, SwitchCameFrom, IsSwitchValue, IsEnteredValue, IsTakenValue, IsPutValue};
 
-use crate::kept::Kept;
-use crate::numbers::Numbers;
+use crate::finding::place_of;
+use crate::part_record::PartRecord;
 use crate::ports::Ports;
 use crate::transit::Transit;
 use output_port::{Port, PortEvent, PortRecord, Priority};
-use policer::{Account, AccountRecord, Arrival, Verdict};
+use policer::{AccountRecord, Arrival, Verdict};
 use reverse::{Outbound, Reversible};
 use std::marker::Model;
 use vlink::{Body, Cause, Frame, Message, Time, VlId};
 
 /// A switch: it polices each frame that comes in, and after its delay puts it to the output ports of its virtual link
 /// (ARINC 664 Part 7; that the delay is one fixed time is this project's profile).
+///
+/// The virtual links that go through it stand by rising number.
 #[derive(Debug, Drop)]
 pub struct Switch {
     latency_ns: u32,
-    numbers: Numbers,
     transits: Vec<Transit>,
-    accounts: Vec<Account>,
     ports: Ports,
 }
 
 impl Model for Switch {
-    ghost use Rattle.std.specs.Prelude.{◌≡◌};
-    ghost use Rattle.nodes.specs.Switch.{SwitchState, numbers_of};
+    ghost use Rattle.std.specs.Prelude.{map};
+    ghost use Rattle.nodes.specs.rules.Finding.{IsRising};
+    ghost use Rattle.nodes.specs.rules.Switch.{SwitchState, transit_number};
 
     ghost Value = { SwitchState };
 
-    ghost view = { λ s. record { latency = s.latency_ns; transits = s.transits.items; accounts = s.accounts.items; ports = s.ports } };
+    ghost view = { λ s. record { latency = s.latency_ns; transits = s.transits.items; ports = s.ports } };
 
-    ghost invariant = { λ s. s.numbers ≡ numbers_of s.transits.items };
+    ghost invariant = { λ s. IsRising (map transit_number s.transits.items) };
 }
 
 impl Switch {
-    /// A switch of these parts: for each virtual link its number and its account.
-    pub(crate) fn new(
-        latency_ns: u32,
-        numbers: Numbers,
-        transits: Vec<Transit>,
-        accounts: Vec<Account>,
-        ports: Ports,
-    ) -> Self
-        requires { numbers ≡ numbers_of transits.items }
-        ensures { result ≡ record { latency = latency_ns; transits = transits.items; accounts = accounts.items; ports = ports } }
+    /// A switch of these parts.
+    pub(crate) fn new(latency_ns: u32, transits: Vec<Transit>, ports: Ports) -> Self
+        requires { IsRising (map transit_number transits.items) }
+        ensures { result ≡ record { latency = latency_ns; transits = transits.items; ports = ports } }
     {
         Switch {
             latency_ns,
-            numbers,
             transits,
-            accounts,
             ports,
         }
     }
 
     /// Handles a message, and gives the record by which it is undone.
     #[inline(always)]
-    pub fn handle(&mut self, message: &Message, out: &mut Outbound) -> Kept
+    pub fn handle(&mut self, message: &Message, out: &mut Outbound) -> PartRecord
         requires messages { out.old.messages ≡ [] }
         requires notes { out.old.notes ≡ [] }
         requires numbers { out.old.sender.counter + 24 ≤ greatest_number }
@@ -75,28 +69,30 @@ impl Switch {
     {
         let at = message.time;
         match &message.body {
-            Body::PortFree { port } => Kept::Port(self.ports.free(at, *port, out)),
+            Body::PortFree { port } => PartRecord::Port(self.ports.free(at, *port, out)),
             Body::Arrive { port, frame } if self.ports.exists(*port) => {
                 self.take(at, *port, frame, out)
             }
             Body::Enqueue { port, frame } if self.ports.exists(*port) => {
                 self.put(at, *port, frame, out)
             }
-            _ => Kept::Nothing,
+            _ => PartRecord::Nothing,
         }
     }
 
     /// Takes a message back by the record that was kept of it.
-    pub fn undo(&mut self, message: &Message, kept: Kept)
+    pub fn undo(&mut self, message: &Message, kept: PartRecord)
         requires { (n : ℕ) × SwitchCameFrom n message.now.time message.now.body self.old kept }
         ensures { self.new ≡ switch_restored message.now.time message.now.body kept self.old }
     {
         match (message.body, kept) {
-            (Body::PortFree { port }, Kept::Port(kept)) => {
+            (Body::PortFree { port }, PartRecord::Port(kept)) => {
                 self.ports.undo(port, &PortEvent::Free, kept)
             }
-            (Body::Enqueue { port, frame }, Kept::Port(kept)) => self.take_back(port, &frame, kept),
-            (Body::Arrive { port, frame }, Kept::Policed(kept)) => {
+            (Body::Enqueue { port, frame }, PartRecord::Port(kept)) => self.take_back(
+                port, &frame, kept,
+            ),
+            (Body::Arrive { port, frame }, PartRecord::Policed(kept)) => {
                 self.repay(message.time, port, &frame, kept)
             }
             _ => {}
@@ -112,7 +108,7 @@ impl Switch {
 
     /// A frame has come to a port.
     #[inline(always)]
-    fn take(&mut self, at: Time, port: u8, frame: &Frame, out: &mut Outbound) -> Kept
+    fn take(&mut self, at: Time, port: u8, frame: &Frame, out: &mut Outbound) -> PartRecord
         requires messages { out.old.messages ≡ [] }
         requires notes { out.old.notes ≡ [] }
         requires numbers { out.old.sender.counter + 24 ≤ greatest_number }
@@ -121,76 +117,17 @@ impl Switch {
         ensures kept { result ≡ taken_kept at port frame.now (transit_at self.old frame.now.vl) }
         ensures valid { IsTakenValue port frame.now (transit_at self.old frame.now.vl) }
     {
-        match self.find(frame.vl) {
-            Some(place) => self.judge(place, at, port, frame, out),
-            None => {
-                out.lose(Cause::Unknown, frame);
-                Kept::Nothing
-            }
-        }
-    }
-
-    /// The place of a virtual link among those that go through the switch.
-    #[inline(always)]
-    fn place(&self, vl: VlId) -> Option<usize>
-        ensures { result ≡ place_of (numbers_of self.now.transits) vl.0 }
-    {
-        let guess = self.numbers.guess(vl);
-        let there = match self.transits.get(guess) {
-            Some(transit) => Some(transit.vl),
-            None => None,
-        };
-        self.numbers.place(vl, guess, there)
-    }
-
-    /// The place of a virtual link that goes through the switch.
-    fn find(&self, vl: VlId) -> Option<usize>
-        ensures { result ≡ option_map (λ (found : TransitAt). found.place) (transit_at self.now vl) }
-    {
-        let place = self.place(vl)?;
-        if place < self.transits.len() && place < self.accounts.len() {
-            Some(place)
-        } else {
-            None
-        }
-    }
-
-    /// A frame of the virtual link with this place has come to a port: it is lost where the virtual link does not come in
-    /// there, where it is too long, or where the account refuses it.
-    #[inline(always)]
-    fn judge(&mut self, place: usize, at: Time, port: u8, frame: &Frame, out: &mut Outbound) -> Kept
-        requires place { option_map (λ (found : TransitAt). found.place) (transit_at self.old frame.now.vl) ≡ Some place }
-        requires messages { out.old.messages ≡ [] }
-        requires notes { out.old.notes ≡ [] }
-        requires numbers { out.old.sender.counter + 24 ≤ greatest_number }
-        ensures state { self.new ≡ (taken out.old.sender.number at port frame.now self.old (transit_at self.old frame.now.vl)).state }
-        ensures reply { out.new ≡ replied out.old (taken out.old.sender.number at port frame.now self.old (transit_at self.old frame.now.vl)).reply }
-        ensures kept { result ≡ taken_kept at port frame.now (transit_at self.old frame.now.vl) }
-        ensures valid { IsTakenValue port frame.now (transit_at self.old frame.now.vl) }
-    {
-        let transit = &self.transits[place];
-        if transit.input != port {
+        let Some(place) = place_of(self.transits.as_slice(), frame.vl) else {
             out.lose(Cause::Unknown, frame);
-            return Kept::Nothing;
-        }
-        if frame.size > transit.smax {
-            out.lose(Cause::TooLong, frame);
-            return Kept::Nothing;
-        }
-        let arrival = Arrival {
-            at,
-            size: frame.size,
+            return PartRecord::Nothing;
         };
-        let account = &mut self.accounts[place];
-        let (verdict, kept) = account.apply(&arrival);
-        let ns = at.ns() + u64::from(self.latency_ns);
-        answer_verdict(ns, frame, transit, verdict, out);
-        Kept::Policed(kept)
+        let transit = &mut self.transits[place];
+        enter(at, self.latency_ns, port, frame, transit, out)
     }
 
     /// A frame is put to a port, with the priority of its virtual link.
     #[inline(always)]
-    fn put(&mut self, at: Time, port: u8, frame: &Frame, out: &mut Outbound) -> Kept
+    fn put(&mut self, at: Time, port: u8, frame: &Frame, out: &mut Outbound) -> PartRecord
         requires messages { out.old.messages ≡ [] }
         requires notes { out.old.notes ≡ [] }
         requires numbers { out.old.sender.counter + 24 ≤ greatest_number }
@@ -201,10 +138,10 @@ impl Switch {
     {
         let Some(priority) = self.priority(frame.vl) else {
             out.lose(Cause::Unknown, frame);
-            return Kept::Nothing;
+            return PartRecord::Nothing;
         };
         let kept = self.ports.put(at, port, frame, priority, out);
-        Kept::Port(kept.map(PortRecord::Put))
+        PartRecord::Port(kept.map(PortRecord::Put))
     }
 
     /// A frame that was put to a port leaves it.
@@ -227,30 +164,62 @@ impl Switch {
         requires { (n : ℕ) × SwitchCameFrom n at (body.Arrive port frame.now) self.old (saved.Policed kept) }
         ensures { self.new ≡ unpoliced at frame.now (saved.Policed kept) self.old }
     {
-        let Some(place) = self.find(frame.vl) else {
+        let Some(place) = place_of(self.transits.as_slice(), frame.vl) else {
             return;
         };
         let arrival = Arrival {
             at,
             size: frame.size,
         };
-        let account = &mut self.accounts[place];
-        account.undo(&arrival, kept);
+        let transit = &mut self.transits[place];
+        transit.account.undo(&arrival, kept);
     }
 
     /// The priority of a virtual link that goes through the switch.
     #[inline(always)]
     fn priority(&self, vl: VlId) -> Option<Priority>
-        ensures { result ≡ option_map (λ (found : TransitAt). found.transit.priority) (transit_at self.now vl) }
+        ensures { result ≡ option_map (λ (found : Found Transit). found.entry.priority) (transit_at self.now vl) }
     {
-        let place = self.place(vl)?;
-        let transit = self.transits.get(place)?;
-        if place < self.accounts.len() {
-            Some(transit.priority)
-        } else {
-            None
-        }
+        let place = place_of(self.transits.as_slice(), vl)?;
+        Some(self.transits[place].priority)
     }
+}
+
+/// A frame of a virtual link has come to a port: it is lost where the virtual link does not come in there, where it is too
+/// long, or where the account refuses it.
+#[inline(always)]
+fn enter(
+    at: Time,
+    latency_ns: u32,
+    port: u8,
+    frame: &Frame,
+    transit: &mut Transit,
+    out: &mut Outbound,
+) -> PartRecord
+    requires messages { out.old.messages ≡ [] }
+    requires notes { out.old.notes ≡ [] }
+    requires numbers { out.old.sender.counter + 24 ≤ greatest_number }
+    ensures transit { transit.new ≡ entered at port frame.now transit.old }
+    ensures reply { out.new ≡ replied out.old (entered_reply out.old.sender.number at latency_ns port frame.now transit.old) }
+    ensures kept { result ≡ entered_kept at port frame.now transit.old }
+    ensures valid { IsEnteredValue port frame.now transit.old }
+{
+    if transit.input != port {
+        out.lose(Cause::Unknown, frame);
+        return PartRecord::Nothing;
+    }
+    if frame.size > transit.smax {
+        out.lose(Cause::TooLong, frame);
+        return PartRecord::Nothing;
+    }
+    let arrival = Arrival {
+        at,
+        size: frame.size,
+    };
+    let (verdict, kept) = transit.account.apply(&arrival);
+    let ns = at.ns() + u64::from(latency_ns);
+    answer_verdict(ns, frame, transit, verdict, out);
+    PartRecord::Policed(kept)
 }
 
 /// A frame that has passed goes on at the moment `ns`, and one that the account refused is lost.

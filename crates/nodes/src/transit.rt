@@ -1,8 +1,12 @@
+ghost use Rattle.nodes.specs.rules.Switch.{transit_number};
+
+use crate::finding::Entry;
 use crate::outputs::Outputs;
 use output_port::Priority;
+use policer::Account;
 use vlink::{FrameSize, VlId};
 
-/// A virtual link that goes through a switch.
+/// A virtual link at a switch that it goes through.
 #[derive(Debug, Drop)]
 pub struct Transit {
     pub vl: VlId,
@@ -14,4 +18,13 @@ pub struct Transit {
     pub priority: Priority,
     /// The ports at which its frames go out.
     pub outputs: Outputs,
+    pub account: Account,
+}
+
+impl Entry for Transit {
+    ghost number = { transit_number };
+
+    fn number(&self) -> u16 {
+        self.vl.0
+    }
 }

@@ -1,6 +1,6 @@
 ghost use Rattle.std.specs.Prelude.{◌≡◌, ℕ, ◌+◌, ◌<◌, ◌&&◌, None, Some, is_none, if◌then◌else◌, length, map, slice_index_or, vec_len, IfOk};
 ghost use Rattle.netdesc.specs.Lines.{lines_of};
-ghost use Rattle.nodes.specs.Opening.{leaves_by, wires_of, port_of, ports_of};
+ghost use Rattle.nodes.specs.rules.Opening.{leaves_by, wires_of, port_of, ports_of};
 
 use crate::ports::{Ports, Wire};
 use netdesc::{Line, Network};

@@ -11,11 +11,11 @@ use Rattle.netdesc.specs.Accepted.{IsAccepted}
 use Rattle.netdesc.specs.Faults.{process_count}
 use Rattle.traffic.specs.Offers.{offers_of}
 use Rattle.traffic.specs.Lawful.{IsOfNetwork, HasLawfulOffers}
-use Rattle.nodes.specs.Node.{NodeState}
-use Rattle.nodes.specs.Placed.{IsPlaced, IsWired}
-use Rattle.nodes.specs.NodeSending.{sends-near, wiring-stays}
-use Rattle.nodes.specs.Opening.{opening}
-use Rattle.nodes.specs.Simulation.{simulation_of}
+use Rattle.nodes.specs.rules.Node.{NodeState}
+use Rattle.nodes.specs.rules.Placed.{IsPlaced, IsWired}
+use Rattle.nodes.specs.laws.NodeSending.{sends-near, wiring-stays}
+use Rattle.nodes.specs.rules.Opening.{opening}
+use Rattle.nodes.specs.rules.Simulation.{simulation_of}
 use Rattle.nodes.proofs.OpeningLaws.{opening-placed, opening-wired}
 use Rattle.seqsim.specs.Networks.{setting_of}
 

@@ -9,7 +9,7 @@ use Rattle.virtual_time.specs.Simulation.{Laws}
 use Rattle.virtual_time.specs.OneThread.{one}
 use Rattle.virtual_time.proofs.Turns.{over-same}
 use Rattle.netdesc.specs.Plan.{Plan}
-use Rattle.nodes.specs.Simulation.{simulation_of}
+use Rattle.nodes.specs.rules.Simulation.{simulation_of}
 use Rattle.actor_run.specs.Running.{seen_row}
 use Rattle.seqsim.specs.Networks.{AreRowsOf}
 

@@ -6,9 +6,9 @@ use Rattle.reverse.specs.Setting.{Setting}
 use Rattle.netdesc.specs.Plan.{Plan}
 use Rattle.netdesc.specs.Faults.{process_count}
 use Rattle.traffic.specs.Offers.{offers_of}
-use Rattle.nodes.specs.Node.{NodeState}
-use Rattle.nodes.specs.Opening.{opening}
-use Rattle.nodes.specs.Simulation.{simulation_of}
+use Rattle.nodes.specs.rules.Node.{NodeState}
+use Rattle.nodes.specs.rules.Opening.{opening}
+use Rattle.nodes.specs.rules.Simulation.{simulation_of}
 use Rattle.actor_run.specs.Running.{seen_row}
 
 -- what a network simulates, but for the rules of its nodes and lines

@@ -1,8 +1,8 @@
 //! Networks meet the laws of a simulation.
 ghost use Rattle.virtual_time.specs.Simulation.{Laws};
 ghost use Rattle.reverse.specs.Setting.{IsLaidOut};
-ghost use Rattle.nodes.specs.Placed.{IsPlaced};
-ghost use Rattle.nodes.specs.Simulation.{simulation_of};
+ghost use Rattle.nodes.specs.rules.Placed.{IsPlaced};
+ghost use Rattle.nodes.specs.rules.Simulation.{simulation_of};
 ghost use Rattle.seqsim.specs.Networks.{setting_of};
 
 use netdesc::Network;

@@ -2,8 +2,8 @@
 ghost use Rattle.std.specs.Prelude.{◌≡◌, ℕ, Err, IfOk};
 ghost use Rattle.reverse.specs.Setting.{AreInStates};
 ghost use Rattle.netdesc.specs.Faults.{process_count};
-ghost use Rattle.nodes.specs.Opening.{opening};
-ghost use Rattle.nodes.specs.Simulation.{simulation_of};
+ghost use Rattle.nodes.specs.rules.Opening.{opening};
+ghost use Rattle.nodes.specs.rules.Simulation.{simulation_of};
 ghost use Rattle.trace_tables.specs.Tables.{tables_of};
 ghost use Rattle.actor_run.specs.declared.fault.SimFault.TheVariants.{Exhausted};
 ghost use Rattle.actor_run.specs.Running.{IsExhaustedAt};

@@ -4,7 +4,7 @@ use Rattle.virtual_time.specs.Lists.{earlier}
 use Rattle.virtual_time.specs.Safe.{history}
 use Rattle.virtual_time.specs.World.{Step}
 use Rattle.netdesc.specs.Plan.{Plan}
-use Rattle.nodes.specs.Simulation.{simulation_of}
+use Rattle.nodes.specs.rules.Simulation.{simulation_of}
 use Rattle.timewarp.specs.Networks.{after}
 
 -- a longer beginning is a shorter one with more behind it

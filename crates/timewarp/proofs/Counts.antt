@@ -7,7 +7,7 @@ use Rattle.vlink.specs.declared.step.Step.TheVariants.{Take as NotedTake, Arrive
 use Rattle.virtual_time.specs.Lists.{one_if}
 use Rattle.virtual_time.specs.Simulation.{Simulation}
 use Rattle.virtual_time.specs.World.{World, is_enabled, step, run, start}
-use Rattle.nodes.specs.Simulation.{simulation_of}
+use Rattle.nodes.specs.rules.Simulation.{simulation_of}
 use Rattle.antimessages.specs.Steps.{step_of, names_none}
 use Rattle.timewarp.specs.declared.counting.Replay.{Replay}
 use Rattle.timewarp.specs.Replaying.{did, not_enabled, refused}

@@ -10,11 +10,11 @@ use Rattle.virtual_time.specs.World.{World, Step, start, step, run, is_enabled}
 use Rattle.reverse.specs.Setting.{IsLaidOut}
 use Rattle.netdesc.specs.Plan.{Plan}
 use Rattle.nodes.specs.declared.node.NodeRecord.{NodeRecord}
-use Rattle.nodes.specs.Node.{NodeState}
-use Rattle.nodes.specs.NodeUndoing.{IsNodeValue}
-use Rattle.nodes.specs.Opening.{opening}
-use Rattle.nodes.specs.Placed.{IsPlaced}
-use Rattle.nodes.specs.Simulation.{simulation_of}
+use Rattle.nodes.specs.rules.Node.{NodeState}
+use Rattle.nodes.specs.undoing.Node.{IsNodeValue}
+use Rattle.nodes.specs.rules.Opening.{opening}
+use Rattle.nodes.specs.rules.Placed.{IsPlaced}
+use Rattle.nodes.specs.rules.Simulation.{simulation_of}
 use Rattle.seqsim.specs.Networks.{setting_of}
 use Rattle.actor_world.specs.declared.done.Done.{Done}
 use Rattle.actor_world.specs.declared.done.Done.TheVariants.{Did}

@@ -7,10 +7,10 @@ use Rattle.virtual_time.specs.OneThread.{rows_at}
 use Rattle.virtual_time.specs.World.{World, Step, start, run}
 use Rattle.netdesc.specs.Plan.{Plan}
 use Rattle.nodes.specs.declared.node.NodeRecord.{NodeRecord}
-use Rattle.nodes.specs.Node.{NodeState}
-use Rattle.nodes.specs.NodeUndoing.{IsNodeValue}
-use Rattle.nodes.specs.Opening.{opening}
-use Rattle.nodes.specs.Simulation.{simulation_of}
+use Rattle.nodes.specs.rules.Node.{NodeState}
+use Rattle.nodes.specs.undoing.Node.{IsNodeValue}
+use Rattle.nodes.specs.rules.Opening.{opening}
+use Rattle.nodes.specs.rules.Simulation.{simulation_of}
 use Rattle.actor_run.specs.Running.{seen_row}
 use Rattle.actor_world.specs.Worlds.{Holdings, StandsForWorld}
 

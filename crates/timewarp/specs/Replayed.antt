@@ -2,7 +2,7 @@
 use Rattle.std.specs.Prelude.{◌≡◌, List, map}
 use Rattle.vlink.specs.declared.step.Step.{Step as Noted}
 use Rattle.virtual_time.specs.World.{start}
-use Rattle.nodes.specs.Simulation.{simulation_of}
+use Rattle.nodes.specs.rules.Simulation.{simulation_of}
 use Rattle.antimessages.specs.Steps.{step_of}
 use Rattle.timewarp.specs.declared.counting.Replay.{Replay}
 use Rattle.timewarp.specs.Networks.{IsAfter}

@@ -5,7 +5,7 @@ ghost use Rattle.vlink.specs.declared.step.Step.{Step as Noted};
 ghost use Rattle.virtual_time.specs.Lists.{earlier};
 ghost use Rattle.virtual_time.specs.World.{start};
 ghost use Rattle.virtual_time.specs.Safe.{Safe, history, CountLaw, IsFinished, IsWhole};
-ghost use Rattle.nodes.specs.Simulation.{simulation_of};
+ghost use Rattle.nodes.specs.rules.Simulation.{simulation_of};
 ghost use Rattle.antimessages.specs.Steps.{step_of};
 ghost use Rattle.actor_world.specs.declared.fault.StepFault.TheVariants.{NoProcess, Exhausted};
 ghost use Rattle.actor_world.specs.Worlds.{IsExhausted};

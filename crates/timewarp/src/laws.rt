@@ -9,8 +9,8 @@ ghost use Rattle.virtual_time.specs.Letters.{IsNamed};
 ghost use Rattle.virtual_time.specs.World.{Step};
 ghost use Rattle.virtual_time.specs.Safe.{Safe, history, CountLaw, NothingBefore, IsFinished, IsWhole};
 ghost use Rattle.netdesc.specs.Faults.{process_count};
-ghost use Rattle.nodes.specs.Opening.{opening};
-ghost use Rattle.nodes.specs.Simulation.{simulation_of};
+ghost use Rattle.nodes.specs.rules.Opening.{opening};
+ghost use Rattle.nodes.specs.rules.Simulation.{simulation_of};
 ghost use Rattle.timewarp.specs.Networks.{after};
 
 use netdesc::Network;

@@ -3,7 +3,7 @@ ghost use Rattle.std.specs.Prelude.{◌≡◌, ℕ, List, map, IfOk, IfErr};
 ghost use Rattle.vlink.specs.declared.note.Row.{Row as Noted};
 ghost use Rattle.virtual_time.specs.World.{Step as Stepped};
 ghost use Rattle.virtual_time.specs.Safe.{IsFinished};
-ghost use Rattle.nodes.specs.Simulation.{simulation_of};
+ghost use Rattle.nodes.specs.rules.Simulation.{simulation_of};
 ghost use Rattle.trace_tables.specs.Tables.{tables_of};
 ghost use Rattle.seqsim.specs.Networks.{AreRowsOf};
 ghost use Rattle.actor_world.specs.declared.fault.StepFault.TheVariants.{OutOfMemory};

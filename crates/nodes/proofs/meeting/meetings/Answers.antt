@@ -1,4 +1,4 @@
-use Rattle.std.proofs.Common.{◌≡◌, ℕ, ◌<◌, List, ap, sym, ◌∙◌, subst}
+use Rattle.std.proofs.Common.{◌≡◌, ℕ, ◌<◌, List, map, ap, sym, ◌∙◌, subst}
 use Rattle.std.specs.Prelude.{All, IfOk}
 use Rattle.netdesc.specs.declared.limits.TheConstants.{GREATEST_PORTS}
 use Rattle.std.specs.List.{flat_map}
@@ -7,11 +7,11 @@ use Rattle.netdesc.specs.Plan.{Plan}
 use Rattle.netdesc.specs.Accepted.{IsAccepted}
 use Rattle.nodes.specs.declared.meeting.Side.{Side}
 use Rattle.nodes.specs.declared.meeting.Meeting.{Meeting}
-use Rattle.nodes.specs.Meeting.{ways_at, meetings}
-use Rattle.nodes.specs.Finding.{IsRising}
-use Rattle.nodes.specs.Making.{numbers_met}
+use Rattle.nodes.specs.rules.Meeting.{ways_at, meetings}
+use Rattle.nodes.specs.rules.Finding.{IsRising}
+use Rattle.nodes.specs.laws.Making.{number_met}
 use Rattle.std.proofs.lemmas.Result.{IfOk-weaker}
-use Rattle.nodes.specs.Grouping.{all_met}
+use Rattle.nodes.specs.laws.Grouping.{all_met}
 use Rattle.nodes.proofs.WayLemmas.{ways-own, ways-within, all_met-is, meetings-rise}
 use Rattle.nodes.proofs.meeting.meetings.Goals as goal
 
@@ -30,4 +30,4 @@ pub returns-clause-rising : goal.returns-clause-rising
 returns-clause-rising c =
     let is = is-met c.args.network.now c.args.node c.args.side c.ways_at.result.now c.accepted.ensures c.ways_at.ensures in
     let rise = meetings-rise c.args.network.now c.args.node c.args.side c.accepted.ensures in
-    IfOk-weaker c.all_met.result _ (λ found. IsRising (numbers_met found.items)) (λ found (e : found.items ≡ all_met c.args.network.now c.ways_at.result.now). subst (λ (ms : List Meeting). IsRising (numbers_met ms)) (sym (e ∙ is)) rise) c.all_met.ensures.met
+    IfOk-weaker c.all_met.result _ (λ found. IsRising (map number_met found.items)) (λ found (e : found.items ≡ all_met c.args.network.now c.ways_at.result.now). subst (λ (ms : List Meeting). IsRising (map number_met ms)) (sym (e ∙ is)) rise) c.all_met.ensures.met

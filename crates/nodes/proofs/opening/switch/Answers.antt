@@ -1,29 +1,28 @@
-use Rattle.std.proofs.Common.{◌≡◌, List, map, refl, ap, sym, ◌∙◌, subst}
+use Rattle.std.proofs.Common.{List, map, refl, ap, sym, ◌∙◌, subst}
+use Rattle.std.specs.Prelude.{All}
+use Rattle.netdesc.specs.Limits.{IsLinkInLimits}
 use Rattle.nodes.specs.declared.meeting.Meeting.{Meeting}
-use Rattle.nodes.specs.Finding.{IsRising}
-use Rattle.nodes.specs.Switch.{numbers_of}
-use Rattle.nodes.specs.Making.{numbers_met}
-use Rattle.nodes.specs.Opening.{account_of}
-use Rattle.nodes.proofs.MakingLemmas.{numbers-transits}
+use Rattle.nodes.specs.rules.Finding.{IsRising}
+use Rattle.nodes.specs.rules.Switch.{transit_number}
+use Rattle.nodes.specs.laws.Making.{number_met, transit_met}
+use Rattle.nodes.proofs.MakingLemmas.{transit-numbers}
 use Rattle.nodes.proofs.OpeningLemmas.{switch-made}
 use Rattle.nodes.proofs.opening.switch.Goals as goal
 
-pub numbers_of-requires : goal.numbers_of-requires
-numbers_of-requires c = subst (λ (ms : List Meeting). IsRising (numbers_met ms)) (sym c.deref.ensures.value) c.in_ok-arriving.ensures.rising
+pub transits_of-requires-clause-rising : goal.transits_of-requires-clause-rising
+transits_of-requires-clause-rising c = subst (λ (ms : List Meeting). IsRising (map number_met ms)) (sym c.deref-2.ensures.value) c.in_ok-departing.ensures.rising
 
-pub transits_of-requires : goal.transits_of-requires
-transits_of-requires c = subst (λ (ms : List Meeting). IsRising (numbers_met ms)) (sym c.deref-3.ensures.value) c.in_ok-departing.ensures.rising
+pub transits_of-requires-clause-limits : goal.transits_of-requires-clause-limits
+transits_of-requires-clause-limits c = subst (All (λ (m : Meeting). IsLinkInLimits m.link)) (sym c.deref.ensures.value) c.in_ok-arriving.ensures.limits
 
 pub new-requires : goal.new-requires
 new-requires c =
-    let same : c.deref.result.now ≡ c.deref-2.result.now = c.deref.ensures.value ∙ sym c.deref-2.ensures.value in
-    c.in_ok-numbers_of.ensures ∙ ap numbers_met same ∙ sym (numbers-transits c.deref-3.result.now c.deref-2.result.now) ∙ ap numbers_of (sym c.in_ok-transits_of.ensures)
+    let numbers = ap (map transit_number) c.in_ok-transits_of.ensures ∙ transit-numbers c.deref-2.result.now c.deref.result.now ∙ ap (map number_met) c.deref.ensures.value in
+    subst IsRising (sym numbers) c.in_ok-arriving.ensures.rising
 
 pub returns : goal.returns
 returns c =
-    let arriving : List Meeting = c.deref-2.result.now in
-    let departing : List Meeting = c.deref-3.result.now in
-    let same : c.deref-4.result.now ≡ arriving = c.deref-4.ensures.value ∙ sym c.deref-2.ensures.value in
-    let accounts = c.in_ok-accounts_of.ensures ∙ ap (map (λ (m : Meeting). account_of m.link)) same in
-    c.new.ensures ∙ switch-made c.args.network.now c.args.node c.args.latency_ns c.args.bytes c.accepted.ensures arriving departing _
-    (c.deref-2.ensures.value ∙ c.in_ok-arriving.ensures.meetings) (c.deref-3.ensures.value ∙ c.in_ok-departing.ensures.meetings) refl c.in_ok-transits_of.ensures accounts c.in_ok-ports_of.ensures
+    let arriving = c.deref.ensures.value ∙ c.in_ok-arriving.ensures.meetings in
+    let departing = c.deref-2.ensures.value ∙ c.in_ok-departing.ensures.meetings in
+    c.new.ensures ∙ switch-made c.args.network.now c.args.node c.args.latency_ns c.args.bytes c.accepted.ensures _ refl
+    (c.in_ok-transits_of.ensures ∙ λ i. map (transit_met (departing i)) (arriving i)) c.in_ok-ports_of.ensures

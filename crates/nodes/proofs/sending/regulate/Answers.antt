@@ -3,7 +3,7 @@ use Rattle.std.proofs.lemmas.List.{append-nil}
 use Rattle.vlink.specs.declared.note.Note.{Note}
 use Rattle.bag_regulator.specs.declared.event.RegOut.{RegOut}
 use Rattle.reverse.specs.Sending.{joined, replied, OutboundState}
-use Rattle.nodes.specs.EndSystem.{asked, full, released_reply}
+use Rattle.nodes.specs.rules.EndSystem.{asked, full, released_reply}
 use Rattle.nodes.proofs.SendingLemmas.{replied-joined}
 use Rattle.nodes.proofs.EndSystemLemmas.{full-released, asked-quiet}
 use Rattle.nodes.proofs.sending.regulate.Goals as goal
@@ -12,7 +12,7 @@ pub release-requires-clause-notes : goal.release-requires-clause-notes
 release-requires-clause-notes c = λ frame is.
     let lost = c.lose_if_full.new.out in
     ap (λ (o : OutboundState). o.notes) c.ask.ensures
-    ∙ ap (λ (ns : List Note). lost.notes ++ ns) (asked-quiet lost.sender.number c.args.end.now.vl c.apply.result.0.release_at)
+    ∙ ap (λ (ns : List Note). lost.notes ++ ns) (asked-quiet lost.sender.number c.args.source.now.end.vl c.apply.result.0.release_at)
     ∙ append-nil lost.notes
     ∙ ap (λ (o : OutboundState). o.notes) c.lose_if_full.ensures
     ∙ ap (λ (ns : List Note). ns ++ (full c.args.event.now c.apply.result.0.answer).notes) c.requires.notes
@@ -24,7 +24,7 @@ returns-clause-reply c =
     let out = c.args.out.now in
     let number = out.sender.number in
     let event = c.args.event.now in
-    let end = c.args.end.now in
+    let end = c.args.source.now.end in
     let ports = c.args.ports.now in
     let told = c.apply.result.0 in
     c.release.ensures.reply

@@ -1,5 +1,5 @@
 use Rattle.std.proofs.Common.{◌≡◌, map, take}
-use Rattle.nodes.specs.Opening.{port_of}
+use Rattle.nodes.specs.rules.Opening.{port_of}
 use Rattle.nodes.proofs.wiring.ports_at.Given as goal
 
 abbrev pub invariant-loop-wire : goal.invariant-loop-wire

@@ -5,7 +5,7 @@ use Rattle.std.proofs.lemmas.Result.{err_from_is_err_and}
 use Rattle.vlink.specs.declared.step.Step.TheVariants.{Take as NotedTake}
 use Rattle.virtual_time.specs.World.{Step}
 use Rattle.netdesc.specs.Plan.{Plan}
-use Rattle.nodes.specs.Simulation.{simulation_of}
+use Rattle.nodes.specs.rules.Simulation.{simulation_of}
 use Rattle.antimessages.specs.Steps.{step_of}
 use Rattle.actor_world.specs.declared.fault.StepFault.TheVariants.{Exhausted}
 use Rattle.timewarp.specs.Networks.{after}

@@ -1,10 +1,11 @@
 use Rattle.std.proofs.Common.{◌≡◌, ap, ◌∙◌, sym, subst, slice_set}
 use Rattle.bag_regulator.specs.Regulator.{undone}
-use Rattle.nodes.specs.Undoing.{unput}
-use Rattle.nodes.specs.EndSystem.{EndSystemState}
-use Rattle.nodes.specs.EndSystemParts.{RegulatedCameFrom, SendingCameFrom}
-use Rattle.nodes.specs.EndSystemUndoing.{unregulated, unregulated_by}
-use Rattle.nodes.proofs.EndSystemLemmas.{source-found, sending-came}
+use Rattle.nodes.specs.undoing.Ports.{unput}
+use Rattle.nodes.specs.rules.EndSystem.{EndSystemState, source_number}
+use Rattle.nodes.specs.undoing.EndSystemParts.{RegulatedCameFrom, SendingCameFrom}
+use Rattle.nodes.specs.undoing.EndSystem.{unregulated, unregulated_by}
+use Rattle.nodes.proofs.NumberLemmas.{found-read, rising-kept}
+use Rattle.nodes.proofs.EndSystemLemmas.{sending-came}
 use Rattle.nodes.proofs.end_system.EndSystem.unregulate.Goals as goal
 
 pub take_back-requires : goal.take_back-requires
@@ -14,13 +15,13 @@ take_back-requires c =
     let vl = c.args.vl in
     let event = c.args.event.now in
     let now = c.args.self.now in
-    let end = c.index.result.now in
-    let g = c.index_mut-element.result.now in
+    let source = c.index_mut-source.result.now in
     let k = c.in-Regulated.regulator in
     let a = c.in-Regulated.a in
     let b = c.in-Regulated.b in
-    let found = source-found vl c.in-Some.place end g c.self.view_is c.in-Some.ensures c.index.ensures c.index_mut-element.ensures.value in
-    subst (λ (s : EndSystemState). SendingCameFrom event end g s.ports k a b) (sym c.self.view_is)
+    let sources = ap (λ (s : EndSystemState). s.sources) c.self.view_is in
+    let found = found-read source_number _ _ now.sources c.args.vl.0 c.in-Some.place source c.as_slice.ensures.value sources c.in-Some.ensures.place c.index_mut-source.ensures.value in
+    subst (λ (s : EndSystemState). SendingCameFrom event source.end source.regulator s.ports k a b) (sym c.self.view_is)
     (sending-came n t vl event now k a b (subst (RegulatedCameFrom n t vl event now) c.in-Regulated.is c.requires.2) _ found)
 
 pub returns : goal.returns
@@ -28,21 +29,25 @@ returns c =
     let i = c.self.inside in
     let place = c.in-Some.place in
     let now = c.args.self.now in
-    let end = c.index.result.now in
-    let g = c.index_mut-element.result.now in
+    let source = c.index_mut-source.result.now in
     let k = c.in-Regulated.regulator in
     let a = c.in-Regulated.a in
     let b = c.in-Regulated.b in
-    let found = source-found c.args.vl place end g c.self.view_is c.in-Some.ensures c.index.ensures c.index_mut-element.ensures.value in
+    let sources = ap (λ (s : EndSystemState). s.sources) c.self.view_is in
+    let found = found-read source_number _ _ now.sources c.args.vl.0 c.in-Some.place source c.as_slice.ensures.value sources c.in-Some.ensures.place c.index_mut-source.ensures.value in
     subst (λ (s : EndSystemState).
-    record { sources = i.sources.items; regulators = slice_set i.regulators.items place c.take_back.new.regulator; sinks = i.sinks.items; receivers = i.receivers.items; ports = c.take_back.new.ports }
-    ≡ record s { regulators = slice_set s.regulators place (undone g k.change k.last k.sn); ports = unput 0 a (unput 1 b s.ports) }) c.self.view_is
-    (λ t. record {
-      sources = i.sources.items;
-      regulators = slice_set i.regulators.items place (c.take_back.ensures.regulator t);
-      sinks = i.sinks.items;
-      receivers = i.receivers.items;
-      ports = c.take_back.ensures.ports t;
-    })
+    record { sources = slice_set i.sources.items place c.take_back.new.source; sinks = i.sinks.items; ports = c.take_back.new.ports }
+    ≡ record s {
+      sources = slice_set s.sources place (record source { regulator = undone source.regulator k.change k.last k.sn });
+      ports = unput 0 a (unput 1 b s.ports);
+    }) c.self.view_is
+    (λ t. record { sources = slice_set i.sources.items place (c.take_back.ensures.source t); sinks = i.sinks.items; ports = c.take_back.ensures.ports t })
     ∙ ap (unregulated_by k a b now) (sym found)
     ∙ ap (λ k. unregulated c.args.vl k now) (sym c.in-Regulated.is)
+
+-- the numbers of the virtual links stay
+pub invariant_of-self : goal.invariant_of-self
+invariant_of-self c = (
+  rising-kept source_number c.self.inside.sources.items c.in-Some.place c.index_mut-source.result.now c.take_back.new.source c.index_mut-source.ensures.value (ap source_number c.take_back.ensures.source) c.self.invariant.0,
+  c.self.invariant.1,
+)

@@ -1,5 +1,5 @@
 use Rattle.std.proofs.Common.{sym, subst}
-use Rattle.nodes.specs.Placed.{IsPlacedPart}
+use Rattle.nodes.specs.rules.Placed.{IsPlacedPart}
 use Rattle.nodes.proofs.OpeningLaws.{opening-placed}
 use Rattle.nodes.proofs.node.Node.new.Goals as goal
 

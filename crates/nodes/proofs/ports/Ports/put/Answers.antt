@@ -3,7 +3,7 @@ use Rattle.std.proofs.lemmas.Option.{slice_get_past}
 use Rattle.std.proofs.lemmas.Bool.{ltb-true, ltb-false}
 use Rattle.output_port.specs.Port.{PortState, port}
 use Rattle.output_port.specs.declared.event.PortEvent.TheVariants.{Put}
-use Rattle.nodes.specs.Ports.{PortsState, wire_at, answered}
+use Rattle.nodes.specs.rules.Ports.{PortsState, wire_at, answered}
 use Rattle.reverse.specs.Sending.{replied}
 use Rattle.nodes.proofs.ListLemmas.{read-there}
 use Rattle.nodes.proofs.SendingLemmas.{replied-silent}

@@ -1,7 +1,7 @@
 use Rattle.std.proofs.Common.{◌≡◌, ◌∙◌, ◌+◌, true, false, map, Err, refl, sym, ap, subst, arith}
 use Rattle.std.specs.Prelude.{is_ok}
 use Rattle.std.proofs.lemmas.Bool.{false≢true, false_from_ne_true}
-use Rattle.nodes.specs.Simulation.{simulation_of}
+use Rattle.nodes.specs.rules.Simulation.{simulation_of}
 use Rattle.netdesc.specs.Plan.{Plan}
 use Rattle.antimessages.specs.Steps.{step_of, names_none}
 use Rattle.timewarp.specs.declared.counting.Replay.{Replay}

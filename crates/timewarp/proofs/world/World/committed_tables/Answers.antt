@@ -5,9 +5,9 @@ use Rattle.virtual_time.specs.Simulation.{Laws}
 use Rattle.virtual_time.specs.World.{Step}
 use Rattle.netdesc.specs.Plan.{Plan}
 use Rattle.netdesc.specs.Faults.{process_count}
-use Rattle.nodes.specs.NodeUndoing.{IsNodeValue}
-use Rattle.nodes.specs.Placed.{IsPlaced}
-use Rattle.nodes.specs.Simulation.{simulation_of}
+use Rattle.nodes.specs.undoing.Node.{IsNodeValue}
+use Rattle.nodes.specs.rules.Placed.{IsPlaced}
+use Rattle.nodes.specs.rules.Simulation.{simulation_of}
 use Rattle.trace_tables.specs.SoFar.{SoFarLists, IsSoFar}
 use Rattle.trace_tables.specs.Tables.{TableLists, tables_of}
 use Rattle.actor_run.specs.Running.{seen_row}

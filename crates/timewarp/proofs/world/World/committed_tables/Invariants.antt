@@ -1,7 +1,7 @@
 use Rattle.std.proofs.Common.{List}
 use Rattle.vlink.specs.declared.note.Row.{Row as Noted}
 use Rattle.virtual_time.specs.World.{Step}
-use Rattle.nodes.specs.Simulation.{simulation_of}
+use Rattle.nodes.specs.rules.Simulation.{simulation_of}
 use Rattle.trace_tables.specs.SoFar.{IsSoFar}
 use Rattle.timewarp.specs.Networks.{after, IsAfter}
 use Rattle.timewarp.proofs.CommittedRows.{AreRowsBelow}

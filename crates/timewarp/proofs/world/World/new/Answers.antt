@@ -6,10 +6,10 @@ use Rattle.netdesc.specs.Faults.{process_count}
 use Rattle.netdesc.specs.Plan.{Plan}
 use Rattle.traffic.specs.Offers.{offers_of}
 use Rattle.nodes.specs.declared.node.NodeRecord.{NodeRecord}
-use Rattle.nodes.specs.Node.{NodeState}
-use Rattle.nodes.specs.NodeUndoing.{IsNodeValue}
-use Rattle.nodes.specs.Opening.{opening}
-use Rattle.nodes.specs.Simulation.{simulation_of}
+use Rattle.nodes.specs.rules.Node.{NodeState}
+use Rattle.nodes.specs.undoing.Node.{IsNodeValue}
+use Rattle.nodes.specs.rules.Opening.{opening}
+use Rattle.nodes.specs.rules.Simulation.{simulation_of}
 use Rattle.seqsim.specs.Networks.{setting_of}
 use Rattle.actor_world.specs.Worlds.{Holdings, StandsForWorld}
 use Rattle.timewarp.specs.Networks.{IsAfter}

@@ -1,6 +1,6 @@
 use Rattle.std.proofs.Common.{◌≡◌, ◌↔◌, ◌++◌, true, List, [], ◌∷◌, Err, OnOk, OnErr, IfOk, subst}
 use Rattle.virtual_time.specs.World.{Step, is_enabled}
-use Rattle.nodes.specs.Simulation.{simulation_of}
+use Rattle.nodes.specs.rules.Simulation.{simulation_of}
 use Rattle.seqsim.specs.Networks.{setting_of}
 use Rattle.antimessages.specs.Steps.{step_of}
 use Rattle.actor_world.specs.declared.done.Done.TheVariants.{Did}

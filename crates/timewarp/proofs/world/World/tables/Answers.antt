@@ -3,7 +3,7 @@ use Rattle.vlink.specs.declared.note.Row.{Row as Noted}
 use Rattle.virtual_time.specs.Simulation.{Laws}
 use Rattle.virtual_time.specs.Safe.{IsFinished, IsWhole}
 use Rattle.virtual_time.specs.World.{Step}
-use Rattle.nodes.specs.Simulation.{simulation_of}
+use Rattle.nodes.specs.rules.Simulation.{simulation_of}
 use Rattle.seqsim.specs.Networks.{AreRowsOf}
 use Rattle.timewarp.specs.Networks.{NetworkWorld, after, AreCommittedRows}
 use Rattle.timewarp.proofs.CommittedRows.{rows-whole, same-at}

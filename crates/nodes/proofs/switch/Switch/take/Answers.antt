@@ -1,0 +1,46 @@
+use Rattle.std.proofs.Common.{◌≡◌, Some, ap, ◌∙◌, sym, subst, slice_set}
+use Rattle.reverse.specs.Sending.{replied}
+use Rattle.nodes.specs.rules.Switch.{SwitchState, entered, entered_reply, taken, transit_at, transit_number}
+use Rattle.nodes.specs.undoing.Switch.{taken_kept, IsTakenValue}
+use Rattle.nodes.proofs.NumberLemmas.{found-read, rising-kept}
+use Rattle.nodes.proofs.SwitchLemmas.{entered-number}
+use Rattle.nodes.proofs.switch.Switch.take.Goals as goal
+
+found : (c : goal.After-self-1) → transit_at c.args.self.now c.args.frame.now.vl ≡ Some (record { place = c.in-Some.place; entry = c.index_mut-transit.result.now })
+found c =
+    let transits = ap (λ (s : SwitchState). s.transits) c.self.view_is in
+    found-read transit_number _ _ c.args.self.now.transits c.args.frame.now.vl.0 c.in-Some.place c.index_mut-transit.result.now c.as_slice.ensures.value transits c.in-Some.ensures.place c.index_mut-transit.ensures.value
+
+pub returns-clause-state : goal.returns-clause-state
+returns-clause-state c =
+    let i = c.self.inside in
+    let place = c.in-Some.place in
+    let frame = c.args.frame.now in
+    let transit = c.index_mut-transit.result.now in
+    subst (λ (s : SwitchState).
+    record { latency = i.latency_ns; transits = slice_set i.transits.items place c.enter.new.transit; ports = i.ports }
+    ≡ record s { transits = slice_set s.transits place (entered c.args.at c.args.port frame transit) }) c.self.view_is
+    (λ t. record { latency = i.latency_ns; transits = slice_set i.transits.items place (c.enter.ensures.transit t); ports = i.ports })
+    ∙ ap (λ found. (taken c.args.out.now.sender.number c.args.at c.args.port frame c.args.self.now found).state) (sym (found c))
+
+pub returns-clause-reply : goal.returns-clause-reply
+returns-clause-reply c =
+    let out = c.args.out.now in
+    let number = out.sender.number in
+    let frame = c.args.frame.now in
+    let transit = c.index_mut-transit.result.now in
+    subst (λ (s : SwitchState). c.enter.new.out ≡ replied out (entered_reply number c.args.at s.latency c.args.port frame transit)) c.self.view_is c.enter.ensures.reply
+    ∙ ap (λ found. replied out (taken number c.args.at c.args.port frame c.args.self.now found).reply) (sym (found c))
+
+pub returns-clause-kept : goal.returns-clause-kept
+returns-clause-kept c = c.enter.ensures.kept ∙ ap (taken_kept c.args.at c.args.port c.args.frame.now) (sym (found c))
+
+pub returns-clause-valid : goal.returns-clause-valid
+returns-clause-valid c = subst (IsTakenValue c.args.port c.args.frame.now) (sym (found c)) c.enter.ensures.valid
+
+-- the numbers of the virtual links stay
+pub invariant_of-self : goal.invariant_of-self
+invariant_of-self c =
+    let transit = c.index_mut-transit.result.now in
+    let number = ap transit_number c.enter.ensures.transit ∙ entered-number c.args.at c.args.port c.args.frame.now transit in
+    rising-kept transit_number c.self.inside.transits.items c.in-Some.place transit c.enter.new.transit c.index_mut-transit.ensures.value number c.self.invariant

@@ -1,0 +1,138 @@
+-- For proofs alone: what a node sends, by its fixed parts, and that these stay.
+use Rattle.std.proofs.Common.{◌≡◌, ℕ, ◌+◌, ◌*◌, ◌<◌, ◌≤◌, Bool, true, false, cond, [], ◌∷◌, Option, None, Some, IfSome, All, sym, subst, mul-pos, arith}
+use Rattle.std.specs.List.{list_any}
+use Rattle.std.proofs.lemmas.List.Elements.{All-nil, All-cons, All-weaker}
+use Rattle.vlink.specs.declared.frame.Frame.{Frame}
+use Rattle.vlink.specs.declared.frame.VlId.{VlId}
+use Rattle.vlink.specs.declared.message.Message.{Message}
+use Rattle.vlink.specs.declared.message.Body.{Body}
+use Rattle.vlink.specs.declared.message.Body.TheVariants.{Offer, Release, PortFree, Arrive, Enqueue, Carry}
+use Rattle.vlink.specs.declared.note.Cause.TheVariants as cause
+use Rattle.bag_regulator.specs.Regulator.{regulator}
+use Rattle.bag_regulator.specs.Spacing.{moment_of}
+use Rattle.bag_regulator.specs.declared.event.RegEvent.{RegEvent}
+use Rattle.nodes.specs.declared.ports.Wire.{Wire}
+use Rattle.nodes.specs.declared.part.Part.{Part}
+use Rattle.nodes.specs.declared.part.Part.TheVariants.{EndSystem, Switch, Line}
+use Rattle.reverse.specs.Sending.{Wish, Reply, loss}
+use Rattle.nodes.specs.rules.Ports.{PortsState}
+use Rattle.nodes.specs.declared.source.Source.{Source}
+use Rattle.nodes.specs.rules.Finding.{Found}
+use Rattle.nodes.specs.rules.EndSystem.{source_at, source_number}
+use Rattle.nodes.specs.rules.Line.{LineState, line, is_within}
+use Rattle.nodes.specs.rules.Node.{NodeState, handled, after, sends}
+use Rattle.nodes.specs.rules.Placed.{AllWires, IsPlaced, IsPlacedPart, IsWired, IsWiredPart}
+use Rattle.nodes.specs.laws.Places.{All-there, found-there}
+use Rattle.nodes.specs.laws.Replies.{IsQuiet, silent-quiet, loss-quiet, quiet-all}
+use Rattle.nodes.specs.laws.Sent.{sent-all}
+use Rattle.nodes.specs.laws.Ports.{WireMeets}
+use Rattle.nodes.specs.laws.Regulator.{release-later}
+use Rattle.nodes.specs.laws.EndSystemSending.{end_system-wires, end_system-bags, end_system-all}
+use Rattle.nodes.specs.laws.SwitchSending.{wish_to, switch-stays, switch-all}
+
+-- what a frame asks to be sent that leaves a line
+abbrev arrival : ℕ → Frame → LineState → Wish
+arrival t frame s = record { time = t + s.propagation; receiver = s.to; body = Arrive s.to_port frame }
+
+line-cases : (K : Reply → Type 0) (t : ℕ) (b : Body) (s : LineState) → ((r : Reply) → IsQuiet r → K r) →
+    ((frame : Frame) → K (record { wishes = arrival t frame s ∷ []; notes = [] })) → K (line t b s)
+line-cases K t (Carry frame) s quiet arrives = go (list_any (is_within t) s.outages)
+  where
+    go : (b : Bool) → K (cond b (loss cause.Outage frame) (record { wishes = arrival t frame s ∷ []; notes = [] }))
+    go true = quiet (loss cause.Outage frame) (loss-quiet cause.Outage frame)
+    go false = arrives frame
+line-cases K t (Offer vl size) s quiet arrives = quiet _ silent-quiet
+line-cases K t (Release vl) s quiet arrives = quiet _ silent-quiet
+line-cases K t (PortFree q) s quiet arrives = quiet _ silent-quiet
+line-cases K t (Arrive q frame) s quiet arrives = quiet _ silent-quiet
+line-cases K t (Enqueue q frame) s quiet arrives = quiet _ silent-quiet
+
+-- what the part of node n can send at moment t has P
+abbrev Meets : (Wish → Type 0) → ℕ → ℕ → Part → Type 0
+Meets P n t (EndSystem s) =
+    AllWires (WireMeets P n t) s.ports × ((vl : VlId) (e : RegEvent) (found : Found Source) → moment_of e ≡ t → source_at s vl ≡ Some found →
+    IfSome (regulator.out found.entry.regulator e).release_at (λ at. P (record { time = at; receiver = n; body = Release found.entry.end.vl })))
+Meets P n t (Switch s) = AllWires (WireMeets P n t) s.ports × ((q : ℕ) (frame : Frame) → P (wish_to n (t + s.latency) frame q))
+Meets P n t (Line s) = (frame : Frame) → P (arrival t frame s)
+
+handled-all : (P : Wish → Type 0) (n : ℕ) (m : Message) (p : Part) → Meets P n m.time p → All P (handled n m p).reply.wishes
+handled-all P n m (EndSystem s) h = end_system-all P n m.time m.body s h.0 h.1
+handled-all P n m (Switch s) h = switch-all P n m.time m.body s h.0 h.1
+handled-all P n m (Line s) h =
+    line-cases (λ r. All P r.wishes) m.time m.body s (quiet-all P) (λ frame. All-cons P (arrival m.time frame s) [] (h frame) (All-nil P))
+
+wires-weaker : (P Q : Wire → Type 0) → ((wire : Wire) → P wire → Q wire) → (ports : PortsState) → AllWires P ports → AllWires Q ports
+wires-weaker P Q f ports h = All-weaker (λ o. IfSome o P) (λ o. IfSome o Q) go ports.wires h
+  where
+    go : (o : Option Wire) → IfSome o P → IfSome o Q
+    go None p = tt
+    go (Some wire) p = f wire p
+
+-- a frame that starts into a line where a byte takes at least 1 ns
+wire-later : (n t : ℕ) (wire : Wire) → 1 ≤ wire.byte_ns → WireMeets (λ w. t < w.time) n t wire
+wire-later n t wire h q frame =
+    let last : 1 ≤ (frame.size + 8) * wire.byte_ns = mul-pos (omega arith) h in
+    let busy : 1 ≤ (frame.size + 20) * wire.byte_ns = mul-pos (omega arith) h in
+    (omega (arith, last), omega (arith, busy))
+
+wires-later : (n t : ℕ) (ports : PortsState) → AllWires (λ wire. 1 ≤ wire.byte_ns) ports → AllWires (WireMeets (λ w. t < w.time) n t) ports
+wires-later n t ports = wires-weaker (λ wire. 1 ≤ wire.byte_ns) (WireMeets (λ w. t < w.time) n t) (wire-later n t) ports
+
+part-later : (n t : ℕ) (p : Part) → IsPlacedPart p → Meets (λ w. t < w.time) n t p
+part-later n t (EndSystem s) h = (wires-later n t s.ports h.0, asks)
+  where
+    asks : (vl : VlId) (e : RegEvent) (found : Found Source) → moment_of e ≡ t → source_at s vl ≡ Some found →
+        IfSome (regulator.out found.entry.regulator e).release_at (λ at. t < at)
+    asks vl e found m is =
+        let g = found.entry.regulator in
+        let bag = All-there (λ (source : Source). 1 ≤ source.regulator.bag) s.sources found.place found.entry h.1 (found-there source_number s.sources vl.0 found is) in
+        subst (λ t. IfSome (regulator.out g e).release_at (λ at. t < at)) m (release-later g e bag)
+part-later n t (Switch s) h = (wires-later n t s.ports h.0, λ q frame. omega (arith, h.1))
+part-later n t (Line s) h = λ frame. omega (arith, h)
+
+-- what is sent is later than the event
+pub sends-later : (s : NodeState) (m : Message) → IsPlaced s → All (λ x. m.time < x.time) (sends s m)
+sends-later s m h =
+    let wishes = handled-all (λ w. m.time < w.time) s.sender.number m s.part (part-later s.sender.number m.time s.part h) in
+    sent-all (λ x. m.time < x.time) s.sender (handled s.sender.number m s.part).reply.wishes (λ k d l n timely. wishes k _ l)
+
+-- and goes to processes that there are
+part-near : (processes n t : ℕ) (p : Part) → n < processes → IsWiredPart processes p → Meets (λ w. w.receiver < processes) n t p
+part-near processes n t (EndSystem s) g h = (
+  wires-weaker (λ wire. wire.line < processes) (WireMeets (λ w. w.receiver < processes) n t) (λ wire l q frame. (l, g)) s.ports h,
+  λ vl e found m is. asks (regulator.out found.entry.regulator e).release_at,
+)
+  where
+    asks : (ask : Option ℕ) → IfSome ask (λ at. n < processes)
+    asks None = tt
+    asks (Some at) = g
+part-near processes n t (Switch s) g h =
+    (wires-weaker (λ wire. wire.line < processes) (WireMeets (λ w. w.receiver < processes) n t) (λ wire l q frame. (l, g)) s.ports h, λ q frame. g)
+part-near processes n t (Line s) g h = λ frame. h
+
+pub sends-near : (processes : ℕ) (s : NodeState) (m : Message) → IsWired processes s → All (λ x. x.receiver < processes) (sends s m)
+sends-near processes s m h =
+    let wishes = handled-all (λ w. w.receiver < processes) s.sender.number m s.part (part-near processes s.sender.number m.time s.part h.0 h.1) in
+    sent-all (λ x. x.receiver < processes) s.sender (handled s.sender.number m s.part).reply.wishes (λ k d l n timely. wishes k _ l)
+
+-- an event changes none of the fixed parts
+pub place-stays : (s : NodeState) (m : Message) → IsPlaced s → IsPlaced (after s m)
+place-stays s m = go s.part
+  where
+    go : (p : Part) → IsPlacedPart p → IsPlacedPart (handled s.sender.number m p).part
+    go (EndSystem s') h = (
+      subst (All (λ w. IfSome w (λ wire. 1 ≤ wire.byte_ns))) (sym (end_system-wires s.sender.number m.time m.body s')) h.0,
+      end_system-bags (λ bag. 1 ≤ bag) s.sender.number m.time m.body s' h.1,
+    )
+    go (Switch s') h =
+        let stays = switch-stays s.sender.number m.time m.body s' in
+        (subst (All (λ w. IfSome w (λ wire. 1 ≤ wire.byte_ns))) (sym stays.wires) h.0, subst (λ n. 1 ≤ n) (sym stays.latency) h.1)
+    go (Line s') h = h
+
+pub wiring-stays : (processes : ℕ) (s : NodeState) (m : Message) → IsWired processes s → IsWired processes (after s m)
+wiring-stays processes s m h = (h.0, go s.part h.1)
+  where
+    go : (p : Part) → IsWiredPart processes p → IsWiredPart processes (handled s.sender.number m p).part
+    go (EndSystem s') h = subst (All (λ w. IfSome w (λ wire. wire.line < processes))) (sym (end_system-wires s.sender.number m.time m.body s')) h
+    go (Switch s') h = subst (All (λ w. IfSome w (λ wire. wire.line < processes))) (sym (switch-stays s.sender.number m.time m.body s').wires) h
+    go (Line s') h = h

@@ -1,0 +1,143 @@
+-- Definition: the opening state of each process of a network. Nothing waits, nothing was sent, and no frame was received.
+use Rattle.std.specs.Prelude.{ℕ, ◌+◌, ◌-◌, ◌*◌, ◌==◌, ◌&&◌, Bool, if◌then◌else◌, List, [], ◌∷◌, length, map, Option, None, Some, slice_get}
+use Rattle.std.specs.List.{range_with_len}
+use Rattle.network_rows.specs.declared.rows.NodeKind.{NodeKind}
+use Rattle.network_rows.specs.declared.rows.NodeKind.TheVariants as kind
+use Rattle.network_rows.specs.declared.rows.Priority.{Priority}
+use Rattle.network_rows.specs.declared.rows.Priority.TheVariants as row
+use Rattle.bag_regulator.specs.Regulator as regulator
+use Rattle.bag_regulator.specs.Regulator.{Regulator}
+use Rattle.policer.specs.Account.{Policing, full}
+use Rattle.output_port.specs.Port as port
+use Rattle.output_port.specs.Port.{PortState}
+use Rattle.output_port.specs.declared.event.Priority as waiting
+use Rattle.output_port.specs.declared.event.Priority.TheVariants.{High, Low}
+use Rattle.netdesc.specs.declared.limits.TheConstants.{GREATEST_PORTS}
+use Rattle.netdesc.specs.declared.vl.VirtualLink.{VirtualLink}
+use Rattle.netdesc.specs.declared.wiring.Line.{Line}
+use Rattle.netdesc.specs.declared.wiring.Way.{Way}
+use Rattle.netdesc.specs.Plan.{Plan, NodePlan, VlPlan}
+use Rattle.netdesc.specs.Lines.{lines_of, outages_of}
+use Rattle.nodes.specs.declared.meeting.Side.TheVariants.{Out, In}
+use Rattle.nodes.specs.declared.part.Part.{Part}
+use Rattle.nodes.specs.declared.part.Part.TheVariants as part
+use Rattle.nodes.specs.declared.ports.Wire.{Wire}
+use Rattle.nodes.specs.declared.receiving.Receiving.{Receiving}
+use Rattle.nodes.specs.declared.sink.Sink.{Sink}
+use Rattle.nodes.specs.declared.source.Source.{Source}
+use Rattle.nodes.specs.declared.transit.Transit.{Transit}
+use Rattle.nodes.specs.declared.vl_end.VlEnd.{VlEnd}
+use Rattle.nodes.specs.rules.Meeting.{ways_at, with_ways, first_port, is_by, ports_by}
+use Rattle.nodes.specs.rules.Ports.{PortsState}
+use Rattle.nodes.specs.rules.EndSystem.{EndSystemState}
+use Rattle.nodes.specs.rules.Switch.{SwitchState}
+use Rattle.nodes.specs.rules.Line.{LineState}
+use Rattle.nodes.specs.rules.Node.{NodeState}
+
+-- ---- ports
+
+-- the line leaves node n by port q
+abbrev pub leaves_by : ℕ → ℕ → Line → Bool
+leaves_by n q line = (line.from == n) && (line.from_port == q)
+
+-- the first of these lines that does; they are the processes from `process` on
+abbrev pub wire_among : ℕ → ℕ → ℕ → List Line → Option Wire
+wire_among n q process [] = None
+wire_among n q process (line ∷ lines) =
+    if leaves_by n q line
+    then Some (record { line = process; byte_ns = line.byte_ns })
+    else wire_among n q (process + 1) lines
+
+-- the wires of the ports 0, 1, .. of node n: the lines are the processes behind the nodes
+unfoldable pub wires_of : Plan → ℕ → ℕ → List (Option Wire)
+wires_of plan n count = map (λ q. wire_among n q (length plan.nodes) (lines_of plan)) (range_with_len 0 count)
+
+-- a port that is there holds so many bytes, and one that is not holds none
+abbrev pub port_of : ℕ → Option Wire → PortState
+port_of bytes (Some wire) = port.opening bytes
+port_of bytes None = port.opening 0
+
+abbrev pub ports_of : Plan → ℕ → ℕ → ℕ → PortsState
+ports_of plan n count bytes = let wires = wires_of plan n count in record { wires = wires; states = map (port_of bytes) wires }
+
+-- ---- end systems: port 0 leads to network A and port 1 to network B
+
+abbrev pub end_of : (VlPlan → List Way) → VlPlan → VlEnd
+end_of ways vl = record { vl = vl.link.id; a = is_by (ways vl) 0; b = is_by (ways vl) 1 }
+
+abbrev pub bag_ns : VirtualLink → ℕ
+bag_ns link = link.bag_ms * 1000000
+
+abbrev pub regulator_of : VirtualLink → Regulator
+regulator_of link = regulator.opening (bag_ns link) link.depth
+
+abbrev pub receiving_of : VirtualLink → Receiving
+receiving_of link = record { a = None; b = None; redundancy = record { skew_max = link.skew_max_ns; last = None } }
+
+abbrev pub source_of : (VlPlan → List Way) → VlPlan → Source
+source_of ways vl = record { end = end_of ways vl; regulator = regulator_of vl.link }
+
+abbrev pub sink_of : (VlPlan → List Way) → VlPlan → Sink
+sink_of ways vl = record { end = end_of ways vl; receiving = receiving_of vl.link }
+
+-- end system n, at each of whose ports so many bytes may wait
+abbrev pub end_system_opening : Plan → ℕ → ℕ → EndSystemState
+end_system_opening plan n bytes =
+    let sent = with_ways (ways_at plan n Out) plan.vls in
+    let received = with_ways (ways_at plan n In) plan.vls in
+    record {
+      sources = map (source_of (ways_at plan n Out)) sent;
+      sinks = map (sink_of (ways_at plan n In)) received;
+      ports = ports_of plan n 2 bytes;
+    }
+
+-- ---- switches
+
+abbrev pub port_priority : Priority → waiting.Priority
+port_priority row.High = High
+port_priority row.Low = Low
+
+abbrev pub account_of : VirtualLink → Policing
+account_of link = full link.smax (bag_ns link) link.policing_jitter_ns
+
+abbrev pub transit_of : Plan → ℕ → VlPlan → Transit
+transit_of plan n vl = record {
+  vl = vl.link.id;
+  input = first_port (ways_at plan n In vl);
+  outputs = ports_by (ways_at plan n Out vl);
+  smax = vl.link.smax;
+  priority = port_priority vl.link.priority;
+  account = account_of vl.link;
+}
+
+-- switch n with this delay, at each of whose ports so many bytes may wait
+abbrev pub switch_opening : Plan → ℕ → ℕ → ℕ → SwitchState
+switch_opening plan n latency bytes =
+    record {
+      latency = latency;
+      transits = map (transit_of plan n) (with_ways (ways_at plan n In) plan.vls);
+      ports = ports_of plan n GREATEST_PORTS bytes;
+    }
+
+-- ---- processes
+
+abbrev pub node_opening : Plan → ℕ → ℕ → NodeKind → Part
+node_opening plan n bytes kind.EndSystem = part.EndSystem (end_system_opening plan n bytes)
+node_opening plan n bytes (kind.Switch net latency_ns) = part.Switch (switch_opening plan n latency_ns bytes)
+
+-- line k; where there is none, a line without a propagation time and outages stands for it
+abbrev pub line_opening : Plan → ℕ → Option Line → LineState
+line_opening plan k (Some line) = record { to = line.to; to_port = line.to_port; propagation = line.propagation_ns; outages = outages_of plan k }
+line_opening plan k None = record { to = 0; to_port = 0; propagation = 0; outages = [] }
+
+-- the nodes are the processes 0, 1, .., and the lines those behind them
+abbrev pub part_opening : Plan → ℕ → Option NodePlan → Part
+part_opening plan p (Some node) = node_opening plan p node.port_bytes node.kind
+part_opening plan p None = let k = p - length plan.nodes in part.Line (line_opening plan k (slice_get (lines_of plan) k))
+
+-- process p, whose first message has the number 0
+abbrev pub opening : Plan → ℕ → NodeState
+opening plan p = record {
+  sender = record { number = p; until = plan.until; counter = 0 };
+  part = part_opening plan p (slice_get plan.nodes p);
+}

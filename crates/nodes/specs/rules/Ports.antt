@@ -1,0 +1,67 @@
+-- Definition: the output ports of a node, and the lines that they lead into.
+use Rattle.std.specs.Prelude.{ℕ, ◌+◌, Bool, if◌then◌else◌, List, [], ◌∷◌, Option, None, Some, is_some, slice_get, slice_set}
+use Rattle.std.specs.Option.{option_and_then}
+use Rattle.vlink.specs.declared.frame.Frame.{Frame}
+use Rattle.vlink.specs.declared.message.Body.TheVariants.{Carry, PortFree}
+use Rattle.vlink.specs.declared.note.Cause.TheVariants.{PortFull}
+use Rattle.vlink.specs.Wire.{last_bit_after, busy_for}
+use Rattle.output_port.specs.Port.{PortState, port}
+use Rattle.output_port.specs.declared.event.PortEvent.{PortEvent}
+use Rattle.output_port.specs.declared.event.PortEvent.TheVariants.{Put, Free}
+use Rattle.output_port.specs.declared.event.PortAnswer.{PortAnswer}
+use Rattle.output_port.specs.declared.event.PortAnswer.TheVariants as answer
+use Rattle.nodes.specs.declared.ports.Wire.{Wire}
+use Rattle.reverse.specs.Sending.{Reply, silent, loss}
+
+-- for each port number the line that the port leads into, if there is such a port, and the port
+pub record PortsState : Type 0 where
+  pub wires : List (Option Wire)
+  pub states : List PortState
+
+-- the line of port q, if there is such a port
+abbrev pub wire_at : PortsState → ℕ → Option Wire
+wire_at ports q = option_and_then (λ wire. wire) (slice_get ports.wires q)
+
+abbrev pub exists : PortsState → ℕ → Bool
+exists ports q = is_some (wire_at ports q)
+
+-- port q, if there is such a port
+abbrev pub port_at : PortsState → ℕ → Option PortState
+port_at ports q = if exists ports q then slice_get ports.states q else None
+
+-- at moment t node n starts the frame at port q: its last bit is carried into the line, and then the port is free
+abbrev pub start : ℕ → ℕ → ℕ → Wire → Frame → Reply
+start n t q wire frame = record {
+  wishes =
+      record { time = t + last_bit_after frame.size wire.byte_ns; receiver = wire.line; body = Carry frame }
+      ∷ record { time = t + busy_for frame.size wire.byte_ns; receiver = n; body = PortFree q }
+      ∷ [];
+  notes = [];
+}
+
+-- what follows from a port's answer: a frame that it starts goes out, and one that it drops is lost
+abbrev pub answered : ℕ → ℕ → ℕ → Wire → PortEvent → PortAnswer → Reply
+answered n t q wire e (answer.Started frame) = start n t q wire frame
+answered n t q wire (Put frame priority) answer.Dropped = loss PortFull frame
+answered n t q wire Free answer.Dropped = silent
+answered n t q wire e answer.Kept = silent
+answered n t q wire e answer.Idle = silent
+answered n t q wire e answer.Nothing = silent
+
+-- port q is asked to do something: nothing changes where there is no such port
+abbrev pub changed_at : ℕ → PortEvent → PortsState → Option Wire → Option PortState → PortsState
+changed_at q e ports (Some wire) (Some p) = record ports { states = slice_set ports.states q (port.after p e) }
+changed_at q e ports (Some wire) None = ports
+changed_at q e ports None p = ports
+
+abbrev pub changed : ℕ → PortEvent → PortsState → PortsState
+changed q e ports = changed_at q e ports (wire_at ports q) (slice_get ports.states q)
+
+-- what then follows
+abbrev pub reply_at : ℕ → ℕ → ℕ → PortEvent → Option Wire → Option PortState → Reply
+reply_at n t q e (Some wire) (Some p) = answered n t q wire e (port.out p e)
+reply_at n t q e (Some wire) None = silent
+reply_at n t q e None p = silent
+
+abbrev pub reply : ℕ → ℕ → ℕ → PortEvent → PortsState → Reply
+reply n t q e ports = reply_at n t q e (wire_at ports q) (slice_get ports.states q)

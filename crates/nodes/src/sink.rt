@@ -1,0 +1,20 @@
+ghost use Rattle.nodes.specs.rules.EndSystem.{sink_number};
+
+use crate::finding::Entry;
+use crate::receiving::Receiving;
+use crate::vl_end::VlEnd;
+
+/// A virtual link at an end system where it ends.
+#[derive(Debug, Drop)]
+pub struct Sink {
+    pub end: VlEnd,
+    pub receiving: Receiving,
+}
+
+impl Entry for Sink {
+    ghost number = { sink_number };
+
+    fn number(&self) -> u16 {
+        self.end.vl.0
+    }
+}
