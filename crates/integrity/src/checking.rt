@@ -7,7 +7,7 @@ use vlink::next_sn;
 
 /// What integrity checking says of a frame.
 #[derive(Clone, Copy, Debug, PartialEq, Eq, Hash)]
-pub enum Check {
+pub enum Checked {
     Passed,
     Refused,
 }
@@ -74,7 +74,7 @@ impl Reversible for Integrity {
 
     type Event = u8;
 
-    type Out = Check;
+    type Out = Checked;
 
     type Record = Option<u8>;
 
@@ -87,13 +87,13 @@ impl Reversible for Integrity {
     ghost undoes = { λ previous number. refl };
 
     #[inline(always)]
-    fn apply(&mut self, event: &u8) -> (Check, Option<u8>) {
+    fn apply(&mut self, event: &u8) -> (Checked, Option<u8>) {
         let number = *event;
         let kept = self.previous;
         let check = if self.passes(number) {
-            Check::Passed
+            Checked::Passed
         } else {
-            Check::Refused
+            Checked::Refused
         };
         self.previous = Some(number);
         (check, kept)

@@ -3,4 +3,4 @@
 
 mod checking;
 
-pub use checking::{Check, Integrity};
+pub use checking::{Checked, Integrity};

@@ -5,7 +5,7 @@ ghost use Rattle.nodes.specs.rules.Finding.{place_of, IsRising};
 use vlink::VlId;
 
 /// What a node has for one virtual link.
-pub trait Entry {
+pub trait Numbered {
     /// The number of the virtual link.
     ghost number: { Self → ℕ };
 
@@ -14,7 +14,7 @@ pub trait Entry {
 }
 
 /// The place of the entry of a virtual link, where their numbers rise.
-pub fn place_of<T: Entry>(entries: &[T], vl: VlId) -> Option<usize>
+pub fn place_of<T: Numbered>(entries: &[T], vl: VlId) -> Option<usize>
     requires { IsRising (map T.number entries.now) }
     ensures place { result ≡ place_of (map T.number entries.now) vl.0 }
     ensures within { IfSome result (λ place. place < length entries.now) }

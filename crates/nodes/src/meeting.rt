@@ -7,7 +7,7 @@ ghost use Rattle.nodes.specs.rules.Meeting.{ports_by, ways_at, meetings};
 ghost use Rattle.nodes.specs.laws.Grouping.{groups, met, all_met};
 ghost use Rattle.nodes.specs.laws.Making.{number_met};
 
-use crate::finding::Entry;
+use crate::finding::Numbered;
 use netdesc::{Network, VirtualLink, Way};
 use std::alloc::{AllocError, Global};
 
@@ -28,7 +28,7 @@ pub struct Meeting {
     pub ports: [bool; 24],
 }
 
-impl Entry for Meeting {
+impl Numbered for Meeting {
     ghost number = { number_met };
 
     fn number(&self) -> u16 {

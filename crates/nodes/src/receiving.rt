@@ -1,13 +1,13 @@
 ghost use Rattle.std.specs.Prelude.{◌≡◌, ◌<◌, length};
 ghost use Rattle.integrity.specs.Integrity.{integrity};
-ghost use Rattle.integrity.specs.declared.checking.Check.TheVariants.{Passed};
+ghost use Rattle.integrity.specs.declared.checking.Checked.TheVariants.{Passed};
 ghost use Rattle.reverse.specs.Sending.{replied};
 ghost use Rattle.nodes.specs.rules.EndSystem.{check_of, checked, received, received_reply, redundant, with_check};
 ghost use Rattle.nodes.specs.undoing.EndSystem.{delivery_kept, unreceived};
 ghost use Rattle.nodes.specs.undoing.EndSystemParts.{ReceivedCameFrom};
 
 use crate::part_record::PartRecord;
-use integrity::{Check, Integrity};
+use integrity::{Checked, Integrity};
 use redundancy::{Delivery, Received, Redundancy};
 use reverse::{Outbound, Reversible};
 use vlink::{Cause, Frame, Net, Note, Time};
@@ -34,8 +34,8 @@ impl Receiving {
     {
         let (verdict, check) = self.check(frame);
         let delivery = match verdict {
-            Check::Passed => Some(self.deliver(at, frame, out)),
-            Check::Refused => {
+            Checked::Passed => Some(self.deliver(at, frame, out)),
+            Checked::Refused => {
                 out.lose(Cause::Integrity, frame);
                 None
             }
@@ -66,7 +66,7 @@ impl Receiving {
 
     /// Integrity checking on the network of the frame.
     #[inline(always)]
-    fn check(&mut self, frame: &Frame) -> (Check, Option<u8>)
+    fn check(&mut self, frame: &Frame) -> (Checked, Option<u8>)
         ensures state { self.new ≡ with_check frame.now.net (integrity.after (check_of frame.now.net self.old) frame.now.number) self.old }
         ensures verdict { result.0 ≡ integrity.out (check_of frame.now.net self.old) frame.now.number }
         ensures kept { result.1 ≡ check_of frame.now.net self.old }

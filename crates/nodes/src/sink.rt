@@ -1,6 +1,6 @@
 ghost use Rattle.nodes.specs.rules.EndSystem.{sink_number};
 
-use crate::finding::Entry;
+use crate::finding::Numbered;
 use crate::receiving::Receiving;
 use crate::vl_end::VlEnd;
 
@@ -11,7 +11,7 @@ pub struct Sink {
     pub receiving: Receiving,
 }
 
-impl Entry for Sink {
+impl Numbered for Sink {
     ghost number = { sink_number };
 
     fn number(&self) -> u16 {

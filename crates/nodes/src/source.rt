@@ -1,6 +1,6 @@
 ghost use Rattle.nodes.specs.rules.EndSystem.{source_number};
 
-use crate::finding::Entry;
+use crate::finding::Numbered;
 use crate::vl_end::VlEnd;
 use bag_regulator::BagRegulator;
 
@@ -11,7 +11,7 @@ pub struct Source {
     pub regulator: BagRegulator,
 }
 
-impl Entry for Source {
+impl Numbered for Source {
     ghost number = { source_number };
 
     fn number(&self) -> u16 {

@@ -1,6 +1,6 @@
 ghost use Rattle.nodes.specs.rules.Switch.{transit_number};
 
-use crate::finding::Entry;
+use crate::finding::Numbered;
 use crate::outputs::Outputs;
 use output_port::Priority;
 use policer::Account;
@@ -21,7 +21,7 @@ pub struct Transit {
     pub account: Account,
 }
 
-impl Entry for Transit {
+impl Numbered for Transit {
     ghost number = { transit_number };
 
     fn number(&self) -> u16 {

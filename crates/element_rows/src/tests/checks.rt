@@ -1,7 +1,7 @@
 //! Integrity checking in hand: the number of a frame received.
 use crate::tests::playing::Played;
 use crate::tests::words::{byte, numbers};
-use integrity::{Check, Integrity};
+use integrity::{Checked, Integrity};
 use std::alloc::AllocError;
 use std::fmt::Write;
 
@@ -15,7 +15,7 @@ impl Played for Integrity {
         true
     }
 
-    fn tell_answer(answer: &Check, told: &mut String) -> Result<(), AllocError> {
+    fn tell_answer(answer: &Checked, told: &mut String) -> Result<(), AllocError> {
         write!(told, "{answer:?} ")
     }
 

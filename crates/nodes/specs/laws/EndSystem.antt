@@ -18,8 +18,8 @@ use Rattle.output_port.specs.declared.event.PortEvent.TheVariants.{Free}
 use Rattle.output_port.specs.declared.event.Priority.TheVariants.{Low}
 use Rattle.output_port.specs.declared.event.PutRecord.{PutRecord}
 use Rattle.integrity.specs.Integrity.{integrity}
-use Rattle.integrity.specs.declared.checking.Check.{Check}
-use Rattle.integrity.specs.declared.checking.Check.TheVariants as check
+use Rattle.integrity.specs.declared.checking.Checked.{Checked}
+use Rattle.integrity.specs.declared.checking.Checked.TheVariants as check
 use Rattle.nodes.specs.declared.part_record.PartRecord.TheVariants as kept
 use Rattle.nodes.specs.declared.vl_end.VlEnd.{VlEnd}
 use Rattle.nodes.specs.declared.receiving.Receiving.{Receiving}
@@ -94,7 +94,7 @@ received-undone : (t : ℕ) (frame : Frame) (r : Receiving) →
     unreceived frame.net (check_of frame.net r) (delivery_kept r (integrity.out (check_of frame.net r) frame.number)) (received t frame r) ≡ r
 received-undone t frame r = go frame.net (integrity.out (check_of frame.net r) frame.number)
   where
-    go : (net : Net) (c : Check) → unreceived net (check_of net r) (delivery_kept r c)
+    go : (net : Net) (c : Checked) → unreceived net (check_of net r) (delivery_kept r c)
         (redundant t frame (with_check net (integrity.after (check_of net r) frame.number) r) c) ≡ r
     go A check.Passed = refl
     go A check.Refused = refl

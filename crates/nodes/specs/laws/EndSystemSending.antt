@@ -17,8 +17,8 @@ use Rattle.bag_regulator.specs.declared.event.RegAnswer.{RegAnswer}
 use Rattle.bag_regulator.specs.declared.event.RegAnswer.TheVariants as answer
 use Rattle.output_port.specs.declared.event.PortEvent.TheVariants.{Free}
 use Rattle.integrity.specs.Integrity.{integrity}
-use Rattle.integrity.specs.declared.checking.Check.{Check}
-use Rattle.integrity.specs.declared.checking.Check.TheVariants as check
+use Rattle.integrity.specs.declared.checking.Checked.{Checked}
+use Rattle.integrity.specs.declared.checking.Checked.TheVariants as check
 use Rattle.redundancy.specs.Redundancy.{redundancy}
 use Rattle.redundancy.specs.declared.delivery.Delivery.{Delivery}
 use Rattle.redundancy.specs.declared.delivery.Delivery.TheVariants as delivery
@@ -51,7 +51,7 @@ received-quiet t frame r = go (integrity.out (check_of frame.net r) frame.number
     by_delivery delivery.Delivered = refl
     by_delivery delivery.Duplicate = loss-quiet Duplicate frame
 
-    go : (c : Check) → IsQuiet (checked t frame r c)
+    go : (c : Checked) → IsQuiet (checked t frame r c)
     go check.Passed = by_delivery (redundancy.out r.redundancy (record { number = frame.number; at = t }))
     go check.Refused = loss-quiet Integrity frame
 

@@ -19,8 +19,8 @@ use Rattle.output_port.specs.declared.event.PortEvent.{PortEvent}
 use Rattle.output_port.specs.declared.event.PortEvent.TheVariants.{Put, Free}
 use Rattle.output_port.specs.declared.event.Priority.TheVariants.{Low}
 use Rattle.integrity.specs.Integrity.{integrity}
-use Rattle.integrity.specs.declared.checking.Check.{Check}
-use Rattle.integrity.specs.declared.checking.Check.TheVariants as check
+use Rattle.integrity.specs.declared.checking.Checked.{Checked}
+use Rattle.integrity.specs.declared.checking.Checked.TheVariants as check
 use Rattle.redundancy.specs.Redundancy.{redundancy}
 use Rattle.redundancy.specs.declared.delivery.Delivery.{Delivery}
 use Rattle.redundancy.specs.declared.delivery.Delivery.TheVariants as delivery
@@ -150,7 +150,7 @@ with_check A c r = record r { a = c }
 with_check B c r = record r { b = c }
 
 -- what a frame makes of the checks of its virtual link: redundancy management sees it only if it passes the check of its network
-abbrev pub redundant : ℕ → Frame → Receiving → Check → Receiving
+abbrev pub redundant : ℕ → Frame → Receiving → Checked → Receiving
 redundant t frame r check.Refused = r
 redundant t frame r check.Passed = record r { redundancy = redundancy.after r.redundancy (record { number = frame.number; at = t }) }
 
@@ -164,7 +164,7 @@ abbrev pub delivered : ℕ → Frame → Delivery → Reply
 delivered t frame delivery.Delivered = record { wishes = []; notes = Delivered frame.vl (t - frame.offered) ∷ [] }
 delivered t frame delivery.Duplicate = loss Duplicate frame
 
-abbrev pub checked : ℕ → Frame → Receiving → Check → Reply
+abbrev pub checked : ℕ → Frame → Receiving → Checked → Reply
 checked t frame r check.Refused = loss Integrity frame
 checked t frame r check.Passed = delivered t frame (redundancy.out r.redundancy (record { number = frame.number; at = t }))
 

@@ -16,8 +16,8 @@ use Rattle.output_port.specs.declared.event.PortEvent.TheVariants.{Free}
 use Rattle.output_port.specs.declared.event.Priority.TheVariants.{Low}
 use Rattle.output_port.specs.declared.event.PutRecord.{PutRecord}
 use Rattle.integrity.specs.Integrity.{integrity}
-use Rattle.integrity.specs.declared.checking.Check.{Check}
-use Rattle.integrity.specs.declared.checking.Check.TheVariants as check
+use Rattle.integrity.specs.declared.checking.Checked.{Checked}
+use Rattle.integrity.specs.declared.checking.Checked.TheVariants as check
 use Rattle.nodes.specs.declared.part_record.PartRecord.{PartRecord}
 use Rattle.nodes.specs.declared.part_record.PartRecord.TheVariants as kept
 use Rattle.nodes.specs.declared.vl_end.VlEnd.{VlEnd}
@@ -48,7 +48,7 @@ regulated_kept e s (Some found) =
     regulated_kept_by (regulator.saves source.regulator e) source.end (regulator.out source.regulator e).answer s.ports
 
 -- a frame has come, and the check of its network says this of it
-abbrev pub delivery_kept : Receiving → Check → Option (Option (ℕ × ℕ))
+abbrev pub delivery_kept : Receiving → Checked → Option (Option (ℕ × ℕ))
 delivery_kept r check.Refused = None
 delivery_kept r check.Passed = Some r.redundancy.last
 

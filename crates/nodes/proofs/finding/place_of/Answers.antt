@@ -11,5 +11,5 @@ returns-clause-within g c =
 pub returns-clause-place : goal.returns-clause-place
 returns-clause-place g c =
     let searched = c.binary_search_by_key.ensures in
-    let by_number = searched.position g.T.Entry.number (answers_always _ _ _ (λ f a r g called. search rules)) in
-    c.ok.ensures.value ∙ place-searched g.T.Entry.number c.args.entries.now c.args.vl.0 c.binary_search_by_key.result c.requires searched.bound by_number
+    let by_number = searched.position g.T.Numbered.number (answers_always _ _ _ (λ f a r g called. search rules)) in
+    c.ok.ensures.value ∙ place-searched g.T.Numbered.number c.args.entries.now c.args.vl.0 c.binary_search_by_key.result c.requires searched.bound by_number

@@ -1,8 +1,8 @@
 use Rattle.std.proofs.Common.{◌≡◌, ◌↔◌, ◌+◌, ◌<◌, ℕ, suc, Bool, List, [], IsTrue, subst, arith}
 use Rattle.virtual_time.specs.Safe.{IsFinished}
 use Rattle.virtual_time.specs.World.{Step}
-use Rattle.nodes.specs.NodeUndoing.{IsNodeValue}
-use Rattle.nodes.specs.Simulation.{simulation_of}
+use Rattle.nodes.specs.undoing.Node.{IsNodeValue}
+use Rattle.nodes.specs.rules.Simulation.{simulation_of}
 use Rattle.seqsim.specs.Networks.{setting_of}
 use Rattle.timewarp.specs.Networks.{NetworkWorld, after, IsAfter}
 use Rattle.actor_world.proofs.Finishing.{is-finished}
