@@ -8,10 +8,9 @@ ghost use Rattle.afdxsim.specs.Reading.{GivesNetwork, IsFaultOfNet};
 
 use crate::fault::Fault;
 use crate::host::Host;
-use crate::reading::described_of;
-use netdesc::Described;
+use crate::reading::network_of;
+use netdesc::Network;
 use std::alloc::{AllocError, Global};
-use std::mem::forget;
 use trace_tables::{Sink, write_all};
 use traffic::offer_count;
 
@@ -28,7 +27,7 @@ fn counts_line(
 }
 
 /// What is said of a network that is accepted: how many processes, virtual links and offers it has.
-fn line_of(alloc: Global, network: &Described) -> Result<String, AllocError>
+fn line_of(alloc: Global, network: &Network) -> Result<String, AllocError>
     ensures { IfOk result (λ line. string_bytes line ≡ check_text network.now) }
 {
     let processes = network.process_count();
@@ -39,7 +38,7 @@ fn line_of(alloc: Global, network: &Described) -> Result<String, AllocError>
 /// Writes what is said of a network that is accepted.
 fn show_counts<O: Sink>(
     alloc: Global,
-    network: &Described,
+    network: &Network,
     output: &mut O,
 ) -> Result<(), Fault<'static>>
     ensures text { OnOk result (Took O.taken output.old output.new (check_text network.now)) }
@@ -53,8 +52,8 @@ fn show_counts<O: Sink>(
     }
 }
 
-/// Judges the description in the file with this path, and tells on standard output what it describes. Nothing is run, so the tables and the
-/// list of offers that a run takes are not made.
+/// Judges the description in the file with this path, and tells on standard output what it describes. Nothing is run: its offers are counted,
+/// and no list of them is made.
 pub fn check<'a, H: Host>(alloc: Global, net: &'a str, host: &mut H) -> Result<(), Fault<'a>>
     ensures text { OnOk result ((plan : Plan) × GivesNetwork (H.gives host.old net.entry.now) plan ×
         Took H.Output.taken (H.output host.old) (H.output host.new) (check_text plan)) }
@@ -63,9 +62,6 @@ pub fn check<'a, H: Host>(alloc: Global, net: &'a str, host: &mut H) -> Result<(
     ensures kept { IfErr result (λ fault. fault ≢ CannotWrite → H.output host.new ≡ H.output host.old) }
     ensures errors { H.errors host.new ≡ H.errors host.old }
 {
-    let network = described_of(alloc, net, host)?;
-    let shown = show_counts(alloc, &network, host.output());
-    // The process ends here, and the system takes the network at once.
-    forget(network);
-    shown
+    let network = network_of(alloc, net, host)?;
+    show_counts(alloc, &network, host.output())
 }

@@ -5,9 +5,8 @@ ghost use Rattle.afdxsim.specs.Reading.{GivesNetwork, IsFaultOfFile, IsFaultOfNe
 
 use crate::fault::Fault;
 use crate::host::{Host, ReadFault};
-use netdesc::{DescFault, Described, Network, read_described, read_with_remains};
+use netdesc::{DescFault, Network, read};
 use std::alloc::Global;
-use std::mem::forget;
 use std::str;
 
 /// The text that these bytes are.
@@ -21,27 +20,13 @@ fn text_in(bytes: &[u8]) -> Result<&str, Fault<'static>>
     }
 }
 
-/// The network that these bytes describe, without the tables that a run takes.
-pub fn described_in(alloc: Global, bytes: &[u8]) -> Result<Described, Fault<'static>>
-    ensures sound { OnOk result (faults_of_description bytes.now ≡ []) }
-    ensures network { IfOk result (Describes bytes.now) }
-    ensures fault { IfErr result (TellsOf bytes.now) }
-{
-    let (described, remains) = read_described(alloc, text_in(bytes)?)?;
-    // The system takes it at the end of the process at once. Piece by piece that takes longer than the tables did.
-    forget(remains);
-    Ok(described)
-}
-
 /// The network that these bytes describe.
 pub fn network_in(alloc: Global, bytes: &[u8]) -> Result<Network, Fault<'static>>
     ensures sound { OnOk result (faults_of_description bytes.now ≡ []) }
     ensures network { IfOk result (Describes bytes.now) }
     ensures fault { IfErr result (TellsOf bytes.now) }
 {
-    let (network, remains) = read_with_remains(alloc, text_in(bytes)?)?;
-    forget(remains);
-    Ok(network)
+    Ok(read(alloc, text_in(bytes)?)?)
 }
 
 /// The bytes of the file with this path.
@@ -73,18 +58,4 @@ pub fn network_of<'a, H: Host>(
 {
     let bytes = bytes_of(alloc, path, host)?;
     network_in(alloc, bytes.as_slice())
-}
-
-/// The network that the file with this path describes, without the tables that a run takes.
-pub fn described_of<'a, H: Host>(
-    alloc: Global,
-    path: &'a str,
-    host: &mut H,
-) -> Result<Described, Fault<'a>>
-    ensures network { IfOk result (GivesNetwork (H.gives host.old path.entry.now)) }
-    ensures fault { IfErr result (IsFaultOfNet (H.gives host.old path.entry.now) path.entry.now) }
-    ensures host { host.new ≡ host.old }
-{
-    let bytes = bytes_of(alloc, path, host)?;
-    described_in(alloc, bytes.as_slice())
 }

@@ -6,7 +6,6 @@ use crate::reading::{bytes_of, network_of};
 use crate::seq::show_tables;
 use crate::telling::say;
 use std::alloc::Global;
-use std::mem::forget;
 
 /// Does the journal in the file with the path `steps` on the network whose description is the file with the path `net`. The
 /// description is read and judged before the journal is read. Then the tables of the committed events go to standard output, and then
@@ -27,7 +26,5 @@ pub fn replay<'a, H: Host>(
         host.output(),
     )?;
     say(account.line.as_str(), host.errors());
-    // The process ends here, and the system takes the world at once.
-    forget(account);
     Ok(())
 }

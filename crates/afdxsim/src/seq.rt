@@ -11,9 +11,8 @@ use crate::fault::Fault;
 use crate::host::Host;
 use crate::reading::network_of;
 use netdesc::Network;
-use seqsim::{Finished, run, run_tables_with_remains};
+use seqsim::{Finished, run, run_tables};
 use std::alloc::Global;
-use std::mem::forget;
 use trace_tables::{OutFault, Sink, Tables, write_csv, write_trace};
 use vlink::Row;
 
@@ -77,10 +76,7 @@ fn tables_of_run(alloc: Global, network: &Network) -> Result<Tables, Fault<'stat
     ensures text { IfOk result (λ tables. IsTablesText network.now (tables_text network.now tables)) }
     ensures fault { IfErr result (IsFaultOfRun network.now) }
 {
-    let (tables, remains) = run_tables_with_remains(alloc, network)?;
-    // The process ends soon, and the system takes at once what piece by piece takes longer.
-    forget(remains);
-    Ok(tables)
+    Ok(run_tables(alloc, network)?)
 }
 
 /// The one-thread run of the network, with its rows.
@@ -141,11 +137,8 @@ pub fn seq<'a, H: Host>(
     ensures errors { H.errors host.new ≡ H.errors host.old }
 {
     let network = network_of(alloc, net, host)?;
-    let shown = match trace {
+    match trace {
         Some(path) => run_to_trace(alloc, &network, path, host),
         None => run_to_tables(alloc, &network, host),
-    };
-    // The process ends here, and the system takes the network at once.
-    forget(network);
-    shown
+    }
 }

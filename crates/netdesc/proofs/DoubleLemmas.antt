@@ -1,10 +1,12 @@
 -- Numbers that are there twice.
-use Rattle.std.proofs.Common.{◌≡◌, ℕ, ◌+◌, ◌<◌, Bool, true, false, ◌==◌, ◌||◌, List, [], ◌∷◌, ◌++◌, length, take, drop, get_or, refl, ap, sym, ◌∙◌}
+use Rattle.std.proofs.Common.{◌≡◌, ℕ, ◌+◌, ◌<◌, Bool, true, false, cond, ◌==◌, ◌||◌, List, [], ◌∷◌, ◌++◌, length, take, drop, get_or, refl, ap, sym, ◌∙◌}
 use Rattle.std.specs.List.{list_any}
+use Rattle.std.specs.Ordering.{nat_cmp}
+use Rattle.std.specs.BTreeSet.{BTreeSet, contains, Updates}
 use Rattle.std.proofs.lemmas.List.{take_more, take-append-drop}
 use Rattle.std.proofs.lemmas.List.Folds.{list_any-append}
 use Rattle.netdesc.specs.Trees.{has_double}
-use Rattle.netdesc.proofs.JoinLemmas.{==-flip}
+use Rattle.netdesc.proofs.JoinLemmas.{==-flip, is_eq-nat_cmp}
 
 regroup : (a e h b f : Bool) → e ≡ f → ((a || (e || false)) || (h || b)) ≡ ((a || h) || (f || b))
 regroup true e h b f same = refl
@@ -43,3 +45,14 @@ has_double-front (x ∷ xs) ys h =
 
 pub has_double-taken : (xs : List ℕ) (i : ℕ) → has_double (take i xs) ≡ true → has_double xs ≡ true
 has_double-taken xs i h = ap has_double (sym (take-append-drop i xs)) ∙ has_double-front (take i xs) (drop i xs) h
+
+-- a set with one number more
+pub contains-put : (old new : BTreeSet ℕ) (n : ℕ) → Updates nat_cmp old new n true → (m : ℕ) → contains nat_cmp new m ≡ (contains nat_cmp old m || (n == m))
+contains-put old new n put m =
+    put.0 m ∙ ap (λ b. cond b true (contains nat_cmp old m)) (is_eq-nat_cmp n m) ∙ or-of (n == m) (contains nat_cmp old m)
+  where
+    or-of : (b c : Bool) → cond b true c ≡ (c || b)
+    or-of true true = refl
+    or-of true false = refl
+    or-of false true = refl
+    or-of false false = refl

@@ -5,10 +5,11 @@ use Rattle.std.proofs.lemmas.List.{take_more, append-nil, take-append-drop, drop
 use Rattle.std.specs.List.{list_any, count_by}
 use Rattle.std.proofs.lemmas.Bool.{cases_Bool}
 use Rattle.std.proofs.lemmas.List.Sums.{count_by_more_yes, count_by_more_no}
-use Rattle.std.proofs.lemmas.List.Folds.{list_any-append}
+use Rattle.std.proofs.lemmas.List.Elements.{Contains-get_or}
+use Rattle.std.proofs.lemmas.List.Folds.{list_any-append, list_any-from_Any}
 use Rattle.network_rows.specs.declared.fault.DescFault.{DescFault}
-use Rattle.netdesc.specs.Rows.{each, each_after}
-use Rattle.netdesc.specs.Finding.{Tells}
+use Rattle.netdesc.specs.Rows.{each, each_after, when}
+use Rattle.netdesc.specs.Faults.{Tells}
 
 pub each_after-append : {X Y : Type 0} (f : List X → X → List Y) (earlier xs ys : List X) → each_after f earlier (xs ++ ys) ≡ each_after f earlier xs ++ each_after f (earlier ++ xs) ys
 each_after-append f earlier [] ys = ap (λ e. each_after f e ys) (sym (append-nil earlier))
@@ -40,6 +41,17 @@ Tells-front fault xs ys (inr h) = inr (first-append xs ys fault h)
 
 pub Tells-behind : (fault : DescFault) (xs ys : List DescFault) → xs ≡ [] → Tells fault ys → Tells fault (xs ++ ys)
 Tells-behind fault xs ys none h = rw none h
+
+-- what is told of one item that fails a test is told of them all
+pub Tells-any : {X : Type 0} (p : X → Bool) (xs : List X) (i : ℕ) (d : X) (fault at : DescFault) → i < length xs → Tells fault (when (p (get_or xs i d)) at) → Tells fault (when (list_any p xs) at)
+Tells-any p xs i d fault at lt told = elim (cases_Bool (p (get_or xs i d))) [
+  | inl fails ↦ (let there = Contains-get_or xs i d lt in rw (list_any-from_Any p xs (there.0, get_or xs i d, there.1, there.2, fails)) (rw fails at told))
+  | inr passes ↦ no-fault (rw passes at told)
+]
+  where
+    no-fault : Tells fault [] → Tells fault (when (list_any p xs) at)
+    no-fault (inl memory) = inl memory
+    no-fault (inr none) = cc
 
 -- no row up to one has a fault
 pub each-none : {X : Type 0} (f : List X → X → List DescFault) (xs : List X) (i : ℕ) (d : X) → i < length xs → each f (take i xs) ≡ [] → f (take i xs) (get_or xs i d) ≡ [] → each f (take (i + 1) xs) ≡ []

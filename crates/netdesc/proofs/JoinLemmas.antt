@@ -8,7 +8,7 @@ use Rattle.std.proofs.lemmas.Bool.{false≢true}
 use Rattle.std.proofs.lemmas.Bool.Decides.{nat_tests}
 use Rattle.netdesc.specs.declared.wiring.Link.{Link}
 use Rattle.netdesc.specs.Wiring.{goes, joins, link_between}
-use Rattle.netdesc.specs.Finding.{pair_cmp, AreJoined}
+use Rattle.netdesc.specs.Code.Finding.{pair_cmp, AreJoined}
 use Rattle.netdesc.proofs.PlaceLemmas.{or_else, or_else-none, place_by-push, place_by-same, none_of}
 
 is_eq-then : (o p : Ordering) → is_eq (ordering_then o p) ≡ (is_eq o && is_eq p)

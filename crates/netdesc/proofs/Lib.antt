@@ -13,7 +13,7 @@ pub mod SourceLemmas
 pub mod OrderLemmas
 pub mod MemberLemmas
 pub mod RisingLaw
-pub mod StepLemmas
+pub mod HopLemmas
 pub mod LineLemmas
 pub mod RouteLemmas
 pub mod SwitchLemmas

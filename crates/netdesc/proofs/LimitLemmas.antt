@@ -14,7 +14,7 @@ use Rattle.network_rows.specs.declared.rows.NodeRow.{NodeRow}
 use Rattle.network_rows.specs.declared.rows.VlRow.{VlRow}
 use Rattle.network_rows.specs.Kinds.{is_within}
 use Rattle.network_rows.specs.Within.{IsNodeWithin, IsNodeKindWithin, IsVlWithin}
-use Rattle.netdesc.specs.declared.vl.VirtualLink.{VirtualLink}
+use Rattle.netdesc.specs.declared.plan.VirtualLink.{VirtualLink}
 use Rattle.netdesc.specs.Names.{names_of}
 use Rattle.netdesc.specs.Plan.{Plan, NodePlan, VlPlan, node_plan, vl_plan, virtual_link}
 use Rattle.netdesc.specs.Accepted.{IsAccepted}

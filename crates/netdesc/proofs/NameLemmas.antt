@@ -1,5 +1,5 @@
 -- A map from names to numbers, one name after another.
-use Rattle.std.proofs.Common.{◌≡◌, ℕ, ◌==◌, set, add-one, get_or-set_same, get_or-set_other, zero, suc, ◌+◌, ◌<◌, ◌≤◌, Bool, true, false, cond, List, [], ◌∷◌, ◌++◌, length, take, get_or, map, Option, Some, None, is_some, IfSome, unwrap_or, refl, ap, sym, subst, ◌∙◌, arith, inl, inr}
+use Rattle.std.proofs.Common.{◌≡◌, ℕ, zero, suc, ◌+◌, ◌<◌, Bool, true, false, cond, List, [], ◌∷◌, ◌++◌, length, take, get_or, map, Option, Some, None, is_some, IfSome, unwrap_or, refl, ap, sym, ◌∙◌, arith, inl, inr}
 use Rattle.std.specs.Str.{bytes_eq}
 use Rattle.std.specs.Cmp.Lexicographic.{slice_cmp}
 use Rattle.std.specs.Ordering.{nat_cmp}
@@ -12,12 +12,9 @@ use Rattle.std.proofs.lemmas.List.{take_more, map-append, length-map, length-tak
 use Rattle.std.proofs.lemmas.Map.Text.{btree_map_updates_str}
 use Rattle.network_rows.specs.declared.rows.NodeRow.{NodeRow}
 use Rattle.netdesc.specs.Plan.{node_plan}
-use Rattle.netdesc.specs.Names.{names_of, is_among, place_among, number_of}
-use Rattle.netdesc.specs.Finding.{AreNumbers}
-use Rattle.netdesc.specs.Rows.{place_by}
-use Rattle.std.specs.Option.{option_map}
-use Rattle.std.proofs.lemmas.Bool.Decides.{nat_tests}
-use Rattle.netdesc.proofs.PlaceLemmas.{or_else, or_else-none, place_by-push, place_by-at, place_by-early}
+use Rattle.netdesc.specs.Names.{names_of, place_among, number_of}
+use Rattle.netdesc.specs.Code.Finding.{AreNumbers}
+use Rattle.netdesc.proofs.PlaceLemmas.{or_else, or_else-none, place_by-push}
 
 -- equal texts, tested from either side
 pub bytes_eq-flip : (x y : List ℕ) → bytes_eq x y ≡ bytes_eq y x

@@ -14,7 +14,7 @@ use Rattle.network_rows.specs.declared.rows.Rate.TheVariants.{Mbit10, Mbit100}
 use Rattle.network_rows.specs.Within.{IsLinkWithin}
 use Rattle.netdesc.specs.Limits.{greatest_ports}
 use Rattle.netdesc.specs.declared.wiring.Link.{Link}
-use Rattle.netdesc.specs.declared.wiring.Line.{Line}
+use Rattle.netdesc.specs.declared.wiring.Direction.{Direction}
 use Rattle.netdesc.specs.Rows.{each, each_after}
 use Rattle.netdesc.specs.Names.{names_of}
 use Rattle.netdesc.specs.Plan.{Plan, NodePlan, link_plan, byte_ns_of, plan_of}
@@ -36,7 +36,7 @@ pub record AreTimesWithin (byte_ns propagation_ns : ℕ) : Type 0 where
 abbrev pub IsLinkTimely : Link → Type 0
 IsLinkTimely link = AreTimesWithin link.byte_ns link.propagation_ns
 
-pub record IsLineWithin (line : Line) : Type 0 where
+pub record IsLineWithin (line : Direction) : Type 0 where
   pub times : AreTimesWithin line.byte_ns line.propagation_ns
   pub from_port : line.from_port < greatest_ports
   pub to_port : line.to_port < greatest_ports
@@ -120,7 +120,7 @@ lines-within nodes earlier (link ∷ links) few ends times =
     )
 
 -- the line that is read in an accepted network
-pub line-within : (plan : Plan) (k : ℕ) (line : Line) → IsAccepted plan → slice_get (lines_of plan) k ≡ Some line → IsLineWithin line
+pub line-within : (plan : Plan) (k : ℕ) (line : Direction) → IsAccepted plan → slice_get (lines_of plan) k ≡ Some line → IsLineWithin line
 line-within plan k line accepted read =
     let rows = accepted.rows in
     let stands = accepted.stands in

@@ -7,43 +7,43 @@ use Rattle.std.proofs.lemmas.Option.{none-some, same_Some}
 use Rattle.std.proofs.lemmas.Bool.Decides.{nat_tests}
 use Rattle.vlink.specs.declared.frame.Net.{Net}
 use Rattle.vlink.specs.declared.frame.VlId.{VlId}
-use Rattle.netdesc.specs.declared.wiring.Line.{Line}
+use Rattle.netdesc.specs.declared.wiring.Direction.{Direction}
 use Rattle.netdesc.specs.declared.wiring.Way.{Way}
 use Rattle.netdesc.specs.Plan.{Plan, VlPlan}
-use Rattle.netdesc.specs.Trees.{all_steps}
+use Rattle.netdesc.specs.Trees.{all_hops}
 use Rattle.netdesc.specs.Lines.{lines_of, line_between, lines_over, route_over, out_at, in_at, ways_over, leaves, comes_in, arrivals_of, departures_of}
 use Rattle.netdesc.specs.PortLaws.{IsInput, IsOutput, Precedes, Faces, FacesPredecessor, FacesSuccessor, IsArrival, IsDeparture}
 use Rattle.netdesc.proofs.MemberLemmas.{Has, has-from_contains, contains-from_has, has-option, option-has, has-flat_map, flat_map-has, has-rising, rising-has}
-use Rattle.netdesc.proofs.StepLemmas.{step, step-of-both, both-of-step}
+use Rattle.netdesc.proofs.HopLemmas.{hop, hop-of-both, both-of-hop}
 use Rattle.netdesc.proofs.JoinLemmas.{link_between-flip}
 use Rattle.netdesc.proofs.LineLemmas.{AreLinks, line-of, has-line, faced-place, one-port}
 
 -- the virtual link goes over this line, whose ports face its nodes
-record IsOver (plan : Plan) (vl : VlPlan) (line : Line) : Type 0 where
+record IsOver (plan : Plan) (vl : VlPlan) (line : Direction) : Type 0 where
   net : Net
   precedes : Precedes net vl line.from line.to
   out : Faces plan line.from line.from_port line.to
   in' : Faces plan line.to line.to_port line.from
 
 -- a way is made of such a line
-record IsWayOver (plan : Plan) (vl : VlPlan) (at : Line → Option Way) (way : Way) : Type 0 where
-  line : Line
+record IsWayOver (plan : Plan) (vl : VlPlan) (at : Direction → Option Way) (way : Way) : Type 0 where
+  line : Direction
   over : IsOver plan vl line
   made : at line ≡ Some way
 
-module _ (plan : Plan) (vl : VlPlan) (at : Line → Option Way) where
+module _ (plan : Plan) (vl : VlPlan) (at : Direction → Option Way) where
   way-over : (way : Way) → Has (ways_over at (lines_of plan) (route_over plan.links vl)) way → IsWayOver plan vl at way
   way-over way there =
       let (k, on_route, made) = flat_map-has (λ k. option_to_list (option_and_then at (slice_get (lines_of plan) k))) (route_over plan.links vl) way there in
-      let (s, taken, over) = flat_map-has (lines_over plan.links) (all_steps vl.a ++ all_steps vl.b) k (rising-has _ k on_route) in
-      let is_step = both-of-step vl s taken in
+      let (s, taken, over) = flat_map-has (lines_over plan.links) (all_hops vl.a ++ all_hops vl.b) k (rising-has _ k on_route) in
+      let is_hop = both-of-hop vl s taken in
       let is_line = line-of plan s.from s.to k (option-has (line_between plan.links s.from s.to) k over) in
       let found : option_and_then at (slice_get (lines_of plan) k) ≡ Some way = option-has (option_and_then at (slice_get (lines_of plan) k)) way made in
       record {
         line = is_line.line;
         over = record {
-          net = is_step.net;
-          precedes = subst (λ n. Precedes is_step.net vl is_line.line.from n) (sym is_line.to) (subst (λ n. Precedes is_step.net vl n s.to) (sym is_line.from) is_step.precedes);
+          net = is_hop.net;
+          precedes = subst (λ n. Precedes is_hop.net vl is_line.line.from n) (sym is_line.to) (subst (λ n. Precedes is_hop.net vl n s.to) (sym is_line.from) is_hop.precedes);
           out = subst (λ n. Faces plan is_line.line.from is_line.line.from_port n) (sym is_line.to) (subst (λ n. Faces plan n is_line.line.from_port s.to) (sym is_line.from) is_line.out);
           in' = subst (λ n. Faces plan is_line.line.to is_line.line.to_port n) (sym is_line.from) (subst (λ n. Faces plan n is_line.line.to_port s.from) (sym is_line.to) is_line.in');
         };
@@ -54,7 +54,7 @@ module _ (plan : Plan) (vl : VlPlan) (at : Line → Option Way) where
       → Has (ways_over at (lines_of plan) (route_over plan.links vl)) way
   over-way net x y k way precedes between made =
       let on_route : Has (route_over plan.links vl) k =
-      has-rising _ k (has-flat_map (lines_over plan.links) (all_steps vl.a ++ all_steps vl.b) (step x y) k (step-of-both net vl x y precedes) (has-option (line_between plan.links x y) k between)) in
+      has-rising _ k (has-flat_map (lines_over plan.links) (all_hops vl.a ++ all_hops vl.b) (hop x y) k (hop-of-both net vl x y precedes) (has-option (line_between plan.links x y) k between)) in
       has-flat_map (λ k. option_to_list (option_and_then at (slice_get (lines_of plan) k))) (route_over plan.links vl) k way on_route
       (has-option (option_and_then at (slice_get (lines_of plan) k)) way made)
 

@@ -17,7 +17,7 @@ use Rattle.netdesc.specs.Accepted.{IsAccepted}
 use Rattle.netdesc.specs.PortLaws.{paths_on}
 use Rattle.netdesc.proofs.EachLemmas.{each_after-append}
 use Rattle.netdesc.proofs.BuildLemmas.{front-none, behind-none, when-none}
-use Rattle.netdesc.proofs.StepLemmas.{or-left, or-right}
+use Rattle.netdesc.proofs.HopLemmas.{or-left, or-right}
 use Rattle.netdesc.proofs.LineLemmas.{AreLinks}
 use Rattle.netdesc.proofs.SwitchLemmas.{IsRouted}
 

@@ -9,13 +9,13 @@ use Rattle.network_rows.specs.declared.rows.NodeKind.TheVariants.{EndSystem, Swi
 use Rattle.netdesc.specs.declared.wiring.Link.{Link}
 use Rattle.netdesc.specs.Plan.{Plan, NodePlan, VlPlan}
 use Rattle.netdesc.specs.Wiring.{passes, is_same_net, is_switch_kind, is_end_system, is_switch_of, is_linked, is_no_link, goes}
-use Rattle.netdesc.specs.Trees.{is_bad_path, is_no_tree, has_other_way, all_steps}
+use Rattle.netdesc.specs.Trees.{is_bad_path, is_no_tree, has_other_way, all_hops}
 use Rattle.netdesc.specs.Faults.{is_gap, has_gap}
 use Rattle.netdesc.specs.PortLaws.{paths_on, IsInput, Precedes, Faces, GoesThrough, ExactlyOne, port_for}
 use Rattle.netdesc.proofs.MemberLemmas.{Has, has-from_contains}
 use Rattle.netdesc.proofs.BuildLemmas.{not-false}
 use Rattle.netdesc.proofs.JoinLemmas.{goes-true}
-use Rattle.netdesc.proofs.StepLemmas.{step, step-on, or-left, or-right, none-has, is-switch, has-predecessor, from-there, to-there, one-way}
+use Rattle.netdesc.proofs.HopLemmas.{hop, hop-on, or-left, or-right, none-has, is-switch, has-predecessor, from-there, to-there, one-way}
 use Rattle.netdesc.proofs.LineLemmas.{AreLinks, IsLineOf, line-of, has-line, linked-place, one-port}
 use Rattle.netdesc.proofs.RouteLemmas.{input-faces, faces-input}
 
@@ -51,8 +51,8 @@ module _ (plan : Plan) (vl : VlPlan) (routed : IsRouted plan vl) (net : Net) whe
   good : (path : List ℕ) → Has (paths_on net vl) path → is_bad_path plan.nodes net path ≡ false
   good path there = none-has (is_bad_path plan.nodes net) (paths_on net vl) path (or-left _ _ (or-left _ _ (or-left _ _ (routed.trees net)))) there
 
-  tree : has_other_way (all_steps (paths_on net vl)) ≡ false
-  tree = or-right _ (has_other_way (all_steps (paths_on net vl))) (routed.trees net)
+  tree : has_other_way (all_hops (paths_on net vl)) ≡ false
+  tree = or-right _ (has_other_way (all_hops (paths_on net vl))) (routed.trees net)
 
   switch-from : (x y : ℕ) → Precedes net vl x y → is_end_system plan.nodes x ≡ false → is_switch_of plan.nodes net x ≡ true
   switch-from x y precedes no_end =
@@ -63,11 +63,11 @@ module _ (plan : Plan) (vl : VlPlan) (routed : IsRouted plan vl) (net : Net) whe
       is-switch plan.nodes net precedes.path (good precedes.path (has-from_contains _ _ precedes.is_path)) y (to-there precedes.path x y precedes.neighbours) no_end
 
   one-predecessor : (x z y : ℕ) → Precedes net vl x y → Precedes net vl z y → x ≡ z
-  one-predecessor x z y one other = one-way (all_steps (paths_on net vl)) (step x y) (step z y) tree (step-on net vl x y one) (step-on net vl z y other) refl
+  one-predecessor x z y one other = one-way (all_hops (paths_on net vl)) (hop x y) (hop z y) tree (hop-on net vl x y one) (hop-on net vl z y other) refl
 
   neighbour-line : (x y : ℕ) → Precedes net vl x y → (k : ℕ) × IsLineOf plan x y k
   neighbour-line x y precedes =
-      let linked : is_linked plan.links x y ≡ true = not-false _ (none-has (is_gap plan.links) (all_steps (paths_on net vl)) (step x y) (routed.linked net) (step-on net vl x y precedes)) in
+      let linked : is_linked plan.links x y ≡ true = not-false _ (none-has (is_gap plan.links) (all_hops (paths_on net vl)) (hop x y) (routed.linked net) (hop-on net vl x y precedes)) in
       let (place, between) = linked-place plan.links x y linked in
       let (k, is_between) = has-line plan x y place between in
       (k, line-of plan x y k is_between)

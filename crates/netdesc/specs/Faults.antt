@@ -1,11 +1,11 @@
 -- What rows say of each other: the faults 5 to 9, in the order in which they are tried. Each line is a line of the table of refusals in docs/FORMATS.md.
-use Rattle.std.specs.Prelude.{ℕ, ◌+◌, ◌*◌, ◌==◌, ◌&&◌, ◌||◌, not, nat_lt, Bool, List, ◌++◌, length, map, count_by, Some, None}
+use Rattle.std.specs.Prelude.{ℕ, ◌≡◌, ◌⊎◌, ◌+◌, ◌*◌, ◌==◌, ◌&&◌, ◌||◌, not, nat_lt, Bool, List, ◌++◌, length, map, count_by, slice_get, Some, None}
 use Rattle.std.specs.List.{list_any}
 use Rattle.vlink.specs.declared.frame.Net.TheVariants as net
 use Rattle.network_rows.specs.declared.key.Section.TheVariants as section
 use Rattle.network_rows.specs.declared.key.Key.TheVariants as key
 use Rattle.network_rows.specs.declared.fault.DescFault.{DescFault}
-use Rattle.network_rows.specs.declared.fault.DescFault.TheVariants.{UnknownName, DoubleName, NotALink, NotATree, TooMany}
+use Rattle.network_rows.specs.declared.fault.DescFault.TheVariants.{UnknownName, DoubleName, NotALink, NotATree, TooMany, OutOfMemory}
 use Rattle.network_rows.specs.declared.rows.NodeRow.{NodeRow}
 use Rattle.network_rows.specs.declared.rows.LinkRow.{LinkRow}
 use Rattle.network_rows.specs.declared.rows.OutageRow.{OutageRow}
@@ -14,12 +14,12 @@ use Rattle.network_rows.specs.declared.rows.Rows.{Rows}
 use Rattle.netdesc.specs.Limits.{greatest_processes, greatest_ports, greatest_outages, greatest_destinations}
 use Rattle.netdesc.specs.declared.wiring.Link.{Link}
 use Rattle.netdesc.specs.declared.wiring.Outage.{Outage}
-use Rattle.netdesc.specs.declared.wiring.Step.{Step}
+use Rattle.netdesc.specs.declared.wiring.Hop.{Hop}
 use Rattle.netdesc.specs.Rows.{each, when, top, row_at, key_at}
 use Rattle.netdesc.specs.Names.{names_of, is_among}
 use Rattle.netdesc.specs.Plan.{Plan, NodePlan, VlPlan, plan_of}
 use Rattle.netdesc.specs.Wiring.{is_end_system, is_linked, is_no_link}
-use Rattle.netdesc.specs.Trees.{all_steps, is_no_tree, is_none, differ, source_among, destinations_of}
+use Rattle.netdesc.specs.Trees.{all_hops, is_no_tree, is_none, differ, source_among, destinations_of}
 
 -- a name of these paths that no node has
 abbrev pub is_unknown : List (List ℕ) → List ℕ → Bool
@@ -79,11 +79,11 @@ abbrev pub no_link_at_outage : List Link → List Outage → Outage → List Des
 no_link_at_outage links earlier outage = when (not (is_linked links outage.from outage.to)) (NotALink (key_at section.Outage earlier key.To))
 
 -- two neighbours of a path without a link
-abbrev pub is_gap : List Link → Step → Bool
-is_gap links step = not (is_linked links step.from step.to)
+abbrev pub is_gap : List Link → Hop → Bool
+is_gap links hop = not (is_linked links hop.from hop.to)
 
 abbrev pub has_gap : List Link → List (List ℕ) → Bool
-has_gap links paths = list_any (is_gap links) (all_steps paths)
+has_gap links paths = list_any (is_gap links) (all_hops paths)
 
 abbrev pub no_link_at_vl : List Link → List VlPlan → VlPlan → List DescFault
 no_link_at_vl links earlier vl =
@@ -131,3 +131,7 @@ too_many plan =
 abbrev pub faults_of : Rows → List DescFault
 faults_of rows = let plan = plan_of rows in
     unknown_names rows ++ double_names plan ++ not_links plan ++ not_trees plan ++ too_many plan
+
+-- what is told: the first of these faults, or that memory was refused
+abbrev pub Tells : DescFault → List DescFault → Type 0
+Tells fault faults = (fault ≡ OutOfMemory) ⊎ (slice_get faults 0 ≡ Some fault)

@@ -6,10 +6,7 @@ pub mod Trees
 pub mod Faults
 pub mod Lines
 pub mod Accepted
-pub mod Finding
-pub mod Views
-pub mod Parts
-pub mod Tables
 pub mod Description
 pub mod Limits
 pub mod PortLaws
+pub mod Code

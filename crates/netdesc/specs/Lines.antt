@@ -6,13 +6,13 @@ use Rattle.vlink.specs.declared.frame.VlId.{VlId}
 use Rattle.vlink.specs.declared.frame.Net.TheVariants.{A}
 use Rattle.netdesc.specs.declared.wiring.Link.{Link}
 use Rattle.netdesc.specs.declared.wiring.Outage.{Outage}
-use Rattle.netdesc.specs.declared.wiring.Step.{Step}
-use Rattle.netdesc.specs.declared.wiring.Line.{Line}
+use Rattle.netdesc.specs.declared.wiring.Hop.{Hop}
+use Rattle.netdesc.specs.declared.wiring.Direction.{Direction}
 use Rattle.netdesc.specs.declared.wiring.Way.{Way}
 use Rattle.netdesc.specs.Rows.{each, place_by}
 use Rattle.netdesc.specs.Plan.{Plan, NodePlan, VlPlan}
 use Rattle.netdesc.specs.Wiring.{is_end_system, is_switch_of, link_between}
-use Rattle.netdesc.specs.Trees.{all_steps, rising}
+use Rattle.netdesc.specs.Trees.{all_hops, rising}
 use Rattle.netdesc.specs.Faults.{touches}
 
 -- the port of a node for the link behind these, which leads to this other node: at an end system 0 for network A and 1 for network B,
@@ -22,17 +22,17 @@ port_at nodes earlier node other =
     cond (is_end_system nodes node) (cond (is_switch_of nodes A other) 0 1) (count_by (touches node) earlier)
 
 -- the two directions of a link, which has these ports at its nodes: from a to b, and back
-abbrev pub both : Link → ℕ → ℕ → List Line
+abbrev pub both : Link → ℕ → ℕ → List Direction
 both link a_port b_port =
     record { from = link.a; from_port = a_port; to = link.b; to_port = b_port; byte_ns = link.byte_ns; propagation_ns = link.propagation_ns }
     ∷ record { from = link.b; from_port = b_port; to = link.a; to_port = a_port; byte_ns = link.byte_ns; propagation_ns = link.propagation_ns }
     ∷ []
 
-abbrev pub directions : List NodePlan → List Link → Link → List Line
+abbrev pub directions : List NodePlan → List Link → Link → List Direction
 directions nodes earlier link = both link (port_at nodes earlier link.a link.b) (port_at nodes earlier link.b link.a)
 
 -- the lines: line k is process k behind the nodes
-abbrev pub lines_of : Plan → List Line
+abbrev pub lines_of : Plan → List Direction
 lines_of plan = each (directions plan.nodes) plan.links
 
 -- the line from one node to another: twice the place of their link, and one more where the link's row names the other end first
@@ -53,33 +53,33 @@ is_outage_of links k outage = is_place k (line_between links outage.from outage.
 abbrev pub outages_of : Plan → ℕ → List Outage
 outages_of plan k = filter (is_outage_of plan.links k) plan.outages
 
--- the line of a step, if there is one
-abbrev pub lines_over : List Link → Step → List ℕ
-lines_over links step = option_to_list (line_between links step.from step.to)
+-- the line of a hop, if there is one
+abbrev pub lines_over : List Link → Hop → List ℕ
+lines_over links hop = option_to_list (line_between links hop.from hop.to)
 
 -- the lines that a virtual link goes over, each once, rising
 abbrev pub route_over : List Link → VlPlan → List ℕ
-route_over links vl = rising (flat_map (lines_over links) (all_steps vl.a ++ all_steps vl.b))
+route_over links vl = rising (flat_map (lines_over links) (all_hops vl.a ++ all_hops vl.b))
 
 abbrev pub route_of : Plan → VlPlan → List ℕ
 route_of plan vl = route_over plan.links vl
 
 -- the port by which a line leaves this node, and by which it comes in
-abbrev pub out_at : ℕ → VlId → Line → Option Way
+abbrev pub out_at : ℕ → VlId → Direction → Option Way
 out_at node vl line = cond (line.from == node) (Some (record { vl = vl; port = line.from_port })) None
 
-abbrev pub in_at : ℕ → VlId → Line → Option Way
+abbrev pub in_at : ℕ → VlId → Direction → Option Way
 in_at node vl line = cond (line.to == node) (Some (record { vl = vl; port = line.to_port })) None
 
 -- the ports at which the lines of a route meet a node, in the order of the route
-abbrev pub ways_over : (Line → Option Way) → List Line → List ℕ → List Way
+abbrev pub ways_over : (Direction → Option Way) → List Direction → List ℕ → List Way
 ways_over way lines route = flat_map (λ k. option_to_list (option_and_then way (slice_get lines k))) route
 
 -- the ports by which a virtual link leaves a node, and by which it comes in, where these are the lines and the links
-abbrev pub leaves : ℕ → List Line → List Link → VlPlan → List Way
+abbrev pub leaves : ℕ → List Direction → List Link → VlPlan → List Way
 leaves node lines links vl = ways_over (out_at node vl.link.id) lines (route_over links vl)
 
-abbrev pub comes_in : ℕ → List Line → List Link → VlPlan → List Way
+abbrev pub comes_in : ℕ → List Direction → List Link → VlPlan → List Way
 comes_in node lines links vl = ways_over (in_at node vl.link.id) lines (route_over links vl)
 
 -- the same of all virtual links: by virtual link, then by line, so that the ports of a switch rise
@@ -93,7 +93,7 @@ arrivals_of plan node = flat_map (comes_in node (lines_of plan) plan.links) plan
 abbrev pub node_name : List NodePlan → ℕ → List ℕ
 node_name nodes n = option_map_or (λ node. node.name) (slice_get nodes n) []
 
-abbrev pub line_name : List NodePlan → Line → List ℕ
+abbrev pub line_name : List NodePlan → Direction → List ℕ
 line_name nodes line = node_name nodes line.from ++ 62 ∷ node_name nodes line.to
 
 -- the place of the virtual link with this number

@@ -8,7 +8,7 @@ use Rattle.std.specs.BTreeSet.{insert_key}
 use Rattle.vlink.specs.declared.frame.Net.{Net}
 use Rattle.netdesc.specs.Plan.{NodePlan, VlPlan}
 use Rattle.netdesc.specs.Wiring.{passes, is_end_system, is_switch_of}
-use Rattle.netdesc.specs.declared.wiring.Step.{Step}
+use Rattle.netdesc.specs.declared.wiring.Hop.{Hop}
 
 -- the two ends of a path, and what is between them
 abbrev pub first_of : List ℕ → Option ℕ
@@ -34,17 +34,17 @@ is_bad_path nodes net path =
     || list_any (λ node. not (is_switch_of nodes net node)) (inner_of path)
     || has_double path
 
--- the steps from each node of a path to the next one
-abbrev pub steps_after : ℕ → List ℕ → List Step
-steps_after from [] = []
-steps_after from (to ∷ path) = record { from = from; to = to } ∷ steps_after to path
+-- the hops from each node of a path to the next one
+abbrev pub hops_after : ℕ → List ℕ → List Hop
+hops_after from [] = []
+hops_after from (to ∷ path) = record { from = from; to = to } ∷ hops_after to path
 
-abbrev pub steps_of : List ℕ → List Step
-steps_of [] = []
-steps_of (from ∷ path) = steps_after from path
+abbrev pub hops_of : List ℕ → List Hop
+hops_of [] = []
+hops_of (from ∷ path) = hops_after from path
 
-abbrev pub all_steps : List (List ℕ) → List Step
-all_steps paths = flat_map steps_of paths
+abbrev pub all_hops : List (List ℕ) → List Hop
+all_hops paths = flat_map hops_of paths
 
 -- where the first path begins
 abbrev pub source_among : List (List ℕ) → Option ℕ
@@ -68,12 +68,12 @@ end_of path = option_to_list (last_of path)
 abbrev pub ends_of : List (List ℕ) → List ℕ
 ends_of paths = flat_map end_of paths
 
--- two steps lead to one node from different ones
-abbrev pub is_other_way : Step → Step → Bool
+-- two hops lead to one node from different ones
+abbrev pub is_other_way : Hop → Hop → Bool
 is_other_way s t = (s.to == t.to) && not (s.from == t.from)
 
-abbrev pub has_other_way : List Step → Bool
-has_other_way steps = list_any (λ s. list_any (is_other_way s) steps) steps
+abbrev pub has_other_way : List Hop → Bool
+has_other_way hops = list_any (λ s. list_any (is_other_way s) hops) hops
 
 -- the paths of one network are no tree
 abbrev pub is_no_tree : List NodePlan → Net → List (List ℕ) → Bool
@@ -81,7 +81,7 @@ is_no_tree nodes net paths =
     list_any (is_bad_path nodes net) paths
     || begin_apart paths
     || has_double (ends_of paths)
-    || has_other_way (all_steps paths)
+    || has_other_way (all_hops paths)
 
 abbrev pub is_none : {X : Type 0} → List X → Bool
 is_none [] = true

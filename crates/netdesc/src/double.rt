@@ -6,11 +6,10 @@ ghost use Rattle.std.specs.BTreeSet.{contains};
 ghost use Rattle.netdesc.specs.Rows.{each};
 ghost use Rattle.netdesc.specs.Plan.{node_plan};
 ghost use Rattle.netdesc.specs.Faults.{double_at_node, double_at_link, double_at_vl};
-ghost use Rattle.netdesc.specs.Finding.{Finds};
+ghost use Rattle.netdesc.specs.Code.Finding.{Finds};
 
-use crate::each::{Check, check_each, key_at};
+use crate::each::{Review, check_each, key_at};
 use crate::links::Joined;
-use crate::memory::add;
 use crate::names::Names;
 use crate::plan::Routed;
 use network_rows::{DescFault, Key, Section};
@@ -47,21 +46,21 @@ pub fn check_links(joined: &Joined) -> Result<(), DescFault>
 #[derive(Drop)]
 struct Ids {}
 
-impl Check for Ids {
+impl Review for Ids {
     type Row = Routed;
 
-    type Kept = BTreeSet<usize>;
+    type Seen = BTreeSet<usize>;
 
     ghost faults = { λ _. double_at_vl };
 
-    ghost keeps = { λ _ ids vls. (id : ℕ) → contains nat_cmp ids id ≡ list_any (λ vl. vl.link.id.0 == id) vls };
+    ghost saw = { λ _ ids vls. (id : ℕ) → contains nat_cmp ids id ≡ list_any (λ vl. vl.link.id.0 == id) vls };
 
-    fn check(&self, ids: &mut BTreeSet<usize>, i: usize, vl: &Routed) -> Result<(), DescFault> {
+    fn review(&self, ids: &mut BTreeSet<usize>, i: usize, vl: &Routed) -> Result<(), DescFault> {
         let id = usize::from(vl.link().id.0);
         if ids.contains(&id) {
             return Err(DescFault::DoubleName(key_at(Section::Vl, i, Key::Id)));
         }
-        add(ids, id)?;
+        ids.insert(id)?;
         Ok(())
     }
 }

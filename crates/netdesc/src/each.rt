@@ -2,39 +2,43 @@
 ghost use Rattle.std.specs.Prelude.{◌≡◌, ℕ, ◌+◌, ◌^◌, ◌<◌, [], ◌∷◌, ◌++◌, List, length, MatchResult};
 ghost use Rattle.network_rows.specs.declared.fault.DescFault.{DescFault as Fault};
 ghost use Rattle.netdesc.specs.Rows.{each};
-ghost use Rattle.netdesc.specs.Finding.{Tells};
+ghost use Rattle.netdesc.specs.Faults.{Tells};
 
 use network_rows::{DescFault, Key, Place, Section};
 
 /// What is checked of each row of a list.
-pub trait Check {
+pub trait Review {
     type Row;
 
-    /// What is kept of the rows: what later ones are checked against, or what is made of them.
-    type Kept;
+    /// What is seen of the rows: what later ones are checked against, or what is made of them.
+    type Seen;
 
     /// The faults of a row, from the rows before it and the row itself.
     ghost faults: { Self → List Self.Row → Self.Row → List Fault };
 
-    /// This is kept of these rows.
-    ghost keeps: { Self → Self.Kept → List Self.Row → Type 0 };
+    /// This is seen of these rows.
+    ghost saw: { Self → Self.Seen → List Self.Row → Type 0 };
 
     /// Checks the row with the place `i`.
-    fn check(&self, kept: &mut Self::Kept, i: usize, row: &Self::Row) -> Result<(), DescFault>
+    fn review(&self, seen: &mut Self::Seen, i: usize, row: &Self::Row) -> Result<(), DescFault>
         requires { i + 1 < 2 ^ 64 }
-        ensures { (earlier : List Self.Row) → length earlier ≡ i → keeps self.now kept.old earlier →
-            MatchResult result (λ _. (faults self.now earlier row.now ≡ []) × keeps self.now kept.new (earlier ++ row.now ∷ []))
+        ensures { (earlier : List Self.Row) → length earlier ≡ i → saw self.now seen.old earlier →
+            MatchResult result (λ _. (faults self.now earlier row.now ≡ []) × saw self.now seen.new (earlier ++ row.now ∷ []))
             (λ fault. Tells fault (faults self.now earlier row.now)) };
 }
 
 /// Checks each row, and tells the first fault of them.
-pub fn check_each<C: Check>(check: &C, kept: &mut C::Kept, rows: &[C::Row]) -> Result<(), DescFault>
-    requires { C.keeps check.now kept.old [] }
-    ensures { MatchResult result (λ _. (each (C.faults check.now) rows.now ≡ []) × C.keeps check.now kept.new rows.now)
-        (λ fault. Tells fault (each (C.faults check.now) rows.now)) }
+pub fn check_each<R: Review>(
+    review: &R,
+    seen: &mut R::Seen,
+    rows: &[R::Row],
+) -> Result<(), DescFault>
+    requires { R.saw review.now seen.old [] }
+    ensures { MatchResult result (λ _. (each (R.faults review.now) rows.now ≡ []) × R.saw review.now seen.new rows.now)
+        (λ fault. Tells fault (each (R.faults review.now) rows.now)) }
 {
     for (i, row) in rows.iter().enumerate() {
-        check.check(kept, i, row)?;
+        review.review(seen, i, row)?;
     }
     Ok(())
 }

@@ -6,12 +6,11 @@ ghost use Rattle.netdesc.specs.Rows.{each};
 ghost use Rattle.netdesc.specs.Plan.{node_plan};
 ghost use Rattle.netdesc.specs.Wiring.{is_end_system, is_switch_of};
 ghost use Rattle.netdesc.specs.Lines.{both, directions, line_between, node_name, line_name, is_outage_of};
-ghost use Rattle.netdesc.specs.Views.{outages_at};
+ghost use Rattle.netdesc.specs.Code.Views.{outages_at};
 
-use crate::kinds::{is_end_system, is_switch_of};
 use crate::links::{Joined, count_link, no_counts};
-use crate::memory::{no_lists, push, put, refused};
-use crate::wiring::{Line, Link, Outage};
+use crate::tables::{no_lists, put};
+use crate::wiring::{Direction, Link, Outage, is_end_system, is_switch_of};
 use network_rows::{DescFault, NodeRow};
 use std::alloc::{AllocError, Global};
 use vlink::Net;
@@ -33,13 +32,18 @@ fn port_at(nodes: &[NodeRow], count: usize, node: usize, other: usize) -> u16
 }
 
 /// Puts the two directions of a link at the end, which has these ports at its two nodes.
-fn push_both(lines: &mut Vec<Line>, link: Link, a_port: u16, b_port: u16) -> Result<(), DescFault>
+fn push_both(
+    lines: &mut Vec<Direction>,
+    link: Link,
+    a_port: u16,
+    b_port: u16,
+) -> Result<(), DescFault>
     requires a { link.a < 2 ^ 16 }
     requires b { link.b < 2 ^ 16 }
     ensures lines { OnOk result (lines.new.items ≡ lines.old.items ++ both link a_port b_port) }
     ensures memory { IfErr result (λ fault. fault ≡ OutOfMemory) }
 {
-    let there = Line {
+    let there = Direction {
         from: link.a as u16,
         from_port: a_port,
         to: link.b as u16,
@@ -47,7 +51,7 @@ fn push_both(lines: &mut Vec<Line>, link: Link, a_port: u16, b_port: u16) -> Res
         byte_ns: link.byte_ns,
         propagation_ns: link.propagation_ns,
     };
-    let back = Line {
+    let back = Direction {
         from: link.b as u16,
         from_port: b_port,
         to: link.a as u16,
@@ -55,12 +59,17 @@ fn push_both(lines: &mut Vec<Line>, link: Link, a_port: u16, b_port: u16) -> Res
         byte_ns: link.byte_ns,
         propagation_ns: link.propagation_ns,
     };
-    push(lines, there)?;
-    push(lines, back)
+    lines.push(there)?;
+    lines.push(back)?;
+    Ok(())
 }
 
 /// The two directions of each link, link by link.
-pub fn lines_of(alloc: Global, nodes: &[NodeRow], links: &[Link]) -> Result<Vec<Line>, DescFault>
+pub fn lines_of(
+    alloc: Global,
+    nodes: &[NodeRow],
+    links: &[Link],
+) -> Result<Vec<Direction>, DescFault>
     requires ends { All (λ link. (link.a ≤ length nodes.now) × (link.b ≤ length nodes.now)) links.now }
     requires few { length nodes.now + 2 * length links.now ≤ 4096 }
     ensures ends { IfOk result (λ lines. All (λ line. (line.from ≤ length nodes.now) × (line.to ≤ length nodes.now)) lines.items) }
@@ -101,23 +110,20 @@ fn name_between(alloc: Global, from: &str, to: &str) -> Result<String, AllocErro
 }
 
 /// The name of a line.
-fn line_name(alloc: Global, nodes: &[NodeRow], line: Line) -> Result<String, DescFault>
+fn line_name(alloc: Global, nodes: &[NodeRow], line: Direction) -> Result<String, DescFault>
     ensures name { IfOk result (λ name. string_bytes name ≡ line_name (map node_plan nodes.now) line) }
     ensures memory { IfErr result (λ fault. fault ≡ OutOfMemory) }
 {
     let from = node_name(nodes, usize::from(line.from));
     let to = node_name(nodes, usize::from(line.to));
-    match name_between(alloc, from, to) {
-        Ok(name) => Ok(name),
-        Err(error) => Err(refused(error)),
-    }
+    Ok(name_between(alloc, from, to)?)
 }
 
 /// The names of lines.
 pub fn line_names(
     alloc: Global,
     nodes: &[NodeRow],
-    lines: &[Line],
+    lines: &[Direction],
 ) -> Result<Vec<String>, DescFault>
     ensures names { IfOk result (λ names. map string_bytes names.items ≡ map (line_name (map node_plan nodes.now)) lines.now) }
     ensures memory { IfErr result (λ fault. fault ≡ OutOfMemory) }
@@ -125,7 +131,7 @@ pub fn line_names(
     let mut names = Vec::new(alloc);
     for line in lines {
         let name = line_name(alloc, nodes, *line)?;
-        push(&mut names, name)?;
+        names.push(name)?;
     }
     Ok(names)
 }

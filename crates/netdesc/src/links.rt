@@ -4,9 +4,8 @@ ghost use Rattle.network_rows.specs.declared.fault.DescFault.TheVariants.{OutOfM
 ghost use Rattle.std.specs.BTreeMap.{Updates};
 ghost use Rattle.netdesc.specs.Wiring.{link_between, is_linked};
 ghost use Rattle.netdesc.specs.Faults.{touches};
-ghost use Rattle.netdesc.specs.Finding.{AreJoined, pair_cmp};
+ghost use Rattle.netdesc.specs.Code.Finding.{AreJoined, pair_cmp};
 
-use crate::memory::refused;
 use crate::wiring::Link;
 use network_rows::DescFault;
 use std::alloc::Global;
@@ -55,10 +54,8 @@ fn put(
     ensures updates { OnOk result (Updates pair_cmp places.old places.new (x, y) (Some place)) }
     ensures memory { IfErr result (λ fault. fault ≡ OutOfMemory) }
 {
-    match places.insert((x, y), place) {
-        Ok(_) => Ok(()),
-        Err(error) => Err(refused(error)),
-    }
+    places.insert((x, y), place)?;
+    Ok(())
 }
 
 /// One more at the place `k`, if there is such a place.
@@ -90,10 +87,7 @@ pub fn no_counts(alloc: Global, count: usize) -> Result<Vec<usize>, DescFault>
     ensures len { IfOk result (λ counts. vec_len counts ≡ count) }
     ensures memory { IfErr result (λ fault. fault ≡ OutOfMemory) }
 {
-    match vec![in alloc; 0usize; count] {
-        Ok(counts) => Ok(counts),
-        Err(error) => Err(refused(error)),
-    }
+    Ok(vec![in alloc; 0usize; count]?)
 }
 
 /// For each of `count` nodes, how many links name it.

@@ -1,6 +1,6 @@
 ghost use Rattle.std.specs.Prelude.{◌≡◌, IfOk, IfSome, is_some};
 ghost use Rattle.netdesc.specs.Names.{names_of, is_among, place_among, number_of};
-ghost use Rattle.netdesc.specs.Finding.{AreNumbers};
+ghost use Rattle.netdesc.specs.Code.Finding.{AreNumbers};
 
 use network_rows::NodeRow;
 use std::alloc::{AllocError, Global};

@@ -4,19 +4,19 @@ ghost use Rattle.std.specs.List.Sorted.{IsStrictlyIncreasing};
 ghost use Rattle.std.specs.Option.{option_map, option_and_then};
 ghost use Rattle.vlink.specs.declared.time.TheConstants.{LATEST_NS};
 ghost use Rattle.network_rows.specs.declared.table.TheConstants.{SECOND_NS};
-ghost use Rattle.netdesc.specs.declared.limits.TheConstants.{GREATEST_PROCESSES, GREATEST_PORTS};
+ghost use Rattle.netdesc.specs.declared.too_many.TheConstants.{GREATEST_PROCESSES, GREATEST_PORTS};
 ghost use Rattle.netdesc.specs.Accepted.{ids_of};
 ghost use Rattle.netdesc.specs.Limits.{IsLinkInLimits, IsKindInLimits};
 ghost use Rattle.netdesc.specs.Wiring.{is_end_system};
 ghost use Rattle.netdesc.specs.Trees.{source_of, destinations_of};
 ghost use Rattle.netdesc.specs.Faults.{process_count};
 ghost use Rattle.netdesc.specs.Lines.{lines_of, node_name, line_name, outages_of, departures_of, arrivals_of, place_of_vl};
+ghost use Rattle.netdesc.specs.Code.Tables.{plan_with};
 
-use crate::described::Described;
-use crate::tables::Tables;
-use crate::vl::VirtualLink;
-use crate::wiring::{Line, Outage, Way};
-use network_rows::{DescFault, NodeKind};
+use crate::plan::{Numbered, VirtualLink};
+use crate::tables::{Tables, tables_of};
+use crate::wiring::{Direction, Outage, Way};
+use network_rows::{DescFault, NodeKind, NodeRow};
 use std::alloc::Global;
 use std::marker::Model;
 use vlink::{Time, VlId};
@@ -26,47 +26,56 @@ use vlink::{Time, VlId};
 /// Clauses see it as its plan. Its virtual links are in rising number.
 #[derive(Debug, Drop)]
 pub struct Network {
-    described: Described,
+    until: Time,
+    seed: u64,
+    nodes: Vec<NodeRow>,
+    numbered: Numbered,
     tables: Tables,
 }
 
 impl Model for Network {
     ghost use Rattle.netdesc.specs.Plan.{Plan};
     ghost use Rattle.netdesc.specs.Accepted.{IsAccepted};
-    ghost use Rattle.netdesc.specs.Tables.{AreTables};
+    ghost use Rattle.netdesc.specs.Code.Tables.{plan_with, AreTables};
 
     ghost Value = { Plan };
 
-    ghost view = { λ n. n.described };
+    ghost view = { λ n. plan_with n.until n.seed n.nodes.items n.numbered };
 
-    ghost invariant = { λ n. IsAccepted n.described × AreTables n.described n.tables };
+    ghost invariant = { λ n. let plan = plan_with n.until n.seed n.nodes.items n.numbered in IsAccepted plan × AreTables plan n.tables };
 }
 
 impl Network {
     ghost use Rattle.netdesc.specs.Accepted.{IsAccepted};
+    ghost use Rattle.netdesc.specs.Code.Tables.{plan_with};
 
-    /// The network that is described, with its tables.
-    pub(crate) fn of(alloc: Global, described: Described) -> Result<Self, DescFault>
-        ensures made { IfOk result (λ network. network ≡ described) }
+    /// A network of these parts, with its tables.
+    pub(crate) fn new(
+        alloc: Global,
+        until: Time,
+        seed: u64,
+        nodes: Vec<NodeRow>,
+        numbered: Numbered,
+    ) -> Result<Self, DescFault>
+        requires { IsAccepted (plan_with until seed nodes.items numbered) }
+        ensures made { IfOk result (λ network. network ≡ plan_with until seed nodes.items numbered) }
         ensures memory { IfErr result (λ fault. fault ≡ OutOfMemory) }
     {
-        described.accepted();
-        let tables = described.tables(alloc)?;
-        Ok(Network { described, tables })
-    }
-
-    /// The network as it is described.
-    pub fn described(&self) -> &Described
-        ensures { result.now ≡ self.now }
-    {
-        &self.described
+        let tables = tables_of(alloc, nodes.as_slice(), &numbered)?;
+        Ok(Network {
+            until,
+            seed,
+            nodes,
+            numbered,
+            tables,
+        })
     }
 
     /// Every network is that of rows without a fault, within the limits of their keys. Nothing is done.
     pub fn accepted(&self)
         ensures { IsAccepted self.now }
     {
-        let _fields = &self.described;
+        let _fields = &self.numbered;
     }
 
     /// The end of a run: its last moment.
@@ -75,24 +84,24 @@ impl Network {
         ensures least { 1 ≤ result }
         ensures greatest { result ≤ LATEST_NS }
     {
-        self.described.until()
+        self.until
     }
 
     /// The seed of the drawn numbers.
     pub fn seed(&self) -> u64
         ensures { result ≡ self.now.seed }
     {
-        self.described.seed()
+        self.seed
     }
 
     /// How many nodes there are. They are the processes 0, 1, ..
     pub fn node_count(&self) -> usize
         ensures { result ≡ length self.now.nodes }
     {
-        self.described.node_count()
+        self.nodes.len()
     }
 
-    /// How many lines there are: two for each link. Line `k` is process `k` behind the nodes.
+    /// How many lines there are: two for each link. Direction `k` is process `k` behind the nodes.
     pub fn line_count(&self) -> usize
         ensures value { result ≡ length (lines_of self.now) }
         ensures links { length (lines_of self.now) ≡ 2 * length self.now.links }
@@ -105,7 +114,7 @@ impl Network {
         ensures value { result ≡ process_count self.now }
         ensures few { process_count self.now ≤ GREATEST_PROCESSES }
     {
-        self.described.process_count()
+        self.nodes.len() + 2 * self.numbered.links.len()
     }
 
     /// What a node is.
@@ -114,7 +123,7 @@ impl Network {
         ensures value { option_map (λ node. node.kind) (slice_get self.now.nodes node) ≡ Some result }
         ensures limits { IsKindInLimits result }
     {
-        self.described.kind(node)
+        self.nodes[node].kind
     }
 
     /// How many bytes may wait at each port of a node.
@@ -122,7 +131,7 @@ impl Network {
         requires { node < length self.now.nodes }
         ensures { option_map (λ node. node.port_bytes) (slice_get self.now.nodes node) ≡ Some result }
     {
-        self.described.port_bytes(node)
+        self.nodes[node].port_bytes
     }
 
     /// The name of a node.
@@ -130,7 +139,7 @@ impl Network {
         requires { node < length self.now.nodes }
         ensures { result.now ≡ node_name self.now.nodes node }
     {
-        self.described.node_name(node)
+        self.nodes[node].name.as_str()
     }
 
     /// The name of a line: those of its nodes with > between.
@@ -142,7 +151,7 @@ impl Network {
     }
 
     /// A line: its nodes, its ports there, and its times.
-    pub fn line(&self, line: usize) -> Line
+    pub fn line(&self, line: usize) -> Direction
         requires { line < length (lines_of self.now) }
         ensures value { slice_get (lines_of self.now) line ≡ Some result }
         ensures from { result.from < length self.now.nodes }
@@ -170,7 +179,7 @@ impl Network {
         ensures value { result ≡ length self.now.vls }
         ensures rising { IsStrictlyIncreasing (ids_of self.now.vls) }
     {
-        self.described.vl_count()
+        self.numbered.vls.len()
     }
 
     /// The place of the virtual link with this number, or none where no virtual link has it.
@@ -189,7 +198,7 @@ impl Network {
         ensures value { option_map (λ vl. vl.link) (slice_get self.now.vls vl) ≡ Some result }
         ensures limits { IsLinkInLimits result }
     {
-        self.described.virtual_link(vl)
+        self.numbered.vls[vl].link()
     }
 
     /// Where the frames of a virtual link begin: an end system.
@@ -199,7 +208,7 @@ impl Network {
         ensures node { result < length self.now.nodes }
         ensures end_system { is_end_system self.now.nodes result ≡ true }
     {
-        self.described.source(vl)
+        self.numbered.vls[vl].source().unwrap()
     }
 
     /// Where the frames of a virtual link end, rising.

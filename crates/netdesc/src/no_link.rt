@@ -9,17 +9,15 @@ ghost use Rattle.netdesc.specs.declared.wiring.Link.{Link};
 ghost use Rattle.netdesc.specs.Rows.{each};
 ghost use Rattle.netdesc.specs.Plan.{node_plan};
 ghost use Rattle.netdesc.specs.Wiring.{leads, is_second, is_no_link, is_linked};
-ghost use Rattle.netdesc.specs.Trees.{steps_of, steps_after};
+ghost use Rattle.netdesc.specs.Trees.{hops_of, hops_after};
 ghost use Rattle.netdesc.specs.Faults.{has_gap, is_gap, no_link_at_link, no_link_at_outage, no_link_at_vl};
-ghost use Rattle.netdesc.specs.Finding.{Finds, AreAttached};
-ghost use Rattle.netdesc.specs.Views.{items_of};
+ghost use Rattle.netdesc.specs.Code.Finding.{Finds, AreAttached};
+ghost use Rattle.netdesc.specs.Code.Views.{items_of};
 
-use crate::each::{Check, check_each, key_at};
-use crate::kinds::{is_end_system, is_switch_of};
+use crate::each::{Review, check_each, key_at};
 use crate::links::Joined;
-use crate::memory::add;
 use crate::plan::{Numbered, Routed};
-use crate::wiring::{Link, Outage};
+use crate::wiring::{Link, Outage, is_end_system, is_switch_of};
 use network_rows::{DescFault, Key, NodeRow, Section};
 use std::alloc::Global;
 use std::collections::BTreeSet;
@@ -53,10 +51,10 @@ fn attach(
     ensures memory { IfErr result (λ fault. fault ≡ OutOfMemory) }
 {
     if is_switch_of(nodes, net, link.b) {
-        add(attached, link.a)?;
+        attached.insert(link.a)?;
     }
     if is_switch_of(nodes, net, link.a) {
-        add(attached, link.b)?;
+        attached.insert(link.b)?;
     }
     Ok(())
 }
@@ -80,16 +78,16 @@ struct Links<'a> {
     nodes: &'a [NodeRow],
 }
 
-impl<'a> Check for Links<'a> {
+impl<'a> Review for Links<'a> {
     type Row = Link;
 
-    type Kept = Attached;
+    type Seen = Attached;
 
     ghost faults = { λ s. no_link_at_link (map node_plan s.nodes.now) };
 
-    ghost keeps = { λ s attached links. AreAttached (map node_plan s.nodes.now) A attached.on_a links × AreAttached (map node_plan s.nodes.now) B attached.on_b links };
+    ghost saw = { λ s attached links. AreAttached (map node_plan s.nodes.now) A attached.on_a links × AreAttached (map node_plan s.nodes.now) B attached.on_b links };
 
-    fn check(&self, attached: &mut Attached, i: usize, link: &Link) -> Result<(), DescFault> {
+    fn review(&self, attached: &mut Attached, i: usize, link: &Link) -> Result<(), DescFault> {
         if is_no_link(self.nodes, &attached.on_a, &attached.on_b, *link) {
             return Err(DescFault::NotALink(key_at(Section::Link, i, Key::B)));
         }
@@ -105,16 +103,16 @@ struct Outages<'a, 'b> {
     joined: &'a Joined<'b>,
 }
 
-impl<'a, 'b> Check for Outages<'a, 'b> {
+impl<'a, 'b> Review for Outages<'a, 'b> {
     type Row = Outage;
 
-    type Kept = ();
+    type Seen = ();
 
     ghost faults = { λ s. no_link_at_outage s.joined.now.links.now };
 
-    ghost keeps = { λ _ _ _. ⊤ };
+    ghost saw = { λ _ _ _. ⊤ };
 
-    fn check(&self, _kept: &mut (), i: usize, outage: &Outage) -> Result<(), DescFault> {
+    fn review(&self, _seen: &mut (), i: usize, outage: &Outage) -> Result<(), DescFault> {
         if self.joined.place(outage.from, outage.to).is_none() {
             return Err(DescFault::NotALink(key_at(Section::Outage, i, Key::To)));
         }
@@ -124,7 +122,7 @@ impl<'a, 'b> Check for Outages<'a, 'b> {
 
 /// Two neighbours of the path that begins with `from` have no link.
 fn has_gap_after(joined: &Joined, from: usize, others: &[usize]) -> bool
-    ensures { result ≡ list_any (is_gap joined.now.links.now) (steps_after from others.now) }
+    ensures { result ≡ list_any (is_gap joined.now.links.now) (hops_after from others.now) }
 {
     let mut from = from;
     for to in others {
@@ -138,7 +136,7 @@ fn has_gap_after(joined: &Joined, from: usize, others: &[usize]) -> bool
 
 /// Two neighbours of a path have no link.
 fn is_gapped(joined: &Joined, path: &[usize]) -> bool
-    ensures { result ≡ list_any (is_gap joined.now.links.now) (steps_of path.now) }
+    ensures { result ≡ list_any (is_gap joined.now.links.now) (hops_of path.now) }
 {
     match path.split_first() {
         Some((first, others)) => has_gap_after(joined, *first, others),
@@ -164,16 +162,16 @@ struct Vls<'a, 'b> {
     joined: &'a Joined<'b>,
 }
 
-impl<'a, 'b> Check for Vls<'a, 'b> {
+impl<'a, 'b> Review for Vls<'a, 'b> {
     type Row = Routed;
 
-    type Kept = ();
+    type Seen = ();
 
     ghost faults = { λ s. no_link_at_vl s.joined.now.links.now };
 
-    ghost keeps = { λ _ _ _. ⊤ };
+    ghost saw = { λ _ _ _. ⊤ };
 
-    fn check(&self, _kept: &mut (), i: usize, vl: &Routed) -> Result<(), DescFault> {
+    fn review(&self, _seen: &mut (), i: usize, vl: &Routed) -> Result<(), DescFault> {
         if has_gap(self.joined, vl.a()) {
             return Err(DescFault::NotALink(key_at(Section::Vl, i, Key::A)));
         }

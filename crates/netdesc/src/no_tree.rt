@@ -3,21 +3,19 @@ ghost use Rattle.std.specs.Prelude.{◌≡◌, ⊤, [], ◌∷◌, ◌++◌, tru
 ghost use Rattle.network_rows.specs.declared.fault.DescFault.TheVariants.{OutOfMemory};
 ghost use Rattle.std.specs.List.{list_any};
 ghost use Rattle.std.specs.Option.{option_copied};
-ghost use Rattle.netdesc.specs.declared.wiring.Step.{Step};
+ghost use Rattle.netdesc.specs.declared.wiring.Hop.{Hop};
 ghost use Rattle.netdesc.specs.Rows.{each};
 ghost use Rattle.netdesc.specs.Plan.{node_plan};
 ghost use Rattle.netdesc.specs.Wiring.{passes, is_end_system, is_switch_of};
 ghost use Rattle.netdesc.specs.Trees.{inner_of, is_bad_path, differ, begin_apart, has_double, is_other_way, has_other_way, is_no_tree};
 ghost use Rattle.netdesc.specs.Faults.{no_tree_at_vl};
-ghost use Rattle.netdesc.specs.Finding.{Finds, AreWays};
-ghost use Rattle.netdesc.specs.Views.{Tests, items_of};
+ghost use Rattle.netdesc.specs.Code.Finding.{Finds, AreWays};
+ghost use Rattle.netdesc.specs.Code.Views.{Tests, items_of};
 
-use crate::each::{Check, check_each, key_at};
-use crate::kinds::{is_end_system, is_switch_of};
-use crate::memory::{add, refused};
+use crate::each::{Review, check_each, key_at};
 use crate::plan::{Routed, source_among};
-use crate::steps::{push_all, push_ends};
-use crate::wiring::Step;
+use crate::routes::{push_all, push_ends};
+use crate::wiring::{Hop, is_end_system, is_switch_of};
 use network_rows::{DescFault, Key, NodeRow, Section};
 use std::alloc::Global;
 use std::collections::{BTreeMap, BTreeSet};
@@ -101,7 +99,7 @@ fn has_repeat(alloc: Global, numbers: &[usize]) -> Result<bool, DescFault>
         if seen.contains(n) {
             return Ok(true);
         }
-        add(&mut seen, *n)?;
+        seen.insert(*n)?;
     }
     Ok(false)
 }
@@ -138,28 +136,28 @@ fn begin_apart(paths: &[Vec<usize>]) -> bool
     false
 }
 
-/// The step leads to a node that was reached from another one; else it joins the ways that were found.
-fn is_other_way(ways: &mut BTreeMap<usize, usize>, step: Step) -> Result<bool, DescFault>
-    ensures other { (steps : List Step) → AreWays ways.old steps → IfOk result (λ other. MatchBool other
-        ((s : Step) × Contains steps s × (is_other_way s step ≡ true)) (AreWays ways.new (steps ++ step ∷ []))) }
+/// The hop leads to a node that was reached from another one; else it joins the ways that were found.
+fn is_other_way(ways: &mut BTreeMap<usize, usize>, hop: Hop) -> Result<bool, DescFault>
+    ensures other { (hops : List Hop) → AreWays ways.old hops → IfOk result (λ other. MatchBool other
+        ((s : Hop) × Contains hops s × (is_other_way s hop ≡ true)) (AreWays ways.new (hops ++ hop ∷ []))) }
     ensures memory { IfErr result (λ fault. fault ≡ OutOfMemory) }
 {
-    match ways.get(&step.to) {
-        Some(from) => Ok(*from != step.from),
-        None => match ways.insert(step.to, step.from) {
-            Ok(_) => Ok(false),
-            Err(error) => Err(refused(error)),
-        },
+    match ways.get(&hop.to) {
+        Some(from) => Ok(*from != hop.from),
+        None => {
+            ways.insert(hop.to, hop.from)?;
+            Ok(false)
+        }
     }
 }
 
-/// Two of these steps lead to one node from different ones.
-pub fn has_other_way(alloc: Global, steps: &[Step]) -> Result<bool, DescFault>
-    ensures { Tests result (has_other_way steps.now) }
+/// Two of these hops lead to one node from different ones.
+pub fn has_other_way(alloc: Global, hops: &[Hop]) -> Result<bool, DescFault>
+    ensures { Tests result (has_other_way hops.now) }
 {
     let mut ways = BTreeMap::new(alloc);
-    for step in steps {
-        if is_other_way(&mut ways, *step)? {
+    for hop in hops {
+        if is_other_way(&mut ways, *hop)? {
             return Ok(true);
         }
     }
@@ -183,9 +181,9 @@ fn is_no_tree(
     if has_repeat(alloc, &ends)? {
         return Ok(true);
     }
-    let mut steps = Vec::new(alloc);
-    push_all(&mut steps, paths)?;
-    has_other_way(alloc, &steps)
+    let mut hops = Vec::new(alloc);
+    push_all(&mut hops, paths)?;
+    has_other_way(alloc, &hops)
 }
 
 /// The paths of each virtual link are trees from one source.
@@ -195,16 +193,16 @@ struct Vls<'a> {
     nodes: &'a [NodeRow],
 }
 
-impl<'a> Check for Vls<'a> {
+impl<'a> Review for Vls<'a> {
     type Row = Routed;
 
-    type Kept = ();
+    type Seen = ();
 
     ghost faults = { λ s. no_tree_at_vl (map node_plan s.nodes.now) };
 
-    ghost keeps = { λ _ _ _. ⊤ };
+    ghost saw = { λ _ _ _. ⊤ };
 
-    fn check(&self, _kept: &mut (), i: usize, vl: &Routed) -> Result<(), DescFault> {
+    fn review(&self, _seen: &mut (), i: usize, vl: &Routed) -> Result<(), DescFault> {
         let has_none = vl.a().is_empty() && vl.b().is_empty();
         if has_none || is_no_tree(self.alloc, self.nodes, Net::A, vl.a())? {
             return Err(DescFault::NotATree(key_at(Section::Vl, i, Key::A)));

@@ -1,11 +1,38 @@
 //! What rows say beside their nodes, with numbers in place of names.
 ghost use Rattle.std.specs.Prelude.{◌≡◌, map};
 ghost use Rattle.netdesc.specs.Trees.{source_among, source_of};
-ghost use Rattle.netdesc.specs.Views.{items_of, lists_of};
+ghost use Rattle.netdesc.specs.Code.Views.{items_of, lists_of};
 
-use crate::vl::VirtualLink;
 use crate::wiring::{Link, Outage};
+use network_rows::Priority;
 use std::marker::Model;
+use vlink::{FrameSize, VlId};
+
+/// What is agreed of the frames of a virtual link.
+#[derive(Clone, Copy, Debug, PartialEq, Eq)]
+pub struct VirtualLink {
+    pub id: VlId,
+    /// The bandwidth allocation gap, in ms.
+    pub bag_ms: u8,
+    /// The greatest size of a frame that passes a switch.
+    pub smax: FrameSize,
+    /// Which frames of it go first at a port of a switch.
+    pub priority: Priority,
+    /// How much earlier than the gap allows a switch lets a frame pass, in ns.
+    pub policing_jitter_ns: u32,
+    /// How long after one copy of a frame another may come, in ns.
+    pub skew_max_ns: u32,
+    /// How many frames may wait at the source.
+    pub depth: u16,
+    /// The size of the frames that are offered.
+    pub size: FrameSize,
+    /// The moment of the first offer, in ns.
+    pub offset_ns: u64,
+    /// The time from one offer to the next, in ns.
+    pub period_ns: u64,
+    /// The greatest delay of an offer, in ns.
+    pub jitter_ns: u32,
+}
 
 /// A virtual link with its paths on the networks A and B. A path is a list of nodes.
 ///
@@ -19,7 +46,7 @@ pub struct Routed {
 
 impl Model for Routed {
     ghost use Rattle.netdesc.specs.Plan.{VlPlan};
-    ghost use Rattle.netdesc.specs.Views.{lists_of};
+    ghost use Rattle.netdesc.specs.Code.Views.{lists_of};
 
     ghost Value = { VlPlan };
 

@@ -5,17 +5,15 @@ ghost use Rattle.std.specs.List.Sorted.{IsNonDecreasing};
 ghost use Rattle.network_rows.specs.Within.{AreWithin};
 ghost use Rattle.netdesc.specs.Rows.{each};
 ghost use Rattle.netdesc.specs.Plan.{node_plan};
-ghost use Rattle.netdesc.specs.Faults.{faults_of, double_names, not_links, not_trees, too_many, double_at_node, double_at_link, double_at_vl};
-ghost use Rattle.netdesc.specs.Finding.{Finds, Tells};
+ghost use Rattle.netdesc.specs.Faults.{faults_of, double_names, not_links, not_trees, too_many, double_at_node, double_at_link, double_at_vl, Tells};
+ghost use Rattle.netdesc.specs.Code.Finding.{Finds};
 ghost use Rattle.netdesc.specs.Accepted.{ids_of, IsPlanOf};
 ghost use Rattle.netdesc.specs.Description.{HasNoFault, TellsFaultOf, Describes};
-ghost use Rattle.netdesc.specs.Parts.{parts_of, parts_in, plan_in};
-ghost use Rattle.netdesc.specs.Views.{Gives};
+ghost use Rattle.netdesc.specs.Code.Parts.{parts_of, parts_in, plan_in};
+ghost use Rattle.netdesc.specs.Code.Views.{Gives};
 
-use crate::described::Described;
 use crate::double;
 use crate::links::Joined;
-use crate::memory::refused;
 use crate::names::Names;
 use crate::network::Network;
 use crate::no_link::check_no_link;
@@ -23,79 +21,37 @@ use crate::no_tree::check_no_tree;
 use crate::plan::{Numbered, Routed};
 use crate::too_many::check_too_many;
 use crate::unknown::number_rows;
-use network_rows::{DescFault, LinkRow, OutageRow, Rows, Sequence, VlRow, read_rows};
+use network_rows::{DescFault, Rows, read_rows};
 use std::alloc::Global;
 
 /// Reads a network description, a text in TOML.
 ///
 /// An error is the first fault of the text, in the order of their numbers, sections, rows and keys; or a growth was refused.
+#[tactic(auto, using(crate::proofs::FaultLemmas::told_of_key))]
 pub fn read(alloc: Global, text: &str) -> Result<Network, DescFault>
     // What is read has no fault, and what has no fault is read, unless memory is refused.
     ensures sound { OnOk result (HasNoFault text.now) }
     ensures network { IfOk result (Describes text.now) }
     ensures fault { IfErr result (TellsFaultOf text.now) }
 {
-    let (network, _remains) = read_with_remains(alloc, text)?;
-    Ok(network)
-}
-
-/// Reads a network description as `read` does, and tells with the network what is left of its rows, which the caller gives back when
-/// there is time for it.
-#[tactic(auto, using(crate::proofs::FaultLemmas::told_of_key))]
-pub fn read_with_remains(alloc: Global, text: &str) -> Result<(Network, Remains), DescFault>
-    ensures sound { OnOk result (HasNoFault text.now) }
-    ensures network { IfOk result (λ made. Describes text.now made.0) }
-    ensures fault { IfErr result (TellsFaultOf text.now) }
-{
     let rows = read_rows(alloc, text)?;
-    let (described, remains) = described(alloc, rows)?;
-    let network = Network::of(alloc, described)?;
-    Ok((network, remains))
+    network_of(alloc, rows)
 }
 
-/// Reads a network description as `read_with_remains` does, and makes no tables of it: that is less work, where nothing is to be run.
-#[tactic(auto, using(crate::proofs::FaultLemmas::told_of_key))]
-pub fn read_described(alloc: Global, text: &str) -> Result<(Described, Remains), DescFault>
-    ensures sound { OnOk result (HasNoFault text.now) }
-    ensures network { IfOk result (λ made. Describes text.now made.0) }
-    ensures fault { IfErr result (TellsFaultOf text.now) }
-{
-    let rows = read_rows(alloc, text)?;
-    described(alloc, rows)
-}
-
-/// What is left of the rows of a network once it is made of them: of no more use, and many small pieces, which take time to give back.
-#[derive(Debug, Drop)]
-pub struct Remains {
-    links: Sequence<LinkRow>,
-    outages: Sequence<OutageRow>,
-    vls: Sequence<VlRow>,
-}
-
-/// The network that these rows describe, and what is left of them.
-fn described(alloc: Global, rows: Rows) -> Result<(Described, Remains), DescFault>
+/// The network that these rows describe.
+fn network_of(alloc: Global, rows: Rows) -> Result<Network, DescFault>
     requires { AreWithin rows }
-    ensures { MatchResult result (λ made. IsPlanOf rows made.0) (λ fault. Tells fault (faults_of rows)) }
+    ensures { MatchResult result (IsPlanOf rows) (λ fault. Tells fault (faults_of rows)) }
 {
     let mut numbered = checked(alloc, &rows)?;
     sort_vls(&mut numbered.vls)?;
-    let Rows {
-        until,
-        seed,
-        nodes,
-        links,
-        outages,
-        vls,
-        ..
-    } = rows;
-    let nodes = nodes.into_vec();
-    let described = Described::new(until, seed, nodes, numbered);
-    let remains = Remains {
-        links,
-        outages,
-        vls,
-    };
-    Ok((described, remains))
+    Network::new(
+        alloc,
+        rows.until,
+        rows.seed,
+        rows.nodes.into_vec(),
+        numbered,
+    )
 }
 
 /// Puts virtual links into the order of their numbers.
@@ -104,20 +60,15 @@ fn sort_vls(vls: &mut Vec<Routed>) -> Result<(), DescFault>
     ensures in_order { OnOk result (IsNonDecreasing (ids_of vls.new.items)) }
     ensures memory { IfErr result (λ fault. fault ≡ OutOfMemory) }
 {
-    match vls.sort_by_key(|vl| vl.link().id.0) {
-        Ok(()) => Ok(()),
-        Err(error) => Err(refused(error)),
-    }
+    vls.sort_by_key(|vl| vl.link().id.0)?;
+    Ok(())
 }
 
 /// The rows with numbers in place of names, where they make a network.
 fn checked(alloc: Global, rows: &Rows) -> Result<Numbered, DescFault>
     ensures { Gives parts_of result (faults_of rows.now) (parts_in rows.now) }
 {
-    let names = match Names::new(alloc, rows.nodes.as_slice()) {
-        Ok(names) => names,
-        Err(error) => return Err(refused(error)),
-    };
+    let names = Names::new(alloc, rows.nodes.as_slice())?;
     let numbered = number_rows(alloc, &names, rows)?;
     check_numbered(alloc, &names, &numbered)?;
     Ok(numbered)

@@ -1,16 +1,16 @@
 //! What is looked up in a network by number.
-ghost use Rattle.std.specs.Prelude.{◌≡◌, ℕ, ◌+◌, ◌*◌, ◌<◌, ◌≤◌, None, Some, is_none, ◌==◌, ◌&&◌, if◌then◌else◌, All, length, vec_len, slice_index_or, IfOk, OnOk, IfErr};
+ghost use Rattle.std.specs.Prelude.{◌≡◌, [], ◌∷◌, ◌++◌, slice_set, ℕ, ◌+◌, ◌*◌, ◌<◌, ◌≤◌, None, Some, is_none, ◌==◌, ◌&&◌, if◌then◌else◌, All, length, vec_len, slice_index_or, IfOk, OnOk, IfErr};
 ghost use Rattle.network_rows.specs.declared.fault.DescFault.TheVariants.{OutOfMemory};
 ghost use Rattle.netdesc.specs.Limits.{greatest_processes};
 ghost use Rattle.netdesc.specs.Lines.{place_of_vl};
-ghost use Rattle.netdesc.specs.Tables.{plan_with, AreTables};
+ghost use Rattle.netdesc.specs.Code.Tables.{plan_with, AreTables};
+ghost use Rattle.netdesc.specs.Code.Views.{lists_of};
 
 use crate::lines::{line_names, lines_of, losses_of};
 use crate::links::Joined;
-use crate::memory::push;
 use crate::plan::{Numbered, Routed};
 use crate::routes::{Meetings, all_destinations, meetings_of};
-use crate::wiring::{Line, Outage};
+use crate::wiring::{Direction, Outage};
 use network_rows::{DescFault, NodeRow};
 use std::alloc::Global;
 use vlink::VlId;
@@ -18,7 +18,7 @@ use vlink::VlId;
 /// What is looked up in a network by number.
 #[derive(Debug, Drop)]
 pub struct Tables {
-    pub lines: Vec<Line>,
+    pub lines: Vec<Direction>,
     pub line_names: Vec<String>,
     /// The outages of each line.
     pub losses: Vec<Vec<Outage>>,
@@ -30,6 +30,31 @@ pub struct Tables {
     pub places: Vec<Option<usize>>,
 }
 
+/// Puts a value at the end of the list at a place.
+pub fn put<T: Drop>(table: &mut Vec<Vec<T>>, place: usize, value: T) -> Result<(), DescFault>
+    requires { place < vec_len table.old }
+    ensures put { OnOk result (lists_of table.new ≡ slice_set (lists_of table.old) place (slice_index_or (lists_of table.old) place [] ++ value ∷ [])) }
+    ensures len { vec_len table.new ≡ vec_len table.old }
+    ensures memory { IfErr result (λ fault. fault ≡ OutOfMemory) }
+{
+    let list = &mut table[place];
+    list.push(value)?;
+    Ok(())
+}
+
+/// So many empty lists.
+pub fn no_lists<T: Drop>(alloc: Global, count: usize) -> Result<Vec<Vec<T>>, DescFault>
+    ensures empty { IfOk result (λ table. (k : ℕ) → slice_index_or (lists_of table) k [] ≡ []) }
+    ensures len { IfOk result (λ table. vec_len table ≡ count) }
+    ensures memory { IfErr result (λ fault. fault ≡ OutOfMemory) }
+{
+    let mut table = Vec::new(alloc);
+    for _ in 0..count {
+        table.push(Vec::new(alloc))?;
+    }
+    Ok(table)
+}
+
 /// The list reaches as far as this number; the numbers that come to it have no place.
 fn reach(places: &mut Vec<Option<usize>>, id: VlId) -> Result<(), DescFault>
     ensures reached { OnOk result (id.0 < vec_len places.new) }
@@ -37,7 +62,7 @@ fn reach(places: &mut Vec<Option<usize>>, id: VlId) -> Result<(), DescFault>
     ensures memory { IfErr result (λ fault. fault ≡ OutOfMemory) }
 {
     for _ in places.len()..usize::from(id.0) + 1 {
-        push(places, None)?;
+        places.push(None)?;
     }
     Ok(())
 }

@@ -7,17 +7,27 @@ ghost use Rattle.netdesc.specs.Wiring.{is_end_system};
 ghost use Rattle.netdesc.specs.Rows.{each, when, top};
 ghost use Rattle.netdesc.specs.Plan.{node_plan};
 ghost use Rattle.netdesc.specs.Faults.{too_many_at_node, too_many_at_vl};
-ghost use Rattle.netdesc.specs.Finding.{Finds};
+ghost use Rattle.netdesc.specs.Code.Finding.{Finds};
 
-use crate::each::{Check, check_each, row_at};
-use crate::kinds::is_end_system;
-use crate::limits::{GREATEST_DESTINATIONS, GREATEST_OUTAGES, GREATEST_PORTS, GREATEST_PROCESSES};
+use crate::each::{Review, check_each, row_at};
 use crate::links::link_counts;
 use crate::plan::Routed;
 use crate::routes::destinations_of;
-use crate::wiring::Link;
+use crate::wiring::{Link, is_end_system};
 use network_rows::{DescFault, NodeRow, Place, Section};
 use std::alloc::Global;
+
+/// The greatest number of processes: the nodes, and two for each link.
+pub const GREATEST_PROCESSES: usize = 4096;
+
+/// The greatest number of ports of a switch.
+pub const GREATEST_PORTS: usize = 24;
+
+/// The greatest number of outages.
+pub const GREATEST_OUTAGES: usize = 1024;
+
+/// The greatest number of destinations of a virtual link.
+pub const GREATEST_DESTINATIONS: usize = 64;
 
 /// There are more processes than a network may have: so many nodes, and two for each link.
 pub fn has_many_processes(nodes: usize, links: usize) -> bool
@@ -60,16 +70,16 @@ struct Vls {
     alloc: Global,
 }
 
-impl Check for Vls {
+impl Review for Vls {
     type Row = Routed;
 
-    type Kept = ();
+    type Seen = ();
 
     ghost faults = { λ _. too_many_at_vl };
 
-    ghost keeps = { λ _ _ _. ⊤ };
+    ghost saw = { λ _ _ _. ⊤ };
 
-    fn check(&self, _kept: &mut (), i: usize, vl: &Routed) -> Result<(), DescFault> {
+    fn review(&self, _seen: &mut (), i: usize, vl: &Routed) -> Result<(), DescFault> {
         if has_few_paths(vl) {
             return Ok(());
         }

@@ -1,44 +1,89 @@
 //! Rows with numbers in place of names, and the first key or name that is unknown.
 ghost use Rattle.std.specs.Prelude.{◌≡◌, ◌+◌, ◌^◌, ◌<◌, ⊤, List, length, map};
 ghost use Rattle.std.specs.List.{list_any};
+ghost use Rattle.network_rows.specs.declared.fault.DescFault.TheVariants.{UnknownName};
 ghost use Rattle.network_rows.specs.declared.rows.LinkRow.{LinkRow};
 ghost use Rattle.network_rows.specs.declared.rows.OutageRow.{OutageRow};
 ghost use Rattle.network_rows.specs.declared.rows.VlRow.{VlRow};
-ghost use Rattle.netdesc.specs.Names.{names_of};
+ghost use Rattle.netdesc.specs.Rows.{when};
+ghost use Rattle.netdesc.specs.Names.{names_of, number_of};
 ghost use Rattle.netdesc.specs.Plan.{byte_ns_of, path_numbers, paths_numbers, link_plan, outage_plan, virtual_link, vl_plan};
 ghost use Rattle.netdesc.specs.Faults.{is_unknown, has_unknown, unknown_at_node, unknown_at_link, unknown_at_outage, unknown_at_vl, unknown_names};
-ghost use Rattle.netdesc.specs.Views.{Gives, GivesNumbers, items_of, lists_of};
-ghost use Rattle.netdesc.specs.Parts.{parts_of, parts_in};
+ghost use Rattle.netdesc.specs.Code.Finding.{Finds};
+ghost use Rattle.netdesc.specs.Code.Views.{Gives, items_of, lists_of};
+ghost use Rattle.netdesc.specs.Code.Parts.{parts_of, parts_in};
 
-use crate::each::{Check, check_each, key_at, row_at};
-use crate::memory::push;
+use crate::each::{Review, check_each, key_at, row_at};
 use crate::names::Names;
-use crate::plan::{Numbered, Routed};
-use crate::vl::VirtualLink;
+use crate::plan::{Numbered, Routed, VirtualLink};
 use crate::wiring::{Link, Outage};
 use network_rows::{
     DescFault, Key, LinkRow, NodeRow, OutageRow, Path, Paths, Place, Rate, Rows, Section, VlRow,
 };
 use std::alloc::Global;
 
+/// No key of a row, which is at this place, is unknown.
+fn check_keys(has_unknown_key: bool, place: Place) -> Result<(), DescFault>
+    ensures { Finds result (when has_unknown_key (UnknownName place)) }
+{
+    if has_unknown_key {
+        return Err(DescFault::UnknownName(place));
+    }
+    Ok(())
+}
+
+/// The number of the node with this name, which is at this place.
+fn node_at(names: &Names, name: &str, place: Place) -> Result<usize, DescFault>
+    ensures { Gives (λ n. n) result (when (is_unknown (names_of names.now.nodes.now) name.now) (UnknownName place)) (number_of (names_of names.now.nodes.now) name.now) }
+{
+    match names.number(name) {
+        Some(number) => Ok(number),
+        None => Err(DescFault::UnknownName(place)),
+    }
+}
+
+/// The numbers of a path, whose key is at this place.
+fn path_at(alloc: Global, names: &Names, path: &Path, place: Place) -> Result<Vec<usize>, DescFault>
+    ensures { Gives items_of result (when (list_any (is_unknown (names_of names.now.nodes.now)) path.now) (UnknownName place)) (path_numbers (names_of names.now.nodes.now) path.now) }
+{
+    let mut numbers = Vec::new(alloc);
+    for k in 0..path.len() {
+        numbers.push(node_at(names, path.name(k), place)?)?;
+    }
+    Ok(numbers)
+}
+
+/// The numbers of the paths of one network, whose key is at this place.
+fn paths_at(
+    alloc: Global,
+    names: &Names,
+    paths: &Paths,
+    place: Place,
+) -> Result<Vec<Vec<usize>>, DescFault>
+    ensures { Gives lists_of result (when (has_unknown (names_of names.now.nodes.now) paths.now) (UnknownName place)) (paths_numbers (names_of names.now.nodes.now) paths.now) }
+{
+    let mut numbered = Vec::new(alloc);
+    for k in 0..paths.len() {
+        numbered.push(path_at(alloc, names, &paths.path(k), place)?)?;
+    }
+    Ok(numbered)
+}
+
 /// No row of a node has a key that no node has.
 #[derive(Drop)]
 struct NodeKeys {}
 
-impl Check for NodeKeys {
+impl Review for NodeKeys {
     type Row = NodeRow;
 
-    type Kept = ();
+    type Seen = ();
 
     ghost faults = { λ _. unknown_at_node };
 
-    ghost keeps = { λ _ _ _. ⊤ };
+    ghost saw = { λ _ _ _. ⊤ };
 
-    fn check(&self, _kept: &mut (), i: usize, row: &NodeRow) -> Result<(), DescFault> {
-        if row.has_unknown_key {
-            return Err(DescFault::UnknownName(row_at(Section::Node, i)));
-        }
-        Ok(())
+    fn review(&self, _seen: &mut (), i: usize, row: &NodeRow) -> Result<(), DescFault> {
+        check_keys(row.has_unknown_key, row_at(Section::Node, i))
     }
 }
 
@@ -58,15 +103,9 @@ fn link_of(names: &Names, i: usize, row: &LinkRow) -> Result<Link, DescFault>
     ensures { (earlier : List LinkRow) → length earlier ≡ i →
         Gives (λ link. link) result (unknown_at_link (names_of names.now.nodes.now) earlier row.now) (link_plan (names_of names.now.nodes.now) row.now) }
 {
-    if row.has_unknown_key {
-        return Err(DescFault::UnknownName(row_at(Section::Link, i)));
-    }
-    let Some(a) = names.number(row.a.as_str()) else {
-        return Err(DescFault::UnknownName(key_at(Section::Link, i, Key::A)));
-    };
-    let Some(b) = names.number(row.b.as_str()) else {
-        return Err(DescFault::UnknownName(key_at(Section::Link, i, Key::B)));
-    };
+    check_keys(row.has_unknown_key, row_at(Section::Link, i))?;
+    let a = node_at(names, row.a.as_str(), key_at(Section::Link, i, Key::A))?;
+    let b = node_at(names, row.b.as_str(), key_at(Section::Link, i, Key::B))?;
     Ok(Link {
         a,
         b,
@@ -81,18 +120,18 @@ struct Links<'a, 'b> {
     names: &'a Names<'b>,
 }
 
-impl<'a, 'b> Check for Links<'a, 'b> {
+impl<'a, 'b> Review for Links<'a, 'b> {
     type Row = LinkRow;
 
-    type Kept = Vec<Link>;
+    type Seen = Vec<Link>;
 
     ghost faults = { λ s. unknown_at_link (names_of s.names.now.nodes.now) };
 
-    ghost keeps = { λ s made rows. made.items ≡ map (link_plan (names_of s.names.now.nodes.now)) rows };
+    ghost saw = { λ s made rows. made.items ≡ map (link_plan (names_of s.names.now.nodes.now)) rows };
 
-    fn check(&self, made: &mut Vec<Link>, i: usize, row: &LinkRow) -> Result<(), DescFault> {
+    fn review(&self, made: &mut Vec<Link>, i: usize, row: &LinkRow) -> Result<(), DescFault> {
         let link = link_of(self.names, i, row)?;
-        push(made, link)?;
+        made.push(link)?;
         Ok(())
     }
 }
@@ -103,15 +142,13 @@ fn outage_of(names: &Names, i: usize, row: &OutageRow) -> Result<Outage, DescFau
     ensures { (earlier : List OutageRow) → length earlier ≡ i →
         Gives (λ outage. outage) result (unknown_at_outage (names_of names.now.nodes.now) earlier row.now) (outage_plan (names_of names.now.nodes.now) row.now) }
 {
-    if row.has_unknown_key {
-        return Err(DescFault::UnknownName(row_at(Section::Outage, i)));
-    }
-    let Some(from) = names.number(row.from.as_str()) else {
-        return Err(DescFault::UnknownName(key_at(Section::Outage, i, Key::From)));
-    };
-    let Some(to) = names.number(row.to.as_str()) else {
-        return Err(DescFault::UnknownName(key_at(Section::Outage, i, Key::To)));
-    };
+    check_keys(row.has_unknown_key, row_at(Section::Outage, i))?;
+    let from = node_at(
+        names,
+        row.from.as_str(),
+        key_at(Section::Outage, i, Key::From),
+    )?;
+    let to = node_at(names, row.to.as_str(), key_at(Section::Outage, i, Key::To))?;
     Ok(Outage {
         from,
         to,
@@ -126,52 +163,20 @@ struct Outages<'a, 'b> {
     names: &'a Names<'b>,
 }
 
-impl<'a, 'b> Check for Outages<'a, 'b> {
+impl<'a, 'b> Review for Outages<'a, 'b> {
     type Row = OutageRow;
 
-    type Kept = Vec<Outage>;
+    type Seen = Vec<Outage>;
 
     ghost faults = { λ s. unknown_at_outage (names_of s.names.now.nodes.now) };
 
-    ghost keeps = { λ s made rows. made.items ≡ map (outage_plan (names_of s.names.now.nodes.now)) rows };
+    ghost saw = { λ s made rows. made.items ≡ map (outage_plan (names_of s.names.now.nodes.now)) rows };
 
-    fn check(&self, made: &mut Vec<Outage>, i: usize, row: &OutageRow) -> Result<(), DescFault> {
+    fn review(&self, made: &mut Vec<Outage>, i: usize, row: &OutageRow) -> Result<(), DescFault> {
         let outage = outage_of(self.names, i, row)?;
-        push(made, outage)?;
+        made.push(outage)?;
         Ok(())
     }
-}
-
-/// The numbers of a path, or none where no node has one of its names.
-fn path_of(alloc: Global, names: &Names, path: &Path) -> Result<Option<Vec<usize>>, DescFault>
-    ensures { GivesNumbers items_of result (list_any (is_unknown (names_of names.now.nodes.now)) path.now) (path_numbers (names_of names.now.nodes.now) path.now) }
-{
-    let mut numbers = Vec::new(alloc);
-    for k in 0..path.len() {
-        let Some(number) = names.number(path.name(k)) else {
-            return Ok(None);
-        };
-        push(&mut numbers, number)?;
-    }
-    Ok(Some(numbers))
-}
-
-/// The numbers of the paths of one network, or none where no node has one of their names.
-pub fn paths_of(
-    alloc: Global,
-    names: &Names,
-    paths: &Paths,
-) -> Result<Option<Vec<Vec<usize>>>, DescFault>
-    ensures { GivesNumbers lists_of result (has_unknown (names_of names.now.nodes.now) paths.now) (paths_numbers (names_of names.now.nodes.now) paths.now) }
-{
-    let mut numbered = Vec::new(alloc);
-    for k in 0..paths.len() {
-        let Some(path) = path_of(alloc, names, &paths.path(k))? else {
-            return Ok(None);
-        };
-        push(&mut numbered, path)?;
-    }
-    Ok(Some(numbered))
 }
 
 /// What a row says of the frames of its virtual link.
@@ -199,15 +204,9 @@ fn vl_of(alloc: Global, names: &Names, i: usize, row: &VlRow) -> Result<Routed, 
     ensures { (earlier : List VlRow) → length earlier ≡ i →
         Gives (λ vl. vl) result (unknown_at_vl (names_of names.now.nodes.now) earlier row.now) (vl_plan (names_of names.now.nodes.now) row.now) }
 {
-    if row.has_unknown_key {
-        return Err(DescFault::UnknownName(row_at(Section::Vl, i)));
-    }
-    let Some(a) = paths_of(alloc, names, &row.a)? else {
-        return Err(DescFault::UnknownName(key_at(Section::Vl, i, Key::A)));
-    };
-    let Some(b) = paths_of(alloc, names, &row.b)? else {
-        return Err(DescFault::UnknownName(key_at(Section::Vl, i, Key::B)));
-    };
+    check_keys(row.has_unknown_key, row_at(Section::Vl, i))?;
+    let a = paths_at(alloc, names, &row.a, key_at(Section::Vl, i, Key::A))?;
+    let b = paths_at(alloc, names, &row.b, key_at(Section::Vl, i, Key::B))?;
     Ok(Routed::new(virtual_link(row), a, b))
 }
 
@@ -218,18 +217,18 @@ struct Vls<'a, 'b> {
     names: &'a Names<'b>,
 }
 
-impl<'a, 'b> Check for Vls<'a, 'b> {
+impl<'a, 'b> Review for Vls<'a, 'b> {
     type Row = VlRow;
 
-    type Kept = Vec<Routed>;
+    type Seen = Vec<Routed>;
 
     ghost faults = { λ s. unknown_at_vl (names_of s.names.now.nodes.now) };
 
-    ghost keeps = { λ s made rows. made.items ≡ map (vl_plan (names_of s.names.now.nodes.now)) rows };
+    ghost saw = { λ s made rows. made.items ≡ map (vl_plan (names_of s.names.now.nodes.now)) rows };
 
-    fn check(&self, made: &mut Vec<Routed>, i: usize, row: &VlRow) -> Result<(), DescFault> {
+    fn review(&self, made: &mut Vec<Routed>, i: usize, row: &VlRow) -> Result<(), DescFault> {
         let vl = vl_of(self.alloc, self.names, i, row)?;
-        push(made, vl)?;
+        made.push(vl)?;
         Ok(())
     }
 }
@@ -239,13 +238,12 @@ pub fn number_rows(alloc: Global, names: &Names, rows: &Rows) -> Result<Numbered
     requires { names.now.nodes.now ≡ rows.now.nodes }
     ensures { Gives parts_of result (unknown_names rows.now) (parts_in rows.now) }
 {
-    if rows.has_unknown_key {
-        return Err(DescFault::UnknownName(Place {
-            section: Section::Top,
-            row: None,
-            key: None,
-        }));
-    }
+    let top = Place {
+        section: Section::Top,
+        row: None,
+        key: None,
+    };
+    check_keys(rows.has_unknown_key, top)?;
     check_each(&NodeKeys {}, &mut (), rows.nodes.as_slice())?;
     let mut links = Vec::new(alloc);
     check_each(&Links { names }, &mut links, rows.links.as_slice())?;

@@ -1,4 +1,10 @@
-use vlink::VlId;
+//! What nodes are, and what joins them.
+ghost use Rattle.std.specs.Prelude.{◌≡◌, map};
+ghost use Rattle.netdesc.specs.Plan.{node_plan};
+ghost use Rattle.netdesc.specs.Wiring.{is_end_system, is_switch_of, is_end_kind, is_switch_kind};
+
+use network_rows::{NodeKind, NodeRow};
+use vlink::{Net, VlId};
 
 /// A link between two nodes, which are given by their numbers. It carries frames in both directions.
 #[derive(Clone, Copy, Debug, PartialEq, Eq)]
@@ -24,14 +30,14 @@ pub struct Outage {
 
 /// From one node of a path to the next.
 #[derive(Clone, Copy, Debug, PartialEq, Eq)]
-pub struct Step {
+pub struct Hop {
     pub from: usize,
     pub to: usize,
 }
 
 /// One direction of a link.
 #[derive(Clone, Copy, Debug, PartialEq, Eq)]
-pub struct Line {
+pub struct Direction {
     /// The node that it leads out of, and its port there.
     pub from: u16,
     pub from_port: u16,
@@ -49,4 +55,47 @@ pub struct Line {
 pub struct Way {
     pub vl: VlId,
     pub port: u16,
+}
+
+/// The kind is that of an end system.
+fn is_end_kind(kind: NodeKind) -> bool
+    ensures { result ≡ is_end_kind kind }
+{
+    match kind {
+        NodeKind::EndSystem => true,
+        NodeKind::Switch { .. } => false,
+    }
+}
+
+/// The kind is that of a switch of this network.
+fn is_switch_kind(net: Net, kind: NodeKind) -> bool
+    ensures { result ≡ is_switch_kind net kind }
+{
+    match kind {
+        NodeKind::EndSystem => false,
+        NodeKind::Switch { net: own, .. } => match (own, net) {
+            (Net::A, Net::A) | (Net::B, Net::B) => true,
+            (Net::A, Net::B) | (Net::B, Net::A) => false,
+        },
+    }
+}
+
+/// The node with this number is an end system.
+pub fn is_end_system(nodes: &[NodeRow], n: usize) -> bool
+    ensures { result ≡ is_end_system (map node_plan nodes.now) n }
+{
+    match nodes.get(n) {
+        Some(node) => is_end_kind(node.kind),
+        None => false,
+    }
+}
+
+/// The node with this number is a switch of this network.
+pub fn is_switch_of(nodes: &[NodeRow], net: Net, n: usize) -> bool
+    ensures { result ≡ is_switch_of (map node_plan nodes.now) net n }
+{
+    match nodes.get(n) {
+        Some(node) => is_switch_kind(net, node.kind),
+        None => false,
+    }
 }

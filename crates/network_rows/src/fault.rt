@@ -1,5 +1,5 @@
 use crate::key::{Key, Section};
-use std::alloc::AllocError;
+use std::alloc::{AllocError, AllocFailed};
 use thiserror::Error;
 
 /// Where a description has a fault.
@@ -65,6 +65,17 @@ impl From<AllocError> for DescFault {
     ghost from_gives = { λ _ fault. fault ≡ OutOfMemory };
 
     fn from(_: AllocError) -> Self {
+        DescFault::OutOfMemory
+    }
+}
+
+impl<T: Drop> From<AllocFailed<T>> for DescFault {
+    ghost use Rattle.std.specs.Prelude.{◌≡◌};
+    ghost use Rattle.network_rows.specs.declared.fault.DescFault.TheVariants.{OutOfMemory};
+
+    ghost from_gives = { λ _ fault. fault ≡ OutOfMemory };
+
+    fn from(_: AllocFailed<T>) -> Self {
         DescFault::OutOfMemory
     }
 }

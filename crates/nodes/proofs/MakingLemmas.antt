@@ -7,7 +7,7 @@ use Rattle.std.specs.Ordering.{nat_cmp}
 use Rattle.std.specs.List.Sorted.{IsStrictlySortedBy}
 use Rattle.std.proofs.lemmas.Bool.Decides.{nat_tests}
 use Rattle.std.proofs.lemmas.Map.Keys.{sorted_head, sorted_tail, sorted_from_strictly_increasing}
-use Rattle.netdesc.specs.declared.limits.TheConstants.{GREATEST_PORTS}
+use Rattle.netdesc.specs.declared.too_many.TheConstants.{GREATEST_PORTS}
 use Rattle.nodes.specs.declared.meeting.Meeting.{Meeting}
 use Rattle.netdesc.specs.declared.wiring.Way.{Way}
 use Rattle.netdesc.specs.Plan.{Plan, VlPlan}

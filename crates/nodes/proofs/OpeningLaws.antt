@@ -12,8 +12,8 @@ use Rattle.std.proofs.lemmas.List.Elements.{All-from_recursion}
 use Rattle.std.proofs.lemmas.Option.{slice_get_within, none-some}
 use Rattle.network_rows.specs.declared.rows.NodeKind.{NodeKind}
 use Rattle.network_rows.specs.declared.rows.NodeKind.TheVariants as kind
-use Rattle.netdesc.specs.declared.wiring.Line.{Line}
-use Rattle.netdesc.specs.declared.limits.TheConstants.{GREATEST_PORTS}
+use Rattle.netdesc.specs.declared.wiring.Direction.{Direction}
+use Rattle.netdesc.specs.declared.too_many.TheConstants.{GREATEST_PORTS}
 use Rattle.netdesc.specs.Plan.{Plan, NodePlan, VlPlan}
 use Rattle.netdesc.specs.Accepted.{IsAccepted}
 use Rattle.netdesc.specs.Lines.{lines_of}
@@ -27,8 +27,8 @@ use Rattle.nodes.specs.rules.Opening.{leaves_by, wire_among, wires_of, ports_of,
 use Rattle.nodes.specs.rules.Placed.{AllWires, IsPlacedPart, IsPlaced, IsWiredPart, IsWired}
 
 -- what holds of each line, as the wire of a process behind these, holds of the wire that is found
-wire-holds : (P : Wire → Type 0) (n q process : ℕ) (lines : List Line) →
-    ((k : ℕ) (line : Line) → slice_get lines k ≡ Some line → P (record { line = process + k; byte_ns = line.byte_ns })) → IfSome (wire_among n q process lines) P
+wire-holds : (P : Wire → Type 0) (n q process : ℕ) (lines : List Direction) →
+    ((k : ℕ) (line : Direction) → slice_get lines k ≡ Some line → P (record { line = process + k; byte_ns = line.byte_ns })) → IfSome (wire_among n q process lines) P
 wire-holds P n q process [] h = tt
 wire-holds P n q process (line ∷ lines) h =
     go (leaves_by n q line) (wire-holds P n q (process + 1) lines (λ k other there. subst (λ j. P (record { line = j; byte_ns = other.byte_ns })) (omega arith) (h (suc k) other there)))
@@ -61,7 +61,7 @@ none-past (x ∷ xs) zero e = absurd (none-some x (sym e))
 none-past (x ∷ xs) (suc k) e = let rest = none-past xs k e in omega arith
 
 module _ (plan : Plan) (accepted : IsAccepted plan) where
-  wires-hold : (P : Wire → Type 0) → ((k : ℕ) (line : Line) → slice_get (lines_of plan) k ≡ Some line → P (record { line = length plan.nodes + k; byte_ns = line.byte_ns })) →
+  wires-hold : (P : Wire → Type 0) → ((k : ℕ) (line : Direction) → slice_get (lines_of plan) k ≡ Some line → P (record { line = length plan.nodes + k; byte_ns = line.byte_ns })) →
       (n count bytes : ℕ) → AllWires P (ports_of plan n count bytes)
   unfolding wires_of
   wires-hold P h n count bytes =
@@ -71,7 +71,7 @@ module _ (plan : Plan) (accepted : IsAccepted plan) where
   slow-wires : (n count bytes : ℕ) → AllWires (λ wire. 1 ≤ wire.byte_ns) (ports_of plan n count bytes)
   slow-wires = wires-hold (λ wire. 1 ≤ wire.byte_ns) (λ k line there. (line-within plan k line accepted there).times.byte)
 
-  line-process : (k : ℕ) (line : Line) → slice_get (lines_of plan) k ≡ Some line → length plan.nodes + k < process_count plan
+  line-process : (k : ℕ) (line : Direction) → slice_get (lines_of plan) k ≡ Some line → length plan.nodes + k < process_count plan
   line-process k line there = omega (arith, slice_get_within (lines_of plan) k line there, length-lines plan.nodes [] plan.links)
 
   near-wires : (n count bytes : ℕ) → AllWires (λ wire. wire.line < process_count plan) (ports_of plan n count bytes)
@@ -99,7 +99,7 @@ module _ (plan : Plan) (accepted : IsAccepted plan) where
   behind : (p : ℕ) → p < process_count plan → slice_get plan.nodes p ≡ None → p - length plan.nodes < length (lines_of plan)
   behind p lt none = omega (arith, none-past plan.nodes p none, length-lines plan.nodes [] plan.links)
 
-  line-there : (k : ℕ) → k < length (lines_of plan) → (o : Option Line) → slice_get (lines_of plan) k ≡ o →
+  line-there : (k : ℕ) → k < length (lines_of plan) → (o : Option Direction) → slice_get (lines_of plan) k ≡ o →
       IsPlacedPart (part.Line (line_opening plan k o)) × IsWiredPart (process_count plan) (part.Line (line_opening plan k o))
   line-there k lt (Some line) there =
       ((line-within plan k line accepted there).times.propagation, omega (arith, (line-read plan k line accepted there).1))

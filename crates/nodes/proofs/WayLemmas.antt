@@ -8,8 +8,8 @@ use Rattle.std.specs.List.Sorted.{IsStrictlySortedBy}
 use Rattle.std.proofs.lemmas.Bool.Decides.{nat_tests}
 use Rattle.std.proofs.lemmas.List.Elements.{All-from_recursion}
 use Rattle.std.proofs.lemmas.Map.Keys.{sorted_head, sorted_tail, sorted_from_strictly_increasing}
-use Rattle.netdesc.specs.declared.limits.TheConstants.{GREATEST_PORTS}
-use Rattle.netdesc.specs.declared.wiring.Line.{Line}
+use Rattle.netdesc.specs.declared.too_many.TheConstants.{GREATEST_PORTS}
+use Rattle.netdesc.specs.declared.wiring.Direction.{Direction}
 use Rattle.netdesc.specs.declared.wiring.Way.{Way}
 use Rattle.netdesc.specs.Plan.{Plan, VlPlan}
 use Rattle.netdesc.specs.Accepted.{IsAccepted, ids_of}
@@ -38,13 +38,13 @@ all-parts {Y = Y} P f each (x ∷ xs) = joined (f x) (each x) (all-parts P f eac
     joined (y ∷ ys) all later = (all.0, joined ys all.1 later)
 
 -- a way is made of a line that there is
-all-ways : (P : Way → Type 0) (way : Line → Option Way) (lines : List Line) → ((k : ℕ) (line : Line) → slice_get lines k ≡ Some line → AllByRecursion P (option_to_list (way line))) → (route : List ℕ) → AllByRecursion P (ways_over way lines route)
+all-ways : (P : Way → Type 0) (way : Direction → Option Way) (lines : List Direction) → ((k : ℕ) (line : Direction) → slice_get lines k ≡ Some line → AllByRecursion P (option_to_list (way line))) → (route : List ℕ) → AllByRecursion P (ways_over way lines route)
 all-ways P way lines each route = all-parts P (λ k. option_to_list (option_and_then way (slice_get lines k))) at route
   where
     at : (k : ℕ) → AllByRecursion P (option_to_list (option_and_then way (slice_get lines k)))
     at k = go (slice_get lines k) refl
       where
-        go : (o : Option Line) → slice_get lines k ≡ o → AllByRecursion P (option_to_list (option_and_then way o))
+        go : (o : Option Direction) → slice_get lines k ≡ o → AllByRecursion P (option_to_list (option_and_then way o))
         go None e = tt
         go (Some line) e = each k line e
 

@@ -1,5 +1,5 @@
 ghost use Rattle.std.specs.Prelude.{◌≡◌, ◌<◌, length, slice_get, IfOk};
-ghost use Rattle.netdesc.specs.declared.limits.TheConstants.{GREATEST_PORTS};
+ghost use Rattle.netdesc.specs.declared.too_many.TheConstants.{GREATEST_PORTS};
 ghost use Rattle.netdesc.specs.Faults.{process_count};
 ghost use Rattle.netdesc.specs.Lines.{lines_of};
 ghost use Rattle.nodes.specs.rules.Opening.{end_system_opening, switch_opening, line_opening, part_opening, opening};

@@ -9,4 +9,4 @@ mod tables;
 pub use actor_run::{SimFault, run_actors};
 pub use networks::{network_laws, network_layout};
 pub use simulating::{Finished, nodes_of, run};
-pub use tables::{Remains, run_tables, run_tables_with_remains};
+pub use tables::run_tables;

@@ -34,13 +34,6 @@ fn count_all_turns(
     Ok(counted.into_tables()?)
 }
 
-/// What is left of a run once its tables are made: of no more use, and many pieces, which take time to give back.
-#[derive(Drop)]
-pub struct Remains {
-    nodes: Vec<Node>,
-    waiting: Waiting,
-}
-
 /// Simulates a network on one thread, as `run` does, where only the tables are asked for: a note is counted as soon as it is found, and
 /// no row of it is kept. The tables are those of the rows of the one-thread run of the law of virtual time, and after it nothing waits.
 ///
@@ -51,24 +44,9 @@ pub fn run_tables(alloc: Global, network: &Network) -> Result<Tables, SimFault>
     ensures each { IfOk result (λ tables. (rows : List Noted) → AreRowsOf network.now rows → tables ≡ tables_of network.now rows) }
     ensures exhausted { result ≡ Err Exhausted → (n : ℕ) × IsExhaustedAt (simulation_of network.now) n }
 {
-    let (tables, _remains) = run_tables_with_remains(alloc, network)?;
-    Ok(tables)
-}
-
-/// Simulates a network as `run_tables` does, and tells with the tables what is left of the run, which the caller gives back when there is
-/// time for it.
-pub fn run_tables_with_remains(
-    alloc: Global,
-    network: &Network,
-) -> Result<(Tables, Remains), SimFault>
-    ensures whole { IfOk result (λ made. (rows : List Noted) × AreRowsOf network.now rows × (made.0 ≡ tables_of network.now rows)) }
-    ensures each { IfOk result (λ made. (rows : List Noted) → AreRowsOf network.now rows → made.0 ≡ tables_of network.now rows) }
-    ensures exhausted { result ≡ Err Exhausted → (n : ℕ) × IsExhaustedAt (simulation_of network.now) n }
-{
     network_laws(network);
     let offers = offers(alloc, network)?;
     let mut nodes = nodes_of(alloc, network)?;
     let mut waiting = Waiting::of_offers(alloc, offers, nodes.len())?;
-    let tables = count_all_turns(alloc, network, &mut nodes, &mut waiting)?;
-    Ok((tables, Remains { nodes, waiting }))
+    count_all_turns(alloc, network, &mut nodes, &mut waiting)
 }

@@ -6,8 +6,8 @@ use Rattle.rand_pcg.specs.Lcg.{Lcg, started, increment_of, advance}
 use Rattle.rand_pcg.specs.Pcg.{multiplier_64, pcg32}
 use Rattle.vlink.specs.declared.message.Message.{Message}
 use Rattle.vlink.specs.declared.message.Body.TheVariants.{Offer}
-use Rattle.netdesc.specs.declared.limits.TheConstants.{GREATEST_PROCESSES}
-use Rattle.netdesc.specs.declared.vl.VirtualLink.{VirtualLink}
+use Rattle.netdesc.specs.declared.too_many.TheConstants.{GREATEST_PROCESSES}
+use Rattle.netdesc.specs.declared.plan.VirtualLink.{VirtualLink}
 use Rattle.netdesc.specs.Plan.{Plan, VlPlan}
 use Rattle.netdesc.specs.Trees.{source_of}
 

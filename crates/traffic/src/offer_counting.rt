@@ -5,7 +5,7 @@ ghost use Rattle.netdesc.specs.Limits.{IsLinkInLimits};
 ghost use Rattle.traffic.specs.Offers.{due_of, moment_of, due_count, offers_from, offers_of};
 
 use crate::drawing::{due_count, moment};
-use netdesc::{Described, VirtualLink};
+use netdesc::{Network, VirtualLink};
 use rand_core::utils::NextWord;
 use rand_pcg::Lcg64Xsh32;
 use vlink::Time;
@@ -54,8 +54,8 @@ fn vl_offer_count(seed: u64, until: Time, link: &VirtualLink) -> u64
     count
 }
 
-/// How many offers a network that is described has: as many as `offers` makes.
-pub fn offer_count(network: &Described) -> u64
+/// How many offers a network has: as many as `offers` makes.
+pub fn offer_count(network: &Network) -> u64
     ensures { result ≡ length (offers_of network.now) }
 {
     network.accepted();

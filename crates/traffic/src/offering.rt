@@ -5,12 +5,12 @@ ghost use Rattle.netdesc.specs.Trees.{source_of};
 ghost use Rattle.traffic.specs.Offers.{offers_of_vl, offers_of};
 
 use crate::drawing::{due_count, push_offers};
-use netdesc::{Described, Network};
+use netdesc::Network;
 use std::alloc::{AllocError, Global};
 use vlink::Message;
 
 /// The process where the frames of the virtual link with this place begin.
-fn source_of(network: &Described, vl: usize) -> u16
+fn source_of(network: &Network, vl: usize) -> u16
     requires { vl < length network.now.vls }
     ensures { option_and_then source_of (slice_get network.now.vls vl) ≡ Some result }
 {
@@ -20,7 +20,7 @@ fn source_of(network: &Described, vl: usize) -> u16
 
 /// How many offers are due, with those that come after the end of the run since they are drawn to be late. The list of offers gets this
 /// room at once; any other would do, and would be left piece by piece.
-fn most_offers(network: &Described) -> usize {
+fn most_offers(network: &Network) -> usize {
     let mut most: usize = 0;
     for place in 0..network.vl_count() {
         let due = due_count(network.until(), &network.virtual_link(place));
@@ -30,7 +30,7 @@ fn most_offers(network: &Described) -> usize {
 }
 
 /// Puts the offers of the virtual link with this place behind those of the ones before it.
-fn push_vl(offers: &mut Vec<Message>, network: &Described, vl: usize) -> Result<(), AllocError>
+fn push_vl(offers: &mut Vec<Message>, network: &Network, vl: usize) -> Result<(), AllocError>
     requires place { vl < length network.now.vls }
     requires before { offers.old.items ≡ flat_map (offers_of_vl network.now) (take vl network.now.vls) }
     ensures { OnOk result (offers.new.items ≡ flat_map (offers_of_vl network.now) (take (vl + 1) network.now.vls)) }
@@ -51,10 +51,9 @@ fn push_vl(offers: &mut Vec<Message>, network: &Described, vl: usize) -> Result<
 pub fn offers(alloc: Global, network: &Network) -> Result<Vec<Message>, AllocError>
     ensures { IfOk result (λ offers. offers.items ≡ offers_of network.now) }
 {
-    let described = network.described();
-    let mut offers = Vec::with_capacity(alloc, most_offers(described))?;
-    for vl in 0..described.vl_count() {
-        push_vl(&mut offers, described, vl)?;
+    let mut offers = Vec::with_capacity(alloc, most_offers(network))?;
+    for vl in 0..network.vl_count() {
+        push_vl(&mut offers, network, vl)?;
     }
     Ok(offers)
 }

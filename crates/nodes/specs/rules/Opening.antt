@@ -12,9 +12,9 @@ use Rattle.output_port.specs.Port as port
 use Rattle.output_port.specs.Port.{PortState}
 use Rattle.output_port.specs.declared.event.Priority as waiting
 use Rattle.output_port.specs.declared.event.Priority.TheVariants.{High, Low}
-use Rattle.netdesc.specs.declared.limits.TheConstants.{GREATEST_PORTS}
-use Rattle.netdesc.specs.declared.vl.VirtualLink.{VirtualLink}
-use Rattle.netdesc.specs.declared.wiring.Line.{Line}
+use Rattle.netdesc.specs.declared.too_many.TheConstants.{GREATEST_PORTS}
+use Rattle.netdesc.specs.declared.plan.VirtualLink.{VirtualLink}
+use Rattle.netdesc.specs.declared.wiring.Direction.{Direction}
 use Rattle.netdesc.specs.declared.wiring.Way.{Way}
 use Rattle.netdesc.specs.Plan.{Plan, NodePlan, VlPlan}
 use Rattle.netdesc.specs.Lines.{lines_of, outages_of}
@@ -37,11 +37,11 @@ use Rattle.nodes.specs.rules.Node.{NodeState}
 -- ---- ports
 
 -- the line leaves node n by port q
-abbrev pub leaves_by : ℕ → ℕ → Line → Bool
+abbrev pub leaves_by : ℕ → ℕ → Direction → Bool
 leaves_by n q line = (line.from == n) && (line.from_port == q)
 
 -- the first of these lines that does; they are the processes from `process` on
-abbrev pub wire_among : ℕ → ℕ → ℕ → List Line → Option Wire
+abbrev pub wire_among : ℕ → ℕ → ℕ → List Direction → Option Wire
 wire_among n q process [] = None
 wire_among n q process (line ∷ lines) =
     if leaves_by n q line
@@ -126,7 +126,7 @@ node_opening plan n bytes kind.EndSystem = part.EndSystem (end_system_opening pl
 node_opening plan n bytes (kind.Switch net latency_ns) = part.Switch (switch_opening plan n latency_ns bytes)
 
 -- line k; where there is none, a line without a propagation time and outages stands for it
-abbrev pub line_opening : Plan → ℕ → Option Line → LineState
+abbrev pub line_opening : Plan → ℕ → Option Direction → LineState
 line_opening plan k (Some line) = record { to = line.to; to_port = line.to_port; propagation = line.propagation_ns; outages = outages_of plan k }
 line_opening plan k None = record { to = 0; to_port = 0; propagation = 0; outages = [] }
 

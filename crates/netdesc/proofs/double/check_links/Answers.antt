@@ -1,4 +1,4 @@
-use Rattle.std.proofs.Common.{◌≡◌, ◌<◌, true, false, length, take, get_or, arith, ap, sym, ◌∙◌, refl, inr, Some}
+use Rattle.std.proofs.Common.{◌≡◌, ◌<◌, true, false, length, take, get_or, arith, ap, sym, refl, inr, Some}
 use Rattle.network_rows.specs.declared.fault.DescFault.TheVariants.{DoubleName}
 use Rattle.netdesc.specs.Wiring.{joins, is_linked}
 use Rattle.netdesc.specs.Faults.{double_at_link}

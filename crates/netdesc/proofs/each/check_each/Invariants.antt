@@ -4,6 +4,6 @@ use Rattle.netdesc.proofs.each.check_each.Given as goal
 
 abbrev pub invariant-loop-i : goal.invariant-loop-i
 invariant-loop-i g l = record {
-  none : each (g.C.Check.faults l.check) (take l.i l.rows) ≡ [];
-  keeps : g.C.Check.keeps l.check l.kept (take l.i l.rows);
+  none : each (g.R.Review.faults l.review) (take l.i l.rows) ≡ [];
+  saw : g.R.Review.saw l.review l.seen (take l.i l.rows);
 }

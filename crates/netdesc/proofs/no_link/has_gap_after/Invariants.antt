@@ -1,9 +1,9 @@
 use Rattle.std.proofs.Common.{◌≡◌, drop}
 use Rattle.std.specs.List.{list_any}
-use Rattle.netdesc.specs.Trees.{steps_after}
+use Rattle.netdesc.specs.Trees.{hops_after}
 use Rattle.netdesc.specs.Faults.{is_gap}
 use Rattle.netdesc.proofs.no_link.has_gap_after.Given as goal
 
 abbrev pub invariant-loop-to : goal.invariant-loop-to
 invariant-loop-to l =
-    list_any (is_gap l.joined.links.now) (steps_after l.from (drop l.to-index l.others)) ≡ list_any (is_gap l.joined.links.now) (steps_after l.fn.from l.others)
+    list_any (is_gap l.joined.links.now) (hops_after l.from (drop l.to-index l.others)) ≡ list_any (is_gap l.joined.links.now) (hops_after l.fn.from l.others)

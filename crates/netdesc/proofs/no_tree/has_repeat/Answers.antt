@@ -1,7 +1,7 @@
 use Rattle.std.proofs.Common.{◌≡◌, ◌+◌, ◌<◌, true, false, ◌==◌, ◌||◌, length, take, get_or, refl, ap, sym, ◌∙◌, arith}
 use Rattle.std.specs.List.{list_any}
 use Rattle.std.proofs.lemmas.List.Folds.{list_any_more}
-use Rattle.netdesc.proofs.DoubleLemmas.{has_double-more, has_double-taken}
+use Rattle.netdesc.proofs.DoubleLemmas.{has_double-more, has_double-taken, contains-put}
 use Rattle.netdesc.proofs.no_tree.has_repeat.Goals as goal
 
 pub returns-then-contains : goal.returns-then-contains
@@ -20,5 +20,5 @@ loop-n-preserved c =
     let absent : list_any (λ n. n == get_or xs i 0) (take i xs) ≡ false = sym (c.loop-n.invariant.had (get_or xs i 0)) ∙ (sym c.contains.ensures ∙ c.if-contains.false) in
     record {
       apart = has_double-more xs i 0 lt ∙ rw (c.loop-n.invariant.apart, absent) refl;
-      had = λ m. c.in_ok-add.ensures.added m ∙ ap (λ b. b || (get_or xs i 0 == m)) (c.loop-n.invariant.had m) ∙ sym (list_any_more (λ n. n == m) xs i 0 lt);
+      had = λ m. contains-put c.loop-n.seen c.insert.new.self (get_or xs i 0) c.in_ok-insert.ensures.updates m ∙ ap (λ b. b || (get_or xs i 0 == m)) (c.loop-n.invariant.had m) ∙ sym (list_any_more (λ n. n == m) xs i 0 lt);
     }

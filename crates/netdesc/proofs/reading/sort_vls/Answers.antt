@@ -4,7 +4,7 @@ use Rattle.netdesc.specs.Accepted.{id_of}
 use Rattle.netdesc.proofs.BuildLemmas.{rising-map}
 use Rattle.netdesc.proofs.reading.sort_vls.Goals as goal
 
-pub returns-in-Ok-clause-in_order : goal.returns-in-Ok-clause-in_order
-returns-in-Ok-clause-in_order c =
+pub returns-clause-in_order : goal.returns-clause-in_order
+returns-clause-in_order c =
     let xs = c.sort_by_key.new.self.items in
-    rising-map id_of xs (IsNonDecreasingBy-from_sort_by_key id_of xs c.in-Ok.ensures.sorted (λ a r q k. search rules))
+    rising-map id_of xs (IsNonDecreasingBy-from_sort_by_key id_of xs c.in_ok-sort_by_key.ensures.sorted (λ a r q k. search rules))

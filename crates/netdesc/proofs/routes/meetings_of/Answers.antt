@@ -1,11 +1,11 @@
-use Rattle.std.proofs.Common.{◌≡◌, ℕ, ◌+◌, ◌<◌, List, ◌∷◌, ◌++◌, length, drop, get_or, vec_len, ap, sym, ◌∙◌, arith, append_assoc}
+use Rattle.std.proofs.Common.{◌≡◌, ℕ, ◌+◌, ◌<◌, List, ◌++◌, length, drop, get_or, ap, sym, ◌∙◌, arith, append_assoc}
 use Rattle.std.specs.List.{flat_map}
 use Rattle.std.proofs.lemmas.List.{drop_more}
 use Rattle.netdesc.specs.declared.wiring.Way.{Way}
 use Rattle.netdesc.specs.declared.routes.End.TheVariants.{From, To}
 use Rattle.netdesc.specs.Plan.{VlPlan}
-use Rattle.netdesc.specs.Lines.{leaves, comes_in, ways_over, route_over}
-use Rattle.netdesc.specs.Views.{ways_at, way_at}
+use Rattle.netdesc.specs.Lines.{leaves, comes_in, ways_over}
+use Rattle.netdesc.specs.Code.Views.{ways_at, way_at}
 use Rattle.netdesc.proofs.routes.meetings_of.Goals as goal
 
 -- what one virtual link more puts behind

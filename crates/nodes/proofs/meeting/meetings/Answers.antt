@@ -1,6 +1,6 @@
 use Rattle.std.proofs.Common.{◌≡◌, ℕ, ◌<◌, List, map, ap, sym, ◌∙◌, subst}
 use Rattle.std.specs.Prelude.{All, IfOk}
-use Rattle.netdesc.specs.declared.limits.TheConstants.{GREATEST_PORTS}
+use Rattle.netdesc.specs.declared.too_many.TheConstants.{GREATEST_PORTS}
 use Rattle.std.specs.List.{flat_map}
 use Rattle.netdesc.specs.declared.wiring.Way.{Way}
 use Rattle.netdesc.specs.Plan.{Plan}

@@ -1,7 +1,7 @@
 use Rattle.std.proofs.Common.{false, arith, ap, ◌∙◌}
 use Rattle.std.proofs.lemmas.List.{take_all}
 use Rattle.std.proofs.lemmas.List.FromFn.{fill_by_all}
-use Rattle.netdesc.specs.declared.limits.TheConstants.{GREATEST_PORTS}
+use Rattle.netdesc.specs.declared.too_many.TheConstants.{GREATEST_PORTS}
 use Rattle.nodes.specs.rules.Meeting.{is_by, ports_by}
 use Rattle.nodes.proofs.meeting.ports_by.Goals as goal
 

@@ -1,0 +1,14 @@
+use Rattle.std.proofs.Common.{◌≤◌, subst, arith}
+use Rattle.std.proofs.lemmas.List.{length-map}
+use Rattle.netdesc.specs.declared.too_many.TheConstants.{GREATEST_PROCESSES}
+use Rattle.netdesc.specs.Plan.{node_plan}
+use Rattle.netdesc.specs.Faults.{process_count}
+use Rattle.netdesc.proofs.BuildLemmas.{few-accepted}
+use Rattle.netdesc.proofs.network.Network.process_count.Goals as goal
+
+pub overflow_add-result : goal.overflow_add-result
+overflow_add-result c =
+    omega (arith, few-accepted _ c.self.invariant.0, length-map c.self.inside.nodes.items node_plan, c.len.ensures, c.len-2.ensures)
+
+pub returns-clause-few : goal.returns-clause-few
+returns-clause-few c = subst (λ plan. process_count plan ≤ GREATEST_PROCESSES) c.self.view_is (few-accepted _ c.self.invariant.0)

@@ -1,0 +1,7 @@
+use Rattle.std.proofs.Common.{◌≡◌, ◌++◌, drop, map}
+use Rattle.netdesc.specs.Trees.{all_hops}
+use Rattle.netdesc.specs.Code.Views.{items_of}
+use Rattle.netdesc.proofs.routes.push_all.Given as goal
+
+abbrev pub invariant-loop-path : goal.invariant-loop-path
+invariant-loop-path l = l.hops.items ++ all_hops (map items_of (drop l.path-index l.paths)) ≡ l.fn.hops.items ++ all_hops (map items_of l.paths)

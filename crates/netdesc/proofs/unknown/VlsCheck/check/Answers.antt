@@ -1,9 +1,0 @@
-use Rattle.netdesc.specs.Names.{names_of}
-use Rattle.netdesc.specs.Plan.{vl_plan}
-use Rattle.netdesc.proofs.EachLemmas.{map-push}
-use Rattle.netdesc.proofs.unknown.VlsCheck.check.Goals as goal
-
-pub returns : goal.returns
-returns c = λ earlier at made.
-    let here = c.in_ok-vl.ensures earlier at in
-    (here.0, map-push (vl_plan (names_of c.args.self.now.names.now.nodes.now)) earlier c.args.row.now _ _ c.in_ok-vl.vl made c.in_ok-push.ensures.pushed here.1)

@@ -1,0 +1,11 @@
+use Rattle.std.proofs.Common.{◌≡◌, false, take, map}
+use Rattle.std.specs.List.{list_any}
+use Rattle.netdesc.specs.Names.{names_of, number_of}
+use Rattle.netdesc.specs.Faults.{is_unknown}
+use Rattle.netdesc.proofs.unknown.path_at.Given as goal
+
+abbrev pub invariant-loop-k : goal.invariant-loop-k
+invariant-loop-k l = record {
+  known : list_any (is_unknown (names_of l.names.nodes.now)) (take l.k l.path) ≡ false;
+  made : l.numbers.items ≡ map (number_of (names_of l.names.nodes.now)) (take l.k l.path);
+}

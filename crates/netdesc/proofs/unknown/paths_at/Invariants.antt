@@ -1,0 +1,13 @@
+use Rattle.std.proofs.Common.{◌≡◌, false, take, map}
+use Rattle.std.specs.List.{list_any}
+use Rattle.netdesc.specs.Names.{names_of}
+use Rattle.netdesc.specs.Plan.{path_numbers}
+use Rattle.netdesc.specs.Faults.{is_unknown}
+use Rattle.netdesc.specs.Code.Views.{lists_of}
+use Rattle.netdesc.proofs.unknown.paths_at.Given as goal
+
+abbrev pub invariant-loop-k : goal.invariant-loop-k
+invariant-loop-k l = record {
+  known : list_any (λ path. list_any (is_unknown (names_of l.names.nodes.now)) path) (take l.k l.paths) ≡ false;
+  made : lists_of l.numbered ≡ map (path_numbers (names_of l.names.nodes.now)) (take l.k l.paths);
+}

@@ -1,0 +1,6 @@
+-- What the code keeps and what its checks answer, against the definitions. It serves contracts within the crate, and proofs: no definition of
+-- what is accepted needs it.
+pub mod Finding
+pub mod Views
+pub mod Parts
+pub mod Tables

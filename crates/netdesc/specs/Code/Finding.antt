@@ -1,0 +1,47 @@
+-- What checks answer, and what maps of numbers hold.
+use Rattle.std.specs.Prelude.{ℕ, ◌≡◌, List, [], Option, Some, Result, Ok, Err, Contains}
+use Rattle.std.specs.Cmp.Lexicographic.{slice_cmp}
+use Rattle.std.specs.Ordering.{nat_cmp, ordering_then}
+use Rattle.std.specs.declared.cmp.Ordering.{Ordering}
+use Rattle.std.specs.List.{list_any}
+use Rattle.std.specs.BTreeSet.{BTreeSet, contains}
+use Rattle.vlink.specs.declared.frame.Net.{Net}
+use Rattle.std.specs.BTreeMap.{BTreeMap, get_by, get}
+use denote.Ref.{Bor}
+use Rattle.network_rows.specs.declared.fault.DescFault.{DescFault}
+use Rattle.netdesc.specs.declared.wiring.Link.{Link}
+use Rattle.netdesc.specs.declared.wiring.Hop.{Hop}
+use Rattle.netdesc.specs.Faults.{Tells}
+use Rattle.netdesc.specs.Names.{place_among}
+use Rattle.netdesc.specs.Wiring.{link_between, leads}
+use Rattle.netdesc.specs.Plan.{NodePlan}
+
+-- there is none of these faults, or the first one is told
+abbrev pub Finds : {X : Type 0} → Result X DescFault → List DescFault → Type 0
+Finds (Ok x) faults = faults ≡ []
+Finds (Err fault) faults = Tells fault faults
+
+-- the map has the number of each name
+abbrev pub AreNumbers : BTreeMap (Bor (List ℕ)) ℕ → List (List ℕ) → Type 0
+AreNumbers numbers names = (name : List ℕ) → get_by (λ k. slice_cmp nat_cmp name k.now) numbers ≡ place_among names name
+
+-- pairs of numbers, by the first and then by the second
+abbrev pub pair_cmp : ℕ × ℕ → ℕ × ℕ → Ordering
+pair_cmp p q = ordering_then (nat_cmp p.0 q.0) (nat_cmp p.1 q.1)
+
+-- the map has the place of the link for each two nodes
+abbrev pub AreJoined : BTreeMap (ℕ × ℕ) ℕ → List Link → Type 0
+AreJoined places links = (x y : ℕ) → get pair_cmp places (x, y) ≡ link_between links x y
+
+-- the set has the nodes that one of these links leads from to a switch of the network
+abbrev pub AreAttached : List NodePlan → Net → BTreeSet ℕ → List Link → Type 0
+AreAttached nodes net attached links = (n : ℕ) → contains nat_cmp attached n ≡ list_any (leads nodes net n) links
+
+-- for each node that one of these hops leads to, the node that all of them lead there from
+abbrev pub AreWaysBy : (ℕ → Option ℕ) → List Hop → Type 0
+AreWaysBy from_of hops = ((s : Hop) → Contains hops s → from_of s.to ≡ Some s.from)
+    × ((to from : ℕ) → from_of to ≡ Some from → Contains hops (record { from = from; to = to }))
+
+-- the map has them
+abbrev pub AreWays : BTreeMap ℕ ℕ → List Hop → Type 0
+AreWays ways hops = AreWaysBy (get nat_cmp ways) hops
