@@ -1,15 +1,14 @@
 -- What a read of a file gives, and what its bytes are as a description.
-use Rattle.std.specs.Prelude.{◌≡◌, ◌⊎◌, ℕ, List, [], Option, None, Some, IsUtf8}
+use Rattle.std.specs.Prelude.{◌≡◌, ◌⊎◌, ℕ, List, Option, None, Some, IsUtf8}
 use Rattle.network_rows.specs.declared.fault.DescFault.TheVariants.{Syntax}
-use Rattle.netdesc.specs.Faults.{Tells}
 use Rattle.netdesc.specs.Plan.{Plan}
-use Rattle.netdesc.specs.Description.{faults_of_description, Describes}
+use Rattle.netdesc.specs.Description.{TellsFaultOf, Describes}
 use Rattle.afdxsim.specs.declared.fault.Fault.{Fault}
 use Rattle.afdxsim.specs.declared.fault.Fault.TheVariants.{Description, JournalLine, JournalFull, CannotRead, CannotWriteFile, CannotWrite, OutOfMemory, Exhausted}
 
 -- the first fault of these bytes as a description, or want of memory; that of bytes that are no text is their syntax
 abbrev pub TellsOf : List ℕ → Fault → Type 0
-TellsOf bytes (Description fault) = (IsUtf8 bytes × Tells fault (faults_of_description bytes)) ⊎ (¬ (IsUtf8 bytes) × (fault ≡ Syntax))
+TellsOf bytes (Description fault) = (IsUtf8 bytes × TellsFaultOf bytes fault) ⊎ (¬ (IsUtf8 bytes) × (fault ≡ Syntax))
 TellsOf bytes (JournalLine n) = ⊥
 TellsOf bytes JournalFull = ⊥
 TellsOf bytes (CannotRead path) = ⊥
@@ -29,9 +28,9 @@ IsFaultOfFile gives path CannotWrite = ⊥
 IsFaultOfFile gives path OutOfMemory = Unit
 IsFaultOfFile gives path Exhausted = ⊥
 
--- a read of the file may give a text without a fault, which describes this network
+-- a read of the file may give a text that describes this network: it has no fault then
 abbrev pub GivesNetwork : (Option (List ℕ) → Type 0) → Plan → Type 0
-GivesNetwork gives plan = (bytes : List ℕ) × gives (Some bytes) × (faults_of_description bytes ≡ []) × Describes bytes plan
+GivesNetwork gives plan = (bytes : List ℕ) × gives (Some bytes) × Describes bytes plan
 
 -- why the file with this path gave no network: it was not read, or a read of it may give bytes with this fault
 abbrev pub IsFaultOfNet : (Option (List ℕ) → Type 0) → List ℕ → Fault → Type 0

@@ -1,6 +1,6 @@
 //! From a file to the network that it describes.
-ghost use Rattle.std.specs.Prelude.{◌≡◌, [], OnOk, IfOk, IfErr};
-ghost use Rattle.netdesc.specs.Description.{faults_of_description, Describes};
+ghost use Rattle.std.specs.Prelude.{◌≡◌, OnOk, IfOk, IfErr};
+ghost use Rattle.netdesc.specs.Description.{HasNoFault, Describes};
 ghost use Rattle.afdxsim.specs.Reading.{GivesNetwork, IsFaultOfFile, IsFaultOfNet, TellsOf};
 
 use crate::fault::Fault;
@@ -22,7 +22,7 @@ fn text_in(bytes: &[u8]) -> Result<&str, Fault<'static>>
 
 /// The network that these bytes describe.
 pub fn network_in(alloc: Global, bytes: &[u8]) -> Result<Network, Fault<'static>>
-    ensures sound { OnOk result (faults_of_description bytes.now ≡ []) }
+    ensures sound { OnOk result (HasNoFault bytes.now) }
     ensures network { IfOk result (Describes bytes.now) }
     ensures fault { IfErr result (TellsOf bytes.now) }
 {
