@@ -30,6 +30,8 @@ run +10 +20 +30 tray arrive arrive arrive arrive tray run run run run outbox => 
 +10 arrive run +20 arrive run +30 arrive run post -20 arrive seal seal => 0 10 0 20 0 30 2 1 0 sum 10 counter 1
 -10 arrive count:10 next +10 arrive count:10 next run oldest => 0 -1 none 0 0 none none none sum 0 counter 0
 +10 arrive run +10 arrive count:10 seal -10 arrive count:10 oldest run committed seal committed rows count:10 oldest seal => 0 10 0 2 0 0 1 10 none 0 1 1 0 0 none 0 sum 10 counter 1
+Where memory is refused as the straggler arrives, the three events stay done, it stays in the tray, and nothing is sent; then it undoes two.
++10 arrive run +20 arrive run +30 arrive run post +15 tray committable:50:9 outbox arrive tray committable:50:9 outbox => 0 10 0 20 0 30 1 3 2 0 1 -35.2 -25.1 sum 0 counter 0
 A message is present where its count is above 0, and is handled once however often it came.
 +10 +10 +10 arrive arrive arrive count:10 next run run => 0 0 0 3 10@2 10 none sum 0 counter 0
 +10 +10 +10 -10 -10 arrive arrive arrive arrive count:10 arrive count:10 next => 0 0 0 0 2 0 1 10@2 sum 0 counter 0

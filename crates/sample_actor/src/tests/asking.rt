@@ -6,19 +6,20 @@ use process_queues::{ProcFault, Process};
 use reverse::Actor;
 use std::fmt::Write;
 use std::process::Abort;
-use vlink::{Message, Time};
+use vlink::{GREATEST_NS, Message, Time};
 
-// What can be seen of a process: how many letters are in its tray and in its outbox, its oldest done event, the message that comes next, and
-// how many events are committed.
+// What can be seen of a process: how many letters are in its tray and in its outbox, its oldest done event, the message that comes next, how
+// many events are committed, and how many more could be at the end.
 pub(crate) fn seen(
     process: &Process<Summing>,
-) -> (usize, usize, Option<Time>, Option<Message>, u64) {
+) -> (usize, usize, Option<Time>, Option<Message>, u64, usize) {
     (
         process.tray_len(),
         process.outbox().len(),
         process.oldest(),
         process.next(),
         process.committed(),
+        process.committable(Time::new(GREATEST_NS).unwrap_or_default(), usize::MAX),
     )
 }
 
