@@ -14,7 +14,7 @@ use Rattle.journal_text.specs.declared.fault.LinesFault.TheVariants as journal
 use Rattle.journal_text.specs.Lines.{HasCause}
 use Rattle.trace_tables.specs.Tables.{TableLists, tables_of}
 use Rattle.antimessages.specs.Steps.{step_of}
-use Rattle.timewarp.specs.declared.counting.Replay.{Replay}
+use Rattle.timewarp.specs.declared.replaying.Replay.{Replay}
 use Rattle.timewarp.specs.Networks.{NetworkWorld, after, IsAfter, AreCommittedRows}
 use Rattle.timewarp.specs.Replaying.{did, not_enabled, refused}
 use Rattle.timewarp.specs.Replayed.{IsReplayed}

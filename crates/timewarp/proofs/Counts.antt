@@ -9,7 +9,7 @@ use Rattle.virtual_time.specs.Simulation.{Simulation}
 use Rattle.virtual_time.specs.World.{World, is_enabled, step, run, start}
 use Rattle.nodes.specs.rules.Simulation.{simulation_of}
 use Rattle.antimessages.specs.Steps.{step_of, names_none}
-use Rattle.timewarp.specs.declared.counting.Replay.{Replay}
+use Rattle.timewarp.specs.declared.replaying.Replay.{Replay}
 use Rattle.timewarp.specs.Replaying.{did, not_enabled, refused}
 use Rattle.timewarp.specs.Networks.{after, IsAfter}
 use Rattle.timewarp.specs.Replayed.{IsReplayed}

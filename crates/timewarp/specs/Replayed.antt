@@ -4,7 +4,7 @@ use Rattle.vlink.specs.declared.step.Step.{Step as Noted}
 use Rattle.virtual_time.specs.World.{start}
 use Rattle.nodes.specs.rules.Simulation.{simulation_of}
 use Rattle.antimessages.specs.Steps.{step_of}
-use Rattle.timewarp.specs.declared.counting.Replay.{Replay}
+use Rattle.timewarp.specs.declared.replaying.Replay.{Replay}
 use Rattle.timewarp.specs.Networks.{IsAfter}
 use Rattle.timewarp.specs.Replaying as count
 

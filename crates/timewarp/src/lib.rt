@@ -2,15 +2,15 @@
 //! and the replay of journals.
 #![tactic(auto)]
 
-mod counting;
 mod journal;
 mod laws;
+mod replaying;
 mod tables;
 mod world;
 
 pub use actor_world::{Done, StepFault};
-pub use counting::Replay;
 pub use journal::replay;
 pub use laws::world_laws;
+pub use replaying::Replay;
 pub use vlink::Step;
 pub use world::World;

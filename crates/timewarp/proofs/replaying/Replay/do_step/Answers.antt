@@ -4,14 +4,14 @@ use Rattle.std.proofs.lemmas.Bool.{false≢true, false_from_ne_true}
 use Rattle.nodes.specs.rules.Simulation.{simulation_of}
 use Rattle.netdesc.specs.Plan.{Plan}
 use Rattle.antimessages.specs.Steps.{step_of, names_none}
-use Rattle.timewarp.specs.declared.counting.Replay.{Replay}
+use Rattle.timewarp.specs.declared.replaying.Replay.{Replay}
 use Rattle.actor_world.specs.declared.done.Done.TheVariants.{Did, NotEnabled}
 use Rattle.actor_world.specs.declared.fault.StepFault.{StepFault}
 use Rattle.timewarp.specs.Networks.{after}
 use Rattle.actor_world.proofs.Answering.{step-not}
 use Rattle.timewarp.proofs.Counts.{replayed, unknown-not-enabled}
 use Rattle.timewarp.proofs.NetworkWorlds.{stepped-same}
-use Rattle.timewarp.proofs.counting.Replay.do_step.Goals as goal
+use Rattle.timewarp.proofs.replaying.Replay.do_step.Goals as goal
 
 pub returns-in-Ok-Did-clause-replayed : goal.returns-in-Ok-Did-clause-replayed
 returns-in-Ok-Did-clause-replayed c = λ steps h.
