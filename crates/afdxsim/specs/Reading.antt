@@ -4,7 +4,7 @@ use Rattle.network_rows.specs.declared.fault.DescFault.TheVariants.{Syntax}
 use Rattle.netdesc.specs.Plan.{Plan}
 use Rattle.netdesc.specs.Description.{TellsFaultOf, Describes}
 use Rattle.afdxsim.specs.declared.fault.Fault.{Fault}
-use Rattle.afdxsim.specs.declared.fault.Fault.TheVariants.{Description, JournalLine, JournalFull, CannotRead, CannotWriteFile, CannotWrite, OutOfMemory, Exhausted}
+use Rattle.afdxsim.specs.declared.fault.Fault.TheVariants.{Description, JournalLine, JournalFull, CannotRead, CannotWriteFile, CannotWrite, Layout, OutOfMemory, Exhausted}
 
 -- the first fault of these bytes as a description, or want of memory; that of bytes that are no text is their syntax
 abbrev pub TellsOf : List ℕ → Fault → Type 0
@@ -14,6 +14,7 @@ TellsOf bytes JournalFull = ⊥
 TellsOf bytes (CannotRead path) = ⊥
 TellsOf bytes (CannotWriteFile path) = ⊥
 TellsOf bytes CannotWrite = ⊥
+TellsOf bytes Layout = ⊥
 TellsOf bytes OutOfMemory = ⊥
 TellsOf bytes Exhausted = ⊥
 
@@ -25,6 +26,7 @@ IsFaultOfFile gives path JournalFull = ⊥
 IsFaultOfFile gives path (CannotRead at) = (at.now ≡ path) × gives None
 IsFaultOfFile gives path (CannotWriteFile at) = ⊥
 IsFaultOfFile gives path CannotWrite = ⊥
+IsFaultOfFile gives path Layout = ⊥
 IsFaultOfFile gives path OutOfMemory = Unit
 IsFaultOfFile gives path Exhausted = ⊥
 

@@ -18,7 +18,7 @@ use Rattle.timewarp.specs.Networks.{after, AreCommittedRows}
 use Rattle.timewarp.specs.Replaying.{did, not_enabled, refused}
 use Rattle.afdxsim.specs.declared.account.Account.{Account}
 use Rattle.afdxsim.specs.declared.fault.Fault.{Fault}
-use Rattle.afdxsim.specs.declared.fault.Fault.TheVariants.{Description, JournalLine, JournalFull, CannotRead, CannotWriteFile, CannotWrite, OutOfMemory, Exhausted}
+use Rattle.afdxsim.specs.declared.fault.Fault.TheVariants.{Description, JournalLine, JournalFull, CannotRead, CannotWriteFile, CannotWrite, Layout, OutOfMemory, Exhausted}
 
 -- the most lines of a journal
 abbrev pub most_lines : ℕ
@@ -90,5 +90,6 @@ IsFaultOfJournal plan text JournalFull = most_lines < length (lines text)
 IsFaultOfJournal plan text (CannotRead path) = ⊥
 IsFaultOfJournal plan text (CannotWriteFile path) = ⊥
 IsFaultOfJournal plan text CannotWrite = ⊥
+IsFaultOfJournal plan text Layout = ⊥
 IsFaultOfJournal plan text OutOfMemory = length (lines text) ≤ most_lines
 IsFaultOfJournal plan text Exhausted = (steps : List Noting) × IsJournal text steps × IsExhaustedIn plan steps

@@ -10,7 +10,7 @@ use Rattle.trace_tables.specs.Tables.{tables_of}
 use Rattle.trace_tables.specs.Text.{tables_text}
 use Rattle.seqsim.specs.Networks.{AreRowsOf}
 use Rattle.afdxsim.specs.declared.fault.Fault.{Fault}
-use Rattle.afdxsim.specs.declared.fault.Fault.TheVariants.{Description, JournalLine, JournalFull, CannotRead, CannotWriteFile, CannotWrite, OutOfMemory, Exhausted}
+use Rattle.afdxsim.specs.declared.fault.Fault.TheVariants.{Description, JournalLine, JournalFull, CannotRead, CannotWriteFile, CannotWrite, Layout, OutOfMemory, Exhausted}
 use Rattle.afdxsim.specs.Reading.{GivesNetwork, IsFaultOfNet}
 
 -- why a one-thread run was given up, as a fault of the program
@@ -31,10 +31,11 @@ IsFaultOfRun plan JournalFull = ⊥
 IsFaultOfRun plan (CannotRead path) = ⊥
 IsFaultOfRun plan (CannotWriteFile path) = ⊥
 IsFaultOfRun plan CannotWrite = ⊥
+IsFaultOfRun plan Layout = ⊥
 IsFaultOfRun plan OutOfMemory = Unit
 IsFaultOfRun plan Exhausted = (n : ℕ) × IsExhaustedAt (simulation_of plan) n
 
--- why a trace is not in the file with this path: the file was not made or not written, or a growth was refused
+-- why a trace is not in the file with this path: the file was not made or not written, its rows were not laid out, or a growth was refused
 abbrev pub IsFaultOfTrace : List ℕ → Fault → Type 0
 IsFaultOfTrace path (Description fault) = ⊥
 IsFaultOfTrace path (JournalLine n) = ⊥
@@ -42,6 +43,7 @@ IsFaultOfTrace path JournalFull = ⊥
 IsFaultOfTrace path (CannotRead at) = ⊥
 IsFaultOfTrace path (CannotWriteFile at) = at.now ≡ path
 IsFaultOfTrace path CannotWrite = ⊥
+IsFaultOfTrace path Layout = Unit
 IsFaultOfTrace path OutOfMemory = Unit
 IsFaultOfTrace path Exhausted = ⊥
 

@@ -6,7 +6,7 @@ use Rattle.network_rows.specs.declared.fault.DescFault.{DescFault}
 use Rattle.network_rows.specs.declared.fault.DescFault.TheVariants as desc
 use Rattle.network_rows.specs.declared.fault.Place.{Place}
 use Rattle.afdxsim.specs.declared.fault.Fault.{Fault}
-use Rattle.afdxsim.specs.declared.fault.Fault.TheVariants.{Description, JournalLine, JournalFull, CannotRead, CannotWriteFile, CannotWrite, OutOfMemory, Exhausted}
+use Rattle.afdxsim.specs.declared.fault.Fault.TheVariants.{Description, JournalLine, JournalFull, CannotRead, CannotWriteFile, CannotWrite, Layout, OutOfMemory, Exhausted}
 
 -- the section, the row and the key, with one blank between; a row or a key that the place has not is left out
 abbrev pub place_text : Place → List ℕ
@@ -52,6 +52,7 @@ fault_text JournalFull = codes "journal full"
 fault_text (CannotRead path) = codes "cannot read " ++ path.now
 fault_text (CannotWriteFile path) = codes "cannot write " ++ path.now
 fault_text CannotWrite = codes "cannot write"
+fault_text Layout = codes "cannot lay out rows"
 fault_text OutOfMemory = codes "out of memory"
 fault_text Exhausted = codes "numbers used up"
 
@@ -59,7 +60,7 @@ fault_text Exhausted = codes "numbers used up"
 abbrev pub told : List ℕ → List ℕ
 told text = codes "afdxsim: " ++ text ++ 10 ∷ []
 
--- 3 for a description or a line of a journal, 4 for a file or standard output, 5 for memory, numbers and a journal that is too long
+-- 3 for a description or a line of a journal, 4 for a file or standard output, 5 for memory, numbers, a journal that is too long and rows that are not laid out
 abbrev pub status_of : Fault → ℕ
 status_of (Description desc.OutOfMemory) = 5
 status_of (Description fault) = 3
@@ -68,6 +69,7 @@ status_of JournalFull = 5
 status_of (CannotRead path) = 4
 status_of (CannotWriteFile path) = 4
 status_of CannotWrite = 4
+status_of Layout = 5
 status_of OutOfMemory = 5
 status_of Exhausted = 5
 
@@ -84,6 +86,6 @@ telling_of fault = record { line = told (fault_text fault); status = status_of f
 abbrev pub TellsOne : Fault → (Telling → Type 0) → Type 0
 TellsOne fault IsTold = IsTold (telling_of fault) ⊎ IsTold (telling_of OutOfMemory)
 
--- a status of the program: 0 done, 2 bad words, 3 a bad description or journal, 4 a file or standard output, 5 memory, numbers or a journal that is too long
+-- a status of the program: 0 done, 2 bad words, 3 a bad description or journal, 4 a file or standard output, 5 memory, numbers, a journal that is too long or rows that are not laid out
 abbrev pub IsStatus : ℕ → Type 0
 IsStatus status = (status ≡ 0) ⊎ (status ≡ 2) ⊎ (status ≡ 3) ⊎ (status ≡ 4) ⊎ (status ≡ 5)

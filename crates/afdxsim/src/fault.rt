@@ -27,6 +27,8 @@ pub enum Fault<'a> {
     CannotWriteFile(&'a str),
     /// Standard output takes no more.
     CannotWrite,
+    /// The library that lays out rows failed, though no growth was refused.
+    Layout,
     /// A growth was refused.
     OutOfMemory,
     /// A process has not enough numbers left for what one event can send.
@@ -47,6 +49,7 @@ impl Fault<'_> {
             Fault::CannotRead(_) => 4,
             Fault::CannotWriteFile(_) => 4,
             Fault::CannotWrite => 4,
+            Fault::Layout => 5,
             Fault::OutOfMemory => 5,
             Fault::Exhausted => 5,
         }

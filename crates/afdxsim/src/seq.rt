@@ -30,6 +30,7 @@ pub fn show_tables<O: Sink>(
     match write_csv(alloc, network, tables, output) {
         Ok(()) => Ok(()),
         Err(OutFault::Device) => Err(Fault::CannotWrite),
+        Err(OutFault::Layout) => Err(Fault::Layout),
         Err(OutFault::OutOfMemory) => Err(Fault::OutOfMemory),
     }
 }
@@ -48,6 +49,7 @@ fn write_trace_of<'a, F: Sink>(
     match write_trace(alloc, network, rows, file) {
         Ok(()) => Ok(()),
         Err(OutFault::Device) => Err(Fault::CannotWriteFile(path)),
+        Err(OutFault::Layout) => Err(Fault::Layout),
         Err(OutFault::OutOfMemory) => Err(Fault::OutOfMemory),
     }
 }

@@ -91,6 +91,7 @@ fn push_fault(text: &mut String, fault: &Fault<'_>) -> Result<(), AllocError>
         Fault::CannotRead(path) => push_both(text, "cannot read ", path),
         Fault::CannotWriteFile(path) => push_both(text, "cannot write ", path),
         Fault::CannotWrite => text.push_str("cannot write"),
+        Fault::Layout => text.push_str("cannot lay out rows"),
         Fault::OutOfMemory => text.push_str("out of memory"),
         Fault::Exhausted => text.push_str("numbers used up"),
     }
