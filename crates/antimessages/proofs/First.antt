@@ -164,7 +164,7 @@ module _ (X : (a b : Message) → message_cmp a b ≡ Equal → a ≡ b) (O : Is
       let q = occurrence_of x 0 in
       let here : lookup (is_at (occurrence_cmp q)) es ≡ Some Plus = st.signs x 0 ∙ present-plus _ _ h in
       let found : lookup (is_at (occurrence_cmp q)) there ≡ Some Plus =
-          lookup-filter-keys (is_at (occurrence_cmp q)) (range_contains occurrence_cmp (behind newest) Unbounded) true (λ k t. lies k t) es ∙ here in
+      lookup-filter-keys (is_at (occurrence_cmp q)) (range_contains occurrence_cmp (behind newest) Unbounded) true (λ k t. lies k t) es ∙ here in
       let p = place_from_lookup (is_at (occurrence_cmp q)) there Plus found in
       record { place = p.0; key = p.1; at = p.2; own = own-message x p.1 p.3 }
     where
@@ -198,13 +198,13 @@ module _ (X : (a b : Message) → message_cmp a b ≡ Equal → a ≡ b) (O : Is
     not_before x s = elim (cases_lt s.place f.place) [
       | inl less ↦ let bad = f.none s.place (s.key, Plus) less s.at in cc
       | inr more ↦ elim (cases_lt f.place s.place) [
-          | inl less ↦ behind_it (message_cmp e.0.message s.key.message) refl (lesser-key occurrence_cmp there f.place s.place e (s.key, Plus) up-there less f.at s.at)
-          | inr same ↦
-              let one : f.place ≡ s.place = omega arith in
-              let both : Some e ≡ Some (s.key, Plus) = sym f.at ∙ (ap (slice_get there) one ∙ s.at) in
-              let message : e.0.message ≡ x = (let k : e ≡ (s.key, Plus) = cc in ap (λ z. z.0.message) k) ∙ sym s.own in
-              subst (λ m. message_rules.less x m ≡ false) (sym message) (O.irreflexive x)
-        ]
+        | inl less ↦ behind_it (message_cmp e.0.message s.key.message) refl (lesser-key occurrence_cmp there f.place s.place e (s.key, Plus) up-there less f.at s.at)
+        | inr same ↦
+            let one : f.place ≡ s.place = omega arith in
+            let both : Some e ≡ Some (s.key, Plus) = sym f.at ∙ (ap (slice_get there) one ∙ s.at) in
+            let message : e.0.message ≡ x = (let k : e ≡ (s.key, Plus) = cc in ap (λ z. z.0.message) k) ∙ sym s.own in
+            subst (λ m. message_rules.less x m ≡ false) (sym message) (O.irreflexive x)
+      ]
     ]
       where
         behind_it : (o : Ordering) → message_cmp e.0.message s.key.message ≡ o → ordering_then o (nat_cmp e.0.ordinal s.key.ordinal) ≡ Less →

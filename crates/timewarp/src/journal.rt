@@ -12,8 +12,8 @@ ghost use Rattle.actor_world.specs.Worlds.{IsExhausted};
 ghost use Rattle.timewarp.specs.Networks.{after, IsAfter};
 ghost use Rattle.timewarp.specs.Replaying.{did, not_enabled, refused};
 
-use crate::replaying::Replay;
 use crate::laws::world_laws;
+use crate::replaying::Replay;
 use actor_world::StepFault;
 use netdesc::Network;
 use std::alloc::Global;
