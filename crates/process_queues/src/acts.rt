@@ -1,5 +1,5 @@
 //! What a process does alone: letters arrive, messages are handled, events are committed, and all is undone.
-ghost use Rattle.std.specs.Prelude.{map, ◌≡◌, ◌≢◌, ◌+◌, ◌-◌, ◌<◌, ◌≤◌, ◌⊎◌, ◌↔◌, ℕ, [], ◌∷◌, false, true, drop, IsTrue, IsSome, Option, None, Ok, MatchOption, OnOk, OnErr, IfOk, IfErr, slice_get, Some, pos, ◌+ℤ◌, vec_len, vec_capacity};
+ghost use Rattle.std.specs.Prelude.{map, ◌≡◌, ◌≢◌, ◌+◌, ◌-◌, ◌<◌, ◌≤◌, ◌⊎◌, ◌↔◌, [], false, true, drop, IsTrue, IsSome, Option, None, Ok, MatchOption, OnOk, OnErr, IfOk, IfErr, Some, pos, vec_len, vec_capacity};
 ghost use Rattle.vlink.specs.declared.message.Message.{Message};
 ghost use Rattle.vlink.specs.Numbering.{greatest_number};
 ghost use Rattle.virtual_time.specs.Rules.{reached};

@@ -6,7 +6,7 @@ ghost use Rattle.virtual_time.specs.Rules.{rowed};
 ghost use Rattle.virtual_time.specs.Letters.{lowest};
 ghost use Rattle.virtual_time.specs.Part.{Part, opened, delivered, next_of, floor_of};
 ghost use Rattle.reverse.specs.Rules.{rules_of};
-ghost use Rattle.antimessages.specs.Letters.{message_rules, signed};
+ghost use Rattle.antimessages.specs.Letters.{signed};
 ghost use Rattle.antimessages.specs.Counting.{signed_count};
 ghost use Rattle.antimessages.specs.Mailing.{letters_for};
 ghost use Rattle.process_queues.specs.declared.fault.ProcFault.TheVariants.{OutOfMemory};
