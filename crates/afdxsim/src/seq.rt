@@ -139,8 +139,9 @@ pub fn seq<'a, H: Host>(
     ensures errors { H.errors host.new ≡ H.errors host.old }
 {
     let network = network_of(alloc, net, host)?;
-    match trace {
+    let shown = match trace {
         Some(path) => run_to_trace(alloc, &network, path, host),
         None => run_to_tables(alloc, &network, host),
-    }
+    };
+    shown
 }

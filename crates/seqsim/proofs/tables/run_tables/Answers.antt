@@ -1,4 +1,5 @@
-use Rattle.std.proofs.Common.{◌≡◌, ◌∙◌, List, [], refl, ap}
+use Rattle.std.proofs.Common.{◌≡◌, ◌∙◌, List, [], Result, Ok, Err, IfOk, refl, ap}
+use Rattle.actor_run.specs.declared.fault.SimFault.{SimFault}
 use Rattle.vlink.specs.declared.note.Row.{Row as Noted}
 use Rattle.virtual_time.specs.Simulation.{Laws}
 use Rattle.netdesc.specs.Plan.{Plan}
@@ -23,8 +24,9 @@ AreTablesOfSome plan tables = (rows : List Noted) × AreRowsOf plan rows × (tab
 abbrev AreTablesOfEach : Plan → TableLists → Type 0
 AreTablesOfEach plan tables = (rows : List Noted) → AreRowsOf plan rows → tables ≡ tables_of plan rows
 
-each-of : (plan : Plan) → Laws (simulation_of plan) → (tables : TableLists) → AreTablesOfSome plan tables → AreTablesOfEach plan tables
-each-of plan L tables some = λ rows r. some.2 ∙ ap (tables_of plan) (same-rows plan L some.0 rows some.1 r)
+each-of : (plan : Plan) → Laws (simulation_of plan) → (result : Result TableLists SimFault) → IfOk result (AreTablesOfSome plan) → IfOk result (AreTablesOfEach plan)
+each-of plan L (Ok tables) some = λ rows r. some.2 ∙ ap (tables_of plan) (same-rows plan L some.0 rows some.1 r)
+each-of plan L (Err fault) some = some
 
 pub returns-clause-each : goal.returns-clause-each
 returns-clause-each c = each-of c.args.network.now c.network_laws.ensures c.count_all_turns.result c.count_all_turns.ensures.whole
