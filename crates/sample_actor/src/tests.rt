@@ -8,7 +8,7 @@ mod pool;
 mod second;
 mod sorted;
 
-use drawing::play_drawn;
+use drawing::{play_drawn, play_on_both};
 use player::{actor, letter, play};
 use reverse::act_and_undo;
 use std::test::Fail;
@@ -75,6 +75,7 @@ fn scripts_tell_what_their_lines_say(rt: HostRuntime) -> Result<(), Fail> {
             continue;
         };
         assert_eq!(rt; play(&rt, rt.alloc(), script)?.as_str(), told, "{script}");
+        play_on_both(&rt, rt.alloc(), script)?;
     }
     Ok(())
 }

@@ -1,5 +1,5 @@
-//! Scripts that are drawn: what a process answers is compared with what the second one does.
-use super::player::{actor, moment};
+//! Scripts that are drawn, and those with a line: what a process answers is compared with what the second one does.
+use super::player::{actor, letter, moment};
 use super::second::Second;
 use crate::Summing;
 use process_queues::Process;
@@ -31,6 +31,40 @@ fn play_once(rt: &impl Abort, alloc: Global, words: &mut Lcg64Xsh32) -> Result<(
     }
     assert!(rt; first.outbox() == second.outbox());
     assert!(rt; first.undo_all() == second.undo_all());
+    Ok(())
+}
+
+// Plays the words of a script that a process alone answers on two processes, which answer alike. Words about mail, floors, room and commits
+// are passed over.
+pub(crate) fn play_on_both(rt: &impl Abort, alloc: Global, script: &str) -> Result<(), Fail> {
+    let mut first = Process::new(alloc, actor(rt, 0))?;
+    let mut second = Second::new(alloc, actor(rt, 0));
+    for word in script.split_whitespace() {
+        do_on_both(rt, &mut first, &mut second, word)?;
+        see_both(rt, &first, &second);
+    }
+    assert!(rt; first.outbox() == second.outbox());
+    assert!(rt; first.undo_all() == second.undo_all());
+    Ok(())
+}
+
+fn do_on_both(
+    rt: &impl Abort,
+    first: &mut Process<Summing>,
+    second: &mut Second,
+    word: &str,
+) -> Result<(), Fail> {
+    match word {
+        "arrive" => assert!(rt; first.arrive()? == second.arrive()?),
+        "run" => assert!(rt; first.run()? == second.run()?),
+        "seal" => assert!(rt; first.seal_oldest()? == second.seal_oldest()),
+        _ if word.starts_with('+') || word.starts_with('-') => {
+            let letter = letter(rt, word);
+            second.deliver(&letter)?;
+            first.deliver(letter)?;
+        }
+        _ => {}
+    }
     Ok(())
 }
 
@@ -87,6 +121,11 @@ fn look_at_both(
 ) {
     let message = drawn_letter(rt, words).message;
     assert!(rt; first.count(&message) == second.count(&message));
+    see_both(rt, first, second);
+}
+
+// What can be seen of both is alike.
+fn see_both(rt: &impl Abort, first: &Process<Summing>, second: &Second) {
     assert!(rt; first.next() == second.next());
     assert!(rt; first.oldest() == second.oldest());
     assert!(rt; first.committed() == second.committed());
