@@ -3,7 +3,6 @@ ghost use Rattle.std.specs.Prelude.{◌≡◌, ◌↔◌, ◌<◌, ◌≤◌, �
 ghost use Rattle.std.specs.Option.{option_map};
 ghost use Rattle.vlink.specs.declared.time.TheConstants.{GREATEST_NS};
 ghost use Rattle.virtual_time.specs.Rules.{reached, rowed};
-ghost use Rattle.virtual_time.specs.Letters.{plus_of};
 ghost use Rattle.virtual_time.specs.Part.{undo_all};
 ghost use Rattle.virtual_time.specs.World.{start};
 ghost use Rattle.reverse.specs.Rules.{rules_of};
@@ -15,13 +14,13 @@ ghost use Rattle.actor_world.specs.declared.fault.StepFault.TheVariants.{OutOfMe
 ghost use Rattle.actor_world.specs.Worlds.{AreOpened, StandsForWorld, AtEachWorld, IsAWorld, CanOpen};
 
 use crate::fault::StepFault;
-use antimessages::{Mail, Outbox};
+use antimessages::{Mail, plus_letters};
 use gvt::Floors;
 use process_queues::Process;
 use reverse::{Actor, Outbound, actor_rules};
 use std::alloc::Global;
 use std::marker::Model;
-use vlink::{Letter, Message, Row, Sign, Time};
+use vlink::{Letter, Message, Row, Time};
 
 /// Processes of these actors, process p in place p, with their mail, their floors and GVT.
 ///
@@ -153,21 +152,6 @@ impl<R: Actor + Drop> ActorWorld<R> {
         }
         Some(processes.swap_remove(process as usize).undo_all())
     }
-}
-
-/// Each message as the letter that brings it, in order.
-fn plus_letters(alloc: Global, messages: &[Message]) -> Result<Outbox, StepFault>
-    ensures letters { IfOk result (λ outbox. outbox.letters ≡ map plus_of messages.now) }
-    ensures memory { IfErr result (λ fault. fault ≡ OutOfMemory) }
-{
-    let mut outbox = Outbox::new(alloc);
-    for message in messages {
-        outbox.push(Letter {
-            message: *message,
-            sign: Sign::Plus,
-        })?;
-    }
-    Ok(outbox)
 }
 
 /// A process that has done nothing for each actor, in order.

@@ -13,5 +13,5 @@ mod tally;
 pub use ends::rewind;
 pub use fault::OutOfMemory;
 pub use mail::Mail;
-pub use outbox::Outbox;
+pub use outbox::{Outbox, plus_letters};
 pub use tally::{Change, Tally};

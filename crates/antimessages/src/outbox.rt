@@ -1,11 +1,12 @@
-ghost use Rattle.std.specs.Prelude.{◌≡◌, ◌+◌, ◌<◌, ◌≤◌, ◌↔◌, [], ◌∷◌, ◌++◌, map, All, IsTrue, IsOk, OnOk, OnErr};
+ghost use Rattle.std.specs.Prelude.{◌≡◌, ◌+◌, ◌<◌, ◌≤◌, ◌↔◌, [], ◌∷◌, ◌++◌, map, All, IsTrue, IsOk, IfOk, OnOk, OnErr};
+ghost use Rattle.virtual_time.specs.Letters.{plus_of};
 ghost use Rattle.antimessages.specs.Letters.{signed};
 
 use crate::fault::OutOfMemory;
 use crate::posting::are_within;
 use std::alloc::Global;
 use std::marker::Model;
-use vlink::Letter;
+use vlink::{Letter, Message, Sign};
 
 /// The letters of one process that wait to be posted, in the order in which they were made.
 #[derive(Drop)]
@@ -73,4 +74,18 @@ impl Outbox {
         self.letters.reserve(count)?;
         Ok(())
     }
+}
+
+/// Each message as the letter that brings it, in order.
+pub fn plus_letters(alloc: Global, messages: &[Message]) -> Result<Outbox, OutOfMemory>
+    ensures { IfOk result (λ outbox. outbox.letters ≡ map plus_of messages.now) }
+{
+    let mut outbox = Outbox::new(alloc);
+    for message in messages {
+        outbox.push(Letter {
+            message: *message,
+            sign: Sign::Plus,
+        })?;
+    }
+    Ok(outbox)
 }
