@@ -23,7 +23,7 @@ use Rattle.netdesc.proofs.PortLemmas.{line-within}
 use Rattle.netdesc.proofs.LimitLemmas.{kind-read, link-read}
 use Rattle.nodes.specs.declared.ports.Wire.{Wire}
 use Rattle.nodes.specs.declared.part.Part.TheVariants as part
-use Rattle.nodes.specs.rules.Opening.{leaves_by, wire_among, wires_of, ports_of, source_of, node_opening, part_opening, line_opening, opening}
+use Rattle.nodes.specs.rules.Opening.{leaves_by, wire_among, wires_of, outlet_of, ports_of, source_of, node_opening, part_opening, line_opening, opening}
 use Rattle.nodes.specs.rules.Placed.{AllWires, IsPlacedPart, IsPlaced, IsWiredPart, IsWired}
 
 -- what holds of each line, as the wire of a process behind these, holds of the wire that is found
@@ -40,6 +40,13 @@ wire-holds P n q process (line ∷ lines) h =
 all-mapped : {X Y : Type 0} (P : Y → Type 0) (f : X → Y) (xs : List X) → ((x : X) → P (f x)) → AllByRecursion P (map f xs)
 all-mapped P f [] h = tt
 all-mapped P f (x ∷ xs) h = (h x, all-mapped P f xs h)
+
+-- what holds of each wire holds of the wires of the ports that are made for them
+outlets-hold : (P : Wire → Type 0) (bytes : ℕ) (wires : List (Option Wire)) → AllByRecursion (λ wire. IfSome wire P) wires →
+    AllByRecursion (λ slot. IfSome slot (λ outlet. P outlet.wire)) (map (option_map (outlet_of bytes)) wires)
+outlets-hold P bytes [] h = tt
+outlets-hold P bytes (Some wire ∷ wires) h = (h.0, outlets-hold P bytes wires h.1)
+outlets-hold P bytes (None ∷ wires) h = (tt, outlets-hold P bytes wires h.1)
 
 all-read : {X : Type 0} (P : X → Type 0) (xs : List X) → ((k : ℕ) (x : X) → slice_get xs k ≡ Some x → P x) → AllByRecursion P xs
 all-read P [] h = tt
@@ -65,8 +72,9 @@ module _ (plan : Plan) (accepted : IsAccepted plan) where
       (n count bytes : ℕ) → AllWires P (ports_of plan n count bytes)
   unfolding wires_of
   wires-hold P h n count bytes =
-      All-from_recursion (λ wire. IfSome wire P) _ (all-mapped (λ wire. IfSome wire P) (λ q. wire_among n q (length plan.nodes) (lines_of plan)) (range_with_len 0 count)
-      (λ q. wire-holds P n q (length plan.nodes) (lines_of plan) h))
+      All-from_recursion (λ slot. IfSome slot (λ outlet. P outlet.wire)) _ (outlets-hold P bytes (wires_of plan n count)
+      (all-mapped (λ wire. IfSome wire P) (λ q. wire_among n q (length plan.nodes) (lines_of plan)) (range_with_len 0 count)
+      (λ q. wire-holds P n q (length plan.nodes) (lines_of plan) h)))
 
   slow-wires : (n count bytes : ℕ) → AllWires (λ wire. 1 ≤ wire.byte_ns) (ports_of plan n count bytes)
   slow-wires = wires-hold (λ wire. 1 ≤ wire.byte_ns) (λ k line there. (line-within plan k line accepted there).times.byte)

@@ -2,7 +2,7 @@ ghost use Rattle.std.specs.Prelude.{◌≡◌, ◌+◌, ◌<◌, ◌≤◌, leng
 ghost use Rattle.std.specs.Option.{option_copied};
 ghost use Rattle.vlink.specs.Numbering.{greatest_number};
 ghost use Rattle.reverse.specs.Sending.{replied};
-ghost use Rattle.nodes.specs.rules.Ports.{answered, changed, exists, port_at, reply, start, wire_at};
+ghost use Rattle.nodes.specs.rules.Ports.{answered, changed, exists, outlet_at, port_at, reply, start};
 ghost use Rattle.output_port.specs.Port.{free_answer, put_answer};
 ghost use Rattle.output_port.specs.declared.event.Priority.{Priority};
 ghost use Rattle.output_port.specs.declared.event.PortEvent.TheVariants.{Put, Free};
@@ -22,11 +22,17 @@ pub struct Wire {
     pub byte_ns: u16,
 }
 
-/// The output ports of a node: for each port number the line that it leads into, if there is such a port, and the port.
+/// An output port, and the line that it leads into.
+#[derive(Debug, Drop)]
+pub struct Outlet {
+    pub wire: Wire,
+    pub port: Port,
+}
+
+/// The output ports of a node: for each port number the port and its line, if there is such a port.
 #[derive(Debug, Drop)]
 pub struct Ports {
-    wires: Vec<Option<Wire>>,
-    ports: Vec<Port>,
+    outlets: Vec<Option<Outlet>>,
 }
 
 impl Model for Ports {
@@ -34,24 +40,24 @@ impl Model for Ports {
 
     ghost Value = { PortsState };
 
-    ghost view = { λ p. record { wires = p.wires.items; states = p.ports.items } };
+    ghost view = { λ p. p.outlets.items };
 }
 
 impl Ports {
-    /// Ports with these wires: for each one a port.
-    pub(crate) fn new(wires: Vec<Option<Wire>>, ports: Vec<Port>) -> Self
-        ensures { result ≡ record { wires = wires.items; states = ports.items } }
+    /// The ports with these outlets, by rising number.
+    pub(crate) fn new(outlets: Vec<Option<Outlet>>) -> Self
+        ensures { result ≡ outlets.items }
     {
-        Ports { wires, ports }
+        Ports { outlets }
     }
 
-    /// The line of a port, if there is such a port.
-    pub fn wire(&self, port: u8) -> Option<Wire>
-        ensures { result ≡ wire_at self.now port }
+    /// A port with its line, if there is such a port.
+    fn outlet(&self, port: u8) -> Option<&Outlet>
+        ensures { option_copied result ≡ outlet_at self.now port }
     {
-        match self.wires.get(usize::from(port)) {
-            Some(wire) => *wire,
-            None => None,
+        match self.outlets.get(usize::from(port)) {
+            Some(Some(outlet)) => Some(outlet),
+            _ => None,
         }
     }
 
@@ -59,21 +65,21 @@ impl Ports {
     pub fn exists(&self, port: u8) -> bool
         ensures { result ≡ exists self.now port }
     {
-        self.wire(port).is_some()
+        self.outlet(port).is_some()
     }
 
     /// A port, if there is such a port.
     pub fn port(&self, port: u8) -> Option<&Port>
         ensures { option_copied result ≡ port_at self.now port }
     {
-        if self.exists(port) {
-            self.ports.get(usize::from(port))
-        } else {
-            None
+        match self.outlet(port) {
+            Some(outlet) => Some(&outlet.port),
+            None => None,
         }
     }
 
     /// Puts a frame to a port at this moment, and sends and notes what follows. Nothing happens where there is no such port.
+    #[tactic(auto, using(std::proofs::lemmas::Grind::common_steps, crate::proofs::PortLemmas::reads))]
     pub fn put(
         &mut self,
         at: Time,
@@ -90,14 +96,18 @@ impl Ports {
         ensures kept { result ≡ port_put_kept port frame.now priority self.old }
         ensures valid { IsPortValue port self.old }
     {
-        let wire = self.wire(port)?;
-        let state = self.ports.get_mut(usize::from(port))?;
-        let kept = state.put(frame, priority);
-        answer_put(out, at, port, wire, frame, kept);
-        Some(kept)
+        let slot = self.outlets.get_mut(usize::from(port))?;
+        if let Some(outlet) = slot {
+            let kept = outlet.port.put(frame, priority);
+            answer_put(out, at, port, outlet.wire, frame, kept);
+            Some(kept)
+        } else {
+            None
+        }
     }
 
     /// Frees a port at this moment, and sends what follows. Nothing happens where there is no such port.
+    #[tactic(auto, using(std::proofs::lemmas::Grind::common_steps, crate::proofs::PortLemmas::reads))]
     #[inline(always)]
     pub fn free(&mut self, at: Time, port: u8, out: &mut Outbound) -> Option<PortRecord>
         requires room { length out.old.messages + 2 ≤ 24 }
@@ -108,20 +118,27 @@ impl Ports {
         ensures kept { result ≡ port_kept port Free self.old }
         ensures valid { IsPortValue port self.old }
     {
-        let wire = self.wire(port)?;
-        let state = self.ports.get_mut(usize::from(port))?;
-        let kept = state.free();
-        answer_free(out, at, port, wire, &kept);
-        Some(PortRecord::Free(kept))
+        let slot = self.outlets.get_mut(usize::from(port))?;
+        if let Some(outlet) = slot {
+            let kept = outlet.port.free();
+            answer_free(out, at, port, outlet.wire, &kept);
+            Some(PortRecord::Free(kept))
+        } else {
+            None
+        }
     }
 
     /// Takes back that a frame was put to a port.
+    #[tactic(auto, using(std::proofs::lemmas::Grind::common_steps, crate::proofs::PortLemmas::reads))]
     pub fn undo_put(&mut self, port: u8, kept: Option<PutRecord>)
         ensures { self.new ≡ unput port kept self.old }
     {
         let Some(kept) = kept else { return };
-        if let Some(state) = self.ports.get_mut(usize::from(port)) {
-            state.undo_put(kept);
+        let Some(slot) = self.outlets.get_mut(usize::from(port)) else {
+            return;
+        };
+        if let Some(outlet) = slot {
+            outlet.port.undo_put(kept);
         }
     }
 
@@ -131,8 +148,11 @@ impl Ports {
         ensures { self.new ≡ restored port kept self.old }
     {
         let Some(kept) = kept else { return };
-        if let Some(state) = self.ports.get_mut(usize::from(port)) {
-            state.undo(event, kept);
+        let Some(slot) = self.outlets.get_mut(usize::from(port)) else {
+            return;
+        };
+        if let Some(outlet) = slot {
+            outlet.port.undo(event, kept);
         }
     }
 }

@@ -1,8 +1,9 @@
-ghost use Rattle.std.specs.Prelude.{◌≡◌, ℕ, ◌+◌, ◌<◌, ◌&&◌, None, Some, is_none, if◌then◌else◌, length, map, slice_index_or, vec_len, IfOk};
+ghost use Rattle.std.specs.Prelude.{◌≡◌, ℕ, ◌+◌, ◌<◌, ◌&&◌, None, Some, is_none, if◌then◌else◌, length, slice_index_or, vec_len, IfOk};
+ghost use Rattle.std.specs.Option.{option_map};
 ghost use Rattle.netdesc.specs.Lines.{lines_of};
-ghost use Rattle.nodes.specs.rules.Opening.{leaves_by, wires_of, port_of, ports_of};
+ghost use Rattle.nodes.specs.rules.Opening.{leaves_by, wires_of, outlet_of, ports_of};
 
-use crate::ports::{Ports, Wire};
+use crate::ports::{Outlet, Ports, Wire};
 use netdesc::{Direction, Network};
 use output_port::Port;
 use std::alloc::{AllocError, Global};
@@ -51,16 +52,13 @@ fn wires_of(
     Ok(wires)
 }
 
-/// A port for each of these wires: where there is none, no bytes may wait.
-fn ports_at(alloc: Global, wires: &[Option<Wire>], bytes: u32) -> Result<Vec<Port>, AllocError>
-    ensures { IfOk result (λ ports. ports.items ≡ map (port_of bytes) wires.now) }
+/// The port that leads into a wire: so many bytes may wait there.
+fn outlet_of(alloc: Global, wire: Option<Wire>, bytes: u32) -> Result<Option<Outlet>, AllocError>
+    ensures { IfOk result (λ outlet. outlet ≡ option_map (outlet_of bytes) wire) }
 {
-    let mut ports = Vec::new(alloc);
-    for wire in wires {
-        let room = if wire.is_some() { bytes } else { 0 };
-        ports.push(Port::new(alloc, room)?)?;
-    }
-    Ok(ports)
+    let Some(wire) = wire else { return Ok(None) };
+    let port = Port::new(alloc, bytes)?;
+    Ok(Some(Outlet { wire, port }))
 }
 
 /// The first `count` ports of a node, at each of which so many bytes may wait.
@@ -74,6 +72,9 @@ pub fn ports_of(
     ensures { IfOk result (λ ports. ports ≡ ports_of network.now node count bytes) }
 {
     let wires = wires_of(alloc, network, node, count)?;
-    let ports = ports_at(alloc, &wires, bytes)?;
-    Ok(Ports::new(wires, ports))
+    let mut outlets = Vec::new(alloc);
+    for wire in &wires {
+        outlets.push(outlet_of(alloc, *wire, bytes)?)?;
+    }
+    Ok(Ports::new(outlets))
 }

@@ -1,5 +1,5 @@
 -- For proofs alone: what an end system keeps, and what it sends.
-use Rattle.std.proofs.Common.{◌≡◌, ℕ, Bool, true, false, cond, List, [], Option, None, Some, IfSome, All, refl, sym, subst, ◌∙◌}
+use Rattle.std.proofs.Common.{◌≡◌, ℕ, Bool, true, false, cond, List, [], Option, None, Some, IfSome, All, refl, sym, subst}
 use Rattle.std.proofs.lemmas.Bool.{cond_both}
 use Rattle.std.proofs.lemmas.List.Elements.{All-nil, All-cons, All-set}
 use Rattle.vlink.specs.declared.frame.Frame.{Frame}
@@ -22,6 +22,7 @@ use Rattle.integrity.specs.declared.checking.Checked.TheVariants as check
 use Rattle.redundancy.specs.Redundancy.{redundancy}
 use Rattle.redundancy.specs.declared.delivery.Delivery.{Delivery}
 use Rattle.redundancy.specs.declared.delivery.Delivery.TheVariants as delivery
+use Rattle.nodes.specs.declared.ports.Wire.{Wire}
 use Rattle.nodes.specs.declared.vl_end.VlEnd.{VlEnd}
 use Rattle.nodes.specs.declared.receiving.Receiving.{Receiving}
 use Rattle.nodes.specs.declared.source.Source.{Source}
@@ -79,23 +80,23 @@ end_system-cases K n t s is (body.Arrive q frame) = go (exists s.ports q) (sink_
 end_system-cases K n t s is (body.Enqueue q frame) = is.quiet s.sinks silent silent-quiet
 end_system-cases K n t s is (body.Carry frame) = is.quiet s.sinks silent silent-quiet
 
-copied-wires : (end : VlEnd) (net : Net) (frame : Frame) (ports : PortsState) → (copied end net frame ports).wires ≡ ports.wires
-copied-wires end net frame ports =
-    cond_both (is_on end net) (changed (port_of net) (copy net frame) ports) ports (λ now. now.wires ≡ ports.wires)
-    (λ e. wires-stay (port_of net) (copy net frame) ports) (λ e. refl)
+copied-wires : (P : Wire → Type 0) (end : VlEnd) (net : Net) (frame : Frame) (ports : PortsState) → AllWires P ports → AllWires P (copied end net frame ports)
+copied-wires P end net frame ports h =
+    cond_both (is_on end net) (changed (port_of net) (copy net frame) ports) ports (λ now. AllWires P now)
+    (λ e. wires-stay P (port_of net) (copy net frame) ports h) (λ e. h)
 
-released-wires : (end : VlEnd) (a : RegAnswer) (ports : PortsState) → (released_out end a ports).wires ≡ ports.wires
-released-wires end (answer.Released frame) ports = copied-wires end B frame (copied end A frame ports) ∙ copied-wires end A frame ports
-released-wires end answer.Kept ports = refl
-released-wires end answer.Dropped ports = refl
-released-wires end answer.Nothing ports = refl
+released-wires : (P : Wire → Type 0) (end : VlEnd) (a : RegAnswer) (ports : PortsState) → AllWires P ports → AllWires P (released_out end a ports)
+released-wires P end (answer.Released frame) ports h = copied-wires P end B frame (copied end A frame ports) (copied-wires P end A frame ports h)
+released-wires P end answer.Kept ports h = h
+released-wires P end answer.Dropped ports h = h
+released-wires P end answer.Nothing ports h = h
 
--- the lines of the ports stay, and the BAGs of the regulators
-pub end_system-wires : (n t : ℕ) (b : Body) (s : EndSystemState) → (end_system n t b s).state.ports.wires ≡ s.ports.wires
-end_system-wires n t b s = end_system-cases (λ o. o.state.ports.wires ≡ s.ports.wires) n t s (record {
-  quiet = λ sinks r q. refl;
-  frees = λ q. wires-stay q Free s.ports;
-  asks = λ vl e otherwise found m h. released-wires found.entry.end (regulator.out found.entry.regulator e).answer s.ports;
+-- what holds of each line of a port stays, and of each BAG of a regulator
+pub end_system-wires : (P : Wire → Type 0) (n t : ℕ) (b : Body) (s : EndSystemState) → AllWires P s.ports → AllWires P (end_system n t b s).state.ports
+end_system-wires P n t b s all = end_system-cases (λ o. AllWires P o.state.ports) n t s (record {
+  quiet = λ sinks r q. all;
+  frees = λ q. wires-stay P q Free s.ports all;
+  asks = λ vl e otherwise found m h. released-wires P found.entry.end (regulator.out found.entry.regulator e).answer s.ports all;
 }) b
 
 pub end_system-bags : (P : ℕ → Type 0) (n t : ℕ) (b : Body) (s : EndSystemState) →
@@ -121,7 +122,7 @@ copied_reply-all P n t end net frame ports h =
 released_reply-all : (P : Wish → Type 0) (n t : ℕ) (end : VlEnd) (a : RegAnswer) (ports : PortsState) →
     AllWires (WireMeets P n t) ports → All P (released_reply n t end a ports).wishes
 released_reply-all P n t end (answer.Released frame) ports h =
-    let rest = subst (All (λ wire. IfSome wire (WireMeets P n t))) (sym (copied-wires end A frame ports)) h in
+    let rest = copied-wires (WireMeets P n t) end A frame ports h in
     joined-all P (copied_reply n t end A frame ports) (copied_reply n t end B frame (copied end A frame ports))
     (copied_reply-all P n t end A frame ports h) (copied_reply-all P n t end B frame (copied end A frame ports) rest)
 released_reply-all P n t end answer.Kept ports h = All-nil P

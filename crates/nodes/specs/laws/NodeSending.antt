@@ -11,6 +11,7 @@ use Rattle.vlink.specs.declared.note.Cause.TheVariants as cause
 use Rattle.bag_regulator.specs.Regulator.{regulator}
 use Rattle.bag_regulator.specs.Spacing.{moment_of}
 use Rattle.bag_regulator.specs.declared.event.RegEvent.{RegEvent}
+use Rattle.nodes.specs.declared.ports.Outlet.{Outlet}
 use Rattle.nodes.specs.declared.ports.Wire.{Wire}
 use Rattle.nodes.specs.declared.part.Part.{Part}
 use Rattle.nodes.specs.declared.part.Part.TheVariants.{EndSystem, Switch, Line}
@@ -62,11 +63,11 @@ handled-all P n m (Line s) h =
     line-cases (λ r. All P r.wishes) m.time m.body s (quiet-all P) (λ frame. All-cons P (arrival m.time frame s) [] (h frame) (All-nil P))
 
 wires-weaker : (P Q : Wire → Type 0) → ((wire : Wire) → P wire → Q wire) → (ports : PortsState) → AllWires P ports → AllWires Q ports
-wires-weaker P Q f ports h = All-weaker (λ o. IfSome o P) (λ o. IfSome o Q) go ports.wires h
+wires-weaker P Q f ports h = All-weaker (λ slot. IfSome slot (λ outlet. P outlet.wire)) (λ slot. IfSome slot (λ outlet. Q outlet.wire)) go ports h
   where
-    go : (o : Option Wire) → IfSome o P → IfSome o Q
+    go : (o : Option Outlet) → IfSome o (λ x. P x.wire) → IfSome o (λ x. Q x.wire)
     go None p = tt
-    go (Some wire) p = f wire p
+    go (Some outlet) p = f outlet.wire p
 
 -- a frame that starts into a line where a byte takes at least 1 ns
 wire-later : (n t : ℕ) (wire : Wire) → 1 ≤ wire.byte_ns → WireMeets (λ w. t < w.time) n t wire
@@ -121,18 +122,18 @@ place-stays s m = go s.part
   where
     go : (p : Part) → IsPlacedPart p → IsPlacedPart (handled s.sender.number m p).part
     go (EndSystem s') h = (
-      subst (All (λ w. IfSome w (λ wire. 1 ≤ wire.byte_ns))) (sym (end_system-wires s.sender.number m.time m.body s')) h.0,
+      end_system-wires (λ wire. 1 ≤ wire.byte_ns) s.sender.number m.time m.body s' h.0,
       end_system-bags (λ bag. 1 ≤ bag) s.sender.number m.time m.body s' h.1,
     )
     go (Switch s') h =
-        let stays = switch-stays s.sender.number m.time m.body s' in
-        (subst (All (λ w. IfSome w (λ wire. 1 ≤ wire.byte_ns))) (sym stays.wires) h.0, subst (λ n. 1 ≤ n) (sym stays.latency) h.1)
+        let stays = switch-stays (λ wire. 1 ≤ wire.byte_ns) s.sender.number m.time m.body s' h.0 in
+        (stays.wires, subst (λ n. 1 ≤ n) (sym stays.latency) h.1)
     go (Line s') h = h
 
 pub wiring-stays : (processes : ℕ) (s : NodeState) (m : Message) → IsWired processes s → IsWired processes (after s m)
 wiring-stays processes s m h = (h.0, go s.part h.1)
   where
     go : (p : Part) → IsWiredPart processes p → IsWiredPart processes (handled s.sender.number m p).part
-    go (EndSystem s') h = subst (All (λ w. IfSome w (λ wire. wire.line < processes))) (sym (end_system-wires s.sender.number m.time m.body s')) h
-    go (Switch s') h = subst (All (λ w. IfSome w (λ wire. wire.line < processes))) (sym (switch-stays s.sender.number m.time m.body s').wires) h
+    go (EndSystem s') h = end_system-wires (λ wire. wire.line < processes) s.sender.number m.time m.body s' h
+    go (Switch s') h = (switch-stays (λ wire. wire.line < processes) s.sender.number m.time m.body s' h).wires
     go (Line s') h = h

@@ -1,12 +1,12 @@
 -- For proofs alone: the ports of a node: undoing an event gives back the ports, their lines stay, and what follows from an event.
-use Rattle.std.proofs.Common.{◌≡◌, ℕ, ◌+◌, [], ◌∷◌, Option, None, Some, IfSome, All, slice_get, slice_set, option_map, refl, sym, subst, ap, ◌∙◌}
+use Rattle.std.proofs.Common.{◌≡◌, ℕ, ◌+◌, [], ◌∷◌, Option, None, Some, IfSome, All, slice_get, slice_set, option_map, option_and_then, refl, sym, ap, ◌∙◌}
 use Rattle.std.proofs.lemmas.Option.{option_and_then_some}
-use Rattle.std.proofs.lemmas.List.Elements.{All-nil, All-cons}
+use Rattle.std.proofs.lemmas.List.Elements.{All-nil, All-cons, All-set}
 use Rattle.vlink.specs.Wire.{last_bit_after, busy_for}
 use Rattle.vlink.specs.declared.frame.Frame.{Frame}
 use Rattle.vlink.specs.declared.message.Body.TheVariants.{Carry, PortFree}
 use Rattle.vlink.specs.declared.note.Cause.TheVariants.{PortFull}
-use Rattle.output_port.specs.Port.{PortState, port}
+use Rattle.output_port.specs.Port.{port, put_kept}
 use Rattle.output_port.specs.Undoing.{port-undoes, put-saves}
 use Rattle.output_port.specs.declared.event.Priority.{Priority}
 use Rattle.output_port.specs.declared.event.PortRecord.TheVariants as saved
@@ -14,71 +14,75 @@ use Rattle.output_port.specs.declared.event.PortEvent.{PortEvent}
 use Rattle.output_port.specs.declared.event.PortEvent.TheVariants.{Put, Free}
 use Rattle.output_port.specs.declared.event.PortAnswer.{PortAnswer}
 use Rattle.output_port.specs.declared.event.PortAnswer.TheVariants as answer
+use Rattle.nodes.specs.declared.ports.Outlet.{Outlet}
 use Rattle.nodes.specs.declared.ports.Wire.{Wire}
 use Rattle.reverse.specs.Sending.{Wish, Reply, silent, loss}
-use Rattle.nodes.specs.rules.Ports.{PortsState, changed, changed_at, wire_at, reply, reply_at, answered, start}
-use Rattle.nodes.specs.undoing.Ports.{port_kept, kept_at, port_put_kept, put_kept_at, restored, restored_at, unput}
+use Rattle.nodes.specs.rules.Ports.{PortsState, changed, changed_at, outlet_at, reply, reply_at, answered, start}
+use Rattle.nodes.specs.undoing.Ports.{port_kept, port_put_kept, restored, restored_at, unput}
 use Rattle.nodes.specs.rules.Placed.{AllWires}
 use Rattle.nodes.specs.laws.Places.{All-there, get-set, set-back}
 use Rattle.nodes.specs.laws.Replies.{IsQuiet, silent-quiet, loss-quiet, quiet-all}
 
+-- what stands at port q stands in the list
+there : (ports : PortsState) (q : ℕ) (outlet : Outlet) → outlet_at ports q ≡ Some outlet → slice_get ports q ≡ Some (Some outlet)
+there ports q outlet is = option_and_then_some (λ o. o) (slice_get ports q) outlet is (λ o read same. read ∙ ap Some same)
+
 pub ports-undo : (q : ℕ) (e : PortEvent) (ports : PortsState) → restored q (port_kept q e ports) (changed q e ports) ≡ ports
-ports-undo q e ports = go (wire_at ports q) (slice_get ports.states q) refl
+ports-undo q e ports = go (outlet_at ports q) refl
   where
-    go : (w : Option Wire) (p : Option PortState) → slice_get ports.states q ≡ p → restored q (kept_at e w p) (changed_at q e ports w p) ≡ ports
-    go (Some w) (Some p) h =
-        let now : PortsState = record ports { states = slice_set ports.states q (port.after p e) } in
-        ap (restored_at q now (Some (port.saves p e))) (get-set ports.states q p (port.after p e) h)
-        ∙ ap (λ x. record ports { states = slice_set (slice_set ports.states q (port.after p e)) q x }) (port-undoes p e)
-        ∙ ap (λ xs. record ports { states = xs }) (set-back ports.states q p (port.after p e) h)
-    go (Some w) None h = refl
-    go None p h = refl
+    go : (o : Option Outlet) → outlet_at ports q ≡ o → restored q (option_map (λ outlet. port.saves outlet.port e) o) (changed_at q e ports o) ≡ ports
+    go (Some outlet) is =
+        let new : Outlet = record outlet { port = port.after outlet.port e } in
+        let now : PortsState = slice_set ports q (Some new) in
+        let read = there ports q outlet is in
+        ap (λ o. restored_at q now (Some (port.saves outlet.port e)) (option_and_then (λ x. x) o)) (get-set ports q (Some outlet) (Some new) read)
+        ∙ ap (λ p. slice_set now q (Some (record outlet { port = p }))) (port-undoes outlet.port e)
+        ∙ set-back ports q (Some outlet) (Some new) read
+    go None is = refl
 
 -- the record of a frame put is what is kept of the event
 pub put-kept : (q : ℕ) (frame : Frame) (priority : Priority) (ports : PortsState) →
     option_map (λ k. saved.Put k) (port_put_kept q frame priority ports) ≡ port_kept q (Put frame priority) ports
-put-kept q frame priority ports = go (wire_at ports q) (slice_get ports.states q)
+put-kept q frame priority ports = go (outlet_at ports q)
   where
-    go : (w : Option Wire) (p : Option PortState) → option_map (λ k. saved.Put k) (put_kept_at frame priority w p) ≡ kept_at (Put frame priority) w p
-    go (Some w) (Some p) = ap (λ k. Some k) (sym (put-saves p frame priority))
-    go (Some w) None = refl
-    go None p = refl
+    go : (o : Option Outlet) → option_map (λ k. saved.Put k) (option_map (λ outlet. put_kept outlet.port frame priority) o) ≡ option_map (λ outlet. port.saves outlet.port (Put frame priority)) o
+    go (Some outlet) = ap (λ k. Some k) (sym (put-saves outlet.port frame priority))
+    go None = refl
 
 pub unput-undoes : (q : ℕ) (frame : Frame) (priority : Priority) (ports : PortsState) →
     unput q (port_put_kept q frame priority ports) (changed q (Put frame priority) ports) ≡ ports
 unput-undoes q frame priority ports =
     ap (λ kept. restored q kept (changed q (Put frame priority) ports)) (put-kept q frame priority ports) ∙ ports-undo q (Put frame priority) ports
 
-pub wires-stay : (q : ℕ) (e : PortEvent) (ports : PortsState) → (changed q e ports).wires ≡ ports.wires
-wires-stay q e ports = go (wire_at ports q) (slice_get ports.states q)
-  where
-    go : (w : Option Wire) (p : Option PortState) → (changed_at q e ports w p).wires ≡ ports.wires
-    go (Some w) (Some p) = refl
-    go (Some w) None = refl
-    go None p = refl
+-- what holds of each line holds of the line of port q
+pub wire-there : (P : Wire → Type 0) (ports : PortsState) (q : ℕ) (outlet : Outlet) → AllWires P ports → outlet_at ports q ≡ Some outlet → P outlet.wire
+wire-there P ports q outlet h is = All-there (λ slot. IfSome slot (λ outlet. P outlet.wire)) ports q (Some outlet) h (there ports q outlet is)
 
-pub wire-there : (P : Wire → Type 0) (ports : PortsState) (q : ℕ) (wire : Wire) → AllWires P ports → wire_at ports q ≡ Some wire → P wire
-wire-there P ports q wire h e =
-    option_and_then_some (λ w. w) (slice_get ports.wires q) wire e
-    (λ w f g. subst (λ o. IfSome o P) g (All-there (λ o. IfSome o P) ports.wires q w h f))
+-- the lines of the ports stay, and so does what holds of each
+pub wires-stay : (P : Wire → Type 0) (q : ℕ) (e : PortEvent) (ports : PortsState) → AllWires P ports → AllWires P (changed q e ports)
+wires-stay P q e ports h = go (outlet_at ports q) refl
+  where
+    go : (o : Option Outlet) → outlet_at ports q ≡ o → AllWires P (changed_at q e ports o)
+    go (Some outlet) is =
+        All-set (λ slot. IfSome slot (λ outlet. P outlet.wire)) ports q (Some (record outlet { port = port.after outlet.port e })) (wire-there P ports q outlet h is) h
+    go None is = h
 
 -- K holds of what follows, if it holds where nothing is sent, and where a frame starts into the line of the port
 pub reply-cases : (K : Reply → Type 0) (n t q : ℕ) (e : PortEvent) (ports : PortsState) → ((r : Reply) → IsQuiet r → K r) →
-    ((wire : Wire) (frame : Frame) → wire_at ports q ≡ Some wire → K (start n t q wire frame)) → K (reply n t q e ports)
-reply-cases K n t q e ports quiet starts = go (wire_at ports q) (slice_get ports.states q) refl
+    ((outlet : Outlet) (frame : Frame) → outlet_at ports q ≡ Some outlet → K (start n t q outlet.wire frame)) → K (reply n t q e ports)
+reply-cases K n t q e ports quiet starts = go (outlet_at ports q) refl
   where
-    by_answer : (wire : Wire) (e : PortEvent) (a : PortAnswer) → wire_at ports q ≡ Some wire → K (answered n t q wire e a)
-    by_answer wire e (answer.Started frame) h = starts wire frame h
-    by_answer wire (Put frame priority) answer.Dropped h = quiet (loss PortFull frame) (loss-quiet PortFull frame)
-    by_answer wire Free answer.Dropped h = quiet silent silent-quiet
-    by_answer wire e answer.Kept h = quiet silent silent-quiet
-    by_answer wire e answer.Idle h = quiet silent silent-quiet
-    by_answer wire e answer.Nothing h = quiet silent silent-quiet
+    by_answer : (outlet : Outlet) (e : PortEvent) (a : PortAnswer) → outlet_at ports q ≡ Some outlet → K (answered n t q outlet.wire e a)
+    by_answer outlet e (answer.Started frame) h = starts outlet frame h
+    by_answer outlet (Put frame priority) answer.Dropped h = quiet (loss PortFull frame) (loss-quiet PortFull frame)
+    by_answer outlet Free answer.Dropped h = quiet silent silent-quiet
+    by_answer outlet e answer.Kept h = quiet silent silent-quiet
+    by_answer outlet e answer.Idle h = quiet silent silent-quiet
+    by_answer outlet e answer.Nothing h = quiet silent silent-quiet
 
-    go : (w : Option Wire) (p : Option PortState) → wire_at ports q ≡ w → K (reply_at n t q e w p)
-    go (Some wire) (Some p) h = by_answer wire e (port.out p e) h
-    go (Some wire) None h = quiet silent silent-quiet
-    go None p h = quiet silent silent-quiet
+    go : (o : Option Outlet) → outlet_at ports q ≡ o → K (reply_at n t q e o)
+    go (Some outlet) h = by_answer outlet e (port.out outlet.port e) h
+    go None h = quiet silent silent-quiet
 
 -- what a frame that starts asks to be sent: its last bit is carried into the line, and then the port is free
 abbrev pub carrying : ℕ → Wire → Frame → Wish
@@ -95,7 +99,8 @@ pub reply-all : (P : Wish → Type 0) (n t q : ℕ) (e : PortEvent) (ports : Por
     All P (reply n t q e ports).wishes
 reply-all P n t q e ports h = reply-cases (λ r. All P r.wishes) n t q e ports (quiet-all P) starts
   where
-    starts : (wire : Wire) (frame : Frame) → wire_at ports q ≡ Some wire → All P (start n t q wire frame).wishes
-    starts wire frame w =
-        let both = wire-there (WireMeets P n t) ports q wire h w q frame in
+    starts : (outlet : Outlet) (frame : Frame) → outlet_at ports q ≡ Some outlet → All P (start n t q outlet.wire frame).wishes
+    starts outlet frame is =
+        let wire = outlet.wire in
+        let both = wire-there (WireMeets P n t) ports q outlet h is q frame in
         All-cons P (carrying t wire frame) (freeing n t q wire frame ∷ []) both.0 (All-cons P (freeing n t q wire frame) [] both.1 (All-nil P))

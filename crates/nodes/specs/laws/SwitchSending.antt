@@ -13,6 +13,7 @@ use Rattle.output_port.specs.declared.event.PortEvent.TheVariants.{Put, Free}
 use Rattle.nodes.specs.declared.transit.Transit.{Transit}
 use Rattle.reverse.specs.Sending.{Wish, Reply, silent, loss}
 use Rattle.nodes.specs.rules.Finding.{Found}
+use Rattle.nodes.specs.declared.ports.Wire.{Wire}
 use Rattle.nodes.specs.rules.Ports.{exists}
 use Rattle.nodes.specs.rules.Switch.{SwitchState, SwitchOutcome, transit_at, outputs_of, forwarded, judged, taken, put, at_port, switch}
 use Rattle.nodes.specs.rules.Placed.{AllWires}
@@ -55,16 +56,16 @@ switch-cases K n t s is (Enqueue q frame) = go (exists s.ports q) (transit_at s 
     go false o = is.quiet s.transits silent silent-quiet
 switch-cases K n t s is (Carry frame) = is.quiet s.transits silent silent-quiet
 
--- the delay and the lines of the ports stay
-pub record StaysSwitch (s now : SwitchState) : Type 0 where
+-- the delay stays, and what holds of each line of a port
+pub record StaysSwitch (P : Wire → Type 0) (s now : SwitchState) : Type 0 where
   pub latency : now.latency ≡ s.latency
-  pub wires : now.ports.wires ≡ s.ports.wires
+  pub wires : AllWires P now.ports
 
-pub switch-stays : (n t : ℕ) (body : Body) (s : SwitchState) → StaysSwitch s (switch n t body s).state
-switch-stays n t body s = switch-cases (λ o. StaysSwitch s o.state) n t s (record {
-  quiet = λ transits r q. record { latency = refl; wires = refl };
-  at_ports = λ q e. record { latency = refl; wires = wires-stay q e s.ports };
-  forwards = λ transits frame outputs. record { latency = refl; wires = refl };
+pub switch-stays : (P : Wire → Type 0) (n t : ℕ) (body : Body) (s : SwitchState) → AllWires P s.ports → StaysSwitch P s (switch n t body s).state
+switch-stays P n t body s h = switch-cases (λ o. StaysSwitch P s o.state) n t s (record {
+  quiet = λ transits r q. record { latency = refl; wires = h };
+  at_ports = λ q e. record { latency = refl; wires = wires-stay P q e s.ports h };
+  forwards = λ transits frame outputs. record { latency = refl; wires = h };
 }) body
 
 -- a frame is put to output q

@@ -1,6 +1,7 @@
 -- Definition: the opening state of each process of a network. Nothing waits, nothing was sent, and no frame was received.
 use Rattle.std.specs.Prelude.{ℕ, ◌+◌, ◌-◌, ◌*◌, ◌==◌, ◌&&◌, Bool, if◌then◌else◌, List, [], ◌∷◌, length, map, Option, None, Some, slice_get}
 use Rattle.std.specs.List.{range_with_len}
+use Rattle.std.specs.Option.{option_map}
 use Rattle.network_rows.specs.declared.rows.NodeKind.{NodeKind}
 use Rattle.network_rows.specs.declared.rows.NodeKind.TheVariants as kind
 use Rattle.network_rows.specs.declared.rows.Priority.{Priority}
@@ -9,7 +10,6 @@ use Rattle.bag_regulator.specs.Regulator as regulator
 use Rattle.bag_regulator.specs.Regulator.{Regulator}
 use Rattle.policer.specs.Account.{Policing, full}
 use Rattle.output_port.specs.Port as port
-use Rattle.output_port.specs.Port.{PortState}
 use Rattle.output_port.specs.declared.event.Priority as waiting
 use Rattle.output_port.specs.declared.event.Priority.TheVariants.{High, Low}
 use Rattle.netdesc.specs.declared.too_many.TheConstants.{GREATEST_PORTS}
@@ -21,6 +21,7 @@ use Rattle.netdesc.specs.Lines.{lines_of, outages_of}
 use Rattle.nodes.specs.declared.meeting.Side.TheVariants.{Out, In}
 use Rattle.nodes.specs.declared.part.Part.{Part}
 use Rattle.nodes.specs.declared.part.Part.TheVariants as part
+use Rattle.nodes.specs.declared.ports.Outlet.{Outlet}
 use Rattle.nodes.specs.declared.ports.Wire.{Wire}
 use Rattle.nodes.specs.declared.receiving.Receiving.{Receiving}
 use Rattle.nodes.specs.declared.sink.Sink.{Sink}
@@ -52,13 +53,13 @@ wire_among n q process (line ∷ lines) =
 unfoldable pub wires_of : Plan → ℕ → ℕ → List (Option Wire)
 wires_of plan n count = map (λ q. wire_among n q (length plan.nodes) (lines_of plan)) (range_with_len 0 count)
 
--- a port that is there holds so many bytes, and one that is not holds none
-abbrev pub port_of : ℕ → Option Wire → PortState
-port_of bytes (Some wire) = port.opening bytes
-port_of bytes None = port.opening 0
+-- the port that leads into a wire: so many bytes may wait there
+abbrev pub outlet_of : ℕ → Wire → Outlet
+outlet_of bytes wire = record { wire = wire; port = port.opening bytes }
 
+-- a port for each wire
 abbrev pub ports_of : Plan → ℕ → ℕ → ℕ → PortsState
-ports_of plan n count bytes = let wires = wires_of plan n count in record { wires = wires; states = map (port_of bytes) wires }
+ports_of plan n count bytes = map (option_map (outlet_of bytes)) (wires_of plan n count)
 
 -- ---- end systems: port 0 leads to network A and port 1 to network B
 

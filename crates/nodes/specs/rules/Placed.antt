@@ -9,7 +9,7 @@ use Rattle.nodes.specs.rules.Node.{NodeState}
 
 -- each line that a port leads into has P
 abbrev pub AllWires : (Wire → Type 0) → PortsState → Type 0
-AllWires P ports = All (λ wire. IfSome wire P) ports.wires
+AllWires P ports = All (λ slot. IfSome slot (λ outlet. P outlet.wire)) ports
 
 -- each delay is at least 1 ns: of a byte on the wire, between two releases of a regulator, through a switch and over a line
 abbrev pub IsPlacedPart : Part → Type 0

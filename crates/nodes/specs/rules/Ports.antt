@@ -1,6 +1,6 @@
 -- Definition: the output ports of a node, and the lines that they lead into.
-use Rattle.std.specs.Prelude.{ℕ, ◌+◌, Bool, if◌then◌else◌, List, [], ◌∷◌, Option, None, Some, is_some, slice_get, slice_set}
-use Rattle.std.specs.Option.{option_and_then}
+use Rattle.std.specs.Prelude.{ℕ, ◌+◌, Bool, List, [], ◌∷◌, Option, None, Some, is_some, slice_get, slice_set}
+use Rattle.std.specs.Option.{option_and_then, option_map}
 use Rattle.vlink.specs.declared.frame.Frame.{Frame}
 use Rattle.vlink.specs.declared.message.Body.TheVariants.{Carry, PortFree}
 use Rattle.vlink.specs.declared.note.Cause.TheVariants.{PortFull}
@@ -10,24 +10,24 @@ use Rattle.output_port.specs.declared.event.PortEvent.{PortEvent}
 use Rattle.output_port.specs.declared.event.PortEvent.TheVariants.{Put, Free}
 use Rattle.output_port.specs.declared.event.PortAnswer.{PortAnswer}
 use Rattle.output_port.specs.declared.event.PortAnswer.TheVariants as answer
+use Rattle.nodes.specs.declared.ports.Outlet.{Outlet}
 use Rattle.nodes.specs.declared.ports.Wire.{Wire}
 use Rattle.reverse.specs.Sending.{Reply, silent, loss}
 
--- for each port number the line that the port leads into, if there is such a port, and the port
-pub record PortsState : Type 0 where
-  pub wires : List (Option Wire)
-  pub states : List PortState
+-- for each port number the port and the line that it leads into, if there is such a port
+abbrev pub PortsState : Type 0
+PortsState = List (Option Outlet)
 
--- the line of port q, if there is such a port
-abbrev pub wire_at : PortsState → ℕ → Option Wire
-wire_at ports q = option_and_then (λ wire. wire) (slice_get ports.wires q)
+-- what stands at port number q, if there is such a port
+abbrev pub outlet_at : PortsState → ℕ → Option Outlet
+outlet_at ports q = option_and_then (λ outlet. outlet) (slice_get ports q)
 
 abbrev pub exists : PortsState → ℕ → Bool
-exists ports q = is_some (wire_at ports q)
+exists ports q = is_some (outlet_at ports q)
 
 -- port q, if there is such a port
 abbrev pub port_at : PortsState → ℕ → Option PortState
-port_at ports q = if exists ports q then slice_get ports.states q else None
+port_at ports q = option_map (λ outlet. outlet.port) (outlet_at ports q)
 
 -- at moment t node n starts the frame at port q: its last bit is carried into the line, and then the port is free
 abbrev pub start : ℕ → ℕ → ℕ → Wire → Frame → Reply
@@ -49,19 +49,17 @@ answered n t q wire e answer.Idle = silent
 answered n t q wire e answer.Nothing = silent
 
 -- port q is asked to do something: nothing changes where there is no such port
-abbrev pub changed_at : ℕ → PortEvent → PortsState → Option Wire → Option PortState → PortsState
-changed_at q e ports (Some wire) (Some p) = record ports { states = slice_set ports.states q (port.after p e) }
-changed_at q e ports (Some wire) None = ports
-changed_at q e ports None p = ports
+abbrev pub changed_at : ℕ → PortEvent → PortsState → Option Outlet → PortsState
+changed_at q e ports (Some outlet) = slice_set ports q (Some (record outlet { port = port.after outlet.port e }))
+changed_at q e ports None = ports
 
 abbrev pub changed : ℕ → PortEvent → PortsState → PortsState
-changed q e ports = changed_at q e ports (wire_at ports q) (slice_get ports.states q)
+changed q e ports = changed_at q e ports (outlet_at ports q)
 
 -- what then follows
-abbrev pub reply_at : ℕ → ℕ → ℕ → PortEvent → Option Wire → Option PortState → Reply
-reply_at n t q e (Some wire) (Some p) = answered n t q wire e (port.out p e)
-reply_at n t q e (Some wire) None = silent
-reply_at n t q e None p = silent
+abbrev pub reply_at : ℕ → ℕ → ℕ → PortEvent → Option Outlet → Reply
+reply_at n t q e (Some outlet) = answered n t q outlet.wire e (port.out outlet.port e)
+reply_at n t q e None = silent
 
 abbrev pub reply : ℕ → ℕ → ℕ → PortEvent → PortsState → Reply
-reply n t q e ports = reply_at n t q e (wire_at ports q) (slice_get ports.states q)
+reply n t q e ports = reply_at n t q e (outlet_at ports q)
