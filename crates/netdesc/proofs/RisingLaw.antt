@@ -1,15 +1,20 @@
 -- Numbers that are put in, each once, are the one strictly increasing list of them.
 use Rattle.std.proofs.Common.{◌≡◌, ℕ, ◌<◌, List, [], ◌∷◌, inl, inr, refl, sym, subst, arith}
 use Rattle.std.specs.Prelude.{⊤}
-use Rattle.std.specs.List.{AllByRecursion}
-use Rattle.std.specs.List.Sorted.{IsStrictlySortedBy}
+use Rattle.std.specs.List.{AllByRecursion, dedup}
+use Rattle.std.specs.List.Retain.{IsFiltered, DiffersFromLast}
+use Rattle.std.specs.List.Sorted.{IsStrictlySortedBy, IsSorted, IsPermutation}
 use Rattle.std.specs.Ordering.{nat_cmp, match_ordering}
 use Rattle.std.specs.BTreeSet.{insert_key}
 use Rattle.std.specs.Cmp.{nat_cmp_is}
 use Rattle.std.specs.declared.cmp.Ordering.{Ordering}
 use Rattle.std.specs.declared.cmp.Ordering.TheVariants.{Less, Equal, Greater}
 use Rattle.std.proofs.lemmas.Cmp.{ranked}
-use Rattle.std.proofs.lemmas.Map.Keys.{IsStrictlyIncreasing-from_sorted, sorted_from_strictly_increasing}
+use Rattle.std.proofs.lemmas.List.Filters.{dedup_is}
+use Rattle.std.proofs.lemmas.List.Kept.{Contains-from_dedup, Contains-dedup_nat}
+use Rattle.std.proofs.lemmas.List.Sorted.{Contains-permutation, IsPermutation-sym}
+use Rattle.std.proofs.lemmas.Map.Keys.{IsStrictlyIncreasing-from_sorted, IsStrictlyIncreasing-dedup, sorted_from_strictly_increasing}
+use Rattle.std.proofs.Math.Dec.{eqb}
 use Rattle.netdesc.specs.Trees.{IsRisingOf, rising_from, rising}
 use Rattle.netdesc.proofs.MemberLemmas.{Has, has-from_contains, contains-from_has, has-rising, rising-has}
 
@@ -118,3 +123,16 @@ only-rising xs ys is =
     one-list (rising xs) ys (rising-rises xs) (rises-of ys (sorted_from_strictly_increasing ys is.increasing))
     (λ k there. has-from_contains ys k ((is.members k).1 (contains-from_has xs k (rising-has xs k there))))
     (λ k there. has-rising xs k (has-from_contains xs k ((is.members k).0 (contains-from_has ys k there))))
+
+-- ---- what a sort leaves, without its doubles
+
+pub sorted-rising : (xs sorted ys : List ℕ) → IsPermutation xs sorted → IsSorted nat_cmp sorted → IsFiltered (DiffersFromLast eqb) [] sorted ys → ys ≡ rising xs
+sorted-rising xs sorted ys moved in_order kept =
+    let is : ys ≡ dedup eqb sorted = dedup_is eqb sorted ys kept in
+    only-rising xs ys (subst (IsRisingOf xs) (sym is) (record {
+      increasing = IsStrictlyIncreasing-dedup sorted in_order;
+      members = λ n. (
+        λ there. Contains-permutation sorted xs n (IsPermutation-sym xs sorted moved) (Contains-from_dedup eqb sorted n there),
+        λ there. Contains-dedup_nat sorted n (Contains-permutation xs sorted n moved there),
+      );
+    }))
