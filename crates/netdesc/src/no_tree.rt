@@ -96,10 +96,9 @@ fn has_repeat(alloc: Global, numbers: &[usize]) -> Result<bool, DescFault>
 {
     let mut seen = BTreeSet::new(alloc);
     for n in numbers {
-        if seen.contains(n) {
+        if !seen.insert(*n)? {
             return Ok(true);
         }
-        seen.insert(*n)?;
     }
     Ok(false)
 }
