@@ -1,0 +1,172 @@
+-- Letters go from the mail to a process.
+use Rattle.std.proofs.Common.{◌≡◌, ℕ, ◌+◌, ◌<◌, ◌≤◌, inl, inr, min, List, [], ◌∷◌, ◌++◌, map, length, take, slice_get, Option, Some, None, refl, sym, ap, ◌∙◌, subst, arith}
+use Rattle.std.specs.Option.{option_map}
+use Rattle.std.proofs.Math.ListN.{set}
+use Rattle.std.proofs.lemmas.List.{length-set, length-replicate, take_more, map-append, get_or-set_same, get_or-set_other}
+use Rattle.std.proofs.lemmas.Bool.{cases_eq}
+use Rattle.std.proofs.lemmas.Option.{get_or_from_slice_get}
+use Rattle.vlink.specs.declared.message.Message.{Message}
+use Rattle.vlink.specs.declared.note.Note.{Note}
+use Rattle.virtual_time.specs.Rules.{Rules}
+use Rattle.virtual_time.specs.Simulation.{Simulation}
+use Rattle.virtual_time.specs.Letters.{Letter as Signed, lowest, times_of}
+use Rattle.virtual_time.specs.Part.{Part, opened}
+use Rattle.virtual_time.specs.World.{Step}
+use Rattle.virtual_time.specs.Own.{Act, local}
+use Rattle.virtual_time.specs.Own.Act.{Deliver}
+use Rattle.virtual_time.specs.Journal.{Move, Took, act_by, acts_of, steps_of, own_in, reach, after_own, fetched}
+use Rattle.virtual_time.proofs.Kept.{put_elim}
+use Rattle.virtual_time.proofs.Journal.{local-append, takes}
+use Rattle.reverse.specs.Setting.{Setting, simulation_of}
+use Rattle.antimessages.specs.Letters.{message_rules, Store}
+use Rattle.antimessages.specs.Mailing.{letters_for}
+use Rattle.gvt.specs.Horizon.{Floors}
+use Rattle.process_queues.specs.Queues.{Queues, StandsFor, Does, delivered_all}
+use Rattle.journal.specs.declared.tokens.Tokens.{Tokens}
+use Rattle.exchange.specs.declared.mark.Mark.{Mark}
+use Rattle.exchange.specs.Views.{Ledger, InShare, blank, book_of}
+use Rattle.exchange.specs.Keeps.{entries_of, IsBooked, AreBooked, IsRecorded}
+use Rattle.exchange.specs.Effects.{told, mark, collects}
+use Rattle.exchange.proofs.Growth.{Fresh, books-set, kept-more}
+
+-- the deliveries of these letters
+delivered-local : {S K : Type 0} (r : Rules Message S K Note) (o : S) (ls : List (Signed Message)) (part : Part Message S) → delivered_all ls part ≡ local r o (map (λ l. Deliver l) ls) part
+delivered-local r o [] part = refl
+delivered-local r o (l ∷ ls) part = delivered-local r o ls _
+
+lowest-push : (d : ℕ) (xs : List ℕ) (x : ℕ) → lowest d (xs ++ x ∷ []) ≡ min x (lowest d xs)
+lowest-push d [] x = refl
+lowest-push d (y ∷ xs) x = let a = lowest-push d xs x in omega arith
+
+times-more : (d : ℕ) (ls : List (Signed Message)) (i : ℕ) (l : Signed Message) → i < length ls → slice_get ls i ≡ Some l →
+    lowest d (times_of message_rules (take (i + 1) ls)) ≡ min l.message.time (lowest d (times_of message_rules (take i ls)))
+times-more d ls i l h e =
+    ap (λ z. lowest d (times_of message_rules z)) (take_more ls i l h ∙ ap (λ z. take i ls ++ z ∷ []) (get_or_from_slice_get ls i l l e)) ∙
+    (ap (lowest d) (map-append (λ (x : Signed Message). x.message.time) (take i ls) (l ∷ [])) ∙
+    lowest-push d (times_of message_rules (take i ls)) l.message.time)
+
+-- a floor that has fallen to the first letters falls to the next
+pub floor-more : (ls : List (Signed Message)) (i : ℕ) (l : Signed Message) → i < length ls → slice_get ls i ≡ Some l → (first now new : Option ℕ) →
+    now ≡ option_map (λ d. lowest d (times_of message_rules (take i ls))) first → new ≡ option_map (min l.message.time) now →
+    new ≡ option_map (λ d. lowest d (times_of message_rules (take (i + 1) ls))) first
+floor-more ls i l h e None now new a b = b ∙ ap (option_map (min l.message.time)) a
+floor-more ls i l h e (Some d) now new a b = b ∙ (ap (option_map (min l.message.time)) a ∙ ap (λ z. Some z) (sym (times-more d ls i l h e)))
+
+-- the book of one process tells of the same entry, and of a GVT that is not later
+pub books-seen : {processes gvt : ℕ} {ts : List Tokens} {books : List Mark} → AreBooked processes ts gvt books → (p : ℕ) → p < processes → (m : Mark) →
+    m.place ≡ (book_of books p).place → m.seen ≤ gvt → AreBooked processes ts gvt (set books p m)
+books-seen {processes = processes} {gvt = gvt} {ts = ts} {books = books} old p i m place low = record {
+  count = length-set books p m ∙ old.count;
+  place_is = λ q j. same-place q ∙ old.place_is q j;
+  booked = λ q j. subst (λ o. IsBooked ts q o) (sym (same-place q)) (old.booked q j);
+  seen_low = λ q j. elim (cases_eq q p) [
+    | inl d ↦ subst (λ (z : Mark). z.seen ≤ gvt) (sym (at-here q d)) low
+    | inr n ↦ subst (λ (z : Mark). z.seen ≤ gvt) (sym (elsewhere q n)) (old.seen_low q j)
+  ];
+}
+  where
+    at-here : (q : ℕ) → q ≡ p → book_of (set books p m) q ≡ m
+    at-here q d = ap (book_of (set books p m)) d ∙ get_or-set_same books p m blank (let a = old.count in omega arith)
+
+    elsewhere : (q : ℕ) → (q ≡ p → ⊥) → book_of (set books p m) q ≡ book_of books q
+    elsewhere q n = get_or-set_other books p q m blank n
+
+    same-place : (q : ℕ) → (book_of (set books p m) q).place ≡ (book_of books q).place
+    same-place q = elim (cases_eq q p) [
+      | inl d ↦ ap (λ (z : Mark). z.place) (at-here q d) ∙ (place ∙ ap (λ z. (book_of books z).place) (sym d))
+      | inr n ↦ ap (λ (z : Mark). z.place) (elsewhere q n)
+    ]
+
+module _ {S K : Type 0} {r : Rules Message S K Note} {number end : S → ℕ} {is_placed : S → Type 0} {x : Setting S} {pages table : List ℕ} {ts : List Tokens} {mail : List Store} {floors : Floors}
+    {gvt count : ℕ} {books : List Mark} (k : IsRecorded r number end is_placed x pages table ts mail floors gvt count books) where
+  -- other books, and room in the mail
+  pub kept-as : (mail' : List Store) → length mail' ≡ length mail → ((q : ℕ) → letters_for q mail' ≡ letters_for q mail) → (books' : List Mark) → AreBooked x.processes ts gvt books' →
+      IsRecorded r number end is_placed x pages table ts mail' floors gvt count books'
+  kept-as mail' boxes letters books' booked = record {
+    laid = k.laid;
+    same = k.same;
+    placed = k.placed;
+    counted = k.counted;
+    boxes = boxes ∙ k.boxes;
+    floor_count = k.floor_count;
+    until = k.until;
+    mail_is = λ q i. letters q ∙ k.mail_is q i;
+    floors_is = k.floors_is;
+    gvt_is = k.gvt_is;
+    count_is = k.count_is;
+    enough = k.enough;
+    parts_is = k.parts_is;
+    booked = booked;
+  }
+
+  -- the first letters of the mail of a process are collected
+  pub kept-collected : (p : ℕ) → p < x.processes → (xs rest : List (Signed Message)) → letters_for p mail ≡ xs ++ rest → 0 < length xs →
+      {prior : Option ℕ} {t : Tokens} → Fresh pages ts (told p prior (Took xs)) (own_in p (entries_of ts)) t →
+      (mail' : List Store) → length mail' ≡ length mail → letters_for p mail' ≡ rest → ((q : ℕ) → (q ≡ p → ⊥) → letters_for q mail' ≡ letters_for q mail) →
+      (floors' : Floors) → length floors'.floors ≡ length floors.floors → floors'.until ≡ floors.until →
+      slice_get floors'.floors p ≡ option_map (λ d. lowest d (times_of r xs)) (slice_get floors.floors p) →
+      ((q : ℕ) → (q ≡ p → ⊥) → slice_get floors'.floors q ≡ slice_get floors.floors q) →
+      (ts' : List Tokens) → ts' ≡ ts ++ t ∷ [] → (count' : ℕ) → count' ≡ count + length xs →
+      (books' : List Mark) → books' ≡ set books p (mark (Some (length ts)) gvt) →
+      IsRecorded r number end is_placed x pages table ts' mail' floors' gvt count' books'
+  kept-collected p i xs rest front some {t = t} new mail' boxes left others floors' floor_count until here elsewhere ts' more count' counts books' books-are =
+      let f = simulation_of r x in
+      let w = reach f (entries_of ts) in
+      let many : length (steps_of {M = Message} p (Took xs)) ≡ length xs = length-replicate (length xs) (Step.Take p 0) in
+      subst (λ us. IsRecorded r number end is_placed x pages table us mail' floors' gvt count' books') (sym more)
+      (subst (λ bs. IsRecorded r number end is_placed x pages table (ts ++ t ∷ []) mail' floors' gvt count' bs) (sym books-are)
+      (kept-more k new (fetched f p xs rest w) (takes f p i xs rest w (sym (k.mail_is p i) ∙ front)) refl
+      mail' boxes
+      (put_elim (λ q ls. q < x.processes → letters_for q mail' ≡ ls) p rest w.mail (λ j. left) (λ q n j. others q n ∙ k.mail_is q j))
+      floors' floor_count until
+      (put_elim (λ q n. q < x.processes → slice_get floors'.floors q ≡ Some n) p (lowest (w.floors p) (times_of r xs)) w.floors
+      (λ j. here ∙ ap (option_map (λ d. lowest d (times_of r xs))) (k.floors_is p j)) (λ q n j. elsewhere q n ∙ k.floors_is q j))
+      gvt k.gvt_is count' (counts ∙ ap (λ n. count + n) (sym many)) (subst (λ n. 0 < n) (sym many) some)
+      (set books p (mark (Some (length ts)) gvt)) (books-set new k.booked (λ q. refl) i refl gvt (omega arith))))
+
+-- the letters that a process without a block collected are delivered to it
+pub stands-collected : {S K : Type 0} (f : Simulation Message S K Note) (is_value : S → Message → Type 0) (p : ℕ) (own own' : List (Act Message)) (block : List Move) (xs : List (Signed Message)) (q q' : Queues S K) →
+    block ≡ [] → own' ≡ own ++ acts_of (Took xs) → StandsFor f.rules is_value (f.opening p) (local f.rules (f.opening p) (map act_by block) (after_own f p own)) q →
+    Does f.rules is_value (λ opening. delivered_all xs) q q' → StandsFor f.rules is_value (f.opening p) (after_own f p own') q'
+stands-collected f is_value p own own' block xs q q' none more stands does =
+    subst (λ z. StandsFor f.rules is_value (f.opening p) z q')
+    (delivered-local f.rules (f.opening p) xs (after_own f p own) ∙ sym (ap (after_own f p) more ∙ local-append f (f.opening p) own (acts_of (Took xs)) (opened (f.opening p))))
+    (does (f.opening p) (after_own f p own) (subst (λ b. StandsFor f.rules is_value (f.opening p) (local f.rules (f.opening p) (map act_by b) (after_own f p own)) q) none stands))
+
+-- what a process without a block is after these letters
+pub share-collected : {S K : Type 0} (f : Simulation Message S K Note) (p : ℕ) (own own' : List (Act Message)) (block : List Move) (xs : List (Signed Message)) (m m' : Mark) →
+    block ≡ [] → own' ≡ own ++ acts_of (Took xs) → m ≡ m' →
+    ◌≡◌ {A = InShare S}
+    (record { number = p; part = local f.rules (f.opening p) (map act_by block) (after_own f p own'); block = block; own = own'; share = m })
+    (record {
+      number = p;
+      part = local f.rules (f.opening p) (acts_of (Took xs)) (local f.rules (f.opening p) (map act_by block) (after_own f p own));
+      block = [];
+      own = own ++ acts_of (Took xs);
+      share = m';
+    })
+share-collected f p own own' block xs m m' none more same =
+    (λ i. record { number = p; part = local f.rules (f.opening p) (map act_by (none i)) (after_own f p (more i)); block = none i; own = more i; share = same i }) ∙
+    (λ i. record {
+      number = p;
+      part = (local-append f (f.opening p) own (acts_of (Took xs)) (opened (f.opening p)) ∙
+          ap (λ b. local f.rules (f.opening p) (acts_of (Took xs)) (local f.rules (f.opening p) (map act_by b) (after_own f p own))) (sym none)) i;
+      block = [];
+      own = own ++ acts_of (Took xs);
+      share = m';
+    })
+
+module _ {S K : Type 0} (f : Simulation Message S K Note) (x : Ledger) (h : InShare S) (y : Ledger) (k : InShare S) where
+  -- some were there
+  pub collects-some : (xs ys : List (Signed Message)) → ys ≡ xs → 0 < length ys →
+      y ≡ record { entries = x.entries ++ told h.number h.share.place (Took ys) ∷ []; books = set x.books h.number (mark (Some (length x.entries)) (reach f x.entries).gvt); limit = x.limit } →
+      k ≡ record { number = h.number; part = local f.rules (f.opening h.number) (acts_of (Took ys)) h.part; block = []; own = h.own ++ acts_of (Took ys); share = mark (Some (length x.entries)) (reach f x.entries).gvt } →
+      collects f xs x h y k
+  collects-some xs ys is some a b = subst (λ z. collects f z x h y k) is (go ys some a b)
+    where
+      go : (zs : List (Signed Message)) → 0 < length zs →
+          y ≡ record { entries = x.entries ++ told h.number h.share.place (Took zs) ∷ []; books = set x.books h.number (mark (Some (length x.entries)) (reach f x.entries).gvt); limit = x.limit } →
+          k ≡ record { number = h.number; part = local f.rules (f.opening h.number) (acts_of (Took zs)) h.part; block = []; own = h.own ++ acts_of (Took zs); share = mark (Some (length x.entries)) (reach f x.entries).gvt } →
+          collects f zs x h y k
+      go [] some a b = absurd (omega arith)
+      go (l ∷ ls) some a b = (a, b)

@@ -1,0 +1,59 @@
+-- Book and share name one entry.
+use Rattle.std.proofs.Common.{◌≡◌, ℕ, ◌<◌, ◌≤◌, List, map, length, slice_get, get_or, Option, Some, None, refl, sym, ap, ◌∙◌, subst}
+use Rattle.std.proofs.lemmas.Option.{slice_get_within, slice_get_read}
+use Rattle.vlink.specs.declared.message.Message.{Message}
+use Rattle.vlink.specs.declared.note.Note.{Note}
+use Rattle.virtual_time.specs.Rules.{Rules}
+use Rattle.virtual_time.specs.Own.{local}
+use Rattle.virtual_time.specs.Journal.{Move, act_by, own_in, reach, after_own, AreEnabled}
+use Rattle.reverse.specs.Setting.{Setting, simulation_of}
+use Rattle.antimessages.specs.Letters.{Store}
+use Rattle.gvt.specs.Horizon.{Floors}
+use Rattle.process_queues.specs.Queues.{Queues}
+use Rattle.journal.specs.Deeds.{entry_own}
+use Rattle.journal.specs.Places.{IsAt}
+use Rattle.journal.specs.declared.tokens.Tokens.{Tokens}
+use Rattle.journal.specs.declared.tokens.EntryPlace.{EntryPlace}
+use Rattle.exchange.specs.declared.mark.Mark.{Mark}
+use Rattle.exchange.specs.Views.{book_of}
+use Rattle.exchange.specs.Keeps.{entries_of, own_of, place_in, IsBooked, IsLast, IsRecorded, Holds}
+use Rattle.exchange.specs.Effects.{mark}
+use Rattle.exchange.proofs.Holding.{joined}
+
+module _ {S K : Type 0} {r : Rules Message S K Note} {number end : S → ℕ} {is_placed : S → Type 0} {x : Setting S} {pages table : List ℕ} {ts : List Tokens} {mail : List Store} {floors : Floors}
+    {gvt count : ℕ} {books : List Mark} (k : IsRecorded r number end is_placed x pages table ts mail floors gvt count books)
+    {is_value : S → Message → Type 0} {table' : List ℕ} {p seen : ℕ} {block : List Move} {last : Option EntryPlace} {q : Queues S K}
+    (h : Holds r number end is_placed x is_value pages table' p seen block last q) (fits : mark (place_in last) seen ≡ book_of books p) where
+  low : seen ≤ gvt
+  low = subst (λ s. s ≤ gvt) (sym (ap (λ (m : Mark). m.seen) fits)) (k.booked.seen_low p h.number_is)
+
+  abbrev Told : Type 0
+  Told =
+      (local r (x.opening p) (map act_by block) (after_own (simulation_of r x) p (own_of last)) ≡ local r (x.opening p) (map act_by block) ((reach (simulation_of r x) (entries_of ts)).parts p))
+      × AreEnabled (simulation_of r x) (x.opening p) (reach (simulation_of r x) (entries_of ts)).gvt block ((reach (simulation_of r x) (entries_of ts)).parts p)
+      × (own_of last ≡ own_in p (entries_of ts))
+
+  -- there is no entry of the process
+  pub none-joined : last ≡ None → Told
+  none-joined none =
+      joined k h low (ap own_of none ∙ sym (subst (λ o. IsBooked ts p o) (sym (ap (λ (m : Mark). m.place) fits) ∙ ap place_in none) (k.booked.booked p h.number_is)))
+
+  -- there is one: the tokens of the journal at its place and those in hand are of one cell
+  module _ (l : EntryPlace) (some : last ≡ Some l) where
+    named : IsBooked ts p (Some l.number)
+    named = subst (λ o. IsBooked ts p o) (sym (ap (λ (m : Mark). m.place) fits) ∙ ap place_in some) (k.booked.booked p h.number_is)
+
+    pub some-within : l.number < length ts
+    some-within = slice_get_within ts l.number named.0 named.1
+
+    module _ (u : Tokens) (at : u ≡ get_or ts l.number u) where
+      found : slice_get ts l.number ≡ Some u
+      found = slice_get_read ts (length ts) l.number u refl some-within at
+
+      pub some-at : IsAt pages l.number u × IsAt pages l.number l.tokens
+      some-at = (k.placed l.number u found, (subst (λ o. IsLast pages o) some h.last_is).0)
+
+      pub some-joined : u.cell.value ≡ l.tokens.cell.value → Told
+      some-joined same =
+          let eq : u ≡ named.0 = let a = found in let b = named.1 in cc in
+          joined k h low (ap own_of some ∙ (ap entry_own (sym same) ∙ (ap (λ (z : Tokens). entry_own z.cell.value) eq ∙ named.2)))

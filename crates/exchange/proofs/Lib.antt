@@ -1,0 +1,13 @@
+mod Collected
+mod Growth
+mod Holding
+mod Joining
+mod Listed
+mod Lists
+mod Moves
+mod Opened
+mod Outcomes
+mod Posted
+mod Published
+mod Taken
+mod Worked

@@ -1,0 +1,75 @@
+-- The steps of a journal, entry by entry.
+use Rattle.std.proofs.Common.{◌≡◌, ℕ, zero, suc, ◌+◌, ◌<◌, ◌≤◌, List, [], ◌∷◌, ◌++◌, map, length, take, drop, slice_get, get_or, Some, None, refl, sym, ap, ◌∙◌, arith, drop-cons, length-append, append-nil, append_assoc}
+use Rattle.std.specs.Option.{option_map}
+use Rattle.std.proofs.lemmas.List.{take_more, map-append}
+use Rattle.std.proofs.lemmas.Option.{slice_get-map, slice_get_read, slice_get_within, get_or_from_slice_get}
+use Rattle.vlink.specs.declared.message.Message.{Message}
+use Rattle.vlink.specs.declared.step.Step.{Step as Noted}
+use Rattle.virtual_time.specs.World.{Step}
+use Rattle.virtual_time.specs.Journal.{Entry, steps_of, steps}
+use Rattle.virtual_time.proofs.Journal.{steps-append}
+use Rattle.antimessages.specs.Steps.{step_of}
+use Rattle.journal.specs.Deeds.{seen_entry}
+use Rattle.journal.specs.declared.tokens.Tokens.{Tokens}
+use Rattle.exchange.specs.Keeps.{entries_of}
+use Rattle.exchange.proofs.Lists.{slice_get-first, slice_get-rest}
+
+-- the entry that tokens show
+pub entry-there : (ts : List Tokens) (i : ℕ) (t : Tokens) → i < length ts → t ≡ get_or ts i t → slice_get (entries_of ts) i ≡ Some (seen_entry t.cell.value)
+entry-there ts i t h at =
+    slice_get-map (λ (u : Tokens). seen_entry u.cell.value) ts i ∙ ap (option_map (λ (u : Tokens). seen_entry u.cell.value)) (slice_get_read ts (length ts) i t refl h at)
+
+-- the entries from place i on
+steps-drop : (es : List (Entry Message)) (i : ℕ) (e : Entry Message) → slice_get es i ≡ Some e → steps (drop i es) ≡ steps_of e.process e.deed ++ steps (drop (i + 1) es)
+steps-drop es i e h =
+    ap steps (drop-cons es i e (slice_get_within es i e h) ∙ (λ j. get_or_from_slice_get es i e e h j ∷ drop (let a : suc i ≡ i + 1 = omega arith in a j) es))
+
+-- a step behind the entries before place i is one of the entry there, or stands behind it
+pub step-here : (es : List (Entry Message)) (i : ℕ) (e : Entry Message) (left : ℕ) → slice_get es i ≡ Some e → left < length (steps_of {M = Message} e.process e.deed) →
+    slice_get (steps (drop i es)) left ≡ slice_get (steps_of e.process e.deed) left
+step-here es i e left h within = ap (λ z. slice_get z left) (steps-drop es i e h) ∙ slice_get-first (steps_of e.process e.deed) (steps (drop (i + 1) es)) left within
+
+pub step-later : (es : List (Entry Message)) (i : ℕ) (e : Entry Message) (left rest : ℕ) → slice_get es i ≡ Some e → left ≡ length (steps_of {M = Message} e.process e.deed) + rest →
+    slice_get (steps (drop i es)) left ≡ slice_get (steps (drop (i + 1) es)) rest
+step-later es i e left rest h is = ap (λ z. slice_get z left) (steps-drop es i e h) ∙ slice_get-rest (steps_of e.process e.deed) (steps (drop (i + 1) es)) left rest is
+
+-- the entries before place i, and the one there
+steps-take : (es : List (Entry Message)) (i : ℕ) (e : Entry Message) → slice_get es i ≡ Some e → steps (take (i + 1) es) ≡ steps (take i es) ++ steps_of e.process e.deed
+steps-take es i e h =
+    ap steps (take_more es i e (slice_get_within es i e h) ∙ ap (λ z. take i es ++ z ∷ []) (get_or_from_slice_get es i e e h)) ∙
+    (steps-append (take i es) (e ∷ []) ∙ ap (λ z. steps (take i es) ++ z) (append-nil (steps_of e.process e.deed)))
+
+-- a list of the steps before place i gets those of the entry there
+pub steps-more : (es : List (Entry Message)) (i : ℕ) (e : Entry Message) → slice_get es i ≡ Some e → (list more : List Step) → list ≡ steps (take i es) → more ≡ list ++ steps_of e.process e.deed →
+    more ≡ steps (take (i + 1) es)
+steps-more es i e h list more so-far added = added ∙ (ap (λ z. z ++ steps_of e.process e.deed) so-far ∙ sym (steps-take es i e h))
+
+-- each entry has no more steps than the journal
+pub steps-few : (es : List (Entry Message)) (i : ℕ) (e : Entry Message) → slice_get es i ≡ Some e → length (steps_of {M = Message} e.process e.deed) ≤ length (steps es)
+steps-few [] i e h = absurd (cc)
+steps-few (x ∷ es) zero e h =
+    let same : x ≡ e = cc in
+    let b = ap (λ (z : Entry Message). length (steps_of {M = Message} z.process z.deed)) same in
+    let a = length-append (steps_of {M = Message} x.process x.deed) (steps es) in
+    omega arith
+steps-few (x ∷ es) (suc i) e h =
+    let b = steps-few es i e h in
+    let a = length-append (steps_of {M = Message} x.process x.deed) (steps es) in
+    omega arith
+
+-- a list that has some steps gets the next one
+pub listed-more : (ss : List Step) (i : ℕ) (s : Noted) (first list more : List Noted) → Some (step_of s) ≡ slice_get ss i → map step_of list ≡ map step_of first ++ take i ss → more ≡ list ++ s ∷ [] →
+    map step_of more ≡ map step_of first ++ take (i + 1) ss
+listed-more ss i s first list more at so-far pushed =
+    let next : take (i + 1) ss ≡ take i ss ++ step_of s ∷ [] =
+    take_more ss i (step_of s) (slice_get_within ss i (step_of s) (sym at)) ∙ ap (λ z. take i ss ++ z ∷ []) (get_or_from_slice_get ss i (step_of s) (step_of s) (sym at)) in
+    ap (map step_of) pushed ∙
+    (map-append step_of list (s ∷ []) ∙
+    (ap (λ z. z ++ step_of s ∷ []) so-far ∙
+    (append_assoc (map step_of first) (take i ss) (step_of s ∷ []) ∙ ap (λ z. map step_of first ++ z) (sym next))))
+
+-- there is a step at each place of a list
+pub some-step : (ss : List Step) (i : ℕ) → i < length ss → slice_get ss i ≡ None → ⊥
+some-step [] i h e = omega arith
+some-step (s ∷ ss) zero h e = cc
+some-step (s ∷ ss) (suc i) h e = some-step ss i (omega arith) e

@@ -1,0 +1,128 @@
+-- What a process does alone, one step after another.
+use Rattle.std.proofs.Common.{◌≡◌, ℕ, zero, suc, ◌+◌, ◌<◌, inl, inr, Bool, true, false, ◌&&◌, cond, nat_lt, List, [], ◌∷◌, ◌++◌, map, length, replicate, Option, Some, refl, sym, ap, ◌∙◌, subst, arith, append_assoc, append-nil, eq-eqb}
+use Rattle.std.proofs.lemmas.Bool.{lt-ltb, le-ltb, cases_lt, false≢true, and_parts}
+use Rattle.std.proofs.lemmas.List.{replicate_more}
+use Rattle.vlink.specs.declared.message.Message.{Message}
+use Rattle.vlink.specs.declared.note.Note.{Note}
+use Rattle.virtual_time.specs.Lists.{IsIn, IsAscending, earlier}
+use Rattle.virtual_time.specs.Letters.{Letter, pluses, minuses}
+use Rattle.virtual_time.specs.Simulation.{Simulation, Laws}
+use Rattle.virtual_time.specs.Part.{Part, next_of, can_seal, sealed, seal_oldest, counted, is_turned, rolled_back, arrived}
+use Rattle.virtual_time.specs.World.{is_early}
+use Rattle.virtual_time.specs.Own.{local}
+use Rattle.virtual_time.specs.SafePart.{IsSafePart}
+use Rattle.virtual_time.specs.Journal.{Move, Arrived, Ran, Sealed, act_by, after_own, can_move}
+use Rattle.virtual_time.proofs.Lists.{filter-none, in-head}
+use Rattle.virtual_time.proofs.Order.{less-time}
+use Rattle.fossil.specs.Committed.{is_ready, committed_once, is_early as is_early_event}
+use Rattle.journal.specs.declared.tokens.EntryPlace.{EntryPlace}
+use Rattle.exchange.specs.Views.{InShare}
+use Rattle.exchange.specs.Keeps.{own_of, place_in}
+use Rattle.exchange.specs.Effects.{moved_by, mark, RanEarly}
+use Rattle.exchange.proofs.Holding.{moved-then}
+
+module _ {S K : Type 0} (f : Simulation Message S K Note) where
+  -- no step, one after some, and some after some
+  pub moved-none : (h : InShare S) → h ≡ moved_by f [] h
+  moved-none h = λ i. record { number = h.number; part = h.part; block = sym (append-nil h.block) i; own = h.own; share = h.share }
+
+  pub moved-chain : (ms ns : List Move) (h : InShare S) → moved_by f ns (moved_by f ms h) ≡ moved_by f (ms ++ ns) h
+  moved-chain ms ns h = λ i. record {
+    number = h.number;
+    part = sym (moved-then f (f.opening h.number) ms ns h.part) i;
+    block = append_assoc h.block ms ns i;
+    own = h.own;
+    share = h.share;
+  }
+
+  pub moved-more : (k : ℕ) (m : Move) (h h' h'' : InShare S) → h' ≡ moved_by f (replicate k m) h → h'' ≡ moved_by f (m ∷ []) h' → h'' ≡ moved_by f (replicate (k + 1) m) h
+  moved-more k m h h' h'' a b =
+      b ∙ (ap (moved_by f (m ∷ [])) a ∙ (moved-chain (replicate k m) (m ∷ []) h ∙ ap (λ ms. moved_by f ms h) (replicate_more k m)))
+
+  -- what contracts see of a process in hand, of which the journal tells last in this entry
+  abbrev pub in_hand : ℕ → Option EntryPlace → ℕ → List Move → InShare S
+  in_hand p last seen ms =
+      record {
+        number = p;
+        part = local f.rules (f.opening p) (map act_by ms) (after_own f p (own_of last));
+        block = ms;
+        own = own_of last;
+        share = mark (place_in last) seen;
+      }
+
+  -- and after one step more
+  pub moved-view : (p : ℕ) (last : Option EntryPlace) (seen : ℕ) (ms : List Move) (m : Move) (h : InShare S) → in_hand p last seen ms ≡ h → (ms' : List Move) → ms' ≡ ms ++ m ∷ [] →
+      in_hand p last seen ms' ≡ moved_by f (m ∷ []) h
+  moved-view p last seen ms m h is ms' e = one ∙ ap (moved_by f (m ∷ [])) is
+    where
+      one : in_hand p last seen ms' ≡ moved_by f (m ∷ []) (in_hand p last seen ms)
+      one = λ i. record {
+        number = p;
+        part = (ap (λ b. local f.rules (f.opening p) (map act_by b) (after_own f p (own_of last))) e ∙ moved-then f (f.opening p) ms (m ∷ []) (after_own f p (own_of last))) i;
+        block = e i;
+        own = own_of last;
+        share = mark (place_in last) seen;
+      }
+
+  -- each arrival takes one letter from the tray
+  tray-less : (o : S) (part : Part Message S) (ls : List (Letter Message)) → 0 < length ls → length (arrived f.rules o part ls).tray + 1 ≡ length ls
+  tray-less o part [] h = absurd (omega arith)
+  tray-less o part (l ∷ rest) h = go (is_turned f.rules l part.tally)
+    where
+      go : (b : Bool) → length (cond b (rolled_back f.rules o l.message (counted f.rules l rest part)) (counted f.rules l rest part)).tray + 1 ≡ length (l ∷ rest)
+      go true = omega arith
+      go false = omega arith
+
+  pub arrival-takes : (h h' : InShare S) → 0 < length h.part.tray → h' ≡ moved_by f (Arrived ∷ []) h → length h'.part.tray + 1 ≡ length h.part.tray
+  arrival-takes h h' some e = ap (λ (z : InShare S). length z.part.tray + 1) e ∙ tray-less (f.opening h.number) h.part h.part.tray some
+
+  -- each commit takes one done event
+  done-less : (part : Part Message S) (ms : List Message) → part.done ≡ ms → can_seal f.rules part ms ≡ true → length (cond (can_seal f.rules part ms) (sealed f.rules part ms) part).done < length ms
+  done-less part [] e c = absurd (cc)
+  done-less part (m ∷ rest) e c = rw c (omega arith)
+
+  pub commit-takes : (h h' : InShare S) (g : ℕ) → is_ready f.rules g h.part ≡ true → h' ≡ moved_by f (Sealed ∷ []) h → length h'.part.done < length h.part.done
+  commit-takes h h' g ready e =
+      subst (λ (z : InShare S). length z.part.done < length h.part.done) (sym e) (done-less h.part h.part.done refl (and_parts _ _ ready).1)
+
+  -- one run more that is early
+  early-push : (limit k : ℕ) (o : S) (part : Part Message S) → RanEarly f limit k part → (m : Message) → next_of f.rules (local f.rules o (map act_by (replicate k Ran)) part) ≡ Some m →
+      f.rules.time m < limit → RanEarly f limit (suc k) part
+  early-push limit zero o part a m e t = (m, e, t, tt)
+  early-push limit (suc k) o part a m e t = (a.0, a.1, a.2, early-push limit k o _ a.3 m e t)
+
+  pub early-more : (limit k : ℕ) (h h' : InShare S) → h' ≡ moved_by f (replicate k Ran) h → RanEarly f limit k h.part →
+      ((m : Message) × (next_of f.rules h'.part ≡ Some m) × (f.rules.time m < limit)) → RanEarly f limit (k + 1) h.part
+  early-more limit k h h' is a next =
+      subst (λ n. RanEarly f limit n h.part) (let e : suc k ≡ k + 1 = omega arith in e)
+      (early-push limit k (f.opening h.number) h.part a next.0 (ap (λ (z : InShare S). next_of f.rules z.part) (sym is) ∙ next.1) next.2)
+
+  -- the oldest done event is earlier than g
+  early-same : (g : ℕ) (ms : List Message) → is_early_event f.rules g ms ≡ is_early f g ms
+  early-same g [] = refl
+  early-same g (m ∷ ms) = refl
+
+  pub ready-moves : (g : ℕ) (part : Part Message S) → is_ready f.rules g part ≡ true → can_move f g Sealed part ≡ true
+  ready-moves g part h = ap (λ b. b && can_seal f.rules part part.done) (sym (early-same g part.done)) ∙ h
+
+  pub ready-commits : (g : ℕ) (part : Part Message S) → is_ready f.rules g part ≡ true → committed_once f.rules g part ≡ seal_oldest f.rules part
+  ready-commits g part h = ap (λ b. cond b (seal_oldest f.rules part) part) h
+
+  -- where the oldest done event cannot be committed, none is earlier than g
+  pub none-early : Laws f → (p g : ℕ) (part : Part Message S) → IsSafePart f p g part → is_ready f.rules g part ≡ false → earlier f.rules g part.done ≡ []
+  none-early L p g part s h = go part.done refl h
+    where
+      go : (ms : List Message) → part.done ≡ ms → (is_early_event f.rules g ms && can_seal f.rules part ms) ≡ false → earlier f.rules g ms ≡ []
+      go [] e n = refl
+      go (m ∷ ms) e n = elim (cases_lt (f.rules.time m) g) [
+        | inl k ↦
+            (let one = s.counts_one m (subst (λ z. IsIn f.rules m z) (sym e) (in-head f.rules L.order m ms)) k in
+            let early = lt-ltb (f.rules.time m) g k in
+            let counted = eq-eqb (pluses f.rules m part.tally) (minuses f.rules m part.tally + 1) one in
+            absurd (false≢true (sym n ∙ (λ i. early i && counted i))))
+        | inr k ↦
+            (let up = subst (λ z. IsAscending f.rules z) e s.well.ascending in
+            rw (le-ltb (f.rules.time m) g k)
+            (filter-none f.rules L.order (λ y. nat_lt (f.rules.time y) g) ms
+            (λ y j. le-ltb (f.rules.time y) g (let a = less-time f.rules L.order m y (up.0 y j) in omega arith))))
+      ]

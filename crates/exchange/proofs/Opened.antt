@@ -1,0 +1,109 @@
+-- The start of a run.
+use Rattle.std.proofs.Common.{◌≡◌, ℕ, suc, ◌+◌, ◌<◌, ◌≤◌, inl, inr, All, List, [], ◌∷◌, ◌++◌, map, length, replicate, slice_get, get_or, Option, Some, None, refl, sym, ap, ◌∙◌, subst, arith}
+use Rattle.std.proofs.lemmas.Bool.{cases_eq}
+use Rattle.std.proofs.lemmas.List.{length-replicate, length_push, get_or-replicate}
+use Rattle.std.proofs.lemmas.List.Elements.{All-nil, All-cons}
+use Rattle.std.proofs.lemmas.Option.{slice_get_read}
+use Rattle.vlink.specs.declared.message.Message.{Message}
+use Rattle.vlink.specs.declared.note.Note.{Note}
+use Rattle.virtual_time.specs.Rules.{Rules, IsOrder}
+use Rattle.virtual_time.specs.Lists.{IsIn}
+use Rattle.virtual_time.specs.Letters.{plus_of, received_by}
+use Rattle.virtual_time.specs.Simulation.{Laws}
+use Rattle.virtual_time.specs.Part.{opened}
+use Rattle.virtual_time.specs.World.{run}
+use Rattle.virtual_time.specs.Journal.{Move}
+use Rattle.virtual_time.proofs.Lists.{in-head}
+use Rattle.virtual_time.proofs.SafePart.{world-safe}
+use Rattle.reverse.specs.Setting.{Setting, simulation_of, IsLaidOut}
+use Rattle.antimessages.specs.Letters.{Store}
+use Rattle.antimessages.specs.Mailing.{letters_for}
+use Rattle.gvt.specs.Horizon.{Floors}
+use Rattle.process_queues.specs.Queues.{Queues, StandsFor}
+use Rattle.journal.specs.declared.tokens.Tokens.{Tokens}
+use Rattle.journal.specs.declared.tokens.EntryPlace.{EntryPlace}
+use Rattle.exchange.specs.declared.mark.Mark.{Mark}
+use Rattle.exchange.specs.Views.{InShare, blank, book_of, opened_share}
+use Rattle.exchange.specs.Keeps.{IsBooked, IsRecorded, Holds}
+use Rattle.exchange.proofs.Lists.{slice_get-last, slice_get-more}
+
+-- messages to processes of which there are so many
+messages-go : {S K : Type 0} (r : Rules Message S K Note) (O : IsOrder r) (n : ℕ) (ms : List Message) → ((m : Message) → IsIn r m ms → r.receiver m < n) →
+    All (λ l. r.receiver l.message < n) (map plus_of ms)
+messages-go r O n [] h = All-nil (λ l. r.receiver l.message < n)
+messages-go r O n (m ∷ ms) h =
+    All-cons (λ l. r.receiver l.message < n) (plus_of m) (map plus_of ms) (h m (in-head r O m ms)) (messages-go r O n ms (λ k j. h k (let a = j in omega arith)))
+
+-- the actor at a place is in the opening state of the process of that number
+pub actor-opens : {S : Type 0} (processes : ℕ) (opening : ℕ → S) (actors : List S) → length actors ≡ processes → ((p : ℕ) → p < processes → slice_get actors p ≡ Some (opening p)) →
+    (n : ℕ) (a : S) → (n < length actors) × (a ≡ get_or actors n a) → a ≡ opening n
+actor-opens processes opening actors count each n a at =
+    let here = slice_get_read actors (length actors) n a refl at.0 at.1 in
+    let there = each n (omega arith) in
+    cc
+
+-- as many as there were items
+pub as-many : {X Y : Type 0} (hs more : List X) (h : X) (ys : List Y) (y : Y) → more ≡ hs ++ h ∷ [] → length hs ≡ length ys → length more ≡ length (ys ++ y ∷ [])
+as-many hs more h ys y pushed count = ap length pushed ∙ (length_push hs h ∙ (ap (λ n. n + 1) count ∙ sym (length_push ys y)))
+
+-- one process more
+pub helds-more : {S : Type 0} (opening : ℕ → S) (hs more : List (InShare S)) (n : ℕ) (h : InShare S) → length hs ≡ n → ((p : ℕ) → p < n → slice_get hs p ≡ Some (opened_share opening p)) →
+    h ≡ opened_share opening n → more ≡ hs ++ h ∷ [] → (p : ℕ) → p < n + 1 → slice_get more p ≡ Some (opened_share opening p)
+helds-more opening hs more n h count each is pushed p i =
+    ap (λ z. slice_get z p) pushed ∙
+    elim (cases_eq p n) [
+      | inl d ↦ ap (slice_get (hs ++ h ∷ [])) (d ∙ sym count) ∙ (slice_get-last hs h ∙ (ap (λ z. Some z) is ∙ ap (λ m. Some (opened_share opening m)) (sym d)))
+      | inr d ↦ slice_get-more hs (h ∷ []) p (opened_share opening p) (each p (omega arith))
+    ]
+
+module _ {S K : Type 0} {r : Rules Message S K Note} {number end : S → ℕ} {is_placed : S → Type 0} {x : Setting S} (laid : IsLaidOut r number end is_placed x) where
+  -- the offers go to processes
+  pub offers-go : IsOrder r → (offers : List Message) → offers ≡ x.offers → (n : ℕ) → n ≡ x.processes → All (λ l. r.receiver l.message < n) (map plus_of offers)
+  offers-go O offers same n e = messages-go r O n offers (λ m j. let a = laid.offered_to m (subst (IsIn r m) same j) in omega arith)
+
+  module _ {pages table : List ℕ} (same : table ≡ pages) where
+    pub kept-opened : (mail : List Store) → length mail ≡ x.processes → ((p : ℕ) → letters_for p mail ≡ received_by r p (map plus_of x.offers)) →
+        (floors : Floors) → length floors.floors ≡ x.processes → floors.until ≡ x.until → ((p : ℕ) → p < x.processes → slice_get floors.floors p ≡ Some (suc x.until)) →
+        (books : List Mark) → books ≡ replicate x.processes blank → (ts : List Tokens) → ts ≡ [] → (gvt : ℕ) → gvt ≡ 0 → IsRecorded r number end is_placed x pages table ts mail floors gvt 0 books
+    unfolding run
+    kept-opened mail boxes letters floors floor_count until each books blanks ts none gvt zero-is =
+        subst (λ us. IsRecorded r number end is_placed x pages table us mail floors gvt 0 books) (sym none) (record {
+          laid = laid;
+          same = same;
+          placed = λ k t h. absurd (cc);
+          counted = λ k t h. absurd (cc);
+          boxes = boxes;
+          floor_count = floor_count;
+          until = until;
+          mail_is = λ p i. letters p;
+          floors_is = each;
+          gvt_is = zero-is;
+          count_is = refl;
+          enough = omega arith;
+          parts_is = λ q. refl;
+          booked = record {
+            count = ap length blanks ∙ length-replicate x.processes blank;
+            place_is = λ p i. ap (λ (m : Mark). m.place) (at p i);
+            booked = λ p i. subst (λ (m : Mark). IsBooked [] p m.place) (sym (at p i)) refl;
+            seen_low = λ p i. subst (λ (m : Mark). m.seen ≤ gvt) (sym (at p i)) (omega arith);
+          };
+        })
+      where
+        at : (p : ℕ) → p < x.processes → book_of books p ≡ blank
+        at p i = ap (λ bs. book_of bs p) blanks ∙ get_or-replicate x.processes p blank blank i
+
+    pub holds-opened : Laws (simulation_of r x) → (is_value : S → Message → Type 0) (p : ℕ) → p < x.processes → (q : Queues S K) → StandsFor r is_value (x.opening p) (opened (x.opening p)) q →
+        (block : List Move) → block ≡ [] → (last : Option EntryPlace) → last ≡ None → (seen : ℕ) → seen ≡ 0 → Holds r number end is_placed x is_value pages table p seen block last q
+    unfolding run
+    holds-opened L is_value p i q stands block none last nothing seen zero-is =
+        subst (λ b. Holds r number end is_placed x is_value pages table p seen b last q) (sym none)
+        (subst (λ l. Holds r number end is_placed x is_value pages table p seen [] l q) (sym nothing)
+        (subst (λ s. Holds r number end is_placed x is_value pages table p s [] None q) (sym zero-is) (record {
+          laid = laid;
+          same = same;
+          number_is = i;
+          stands = stands;
+          safe = world-safe (simulation_of r x) L [] p i;
+          enabled = tt;
+          last_is = tt;
+        })))

@@ -1,0 +1,66 @@
+-- GVT is set anew.
+use Rattle.std.proofs.Common.{◌≡◌, ℕ, ◌+◌, ◌<◌, ◌≤◌, Bool, true, false, List, [], ◌∷◌, ◌++◌, length, slice_get, Some, None, refl, sym, ◌∙◌, subst, arith}
+use Rattle.vlink.specs.declared.message.Message.{Message}
+use Rattle.vlink.specs.declared.note.Note.{Note}
+use Rattle.virtual_time.specs.Rules.{Rules}
+use Rattle.virtual_time.specs.Simulation.{Simulation, Laws}
+use Rattle.virtual_time.specs.World.{World, start, run, gvt_over}
+use Rattle.virtual_time.specs.Own.{Act}
+use Rattle.virtual_time.specs.Journal.{Published, steps_of, steps, reach}
+use Rattle.virtual_time.proofs.Journal.{put_kept, run-then, publishes}
+use Rattle.virtual_time.proofs.Safety.{rises}
+use Rattle.reverse.specs.Setting.{Setting, simulation_of}
+use Rattle.antimessages.specs.Letters.{Store}
+use Rattle.antimessages.specs.Mailing.{letters_for}
+use Rattle.gvt.specs.Horizon.{Floors, horizon_over}
+use Rattle.journal.specs.declared.tokens.Tokens.{Tokens}
+use Rattle.exchange.specs.declared.mark.Mark.{Mark}
+use Rattle.exchange.specs.Views.{Ledger}
+use Rattle.exchange.specs.Keeps.{entries_of, IsRecorded}
+use Rattle.exchange.specs.Effects.{told, publishes as publishes-effect}
+use Rattle.exchange.proofs.Growth.{Fresh, books-stay, kept-more}
+
+module _ {S K : Type 0} {r : Rules Message S K Note} {number end : S → ℕ} {is_placed : S → Type 0} {x : Setting S} {pages table : List ℕ} {ts : List Tokens} {mail : List Store} {floors : Floors}
+    {gvt count : ℕ} {books : List Mark} (k : IsRecorded r number end is_placed x pages table ts mail floors gvt count books) where
+  -- the horizon of floors and mail is GVT of the world after the journal
+  pub gvt-told : ((f : Simulation Message S K Note) → ((m : Message) → f.rules.time m ≡ m.time) → (w : World Message S) (fs : Floors) (ms : List Store) →
+      f.processes ≡ length fs.floors → f.processes ≡ length ms → f.until ≡ fs.until → ((p : ℕ) → p < f.processes → slice_get fs.floors p ≡ Some (w.floors p)) →
+      ((p : ℕ) → p < f.processes → letters_for p ms ≡ w.mail p) → horizon_over fs ms ≡ gvt_over f f.processes w) → ((m : Message) → r.time m ≡ m.time) →
+      horizon_over floors mail ≡ gvt_over (simulation_of r x) x.processes (reach (simulation_of r x) (entries_of ts))
+  gvt-told law time =
+      law (simulation_of r x) time (reach (simulation_of r x) (entries_of ts)) floors mail (sym k.floor_count) (sym k.boxes) (sym k.until) k.floors_is k.mail_is
+
+  module _ (L : Laws (simulation_of r x)) where
+    -- GVT does not fall
+    gvt-rises : gvt ≤ gvt_over (simulation_of r x) x.processes (reach (simulation_of r x) (entries_of ts))
+    gvt-rises =
+        let f = simulation_of r x in
+        let w = reach f (entries_of ts) in
+        let xs = steps (entries_of ts) in
+        let later : run f (xs ++ steps_of {M = Message} 0 Published) (start f) ≡ record { parts = w.parts; mail = w.mail; floors = w.floors; gvt = gvt_over f x.processes w } =
+        run-then f xs (steps_of {M = Message} 0 Published) (start f) ∙ publishes f w in
+        let rise : (run f xs (start f)).gvt ≤ (run f (xs ++ steps_of {M = Message} 0 Published) (start f)).gvt = rises f L xs (steps_of {M = Message} 0 Published) in
+        subst (λ g. g ≤ gvt_over f x.processes w) (sym k.gvt_is) (subst (λ (z : World Message S). w.gvt ≤ z.gvt) later rise)
+
+    pub kept-published : {own : List (Act Message)} {t : Tokens} → Fresh pages ts (told 0 None Published) own t →
+        (gvt' : ℕ) → gvt' ≡ gvt_over (simulation_of r x) x.processes (reach (simulation_of r x) (entries_of ts)) →
+        (ts' : List Tokens) → ts' ≡ ts ++ t ∷ [] → (count' : ℕ) → count' ≡ count + 1 →
+        IsRecorded r number end is_placed x pages table ts' mail floors gvt' count' books
+    kept-published {t = t} new gvt' gvt-is ts' more count' counts =
+        let f = simulation_of r x in
+        let w = reach f (entries_of ts) in
+        subst (λ us. IsRecorded r number end is_placed x pages table us mail floors gvt' count' books) (sym more)
+        (kept-more k new (record { parts = w.parts; mail = w.mail; floors = w.floors; gvt = gvt_over f x.processes w }) (publishes f w) (sym (put_kept 0 w.parts))
+        mail refl k.mail_is floors refl refl k.floors_is gvt' gvt-is count' counts (omega arith) books
+        (books-stay new k.booked (λ q. refl) refl gvt' (subst (λ g. gvt ≤ g) (sym gvt-is) gvt-rises)))
+
+-- GVT is another one than before
+pub publishes-more : {S K : Type 0} (f : Simulation Message S K Note) (b : Bool) (x y : Ledger) → b ≡ false → y ≡ record { entries = x.entries ++ told 0 None Published ∷ []; books = x.books; limit = x.limit } →
+    publishes-effect f b x y
+publishes-more f true x y e h = absurd (cc)
+publishes-more f false x y e h = h
+
+-- GVT stays
+pub publishes-none : {S K : Type 0} (f : Simulation Message S K Note) (b : Bool) (x y : Ledger) → b ≡ true → y ≡ x → publishes-effect f b x y
+publishes-none f true x y e h = h
+publishes-none f false x y e h = absurd (cc)

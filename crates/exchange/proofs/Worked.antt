@@ -1,0 +1,56 @@
+-- What a process does at one go: arrivals, then runs, then commits.
+use Rattle.std.proofs.Common.{◌≡◌, ℕ, ◌+◌, ◌-◌, ◌≤◌, ◌⊎◌, inl, inr, [], ◌++◌, length, replicate, Result, Ok, Err, OnErr, ap, ◌∙◌, subst, arith, length-append}
+use Rattle.std.proofs.lemmas.List.{length-replicate}
+use Rattle.vlink.specs.declared.message.Message.{Message}
+use Rattle.vlink.specs.declared.note.Note.{Note}
+use Rattle.virtual_time.specs.Lists.{earlier}
+use Rattle.virtual_time.specs.Simulation.{Simulation}
+use Rattle.virtual_time.specs.Journal.{Arrived, Ran, Sealed}
+use Rattle.exchange.specs.Views.{InShare}
+use Rattle.exchange.specs.Effects.{moved_by, turn, RanEarly, IsIdleBefore, Works, WorksSome}
+use Rattle.exchange.proofs.Moves.{moved-none, moved-chain}
+
+-- of a refusal
+pub on-err : {T E : Type 0} {P : Type 0} (result : Result T E) → P → OnErr result P
+on-err (Ok x) p = tt
+on-err (Err e) p = p
+
+turn-length : (a r c : ℕ) → length (turn a r c) ≡ a + r + c
+turn-length a r c =
+    let both = length-append (replicate a Arrived ++ replicate r Ran) (replicate c Sealed) in
+    let first = length-append (replicate a Arrived) (replicate r Ran) in
+    omega (arith, length-replicate a Arrived, length-replicate r Ran, length-replicate c Sealed)
+
+module _ {S K : Type 0} (f : Simulation Message S K Note) (a r c : ℕ) (h h1 h2 h3 : InShare S) where
+  moved-turn : h1 ≡ moved_by f (replicate a Arrived) h → h2 ≡ moved_by f (replicate r Ran) h1 → h3 ≡ moved_by f (replicate c Sealed) h2 → h3 ≡ moved_by f (turn a r c) h
+  moved-turn arrived ran sealed =
+      sealed ∙
+      (ap (moved_by f (replicate c Sealed)) (ran ∙ (ap (moved_by f (replicate r Ran)) arrived ∙ moved-chain f (replicate a Arrived) (replicate r Ran) h)) ∙
+      moved-chain f (replicate a Arrived ++ replicate r Ran) (replicate c Sealed) h)
+
+  pub works-some : h1 ≡ moved_by f (replicate a Arrived) h → h2 ≡ moved_by f (replicate r Ran) h1 → h3 ≡ moved_by f (replicate c Sealed) h2 → WorksSome f h h3
+  works-some arrived ran sealed = record { arrivals = a; runs = r; commits = c; did = moved-turn arrived ran sealed }
+
+module _ {S K : Type 0} (f : Simulation Message S K Note) (most window : ℕ) (h h1 h2 h3 : InShare S) (r c : ℕ) where
+  pub works : h1 ≡ moved_by f (replicate (length h.part.tray) Arrived) h → h2 ≡ moved_by f (replicate r Ran) h1 → h3 ≡ moved_by f (replicate c Sealed) h2 →
+      r ≤ most → RanEarly f (h1.share.seen + window) r h1.part → (r ≡ most) ⊎ IsIdleBefore f (h1.share.seen + window) h2.part →
+      earlier f.rules h2.share.seen h3.part.done ≡ [] →
+      (before after : ℕ) → before ≡ length h.block → after ≡ length h3.block → Works f most window h h3 (after - before)
+  works arrived ran sealed within early idle below before after old new =
+      let a = length h.part.tray in
+      let did = moved-turn f a r c h h1 h2 h3 arrived ran sealed in
+      let seen = ap (λ (z : InShare S). z.share.seen) arrived in
+      record {
+        runs = r;
+        commits = c;
+        did = did;
+        told_count = let n = ap (λ (z : InShare S). length z.block) did in let m = length-append h.block (turn a r c) in let k = turn-length a r c in omega arith;
+        within = within;
+        early = subst (λ (z : InShare S). RanEarly f (z.share.seen + window) r z.part) arrived early;
+        idle = elim idle [
+          | inl full ↦ inl full
+          | inr none ↦ inr (subst (λ (z : InShare S). IsIdleBefore f (h.share.seen + window) z.part) (moved-turn f a r 0 h h1 h2 h2 arrived ran (moved-none f h2))
+              (subst (λ s. IsIdleBefore f (s + window) h2.part) seen none))
+        ];
+        committed_below = subst (λ s. earlier f.rules s h3.part.done ≡ []) (ap (λ (z : InShare S). z.share.seen) ran ∙ seen) below;
+      }

@@ -1,0 +1,30 @@
+use Rattle.std.proofs.Common.{◌≡◌, ◌<◌, length, slice_get, Some, sym, ap, ◌∙◌, arith}
+use Rattle.std.specs.Option.{option_map}
+use Rattle.antimessages.specs.Letters.{signed}
+use Rattle.antimessages.specs.Mailing.{letters_for}
+use Rattle.gvt.specs.Horizon.{Floors}
+use Rattle.exchange.proofs.Lists.{slice_get-none}
+use Rattle.exchange.proofs.Collected.{floor-more}
+use Rattle.exchange.proofs.collecting.lower_floor.Goals.{in-Some, in_default}
+use Rattle.exchange.proofs.collecting.lower_floor.Goals as goal
+
+pub loop-place-preserved : goal.loop-place-preserved
+loop-place-preserved c =
+    let p = c.args.process in
+    let i = c.loop-place.place in
+    let ls = letters_for p c.args.mail.now in
+    let old = c.loop-place.invariant in
+    elim c.match-look.branch [
+      | in-Some w ↦
+          let at : slice_get ls i ≡ Some (signed w.in-Some.letter) = sym c.look.ensures ∙ ap (option_map signed) w.in-Some.is in
+          let here : i < length ls = omega arith in
+          record {
+            floor = floor-more ls i (signed w.in-Some.letter) here at _ _ _ old.floor (ap (λ (f : Floors). slice_get f.floors p) w.floors-is ∙ w.lower.ensures.lowered);
+            others = λ q n. ap (λ (f : Floors). slice_get f.floors q) w.floors-is ∙ (w.lower.ensures.others q n ∙ old.others q n);
+            processes = ap (λ (f : Floors). length f.floors) w.floors-is ∙ (w.lower.ensures.processes ∙ old.processes);
+            until = ap (λ (f : Floors). f.until) w.floors-is ∙ (w.lower.ensures.until ∙ old.until);
+          }
+      | in_default w ↦
+          let past = slice_get-none ls i (sym c.look.ensures ∙ ap (option_map signed) w.in_default.is) in
+          absurd (omega arith)
+    ]

@@ -1,0 +1,36 @@
+use Rattle.std.proofs.Common.{◌≡◌, suc, ◌+◌, ◌<◌, All, map, replicate, Some, None, sym, ap, ◌∙◌, subst, arith}
+use Rattle.virtual_time.specs.Letters.{plus_of, received_by}
+use Rattle.reverse.specs.Rules.{rules_of}
+use Rattle.exchange.specs.Effects.{mark}
+use Rattle.exchange.specs.Keeps.{entries_of}
+use Rattle.exchange.proofs.Opened.{offers-go, kept-opened}
+use Rattle.exchange.proofs.exchange.Exchange.open.Goals as goal
+
+pub with_letters-requires : goal.with_letters-requires
+with_letters-requires g c =
+    let L = c.actor_laws.ensures g.J.ActorRun.setting c.requires.layout in
+    let count = c.len-count.ensures ∙ (c.args.actors.ok.0 ∙ c.requires.opens.actors_open.count) in
+    subst (λ ls. All (λ l. l.message.receiver < c.len-count.result) ls) (sym c.in_ok-letters.ensures)
+    (offers-go c.requires.layout L.order c.args.offers.now c.requires.opens.offered c.len-count.result count)
+
+pub invariant_of-exchange : goal.invariant_of-exchange
+invariant_of-exchange g c =
+    let r = rules_of g.R.Reversible.plain g.R.Actor.counter in
+    let x = g.J.ActorRun.setting in
+    let actors = c.args.actors.ok.0 ∙ c.requires.opens.actors_open.count in
+    let count = c.len-count.ensures ∙ actors in
+    let books = c.in_ok-books.ensures.items_if_clones_equal (λ y e. e) ∙ (λ i. replicate ((c.len.ensures ∙ actors) i) (mark None (c.default.ensures i))) in (
+      omega arith,
+      c.requires.most,
+      kept-opened c.requires.layout c.requires.table
+          c.in_ok-mail.mail (c.in_ok-mail.ensures.processes ∙ count) (λ p. c.in_ok-mail.ensures.letters p ∙ ap (received_by r p) (c.in_ok-letters.ensures ∙ ap (map plus_of) c.requires.opens.offered))
+          c.in_ok-floors.floors (c.in_ok-floors.ensures.processes ∙ count) (c.in_ok-floors.ensures.until ∙ c.requires.until)
+          (λ p i. c.in_ok-floors.ensures.each p (subst (λ n. p < n) (sym count) i) ∙ ap (λ n. Some n) (let e : c.args.until + 1 ≡ suc x.until = omega arith in e))
+          c.in_ok-books.books.items books c.new-2.result.items c.new-2.ensures.items c.default-2.result c.default-2.ensures,
+    )
+
+pub returns-clause-exchange : goal.returns-clause-exchange
+returns-clause-exchange g c =
+    let actors = c.args.actors.ok.0 ∙ c.requires.opens.actors_open.count in
+    let books = c.in_ok-books.ensures.items_if_clones_equal (λ y e. e) ∙ (λ i. replicate ((c.len.ensures ∙ actors) i) (mark None (c.default.ensures i))) in
+    λ i. record { entries = entries_of (c.new-2.ensures.items i); books = books i; limit = c.args.limit }

@@ -1,0 +1,56 @@
+use Rattle.std.proofs.Common.{◌≡◌, true, false, sym, ◌∙◌, subst, map}
+use Rattle.virtual_time.specs.Own.{local}
+use Rattle.virtual_time.specs.Journal.{Sealed, act_by, after_own}
+use Rattle.reverse.specs.Rules.{rules_of}
+use Rattle.reverse.specs.Setting.{simulation_of}
+use Rattle.process_queues.specs.Queues.{StandsFor}
+use Rattle.fossil.specs.Committed.{is_ready}
+use Rattle.exchange.specs.Views.{InShare}
+use Rattle.exchange.specs.Keeps.{own_of}
+use Rattle.exchange.proofs.Holding.{holds-moved}
+use Rattle.exchange.proofs.Moves.{in_hand, moved-view, commit-takes, ready-moves, ready-commits, none-early}
+use Rattle.exchange.proofs.held.Held.commit_one.Goals as goal
+
+pub invariant_of-self-in-Ok-true : goal.invariant_of-self-in-Ok-true
+invariant_of-self-in-Ok-true g c =
+    let h = c.self.invariant in
+    let r = rules_of g.R.Reversible.plain g.R.Actor.counter in
+    let x = g.J.ActorRun.setting in
+    let f = simulation_of r x in
+    let p = c.self.inside.number in
+    let seen = c.self.inside.seen in
+    let part = local r (x.opening p) (map act_by c.self.inside.block) (after_own f p (own_of c.self.inside.last)) in
+    let ready : is_ready r seen part ≡ true = sym (c.in-Ok-true.ensures.answer _ _ h.stands) ∙ c.in-Ok-true.field-0-test in
+    holds-moved h (c.actor_laws.ensures x h.laid) Sealed (ready-moves f seen part ready) c.commit_oldest.new.process.queues
+    (subst (λ z. StandsFor r g.R.Reversible.is_value (x.opening p) z c.commit_oldest.new.process.queues) (ready-commits f seen part ready) (c.in-Ok-true.ensures.committed _ _ h.stands))
+    c.push.new.self c.in_ok-push.ensures.pushed
+
+pub returns-in-Ok-true-clause-committed : goal.returns-in-Ok-true-clause-committed
+returns-in-Ok-true-clause-committed g c = λ yes.
+    moved-view (simulation_of (rules_of g.R.Reversible.plain g.R.Actor.counter) g.J.ActorRun.setting) c.self.inside.number c.self.inside.last c.self.inside.seen c.self.inside.block Sealed
+    c.args.self.now c.self.view_is c.push.new.self c.in_ok-push.ensures.pushed
+
+pub returns-in-Ok-true-clause-fewer : goal.returns-in-Ok-true-clause-fewer
+returns-in-Ok-true-clause-fewer g c = λ yes.
+    let h = c.self.invariant in
+    let r = rules_of g.R.Reversible.plain g.R.Actor.counter in
+    let x = g.J.ActorRun.setting in
+    let f = simulation_of r x in
+    let p = c.self.inside.number in
+    let seen = c.self.inside.seen in
+    let part = local r (x.opening p) (map act_by c.self.inside.block) (after_own f p (own_of c.self.inside.last)) in
+    let ready : is_ready r seen part ≡ true = sym (c.in-Ok-true.ensures.answer _ _ h.stands) ∙ c.in-Ok-true.field-0-test in
+    commit-takes f c.args.self.now (in_hand f p c.self.inside.last seen c.push.new.self) seen (subst (λ (z : InShare g.row.R.Denot). is_ready r seen z.part ≡ true) c.self.view_is ready)
+    (moved-view f p c.self.inside.last seen c.self.inside.block Sealed c.args.self.now c.self.view_is c.push.new.self c.in_ok-push.ensures.pushed)
+
+pub returns-in-Ok-false-clause-none : goal.returns-in-Ok-false-clause-none
+returns-in-Ok-false-clause-none g c = λ no.
+    let h = c.self.invariant in
+    let r = rules_of g.R.Reversible.plain g.R.Actor.counter in
+    let x = g.J.ActorRun.setting in
+    let f = simulation_of r x in
+    let p = c.self.inside.number in
+    let seen = c.self.inside.seen in
+    let part = local r (x.opening p) (map act_by c.self.inside.block) (after_own f p (own_of c.self.inside.last)) in
+    let not_ready : is_ready r seen part ≡ false = sym (c.in-Ok-false.ensures.answer _ _ h.stands) ∙ c.in-Ok-false.field-0-test in
+    rw (sym c.self.view_is) (none-early f (c.actor_laws.ensures x h.laid) p seen part h.safe not_ready)

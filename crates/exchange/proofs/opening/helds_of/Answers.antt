@@ -1,0 +1,46 @@
+use Rattle.std.proofs.Common.{◌≡◌, ◌<◌, length, sym, ap, ◌∙◌, subst, arith}
+use Rattle.std.proofs.lemmas.Iterator.Adapters.{YieldsList-from_vec}
+use Rattle.std.proofs.lemmas.Iterator.Consumers.{YieldsList-turn, YieldsList-end}
+use Rattle.std.proofs.lemmas.List.{length_push}
+use Rattle.exchange.specs.Views.{opened_share}
+use Rattle.exchange.proofs.Opened.{actor-opens, as-many, helds-more}
+use Rattle.exchange.proofs.opening.helds_of.Goals as goal
+
+pub open-requires-clause-actor : goal.open-requires-clause-actor
+open-requires-clause-actor g c =
+    let x = g.J.ActorRun.setting in
+    let given = c.into_iter-actor-iterator.ensures.into_iter_gives in
+    let road = YieldsList-from_vec {s = c.into_iter-actor-iterator.result} c.args.actors.items given.0 (given.1 ∙ c.args.actors.ok.0) in
+    let turn = YieldsList-turn road c.loop-actor.yielded c.loop-actor.actor-iterator c.loop-actor.yielded_by c.next.result c.next.new.self c.in-Some.actor c.in-Some.is c.next.ensures.steps in
+    let number : length c.loop-actor.yielded ≡ c.len-number.result = omega arith in
+    actor-opens x.processes x.opening c.args.actors.items c.requires.count c.requires.each (length c.loop-actor.yielded) c.in-Some.actor turn ∙ ap x.opening number
+
+pub loop-actor-preserved : goal.loop-actor-preserved
+loop-actor-preserved g c =
+    let x = g.J.ActorRun.setting in
+    let pushed = c.push_reserved.ensures.items in
+    let number : c.len-number.result ≡ length c.loop-actor.yielded = omega arith in
+    let longer = length_push c.loop-actor.yielded c.in-Some.actor in
+    record {
+      can = tt;
+      ends = tt;
+      count = as-many c.loop-actor.helds.items c.push_reserved.new.self.items c.in_ok-held.held c.loop-actor.yielded c.in-Some.actor pushed c.loop-actor.invariant.count;
+      room = omega arith;
+      each = λ p i.
+          helds-more x.opening c.loop-actor.helds.items c.push_reserved.new.self.items (length c.loop-actor.yielded) c.in_ok-held.held c.loop-actor.invariant.count c.loop-actor.invariant.each
+          (c.in_ok-held.ensures.opened ∙ ap (opened_share x.opening) number) pushed p (omega arith);
+    }
+
+pub returns-clause-count : goal.returns-clause-count
+returns-clause-count g c =
+    let given = c.into_iter-actor-iterator.ensures.into_iter_gives in
+    let road = YieldsList-from_vec {s = c.into_iter-actor-iterator.result} c.args.actors.items given.0 (given.1 ∙ c.args.actors.ok.0) in
+    let end = YieldsList-end road c.loop-actor.yielded c.loop-actor.actor-iterator c.loop-actor.yielded_by c.next.result c.next.new.self c.in-None.is c.next.ensures.steps in
+    c.loop-actor.invariant.count ∙ (end.1 ∙ c.requires.count)
+
+pub returns-clause-each : goal.returns-clause-each
+returns-clause-each g c =
+    let given = c.into_iter-actor-iterator.ensures.into_iter_gives in
+    let road = YieldsList-from_vec {s = c.into_iter-actor-iterator.result} c.args.actors.items given.0 (given.1 ∙ c.args.actors.ok.0) in
+    let end = YieldsList-end road c.loop-actor.yielded c.loop-actor.actor-iterator c.loop-actor.yielded_by c.next.result c.next.new.self c.in-None.is c.next.ensures.steps in
+    λ p i. c.loop-actor.invariant.each p (subst (λ n. p < n) (sym (end.1 ∙ c.requires.count)) i)

@@ -1,0 +1,140 @@
+use Rattle.std.proofs.Common.{◌≡◌, ◌<◌, All, map, set, length, ◌++◌, Some, refl, sym, ap, ◌∙◌, subst, arith}
+use Rattle.std.proofs.lemmas.List.{length-map}
+use Rattle.virtual_time.specs.Letters.{received_by}
+use Rattle.virtual_time.specs.Part.{emptied, floor_of}
+use Rattle.virtual_time.specs.Own.{local}
+use Rattle.virtual_time.specs.Journal.{Posted, act_by, acts_of, own_in, after_own}
+use Rattle.reverse.specs.Rules.{rules_of}
+use Rattle.reverse.specs.Setting.{simulation_of}
+use Rattle.journal.specs.Deeds.{seen_entry}
+use Rattle.journal.specs.Places.{IsAt}
+use Rattle.journal.specs.declared.tokens.Tokens.{Tokens}
+use Rattle.exchange.specs.Keeps.{place_in, own_of, entries_of}
+use Rattle.exchange.specs.Effects.{told, mark}
+use Rattle.exchange.proofs.Growth.{Fresh, entry-fresh, entries-are}
+use Rattle.exchange.proofs.Holding.{holds-posted}
+use Rattle.exchange.proofs.Outcomes.{when-ok, when-no-err}
+use Rattle.exchange.proofs.Posted.{outbox-goes, end-told, kept-posted, seen-low, kept-refused, part-posted, posts-some}
+use Rattle.exchange.proofs.posting.post.Goals as goal
+
+pub reserve_post-requires : goal.reserve_post-requires
+reserve_post-requires g c =
+    let k = c.exchange.invariant.2 in
+    let h = c.held.invariant in
+    let L = c.actor_laws.ensures g.J.ActorRun.setting k.laid in
+    let part = rw (sym c.held.view_is, sym c.exchange.view_is) at c.join.ensures.part in
+    let enabled = rw (sym c.held.view_is, sym c.exchange.view_is) at c.join.ensures.enabled in
+    outbox-goes k L c.held.inside.number h.number_is c.held.inside.block enabled _ part c.held.inside.process.queues.outbox h.stands.outbox
+
+pub post-posted-requires : goal.post-posted-requires
+post-posted-requires g c =
+    let k = c.exchange.invariant.2 in
+    let h = c.held.invariant in
+    let L = c.actor_laws.ensures g.J.ActorRun.setting k.laid in
+    let part = rw (sym c.held.view_is, sym c.exchange.view_is) at c.join.ensures.part in
+    let enabled = rw (sym c.held.view_is, sym c.exchange.view_is) at c.join.ensures.enabled in
+    let ls = c.held.inside.process.queues.outbox in
+    subst (λ n. All (λ l. l.message.receiver < n) ls) (sym c.reserve_post.ensures.processes)
+    (outbox-goes k L c.held.inside.number h.number_is c.held.inside.block enabled _ part ls h.stands.outbox)
+
+pub invariant_of-held : goal.invariant_of-held
+invariant_of-held g c =
+    let k = c.exchange.invariant.2 in
+    let h = c.held.invariant in
+    let r = rules_of g.R.Reversible.plain g.R.Actor.counter in
+    let x = g.J.ActorRun.setting in
+    let p = c.held.inside.number in
+    let ts = c.exchange.inside.journal.items in
+    let block = c.held.inside.block in
+    let mine = rw (sym c.held.view_is, sym c.exchange.view_is) at c.join.ensures.own in
+    let before = rw (sym c.held.view_is) at c.past-past.ensures in
+    let wrote = c.in-Ok.ensures in
+    let new : Fresh g.J.ActorRun.pages ts (told p (place_in c.held.inside.last) (Posted block)) (own_in p (entries_of ts)) c.in-Ok.tokens =
+    entry-fresh k.same wrote.at wrote.value refl before.place (before.own ∙ mine) (ap (λ b. Posted b) c.replace.ensures.value) tt in
+    let place : c.len-place.result ≡ length ts = c.len-place.ensures ∙ c.exchange.inside.journal.ok.0 in
+    let room = when-no-err c.reserve_post.result (sym c.is_err.ensures.value ∙ c.if-is_err.false) c.reserve_post.ensures.room in
+    let did = when-ok c.post-posted.result (c.post-posted.ensures.reserved room) c.post-posted.ensures.emptied in
+    holds-posted h (c.actor_laws.ensures x k.laid)
+    (Some (record { number = c.len-place.result; tokens = c.in-Ok.tokens }))
+    (subst (λ n. IsAt g.J.ActorRun.pages n c.in-Ok.tokens) (sym place) new.at, omega arith)
+    (new.own_is ∙ ap (λ z. z ++ acts_of (Posted block)) (sym mine))
+    c.post-posted.new.self.queues
+    (did (x.opening p) _ h.stands)
+    c.replace.new.dest (c.replace.ensures.after ∙ c.new.ensures)
+
+pub invariant_of-exchange-in-Ok : goal.invariant_of-exchange-in-Ok
+invariant_of-exchange-in-Ok g c =
+    let k = c.exchange.invariant.2 in
+    let h = c.held.invariant in
+    let r = rules_of g.R.Reversible.plain g.R.Actor.counter in
+    let x = g.J.ActorRun.setting in
+    let L = c.actor_laws.ensures x k.laid in
+    let p = c.held.inside.number in
+    let ts = c.exchange.inside.journal.items in
+    let block = c.held.inside.block in
+    let fits = rw (sym c.held.view_is, sym c.exchange.view_is) at c.requires in
+    let mine = rw (sym c.held.view_is, sym c.exchange.view_is) at c.join.ensures.own in
+    let part-is = rw (sym c.held.view_is, sym c.exchange.view_is) at c.join.ensures.part in
+    let enabled = rw (sym c.held.view_is, sym c.exchange.view_is) at c.join.ensures.enabled in
+    let before = rw (sym c.held.view_is) at c.past-past.ensures in
+    let wrote = c.in-Ok.ensures in
+    let new : Fresh g.J.ActorRun.pages ts (told p (place_in c.held.inside.last) (Posted block)) (own_in p (entries_of ts)) c.in-Ok.tokens =
+    entry-fresh k.same wrote.at wrote.value refl before.place (before.own ∙ mine) (ap (λ b. Posted b) c.replace.ensures.value) tt in
+    let place : c.len-place.result ≡ length ts = c.len-place.ensures ∙ c.exchange.inside.journal.ok.0 in
+    let room = when-no-err c.reserve_post.result (sym c.is_err.ensures.value ∙ c.if-is_err.false) c.reserve_post.ensures.room in
+    let is-ok = c.post-posted.ensures.reserved room in
+    let did = when-ok c.post-posted.result is-ok c.post-posted.ensures.emptied in
+    let posted = when-ok c.post-posted.result is-ok c.post-posted.ensures.posted in
+    let part = local r (x.opening p) (map act_by block) (after_own (simulation_of r x) p (own_of c.held.inside.last)) in
+    let stands = did (x.opening p) part h.stands in
+    let end = end-told r g.R.Reversible.is_value (x.opening p) (emptied part) c.post-posted.new.self.queues stands L.order g.R.Actor.end (λ s m. g.met.R.Actor.end_stays s m) x.until (k.laid.end_is p h.number_is) in (
+      omega arith,
+      c.exchange.invariant.1,
+      kept-posted k L p h.number_is block enabled part part-is new
+          c.post-posted.new.mail (c.post-posted.ensures.processes ∙ c.reserve_post.ensures.processes)
+          (λ q. posted q ∙ (λ j. c.reserve_post.ensures.same q j ++ received_by r q (h.stands.outbox j)))
+          c.set.new.self c.set.ensures.processes c.set.ensures.until
+          c.floor.result (c.floor.ensures (x.opening p) (emptied part) stands ∙ ap (λ n. floor_of r n (emptied part)) end) c.set.ensures.here c.set.ensures.others
+          c.write.new.journal.items wrote.journal _ (omega arith)
+          c.held.inside.seen (seen-low k p h.number_is (mark (place_in c.held.inside.last) c.held.inside.seen) fits)
+          _ (λ j. set c.exchange.inside.books.items (c.from.ensures j) (mark (Some (place j)) c.held.inside.seen)),
+    )
+
+pub invariant_of-exchange-in-Err : goal.invariant_of-exchange-in-Err
+invariant_of-exchange-in-Err g c =
+    let k = c.exchange.invariant.2 in (
+      c.exchange.invariant.0,
+      c.exchange.invariant.1,
+      kept-refused k c.write.new.journal.items c.in-Err.ensures.unchanged c.reserve_post.new.mail c.reserve_post.ensures.processes c.reserve_post.ensures.same,
+    )
+
+pub returns-in-Ok-clause-ok : goal.returns-in-Ok-clause-ok
+returns-in-Ok-clause-ok g c =
+    let k = c.exchange.invariant.2 in
+    let f = simulation_of (rules_of g.R.Reversible.plain g.R.Actor.counter) g.J.ActorRun.setting in
+    let p = c.held.inside.number in
+    let ts = c.exchange.inside.journal.items in
+    let block = c.held.inside.block in
+    let seen = c.held.inside.seen in
+    let mine = rw (sym c.held.view_is, sym c.exchange.view_is) at c.join.ensures.own in
+    let before = rw (sym c.held.view_is) at c.past-past.ensures in
+    let wrote = c.in-Ok.ensures in
+    let new : Fresh g.J.ActorRun.pages ts (told p (place_in c.held.inside.last) (Posted block)) (own_in p (entries_of ts)) c.in-Ok.tokens =
+    entry-fresh k.same wrote.at wrote.value refl before.place (before.own ∙ mine) (ap (λ b. Posted b) c.replace.ensures.value) tt in
+    let own = new.own_is ∙ ap (λ z. z ++ acts_of (Posted block)) (sym mine) in
+    let none = c.replace.ensures.after ∙ c.new.ensures in
+    let at : c.len-place.result ≡ length (entries_of ts) = c.len-place.ensures ∙ (c.exchange.inside.journal.ok.0 ∙ sym (length-map ts (λ (t : Tokens). seen_entry t.cell.value))) in
+    let some : 0 < length block = omega arith in
+    rw (sym c.held.view_is, sym c.exchange.view_is) (posts-some f _ _ _ _ block some
+    (λ i. record {
+      entries = (ap entries_of wrote.journal ∙ entries-are new) i;
+      books = set c.exchange.inside.books.items (c.from.ensures i) (mark (Some (at i)) seen);
+      limit = c.exchange.inside.limit;
+    })
+    (λ i. record {
+      number = p;
+      part = part-posted f p (own_of c.held.inside.last) _ block c.replace.new.dest own none i;
+      block = none i;
+      own = own i;
+      share = mark (Some (at i)) seen;
+    }))

@@ -1,0 +1,34 @@
+use Rattle.std.proofs.Common.{◌==◌, refl, sym, ap, ◌∙◌, arith}
+use Rattle.reverse.specs.Rules.{rules_of}
+use Rattle.reverse.specs.Setting.{simulation_of}
+use Rattle.exchange.specs.Keeps.{entries_of}
+use Rattle.exchange.proofs.Growth.{entry-fresh, entries-are}
+use Rattle.exchange.proofs.Published.{gvt-told, kept-published, publishes-more, publishes-none}
+use Rattle.exchange.proofs.publishing.publish.Goals as goal
+
+pub invariant_of-exchange : goal.invariant_of-exchange
+invariant_of-exchange g c =
+    let k = c.exchange.invariant.2 in
+    let wrote = c.in-Ok.ensures in
+    let gvt = c.horizon-gvt.ensures ∙ gvt-told k c.gvt_law.ensures (λ m. refl) in (
+      omega arith,
+      c.exchange.invariant.1,
+      kept-published k (c.actor_laws.ensures g.J.ActorRun.setting k.laid) (entry-fresh k.same wrote.at wrote.value refl refl refl refl tt)
+          c.horizon-gvt.result gvt c.write.new.journal.items wrote.journal _ refl,
+    )
+
+pub returns-then-eq-clause-ok : goal.returns-then-eq-clause-ok
+returns-then-eq-clause-ok g c =
+    let k = c.exchange.invariant.2 in
+    let f = simulation_of (rules_of g.R.Reversible.plain g.R.Actor.counter) g.J.ActorRun.setting in
+    let gvt = c.horizon-gvt.ensures ∙ gvt-told k c.gvt_law.ensures (λ m. refl) in
+    rw (sym c.exchange.view_is) (gvt, publishes-none f _ _ _ (ap (λ z. c.horizon-gvt.result == z) (sym k.gvt_is) ∙ (sym c.eq.ensures ∙ c.if-eq.true)) refl)
+
+pub returns-in-Ok-clause-ok : goal.returns-in-Ok-clause-ok
+returns-in-Ok-clause-ok g c =
+    let k = c.exchange.invariant.2 in
+    let f = simulation_of (rules_of g.R.Reversible.plain g.R.Actor.counter) g.J.ActorRun.setting in
+    let wrote = c.in-Ok.ensures in
+    let gvt = c.horizon-gvt.ensures ∙ gvt-told k c.gvt_law.ensures (λ m. refl) in
+    let longer = ap entries_of wrote.journal ∙ entries-are (entry-fresh k.same wrote.at wrote.value refl refl refl refl tt) in
+    rw (sym c.exchange.view_is) (gvt, publishes-more f _ _ _ (ap (λ z. c.horizon-gvt.result == z) (sym k.gvt_is) ∙ (sym c.eq.ensures ∙ c.if-eq.false)) (λ i. record { entries = longer i; books = c.exchange.inside.books.items; limit = c.exchange.inside.limit }))

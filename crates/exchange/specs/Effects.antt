@@ -1,0 +1,130 @@
+-- What each call does to an Exchange and to a Held.
+use Rattle.std.specs.Prelude.{◌≡◌, ℕ, zero, suc, ◌+◌, ◌<◌, ◌≤◌, ◌==◌, ◌⊎◌, Bool, true, false, List, [], ◌∷◌, ◌++◌, map, take, length, replicate, set, Option, Some, None, ⊤, MatchOption}
+use Rattle.vlink.specs.declared.message.Message.{Message}
+use Rattle.vlink.specs.declared.note.Note.{Note}
+use Rattle.virtual_time.specs.Lists.{earlier}
+use Rattle.virtual_time.specs.Letters.{Letter}
+use Rattle.virtual_time.specs.Part.{Part, emptied, next_of, run_one}
+use Rattle.virtual_time.specs.Simulation.{Simulation}
+use Rattle.virtual_time.specs.World.{gvt_over}
+use Rattle.virtual_time.specs.Own.{local}
+use Rattle.virtual_time.specs.Journal.{Move, Arrived, Ran, Sealed, Deed, Took, Posted, Published, Entry, act_by, acts_of, reach}
+use Rattle.exchange.specs.declared.mark.Mark.{Mark}
+use Rattle.exchange.specs.Views.{Ledger, InShare}
+
+-- process p tells this, and its entry before that stands at this place
+abbrev pub told : ℕ → Option ℕ → Deed Message → Entry Message
+told p prior deed = record { process = p; prior = prior; deed = deed }
+
+-- the last entry stands here, and GVT was seen at this moment
+abbrev pub mark : Option ℕ → ℕ → Mark
+mark place seen = record { place = place; seen = seen }
+
+-- so many arrivals, then so many runs, then so many commits
+abbrev pub turn : ℕ → ℕ → ℕ → List Move
+turn arrivals runs commits = replicate arrivals Arrived ++ replicate runs Ran ++ replicate commits Sealed
+
+module _ {S K : Type 0} (f : Simulation Message S K Note) where
+  -- these letters go from the front of the mail to the tray, and book and share note the GVT of the Exchange; none makes no entry
+  abbrev pub collects : List (Letter Message) → Ledger → InShare S → Ledger → InShare S → Type 0
+  collects [] x h y k =
+      (y ≡ record {
+        entries = x.entries;
+        books = set x.books h.number (mark h.share.place (reach f x.entries).gvt);
+        limit = x.limit;
+      })
+      × (k ≡ record {
+        number = h.number;
+        part = h.part;
+        block = h.block;
+        own = h.own;
+        share = mark h.share.place (reach f x.entries).gvt;
+      })
+  collects (a ∷ more) x h y k =
+      (y ≡ record {
+        entries = x.entries ++ told h.number h.share.place (Took (a ∷ more)) ∷ [];
+        books = set x.books h.number (mark (Some (length x.entries)) (reach f x.entries).gvt);
+        limit = x.limit;
+      })
+      × (k ≡ record {
+        number = h.number;
+        part = local f.rules (f.opening h.number) (acts_of (Took (a ∷ more))) h.part;
+        block = [];
+        own = h.own ++ acts_of (Took (a ∷ more));
+        share = mark (Some (length x.entries)) (reach f x.entries).gvt;
+      })
+
+  -- the first letters of its mail, so many or all where there are fewer, are collected
+  abbrev pub Collects : ℕ → Ledger → InShare S → Ledger → InShare S → ℕ → Type 0
+  Collects most x h y k count =
+      (count ≡ length (take most ((reach f x.entries).mail h.number)))
+      × collects (take most ((reach f x.entries).mail h.number)) x h y k
+
+  -- the block goes to the journal, and the outbox to the mail; an empty block changes nothing
+  abbrev pub posts : List Move → Ledger → InShare S → Ledger → InShare S → Type 0
+  posts [] x h y k = (y ≡ x) × (k ≡ h)
+  posts (m ∷ ms) x h y k =
+      (y ≡ record {
+        entries = x.entries ++ told h.number h.share.place (Posted (m ∷ ms)) ∷ [];
+        books = set x.books h.number (mark (Some (length x.entries)) h.share.seen);
+        limit = x.limit;
+      })
+      × (k ≡ record {
+        number = h.number;
+        part = emptied h.part;
+        block = [];
+        own = h.own ++ acts_of (Posted (m ∷ ms));
+        share = mark (Some (length x.entries)) h.share.seen;
+      })
+
+  abbrev pub Posts : Ledger → InShare S → Ledger → InShare S → Type 0
+  Posts x h y k = posts h.block x h y k
+
+  -- GVT is set; where it is the one of before there is no entry
+  abbrev pub publishes : Bool → Ledger → Ledger → Type 0
+  publishes true x y = y ≡ x
+  publishes false x y = y ≡ record { entries = x.entries ++ told 0 None Published ∷ []; books = x.books; limit = x.limit }
+
+  abbrev pub Publishes : Ledger → Ledger → ℕ → Type 0
+  Publishes x y t =
+      (t ≡ gvt_over f f.processes (reach f x.entries))
+      × publishes (t == (reach f x.entries).gvt) x y
+
+  -- the process did these steps, and they joined the block
+  abbrev pub moved_by : List Move → InShare S → InShare S
+  moved_by ms h =
+      record {
+        number = h.number;
+        part = local f.rules (f.opening h.number) (map act_by ms) h.part;
+        block = h.block ++ ms;
+        own = h.own;
+        share = h.share;
+      }
+
+  -- each of so many runs handles a message that is earlier than the limit
+  abbrev pub RanEarly : ℕ → ℕ → Part Message S → Type 0
+  RanEarly limit zero part = ⊤
+  RanEarly limit (suc runs) part = (m : Message) × (next_of f.rules part ≡ Some m) × (f.rules.time m < limit) × RanEarly limit runs (run_one f.rules part)
+
+  -- no message that can be handled is earlier than the limit
+  abbrev pub IsIdleBefore : ℕ → Part Message S → Type 0
+  IsIdleBefore limit part = MatchOption (next_of f.rules part) ⊤ (λ m. limit ≤ f.rules.time m)
+
+  -- all letters of the tray arrive; then messages are handled that are earlier than the GVT seen and the window, `turn` at most, as long as
+  -- there are any; then all done events below the GVT seen are committed
+  pub record Works (most window : ℕ) (h k : InShare S) (count : ℕ) : Type 0 where
+    pub runs : ℕ
+    pub commits : ℕ
+    pub did : k ≡ moved_by (turn (length h.part.tray) runs commits) h
+    pub told_count : count ≡ length h.part.tray + runs + commits
+    pub within : runs ≤ most
+    pub early : RanEarly (h.share.seen + window) runs (moved_by (replicate (length h.part.tray) Arrived) h).part
+    pub idle : (runs ≡ most) ⊎ IsIdleBefore (h.share.seen + window) (moved_by (turn (length h.part.tray) runs 0) h).part
+    pub committed_below : earlier f.rules h.share.seen k.part.done ≡ []
+
+  -- some of that was done, and the block tells what
+  pub record WorksSome (h k : InShare S) : Type 0 where
+    pub arrivals : ℕ
+    pub runs : ℕ
+    pub commits : ℕ
+    pub did : k ≡ moved_by (turn arrivals runs commits) h

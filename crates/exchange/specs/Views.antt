@@ -1,0 +1,34 @@
+-- What contracts see of an Exchange and of a Held.
+use Rattle.std.specs.Prelude.{ℕ, List, [], None, get_or}
+use Rattle.vlink.specs.declared.message.Message.{Message}
+use Rattle.virtual_time.specs.Part.{Part, opened}
+use Rattle.virtual_time.specs.Own.{Act}
+use Rattle.virtual_time.specs.Journal.{Move, Entry}
+use Rattle.exchange.specs.declared.mark.Mark.{Mark}
+
+-- the entries of the journal, the book of each process, and how many steps the journal can have
+pub record Ledger : Type 0 where
+  pub entries : List (Entry Message)
+  pub books : List Mark
+  pub limit : ℕ
+
+-- a process: its number, what it has in hand, the steps that it did alone and that are not in the journal yet, what the journal tells of
+-- it alone, and its share
+pub record InShare (S : Type 0) : Type 0 where
+  pub number : ℕ
+  pub part : Part Message S
+  pub block : List Move
+  pub own : List (Act Message)
+  pub share : Mark
+
+-- of a process that is not in the journal yet
+abbrev pub blank : Mark
+blank = record { place = None; seen = 0 }
+
+-- the book of process p
+abbrev pub book_of : List Mark → ℕ → Mark
+book_of books p = get_or books p blank
+
+-- process p that has done nothing, from its opening state
+abbrev pub opened_share : {S : Type 0} → (ℕ → S) → ℕ → InShare S
+opened_share opening p = record { number = p; part = opened (opening p); block = []; own = []; share = blank }

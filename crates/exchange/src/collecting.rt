@@ -1,0 +1,137 @@
+//! A process takes letters from the mail.
+ghost use Rattle.std.specs.Prelude.{◌≡◌, ◌≢◌, ◌<◌, ◌≤◌, ◌+◌, ◌⊎◌, ℕ, [], map, min, set, take, length, slice_get, IfOk, OnErr, IfErr, Err};
+ghost use Rattle.std.specs.Option.{option_map};
+ghost use Rattle.virtual_time.specs.Letters.{lowest, times_of};
+ghost use Rattle.virtual_time.specs.Journal.{Took, reach, steps};
+ghost use Rattle.reverse.specs.Rules.{rules_of};
+ghost use Rattle.reverse.specs.Setting.{simulation_of};
+ghost use Rattle.antimessages.specs.Letters.{message_rules};
+ghost use Rattle.antimessages.specs.Mailing.{letters_for};
+ghost use Rattle.journal.specs.declared.fault.PoolFault.TheVariants.{OutOfMemory, JournalFull, Torn};
+ghost use Rattle.journal.specs.Deeds.{seen_deed, past_own, place_of};
+ghost use Rattle.exchange.specs.Views.{book_of};
+ghost use Rattle.exchange.specs.Keeps.{IsCountedDeed};
+ghost use Rattle.exchange.specs.Effects.{Collects, mark};
+
+use crate::exchange::Exchange;
+use crate::held::Held;
+use crate::mark::Mark;
+use crate::run_of::ActorRun;
+use antimessages::Mail;
+use gvt::Floors;
+use journal::{Deed, Entry, EntryPlace, PoolFault};
+use reverse::{Actor, actor_laws};
+use std::snapshot::Snapshot;
+
+/// The first letters of the mail of a process that fits, `most` or all where there are fewer, go to its tray, with one entry in the journal
+/// where there are any. Share and book note the GVT of the exchange. The answer is how many letters were taken.
+///
+/// Any refusal leaves both as they were. `JournalFull`: the steps would pass the limit, which is looked at before any growth. `Torn`: the
+/// entry's cell was set already.
+pub fn collect<'a, R: Actor, J: ActorRun<R>>(
+    held: &mut Held<'a, R, J>,
+    exchange: &mut Exchange<'a, R, J>,
+    most: u32,
+) -> Result<u32, PoolFault>
+    requires fits { held.old.share ≡ book_of exchange.old.books held.old.number }
+    requires posted { held.old.block ≡ [] }
+    ensures ok { IfOk result (λ count. Collects (simulation_of (rules_of R.plain R.counter) J.setting) most exchange.old held.old exchange.new held.new count) }
+    ensures unchanged { OnErr result ((exchange.new ≡ exchange.old) × (held.new ≡ held.old)) }
+    ensures full { result ≡ Err JournalFull → exchange.old.limit < length (steps exchange.old.entries)
+        + min most (length ((reach (simulation_of (rules_of R.plain R.counter) J.setting) exchange.old.entries).mail held.old.number)) }
+    ensures faults { IfErr result (λ fault. (fault ≡ OutOfMemory) ⊎ ((fault ≡ JournalFull) ⊎ (fault ≡ Torn))) }
+{
+    actor_laws::<R>();
+    let count = exchange.mail.count(held.number).min(most as usize);
+    if count == 0 {
+        see(held, exchange);
+        return Ok(0);
+    }
+    exchange.join(held);
+    if exchange.limit - exchange.steps < count as u64 {
+        return Err(PoolFault::JournalFull);
+    }
+    let entry = entry_of(held, &exchange.mail, count as u32);
+    if held.process.reserve_letters(count).is_err() {
+        return Err(PoolFault::OutOfMemory);
+    }
+    let place = exchange.journal.len() as u32;
+    match exchange.table.write(&mut exchange.journal, entry) {
+        Ok(tokens) => {
+            lower_floor(&mut exchange.floors, &exchange.mail, held.number, count);
+            let _taken = held.process.collect(&mut exchange.mail, held.number, count);
+            exchange.steps += count as u64;
+            exchange.books[usize::from(held.number)] = Mark {
+                place: Some(place),
+                seen: exchange.gvt,
+            };
+            held.last = Some(EntryPlace {
+                number: place,
+                tokens,
+            });
+            held.seen = exchange.gvt;
+            Ok(count as u32)
+        }
+        Err((fault, _entry)) => Err(fault),
+    }
+}
+
+/// Share and book of a process that fits note the GVT of the exchange.
+fn see<'a, R: Actor, J: ActorRun<R>>(held: &mut Held<'a, R, J>, exchange: &mut Exchange<'a, R, J>)
+    requires fits { held.old.share ≡ book_of exchange.old.books held.old.number }
+    requires posted { held.old.block ≡ [] }
+    ensures exchange { exchange.new ≡ record {
+      entries = exchange.old.entries;
+      books = set exchange.old.books held.old.number (mark held.old.share.place
+          (reach (simulation_of (rules_of R.plain R.counter) J.setting) exchange.old.entries).gvt);
+      limit = exchange.old.limit;
+    } }
+    ensures held { held.new ≡ record {
+      number = held.old.number;
+      part = held.old.part;
+      block = held.old.block;
+      own = held.old.own;
+      share = mark held.old.share.place (reach (simulation_of (rules_of R.plain R.counter) J.setting) exchange.old.entries).gvt;
+    } }
+{
+    actor_laws::<R>();
+    exchange.join(held);
+    exchange.books[usize::from(held.number)] = Mark {
+        place: held.share().place,
+        seen: exchange.gvt,
+    };
+    held.seen = exchange.gvt;
+}
+
+/// The entry by which a process takes the first letters of its mail, so many. It takes no memory.
+fn entry_of<'a, R: Actor, J: ActorRun<R>>(held: &Held<'a, R, J>, mail: &Mail, count: u32) -> Entry
+    requires enough { count ≤ length (letters_for held.now.number mail.now) }
+    ensures process { result.process ≡ held.now.number }
+    ensures place { place_of result.past ≡ held.now.share.place }
+    ensures own { past_own result.past ≡ held.now.own }
+    ensures deed { seen_deed held.now.number result.deed ≡ Took (take count (letters_for held.now.number mail.now)) }
+    ensures counted { IsCountedDeed held.now.number result.deed }
+{
+    Entry {
+        past: held.past(),
+        deed: Deed::Collect(count, Snapshot::of(mail)),
+        process: held.number,
+    }
+}
+
+/// The floor of a process falls to the least time of the first letters in its mail, so many.
+fn lower_floor(floors: &mut Floors, mail: &Mail, process: u16, count: usize)
+    requires within { process < length floors.old.floors }
+    requires enough { count ≤ length (letters_for process mail.now) }
+    ensures floor { slice_get floors.new.floors process
+        ≡ option_map (λ floor. lowest floor (times_of message_rules (take count (letters_for process mail.now)))) (slice_get floors.old.floors process) }
+    ensures others { (q : ℕ) → q ≢ process → slice_get floors.new.floors q ≡ slice_get floors.old.floors q }
+    ensures processes { length floors.new.floors ≡ length floors.old.floors }
+    ensures until { floors.new.until ≡ floors.old.until }
+{
+    for place in 0..count {
+        if let Some(letter) = mail.look(process, place) {
+            floors.lower(process, letter.message.time);
+        }
+    }
+}

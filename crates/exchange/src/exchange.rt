@@ -1,0 +1,71 @@
+//! What the processes of a run share.
+ghost use Rattle.std.specs.Prelude.{◌≡◌, ◌<◌, slice_get};
+ghost use Rattle.std.specs.Option.{option_map};
+ghost use Rattle.virtual_time.specs.Journal.{reach};
+ghost use Rattle.reverse.specs.Rules.{rules_of};
+ghost use Rattle.reverse.specs.Setting.{simulation_of};
+ghost use Rattle.antimessages.specs.Letters.{signed};
+
+use crate::mark::Mark;
+use crate::run_of::ActorRun;
+use antimessages::Mail;
+use gvt::Floors;
+use journal::{Entries, Tokens};
+use reverse::Actor;
+use std::marker::{Model, PhantomData};
+use vlink::{Letter, Time};
+
+/// Mail, floors and GVT of all processes, the journal of what they did, and a book for each.
+#[derive(Drop)]
+pub struct Exchange<'a, R: Actor, J: ActorRun<R>> {
+    pub(crate) table: &'a Entries,
+    pub(crate) mail: Mail,
+    pub(crate) floors: Floors,
+    pub(crate) gvt: Time,
+    pub(crate) journal: Vec<Tokens<'a>>,
+    /// For how many steps the entries stand.
+    pub(crate) steps: u64,
+    pub(crate) books: Vec<Mark>,
+    pub(crate) limit: u64,
+    pub(crate) of: PhantomData<(J, R)>,
+}
+
+impl<'a, R: Actor, J: ActorRun<R>> Model for Exchange<'a, R, J> {
+    ghost use Rattle.std.specs.Prelude.{◌≤◌};
+    ghost use Rattle.reverse.specs.Rules.{rules_of};
+    ghost use Rattle.journal.specs.Names.{names};
+    ghost use Rattle.exchange.specs.Views.{Ledger};
+    ghost use Rattle.exchange.specs.Keeps.{IsRecorded, entries_of};
+
+    ghost Value = { Ledger };
+
+    ghost view = { λ x. record { entries = entries_of x.journal.items; books = x.books.items; limit = x.limit } };
+
+    ghost invariant = { λ x. (x.steps ≤ x.limit) × (x.limit ≤ 67108864) ×
+        IsRecorded (rules_of R.plain R.counter) R.number R.end R.is_placed J.setting J.pages (names x.table.now.pages.items)
+        x.journal.items x.mail x.floors x.gvt x.steps x.books.items };
+}
+
+impl<'a, R: Actor, J: ActorRun<R>> Exchange<'a, R, J> {
+    /// How many processes there are.
+    pub fn processes(&self) -> u16
+        ensures { result ≡ J.setting.processes }
+    {
+        self.floors.processes()
+    }
+
+    /// GVT, in ns.
+    pub fn gvt(&self) -> Time
+        ensures { result ≡ (reach (simulation_of (rules_of R.plain R.counter) J.setting) self.now.entries).gvt }
+    {
+        self.gvt
+    }
+
+    /// The letter number `place`, from 0, of the mail of process `process`. None where there is none, or no such process.
+    pub fn look(&self, process: u16, place: usize) -> Option<Letter>
+        ensures letter { process < J.setting.processes → option_map signed result
+            ≡ slice_get ((reach (simulation_of (rules_of R.plain R.counter) J.setting) self.now.entries).mail process) place }
+    {
+        self.mail.look(process, place)
+    }
+}

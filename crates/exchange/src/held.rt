@@ -1,0 +1,101 @@
+//! A process in hand.
+ghost use Rattle.std.specs.Prelude.{◌≡◌, ◌<◌, length};
+ghost use Rattle.journal.specs.Deeds.{past_own, place_of};
+
+use crate::mark::Mark;
+use crate::run_of::ActorRun;
+use journal::{Block, Entries, EntryPlace, Past};
+use process_queues::Process;
+use reverse::{Actor, Outbound};
+use std::alloc::Global;
+use std::marker::{Model, PhantomData};
+use std::snapshot::Snapshot;
+use vlink::Time;
+
+/// A process, the block of the steps that it did alone since its last post, and its share: where the journal tells of it last, and the GVT
+/// that it saw.
+#[derive(Drop)]
+pub struct Held<'a, R: Actor, J: ActorRun<R>> {
+    pub(crate) table: &'a Entries,
+    pub(crate) process: Process<R>,
+    pub(crate) number: u16,
+    /// How many messages it handled, those that were handled again included.
+    pub(crate) runs: u64,
+    pub(crate) block: Block,
+    pub(crate) last: Option<EntryPlace<'a>>,
+    pub(crate) seen: Time,
+    /// Room for what one event sends and notes.
+    pub(crate) out: Outbound,
+    pub(crate) alloc: Global,
+    pub(crate) of: PhantomData<J>,
+}
+
+impl<'a, R: Actor, J: ActorRun<R>> Model for Held<'a, R, J> {
+    ghost use Rattle.std.specs.Prelude.{map};
+    ghost use Rattle.virtual_time.specs.Own.{local};
+    ghost use Rattle.virtual_time.specs.Journal.{act_by, after_own};
+    ghost use Rattle.reverse.specs.Rules.{rules_of};
+    ghost use Rattle.reverse.specs.Setting.{simulation_of};
+    ghost use Rattle.journal.specs.Names.{names};
+    ghost use Rattle.exchange.specs.Views.{InShare};
+    ghost use Rattle.exchange.specs.Keeps.{Holds, own_of, place_in};
+
+    ghost Value = { InShare R };
+
+    ghost view = { λ h. record {
+      number = h.number;
+      part = local (rules_of R.plain R.counter) (J.setting.opening h.number) (map act_by h.block)
+          (after_own (simulation_of (rules_of R.plain R.counter) J.setting) h.number (own_of h.last));
+      block = h.block;
+      own = own_of h.last;
+      share = record { place = place_in h.last; seen = h.seen };
+    } };
+
+    ghost invariant = { λ h. Holds (rules_of R.plain R.counter) R.number R.end R.is_placed J.setting R.is_value J.pages (names h.table.now.pages.items)
+        h.number h.seen h.block h.last h.process.queues };
+}
+
+impl<'a, R: Actor, J: ActorRun<R>> Held<'a, R, J> {
+    /// Its number, from 0.
+    pub fn number(&self) -> u16
+        ensures number { result ≡ self.now.number }
+        ensures within { self.now.number < J.setting.processes }
+    {
+        self.number
+    }
+
+    /// How many steps its block has: those that it did alone since its last post.
+    pub fn pending(&self) -> u64
+        ensures { result ≡ length self.now.block }
+    {
+        self.block.len() as u64
+    }
+
+    /// Its share.
+    pub fn share(&self) -> Mark
+        ensures { result ≡ self.now.share }
+    {
+        let place = match &self.last {
+            Some(last) => Some(last.number),
+            None => None,
+        };
+        Mark {
+            place,
+            seen: self.seen,
+        }
+    }
+
+    /// The entry that its next one follows.
+    pub(crate) fn past(&self) -> Past
+        ensures own { past_own result ≡ self.now.own }
+        ensures place { place_of result ≡ self.now.share.place }
+    {
+        match &self.last {
+            Some(last) => Past::After(
+                last.number,
+                Snapshot::of(self.table.get(last.number as usize, &last.tokens)),
+            ),
+            None => Past::Opening,
+        }
+    }
+}

@@ -1,0 +1,131 @@
+//! An exchange and its processes at the start.
+ghost use Rattle.std.specs.Prelude.{◌≡◌, ℕ, ◌<◌, ◌≤◌, [], replicate, length, slice_get, Some, IfOk, IfErr};
+ghost use Rattle.vlink.specs.declared.time.TheConstants.{GREATEST_NS};
+ghost use Rattle.reverse.specs.Rules.{rules_of};
+ghost use Rattle.reverse.specs.Setting.{Opens, IsLaidOut};
+ghost use Rattle.journal.specs.Names.{names};
+ghost use Rattle.journal.specs.declared.fault.PoolFault.TheVariants.{OutOfMemory};
+ghost use Rattle.exchange.specs.Views.{blank, opened_share};
+
+use crate::exchange::Exchange;
+use crate::held::Held;
+use crate::mark::Mark;
+use crate::run_of::ActorRun;
+use antimessages::{Mail, plus_letters};
+use gvt::Floors;
+use journal::{Block, Entries, PoolFault};
+use process_queues::Process;
+use reverse::{Actor, Outbound, actor_laws};
+use std::alloc::Global;
+use std::marker::PhantomData;
+use vlink::{Message, Time};
+
+impl<'a, R: Actor + Drop, J: ActorRun<R>> Exchange<'a, R, J> {
+    /// An exchange with no entry, and a process in hand for each actor, in order: each actor is in its opening state, the offers are in the
+    /// mail, every floor is the moment after the end, and GVT is 0. The journal can have `limit` steps. It is refused for memory alone.
+    pub fn open(
+        alloc: Global,
+        actors: Vec<R>,
+        offers: &[Message],
+        until: Time,
+        table: &'a Entries,
+        limit: u64,
+    ) -> Result<(Exchange<'a, R, J>, Vec<Held<'a, R, J>>), PoolFault>
+        requires opens { Opens J.setting actors.items offers.now }
+        requires until { until ≡ J.setting.until }
+        requires end { until < GREATEST_NS }
+        requires layout { IsLaidOut (rules_of R.plain R.counter) R.number R.end R.is_placed J.setting }
+        requires table { names table.now.pages.items ≡ J.pages }
+        requires few { J.setting.processes ≤ 4096 }
+        requires some { 1 ≤ limit }
+        requires most { limit ≤ 67108864 }
+        ensures exchange { IfOk result (λ r. r.0 ≡ record { entries = []; books = replicate J.setting.processes blank; limit = limit }) }
+        ensures count { IfOk result (λ r. length r.1.items ≡ J.setting.processes) }
+        ensures helds { IfOk result (λ r. (p : ℕ) → p < J.setting.processes → slice_get r.1.items p ≡ Some (opened_share J.setting.opening p)) }
+        ensures memory { IfErr result (λ fault. fault ≡ OutOfMemory) }
+    {
+        actor_laws::<R>();
+        let count = actors.len() as u16;
+        let letters = plus_letters(alloc, offers)?;
+        let mail = Mail::with_letters(alloc, count, &letters)?;
+        let floors = Floors::new(alloc, count, until)?;
+        let blank = Mark {
+            place: None,
+            seen: Time::default(),
+        };
+        let books = vec![in alloc; blank; actors.len()]?;
+        let helds = helds_of(alloc, actors, until, table)?;
+        let exchange = Exchange {
+            table,
+            mail,
+            floors,
+            gvt: Time::default(),
+            journal: Vec::new(alloc),
+            steps: 0,
+            books,
+            limit,
+            of: PhantomData,
+        };
+        Ok((exchange, helds))
+    }
+}
+
+/// A process in hand for each actor, in order.
+fn helds_of<'a, R: Actor + Drop, J: ActorRun<R>>(
+    alloc: Global,
+    actors: Vec<R>,
+    until: Time,
+    table: &'a Entries,
+) -> Result<Vec<Held<'a, R, J>>, PoolFault>
+    requires count { length actors.items ≡ J.setting.processes }
+    requires each { (p : ℕ) → p < J.setting.processes → slice_get actors.items p ≡ Some (J.setting.opening p) }
+    requires layout { IsLaidOut (rules_of R.plain R.counter) R.number R.end R.is_placed J.setting }
+    requires table { names table.now.pages.items ≡ J.pages }
+    requires few { J.setting.processes ≤ 4096 }
+    ensures count { IfOk result (λ helds. length helds.items ≡ J.setting.processes) }
+    ensures each { IfOk result (λ helds. (p : ℕ) → p < J.setting.processes → slice_get helds.items p ≡ Some (opened_share J.setting.opening p)) }
+    ensures memory { IfErr result (λ fault. fault ≡ OutOfMemory) }
+{
+    let mut helds = Vec::with_capacity(alloc, actors.len())?;
+    for actor in actors {
+        let number = helds.len() as u16;
+        let held = Held::open(alloc, number, actor, until, table)?;
+        helds.push_reserved(held);
+    }
+    Ok(helds)
+}
+
+impl<'a, R: Actor, J: ActorRun<R>> Held<'a, R, J> {
+    /// The process with this number, which has done nothing.
+    fn open(
+        alloc: Global,
+        number: u16,
+        actor: R,
+        until: Time,
+        table: &'a Entries,
+    ) -> Result<Self, PoolFault>
+        requires within { number < J.setting.processes }
+        requires actor { actor ≡ J.setting.opening number }
+        requires layout { IsLaidOut (rules_of R.plain R.counter) R.number R.end R.is_placed J.setting }
+        requires table { names table.now.pages.items ≡ J.pages }
+        ensures opened { IfOk result (λ held. held ≡ opened_share J.setting.opening number) }
+        ensures memory { IfErr result (λ fault. fault ≡ OutOfMemory) }
+    {
+        actor_laws::<R>();
+        match Process::new(alloc, actor) {
+            Ok(process) => Ok(Held {
+                table,
+                process,
+                number,
+                runs: 0,
+                block: Block::new(),
+                last: None,
+                seen: Time::default(),
+                out: Outbound::new(number, until, 0),
+                alloc,
+                of: PhantomData,
+            }),
+            Err(_fault) => Err(PoolFault::OutOfMemory),
+        }
+    }
+}

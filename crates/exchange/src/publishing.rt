@@ -1,0 +1,51 @@
+//! GVT is set.
+ghost use Rattle.std.specs.Prelude.{◌≡◌, ◌<◌, ◌≤◌, ◌⊎◌, ℕ, length, IfOk, IfErr, OnErr, Err};
+ghost use Rattle.virtual_time.specs.Journal.{steps};
+ghost use Rattle.reverse.specs.Rules.{rules_of};
+ghost use Rattle.reverse.specs.Setting.{simulation_of};
+ghost use Rattle.journal.specs.declared.fault.PoolFault.TheVariants.{OutOfMemory, JournalFull, Torn};
+ghost use Rattle.exchange.specs.Effects.{Publishes};
+
+use crate::exchange::Exchange;
+use crate::run_of::ActorRun;
+use gvt::{gvt_law, horizon};
+use journal::{Deed, Entry, Past, PoolFault};
+use reverse::{Actor, actor_laws};
+use vlink::{Note, Time};
+
+/// Sets GVT to the least of all floors and of the times of all letters in the mail, with an entry in the journal; where that is the GVT of
+/// before, there is no entry. The answer is GVT, in ns.
+///
+/// Any refusal leaves the exchange as it was. `JournalFull`: the steps would pass the limit, which is looked at before any growth. `Torn`:
+/// the entry's cell was set already.
+pub fn publish<'a, R: Actor, J: ActorRun<R>>(
+    exchange: &mut Exchange<'a, R, J>,
+) -> Result<Time, PoolFault>
+    ensures ok { IfOk result (λ gvt. Publishes (simulation_of (rules_of R.plain R.counter) J.setting) exchange.old exchange.new gvt) }
+    ensures unchanged { OnErr result (exchange.new ≡ exchange.old) }
+    ensures full { result ≡ Err JournalFull → exchange.old.limit ≤ length (steps exchange.old.entries) }
+    ensures faults { IfErr result (λ fault. (fault ≡ OutOfMemory) ⊎ ((fault ≡ JournalFull) ⊎ (fault ≡ Torn))) }
+{
+    actor_laws::<R>();
+    gvt_law::<R, R::Record, Note>();
+    let gvt = horizon(&exchange.floors, &exchange.mail);
+    if gvt == exchange.gvt {
+        return Ok(gvt);
+    }
+    if exchange.steps >= exchange.limit {
+        return Err(PoolFault::JournalFull);
+    }
+    let entry = Entry {
+        past: Past::Opening,
+        deed: Deed::Publish,
+        process: 0,
+    };
+    match exchange.table.write(&mut exchange.journal, entry) {
+        Ok(_tokens) => {
+            exchange.gvt = gvt;
+            exchange.steps += 1;
+            Ok(gvt)
+        }
+        Err((fault, _entry)) => Err(fault),
+    }
+}

@@ -1,0 +1,142 @@
+//! The steps of the journal, one by one and as a list.
+ghost use Rattle.std.specs.Prelude.{◌≡◌, ◌<◌, ◌≤◌, Some, map, ◌++◌, length, slice_get, OnOk, IfOk, IfErr};
+ghost use Rattle.std.specs.Option.{option_map};
+ghost use Rattle.vlink.specs.declared.message.Message.{Message};
+ghost use Rattle.virtual_time.specs.Journal.{steps, steps_of, step_by};
+ghost use Rattle.antimessages.specs.Steps.{step_of};
+ghost use Rattle.journal.specs.Deeds.{seen_deed, seen_entry};
+ghost use Rattle.journal.specs.Moves.{seen_move};
+ghost use Rattle.journal.specs.declared.fault.PoolFault.TheVariants.{OutOfMemory};
+ghost use Rattle.exchange.specs.Keeps.{IsCounted};
+
+use crate::exchange::Exchange;
+use crate::run_of::ActorRun;
+use journal::{Deed, Entry, Moved, PoolFault};
+use reverse::Actor;
+use std::alloc::{AllocError, Global};
+use vlink::Step;
+
+impl<'a, R: Actor, J: ActorRun<R>> Exchange<'a, R, J> {
+    /// How many steps the journal has.
+    pub fn steps(&self) -> u64
+        ensures { result ≡ length (steps self.now.entries) }
+    {
+        self.steps
+    }
+
+    /// The step number `place`, from 0, of the journal. None: there are no more. Its time goes by the number of entries: all steps are listed
+    /// by `step_list`.
+    pub fn step_at(&self, place: u64) -> Option<Step>
+        ensures { option_map step_of result ≡ slice_get (steps self.now.entries) place }
+    {
+        let mut left = place;
+        for at in 0..self.entry_count() {
+            let entry = self.entry_at(at);
+            let count = count_of(entry);
+            if left < count {
+                return step_in(entry, left);
+            }
+            left -= count;
+        }
+        None
+    }
+
+    /// All steps of the journal, in order. It is refused for memory alone.
+    pub fn step_list(&self, alloc: Global) -> Result<Vec<Step>, PoolFault>
+        ensures list { IfOk result (λ list. map step_of list.items ≡ steps self.now.entries) }
+        ensures memory { IfErr result (λ fault. fault ≡ OutOfMemory) }
+    {
+        let mut list = Vec::with_capacity(alloc, self.steps() as usize)?;
+        for at in 0..self.entry_count() {
+            add_steps(&mut list, self.entry_at(at))?;
+        }
+        Ok(list)
+    }
+
+    /// How many entries the journal has.
+    fn entry_count(&self) -> usize
+        ensures { result ≡ length self.now.entries }
+    {
+        self.journal.len()
+    }
+
+    /// The entry at this place of the journal, from 0.
+    fn entry_at(&self, at: usize) -> &Entry
+        requires { at < length self.now.entries }
+        ensures told { slice_get self.now.entries at ≡ Some (seen_entry result.now) }
+        ensures counted { IsCounted result.now }
+        ensures few { length (steps_of {M = Message} result.now.process (seen_deed result.now.process result.now.deed)) ≤ 67108864 }
+    {
+        let tokens = &self.journal[at];
+        self.table.get(at, tokens)
+    }
+}
+
+/// The steps for which an entry stands join the list, in order.
+fn add_steps(list: &mut Vec<Step>, entry: &Entry) -> Result<(), AllocError>
+    requires counted { IsCounted entry.now }
+    requires few { length (steps_of {M = Message} entry.now.process (seen_deed entry.now.process entry.now.deed)) ≤ 67108864 }
+    ensures { OnOk result (map step_of list.new.items ≡ map step_of list.old.items ++ steps_of {M = Message} entry.now.process (seen_deed entry.now.process entry.now.deed)) }
+{
+    for at in 0..count_of(entry) {
+        if let Some(step) = step_in(entry, at) {
+            list.push(step)?;
+        }
+    }
+    Ok(())
+}
+
+/// For how many steps an entry stands.
+fn count_of(entry: &Entry) -> u64
+    requires counted { IsCounted entry.now }
+    requires few { length (steps_of {M = Message} entry.now.process (seen_deed entry.now.process entry.now.deed)) ≤ 67108864 }
+    ensures { result ≡ length (steps_of {M = Message} entry.now.process (seen_deed entry.now.process entry.now.deed)) }
+{
+    match &entry.deed {
+        Deed::Collect(count, _mail) => u64::from(*count),
+        Deed::Post(block) => block.len() as u64 + 1,
+        Deed::Publish => 1,
+    }
+}
+
+/// The step number `at`, from 0, of those for which an entry stands. None: there are no more.
+fn step_in(entry: &Entry, at: u64) -> Option<Step>
+    requires { IsCounted entry.now }
+    ensures { option_map step_of result ≡ slice_get (steps_of {M = Message} entry.now.process (seen_deed entry.now.process entry.now.deed)) at }
+{
+    let process = u32::from(entry.process);
+    match &entry.deed {
+        Deed::Collect(count, _mail) => {
+            if at < u64::from(*count) {
+                Some(Step::Take { process, place: 0 })
+            } else {
+                None
+            }
+        }
+        Deed::Post(block) => {
+            let moves = block.len() as u64;
+            if at == moves {
+                return Some(Step::Post { process });
+            }
+            if at > moves {
+                return None;
+            }
+            match block.get(at as usize) {
+                Some(moved) => Some(step_of_move(process, moved)),
+                None => None,
+            }
+        }
+        Deed::Publish => { if at == 0 { Some(Step::Gvt) } else { None } }
+    }
+}
+
+/// The step of a process that it does alone.
+fn step_of_move(process: u32, moved: Moved) -> Step
+    ensures { step_of result ≡ step_by process (seen_move moved) }
+{
+    match moved {
+        Moved::Arrived => Step::Arrive { process },
+        Moved::Ran => Step::Run { process },
+        Moved::Sealed => Step::Commit { process },
+    }
+}

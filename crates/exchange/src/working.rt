@@ -1,0 +1,183 @@
+//! What a process does alone.
+ghost use Rattle.std.specs.Prelude.{◌≡◌, ◌<◌, ◌≤◌, ◌+◌, ◌⊎◌, ◌↔◌, ℕ, true, false, [], ◌∷◌, length, replicate, OnOk, IfOk, OnErr, IfErr, Err, Some, IsSome, IsTrue};
+ghost use Rattle.vlink.specs.declared.message.Message.{Message};
+ghost use Rattle.vlink.specs.Numbering.{greatest_number};
+ghost use Rattle.virtual_time.specs.Lists.{earlier};
+ghost use Rattle.virtual_time.specs.Part.{next_of};
+ghost use Rattle.virtual_time.specs.Journal.{Arrived, Ran, Sealed};
+ghost use Rattle.reverse.specs.Rules.{rules_of};
+ghost use Rattle.reverse.specs.Setting.{simulation_of};
+ghost use Rattle.journal.specs.declared.fault.PoolFault.TheVariants.{OutOfMemory, Exhausted};
+ghost use Rattle.exchange.specs.Effects.{Works, WorksSome, RanEarly, IsIdleBefore, moved_by};
+
+use crate::fault::pool_fault;
+use crate::gate::Gate;
+use crate::held::Held;
+use crate::run_of::ActorRun;
+use fossil::commit_oldest;
+use journal::{Moved, PoolFault};
+use reverse::{Actor, actor_laws};
+use vlink::Time;
+
+/// All letters of the tray arrive; then messages that are earlier than the GVT seen and `window`, in ns, are handled, `turn` at most, as long
+/// as there are any; then all done events below the GVT seen are committed. Each step joins the block. The answer is how many did. The gate
+/// is told of each message that is handled.
+///
+/// After a refusal the block holds just the steps that were done. `Exhausted`: the actor whose next message is to be handled has too few
+/// numbers left.
+pub fn work<'a, R: Actor, J: ActorRun<R>, G: Gate>(
+    held: &mut Held<'a, R, J>,
+    turn: u32,
+    window: u64,
+    gate: &G,
+) -> Result<u64, PoolFault>
+    ensures ok { IfOk result (λ count. Works (simulation_of (rules_of R.plain R.counter) J.setting) turn window held.old held.new count) }
+    ensures some { OnErr result (WorksSome (simulation_of (rules_of R.plain R.counter) J.setting) held.old held.new) }
+    ensures exhausted { result ≡ Err Exhausted → IsSome (next_of (rules_of R.plain R.counter) held.new.part)
+        × (greatest_number < R.counter held.new.part.state + 24) }
+    ensures faults { IfErr result (λ fault. (fault ≡ OutOfMemory) ⊎ (fault ≡ Exhausted)) }
+{
+    let before = held.pending();
+    held.arrive_all()?;
+    held.run_early(turn, window, gate)?;
+    held.commit_all()?;
+    Ok(held.pending() - before)
+}
+
+impl<'a, R: Actor, J: ActorRun<R>> Held<'a, R, J> {
+    /// All letters of the tray arrive.
+    fn arrive_all(&mut self) -> Result<(), PoolFault>
+        ensures arrived { OnOk result (self.new ≡ moved_by (simulation_of (rules_of R.plain R.counter) J.setting) (replicate (length self.old.part.tray) Arrived) self.old) }
+        ensures some { OnErr result ((arrivals : ℕ) × (self.new ≡ moved_by (simulation_of (rules_of R.plain R.counter) J.setting) (replicate arrivals Arrived) self.old)) }
+        ensures memory { IfErr result (λ fault. fault ≡ OutOfMemory) }
+    {
+        let letters = self.tray_len();
+        for arrived in 0..letters {
+            self.arrive()?;
+        }
+        Ok(())
+    }
+
+    /// How many letters its tray has.
+    fn tray_len(&self) -> usize
+        ensures { result ≡ length self.now.part.tray }
+    {
+        self.process.tray_len()
+    }
+
+    /// The front letter of the tray, which there is, arrives.
+    fn arrive(&mut self) -> Result<(), PoolFault>
+        requires { 0 < length self.old.part.tray }
+        ensures arrived { OnOk result (self.new ≡ moved_by (simulation_of (rules_of R.plain R.counter) J.setting) (Arrived ∷ []) self.old) }
+        ensures tray { OnOk result (length self.new.part.tray + 1 ≡ length self.old.part.tray) }
+        ensures unchanged { OnErr result (self.new ≡ self.old) }
+        ensures memory { IfErr result (λ fault. fault ≡ OutOfMemory) }
+    {
+        actor_laws::<R>();
+        self.block.push(self.alloc, Moved::Arrived)?;
+        match self.process.arrive() {
+            Ok(_undone) => Ok(()),
+            Err(_fault) => {
+                self.block.pop();
+                Err(PoolFault::OutOfMemory)
+            }
+        }
+    }
+
+    /// Messages that are earlier than the GVT seen and `window`, in ns, are handled, `turn` at most, as long as there are any.
+    fn run_early<G: Gate>(&mut self, turn: u32, window: u64, gate: &G) -> Result<(), PoolFault>
+        ensures ran { OnOk result ((runs : ℕ) × (self.new ≡ moved_by (simulation_of (rules_of R.plain R.counter) J.setting) (replicate runs Ran) self.old)
+            × (runs ≤ turn)
+            × RanEarly (simulation_of (rules_of R.plain R.counter) J.setting) (self.old.share.seen + window) runs self.old.part
+            × ((runs ≡ turn) ⊎ IsIdleBefore (simulation_of (rules_of R.plain R.counter) J.setting) (self.old.share.seen + window) self.new.part)) }
+        ensures some { OnErr result ((runs : ℕ) × (self.new ≡ moved_by (simulation_of (rules_of R.plain R.counter) J.setting) (replicate runs Ran) self.old)) }
+        ensures exhausted { result ≡ Err Exhausted → IsSome (next_of (rules_of R.plain R.counter) self.new.part)
+            × (greatest_number < R.counter self.new.part.state + 24) }
+        ensures faults { IfErr result (λ fault. (fault ≡ OutOfMemory) ⊎ (fault ≡ Exhausted)) }
+    {
+        for run in 0..turn {
+            if !self.run_next(window, gate)? {
+                return Ok(());
+            }
+        }
+        Ok(())
+    }
+
+    /// The next message is handled, if there is one that is earlier than the GVT seen and `window`, in ns. The answer is whether there was.
+    fn run_next<G: Gate>(&mut self, window: u64, gate: &G) -> Result<bool, PoolFault>
+        ensures ran { IfOk result (λ ran. ran ≡ true → self.new ≡ moved_by (simulation_of (rules_of R.plain R.counter) J.setting) (Ran ∷ []) self.old) }
+        ensures early { IfOk result (λ ran. ran ≡ true → (m : Message) × (next_of (rules_of R.plain R.counter) self.old.part ≡ Some m) × (m.time < self.old.share.seen + window)) }
+        ensures idle { IfOk result (λ ran. ran ≡ false → IsIdleBefore (simulation_of (rules_of R.plain R.counter) J.setting) (self.old.share.seen + window) self.old.part) }
+        ensures stays { IfOk result (λ ran. ran ≡ false → self.new ≡ self.old) }
+        ensures unchanged { OnErr result (self.new ≡ self.old) }
+        ensures exhausted { result ≡ Err Exhausted → IsSome (next_of (rules_of R.plain R.counter) self.old.part)
+            × (greatest_number < R.counter self.old.part.state + 24) }
+        ensures faults { IfErr result (λ fault. (fault ≡ OutOfMemory) ⊎ (fault ≡ Exhausted)) }
+    {
+        actor_laws::<R>();
+        let Some(message) = self.process.next() else {
+            return Ok(false);
+        };
+        if !is_within(message.time, self.seen, window) {
+            return Ok(false);
+        }
+        self.block.push(self.alloc, Moved::Ran)?;
+        gate.before(self.number, self.runs);
+        match self.process.run_with(&mut self.out) {
+            Ok(_message) => {
+                gate.after(self.number, self.runs);
+                self.runs = self.runs.saturating_add(1);
+                Ok(true)
+            }
+            Err(fault) => {
+                self.block.pop();
+                Err(pool_fault(fault))
+            }
+        }
+    }
+
+    /// All done events that are earlier than the GVT seen are committed.
+    fn commit_all(&mut self) -> Result<(), PoolFault>
+        ensures committed { OnOk result ((commits : ℕ) × (self.new ≡ moved_by (simulation_of (rules_of R.plain R.counter) J.setting) (replicate commits Sealed) self.old)
+            × (earlier (rules_of R.plain R.counter) self.old.share.seen self.new.part.done ≡ [])) }
+        ensures some { OnErr result ((commits : ℕ) × (self.new ≡ moved_by (simulation_of (rules_of R.plain R.counter) J.setting) (replicate commits Sealed) self.old)) }
+        ensures memory { IfErr result (λ fault. fault ≡ OutOfMemory) }
+    {
+        loop {
+            if !self.commit_one()? {
+                return Ok(());
+            }
+        }
+    }
+
+    /// The oldest done event is committed, if it is earlier than the GVT seen. The answer is whether it was.
+    fn commit_one(&mut self) -> Result<bool, PoolFault>
+        ensures committed { IfOk result (λ done. done ≡ true → self.new ≡ moved_by (simulation_of (rules_of R.plain R.counter) J.setting) (Sealed ∷ []) self.old) }
+        ensures fewer { IfOk result (λ done. done ≡ true → length self.new.part.done < length self.old.part.done) }
+        ensures none { IfOk result (λ done. done ≡ false → earlier (rules_of R.plain R.counter) self.old.share.seen self.old.part.done ≡ []) }
+        ensures stays { IfOk result (λ done. done ≡ false → self.new ≡ self.old) }
+        ensures unchanged { OnErr result (self.new ≡ self.old) }
+        ensures memory { IfErr result (λ fault. fault ≡ OutOfMemory) }
+    {
+        actor_laws::<R>();
+        self.block.push(self.alloc, Moved::Sealed)?;
+        match commit_oldest(&mut self.process, self.seen) {
+            Ok(true) => Ok(true),
+            Ok(false) => {
+                self.block.pop();
+                Ok(false)
+            }
+            Err(_fault) => {
+                self.block.pop();
+                Err(PoolFault::OutOfMemory)
+            }
+        }
+    }
+}
+
+/// Whether the moment is earlier than another one and `window`, in ns.
+fn is_within(moment: Time, from: Time, window: u64) -> bool
+    ensures { IsTrue result ↔ (moment < from + window) }
+{
+    moment < from || moment.ns() - from.ns() < window
+}
