@@ -1,3 +1,4 @@
 pub mod NetworkLemmas
 pub mod StatesLemmas
 pub mod RowLemmas
+pub mod CommittedRows

@@ -1,4 +1,3 @@
-pub mod CommittedRows
 pub mod Counts
 pub mod Beginnings
 pub mod NetworkWorlds

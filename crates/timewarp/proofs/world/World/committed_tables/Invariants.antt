@@ -4,7 +4,7 @@ use Rattle.virtual_time.specs.World.{Step}
 use Rattle.nodes.specs.rules.Simulation.{simulation_of}
 use Rattle.trace_tables.specs.SoFar.{IsSoFar}
 use Rattle.timewarp.specs.Networks.{after, IsAfter}
-use Rattle.timewarp.proofs.CommittedRows.{AreRowsBelow}
+use Rattle.seqsim.proofs.CommittedRows.{AreRowsBelow}
 use Rattle.timewarp.proofs.world.World.committed_tables.Given as goal
 
 abbrev pub invariant-loop-process : goal.invariant-loop-process
