@@ -1,19 +1,21 @@
 -- The status of words, by the kind of clap's error.
 use Rattle.std.proofs.Common.{◌≡◌, ◌∙◌, ◌⊎◌, ℕ, inl, inr, List, [], ◌∷◌, arith, sym, ap, subst}
-use Rattle.std.specs.Prelude.{◌≢◌, Some, codes, map}
-use Rattle.std.specs.List.{slice_get}
-use Rattle.std.proofs.lemmas.Option.{none-some}
+use Rattle.std.specs.Prelude.{◌≢◌, Some, codes}
 use Rattle.clap.specs.declared.error.kind.ErrorKind.{ErrorKind}
 use Rattle.clap.specs.declared.error.kind.ErrorKind.TheVariants.{OutOfMemory}
 use Rattle.clap.specs.Words.{IsAmong, Kinds, Text}
 use Rattle.afdxsim.specs.Words.{AsksFor, AsksForText}
-use Rattle.afdxsim.specs.Performing.{AnswersWords, HasMistake, IsFirst, found_in}
-use Rattle.afdxsim.proofs.Asking.{among-asks}
+use Rattle.afdxsim.specs.Performing.{AnswersWords, HasMistake, found_in}
 
 among-mistakes : (kind : ErrorKind) (kinds : Kinds) → IsAmong kind kinds → ¬ (AsksFor kind) → HasMistake kinds
 among-mistakes kind [] among is = among
 among-mistakes kind (k ∷ ks) (inl same) is = inl (subst (λ x. ¬ (AsksFor x)) same is)
 among-mistakes kind (k ∷ ks) (inr later) is = inr (among-mistakes kind ks later is)
+
+among-asks : (kind : ErrorKind) (kinds : Kinds) → IsAmong kind kinds → AsksFor kind → AsksForText kinds
+among-asks kind [] among asks = among
+among-asks kind (k ∷ ks) (inl same) asks = inl (subst AsksFor same asks)
+among-asks kind (k ∷ ks) (inr later) asks = inr (among-asks kind ks later asks)
 
 -- the answer to an error
 pub answered : (words : List Text) (kind : ErrorKind) (status : ℕ) → (kind ≡ OutOfMemory) ⊎ IsAmong kind (found_in words) →
@@ -50,9 +52,3 @@ answered words kind status has known memory only_done only_shown only_mistake =
         ]
       ];
     }
-
--- the first of the words, as a read of it gives it
-pub first_word : {W : Type 0} (text : W → Text) (words : List W) (word : W) → Some word ≡ slice_get words 0 → text word ≡ codes "first" →
-    IsFirst (map text words)
-first_word text [] word is same = none-some word (sym is)
-first_word text (w ∷ ws) word is same = let it : w ≡ word = cc in ap text it ∙ same

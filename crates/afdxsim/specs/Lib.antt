@@ -1,5 +1,3 @@
-pub mod Source
-pub mod SourceSending
 pub mod Words
 pub mod Telling
 pub mod Ending

@@ -12,11 +12,6 @@ use Rattle.afdxsim.specs.Reading.{GivesNetwork, IsFaultOfNet}
 use Rattle.afdxsim.specs.Sequencing.{IsFaultOfSeq, IsTablesText}
 use Rattle.afdxsim.specs.Words.{AsksFor, AsksForText}
 
--- the first of the words is `first`, which is a command of its own
-abbrev pub IsFirst : List Text → Type 0
-IsFirst [] = ⊥
-IsFirst (word ∷ words) = word ≡ codes "first"
-
 -- among these kinds is a mistake in the words
 abbrev pub HasMistake : Kinds → Type 0
 HasMistake [] = ⊥

@@ -25,7 +25,7 @@ fn tell_memory<H: Host>(alloc: Global, host: &mut H) -> u8
 }
 
 /// Writes a text on standard output.
-pub fn show<H: Host>(alloc: Global, text: &str, host: &mut H) -> u8
+fn show<H: Host>(alloc: Global, text: &str, host: &mut H) -> u8
     ensures status { (result ≡ 0) ⊎ (result ≡ 4) ⊎ (result ≡ 5) }
 {
     match write_all(host.output(), text.as_bytes()) {

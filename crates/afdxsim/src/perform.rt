@@ -3,14 +3,11 @@ ghost use Rattle.std.specs.Prelude.{◌≡◌, [], ℕ, List, true, map, option_
 ghost use Rattle.clap.specs.Words.{first_of};
 ghost use Rattle.command_line.specs.Meaning.{command_in, rows_in};
 ghost use Rattle.afdxsim.specs.Telling.{IsStatus};
-ghost use Rattle.afdxsim.specs.Performing.{AnswersWords, EndsCheck, EndsSeq, IsFirst, found_in};
+ghost use Rattle.afdxsim.specs.Performing.{AnswersWords, EndsCheck, EndsSeq, found_in};
 
-use crate::answering::{answer, show};
-use crate::fault::DONE;
-use crate::first::first;
+use crate::answering::answer;
 use crate::host::Host;
 use crate::obeying::obey;
-use crate::telling::say;
 use command_line::order;
 use std::alloc::Global;
 use std::convert::AsStr;
@@ -22,57 +19,6 @@ use std::convert::AsStr;
 /// What the words ask for goes to standard output and into files. A fault is told by one line on error output, bad words by clap's
 /// text; where error output fails, nothing more is said. A fault ends the program at once, and what was written before it stays.
 pub fn perform<'a, S: AsStr, H: Host>(alloc: Global, words: &'a [S], host: &mut H) -> u8
-    ensures status { IsStatus result }
-    ensures words { ¬ (IsFirst (map S.text words.entry.now)) → AnswersWords (map S.text words.entry.now) result }
-    ensures check { ¬ (IsFirst (map S.text words.entry.now)) → found_in (map S.text words.entry.now) ≡ [] →
-        command_in (map S.text words.entry.now) ≡ Some (codes "check") →
-        (net : List ℕ) → first_of (codes "NET") (rows_in (map S.text words.entry.now)) ≡ Some net →
-        EndsCheck (H.gives host.old net) net
-        H.Output.taken H.Output.failures (H.output host.old) (H.output host.new)
-        H.Errors.taken H.Errors.failures (H.errors host.old) (H.errors host.new) result }
-    ensures seq { ¬ (IsFirst (map S.text words.entry.now)) → found_in (map S.text words.entry.now) ≡ [] →
-        command_in (map S.text words.entry.now) ≡ Some (codes "seq") →
-        (net : List ℕ) → first_of (codes "NET") (rows_in (map S.text words.entry.now)) ≡ Some net →
-        EndsSeq (H.gives host.old net) net (first_of (codes "trace") (rows_in (map S.text words.entry.now)))
-        H.Output.taken H.Output.failures (H.output host.old) (H.output host.new)
-        H.Errors.taken H.Errors.failures (H.errors host.old) (H.errors host.new) result }
-{
-    if is_first(words) {
-        perform_first(alloc, words, host)
-    } else {
-        perform_words(alloc, words, host)
-    }
-}
-
-/// Whether the first of the words is `first`.
-#[tactic(auto, using(crate::proofs::Statuses::first_word))]
-fn is_first<S: AsStr>(words: &[S]) -> bool
-    ensures { result ≡ true → IsFirst (map S.text words.now) }
-{
-    match words.first() {
-        Some(word) => match word.as_str() {
-            "first" => true,
-            _ => false,
-        },
-        None => false,
-    }
-}
-
-/// `first OFFERED`: what it tells goes to standard output, and what it refuses to error output.
-fn perform_first<'a, S: AsStr, H: Host>(alloc: Global, words: &'a [S], host: &mut H) -> u8
-    ensures status { IsStatus result }
-{
-    let mut text = String::new(alloc);
-    let status = first(alloc, words, &mut text);
-    if status == DONE {
-        return show(alloc, text.as_str(), host);
-    }
-    say(text.as_str(), host.errors());
-    status
-}
-
-/// What the words order, or the answer to words that are no order.
-fn perform_words<'a, S: AsStr, H: Host>(alloc: Global, words: &'a [S], host: &mut H) -> u8
     ensures status { IsStatus result }
     ensures words { AnswersWords (map S.text words.entry.now) result }
     ensures check { found_in (map S.text words.entry.now) ≡ [] → command_in (map S.text words.entry.now) ≡ Some (codes "check") →

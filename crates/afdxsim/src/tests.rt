@@ -2,9 +2,10 @@
 mod changes;
 mod descriptions;
 mod devices;
-mod first;
+mod exchanges;
 mod host;
 mod journals;
 mod networks;
+mod stage;
 mod tables;
 mod words;

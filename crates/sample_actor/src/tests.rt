@@ -4,7 +4,6 @@ mod asking;
 mod drawing;
 mod mailing;
 mod player;
-mod pool;
 mod second;
 mod sorted;
 
@@ -59,13 +58,7 @@ send:1:+20 send:0:-30 send:1:-10 take:1:2 take:2:0 take:3:0 take:1:1 take:1:0 ta
 send:1:+20 send:1:-10 send:1:+30 take:1:0 take:1:0 take:1:0 => +20.0 -10.0 +30.0 sum 0 counter 0
 +10 arrive run +20 arrive run +30 arrive run post outbox take:1:0 take:1:0 take:1:0 take:1:0 => 0 10 0 20 0 30 +15.0 +25.1 +35.2 none sum 0 counter 0
 +10 arrive run send:1:+5 post take:1:1 take:1:0 => 0 10 +15.0 +5.0 sum 0 counter 0
-+10 arrive run reserve_post outbox take:1:0 post take:1:0 => 0 10 +15.0 none +15.0 sum 0 counter 0
-A process in hand with a message at 10 ns in its mail works by a counter, a turn and a window: its answer, what the gate was told, and the steps of the journal.
-hand:0:1:1000000000000 => Ok(2) 1/1 4 sum 0 counter 0
-hand:0:0:11 => Ok(1) 0/0 3 sum 0 counter 0
-hand:0:1:10 => Ok(1) 0/0 3 sum 0 counter 0
-hand:0:2:11 => Ok(2) 1/1 4 sum 0 counter 0
-hand:4611686018427387881:1:1000000000000 => Err(Exhausted) 1/0 3 sum 0 counter 0";
++10 arrive run reserve_post outbox take:1:0 post take:1:0 => 0 10 +15.0 none +15.0 sum 0 counter 0";
 
 #[test]
 fn scripts_tell_what_their_lines_say(rt: HostRuntime) -> Result<(), Fail> {

@@ -1,2 +1,2 @@
-pub mod Faults
-pub mod Hands
+-- The run of a network.
+pub mod Runs

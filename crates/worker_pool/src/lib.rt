@@ -1,16 +1,11 @@
-//! Processes that work on their own and exchange letters through a journal of their steps.
-//!
-//! A first form: one process is lent at a time, and no thread or lock stands here yet.
+//! A run of a network by workers, over lent values: no thread and no lock. What a network gives to the exchange of `exchange`, and the names
+//! of both, so that a user has one door.
 #![tactic(auto)]
 
-mod exchange;
-mod fault;
-mod gate;
-mod step;
-mod working;
+mod network_run;
+mod opening;
 
-pub use exchange::{Exchange, Held, collect, post};
-pub use fault::PoolFault;
-pub use gate::{Gate, Open};
-pub use step::Step;
-pub use working::work;
+pub use exchange::{ActorRun, Exchange, Gate, Held, Mark, collect, post, publish, work};
+pub use journal::{Entries, PoolFault};
+pub use network_run::{NetworkRun, Of};
+pub use opening::open_network;

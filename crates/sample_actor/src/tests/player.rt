@@ -5,7 +5,7 @@
 //! Letters are told as `+15.0`, with their number, and messages as `10@2`. The end of the run is the last moment that there is.
 ghost use Rattle.std.specs.Prelude.{◌≡◌};
 
-use super::{asking, mailing, pool};
+use super::{asking, mailing};
 use crate::Summing;
 use antimessages::Mail;
 use gvt::Floors;
@@ -91,7 +91,6 @@ fn act(rt: &impl Abort, alloc: Global, stage: &mut Stage, word: &str) -> Result<
         "set" => mailing::set(rt, &mut stage.floors, rest),
         "lower" => mailing::lower(rt, &mut stage.floors, rest),
         "next" => asking::tell_next(&stage.process, &mut stage.told),
-        "hand" => pool::hand(rt, alloc, rest, &mut stage.told),
         _ if word.starts_with('+') || word.starts_with('-') => {
             deliver(rt, &mut stage.process, word)
         }

@@ -4,7 +4,7 @@ use Rattle.clap.specs.Values.{kind_of}
 use Rattle.command_line.specs.Meaning.{rows_in}
 use Rattle.afdxsim.proofs.Statuses.{answered}
 use Rattle.afdxsim.proofs.Ended.{check_words, seq_words, check_memory, seq_memory}
-use Rattle.afdxsim.proofs.perform.perform_words.Goals as goal
+use Rattle.afdxsim.proofs.perform.perform.Goals as goal
 
 pub returns-in-Ok-clause-check : goal.returns-in-Ok-clause-check
 returns-in-Ok-clause-check g c = λ none named net given.

@@ -1,0 +1,90 @@
+//! What the calls on an exchange of a network and on its processes come to. What is expected was worked out by hand.
+ghost use Rattle.std.specs.Prelude.{◌≡◌};
+ghost use Rattle.journal.specs.Names.{names};
+
+use super::changes::changed;
+use super::stage::{Counted, Stage};
+use netdesc::{Network, read};
+use std::alloc::Global;
+use std::marker::Brand;
+use std::test::Fail;
+use worker_pool::{Entries, NetworkRun, open_network};
+
+/// Behind the network and its changes each row has how many steps the journal can have, and a script; then what its words tell
+/// (`stage.rt` says how). What begins with `other` is done at a second exchange of the same network, over the same table.
+const ROWS: &str = "
+n1 => 3 => collect:0:8 work:0:16:1 post:0 steps pending:0 fits:0 => 1 2 full 1 2 yes
+n1 => 4 => collect:0:8 work:0:16:1 post:0 post:0 steps pending:0 publish => 1 2 ok ok 4 0 full
+n1 => 100 => collect:0:8 other:fits:0 other:collect:0:8 other:steps other:gvt other:mail:0 other:pending:0 other:fits:0 => 1 yes torn 0 0 1 0 yes
+n1 => 100 => collect:0:0 collect:0:8 collect:0:8 mail:0 collect:1:8 fits:7 pending:7 steps step:0 step:1 => 0 1 0 0 0 none none 1 T:0:0 none
+n1 => 100 => collect:0:8 work:0:16:1 post:0 publish collect:0:8 publish => 1 2 ok 5760 1 5760
+n1 => 100 => collect:0:8 work:0:16:1 post:0 publish collect:0:8 work:0:16:960 post:0 steps step:0 step:1 step:2 step:3 step:4 step:5 step:6 step:7 step:8 step:9 => 1 2 ok 5760 1 2 ok 9 T:0:0 A:0 R:0 P:0 G T:0:0 A:0 C:0 P:0 none
+n1 => 100 => collect:0:8 work:0:16:1 post:0 publish collect:0:8 work:0:16:961 pending:0 post:0 steps step:5 step:6 step:7 step:8 step:9 step:10 => 1 2 ok 5760 1 3 3 ok 10 T:0:0 A:0 R:0 C:0 P:0 none
+n1 => 100 => collect:0:8 work:0:0:961 work:0:1:961 work:0:1:961 pending:0 before after post:0 step:1 step:2 step:3 => 1 1 1 0 2 1 1 ok A:0 R:0 P:0
+";
+
+#[test]
+fn an_exchange_does_what_scripts_say(rt: HostRuntime) -> Result<(), Fail> {
+    for row in ROWS.lines() {
+        if !row.is_empty() {
+            assert!(rt; is_told(rt.alloc(), row)?, "{row}");
+        }
+    }
+    Ok(())
+}
+
+// The words of a row tell what it says.
+fn is_told(alloc: Global, row: &str) -> Result<bool, Fail> {
+    let (begin, told) = row.rsplit_once(" => ").ok_or("a row of one part")?;
+    let (begin, script) = begin.rsplit_once(" => ").ok_or("no script")?;
+    let (net, limit) = changed(alloc, begin)?;
+    let limit = limit.parse().map_err(|_| "no limit")?;
+    let network = read(alloc, net.as_str())?;
+    let table = Entries::new(alloc)?;
+    let script = String::from_str(alloc, script)?;
+    let found = played::<Brand, Brand>(alloc, &network, &table, limit, &script)?;
+    Ok(found.as_str() == told)
+}
+
+// What the words of a script tell, at two exchanges over one table.
+fn played<J: NetworkRun, K: NetworkRun>(
+    alloc: Global,
+    network: &Network,
+    table: &Entries,
+    limit: u64,
+    script: &String,
+) -> Result<String, Fail>
+    requires first { network.now ≡ J.plan }
+    requires second { network.now ≡ K.plan }
+    requires first_table { names table.now.pages.items ≡ J.pages }
+    requires second_table { names table.now.pages.items ≡ K.pages }
+{
+    if limit == 0 || limit > 1 << 26 {
+        return Err("no limit")?;
+    }
+    let (exchange, helds) = open_network::<J>(alloc, network, table, limit)?;
+    let gate = Counted::new();
+    let mut first = Stage {
+        exchange,
+        helds,
+        gate,
+    };
+    let (exchange, helds) = open_network::<K>(alloc, network, table, limit)?;
+    let gate = Counted::new();
+    let mut second = Stage {
+        exchange,
+        helds,
+        gate,
+    };
+    let mut told = String::new(alloc);
+    for word in script.as_str().split(' ') {
+        if !told.is_empty() {
+            told.push(' ')?;
+        }
+        match word.strip_prefix("other:") {
+            Some(word) => second.play(word, &mut told)?,
+            None => first.play(word, &mut told)?,
+        }
+    }
+    Ok(told)
+}

@@ -1,0 +1,39 @@
+//! Of which run of a network an exchange and its processes are.
+use exchange::ActorRun;
+use nodes::Node;
+use std::marker::{Brand, PhantomData};
+
+/// A run of a network, known by its type: which network it is of, and which table its entries are written to. It has no bytes, and who
+/// calls at `Brand` picks both.
+pub trait NetworkRun {
+    ghost use Rattle.std.specs.Prelude.{ℕ, List};
+    ghost use Rattle.netdesc.specs.Plan.{Plan};
+
+    /// The network that is simulated.
+    ghost plan: { Plan };
+
+    /// The names of the pages of the table that the entries are written to.
+    ghost pages: { List ℕ };
+}
+
+impl NetworkRun for Brand {
+    ghost use Rattle.std.specs.Prelude.{[]};
+    ghost use Rattle.worker_pool.specs.Runs.{empty_plan};
+
+    ghost plan = { empty_plan };
+
+    ghost pages = { [] };
+}
+
+/// The run of a network, as a run of its nodes and lines.
+pub struct Of<J: NetworkRun> {
+    of: PhantomData<J>,
+}
+
+impl<J: NetworkRun> ActorRun<Node> for Of<J> {
+    ghost use Rattle.seqsim.specs.Networks.{setting_of};
+
+    ghost setting = { setting_of J.plan };
+
+    ghost pages = { J.pages };
+}

@@ -1,0 +1,42 @@
+//! The exchange of a network at the start.
+ghost use Rattle.std.specs.Prelude.{◌≡◌, ℕ, ◌<◌, ◌≤◌, [], replicate, length, slice_get, Some, IfOk, IfErr};
+ghost use Rattle.netdesc.specs.Faults.{process_count};
+ghost use Rattle.nodes.specs.rules.Opening.{opening};
+ghost use Rattle.journal.specs.Names.{names};
+ghost use Rattle.journal.specs.declared.fault.PoolFault.TheVariants.{OutOfMemory};
+ghost use Rattle.exchange.specs.Views.{blank, opened_share};
+
+use crate::network_run::{NetworkRun, Of};
+use exchange::{Exchange, Held};
+use journal::{Entries, PoolFault};
+use netdesc::Network;
+use nodes::Node;
+use seqsim::{network_layout, nodes_of};
+use std::alloc::Global;
+use traffic::offers;
+
+/// The exchange of a network, with no entry in its journal, and each of its nodes and lines in hand, in order, in its opening state: the
+/// offers are in the mail, every floor is the moment after the end, and GVT is 0. The journal can have `limit` steps, and its entries are
+/// written to the table. It is refused for memory alone.
+pub fn open_network<'a, J: NetworkRun>(
+    alloc: Global,
+    network: &Network,
+    table: &'a Entries,
+    limit: u64,
+) -> Result<(Exchange<'a, Node, Of<J>>, Vec<Held<'a, Node, Of<J>>>), PoolFault>
+    requires network { network.now ≡ J.plan }
+    requires table { names table.now.pages.items ≡ J.pages }
+    requires some { 1 ≤ limit }
+    requires most { limit ≤ 67108864 }
+    ensures exchange { IfOk result (λ r. r.0 ≡ record { entries = []; books = replicate (process_count network.now) blank; limit = limit }) }
+    ensures count { IfOk result (λ r. length r.1.items ≡ process_count network.now) }
+    ensures opened { IfOk result (λ r. (p : ℕ) → p < process_count network.now → slice_get r.1.items p ≡ Some (opened_share (opening network.now) p)) }
+    ensures memory { IfErr result (λ fault. fault ≡ OutOfMemory) }
+{
+    network_layout(network);
+    // A network has at most 4,096 processes.
+    let _processes = network.process_count();
+    let offers = offers(alloc, network)?;
+    let nodes = nodes_of(alloc, network)?;
+    Exchange::open(alloc, nodes, &offers, network.until(), table, limit)
+}
