@@ -10,3 +10,5 @@ pub mod PlaceLemmas
 pub mod GatherLemmas
 pub mod LatencyCountLemmas
 pub mod SoFarLemmas
+pub mod SortedLemmas
+pub mod RowOrderLemmas

@@ -8,3 +8,4 @@ pub mod Text
 pub mod Writing
 pub mod SoFar
 pub mod Layout
+pub mod Ordered
