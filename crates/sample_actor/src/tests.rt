@@ -1,14 +1,16 @@
 //! Scripts for the test actor, a line each: its words, and behind the arrow what they tell (`player.rt` says how). A word for which memory is
 //! refused is done again: each line holds with ample memory, and where any one request for memory is refused.
 mod asking;
+mod body;
 mod drawing;
 mod mailing;
 mod player;
+mod refusing;
 mod second;
-mod sorted;
 
-use drawing::{play_drawn, play_on_both};
+use drawing::play_drawn;
 use player::{actor, letter, play};
+use refusing::play_refusals;
 use reverse::act_and_undo;
 use std::test::Fail;
 
@@ -68,7 +70,10 @@ fn scripts_tell_what_their_lines_say(rt: HostRuntime) -> Result<(), Fail> {
             continue;
         };
         assert_eq!(rt; play(&rt, rt.alloc(), script)?.as_str(), told, "{script}");
-        play_on_both(&rt, rt.alloc(), script)?;
+    }
+    let refusals = play_refusals(&rt, rt.alloc())?;
+    if refusals != 0 {
+        eprintln!(rt; "{refusals} arrivals were refused memory")?;
     }
     Ok(())
 }

@@ -1,14 +1,13 @@
-//! Scripts that are drawn, and those with a line: what a process answers is compared with what the second one does.
-use super::player::{actor, letter, moment};
-use super::second::Second;
-use crate::Summing;
-use process_queues::Process;
+//! Scripts that are drawn: what a process answers is compared with what the second one does.
+use super::asking::seen;
+use super::body::Body;
+use super::player::{actor, moment};
 use rand_core::utils::NextWord;
 use rand_pcg::Lcg64Xsh32;
 use std::alloc::Global;
 use std::process::Abort;
 use std::test::Fail;
-use vlink::{Letter, Message, Sign};
+use vlink::{Letter, Message, Sign, Time};
 
 // How many calls a script has.
 const CALLS: u32 = 32;
@@ -23,56 +22,26 @@ pub(crate) fn play_drawn(rt: &impl Abort, alloc: Global, scripts: u32) -> Result
 }
 
 fn play_once(rt: &impl Abort, alloc: Global, words: &mut Lcg64Xsh32) -> Result<(), Fail> {
-    let mut first = Process::new(alloc, actor(rt, 0))?;
-    let mut second = Second::new(alloc, actor(rt, 0));
+    let mut first = Body::over_map(alloc, actor(rt, 0))?;
+    let mut second = Body::over_list(alloc, actor(rt, 0))?;
     for call in 0..CALLS {
         call_both(rt, words, &mut first, &mut second)?;
         look_at_both(rt, words, &first, &second);
     }
     assert!(rt; first.outbox() == second.outbox());
-    assert!(rt; first.undo_all() == second.undo_all());
+    assert!(rt; first.undo_all(rt) == second.undo_all(rt));
     Ok(())
 }
 
-// Plays the words of a script that a process alone answers on two processes, which answer alike. Words about mail, floors, room and commits
-// are passed over.
-pub(crate) fn play_on_both(rt: &impl Abort, alloc: Global, script: &str) -> Result<(), Fail> {
-    let mut first = Process::new(alloc, actor(rt, 0))?;
-    let mut second = Second::new(alloc, actor(rt, 0));
-    for word in script.split_whitespace() {
-        do_on_both(rt, &mut first, &mut second, word)?;
-        see_both(rt, &first, &second);
-    }
-    assert!(rt; first.outbox() == second.outbox());
-    assert!(rt; first.undo_all() == second.undo_all());
-    Ok(())
-}
-
-fn do_on_both(
-    rt: &impl Abort,
-    first: &mut Process<Summing>,
-    second: &mut Second,
-    word: &str,
-) -> Result<(), Fail> {
-    match word {
-        "arrive" => assert!(rt; first.arrive()? == second.arrive()?),
-        "run" => assert!(rt; first.run()? == second.run()?),
-        "seal" => assert!(rt; first.seal_oldest()? == second.seal_oldest()),
-        _ if word.starts_with('+') || word.starts_with('-') => {
-            let letter = letter(rt, word);
-            second.deliver(&letter)?;
-            first.deliver(letter)?;
-        }
-        _ => {}
-    }
-    Ok(())
+// One of the moments 10, 20, 30 and 40 ns.
+fn drawn_moment(rt: &impl Abort, words: &mut Lcg64Xsh32) -> Time {
+    moment(rt, u64::from(words.next_word() % 4) * 10 + 10)
 }
 
 // A letter for one of four moments from one of two senders, three times of four one that brings its message.
 fn drawn_letter(rt: &impl Abort, words: &mut Lcg64Xsh32) -> Letter {
-    let ns = u64::from(words.next_word() % 4) * 10 + 10;
     let message = Message {
-        time: moment(rt, ns),
+        time: drawn_moment(rt, words),
         sender: words.next_word() % 2,
         ..Message::default()
     };
@@ -88,14 +57,15 @@ fn drawn_letter(rt: &impl Abort, words: &mut Lcg64Xsh32) -> Letter {
 fn call_both(
     rt: &impl Abort,
     words: &mut Lcg64Xsh32,
-    first: &mut Process<Summing>,
-    second: &mut Second,
+    first: &mut Body,
+    second: &mut Body,
 ) -> Result<(), Fail> {
-    match words.next_word() % 8 {
-        0 | 1 | 2 => deliver_both(rt, words, first, second)?,
-        3 | 4 => assert!(rt; first.arrive()? == second.arrive()?),
-        5 | 6 => assert!(rt; first.run()? == second.run()?),
-        _ => assert!(rt; first.seal_oldest()? == second.seal_oldest()),
+    match words.next_word() % 16 {
+        0 | 1 | 2 | 3 | 4 | 5 => deliver_both(rt, words, first, second)?,
+        6 | 7 | 8 | 9 => assert!(rt; first.arrive(rt)? == second.arrive(rt)?),
+        10 | 11 | 12 | 13 => assert!(rt; first.run()? == second.run()?),
+        14 => assert!(rt; first.seal_oldest(rt)? == second.seal_oldest(rt)?),
+        _ => commit_both(rt, words, first, second)?,
     }
     Ok(())
 }
@@ -103,31 +73,29 @@ fn call_both(
 fn deliver_both(
     rt: &impl Abort,
     words: &mut Lcg64Xsh32,
-    first: &mut Process<Summing>,
-    second: &mut Second,
+    first: &mut Body,
+    second: &mut Body,
 ) -> Result<(), Fail> {
     let letter = drawn_letter(rt, words);
     second.deliver(&letter)?;
-    first.deliver(letter)?;
+    first.deliver(&letter)?;
+    Ok(())
+}
+
+fn commit_both(
+    rt: &impl Abort,
+    words: &mut Lcg64Xsh32,
+    first: &mut Body,
+    second: &mut Body,
+) -> Result<(), Fail> {
+    let gvt = drawn_moment(rt, words);
+    assert!(rt; first.commit(rt, gvt, 2)? == second.commit(rt, gvt, 2)?);
     Ok(())
 }
 
 // What can be seen of both is alike, and so is the count of a message that is drawn.
-fn look_at_both(
-    rt: &impl Abort,
-    words: &mut Lcg64Xsh32,
-    first: &Process<Summing>,
-    second: &Second,
-) {
+fn look_at_both(rt: &impl Abort, words: &mut Lcg64Xsh32, first: &Body, second: &Body) {
     let message = drawn_letter(rt, words).message;
     assert!(rt; first.count(&message) == second.count(&message));
-    see_both(rt, first, second);
-}
-
-// What can be seen of both is alike.
-fn see_both(rt: &impl Abort, first: &Process<Summing>, second: &Second) {
-    assert!(rt; first.next() == second.next());
-    assert!(rt; first.oldest() == second.oldest());
-    assert!(rt; first.committed() == second.committed());
-    assert!(rt; first.tray_len() == second.tray_len());
+    assert!(rt; seen(first) == seen(second));
 }

@@ -11,24 +11,6 @@ fn process_of(rt: &impl Abort, number: u64) -> u16 {
     u16::try_from(number).expect(rt, "the number of a process")
 }
 
-pub(crate) fn reserve_post(rt: &impl Abort, stage: &mut Stage) -> Result<(), ProcFault> {
-    assert!(rt;
-        stage
-            .process
-            .goes_within(usize::from(stage.mail.processes()))
-    );
-    stage.process.reserve_post(&mut stage.mail)
-}
-
-pub(crate) fn post(rt: &impl Abort, stage: &mut Stage) -> Result<(), ProcFault> {
-    assert!(rt;
-        stage
-            .process
-            .goes_within(usize::from(stage.mail.processes()))
-    );
-    stage.process.post(&mut stage.mail)
-}
-
 // A letter of another process is posted in room made before: its receiver, and how it is written.
 pub(crate) fn send(
     rt: &impl Abort,

@@ -1,74 +1,102 @@
-//! Plays a script on a process of the test actor, and tells what its words answer.
+//! Plays a script on two processes of the test actor, and tells what its words answer.
 //!
 //! A word stands for the call of that name; behind colons stand its numbers, moments in ns. `+10` and `-10@1` deliver a letter for the
 //! moment 10: its sign, and behind an @ its sender, 2 where none is named. An answer is told as a number, 1 where it is yes, or as `none`.
 //! Letters are told as `+15.0`, with their number, and messages as `10@2`. The end of the run is the last moment that there is.
 ghost use Rattle.std.specs.Prelude.{◌≡◌};
 
+use super::body::Body;
 use super::{asking, mailing};
 use crate::Summing;
 use antimessages::Mail;
 use gvt::Floors;
-use process_queues::{ProcFault, Process, process_laws};
+use process_queues::ProcFault;
 use std::alloc::Global;
 use std::fmt::Write;
 use std::process::Abort;
 use std::test::Fail;
 use vlink::{LATEST_NS, Letter, Message, Sign, Time};
 
-// The process that a script acts on, the mail and the floors of three processes, and what was told.
+// What a script acts on, the mail and the floors of three processes, and what was told.
 #[derive(Drop)]
 pub(crate) struct Stage {
-    pub(crate) process: Process<Summing>,
+    pub(crate) body: Body,
     pub(crate) mail: Mail,
     pub(crate) floors: Floors,
     pub(crate) told: String,
 }
 
-// What the words of the script tell, one after another, and the sum and the counter of the actor once all is undone.
+// What the words of the script tell, one after another, and the sum and the counter of the actor once all is undone. A process and the second
+// one tell the same, and after each word the same can be seen of them.
 pub(crate) fn play(rt: &impl Abort, alloc: Global, script: &str) -> Result<String, Fail> {
-    let mut stage = match opened(rt, alloc) {
-        Ok(stage) => stage,
-        Err(_) => opened(rt, alloc)?,
-    };
+    let mut first = opened(rt, alloc, Body::over_map(alloc, actor(rt, 0))?)?;
+    let mut second = opened(rt, alloc, Body::over_list(alloc, actor(rt, 0))?)?;
     for word in script.split_whitespace() {
-        play_word(rt, alloc, &mut stage, word)?;
+        play_word(rt, alloc, &mut first, word)?;
+        play_word(rt, alloc, &mut second, word)?;
+        assert!(rt;
+            asking::seen(&first.body) == asking::seen(&second.body),
+            "{word}"
+        );
+        assert!(rt; first.body.outbox() == second.body.outbox(), "{word}");
     }
-    let Stage {
-        process,
-        mut told,
-        ..
-    } = stage;
-    // These two do nothing: their clauses hold of every process.
-    process_laws::<Summing>();
-    process.stands();
-    let actor = process.undo_all();
-    write!(told, "sum {} counter {}", actor.sum, actor.counter)?;
+    let told = ended(rt, first)?;
+    assert_eq!(rt; ended(rt, second)?, told, "{script}");
     Ok(told)
 }
 
-// Nothing done and nothing told, and room for all that will be told.
-fn opened(rt: &impl Abort, alloc: Global) -> Result<Stage, ProcFault> {
-    let mut told = String::new(alloc);
-    told.reserve(4096)?;
+// The same of one process alone.
+pub(crate) fn play_alone(
+    rt: &impl Abort,
+    alloc: Global,
+    body: Body,
+    script: &str,
+) -> Result<String, Fail> {
+    let mut stage = opened(rt, alloc, body)?;
+    for word in script.split_whitespace() {
+        play_word(rt, alloc, &mut stage, word)?;
+    }
+    ended(rt, stage)
+}
+
+// Nothing done and nothing told, and room for all that will be told. Where memory is refused, it is asked for once more.
+fn opened(rt: &impl Abort, alloc: Global, body: Body) -> Result<Stage, ProcFault> {
+    let (mail, floors, told) = match emptied(rt, alloc) {
+        Ok(empty) => empty,
+        Err(_) => emptied(rt, alloc)?,
+    };
     Ok(Stage {
-        process: Process::new(alloc, actor(rt, 0))?,
-        mail: Mail::new(alloc, 3)?,
-        floors: Floors::new(alloc, 3, moment(rt, LATEST_NS))?,
+        body,
+        mail,
+        floors,
         told,
     })
 }
 
+// Mail and floors of three processes, and an empty text with room.
+fn emptied(rt: &impl Abort, alloc: Global) -> Result<(Mail, Floors, String), ProcFault> {
+    let mut told = String::new(alloc);
+    told.reserve(4096)?;
+    let mail = Mail::new(alloc, 3)?;
+    let floors = Floors::new(alloc, 3, moment(rt, LATEST_NS))?;
+    Ok((mail, floors, told))
+}
+
+// What was told, and the sum and the counter of the actor once all is undone.
+fn ended(rt: &impl Abort, stage: Stage) -> Result<String, Fail> {
+    let Stage { body, mut told, .. } = stage;
+    let actor = body.undo_all(rt);
+    write!(told, "sum {} counter {}", actor.sum, actor.counter)?;
+    Ok(told)
+}
+
 // Does what one word says. A word that is refused leaves the process as it was; where that was for want of memory, it is done again.
 fn play_word(rt: &impl Abort, alloc: Global, stage: &mut Stage, word: &str) -> Result<(), Fail> {
-    let before = asking::seen(&stage.process);
+    let before = asking::seen(&stage.body);
     let Err(fault) = act(rt, alloc, stage, word) else {
         return Ok(());
     };
-    assert!(rt;
-        asking::seen(&stage.process) == before,
-        "{word} was refused"
-    );
+    assert!(rt; asking::seen(&stage.body) == before, "{word} was refused");
     match fault {
         ProcFault::OutOfMemory => act(rt, alloc, stage, word)?,
         ProcFault::Exhausted => stage.told.push_str("exhausted ")?,
@@ -80,19 +108,20 @@ fn play_word(rt: &impl Abort, alloc: Global, stage: &mut Stage, word: &str) -> R
 fn act(rt: &impl Abort, alloc: Global, stage: &mut Stage, word: &str) -> Result<(), ProcFault> {
     let (call, rest) = word.split_once(':').unwrap_or((word, ""));
     match call {
-        "counter" => begin(rt, alloc, &mut stage.process, rest),
-        "reserve_letters" => reserve_letters(rt, &mut stage.process, rest),
-        "reserve_rows" => reserve_rows(rt, &mut stage.process, rest),
-        "outbox" => tell_outbox(&stage.process, &mut stage.told),
-        "reserve_post" => mailing::reserve_post(rt, stage),
-        "post" => mailing::post(rt, stage),
+        "counter" => stage.body.begin(alloc, actor(rt, number(rt, rest))),
+        "reserve_letters" => stage.body.reserve_letters(number(rt, rest) as usize),
+        "reserve_rows" => stage.body.reserve_rows(number(rt, rest) as usize),
+        "outbox" => tell_outbox(&stage.body, &mut stage.told),
+        "reserve_post" => stage.body.reserve_post(rt, &mut stage.mail),
+        "post" => stage.body.post(rt, &mut stage.mail),
         "send" => mailing::send(rt, alloc, &mut stage.mail, rest),
         "take" => mailing::take(rt, stage, rest),
         "set" => mailing::set(rt, &mut stage.floors, rest),
         "lower" => mailing::lower(rt, &mut stage.floors, rest),
-        "next" => asking::tell_next(&stage.process, &mut stage.told),
+        "next" => asking::tell_next(&stage.body, &mut stage.told),
+        "arrive?" => try_arrive(rt, stage),
         _ if word.starts_with('+') || word.starts_with('-') => {
-            deliver(rt, &mut stage.process, word)
+            stage.body.deliver(&letter(rt, word))
         }
         _ => tell_answer(rt, stage, call, rest),
     }
@@ -112,43 +141,20 @@ fn tell_answer(
     Ok(())
 }
 
-// The process begins anew, with this counter.
-fn begin(
-    rt: &impl Abort,
-    alloc: Global,
-    process: &mut Process<Summing>,
-    counter: &str,
-) -> Result<(), ProcFault> {
-    *process = Process::new(alloc, actor(rt, number(rt, counter)))?;
-    Ok(())
+// A letter arrives, or it is told that memory was refused for it, and then all is as it was.
+fn try_arrive(rt: &impl Abort, stage: &mut Stage) -> Result<(), ProcFault> {
+    let before = asking::seen(&stage.body);
+    match tell_answer(rt, stage, "arrive", "") {
+        Err(ProcFault::OutOfMemory) => {
+            assert!(rt; asking::seen(&stage.body) == before);
+            Ok(stage.told.push_str("refused ")?)
+        }
+        answer => answer,
+    }
 }
 
-fn deliver(
-    rt: &impl Abort,
-    process: &mut Process<Summing>,
-    written: &str,
-) -> Result<(), ProcFault> {
-    process.deliver(letter(rt, written))
-}
-
-fn reserve_letters(
-    rt: &impl Abort,
-    process: &mut Process<Summing>,
-    letters: &str,
-) -> Result<(), ProcFault> {
-    process.reserve_letters(number(rt, letters) as usize)
-}
-
-fn reserve_rows(
-    rt: &impl Abort,
-    process: &mut Process<Summing>,
-    events: &str,
-) -> Result<(), ProcFault> {
-    process.reserve_rows(number(rt, events) as usize)
-}
-
-fn tell_outbox(process: &Process<Summing>, told: &mut String) -> Result<(), ProcFault> {
-    for letter in process.outbox() {
+fn tell_outbox(body: &Body, told: &mut String) -> Result<(), ProcFault> {
+    for letter in body.outbox() {
         tell_letter(letter, told)?;
     }
     Ok(())
