@@ -15,7 +15,8 @@ use Rattle.journal_text.specs.Lines.{HasCause}
 use Rattle.trace_tables.specs.Tables.{TableLists, tables_of}
 use Rattle.antimessages.specs.Steps.{step_of}
 use Rattle.timewarp.specs.declared.replaying.Replay.{Replay}
-use Rattle.timewarp.specs.Networks.{NetworkWorld, after, IsAfter, AreCommittedRows}
+use Rattle.seqsim.specs.Committed.{after, AreCommittedRows}
+use Rattle.timewarp.specs.Networks.{NetworkWorld, IsAfter}
 use Rattle.timewarp.specs.Replaying.{did, not_enabled, refused}
 use Rattle.timewarp.specs.Replayed.{IsReplayed}
 use Rattle.afdxsim.specs.declared.account.Account.{Account}

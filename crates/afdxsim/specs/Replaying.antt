@@ -14,7 +14,7 @@ use Rattle.trace_tables.specs.Tables.{TableLists, tables_of}
 use Rattle.seqsim.specs.Networks.{AreRowsOf}
 use Rattle.antimessages.specs.Steps.{step_of}
 use Rattle.timewarp.specs.Worlds.{IsExhausted}
-use Rattle.timewarp.specs.Networks.{after, AreCommittedRows}
+use Rattle.seqsim.specs.Committed.{after, AreCommittedRows}
 use Rattle.timewarp.specs.Replaying.{did, not_enabled, refused}
 use Rattle.afdxsim.specs.declared.account.Account.{Account}
 use Rattle.afdxsim.specs.declared.fault.Fault.{Fault}

@@ -1,12 +1,14 @@
 -- The rows of committed events, process for process, and those of the one-thread run.
-use Rattle.std.proofs.Common.{◌≡◌, ◌∙◌, ℕ, ◌+◌, ◌<◌, ◌≤◌, ◌==◌, inl, inr, Bool, true, false, cond, List, [], ◌∷◌, ◌++◌, map, length, refl, sym, ap, subst, arith, append-nil, eq-eqb, ne_eqb}
+use Rattle.std.proofs.Common.{◌≡◌, ◌∙◌, ℕ, zero, suc, ◌+◌, ◌<◌, ◌≤◌, ◌==◌, inl, inr, List, [], ◌∷◌, ◌++◌, map, length, refl, sym, ap, subst, arith, append-nil, eq-eqb, ne_eqb}
+use Rattle.std.specs.List.{flat_map, range_with_len}
 use Rattle.std.proofs.lemmas.Bool.{cases_eq, cases_lt}
 use Rattle.std.proofs.lemmas.List.{map-append}
 use Rattle.std.proofs.lemmas.List.Elements.{filter-append}
+use Rattle.std.proofs.lemmas.List.Concat.{flat_map-append}
 use Rattle.vlink.specs.declared.message.Message.{Message}
 use Rattle.vlink.specs.declared.note.Note.{Note}
 use Rattle.vlink.specs.declared.note.Row.{Row as Noted}
-use Rattle.virtual_time.specs.Rules.{Row, rowed, rows_of}
+use Rattle.virtual_time.specs.Rules.{rowed, rows_of}
 use Rattle.virtual_time.specs.Lists.{IsIn, times_in}
 use Rattle.virtual_time.specs.Simulation.{Simulation, Laws}
 use Rattle.virtual_time.specs.OneThread.{one, rows_at}
@@ -17,8 +19,8 @@ use Rattle.virtual_time.proofs.OneThread.{right, nothing_outside}
 use Rattle.virtual_time.proofs.Turns.{over-same}
 use Rattle.virtual_time.proofs.Kept.{IsKept, start-kept}
 use Rattle.virtual_time.proofs.KeptRun.{run-kept}
+use Rattle.trace_tables.specs.Counting.{gathered}
 use Rattle.actor_run.specs.Running.{seen_row}
-use Rattle.trace_tables.specs.Counting.{rows_at as noted_at}
 
 left-nothing : {M : Type 0} → (xs ys : List M) → xs ++ ys ≡ [] → xs ≡ []
 left-nothing [] ys e = refl
@@ -61,6 +63,16 @@ module _ {M S K N : Type 0} (f : Simulation M S K N) (L : Laws f) where
       | inl i ↦ (k.sound q i).here m (let a = times-append f.rules L.order m (w.parts q).committed (w.parts q).done in omega arith)
       | inr i ↦ absurd (let a = ap (times_in f.rules m) (none-outside q i) in omega arith)
     ]
+
+range-more : (a n : ℕ) → range_with_len a (suc n) ≡ range_with_len a n ++ (a + n) ∷ []
+range-more a zero = ap (λ k. k ∷ []) (let e : a ≡ a + 0 = omega arith in e)
+range-more a (suc n) = ap (λ ks. a ∷ ks) (range-more (a + 1) n ∙ ap (λ k. range_with_len (a + 1) n ++ k ∷ []) (let e : a + 1 + n ≡ a + suc n = omega arith in e))
+
+-- the rows of one process more come behind those that are gathered
+gathered-more : (n : ℕ) (rows_of : ℕ → List Noted) → gathered (suc n) rows_of ≡ gathered n rows_of ++ rows_of n
+gathered-more n rows_of =
+    ap (flat_map rows_of) (range-more 0 n) ∙ (flat_map-append rows_of (range_with_len 0 n) ((0 + n) ∷ [])
+    ∙ ap (λ rows. gathered n rows_of ++ rows) (append-nil (rows_of (0 + n)) ∙ ap rows_of (let e : 0 + n ≡ n = omega arith in e)))
 
 -- at the first n processes the rows are those of the committed events, and at no other process is a row
 pub record AreRowsBelow {S K : Type 0} (f : Simulation Message S K Note) (w : World Message S) (n : ℕ) (rows : List Noted) : Type 0 where
@@ -109,6 +121,16 @@ module _ {S K : Type 0} (f : Simulation Message S K Note) (L : Laws f) (steps : 
     | inr i ↦ h.above p i ∙ sym (ap (rowed f.rules (f.opening p)) (none-outside f L now kept p i))
   ]
 
+  -- of all, put one process after another
+  pub rows-gathered : (rows_of : ℕ → List Noted) →
+      ((p : ℕ) → p < f.processes → map seen_row (rows_of p) ≡ rowed f.rules (f.opening p) ((run f steps (start f)).parts p).committed) →
+      (n : ℕ) → n ≤ f.processes → AreRowsBelow f (run f steps (start f)) n (gathered n rows_of)
+  rows-gathered rows_of h zero i = rows-none f now
+  rows-gathered rows_of h (suc n) i =
+      let next : n + 1 ≡ suc n = omega arith in
+      subst (AreRowsBelow f now (suc n)) (sym (gathered-more n rows_of)) (subst (λ k. AreRowsBelow f now k (gathered n rows_of ++ rows_of n)) next
+      (rows-more n (gathered n rows_of) (rows_of n) (rows-gathered rows_of h n (omega arith)) (h n (omega arith))))
+
   -- in a finished world the rows of the one-thread run in which nothing waits any more are those of the committed events
   pub rows-whole : IsWhole f (run f steps (start f)) → (rows : List Noted) (n : ℕ) → (one f n).waiting ≡ [] → map seen_row rows ≡ (one f n).rows → (p : ℕ) →
       rows_at f p (map seen_row rows) ≡ rowed f.rules (f.opening p) ((run f steps (start f)).parts p).committed
@@ -123,30 +145,3 @@ module _ {S K : Type 0} (f : Simulation Message S K Note) (L : Laws f) (steps : 
         | inl i ↦ sym (over-same f L n W.turns ended (omega arith))
         | inr i ↦ over-same f L W.turns n W.none_waits i
       ]
-
--- ---- rows as the law of virtual time sees them, and as tables do
-
-noted : Row Message Note → Noted
-noted row = record { message = row.message; place = row.place; note = row.note }
-
-abbrev unseen : List (Row Message Note) → List Noted
-unseen rows = map noted rows
-
-back : (xs : List Noted) → unseen (map seen_row xs) ≡ xs
-unfolding noted
-back [] = refl
-back (x ∷ xs) = ap (λ z. x ∷ z) (back xs)
-
-seen-at : {S K : Type 0} (f : Simulation Message S K Note) (p : ℕ) (xs : List Noted) → rows_at f p (map seen_row xs) ≡ map seen_row (noted_at p xs)
-seen-at f p [] = refl
-seen-at f p (x ∷ xs) = go (x.place == p) (rows_at f p (map seen_row xs)) (seen-at f p xs)
-  where
-    go : (b : Bool) (rest : List (Row Message Note)) → rest ≡ map seen_row (noted_at p xs) → cond b (seen_row x ∷ rest) rest ≡ map seen_row (cond b (x ∷ noted_at p xs) (noted_at p xs))
-    go true rest e = ap (λ z. seen_row x ∷ z) e
-    go false rest e = e
-
--- rows that are seen the same at each process are the same at each
-pub same-at : {S K : Type 0} (f : Simulation Message S K Note) (xs ys : List Noted) →
-    ((p : ℕ) → rows_at f p (map seen_row xs) ≡ rows_at f p (map seen_row ys)) → (p : ℕ) → noted_at p xs ≡ noted_at p ys
-same-at f xs ys h p =
-    sym (back (noted_at p xs)) ∙ (ap unseen (sym (seen-at f p xs) ∙ (h p ∙ seen-at f p ys)) ∙ back (noted_at p ys))

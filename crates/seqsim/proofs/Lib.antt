@@ -1,4 +1,7 @@
 pub mod NetworkLemmas
 pub mod StatesLemmas
 pub mod RowLemmas
+pub mod SeenRows
 pub mod CommittedRows
+pub mod OneThreadRows
+pub mod RowsByProcess

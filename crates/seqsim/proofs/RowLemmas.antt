@@ -1,10 +1,7 @@
 -- The rows of the one-thread run of a network.
-use Rattle.std.proofs.Common.{◌≡◌, ◌∙◌, List, [], ◌∷◌, map, refl, sym, ap, inl, inr, arith}
+use Rattle.std.proofs.Common.{◌≡◌, ◌∙◌, List, map, sym, ap, inl, inr, arith}
 use Rattle.std.proofs.lemmas.Bool.{cases_lt}
-use Rattle.vlink.specs.declared.message.Message.{Message}
-use Rattle.vlink.specs.declared.note.Note.{Note}
 use Rattle.vlink.specs.declared.note.Row.{Row as Noted}
-use Rattle.virtual_time.specs.Rules.{Row}
 use Rattle.virtual_time.specs.Simulation.{Laws}
 use Rattle.virtual_time.specs.OneThread.{one}
 use Rattle.virtual_time.proofs.Turns.{over-same}
@@ -12,15 +9,7 @@ use Rattle.netdesc.specs.Plan.{Plan}
 use Rattle.nodes.specs.rules.Simulation.{simulation_of}
 use Rattle.actor_run.specs.Running.{seen_row}
 use Rattle.seqsim.specs.Networks.{AreRowsOf}
-
--- rows as the law of virtual time sees them tell the rows
-unseen : Row Message Note → Noted
-unseen row = record { message = row.message; place = row.place; note = row.note }
-
-back : (rows : List Noted) → map unseen (map seen_row rows) ≡ rows
-unfolding unseen
-back [] = refl
-back (row ∷ rows) = ap (λ (z : List Noted). row ∷ z) (back rows)
+use Rattle.seqsim.proofs.SeenRows.{unseen, back}
 
 -- all runs of a network in which nothing waits any more have the same rows
 pub same-rows : (plan : Plan) → Laws (simulation_of plan) → (rows others : List Noted) → AreRowsOf plan rows → AreRowsOf plan others → rows ≡ others
@@ -31,4 +20,4 @@ same-rows plan L rows others r o =
       | inr i ↦ over-same f L o.0 r.0 o.1 i
     ] in
     let seen : map seen_row rows ≡ map seen_row others = r.2 ∙ (ap (λ t. t.rows) same ∙ sym o.2) in
-    sym (back rows) ∙ (ap (map unseen) seen ∙ back others)
+    sym (back rows) ∙ (ap unseen seen ∙ back others)

@@ -3,10 +3,12 @@
 
 mod counted;
 mod networks;
+mod rows;
 mod simulating;
 mod tables;
 
 pub use actor_run::{SimFault, run_actors};
 pub use networks::{network_laws, network_layout};
+pub use rows::rows_by_process;
 pub use simulating::{Finished, nodes_of, run};
 pub use tables::run_tables;

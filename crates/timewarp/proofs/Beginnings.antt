@@ -5,7 +5,7 @@ use Rattle.virtual_time.specs.Safe.{history}
 use Rattle.virtual_time.specs.World.{Step}
 use Rattle.netdesc.specs.Plan.{Plan}
 use Rattle.nodes.specs.rules.Simulation.{simulation_of}
-use Rattle.timewarp.specs.Networks.{after}
+use Rattle.seqsim.specs.Committed.{after}
 
 -- a longer beginning is a shorter one with more behind it
 beginning-more : {X : Type 0} (n m : ℕ) (xs : List X) → n ≤ m → take m xs ≡ take n xs ++ drop n (take m xs)

@@ -11,7 +11,8 @@ use Rattle.nodes.specs.rules.Simulation.{simulation_of}
 use Rattle.antimessages.specs.Steps.{step_of, names_none}
 use Rattle.timewarp.specs.declared.replaying.Replay.{Replay}
 use Rattle.timewarp.specs.Replaying.{did, not_enabled, refused}
-use Rattle.timewarp.specs.Networks.{after, IsAfter}
+use Rattle.seqsim.specs.Committed.{after}
+use Rattle.timewarp.specs.Networks.{IsAfter}
 use Rattle.timewarp.specs.Replayed.{IsReplayed}
 
 module _ {M S K N : Type 0} (f : Simulation M S K N) where

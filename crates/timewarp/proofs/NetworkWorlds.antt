@@ -20,7 +20,8 @@ use Rattle.actor_world.specs.declared.done.Done.{Done}
 use Rattle.actor_world.specs.declared.done.Done.TheVariants.{Did}
 use Rattle.actor_world.specs.declared.fault.StepFault.{StepFault}
 use Rattle.actor_world.specs.Worlds.{Holdings, StandsForWorld, HoldsTheSame, AtEachWorld}
-use Rattle.timewarp.specs.Networks.{NetworkWorld, after, IsAfter}
+use Rattle.seqsim.specs.Committed.{after}
+use Rattle.timewarp.specs.Networks.{NetworkWorld, IsAfter}
 use Rattle.actor_world.proofs.Answering.{stands-same}
 
 -- the network with this plan, of which this is held

@@ -1,17 +1,12 @@
--- The worlds of a network: what its simulation makes of steps, when a program holds such a world, and the rows that are committed in one.
-use Rattle.std.specs.Prelude.{◌≡◌, ℕ, List, map}
-use Rattle.vlink.specs.declared.message.Message.{Message}
-use Rattle.vlink.specs.declared.note.Row.{Row as Noted}
-use Rattle.virtual_time.specs.Rules.{rowed}
-use Rattle.virtual_time.specs.OneThread.{rows_at}
-use Rattle.virtual_time.specs.World.{World, Step, start, run}
+-- The worlds of a network that a program holds.
+use Rattle.std.specs.Prelude.{List}
+use Rattle.virtual_time.specs.World.{Step}
 use Rattle.netdesc.specs.Plan.{Plan}
 use Rattle.nodes.specs.declared.node.NodeRecord.{NodeRecord}
 use Rattle.nodes.specs.rules.Node.{NodeState}
 use Rattle.nodes.specs.undoing.Node.{IsNodeValue}
-use Rattle.nodes.specs.rules.Opening.{opening}
 use Rattle.nodes.specs.rules.Simulation.{simulation_of}
-use Rattle.actor_run.specs.Running.{seen_row}
+use Rattle.seqsim.specs.Committed.{after}
 use Rattle.actor_world.specs.Worlds.{Holdings, StandsForWorld}
 
 -- a network, and what is held of a world of it
@@ -19,15 +14,6 @@ pub record NetworkWorld : Type 0 where
   pub plan : Plan
   pub held : Holdings NodeState NodeRecord
 
--- the world of a network after these steps, done one after another from the start
-abbrev pub after : Plan → List Step → World Message NodeState
-after plan steps = run (simulation_of plan) steps (start (simulation_of plan))
-
 -- what is held is the world of the network after these steps
 abbrev pub IsAfter : NetworkWorld → List Step → Type 0
 IsAfter world steps = StandsForWorld (simulation_of world.plan) IsNodeValue (after world.plan steps) world.held
-
--- at each process the rows are those of its committed events, in their order
-abbrev pub AreCommittedRows : Plan → List Step → List Noted → Type 0
-AreCommittedRows plan steps rows =
-    (p : ℕ) → rows_at (simulation_of plan) p (map seen_row rows) ≡ rowed (simulation_of plan).rules (opening plan p) ((after plan steps).parts p).committed

@@ -9,7 +9,8 @@ ghost use Rattle.nodes.specs.rules.Simulation.{simulation_of};
 ghost use Rattle.antimessages.specs.Steps.{step_of};
 ghost use Rattle.actor_world.specs.declared.fault.StepFault.TheVariants.{NoProcess, Exhausted};
 ghost use Rattle.actor_world.specs.Worlds.{IsExhausted};
-ghost use Rattle.timewarp.specs.Networks.{after, IsAfter};
+ghost use Rattle.seqsim.specs.Committed.{after};
+ghost use Rattle.timewarp.specs.Networks.{IsAfter};
 ghost use Rattle.timewarp.specs.Replaying.{did, not_enabled, refused};
 
 use crate::laws::world_laws;

@@ -11,7 +11,7 @@ ghost use Rattle.virtual_time.specs.Safe.{Safe, history, CountLaw, NothingBefore
 ghost use Rattle.netdesc.specs.Faults.{process_count};
 ghost use Rattle.nodes.specs.rules.Opening.{opening};
 ghost use Rattle.nodes.specs.rules.Simulation.{simulation_of};
-ghost use Rattle.timewarp.specs.Networks.{after};
+ghost use Rattle.seqsim.specs.Committed.{after};
 
 use netdesc::Network;
 use nodes::{Node, NodeRecord};

@@ -10,7 +10,7 @@ ghost use Rattle.nodes.specs.rules.Simulation.{simulation_of};
 ghost use Rattle.antimessages.specs.Steps.{step_of};
 ghost use Rattle.actor_world.specs.declared.fault.StepFault.TheVariants.{NoProcess, OutOfMemory, Exhausted};
 ghost use Rattle.actor_world.specs.Worlds.{IsExhausted};
-ghost use Rattle.timewarp.specs.Networks.{after};
+ghost use Rattle.seqsim.specs.Committed.{after};
 ghost use Rattle.timewarp.specs.Replayed.{IsReplayed};
 
 use crate::laws::world_laws;

@@ -7,7 +7,8 @@ ghost use Rattle.nodes.specs.rules.Simulation.{simulation_of};
 ghost use Rattle.trace_tables.specs.Tables.{tables_of};
 ghost use Rattle.seqsim.specs.Networks.{AreRowsOf};
 ghost use Rattle.actor_world.specs.declared.fault.StepFault.TheVariants.{OutOfMemory};
-ghost use Rattle.timewarp.specs.Networks.{after, IsAfter, AreCommittedRows};
+ghost use Rattle.seqsim.specs.Committed.{after, AreCommittedRows};
+ghost use Rattle.timewarp.specs.Networks.{IsAfter};
 
 use crate::laws::world_laws;
 use crate::world::World;

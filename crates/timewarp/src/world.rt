@@ -14,7 +14,8 @@ ghost use Rattle.nodes.specs.rules.Simulation.{simulation_of};
 ghost use Rattle.actor_world.specs.declared.done.Done.TheVariants.{Did};
 ghost use Rattle.actor_world.specs.declared.fault.StepFault.TheVariants.{NoProcess, OutOfMemory, Exhausted};
 ghost use Rattle.actor_world.specs.Worlds.{HoldsTheSame, IsExhausted};
-ghost use Rattle.timewarp.specs.Networks.{after, IsAfter};
+ghost use Rattle.seqsim.specs.Committed.{after};
+ghost use Rattle.timewarp.specs.Networks.{IsAfter};
 
 use crate::laws::world_laws;
 use actor_world::{ActorWorld, Done, StepFault};

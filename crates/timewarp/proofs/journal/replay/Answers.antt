@@ -8,7 +8,7 @@ use Rattle.netdesc.specs.Plan.{Plan}
 use Rattle.nodes.specs.rules.Simulation.{simulation_of}
 use Rattle.antimessages.specs.Steps.{step_of}
 use Rattle.actor_world.specs.declared.fault.StepFault.TheVariants.{Exhausted}
-use Rattle.timewarp.specs.Networks.{after}
+use Rattle.seqsim.specs.Committed.{after}
 use Rattle.timewarp.specs.Replayed.{IsReplayed}
 use Rattle.actor_world.specs.Worlds.{IsExhausted}
 use Rattle.timewarp.proofs.Beginnings.{beginnings-rise, beginnings-stay}

@@ -7,7 +7,7 @@ use Rattle.antimessages.specs.Steps.{step_of, names_none}
 use Rattle.timewarp.specs.declared.replaying.Replay.{Replay}
 use Rattle.actor_world.specs.declared.done.Done.TheVariants.{Did, NotEnabled}
 use Rattle.actor_world.specs.declared.fault.StepFault.{StepFault}
-use Rattle.timewarp.specs.Networks.{after}
+use Rattle.seqsim.specs.Committed.{after}
 use Rattle.actor_world.proofs.Answering.{step-not}
 use Rattle.timewarp.proofs.Counts.{replayed, unknown-not-enabled}
 use Rattle.timewarp.proofs.NetworkWorlds.{stepped-same}

@@ -14,7 +14,8 @@ use Rattle.actor_run.specs.Running.{seen_row}
 use Rattle.seqsim.specs.Networks.{setting_of}
 use Rattle.actor_run.proofs.Errors.{ok-weaker}
 use Rattle.actor_world.specs.Worlds.{AtEachWorld}
-use Rattle.timewarp.specs.Networks.{NetworkWorld, after, IsAfter, AreCommittedRows}
+use Rattle.seqsim.specs.Committed.{after, AreCommittedRows}
+use Rattle.timewarp.specs.Networks.{NetworkWorld, IsAfter}
 use Rattle.seqsim.proofs.CommittedRows.{AreRowsBelow, rows-none, rows-more, rows-all}
 use Rattle.timewarp.proofs.NetworkWorlds.{IsLayout}
 use Rattle.timewarp.proofs.world.World.committed_tables.Goals as goal

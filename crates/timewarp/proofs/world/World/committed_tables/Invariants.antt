@@ -3,7 +3,8 @@ use Rattle.vlink.specs.declared.note.Row.{Row as Noted}
 use Rattle.virtual_time.specs.World.{Step}
 use Rattle.nodes.specs.rules.Simulation.{simulation_of}
 use Rattle.trace_tables.specs.SoFar.{IsSoFar}
-use Rattle.timewarp.specs.Networks.{after, IsAfter}
+use Rattle.seqsim.specs.Committed.{after}
+use Rattle.timewarp.specs.Networks.{IsAfter}
 use Rattle.seqsim.proofs.CommittedRows.{AreRowsBelow}
 use Rattle.timewarp.proofs.world.World.committed_tables.Given as goal
 

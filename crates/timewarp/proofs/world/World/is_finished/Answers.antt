@@ -4,7 +4,8 @@ use Rattle.virtual_time.specs.World.{Step}
 use Rattle.nodes.specs.undoing.Node.{IsNodeValue}
 use Rattle.nodes.specs.rules.Simulation.{simulation_of}
 use Rattle.seqsim.specs.Networks.{setting_of}
-use Rattle.timewarp.specs.Networks.{NetworkWorld, after, IsAfter}
+use Rattle.seqsim.specs.Committed.{after}
+use Rattle.timewarp.specs.Networks.{NetworkWorld, IsAfter}
 use Rattle.actor_world.proofs.Finishing.{is-finished}
 use Rattle.timewarp.proofs.world.World.is_finished.Goals as goal
 

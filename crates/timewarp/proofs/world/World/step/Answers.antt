@@ -6,7 +6,8 @@ use Rattle.antimessages.specs.Steps.{step_of}
 use Rattle.actor_world.specs.declared.done.Done.TheVariants.{Did}
 use Rattle.actor_world.specs.declared.fault.StepFault.TheVariants.{Exhausted}
 use Rattle.actor_world.specs.Worlds.{IsExhausted}
-use Rattle.timewarp.specs.Networks.{NetworkWorld, after, IsAfter}
+use Rattle.seqsim.specs.Committed.{after}
+use Rattle.timewarp.specs.Networks.{NetworkWorld, IsAfter}
 use Rattle.timewarp.proofs.NetworkWorlds.{world, step-after, step-refused, step-some, step-enabled}
 use Rattle.timewarp.proofs.world.World.step.Goals as goal
 

@@ -5,8 +5,10 @@ use Rattle.virtual_time.specs.Safe.{IsFinished, IsWhole}
 use Rattle.virtual_time.specs.World.{Step}
 use Rattle.nodes.specs.rules.Simulation.{simulation_of}
 use Rattle.seqsim.specs.Networks.{AreRowsOf}
-use Rattle.timewarp.specs.Networks.{NetworkWorld, after, AreCommittedRows}
-use Rattle.seqsim.proofs.CommittedRows.{rows-whole, same-at}
+use Rattle.seqsim.specs.Committed.{after, AreCommittedRows}
+use Rattle.timewarp.specs.Networks.{NetworkWorld}
+use Rattle.seqsim.proofs.CommittedRows.{rows-whole}
+use Rattle.seqsim.proofs.SeenRows.{same-at}
 use Rattle.timewarp.proofs.world.World.tables.Goals as goal
 
 -- in a finished world the rows of the one-thread run are those of the committed events

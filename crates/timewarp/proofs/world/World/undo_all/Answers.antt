@@ -5,7 +5,8 @@ use Rattle.virtual_time.specs.Part.{undo_all}
 use Rattle.virtual_time.specs.World.{Step}
 use Rattle.nodes.specs.rules.Opening.{opening}
 use Rattle.nodes.specs.rules.Simulation.{simulation_of}
-use Rattle.timewarp.specs.Networks.{NetworkWorld, after, IsAfter}
+use Rattle.seqsim.specs.Committed.{after}
+use Rattle.timewarp.specs.Networks.{NetworkWorld, IsAfter}
 use Rattle.timewarp.proofs.NetworkWorlds.{undone-at, left-at, within}
 use Rattle.timewarp.proofs.world.World.undo_all.Goals as goal
 

@@ -1,0 +1,51 @@
+//! The rows of the one-thread run of a network are told by those of each process.
+ghost use Rattle.std.specs.Prelude.{◌≡◌, ◌<◌, ℕ, [], map, List};
+ghost use Rattle.vlink.specs.declared.message.Message.{Message};
+ghost use Rattle.vlink.specs.declared.note.Row.{Row as Noted};
+ghost use Rattle.virtual_time.specs.Rules.{rowed};
+ghost use Rattle.virtual_time.specs.OneThread.{one, rows_at};
+ghost use Rattle.virtual_time.specs.World.{Step};
+ghost use Rattle.virtual_time.specs.Safe.{IsFinished};
+ghost use Rattle.netdesc.specs.Faults.{process_count};
+ghost use Rattle.nodes.specs.rules.Opening.{opening};
+ghost use Rattle.nodes.specs.rules.Simulation.{simulation_of};
+ghost use Rattle.trace_tables.specs.Counting.{gathered};
+ghost use Rattle.trace_tables.specs.Ordered.{AreInMessageOrder, rows_of_event};
+ghost use Rattle.actor_run.specs.Running.{seen_row};
+ghost use Rattle.seqsim.specs.Committed.{after, AreCommittedRows};
+ghost use Rattle.seqsim.specs.Networks.{AreRowsOf};
+
+use crate::networks::network_laws;
+use netdesc::Network;
+use nodes::{Node, NodeRecord};
+use trace_tables::rows_by_place;
+use virtual_time::headline;
+use vlink::{Message, Note, message_order};
+
+/// The rows of the one-thread run are in message order, and the rows of each process, put in this order, are all of them. So a run that
+/// gathers rows process by process has the very list of the one-thread run.
+///
+/// - `in_order`: the rows of the one-thread run are in message order.
+/// - `by_process`: rows in message order which at each process are those of the one-thread run, after which nothing waits, are its rows.
+/// - `gathered`: the rows of the committed events of each process, put one process after another, are the committed rows.
+/// - `finished`: the committed rows of a finished world, put in message order so that those of each event stay in their order, are the
+///   rows of the one-thread run. So `trace_tables::put_in_message_order` leaves them.
+///
+/// A call does nothing: its caller learns what the clauses say.
+pub fn rows_by_process(network: &Network)
+    ensures in_order { (rows : List Noted) → AreRowsOf network.now rows → AreInMessageOrder rows }
+    ensures by_process { (n : ℕ) → (one (simulation_of network.now) n).waiting ≡ [] → (rows : List Noted) → AreInMessageOrder rows →
+        ((p : ℕ) → rows_at (simulation_of network.now) p (map seen_row rows) ≡ rows_at (simulation_of network.now) p (one (simulation_of network.now) n).rows) →
+        AreRowsOf network.now rows }
+    ensures gathered { (steps : List Step) (rows_of : ℕ → List Noted) → ((p : ℕ) → p < process_count network.now →
+        map seen_row (rows_of p) ≡ rowed (simulation_of network.now).rules (opening network.now p) ((after network.now steps).parts p).committed) →
+        AreCommittedRows network.now steps (gathered (process_count network.now) rows_of) }
+    ensures finished { (steps : List Step) → IsFinished (simulation_of network.now) (after network.now steps) → (rows ordered : List Noted) →
+        AreCommittedRows network.now steps rows → AreInMessageOrder ordered → ((m : Message) → rows_of_event m ordered ≡ rows_of_event m rows) →
+        AreRowsOf network.now ordered }
+{
+    network_laws(network);
+    message_order();
+    rows_by_place();
+    headline::<Message, Node, NodeRecord, Note>();
+}
