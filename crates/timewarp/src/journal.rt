@@ -1,5 +1,5 @@
 //! Journals: all their steps in order, and what holds of them.
-ghost use Rattle.std.specs.Prelude.{◌≡◌, ◌≢◌, ◌≤◌, ◌+◌, ℕ, map, take, Err, IfOk, slice_get, Some, length};
+ghost use Rattle.std.specs.Prelude.{◌≡◌, ◌≢◌, ◌≤◌, ◌+◌, ℕ, map, take, Err, IfOk, OnOk, slice_get, Some, length};
 ghost use Rattle.vlink.specs.declared.message.Message.{Message};
 ghost use Rattle.vlink.specs.declared.step.Step.{Step as Noted};
 ghost use Rattle.virtual_time.specs.Lists.{earlier};
@@ -49,6 +49,8 @@ pub fn replay(alloc: Global, network: Network, steps: &[Step]) -> Result<Replay,
     ensures known { result ≢ Err NoProcess }
     ensures exhausted { result ≡ Err Exhausted → (n : ℕ) × (x : Noted) × (slice_get steps.now n ≡ Some x) ×
         IsExhausted (simulation_of network) (step_of x) (after network (take n (map step_of steps.now))) }
+    ensures numbered { OnOk result ((n : ℕ) (x : Noted) → slice_get steps.now n ≡ Some x →
+        ¬ (IsExhausted (simulation_of network) (step_of x) (after network (take n (map step_of steps.now))))) }
 {
     world_laws(&network);
     let mut replay = Replay::new(alloc, network)?;

@@ -1,6 +1,7 @@
-use Rattle.std.proofs.Common.{◌≡◌, ◌∙◌, List, Err, map, take, get_or, sym, subst, arith}
+use Rattle.std.proofs.Common.{◌≡◌, ◌∙◌, inl, inr, List, Some, Err, map, slice_get, take, get_or, sym, subst, arith}
+use Rattle.std.proofs.lemmas.Bool.{cases_lt}
 use Rattle.std.proofs.lemmas.List.{take_more, take-map}
-use Rattle.std.proofs.lemmas.Option.{slice_get-get_or}
+use Rattle.std.proofs.lemmas.Option.{slice_get-get_or, slice_get_within, get_or_from_slice_get}
 use Rattle.std.proofs.lemmas.Result.{err_from_is_err_and}
 use Rattle.vlink.specs.declared.step.Step.TheVariants.{Take as NotedTake}
 use Rattle.virtual_time.specs.World.{Step}
@@ -58,4 +59,23 @@ loop-step-preserved c =
           (c.in_ok-do_step.ensures.replayed (take i steps) c.loop-step.invariant.replayed);
       network = c.do_step.ensures.network ∙ c.loop-step.invariant.network;
       counted = let a = c.in_ok-do_step.ensures.counted in let b = c.loop-step.invariant.counted in omega arith;
+      numbered = λ n x near here exhausted.
+          elim (cases_lt n i) [
+            | inl before ↦ c.loop-step.invariant.numbered n x before here exhausted
+            | inr from ↦
+                let y = get_or steps i (NotedTake 0 0) in
+                let same : n ≡ i = omega (arith, near, from) in
+                let is : y ≡ x = get_or_from_slice_get steps i x (NotedTake 0 0) (subst (λ k. slice_get steps k ≡ Some x) same here) in
+                let now = subst (λ k. IsExhausted (simulation_of c.args.network) (step_of x) (after c.args.network (take k (map step_of steps)))) same exhausted in
+                let of_it = subst (λ z. IsExhausted (simulation_of c.args.network) (step_of z) (after c.args.network (take i (map step_of steps)))) (sym is) now in
+                let taken = subst (λ (ys : List Step). IsExhausted (simulation_of c.args.network) (step_of y) (after c.args.network ys)) (take-map step_of i steps) of_it in
+                let met = subst (λ (plan : Plan). IsExhausted (simulation_of plan) (step_of y) (after plan (map step_of (take i steps)))) (sym c.loop-step.invariant.network) taken in
+                let told = (c.do_step.ensures.exhausted (take i steps) c.loop-step.invariant.replayed).1 met in
+                let went = c.in_ok-do_step.was in cc
+          ];
     }
+
+pub returns-clause-numbered : goal.returns-clause-numbered
+returns-clause-numbered c = λ n x here exhausted.
+    let within = slice_get_within c.args.steps.now n x here in
+    c.loop-step.invariant.numbered n x (omega (arith, within, c.loop-step-test.false)) here exhausted
