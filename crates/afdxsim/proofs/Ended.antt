@@ -1,6 +1,6 @@
 -- A command that was done, or whose fault was told, has ended.
 use Rattle.std.proofs.Common.{◌≡◌, ◌∙◌, ◌⊎◌, ℕ, inl, inr, List, [], ◌∷◌, Option, Some, Result, Ok, Err, refl, sym, subst, arith}
-use Rattle.std.specs.Prelude.{◌≢◌, OnOk, IfErr, option_map, codes, string_bytes}
+use Rattle.std.specs.Prelude.{◌≢◌, OnOk, IfOk, IfErr, option_map, codes, string_bytes}
 use Rattle.clap.specs.Words.{IsAmong, Text, first_of}
 use Rattle.clap.specs.declared.error.kind.ErrorKind.{ErrorKind}
 use Rattle.clap.specs.declared.error.kind.ErrorKind.TheVariants as kind
@@ -77,6 +77,14 @@ ok_then (Err e) p f = tt
 pub err_then : {T F : Type 0} {P Q : F → Type 0} (r : Result T F) → IfErr r P → ((e : F) → P e → Q e) → IfErr r Q
 err_then (Ok x) p f = tt
 err_then (Err e) p f = f e p
+
+pub on_both : {T F P Q R : Type 0} (r : Result T F) → OnOk r P → OnOk r Q → (P → Q → R) → OnOk r R
+on_both (Ok x) p q f = f p q
+on_both (Err e) p q f = tt
+
+pub ok_both : {T F : Type 0} {P Q R : T → Type 0} (r : Result T F) → IfOk r P → IfOk r Q → ((x : T) → P x → Q x → R x) → IfOk r R
+ok_both (Ok x) p q f = f x p q
+ok_both (Err e) p q f = tt
 
 -- why a run with a trace, or without one, was no success is why `seq` was none
 pub fault_with_trace : {O : Type 0} (failed : O → ℕ) (gives : Option (List ℕ) → Type 0) (net path : List ℕ) (trace : Option (List ℕ)) (plan : Plan) (fault : Fault) (o o' p p' : O) →

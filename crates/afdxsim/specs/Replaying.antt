@@ -1,5 +1,5 @@
 -- What the program says of a journal whose steps were done on a network.
-use Rattle.std.specs.Prelude.{◌≡◌, ◌↔◌, ◌<◌, ◌≤◌, ℕ, Bool, true, false, IsTrue, All, List, ◌++◌, length, map, take, slice_get, Some, codes, decimal, string_bytes}
+use Rattle.std.specs.Prelude.{◌≡◌, ◌⊎◌, ◌↔◌, ◌<◌, ◌≤◌, ℕ, Bool, true, false, IsTrue, All, List, Option, ◌++◌, length, map, take, slice_get, Some, codes, decimal, string_bytes}
 use Rattle.vlink.specs.declared.note.Row.{Row as Noted}
 use Rattle.vlink.specs.declared.step.Step.{Step as Noting}
 use Rattle.virtual_time.specs.World.{Step, start}
@@ -11,6 +11,7 @@ use Rattle.journal_text.specs.declared.fault.LinesFault.TheVariants as journal
 use Rattle.journal_text.specs.Text.{Fits, steps_text}
 use Rattle.journal_text.specs.Lines.{lines, IsFirstBad}
 use Rattle.trace_tables.specs.Tables.{TableLists, tables_of}
+use Rattle.trace_tables.specs.Text.{tables_text}
 use Rattle.seqsim.specs.Networks.{AreRowsOf}
 use Rattle.antimessages.specs.Steps.{step_of}
 use Rattle.timewarp.specs.Worlds.{IsExhausted}
@@ -19,6 +20,7 @@ use Rattle.timewarp.specs.Replaying.{did, not_enabled, refused}
 use Rattle.afdxsim.specs.declared.account.Account.{Account}
 use Rattle.afdxsim.specs.declared.fault.Fault.{Fault}
 use Rattle.afdxsim.specs.declared.fault.Fault.TheVariants.{Description, JournalLine, JournalFull, CannotRead, CannotWriteFile, CannotWrite, Layout, OutOfMemory, Exhausted}
+use Rattle.afdxsim.specs.Reading.{GivesNetwork, IsFaultOfFile, IsFaultOfNet}
 
 -- the most lines of a journal
 abbrev pub most_lines : ℕ
@@ -93,3 +95,17 @@ IsFaultOfJournal plan text CannotWrite = ⊥
 IsFaultOfJournal plan text Layout = ⊥
 IsFaultOfJournal plan text OutOfMemory = length (lines text) ≤ most_lines
 IsFaultOfJournal plan text Exhausted = (steps : List Noting) × IsJournal text steps × IsExhaustedIn plan steps
+
+-- reads of two files may give a network and a journal, and of what comes of it this is the text of the tables, and this the line
+abbrev pub GivesTexts : (Option (List ℕ) → Type 0) → (Option (List ℕ) → Type 0) → List ℕ → List ℕ → Type 0
+GivesTexts net steps tables line =
+    (plan : Plan) × (bytes : List ℕ) × (account : Account) × GivesNetwork net plan × steps (Some bytes) × TellsOfJournal plan bytes account ×
+    (tables ≡ tables_text plan account.tables) × (line ≡ string_bytes account.line)
+
+-- why a journal in the file with one path was not done on a network in the file with the other: there was no network, the journal was not
+-- read, or it was not done
+abbrev pub IsFaultOfSteps : (Option (List ℕ) → Type 0) → List ℕ → (Option (List ℕ) → Type 0) → List ℕ → Fault → Type 0
+IsFaultOfSteps gives net journal steps fault =
+    IsFaultOfNet gives net fault
+    ⊎ (IsFaultOfFile journal steps fault
+    ⊎ ((plan : Plan) × (bytes : List ℕ) × GivesNetwork gives plan × journal (Some bytes) × IsFaultOfJournal plan bytes fault))

@@ -1,5 +1,5 @@
 //! The real host: the files and the standard streams of the system.
-ghost use Rattle.std.specs.Prelude.{◌≤◌, length, IfSome};
+ghost use Rattle.std.specs.Prelude.{◌≡◌, ◌≤◌, length, IfSome};
 
 use crate::host::{Host, ReadFault};
 use std::alloc::Global;
@@ -59,8 +59,11 @@ pub struct System {
 }
 
 impl System {
-    /// The system behind this runtime.
-    pub fn new(runtime: HostRuntime) -> Self {
+    /// The system behind this runtime. No write has failed yet.
+    pub fn new(runtime: HostRuntime) -> Self
+        ensures output { ⟦<Device<Stdout> as Sink>⟧.failures (⟦<System as Host>⟧.output result) ≡ 0 }
+        ensures errors { ⟦<Device<Stderr> as Sink>⟧.failures (⟦<System as Host>⟧.errors result) ≡ 0 }
+    {
         System {
             runtime,
             output: Device {
