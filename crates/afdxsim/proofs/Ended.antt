@@ -1,6 +1,6 @@
 -- A command that was done, or whose fault was told, has ended.
 use Rattle.std.proofs.Common.{◌≡◌, ◌∙◌, ◌⊎◌, ℕ, inl, inr, List, [], ◌∷◌, Option, Some, Result, Ok, Err, refl, sym, subst, arith}
-use Rattle.std.specs.Prelude.{◌≢◌, OnOk, IfOk, IfErr, option_map, codes, string_bytes}
+use Rattle.std.specs.Prelude.{◌≢◌, OnOk, OnErr, IfOk, IfErr, option_map, codes, string_bytes}
 use Rattle.clap.specs.Words.{IsAmong, Text, first_of}
 use Rattle.clap.specs.declared.error.kind.ErrorKind.{ErrorKind}
 use Rattle.clap.specs.declared.error.kind.ErrorKind.TheVariants as kind
@@ -8,6 +8,7 @@ use Rattle.netdesc.specs.Plan.{Plan}
 use Rattle.command_line.specs.Meaning.{Names, command_in, command_of, rows_in}
 use Rattle.command_line.specs.declared.orders.Check.{Check}
 use Rattle.command_line.specs.declared.orders.Seq.{Seq}
+use Rattle.command_line.specs.declared.orders.Replay.{Replay}
 use Rattle.command_line.specs.declared.orders.Order.{Order}
 use Rattle.command_line.specs.declared.orders.Order.TheVariants as ordered
 use Rattle.afdxsim.specs.declared.fault.Fault.{Fault}
@@ -15,59 +16,10 @@ use Rattle.afdxsim.specs.declared.fault.Fault.TheVariants.{CannotWrite, OutOfMem
 use Rattle.afdxsim.specs.Checking.{check_text}
 use Rattle.afdxsim.specs.Telling.{TellsOne}
 use Rattle.afdxsim.specs.Ending.{Ends, IsFaultOfOutput, Told, Took}
-use Rattle.afdxsim.specs.Performing.{EndsCheck, EndsSeq, found_in}
+use Rattle.afdxsim.specs.Performing.{EndsCheck, EndsSeq, EndsReplay, found_in}
 use Rattle.afdxsim.specs.Reading.{GivesNetwork, IsFaultOfNet}
+use Rattle.afdxsim.specs.Replaying.{GivesTexts, IsFaultOfSteps}
 use Rattle.afdxsim.specs.Sequencing.{IsFaultOfRun, IsFaultOfSeq, IsFaultOfTrace, IsTablesText}
-
--- texts that are the same begin with the same letter
-same_first : (x y : ℕ) (xs ys : Text) → Some (x ∷ xs) ≡ Some (y ∷ ys) → x ≡ y
-same_first x y xs ys is = cc
-
-some_same : (x y : Text) → Some x ≡ Some y → x ≡ y
-some_same x y is = cc
-
--- standard output was o₀ before and o₁ after the command, and error output e₀ and e₁; then a fault was told, and they are o₂ and e₂
-module _ {O E : Type 0} (r : Result (Unit {0}) Fault) (status : ℕ) (took : O → Option (List ℕ)) (failed : O → ℕ)
-    (said : E → Option (List ℕ)) (unsaid : E → ℕ) (o₀ o₁ o₂ : O) (e₀ e₁ e₂ : E) where
-  ended : (Done : O → Type 0) (IsMet : O → Fault → Type 0) →
-      OnOk r (Done o₁) → IfErr r (IsMet o₁) → IfErr r (λ fault. fault ≢ CannotWrite → o₁ ≡ o₀) → e₁ ≡ e₀ →
-      OnOk r ((status ≡ 0) × (e₂ ≡ e₁)) → IfErr r (λ fault. TellsOne fault (Told said unsaid e₁ e₂ status)) → o₂ ≡ o₁ →
-      Ends status (Done o₂ × (e₂ ≡ e₀)) (λ fault. IsMet o₂ fault × (fault ≢ CannotWrite → o₂ ≡ o₀)) (Told said unsaid e₀ e₂ status)
-  ended Done IsMet done met kept quiet zero told same = go r done met kept zero told
-    where
-      go : (r : Result (Unit {0}) Fault) → OnOk r (Done o₁) → IfErr r (IsMet o₁) → IfErr r (λ fault. fault ≢ CannotWrite → o₁ ≡ o₀) →
-          OnOk r ((status ≡ 0) × (e₂ ≡ e₁)) → IfErr r (λ fault. TellsOne fault (Told said unsaid e₁ e₂ status)) →
-          Ends status (Done o₂ × (e₂ ≡ e₀)) (λ fault. IsMet o₂ fault × (fault ≢ CannotWrite → o₂ ≡ o₀)) (Told said unsaid e₀ e₂ status)
-      go (Ok x) done met kept zero told = inl (zero.0, (subst Done (sym same) done, zero.1 ∙ quiet))
-      go (Err fault) done met kept zero told =
-          inr (
-            fault,
-            (subst (λ o. IsMet o fault) (sym same) met, λ other. same ∙ kept other),
-            subst (λ e. TellsOne fault (Told said unsaid e e₂ status)) quiet told,
-          )
-
-  pub ended_check : (gives : List ℕ → Option (List ℕ) → Type 0) (path net : List ℕ) → path ≡ net →
-      OnOk r ((plan : Plan) × GivesNetwork (gives path) plan × Took took o₀ o₁ (check_text plan)) →
-      IfErr r (λ fault. IsFaultOfNet (gives path) path fault ⊎ IsFaultOfOutput failed o₀ o₁ fault) →
-      IfErr r (λ fault. fault ≢ CannotWrite → o₁ ≡ o₀) → e₁ ≡ e₀ →
-      OnOk r ((status ≡ 0) × (e₂ ≡ e₁)) → IfErr r (λ fault. TellsOne fault (Told said unsaid e₁ e₂ status)) → o₂ ≡ o₁ →
-      EndsCheck (gives net) net took failed o₀ o₂ said unsaid e₀ e₂ status
-  ended_check gives path net at done met kept quiet zero told same =
-      subst (λ (n : List ℕ). EndsCheck (gives n) n took failed o₀ o₂ said unsaid e₀ e₂ status) at
-      (ended (λ o. (plan : Plan) × GivesNetwork (gives path) plan × Took took o₀ o (check_text plan))
-      (λ o fault. IsFaultOfNet (gives path) path fault ⊎ IsFaultOfOutput failed o₀ o fault) done met kept quiet zero told same)
-
-  pub ended_seq : (gives : List ℕ → Option (List ℕ) → Type 0) (path net : List ℕ) (given trace : Option (List ℕ)) → path ≡ net → given ≡ trace →
-      OnOk r ((plan : Plan) × (text : List ℕ) × GivesNetwork (gives path) plan × IsTablesText plan text × Took took o₀ o₁ text) →
-      IfErr r (IsFaultOfSeq (gives path) path given (IsFaultOfOutput failed o₀ o₁)) →
-      IfErr r (λ fault. fault ≢ CannotWrite → o₁ ≡ o₀) → e₁ ≡ e₀ →
-      OnOk r ((status ≡ 0) × (e₂ ≡ e₁)) → IfErr r (λ fault. TellsOne fault (Told said unsaid e₁ e₂ status)) → o₂ ≡ o₁ →
-      EndsSeq (gives net) net trace took failed o₀ o₂ said unsaid e₀ e₂ status
-  ended_seq gives path net given trace at same_trace done met kept quiet zero told same =
-      subst (λ (n : List ℕ). EndsSeq (gives n) n trace took failed o₀ o₂ said unsaid e₀ e₂ status) at
-      (subst (λ (t : Option (List ℕ)). EndsSeq (gives path) path t took failed o₀ o₂ said unsaid e₀ e₂ status) same_trace
-      (ended (λ o. (plan : Plan) × (text : List ℕ) × GivesNetwork (gives path) plan × IsTablesText plan text × Took took o₀ o text)
-      (λ o fault. IsFaultOfSeq (gives path) path given (IsFaultOfOutput failed o₀ o) fault) done met kept quiet zero told same))
 
 -- what follows from what holds of an answer that is good, and of a fault
 pub ok_then : {T F P Q : Type 0} (r : Result T F) → OnOk r P → (P → Q) → OnOk r Q
@@ -85,6 +37,83 @@ on_both (Err e) p q f = tt
 pub ok_both : {T F : Type 0} {P Q R : T → Type 0} (r : Result T F) → IfOk r P → IfOk r Q → ((x : T) → P x → Q x → R x) → IfOk r R
 ok_both (Ok x) p q f = f x p q
 ok_both (Err e) p q f = tt
+
+on_err : {T F P : Type 0} (r : Result T F) → P → OnErr r P
+on_err (Ok x) p = tt
+on_err (Err e) p = p
+
+-- texts that are the same begin with the same letter
+same_first : (x y : ℕ) (xs ys : Text) → Some (x ∷ xs) ≡ Some (y ∷ ys) → x ≡ y
+same_first x y xs ys is = cc
+
+same_second : (x y v w : ℕ) (xs ys : Text) → Some (x ∷ v ∷ xs) ≡ Some (y ∷ w ∷ ys) → v ≡ w
+same_second x y v w xs ys is = cc
+
+some_same : (x y : Text) → Some x ≡ Some y → x ≡ y
+some_same x y is = cc
+
+-- standard output was o₀ before and o₁ after the command, and error output e₀ and e₁; then a fault was told, and they are o₂ and e₂
+module _ {O E : Type 0} (r : Result (Unit {0}) Fault) (status : ℕ) (took : O → Option (List ℕ)) (failed : O → ℕ)
+    (said : E → Option (List ℕ)) (unsaid : E → ℕ) (o₀ o₁ o₂ : O) (e₀ e₁ e₂ : E) where
+  ended : (Done : O → E → Type 0) (IsMet : O → Fault → Type 0) →
+      OnOk r (Done o₁ e₁) → IfErr r (IsMet o₁) → IfErr r (λ fault. fault ≢ CannotWrite → o₁ ≡ o₀) → OnErr r (e₁ ≡ e₀) →
+      OnOk r ((status ≡ 0) × (e₂ ≡ e₁)) → IfErr r (λ fault. TellsOne fault (Told said unsaid e₁ e₂ status)) → o₂ ≡ o₁ →
+      Ends status (Done o₂ e₂) (λ fault. IsMet o₂ fault × (fault ≢ CannotWrite → o₂ ≡ o₀)) (Told said unsaid e₀ e₂ status)
+  ended Done IsMet done met kept quiet zero told same = go r done met kept quiet zero told
+    where
+      go : (r : Result (Unit {0}) Fault) → OnOk r (Done o₁ e₁) → IfErr r (IsMet o₁) → IfErr r (λ fault. fault ≢ CannotWrite → o₁ ≡ o₀) → OnErr r (e₁ ≡ e₀) →
+          OnOk r ((status ≡ 0) × (e₂ ≡ e₁)) → IfErr r (λ fault. TellsOne fault (Told said unsaid e₁ e₂ status)) →
+          Ends status (Done o₂ e₂) (λ fault. IsMet o₂ fault × (fault ≢ CannotWrite → o₂ ≡ o₀)) (Told said unsaid e₀ e₂ status)
+      go (Ok x) done met kept quiet zero told = inl (zero.0, subst (λ o. Done o e₂) (sym same) (subst (λ e. Done o₁ e) (sym zero.1) done))
+      go (Err fault) done met kept quiet zero told =
+          inr (
+            fault,
+            (subst (λ o. IsMet o fault) (sym same) met, λ other. same ∙ kept other),
+            subst (λ e. TellsOne fault (Told said unsaid e e₂ status)) quiet told,
+          )
+
+  -- the same of a command that tells nothing but its fault on error output
+  ended_quiet : (Done : O → Type 0) (IsMet : O → Fault → Type 0) →
+      OnOk r (Done o₁) → IfErr r (IsMet o₁) → IfErr r (λ fault. fault ≢ CannotWrite → o₁ ≡ o₀) → e₁ ≡ e₀ →
+      OnOk r ((status ≡ 0) × (e₂ ≡ e₁)) → IfErr r (λ fault. TellsOne fault (Told said unsaid e₁ e₂ status)) → o₂ ≡ o₁ →
+      Ends status (Done o₂ × (e₂ ≡ e₀)) (λ fault. IsMet o₂ fault × (fault ≢ CannotWrite → o₂ ≡ o₀)) (Told said unsaid e₀ e₂ status)
+  ended_quiet Done IsMet done met kept quiet zero told same =
+      ended (λ o e. Done o × (e ≡ e₀)) IsMet (ok_then r done (λ d. (d, quiet))) met kept (on_err r quiet) zero told same
+
+  pub ended_check : (gives : List ℕ → Option (List ℕ) → Type 0) (path net : List ℕ) → path ≡ net →
+      OnOk r ((plan : Plan) × GivesNetwork (gives path) plan × Took took o₀ o₁ (check_text plan)) →
+      IfErr r (λ fault. IsFaultOfNet (gives path) path fault ⊎ IsFaultOfOutput failed o₀ o₁ fault) →
+      IfErr r (λ fault. fault ≢ CannotWrite → o₁ ≡ o₀) → e₁ ≡ e₀ →
+      OnOk r ((status ≡ 0) × (e₂ ≡ e₁)) → IfErr r (λ fault. TellsOne fault (Told said unsaid e₁ e₂ status)) → o₂ ≡ o₁ →
+      EndsCheck (gives net) net took failed o₀ o₂ said unsaid e₀ e₂ status
+  ended_check gives path net at done met kept quiet zero told same =
+      subst (λ (n : List ℕ). EndsCheck (gives n) n took failed o₀ o₂ said unsaid e₀ e₂ status) at
+      (ended_quiet (λ o. (plan : Plan) × GivesNetwork (gives path) plan × Took took o₀ o (check_text plan))
+      (λ o fault. IsFaultOfNet (gives path) path fault ⊎ IsFaultOfOutput failed o₀ o fault) done met kept quiet zero told same)
+
+  pub ended_seq : (gives : List ℕ → Option (List ℕ) → Type 0) (path net : List ℕ) (given trace : Option (List ℕ)) → path ≡ net → given ≡ trace →
+      OnOk r ((plan : Plan) × (text : List ℕ) × GivesNetwork (gives path) plan × IsTablesText plan text × Took took o₀ o₁ text) →
+      IfErr r (IsFaultOfSeq (gives path) path given (IsFaultOfOutput failed o₀ o₁)) →
+      IfErr r (λ fault. fault ≢ CannotWrite → o₁ ≡ o₀) → e₁ ≡ e₀ →
+      OnOk r ((status ≡ 0) × (e₂ ≡ e₁)) → IfErr r (λ fault. TellsOne fault (Told said unsaid e₁ e₂ status)) → o₂ ≡ o₁ →
+      EndsSeq (gives net) net trace took failed o₀ o₂ said unsaid e₀ e₂ status
+  ended_seq gives path net given trace at same_trace done met kept quiet zero told same =
+      subst (λ (n : List ℕ). EndsSeq (gives n) n trace took failed o₀ o₂ said unsaid e₀ e₂ status) at
+      (subst (λ (t : Option (List ℕ)). EndsSeq (gives path) path t took failed o₀ o₂ said unsaid e₀ e₂ status) same_trace
+      (ended_quiet (λ o. (plan : Plan) × (text : List ℕ) × GivesNetwork (gives path) plan × IsTablesText plan text × Took took o₀ o text)
+      (λ o fault. IsFaultOfSeq (gives path) path given (IsFaultOfOutput failed o₀ o) fault) done met kept quiet zero told same))
+
+  pub ended_replay : (gives : List ℕ → Option (List ℕ) → Type 0) (path net read steps : List ℕ) → path ≡ net → read ≡ steps →
+      OnOk r ((tables : List ℕ) × (line : List ℕ) × GivesTexts (gives path) (gives read) tables line × Took took o₀ o₁ tables × (unsaid e₁ ≡ unsaid e₀ → Took said e₀ e₁ line)) →
+      IfErr r (λ fault. IsFaultOfSteps (gives path) path (gives read) read fault ⊎ IsFaultOfOutput failed o₀ o₁ fault) →
+      IfErr r (λ fault. fault ≢ CannotWrite → o₁ ≡ o₀) → OnErr r (e₁ ≡ e₀) →
+      OnOk r ((status ≡ 0) × (e₂ ≡ e₁)) → IfErr r (λ fault. TellsOne fault (Told said unsaid e₁ e₂ status)) → o₂ ≡ o₁ →
+      EndsReplay gives net steps took failed o₀ o₂ said unsaid e₀ e₂ status
+  ended_replay gives path net read steps at same_steps done met kept quiet zero told same =
+      subst (λ (n : List ℕ). EndsReplay gives n steps took failed o₀ o₂ said unsaid e₀ e₂ status) at
+      (subst (λ (s : List ℕ). EndsReplay gives path s took failed o₀ o₂ said unsaid e₀ e₂ status) same_steps
+      (ended (λ o e. (tables : List ℕ) × (line : List ℕ) × GivesTexts (gives path) (gives read) tables line × Took took o₀ o tables × (unsaid e ≡ unsaid e₀ → Took said e₀ e line))
+      (λ o fault. IsFaultOfSteps (gives path) path (gives read) read fault ⊎ IsFaultOfOutput failed o₀ o fault) done met kept quiet zero told same))
 
 -- why a run with a trace, or without one, was no success is why `seq` was none
 pub fault_with_trace : {O : Type 0} (failed : O → ℕ) (gives : Option (List ℕ) → Type 0) (net path : List ℕ) (trace : Option (List ℕ)) (plan : Plan) (fault : Fault) (o o' p p' : O) →
@@ -108,6 +137,9 @@ of_check order x P is holds o named = let same : x ≡ o = cc in subst P same ho
 
 pub of_named : (order : Order) (x : Seq) (P : Seq → Type 0) → order ≡ ordered.Seq x → P x → (o : Seq) → order ≡ ordered.Seq o → P o
 of_named order x P is holds o named = let same : x ≡ o = cc in subst P same holds
+
+pub of_replay : (order : Order) (x : Replay) (P : Replay → Type 0) → order ≡ ordered.Replay x → P x → (o : Replay) → order ≡ ordered.Replay o → P o
+of_replay order x P is holds o named = let same : x ≡ o = cc in subst P same holds
 
 -- the order of words that name a command
 module _ {O E : Type 0} (words : List Text) (status : ℕ) (gives : List ℕ → Option (List ℕ) → Type 0) (net : List ℕ)
@@ -133,6 +165,17 @@ module _ {O E : Type 0} (words : List Text) (status : ℕ) (gives : List ℕ →
   seq_words (ordered.Run c) is names ends named given = absurd (let bad : 114 ≡ 115 = same_first 114 115 _ _ (sym is ∙ named) in omega arith)
   seq_words (ordered.Replay c) is names ends named given = absurd (let bad : 114 ≡ 115 = same_first 114 115 _ _ (sym is ∙ named) in omega arith)
 
+  pub replay_words : (order : Order) (steps : List ℕ) → command_in words ≡ Some (command_of order) → Names (rows_in words) order →
+      ((c : Replay) → order ≡ ordered.Replay c → EndsReplay gives (string_bytes c.net) (string_bytes c.steps) took failed o o' said unsaid e e' status) →
+      command_in words ≡ Some (codes "replay") → first_of (codes "NET") (rows_in words) ≡ Some net → first_of (codes "STEPS") (rows_in words) ≡ Some steps →
+      EndsReplay gives net steps took failed o o' said unsaid e e' status
+  replay_words (ordered.Replay c) steps is names ends named given read =
+      subst (λ (n : List ℕ). EndsReplay gives n steps took failed o o' said unsaid e e' status) (some_same (string_bytes c.net) net (sym names.net ∙ given))
+      (subst (λ (s : List ℕ). EndsReplay gives (string_bytes c.net) s took failed o o' said unsaid e e' status) (some_same (string_bytes c.steps) steps (sym names.steps ∙ read)) (ends c refl))
+  replay_words (ordered.Check c) steps is names ends named given read = absurd (let bad : 99 ≡ 114 = same_first 99 114 _ _ (sym is ∙ named) in omega arith)
+  replay_words (ordered.Seq c) steps is names ends named given read = absurd (let bad : 115 ≡ 114 = same_first 115 114 _ _ (sym is ∙ named) in omega arith)
+  replay_words (ordered.Run c) steps is names ends named given read = absurd (let bad : 117 ≡ 101 = same_second 114 114 117 101 _ _ (sym is ∙ named) in omega arith)
+
   -- words that are accepted, where memory was refused before they were an order
   memory : (k : ErrorKind) → found_in words ≡ [] → (k ≡ kind.OutOfMemory) ⊎ IsAmong k (found_in words) → k ≡ kind.OutOfMemory
   memory k none (inl is) = is
@@ -147,3 +190,8 @@ module _ {O E : Type 0} (words : List Text) (status : ℕ) (gives : List ℕ →
       (k ≡ kind.OutOfMemory → TellsOne OutOfMemory (Told said unsaid e e' status)) → (k ≡ kind.OutOfMemory → o' ≡ o) →
       EndsSeq (gives net) net trace took failed o o' said unsaid e e' status
   seq_memory k trace none has told same = let is = memory k none has in inr (OutOfMemory, (inl (inl tt), λ other. same is), told is)
+
+  pub replay_memory : (k : ErrorKind) (steps : List ℕ) → found_in words ≡ [] → (k ≡ kind.OutOfMemory) ⊎ IsAmong k (found_in words) →
+      (k ≡ kind.OutOfMemory → TellsOne OutOfMemory (Told said unsaid e e' status)) → (k ≡ kind.OutOfMemory → o' ≡ o) →
+      EndsReplay gives net steps took failed o o' said unsaid e e' status
+  replay_memory k steps none has told same = let is = memory k none has in inr (OutOfMemory, (inl (inl (inl tt)), λ other. same is), told is)

@@ -9,6 +9,7 @@ use Rattle.afdxsim.specs.declared.fault.Fault.TheVariants.{CannotWrite}
 use Rattle.afdxsim.specs.Checking.{check_text}
 use Rattle.afdxsim.specs.Ending.{Ends, IsFaultOfOutput, Told, Took}
 use Rattle.afdxsim.specs.Reading.{GivesNetwork, IsFaultOfNet}
+use Rattle.afdxsim.specs.Replaying.{GivesTexts, IsFaultOfSteps}
 use Rattle.afdxsim.specs.Sequencing.{IsFaultOfSeq, IsTablesText}
 use Rattle.afdxsim.specs.Words.{AsksFor, AsksForText}
 
@@ -49,4 +50,14 @@ EndsSeq gives net trace took failed o o' said unsaid e e' status =
     Ends status
     (((plan : Plan) × (text : List ℕ) × GivesNetwork gives plan × IsTablesText plan text × Took took o o' text) × (e' ≡ e))
     (λ fault. IsFaultOfSeq gives net trace (IsFaultOfOutput failed o o') fault × (fault ≢ CannotWrite → o' ≡ o))
+    (Told said unsaid e e' status)
+
+-- the same of `replay NET STEPS`, where gives tells what a read of a file may give by its path: what goes out is the text of the tables of what
+-- is committed, and error output takes the line that tells what was counted, unless a write to it failed
+abbrev pub EndsReplay : {O E : Type 0} → (List ℕ → Option (List ℕ) → Type 0) → List ℕ → List ℕ →
+    (O → Option (List ℕ)) → (O → ℕ) → O → O → (E → Option (List ℕ)) → (E → ℕ) → E → E → ℕ → Type 0
+EndsReplay gives net steps took failed o o' said unsaid e e' status =
+    Ends status
+    ((tables : List ℕ) × (line : List ℕ) × GivesTexts (gives net) (gives steps) tables line × Took took o o' tables × (unsaid e' ≡ unsaid e → Took said e e' line))
+    (λ fault. (IsFaultOfSteps (gives net) net (gives steps) steps fault ⊎ IsFaultOfOutput failed o o' fault) × (fault ≢ CannotWrite → o' ≡ o))
     (Told said unsaid e e' status)

@@ -3,10 +3,11 @@ ghost use Rattle.std.specs.Prelude.{◌≡◌, ◌⊎◌, OnOk, IfErr, codes, op
 ghost use Rattle.command_line.specs.Meaning.{command_of};
 ghost use Rattle.command_line.specs.declared.orders.Check.{Check as Checked};
 ghost use Rattle.command_line.specs.declared.orders.Seq.{Seq as Sequenced};
+ghost use Rattle.command_line.specs.declared.orders.Replay.{Replay as Replayed};
 ghost use Rattle.command_line.specs.declared.orders.Order.TheVariants as ordered;
 ghost use Rattle.afdxsim.specs.Telling.{IsStatus, TellsOne};
 ghost use Rattle.afdxsim.specs.Ending.{Told};
-ghost use Rattle.afdxsim.specs.Performing.{EndsCheck, EndsSeq};
+ghost use Rattle.afdxsim.specs.Performing.{EndsCheck, EndsSeq, EndsReplay};
 
 use crate::check::check;
 use crate::fault::{BAD_WORDS, DONE, Fault};
@@ -65,8 +66,13 @@ fn obey_seq<H: Host>(alloc: Global, order: &Seq, host: &mut H) -> u8
 /// Does `replay NET STEPS`.
 fn obey_replay<H: Host>(alloc: Global, order: &Replay, host: &mut H) -> u8
     ensures status { (result ≡ 0) ⊎ (result ≡ 3) ⊎ (result ≡ 4) ⊎ (result ≡ 5) }
+    ensures ends { EndsReplay (H.gives host.old) (string_bytes order.now.net) (string_bytes order.now.steps)
+        H.Output.taken H.Output.failures (H.output host.old) (H.output host.new)
+        H.Errors.taken H.Errors.failures (H.errors host.old) (H.errors host.new) result }
 {
-    let outcome = replay(alloc, order.net.as_str(), order.steps.as_str(), host);
+    let net = order.net.as_str();
+    let steps = order.steps.as_str();
+    let outcome = replay(alloc, net, steps, host);
     end(alloc, outcome, host)
 }
 
@@ -86,6 +92,9 @@ pub fn obey<H: Host>(alloc: Global, order: &Order, host: &mut H) -> u8
         H.Output.taken H.Output.failures (H.output host.old) (H.output host.new)
         H.Errors.taken H.Errors.failures (H.errors host.old) (H.errors host.new) result }
     ensures seq { (o : Sequenced) → order.now ≡ ordered.Seq o → EndsSeq (H.gives host.old (string_bytes o.net)) (string_bytes o.net) (option_map string_bytes o.trace)
+        H.Output.taken H.Output.failures (H.output host.old) (H.output host.new)
+        H.Errors.taken H.Errors.failures (H.errors host.old) (H.errors host.new) result }
+    ensures replay { (o : Replayed) → order.now ≡ ordered.Replay o → EndsReplay (H.gives host.old) (string_bytes o.net) (string_bytes o.steps)
         H.Output.taken H.Output.failures (H.output host.old) (H.output host.new)
         H.Errors.taken H.Errors.failures (H.errors host.old) (H.errors host.new) result }
 {

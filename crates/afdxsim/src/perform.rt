@@ -3,7 +3,7 @@ ghost use Rattle.std.specs.Prelude.{◌≡◌, [], ℕ, List, true, map, option_
 ghost use Rattle.clap.specs.Words.{first_of};
 ghost use Rattle.command_line.specs.Meaning.{command_in, rows_in};
 ghost use Rattle.afdxsim.specs.Telling.{IsStatus};
-ghost use Rattle.afdxsim.specs.Performing.{AnswersWords, EndsCheck, EndsSeq, found_in};
+ghost use Rattle.afdxsim.specs.Performing.{AnswersWords, EndsCheck, EndsSeq, EndsReplay, found_in};
 
 use crate::answering::answer;
 use crate::host::Host;
@@ -29,6 +29,12 @@ pub fn perform<'a, S: AsStr, H: Host>(alloc: Global, words: &'a [S], host: &mut 
     ensures seq { found_in (map S.text words.entry.now) ≡ [] → command_in (map S.text words.entry.now) ≡ Some (codes "seq") →
         (net : List ℕ) → first_of (codes "NET") (rows_in (map S.text words.entry.now)) ≡ Some net →
         EndsSeq (H.gives host.old net) net (first_of (codes "trace") (rows_in (map S.text words.entry.now)))
+        H.Output.taken H.Output.failures (H.output host.old) (H.output host.new)
+        H.Errors.taken H.Errors.failures (H.errors host.old) (H.errors host.new) result }
+    ensures replay { found_in (map S.text words.entry.now) ≡ [] → command_in (map S.text words.entry.now) ≡ Some (codes "replay") →
+        (net steps : List ℕ) → first_of (codes "NET") (rows_in (map S.text words.entry.now)) ≡ Some net →
+        first_of (codes "STEPS") (rows_in (map S.text words.entry.now)) ≡ Some steps →
+        EndsReplay (H.gives host.old) net steps
         H.Output.taken H.Output.failures (H.output host.old) (H.output host.new)
         H.Errors.taken H.Errors.failures (H.errors host.old) (H.errors host.new) result }
 {

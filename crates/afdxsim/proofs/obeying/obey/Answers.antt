@@ -1,8 +1,9 @@
 use Rattle.std.proofs.Common.{option_map, string_bytes}
 use Rattle.command_line.specs.declared.orders.Check.{Check}
 use Rattle.command_line.specs.declared.orders.Seq.{Seq}
-use Rattle.afdxsim.specs.Performing.{EndsCheck, EndsSeq}
-use Rattle.afdxsim.proofs.Ended.{of_check, of_named}
+use Rattle.command_line.specs.declared.orders.Replay.{Replay}
+use Rattle.afdxsim.specs.Performing.{EndsCheck, EndsSeq, EndsReplay}
+use Rattle.afdxsim.proofs.Ended.{of_check, of_named, of_replay}
 use Rattle.afdxsim.proofs.obeying.obey.Goals as goal
 
 pub returns-in-Seq-clause-seq : goal.returns-in-Seq-clause-seq
@@ -24,3 +25,13 @@ returns-in-Check-clause-check g c =
     g.H.Output.Sink.taken g.H.Output.Sink.failures (g.H.Host.output before) (g.H.Host.output after)
     g.H.Errors.Sink.taken g.H.Errors.Sink.failures (g.H.Host.errors before) (g.H.Host.errors after) c.obey_check.result)
     c.in-Check.is c.obey_check.ensures.ends
+
+pub returns-in-Replay-clause-replay : goal.returns-in-Replay-clause-replay
+returns-in-Replay-clause-replay g c =
+    let before = c.args.host.now in
+    let after = c.obey_replay.new.host in
+    of_replay c.args.order.now c.in-Replay.order
+    (λ (o : Replay). EndsReplay (g.H.Host.gives before) (string_bytes o.net) (string_bytes o.steps)
+    g.H.Output.Sink.taken g.H.Output.Sink.failures (g.H.Host.output before) (g.H.Host.output after)
+    g.H.Errors.Sink.taken g.H.Errors.Sink.failures (g.H.Host.errors before) (g.H.Host.errors after) c.obey_replay.result)
+    c.in-Replay.is c.obey_replay.ensures.ends
