@@ -1,7 +1,6 @@
-use Rattle.std.proofs.Common.{◌≡◌, ◌∙◌, sym, ap, subst}
+use Rattle.std.proofs.Common.{◌≡◌, ◌∙◌, sym, subst}
 use Rattle.trace_tables.specs.Text.{tables_text}
-use Rattle.afdxsim.specs.Ending.{Took, IsFaultOfOutput}
-use Rattle.afdxsim.proofs.Ended.{err_then}
+use Rattle.afdxsim.specs.Ending.{Took}
 use Rattle.afdxsim.proofs.replay.show_account.Goals as goal
 
 pub returns-clause-tables : goal.returns-clause-tables
