@@ -3,7 +3,7 @@ ghost use Rattle.std.specs.Prelude.{◌≡◌, ◌⊎◌};
 ghost use Rattle.clap.specs.Values.{kind_of};
 ghost use Rattle.clap.specs.declared.error.kind.ErrorKind.TheVariants as kind;
 ghost use Rattle.afdxsim.specs.declared.fault.Fault.TheVariants.{OutOfMemory};
-ghost use Rattle.afdxsim.specs.Telling.{IsStatus, TellsOne};
+ghost use Rattle.afdxsim.specs.Telling.{TellsOne};
 ghost use Rattle.afdxsim.specs.Ending.{Told};
 ghost use Rattle.afdxsim.specs.Words.{AsksFor};
 

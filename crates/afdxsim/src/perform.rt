@@ -1,5 +1,5 @@
 //! The whole program: from its words to its status.
-ghost use Rattle.std.specs.Prelude.{◌≡◌, [], ℕ, List, true, map, option_map, codes};
+ghost use Rattle.std.specs.Prelude.{◌≡◌, [], ℕ, List, map, codes};
 ghost use Rattle.clap.specs.Words.{first_of};
 ghost use Rattle.command_line.specs.Meaning.{command_in, rows_in};
 ghost use Rattle.afdxsim.specs.Telling.{IsStatus};
