@@ -15,7 +15,7 @@ ghost use Rattle.afdxsim.specs.declared.fault.Fault.TheVariants.{OutOfMemory, Ex
 ghost use Rattle.afdxsim.specs.Replaying.{counted_text, finish_text, summary_text, fault_of_lines, IsSummary, IsJournal, AreCommittedTables, TellsOfSteps, TellsOfJournal, IsExhaustedIn, IsFaultOfJournal};
 
 use crate::fault::Fault;
-use crate::journal::{done, steps_of};
+use crate::journal_steps::{done, steps_of};
 use netdesc::Network;
 use std::alloc::{AllocError, Global};
 use timewarp::{Replay, World};

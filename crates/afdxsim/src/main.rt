@@ -6,7 +6,7 @@ mod answering;
 mod check;
 mod fault;
 mod host;
-mod journal;
+mod journal_steps;
 mod obeying;
 mod perform;
 mod reading;
