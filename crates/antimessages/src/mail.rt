@@ -11,6 +11,7 @@ use crate::posting::{push_all, put_all, reserve_all};
 use std::alloc::Global;
 use std::collections::VecDeque;
 use std::marker::Model;
+use std::mem;
 use vlink::Letter;
 
 /// The letters that were posted and not taken, of each process those that it receives, in the order in which they were posted.
@@ -100,6 +101,20 @@ impl Mail {
             return None;
         }
         take_at(&mut self.boxes[usize::from(process)], place)
+    }
+
+    /// All letters for this process go to `letters`, which has none, and no letter is copied: the two change places, with their room.
+    pub fn take_all(&mut self, process: u16, letters: &mut VecDeque<Letter>)
+        requires { letters.old.items ≡ [] }
+        ensures taken { map signed letters.new.items ≡ letters_for process self.old }
+        ensures left { letters_for process self.new ≡ [] }
+        ensures others { (q : ℕ) → q ≢ process → letters_for q self.new ≡ letters_for q self.old }
+        ensures processes { length self.new ≡ length self.old }
+    {
+        if usize::from(process) >= self.boxes.len() {
+            return;
+        }
+        mem::swap(&mut self.boxes[usize::from(process)], letters);
     }
 
     /// Makes room, so that `post` of this outbox takes no memory as long as no other call comes between. It is refused only where

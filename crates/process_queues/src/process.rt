@@ -238,7 +238,8 @@ impl<R: Actor> Process<R> {
     }
 }
 
-/// The first `count` letters for this process go from the mail to the back of the tray, which has room for them.
+/// The first `count` letters for this process go from the mail to the back of the tray, which has room for them. Where that are all and the tray
+/// has none, none is copied.
 fn take_letters<R: Actor>(tray: &mut VecDeque<Letter>, mail: &mut Mail, process: u16, count: usize)
     requires room { deque_len tray.old + count ≤ deque_capacity tray.old }
     requires enough { count ≤ length (letters_for process mail.old) }
@@ -247,6 +248,10 @@ fn take_letters<R: Actor>(tray: &mut VecDeque<Letter>, mail: &mut Mail, process:
     ensures others { (q : ℕ) → q ≢ process → letters_for q mail.new ≡ letters_for q mail.old }
     ensures processes { length mail.new ≡ length mail.old }
 {
+    if tray.is_empty() && count == mail.count(process) {
+        mail.take_all(process, tray);
+        return;
+    }
     for taken in 0..count {
         take_letter::<R>(tray, mail, process);
     }
