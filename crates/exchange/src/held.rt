@@ -1,5 +1,10 @@
 //! A process in hand.
-ghost use Rattle.std.specs.Prelude.{◌≡◌, ◌<◌, length};
+ghost use Rattle.std.specs.Prelude.{◌≡◌, ◌↔◌, ◌<◌, [], length, map, IsTrue};
+ghost use Rattle.virtual_time.specs.Rules.{rowed};
+ghost use Rattle.virtual_time.specs.Part.{next_of};
+ghost use Rattle.reverse.specs.Rules.{rules_of};
+ghost use Rattle.antimessages.specs.Letters.{signed};
+ghost use Rattle.process_queues.specs.Past.{seen_row};
 ghost use Rattle.journal.specs.Deeds.{past_own, place_of};
 
 use crate::mark::Mark;
@@ -10,7 +15,7 @@ use reverse::{Actor, Outbound};
 use std::alloc::Global;
 use std::marker::{Model, PhantomData};
 use std::snapshot::Snapshot;
-use vlink::Time;
+use vlink::{Letter, Message, Row, Time};
 
 /// A process, the block of the steps that it did alone since its last post, and its share: where the journal tells of it last, and the GVT
 /// that it saw.
@@ -21,6 +26,8 @@ pub struct Held<'a, R: Actor, J: ActorRun<R>> {
     pub(crate) number: u16,
     /// How many messages it handled, those that were handled again included.
     pub(crate) runs: u64,
+    /// How many events its arrivals undid.
+    pub(crate) undone: u64,
     pub(crate) block: Block,
     pub(crate) last: Option<EntryPlace<'a>>,
     pub(crate) seen: Time,
@@ -71,6 +78,12 @@ impl<'a, R: Actor, J: ActorRun<R>> Held<'a, R, J> {
         self.block.len() as u64
     }
 
+    /// How many events letters that came too late have undone in it so far. The count stops at its greatest value. No contract speaks of it: it
+    /// tells a caller whether the process ran too far ahead.
+    pub fn undone(&self) -> u64 {
+        self.undone
+    }
+
     /// Its share.
     pub fn share(&self) -> Mark
         ensures { result ≡ self.now.share }
@@ -83,6 +96,34 @@ impl<'a, R: Actor, J: ActorRun<R>> Held<'a, R, J> {
             place,
             seen: self.seen,
         }
+    }
+
+    /// The rows of its committed events, in their order.
+    pub fn sealed(&self) -> &[Row]
+        ensures { map seen_row result.now ≡ rowed (rules_of R.plain R.counter) (J.setting.opening self.now.number) self.now.part.committed }
+    {
+        self.process.sealed()
+    }
+
+    /// The letters that wait to be posted, in order.
+    pub fn outbox(&self) -> &[Letter]
+        ensures { map signed result.now ≡ self.now.part.outbox }
+    {
+        self.process.outbox()
+    }
+
+    /// The message that it handles next, if there is one.
+    pub fn next(&self) -> Option<Message>
+        ensures { result ≡ next_of (rules_of R.plain R.counter) self.now.part }
+    {
+        self.process.next()
+    }
+
+    /// Whether each done event is committed.
+    pub fn all_committed(&self) -> bool
+        ensures { IsTrue result ↔ (self.now.part.done ≡ []) }
+    {
+        self.process.oldest().is_none()
     }
 
     /// The entry that its next one follows.

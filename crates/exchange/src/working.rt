@@ -76,7 +76,10 @@ impl<'a, R: Actor, J: ActorRun<R>> Held<'a, R, J> {
         actor_laws::<R>();
         self.block.push(self.alloc, Moved::Arrived)?;
         match self.process.arrive() {
-            Ok(_undone) => Ok(()),
+            Ok(undone) => {
+                self.undone = self.undone.saturating_add(undone.unwrap_or(0));
+                Ok(())
+            }
             Err(_fault) => {
                 self.block.pop();
                 Err(PoolFault::OutOfMemory)
