@@ -11,7 +11,7 @@ use Rattle.clap.specs.Takes.{is_given}
 use Rattle.clap.specs.Values.{IsUnsignedIn, read_as, refused_kind}
 use Rattle.clap.specs.ValueTests.{accepts}
 use Rattle.clap.specs.Walk.{Row, Rule, Text, action_of, at_row, first_of, most_values, more_values, one_of, reading_by, row_text, used_as, values_or_missing, without}
-use Rattle.clap.specs.declared.builder.action.ArgAction.TheVariants.{Set, Help}
+use Rattle.clap.specs.declared.builder.action.ArgAction.TheVariants.{Set, Help, Version}
 use Rattle.clap.specs.declared.builder.value_parser.ValueParser.{ValueParser}
 use Rattle.clap.specs.declared.builder.value_parser.ValueParser.TheVariants.{Unsigned}
 use Rattle.clap.specs.declared.parser.matches.ValueSource.TheVariants.{CommandLine}
@@ -43,6 +43,15 @@ accepted i p t none = go (accepts i p t) none
     go : (b : Bool) → cond b [] (refused_kind p ∷ []) ≡ [] → b ≡ true
     go true none = refl
     go false none = cc
+
+-- an argument that asks for the version
+pub version_keeps : (again : Bool) (Q : Row → Type 0) (a : Rule) → action_of a ≡ Version → Keeps again Q a
+version_keeps again Q a asks = record {
+  kept = λ values rows none good.
+      let parts = neither (range_kinds (unwrap_or_range a.range).start_inclusive (most_values a) (length values)) _ none in
+      let asked = subst (λ x. action_fault x again a (values_or_missing a values) rows ≡ []) asks parts.1 in
+      cc;
+}
 
 -- an argument that asks for help
 pub help_keeps : (again : Bool) (Q : Row → Type 0) (a : Rule) → action_of a ≡ Help → Keeps again Q a

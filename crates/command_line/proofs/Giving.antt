@@ -11,7 +11,7 @@ use Rattle.clap.specs.Takes.{is_given}
 use Rattle.clap.specs.Walk.{Row, Text, answers_to, finished, nothing_held, rows_after, walk, walk_from}
 use Rattle.command_line.specs.Given.{IsGiven}
 use Rattle.command_line.specs.Program.{program}
-use Rattle.command_line.proofs.Filling.{IsFilled, found_passes, has_first, help_keeps, is_set, is_within, set_keeps}
+use Rattle.command_line.proofs.Filling.{IsFilled, found_passes, has_first, help_keeps, is_set, is_within, set_keeps, version_keeps}
 use Rattle.command_line.proofs.Walking.{Each, IsNoHelp, Keeps, Stopped, at_level, each_found, neither, with_words}
 
 -- the least and the greatest value of the argument with this id, if it is a number
@@ -118,5 +118,5 @@ gives_command words none =
     let second = neither (entered_fault ready end.stopped) _ first.1 in
     let third = neither (settle_fault ready.top.rules ready.top.args_override_self end.held) _ second.1 in
     let fourth = neither _ (check_fault ready.top (finished ready.top.rules end.held) (is_some (entered ready end.stopped))) third.1 in
-    let walked_well = with_words ready.top (names_of ready) (λ _. ⊤) (help_keeps _ _ _ refl, tt) words (walk_from nothing_held) first.0 tt tt in
+    let walked_well = with_words ready.top (names_of ready) (λ _. ⊤) (help_keeps _ _ _ refl, (version_keeps _ _ _ refl, tt)) words (walk_from nothing_held) first.0 tt tt in
     enters (finished ready.top.rules end.held) end.stopped walked_well.1 second.0 fourth.1

@@ -41,9 +41,9 @@ run_app =
 abbrev pub replay_app : App
 replay_app = with_rule (with_rule (new_app (codes "replay")) (path_rule (codes "NET"))) (path_rule (codes "STEPS"))
 
--- the program without its commands: a command has to be named, and the program's own name is not among the words
+-- the program without its commands: a command has to be named, the program's own name is not among the words, and `--version` asks for its version
 abbrev pub bare_program : App
-bare_program = on_top (λ s. record s { no_binary_name = true; subcommand_required = true }) (new_app (codes "afdxsim"))
+bare_program = on_top (λ s. record s { no_binary_name = true; subcommand_required = true; has_version = true }) (new_app (codes "afdxsim"))
 
 -- what the program knows
 abbrev pub program : App

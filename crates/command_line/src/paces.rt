@@ -58,6 +58,6 @@ pub(crate) fn window<'a>(alloc: Global) -> Arg<'a>
         "window",
         "NS",
         value_parser!(u64).range(1..=MOST_WINDOW_NS as i64),
-        "How far a process may be ahead of the global virtual time, in ns: 1 to 1000000000000 [default: 1000000]",
+        "How far a process may run ahead of the global virtual time, in ns: 1 to 1000000000000 [default: 1000000]. It is an upper bound: a process that has to undo much takes less by itself",
     )
 }

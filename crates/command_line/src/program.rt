@@ -9,6 +9,9 @@ use crate::paces::{turn, window, workers};
 use clap::Command;
 use std::alloc::{AllocError, Global};
 
+/// What `--version` prints behind the program's name.
+const VERSION: &str = "0.1.0";
+
 const NET: &str = "The network's description, a TOML file";
 
 const TRACE: &str = "Writes each delivery and each drop to this file, as CSV";
@@ -22,6 +25,7 @@ pub(crate) fn program<'a>(alloc: Global) -> Result<Command<'a>, AllocError>
 {
     Command::new(alloc, "afdxsim")
         .about("Simulates an AFDX network, on one thread or on several with the same result.")
+        .version(VERSION)
         .after_help(EXAMPLES)
         .bin_name("afdxsim")?
         .no_binary_name(true)

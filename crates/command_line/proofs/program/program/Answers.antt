@@ -8,8 +8,9 @@ use Rattle.command_line.proofs.program.program.Goals as goal
 
 pub returns : goal.returns
 returns c =
-    let named = ap app_of_fields c.in_ok-bin_name.ensures.0
-    ∙ (ap app_of_fields c.after_help.ensures ∙ (ap app_of_fields c.about.ensures ∙ c.new.ensures.app)) in
+    let dated = ap app_of_fields c.version.ensures
+    ∙ ap (on_top (λ s. record s { has_version = true })) (ap app_of_fields c.about.ensures ∙ c.new.ensures.app) in
+    let named = ap app_of_fields c.in_ok-bin_name.ensures.0 ∙ (ap app_of_fields c.after_help.ensures ∙ dated) in
     let unnamed = ap app_of_fields c.no_binary_name.ensures ∙ ap (on_top (λ s. record s { no_binary_name = true })) named in
     let bare : app_of c.subcommand_required.result ≡ bare_program =
     ap app_of_fields c.subcommand_required.ensures ∙ ap (on_top (λ s. record s { subcommand_required = true })) unnamed in
