@@ -1,6 +1,6 @@
 -- Rows that are gathered process by process.
-use Rattle.std.proofs.Common.{◌≡◌, ◌≢◌, ℕ, zero, suc, ◌+◌, ◌<◌, ◌≤◌, ◌==◌, true, cond, List, [], ◌∷◌, ◌++◌, refl, ap, sym, ◌∙◌, inl, inr, ◌⊎◌, arith, ne_eqb, eq-eqb}
-use Rattle.std.specs.List.{All, AllByRecursion, flat_map, range_with_len}
+use Rattle.std.proofs.Common.{◌≡◌, ◌≢◌, ℕ, zero, suc, ◌+◌, ◌<◌, ◌≤◌, ◌==◌, Bool, true, cond, List, [], ◌∷◌, ◌++◌, refl, ap, sym, ◌∙◌, inl, inr, ◌⊎◌, arith, ne_eqb, eq-eqb}
+use Rattle.std.specs.List.{All, AllByRecursion, filter, flat_map, range_with_len}
 use Rattle.std.proofs.lemmas.Bool.{cases_lt}
 use Rattle.std.proofs.lemmas.List.{append-nil}
 use Rattle.std.proofs.lemmas.List.Elements.{filter-append, filter_passes, recursion_from_All, All-weaker, All-same}
@@ -31,12 +31,15 @@ rows_at-own p rows h = own p rows (recursion_from_All (λ row. row.place ≡ p) 
 pub rows_at-other : (p q : ℕ) (rows : List Row) → q ≢ p → AreAt q rows → rows_at p rows ≡ []
 rows_at-other p q rows differ h = of-another p q rows differ (recursion_from_All (λ row. row.place ≡ q) rows h)
 
--- the rows of a process among those of many lists are those of each list
-rows_at-flat_map : (p : ℕ) (rows_of : ℕ → List Row) (qs : List ℕ) → rows_at p (flat_map rows_of qs) ≡ flat_map (λ q. rows_at p (rows_of q)) qs
-rows_at-flat_map p rows_of [] = refl
-rows_at-flat_map p rows_of (q ∷ qs) =
-    filter-append (λ row. row.place == p) (rows_of q) (flat_map rows_of qs)
-    ∙ ap (λ rs. rows_at p (rows_of q) ++ rs) (rows_at-flat_map p rows_of qs)
+-- the rows of many lists that pass a test are those of each list
+filter-flat_map : (test : Row → Bool) (rows_of : ℕ → List Row) (qs : List ℕ) → filter test (flat_map rows_of qs) ≡ flat_map (λ q. filter test (rows_of q)) qs
+filter-flat_map test rows_of [] = refl
+filter-flat_map test rows_of (q ∷ qs) =
+    filter-append test (rows_of q) (flat_map rows_of qs)
+    ∙ ap (λ rs. filter test (rows_of q) ++ rs) (filter-flat_map test rows_of qs)
+
+pub filter-gathered : (test : Row → Bool) (n : ℕ) (rows_of : ℕ → List Row) → filter test (gathered n rows_of) ≡ gathered n (λ p. filter test (rows_of p))
+filter-gathered test n rows_of = filter-flat_map test rows_of (range_with_len 0 n)
 
 -- lists of which none has elements, and of which one has
 none-in-range : {X : Type 0} (f : ℕ → List X) (a n : ℕ) → ((q : ℕ) → a ≤ q → q < a + n → f q ≡ []) → flat_map f (range_with_len a n) ≡ []
@@ -60,14 +63,14 @@ one-in-range {X} f p a (suc n) low high none = go (cases_lt a p) (λ lt. one-in-
 -- of rows that are gathered, each process has those of its own list
 pub rows_at-gathered : (n : ℕ) (rows_of : ℕ → List Row) → ((q : ℕ) → q < n → AreAt q (rows_of q)) → (p : ℕ) → p < n → rows_at p (gathered n rows_of) ≡ rows_of p
 rows_at-gathered n rows_of at p lt =
-    rows_at-flat_map p rows_of (range_with_len 0 n)
+    filter-flat_map (λ row. row.place == p) rows_of (range_with_len 0 n)
     ∙ one-in-range (λ q. rows_at p (rows_of q)) p 0 n (omega arith) (omega arith) (λ q below differ. rows_at-other p q (rows_of q) differ (at q (omega arith)))
     ∙ rows_at-own p (rows_of p) (at p lt)
 
 -- and no other process has any
 pub no-rows-gathered : (n : ℕ) (rows_of : ℕ → List Row) → ((q : ℕ) → q < n → AreAt q (rows_of q)) → (p : ℕ) → n ≤ p → rows_at p (gathered n rows_of) ≡ []
 no-rows-gathered n rows_of at p ge =
-    rows_at-flat_map p rows_of (range_with_len 0 n)
+    filter-flat_map (λ row. row.place == p) rows_of (range_with_len 0 n)
     ∙ none-in-range (λ q. rows_at p (rows_of q)) 0 n (λ q low high. rows_at-other p q (rows_of q) (λ e. omega arith) (at q (omega arith)))
 
 -- rows that are gathered from the rows of each process are the same at each process, if no others have rows

@@ -12,3 +12,10 @@ pub mod LatencyCountLemmas
 pub mod SoFarLemmas
 pub mod SortedLemmas
 pub mod RowOrderLemmas
+pub mod IntervalLemmas
+pub mod WaitingLemmas
+pub mod FaultLemmas
+pub mod TimeLemmas
+pub mod InOrderLemmas
+pub mod GatheredLemmas
+pub mod TakenLemmas

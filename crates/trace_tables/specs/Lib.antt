@@ -9,3 +9,8 @@ pub mod Writing
 pub mod SoFar
 pub mod Layout
 pub mod Ordered
+pub mod Intervals
+pub mod Parts
+pub mod Gathering
+pub mod Gathered
+pub mod WrittenTrace

@@ -18,3 +18,8 @@ rows_of_event m rows = filter (λ row. is_eq (message_cmp m row.message)) rows
 -- each row is of the process that received its message
 abbrev pub AreAtReceivers : List Row → Type 0
 AreAtReceivers rows = All (λ row. row.place ≡ row.message.receiver) rows
+
+-- the same rows in message order, those of one event in their order
+pub record IsInOrder (rows sorted : List Row) : Type 0 where
+  pub ascending : AreInMessageOrder sorted
+  pub each_event : (m : Message) → rows_of_event m sorted ≡ rows_of_event m rows

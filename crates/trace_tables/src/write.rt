@@ -1,8 +1,10 @@
 ghost use Rattle.std.specs.Prelude.{◌≡◌, ◌≢◌, ◌+◌, OnOk, IfOk, IfErr};
+ghost use Rattle.std.specs.List.{flat_map};
 ghost use Rattle.std.specs.Io.KnownBytes.{append_known};
 ghost use Rattle.trace_tables.specs.declared.fault.OutFault.TheVariants.{Device};
 ghost use Rattle.trace_tables.specs.Sinking.{IsBeginning};
-ghost use Rattle.trace_tables.specs.Text.{tables_text, trace_text};
+ghost use Rattle.trace_tables.specs.Text.{tables_text, trace_line, trace_text};
+ghost use Rattle.trace_tables.specs.WrittenTrace.{next_text};
 
 use crate::fault::OutFault;
 use crate::line::{empty, text_of};
@@ -34,6 +36,33 @@ fn trace_bytes(alloc: Global, network: &Network, rows: &[Row]) -> Result<Vec<u8>
     trace::push_head(&mut out)?;
     trace::push_rows(&mut out, network, rows)?;
     text_of(out)
+}
+
+/// The lines of these rows alone.
+fn line_bytes(alloc: Global, network: &Network, rows: &[Row]) -> Result<Vec<u8>, OutFault>
+    ensures text { IfOk result (λ bytes. bytes.items ≡ flat_map (trace_line network.now) rows.now) }
+    ensures fault { IfErr result (λ fault. fault ≢ Device) }
+{
+    let mut out = empty(alloc);
+    trace::push_rows(&mut out, network, rows)?;
+    text_of(out)
+}
+
+/// The lines of these rows, behind the first line of the trace unless that is written.
+pub(crate) fn next_bytes(
+    alloc: Global,
+    network: &Network,
+    begun: bool,
+    rows: &[Row],
+) -> Result<Vec<u8>, OutFault>
+    ensures text { IfOk result (λ bytes. bytes.items ≡ next_text network.now begun rows.now) }
+    ensures fault { IfErr result (λ fault. fault ≢ Device) }
+{
+    if begun {
+        line_bytes(alloc, network, rows)
+    } else {
+        trace_bytes(alloc, network, rows)
+    }
 }
 
 /// Writes the tables of a network as comma-separated rows, each with a line feed at its end.
