@@ -1,2 +1,2 @@
--- The run of a network.
+pub mod Paces
 pub mod Runs

@@ -1,7 +1,24 @@
--- A run that nobody picked.
-use Rattle.std.specs.Prelude.{[]}
+-- A run that nobody picked, and a run that is ended.
+use Rattle.std.specs.Prelude.{◌≡◌, ℕ, List, [], length, slice_get, Some}
+use Rattle.vlink.specs.declared.message.Message.{Message}
+use Rattle.virtual_time.specs.Journal.{Entry, reach}
+use Rattle.virtual_time.specs.Safe.{IsFinished}
 use Rattle.netdesc.specs.Plan.{Plan}
+use Rattle.netdesc.specs.Faults.{process_count}
+use Rattle.nodes.specs.rules.Node.{NodeState}
+use Rattle.nodes.specs.rules.Simulation.{simulation_of}
+use Rattle.exchange.specs.Views.{InShare}
 
 -- a network of nothing
 abbrev pub empty_plan : Plan
 empty_plan = record { until = 0; seed = 0; nodes = []; links = []; outages = []; vls = [] }
+
+-- the process in hand at place p is number p, and is what it is in the world that the journal reaches
+abbrev pub IsOfWorld : Plan → List (Entry Message) → ℕ → InShare NodeState → Type 0
+IsOfWorld plan entries p share = (share.number ≡ p) × (share.part ≡ (reach (simulation_of plan) entries).parts p)
+
+-- a run is ended: the world that its journal reaches is finished, and all its processes are in hand, in order
+pub record IsEnded (plan : Plan) (entries : List (Entry Message)) (shares : List (InShare NodeState)) : Type 0 where
+  pub finished : IsFinished (simulation_of plan) (reach (simulation_of plan) entries)
+  pub count : length shares ≡ process_count plan
+  pub each : (p : ℕ) (share : InShare NodeState) → slice_get shares p ≡ Some share → IsOfWorld plan entries p share

@@ -1,0 +1,99 @@
+-- What holds of a run that is ended.
+use Rattle.std.proofs.Common.{◌≡◌, ◌∙◌, ℕ, suc, ◌+◌, List, [], ◌++◌, map, length, slice_get, sym, ap, subst, arith}
+use Rattle.std.specs.Prelude.{Some}
+use Rattle.std.proofs.lemmas.List.{nil_from_length}
+use Rattle.vlink.specs.declared.message.Message.{Message}
+use Rattle.vlink.specs.declared.note.Row.{Row as Noted}
+use Rattle.virtual_time.specs.Rules.{rowed}
+use Rattle.virtual_time.specs.Simulation.{Laws}
+use Rattle.virtual_time.specs.OneThread.{one}
+use Rattle.virtual_time.specs.Part.{Part}
+use Rattle.virtual_time.specs.Own.{local}
+use Rattle.virtual_time.specs.Safe.{IsWhole}
+use Rattle.virtual_time.specs.Journal.{Move, Entry, act_by, steps, reach}
+use Rattle.netdesc.specs.Plan.{Plan}
+use Rattle.netdesc.specs.Faults.{process_count}
+use Rattle.nodes.specs.rules.Node.{NodeState}
+use Rattle.nodes.specs.rules.Opening.{opening}
+use Rattle.nodes.specs.rules.Simulation.{simulation_of}
+use Rattle.exchange.specs.Views.{InShare}
+use Rattle.trace_tables.specs.Counting.{rows_at as noted_at}
+use Rattle.trace_tables.specs.Tables.{TableLists, tables_of}
+use Rattle.actor_run.specs.Running.{seen_row}
+use Rattle.seqsim.specs.Committed.{after, AreCommittedRows}
+use Rattle.seqsim.specs.Networks.{AreRowsOf}
+use Rattle.seqsim.proofs.CommittedRows.{AreRowsBelow, rows-more, rows-all, rows-whole}
+use Rattle.seqsim.proofs.SeenRows.{unseen, forth, same-at}
+use Rattle.worker_pool.specs.Runs.{IsOfWorld, IsEnded}
+use Rattle.worker_pool.proofs.Places.{some-at}
+
+-- the process at a place has committed all that it has done
+abbrev pub HasCommitted : ℕ → InShare NodeState → Type 0
+HasCommitted p share = share.part.done ≡ []
+
+-- at the first n processes the rows are those that are committed in the world that the journal reaches, and at no other process is a row
+abbrev pub AreCommittedBelow : Plan → List (Entry Message) → ℕ → List Noted → Type 0
+AreCommittedBelow plan entries n rows = AreRowsBelow (simulation_of plan) (after plan (steps entries)) n rows
+
+module _ (plan : Plan) (entries : List (Entry Message)) where
+  -- with no step that is not in the journal, what fits is what the journal reaches
+  pub of-world : (n : ℕ) (share : InShare NodeState) → share.number ≡ n → length share.block ≡ 0 →
+      share.part ≡ local (simulation_of plan).rules (opening plan share.number) (map act_by share.block)
+      ((reach (simulation_of plan) entries).parts share.number) →
+      IsOfWorld plan entries n share
+  of-world n share number none part =
+      let f = simulation_of plan in
+      let parts = (reach f entries).parts in (
+        number,
+        part ∙ (ap (λ (b : List Move). local f.rules (opening plan share.number) (map act_by b) (parts share.number))
+            (nil_from_length share.block none) ∙ ap parts number),
+      )
+
+  module _ (shares : List (InShare NodeState)) where
+    -- the end is passed, and each process is the one of the journal and has committed all
+    pub ended : (gvt : ℕ) → gvt ≡ (reach (simulation_of plan) entries).gvt → gvt ≡ plan.until + 1 → length shares ≡ process_count plan →
+        ((p : ℕ) (share : InShare NodeState) → slice_get shares p ≡ Some share → IsOfWorld plan entries p share) →
+        ((p : ℕ) (share : InShare NodeState) → slice_get shares p ≡ Some share → HasCommitted p share) → IsEnded plan entries shares
+    ended gvt reached over count each committed =
+        record {
+          finished = record {
+            over = let e : (reach (simulation_of plan) entries).gvt ≡ suc plan.until = omega arith in e;
+            all_committed = λ p i.
+                let at = some-at shares p (let a = count in omega arith) in
+                ap (λ (part : Part Message NodeState). part.done) (sym (each p at.0 at.1).1) ∙ committed p at.0 at.1;
+          };
+          count = count;
+          each = each;
+        }
+
+    module _ (E : IsEnded plan entries shares) (L : Laws (simulation_of plan)) where
+      -- the rows of one process more
+      pub rows-next : (n : ℕ) (share : InShare NodeState) → slice_get shares n ≡ Some share → (rows more longer : List Noted) →
+          longer ≡ rows ++ more → map seen_row more ≡ rowed (simulation_of plan).rules (opening plan share.number) share.part.committed →
+          AreCommittedBelow plan entries n rows → AreCommittedBelow plan entries (n + 1) longer
+      rows-next n share at rows more longer is e below =
+          let f = simulation_of plan in
+          let here = E.each n share at in
+          let numbered = ap (λ (p : ℕ). rowed f.rules (opening plan p) share.part.committed) here.0 in
+          let reached = ap (λ (part : Part Message NodeState). rowed f.rules (opening plan n) part.committed) here.1 in
+          subst (AreCommittedBelow plan entries (n + 1)) (sym is) (rows-more f L (steps entries) n rows more below (e ∙ (numbered ∙ reached)))
+
+      -- and of all
+      pub rows-complete : (n : ℕ) → n ≡ length shares → (rows : List Noted) → AreCommittedBelow plan entries n rows →
+          AreCommittedRows plan (steps entries) rows
+      rows-complete n k rows below =
+          rows-all (simulation_of plan) L (steps entries) rows
+          (subst (λ m. AreCommittedBelow plan entries m rows) (k ∙ E.count) below)
+
+      module _ (W : IsWhole (simulation_of plan) (after plan (steps entries))) where
+        -- there are rows of the one-thread run
+        pub some-rows : (rows : List Noted) × AreRowsOf plan rows
+        some-rows = let f = simulation_of plan in (unseen (one f W.turns).rows, (W.turns, W.none_waits, forth (one f W.turns).rows))
+
+        -- the tables of committed rows are theirs
+        pub tables-whole : ((xs ys : List Noted) → ((p : ℕ) → noted_at p xs ≡ noted_at p ys) → tables_of plan xs ≡ tables_of plan ys) →
+            (tables : TableLists) → (rows : List Noted) × AreCommittedRows plan (steps entries) rows × (tables ≡ tables_of plan rows) →
+            (rows : List Noted) → AreRowsOf plan rows → tables ≡ tables_of plan rows
+        tables-whole by_place tables found rows r =
+            let f = simulation_of plan in
+            found.2 ∙ by_place found.0 rows (same-at f found.0 rows (λ p. found.1 p ∙ sym (rows-whole f L (steps entries) W rows r.0 r.1 r.2 p)))

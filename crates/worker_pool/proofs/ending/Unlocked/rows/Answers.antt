@@ -1,0 +1,23 @@
+use Rattle.std.proofs.Common.{◌≡◌, List, subst}
+use Rattle.vlink.specs.declared.message.Message.{Message}
+use Rattle.vlink.specs.declared.note.Row.{Row as Noted}
+use Rattle.virtual_time.specs.Journal.{steps}
+use Rattle.virtual_time.specs.Safe.{IsFinished}
+use Rattle.virtual_time.specs.World.{Step}
+use Rattle.netdesc.specs.Plan.{Plan}
+use Rattle.nodes.specs.rules.Simulation.{simulation_of}
+use Rattle.trace_tables.specs.Ordered.{AreInMessageOrder, rows_of_event}
+use Rattle.seqsim.specs.Committed.{after, AreCommittedRows}
+use Rattle.seqsim.specs.Networks.{AreRowsOf}
+use Rattle.worker_pool.proofs.ending.Unlocked.rows.Goals as goal
+
+-- committed rows of a finished world, in message order, are those of the one-thread run
+abbrev AreOrdered : Plan → Type 0
+AreOrdered plan =
+    (steps : List Step) → IsFinished (simulation_of plan) (after plan steps) → (rows ordered : List Noted) → AreCommittedRows plan steps rows →
+    AreInMessageOrder ordered → ((m : Message) → rows_of_event m ordered ≡ rows_of_event m rows) → AreRowsOf plan ordered
+
+pub returns : goal.returns
+returns g c =
+    subst AreOrdered c.requires.network c.rows_by_process.ensures.finished (steps c.args.self.now.exchange.entries) c.requires.ended.finished
+    _ _ c.in_ok-rows.ensures c.in_ok-put_in_message_order.ensures.ascending c.put_in_message_order.ensures.each_event

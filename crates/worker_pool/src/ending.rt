@@ -1,0 +1,138 @@
+//! The end of a run: one thread has all in hand, and gives turns until everything is committed.
+ghost use Rattle.std.specs.Prelude.{◌≡◌, ◌<◌, ℕ, true, [], length, map, slice_get, Some, Ok, IfErr, OnOk};
+ghost use Rattle.netdesc.specs.Faults.{process_count};
+ghost use Rattle.nodes.specs.rules.Node.{NodeState};
+ghost use Rattle.journal.specs.declared.fault.PoolFault.TheVariants.{Torn};
+ghost use Rattle.exchange.specs.Views.{InShare};
+ghost use Rattle.worker_pool.specs.Runs.{IsOfWorld, IsEnded};
+
+use crate::locks::{Locked, Locks};
+use crate::network_run::{NetworkRun, Of};
+use crate::pace::Pace;
+use crate::turn::lent_turn;
+use exchange::{Exchange, Gate, Held, publish};
+use journal::PoolFault;
+use nodes::Node;
+use std::alloc::{AllocError, Global};
+use std::sync::{Mutex, Wait};
+use vlink::Time;
+
+/// The exchange and all processes of a run, out of their locks.
+#[derive(Drop)]
+pub(crate) struct Unlocked<'a, J: NetworkRun> {
+    pub exchange: Exchange<'a, Node, Of<J>>,
+    pub lockeds: Vec<Locked<'a, J>>,
+}
+
+/// Whether this process is number `place`, has no step that is not in the journal, and is the one of the journal.
+fn is_of_world<'a, J: NetworkRun>(
+    exchange: &Exchange<'a, Node, Of<J>>,
+    held: &Held<'a, Node, Of<J>>,
+    place: usize,
+) -> bool
+    ensures { result ≡ true → IsOfWorld J.plan exchange.now.entries place held.now }
+{
+    if usize::from(held.number()) != place || held.pending() != 0 {
+        return false;
+    }
+    exchange.fits(held)
+}
+
+impl<'a, J: NetworkRun> Unlocked<'a, J> {
+    /// Takes out of the locks what they keep, in order. It is refused for memory alone.
+    pub(crate) fn of(
+        alloc: Global,
+        locks: Locks<'a, J>,
+        exchange: Mutex<Exchange<'a, Node, Of<J>>>,
+    ) -> Result<Self, AllocError> {
+        let Locks { locks, .. } = locks;
+        let mut lockeds = Vec::with_capacity(alloc, locks.len())?;
+        for lock in locks {
+            lockeds.push(lock.into_inner())?;
+        }
+        Ok(Unlocked {
+            exchange: exchange.into_inner(),
+            lockeds,
+        })
+    }
+
+    /// Gives each process a turn and sets GVT, once and again until the run is ended. `until` is the end time of the network.
+    ///
+    /// `Torn`: a process is not the one of the journal.
+    pub(crate) fn end<G: Gate, T: Wait>(
+        &mut self,
+        rt: &T,
+        until: Time,
+        pace: &Pace,
+        gate: &G,
+    ) -> Result<(), PoolFault>
+        requires { until ≡ J.plan.until }
+        ensures { OnOk result (IsEnded J.plan self.new.exchange.entries (map (λ l. l.held) self.new.lockeds.items)) }
+    {
+        for _ in rt.forever() {
+            self.take_turns(pace, gate)?;
+            let _gvt = publish(&mut self.exchange)?;
+            if self.is_ended(until)? {
+                return Ok(());
+            }
+        }
+        unreachable!()
+    }
+
+    /// Each process gets a turn.
+    fn take_turns<G: Gate>(&mut self, pace: &Pace, gate: &G) -> Result<(), PoolFault> {
+        for locked in self.lockeds.iter_mut() {
+            lent_turn(locked, &mut self.exchange, pace, gate)?;
+        }
+        Ok(())
+    }
+
+    /// Whether GVT is past the end and each process has committed all that it has done.
+    ///
+    /// `Torn`: a process is not the one of the journal, or not in its place.
+    fn is_ended(&self, until: Time) -> Result<bool, PoolFault>
+        requires { until ≡ J.plan.until }
+        ensures ended { result ≡ Ok true → IsEnded J.plan self.now.exchange.entries (map (λ l. l.held) self.now.lockeds.items) }
+        ensures torn { IfErr result (λ fault. fault ≡ Torn) }
+    {
+        if !self.are_of_world() {
+            return Err(PoolFault::Torn);
+        }
+        if self.exchange.gvt().ns() != until.ns() + 1 {
+            return Ok(false);
+        }
+        Ok(self.all_committed())
+    }
+
+    /// Whether all processes of the network are there, each in its place, and each is the one of the journal.
+    fn are_of_world(&self) -> bool
+        ensures count { result ≡ true → length self.now.lockeds.items ≡ process_count J.plan }
+        ensures each { result ≡ true → (p : ℕ) (share : InShare NodeState) → slice_get (map (λ l. l.held) self.now.lockeds.items) p ≡ Some share →
+            IsOfWorld J.plan self.now.exchange.entries p share }
+    {
+        if self.lockeds.len() != usize::from(self.exchange.processes()) {
+            return false;
+        }
+        for place in 0..self.lockeds.len() {
+            let locked = &self.lockeds[place];
+            if !is_of_world(&self.exchange, &locked.held, place) {
+                return false;
+            }
+        }
+        true
+    }
+
+    /// Whether no process has a done event that is not committed.
+    fn all_committed(&self) -> bool
+        ensures { result ≡ true → (p : ℕ) (share : InShare NodeState) → slice_get (map (λ l. l.held) self.now.lockeds.items) p ≡ Some share →
+            share.part.done ≡ [] }
+    {
+        for place in 0..self.lockeds.len() {
+            let locked = &self.lockeds[place];
+            if !locked.held.all_committed() {
+                return false;
+            }
+        }
+        true
+    }
+}

@@ -1,0 +1,65 @@
+//! The locks of the processes of a run.
+ghost use Rattle.std.specs.Prelude.{◌≡◌, ◌≤◌, ℕ, length, IfOk, IfErr};
+ghost use Rattle.netdesc.specs.Faults.{process_count};
+ghost use Rattle.netdesc.specs.Limits.{greatest_processes};
+ghost use Rattle.journal.specs.declared.fault.PoolFault.TheVariants.{OutOfMemory};
+
+use crate::network_run::{NetworkRun, Of};
+use crate::pace::Pace;
+use exchange::Held;
+use journal::PoolFault;
+use netdesc::Network;
+use nodes::Node;
+use std::alloc::{AllocError, Global};
+use std::sync::Mutex;
+use vlink::Time;
+
+/// What one lock keeps: a process in hand, and its lead: how far it runs ahead of the GVT that it saw, in ns.
+#[derive(Drop)]
+pub(crate) struct Locked<'a, J: NetworkRun> {
+    pub held: Held<'a, Node, Of<J>>,
+    pub lead_ns: u64,
+}
+
+/// A lock for each process of the run, and the end time of the run.
+#[derive(Drop)]
+pub(crate) struct Locks<'a, J: NetworkRun> {
+    pub locks: Vec<Mutex<Locked<'a, J>>>,
+    pub until: Time,
+    pub ghost all: { length locks.items ≡ process_count J.plan },
+    pub ghost few: { length locks.items ≤ greatest_processes },
+}
+
+/// A lock for each process of the network, in order. The lead of each begins at the window. It is refused for memory alone.
+pub(crate) fn locks_of<'a, J: NetworkRun>(
+    alloc: Global,
+    network: &Network,
+    helds: Vec<Held<'a, Node, Of<J>>>,
+    pace: &Pace,
+) -> Result<Locks<'a, J>, PoolFault>
+    requires network { network.now ≡ J.plan }
+    requires all { length helds.items ≡ process_count network.now }
+    ensures memory { IfErr result (λ fault. fault ≡ OutOfMemory) }
+{
+    network.process_count();
+    let locks = mutexes_of(alloc, helds, pace.window_ns)?;
+    Ok(Locks {
+        locks,
+        until: network.until(),
+    })
+}
+
+/// A lock for each of these, in order, with this lead in ns.
+fn mutexes_of<'a, J: NetworkRun>(
+    alloc: Global,
+    helds: Vec<Held<'a, Node, Of<J>>>,
+    lead_ns: u64,
+) -> Result<Vec<Mutex<Locked<'a, J>>>, AllocError>
+    ensures { IfOk result (λ locks. length locks.items ≡ length helds.entry.items) }
+{
+    let mut locks = Vec::with_capacity(alloc, helds.len())?;
+    for held in helds {
+        locks.push(Mutex::new(Locked { held, lead_ns }))?;
+    }
+    Ok(locks)
+}
