@@ -8,6 +8,7 @@ use Rattle.netdesc.specs.Plan.{Plan}
 use Rattle.command_line.specs.Meaning.{Names, command_in, command_of, rows_in}
 use Rattle.command_line.specs.declared.orders.Check.{Check}
 use Rattle.command_line.specs.declared.orders.Seq.{Seq}
+use Rattle.command_line.specs.declared.orders.Run.{Run}
 use Rattle.command_line.specs.declared.orders.Replay.{Replay}
 use Rattle.command_line.specs.declared.orders.Order.{Order}
 use Rattle.command_line.specs.declared.orders.Order.TheVariants as ordered
@@ -16,10 +17,11 @@ use Rattle.afdxsim.specs.declared.fault.Fault.TheVariants.{CannotWrite, OutOfMem
 use Rattle.afdxsim.specs.Checking.{check_text}
 use Rattle.afdxsim.specs.Telling.{TellsOne}
 use Rattle.afdxsim.specs.Ending.{Ends, IsFaultOfOutput, Told, Took}
-use Rattle.afdxsim.specs.Performing.{EndsCheck, EndsSeq, EndsReplay, found_in}
+use Rattle.afdxsim.specs.Performing.{EndsCheck, EndsRun, EndsSeq, EndsReplay, found_in}
 use Rattle.afdxsim.specs.Reading.{GivesNetwork, IsFaultOfNet}
 use Rattle.afdxsim.specs.Replaying.{GivesTexts, IsFaultOfSteps}
 use Rattle.afdxsim.specs.Sequencing.{IsFaultOfRun, IsFaultOfSeq, IsFaultOfTrace, IsTablesText}
+use Rattle.afdxsim.specs.Workers.{IsFaultOfFiles, IsFaultOfPool, IsFaultOfRunBy}
 
 -- what follows from what holds of an answer that is good, and of a fault
 pub ok_then : {T F P Q : Type 0} (r : Result T F) → OnOk r P → (P → Q) → OnOk r Q
@@ -103,6 +105,16 @@ module _ {O E : Type 0} (r : Result (Unit {0}) Fault) (status : ℕ) (took : O �
       (ended_quiet (λ o. (plan : Plan) × (text : List ℕ) × GivesNetwork (gives path) plan × IsTablesText plan text × Took took o₀ o text)
       (λ o fault. IsFaultOfSeq (gives path) path given (IsFaultOfOutput failed o₀ o) fault) done met kept quiet zero told same))
 
+  pub ended_run : (gives : Option (List ℕ) → Type 0) (net : List ℕ) (journal trace : Option (List ℕ)) →
+      OnOk r ((plan : Plan) × (text : List ℕ) × GivesNetwork gives plan × IsTablesText plan text × Took took o₀ o₁ text) →
+      IfErr r (IsFaultOfRunBy gives net journal trace (IsFaultOfOutput failed o₀ o₁)) →
+      IfErr r (λ fault. fault ≢ CannotWrite → o₁ ≡ o₀) → e₁ ≡ e₀ →
+      OnOk r ((status ≡ 0) × (e₂ ≡ e₁)) → IfErr r (λ fault. TellsOne fault (Told said unsaid e₁ e₂ status)) → o₂ ≡ o₁ →
+      EndsRun gives net journal trace took failed o₀ o₂ said unsaid e₀ e₂ status
+  ended_run gives net journal trace done met kept quiet zero told same =
+      ended_quiet (λ o. (plan : Plan) × (text : List ℕ) × GivesNetwork gives plan × IsTablesText plan text × Took took o₀ o text)
+      (λ o fault. IsFaultOfRunBy gives net journal trace (IsFaultOfOutput failed o₀ o) fault) done met kept quiet zero told same
+
   pub ended_replay : (gives : List ℕ → Option (List ℕ) → Type 0) (path net read steps : List ℕ) → path ≡ net → read ≡ steps →
       OnOk r ((tables : List ℕ) × (line : List ℕ) × GivesTexts (gives path) (gives read) tables line × Took took o₀ o₁ tables × (unsaid e₁ ≡ unsaid e₀ → Took said e₀ e₁ line)) →
       IfErr r (λ fault. IsFaultOfSteps (gives path) path (gives read) read fault ⊎ IsFaultOfOutput failed o₀ o₁ fault) →
@@ -131,12 +143,42 @@ fault_without_trace failed gives net trace plan fault o o' p p' given before aft
 fault_without_trace failed gives net trace plan fault o o' p p' given before after (inr shown) =
     inr (inr (inr (subst (λ x. IsFaultOfOutput failed x o' fault) before (subst (λ x. IsFaultOfOutput failed p x fault) after shown))))
 
+-- what goes out of a run by workers is that of the network that was read; standard output was p when its tables were to go out
+module _ {O : Type 0} (r : Result (Unit {0}) Fault) (gives : Option (List ℕ) → Type 0) (plan : Plan) (o o' p : O) (given : GivesNetwork gives plan) (before : p ≡ o) where
+  pub ran_to_tables : (took : O → Option (List ℕ)) → OnOk r ((text : List ℕ) × IsTablesText plan text × Took took p o' text) →
+      OnOk r ((plan : Plan) × (text : List ℕ) × GivesNetwork gives plan × IsTablesText plan text × Took took o o' text)
+  ran_to_tables took done = ok_then r done (λ t. (plan, t.0, given, t.1, subst (λ x. Took took x o' t.0) before t.2))
+
+  -- why such a run with files, or without them, was no success is why `run` was none
+  pub fault_with_files : (failed : O → ℕ) (net : List ℕ) (journal trace : Option (List ℕ)) →
+      IfErr r (λ fault. IsFaultOfPool fault ⊎ (IsFaultOfFiles journal trace fault ⊎ IsFaultOfOutput failed p o' fault)) →
+      IfErr r (IsFaultOfRunBy gives net journal trace (IsFaultOfOutput failed o o'))
+  fault_with_files failed net journal trace met = err_then r met (λ fault is. elim is [
+    | inl run ↦ inr (inl (plan, given, run))
+    | inr (inl written) ↦ inr (inr (inl written))
+    | inr (inr shown) ↦ inr (inr (inr (subst (λ x. IsFaultOfOutput failed x o' fault) before shown)))
+  ])
+
+  pub fault_without_files : (failed : O → ℕ) (net : List ℕ) (journal trace : Option (List ℕ)) →
+      IfErr r (λ fault. IsFaultOfPool fault ⊎ IsFaultOfOutput failed p o' fault) →
+      IfErr r (IsFaultOfRunBy gives net journal trace (IsFaultOfOutput failed o o'))
+  fault_without_files failed net journal trace met = fault_with_files failed net journal trace (err_then r met (λ fault is. elim is [
+    | inl run ↦ inl run
+    | inr shown ↦ inr (inr shown)
+  ]))
+
+  pub kept_from_there : IfErr r (λ fault. fault ≢ CannotWrite → o' ≡ p) → IfErr r (λ fault. fault ≢ CannotWrite → o' ≡ o)
+  kept_from_there kept = err_then r kept (λ fault same other. same other ∙ before)
+
 -- what holds of the order that was named
 pub of_check : (order : Order) (x : Check) (P : Check → Type 0) → order ≡ ordered.Check x → P x → (o : Check) → order ≡ ordered.Check o → P o
 of_check order x P is holds o named = let same : x ≡ o = cc in subst P same holds
 
 pub of_named : (order : Order) (x : Seq) (P : Seq → Type 0) → order ≡ ordered.Seq x → P x → (o : Seq) → order ≡ ordered.Seq o → P o
 of_named order x P is holds o named = let same : x ≡ o = cc in subst P same holds
+
+pub of_run : (order : Order) (x : Run) (P : Run → Type 0) → order ≡ ordered.Run x → P x → (o : Run) → order ≡ ordered.Run o → P o
+of_run order x P is holds o named = let same : x ≡ o = cc in subst P same holds
 
 pub of_replay : (order : Order) (x : Replay) (P : Replay → Type 0) → order ≡ ordered.Replay x → P x → (o : Replay) → order ≡ ordered.Replay o → P o
 of_replay order x P is holds o named = let same : x ≡ o = cc in subst P same holds
@@ -165,6 +207,18 @@ module _ {O E : Type 0} (words : List Text) (status : ℕ) (gives : List ℕ →
   seq_words (ordered.Run c) is names ends named given = absurd (let bad : 114 ≡ 115 = same_first 114 115 _ _ (sym is ∙ named) in omega arith)
   seq_words (ordered.Replay c) is names ends named given = absurd (let bad : 114 ≡ 115 = same_first 114 115 _ _ (sym is ∙ named) in omega arith)
 
+  pub run_words : (order : Order) → command_in words ≡ Some (command_of order) → Names (rows_in words) order →
+      ((c : Run) → order ≡ ordered.Run c → EndsRun (gives (string_bytes c.net)) (string_bytes c.net) (option_map string_bytes c.journal) (option_map string_bytes c.trace) took failed o o' said unsaid e e' status) →
+      command_in words ≡ Some (codes "run") → first_of (codes "NET") (rows_in words) ≡ Some net →
+      EndsRun (gives net) net (first_of (codes "journal") (rows_in words)) (first_of (codes "trace") (rows_in words)) took failed o o' said unsaid e e' status
+  run_words (ordered.Run c) is names ends named given =
+      subst (λ (n : List ℕ). EndsRun (gives n) n (first_of (codes "journal") (rows_in words)) (first_of (codes "trace") (rows_in words)) took failed o o' said unsaid e e' status) (some_same (string_bytes c.net) net (sym names.net ∙ given))
+      (subst (λ (j : Option (List ℕ)). EndsRun (gives (string_bytes c.net)) (string_bytes c.net) j (first_of (codes "trace") (rows_in words)) took failed o o' said unsaid e e' status) (sym names.journal)
+      (subst (λ (t : Option (List ℕ)). EndsRun (gives (string_bytes c.net)) (string_bytes c.net) (option_map string_bytes c.journal) t took failed o o' said unsaid e e' status) (sym names.trace) (ends c refl)))
+  run_words (ordered.Check c) is names ends named given = absurd (let bad : 99 ≡ 114 = same_first 99 114 _ _ (sym is ∙ named) in omega arith)
+  run_words (ordered.Seq c) is names ends named given = absurd (let bad : 115 ≡ 114 = same_first 115 114 _ _ (sym is ∙ named) in omega arith)
+  run_words (ordered.Replay c) is names ends named given = absurd (let bad : 101 ≡ 117 = same_second 114 114 101 117 _ _ (sym is ∙ named) in omega arith)
+
   pub replay_words : (order : Order) (steps : List ℕ) → command_in words ≡ Some (command_of order) → Names (rows_in words) order →
       ((c : Replay) → order ≡ ordered.Replay c → EndsReplay gives (string_bytes c.net) (string_bytes c.steps) took failed o o' said unsaid e e' status) →
       command_in words ≡ Some (codes "replay") → first_of (codes "NET") (rows_in words) ≡ Some net → first_of (codes "STEPS") (rows_in words) ≡ Some steps →
@@ -190,6 +244,11 @@ module _ {O E : Type 0} (words : List Text) (status : ℕ) (gives : List ℕ →
       (k ≡ kind.OutOfMemory → TellsOne OutOfMemory (Told said unsaid e e' status)) → (k ≡ kind.OutOfMemory → o' ≡ o) →
       EndsSeq (gives net) net trace took failed o o' said unsaid e e' status
   seq_memory k trace none has told same = let is = memory k none has in inr (OutOfMemory, (inl (inl tt), λ other. same is), told is)
+
+  pub run_memory : (k : ErrorKind) (journal trace : Option (List ℕ)) → found_in words ≡ [] → (k ≡ kind.OutOfMemory) ⊎ IsAmong k (found_in words) →
+      (k ≡ kind.OutOfMemory → TellsOne OutOfMemory (Told said unsaid e e' status)) → (k ≡ kind.OutOfMemory → o' ≡ o) →
+      EndsRun (gives net) net journal trace took failed o o' said unsaid e e' status
+  run_memory k journal trace none has told same = let is = memory k none has in inr (OutOfMemory, (inl (inl tt), λ other. same is), told is)
 
   pub replay_memory : (k : ErrorKind) (steps : List ℕ) → found_in words ≡ [] → (k ≡ kind.OutOfMemory) ⊎ IsAmong k (found_in words) →
       (k ≡ kind.OutOfMemory → TellsOne OutOfMemory (Told said unsaid e e' status)) → (k ≡ kind.OutOfMemory → o' ≡ o) →

@@ -2,3 +2,4 @@ pub mod Accounts
 pub mod Running
 pub mod Statuses
 pub mod Ended
+pub mod Holding

@@ -1,16 +1,18 @@
--- Why a one-thread run was given up, as a fault of the program.
+-- What a run makes, and why one was given up, as a fault of the program.
 use Rattle.std.proofs.Common.{◌≡◌, ℕ, List, Result, Err, sym, ap, subst}
 use Rattle.nodes.specs.rules.Simulation.{simulation_of}
 use Rattle.netdesc.specs.Plan.{Plan}
 use Rattle.actor_run.specs.Running.{IsExhaustedAt}
 use Rattle.actor_run.specs.declared.fault.SimFault.{SimFault}
 use Rattle.actor_run.specs.declared.fault.SimFault.TheVariants as sim
+use Rattle.journal.specs.declared.fault.PoolFault.{PoolFault}
 use Rattle.afdxsim.specs.declared.fault.Fault.{Fault}
 use Rattle.vlink.specs.declared.note.Row.{Row as Noted}
 use Rattle.trace_tables.specs.Tables.{TableLists, tables_of}
 use Rattle.trace_tables.specs.Text.{tables_text}
 use Rattle.seqsim.specs.Networks.{AreRowsOf}
 use Rattle.afdxsim.specs.Sequencing.{fault_of_run, IsFaultOfRun, IsTablesText}
+use Rattle.afdxsim.specs.Workers.{fault_of_pool, IsFaultOfPool}
 
 -- a run's own fault is named
 pub given_up : {X : Type 0} (plan : Plan) (r : Result X SimFault) (e : SimFault) (fault : Fault) → r ≡ Err e →
@@ -20,6 +22,10 @@ given_up plan r e fault is exhausted named = subst (IsFaultOfRun plan) (sym name
     of : (e : SimFault) → r ≡ Err e → IsFaultOfRun plan (fault_of_run e)
     of sim.OutOfMemory is = tt
     of sim.Exhausted is = exhausted is
+
+-- that of a run by workers too
+pub workers_gave_up : (why : PoolFault) (fault : Fault) → fault ≡ fault_of_pool why → IsFaultOfPool fault
+workers_gave_up why fault named = (why, named)
 
 -- the text of the tables of a run
 pub tables_made : (plan : Plan) (tables : TableLists) (rows : List Noted) → AreRowsOf plan rows → tables ≡ tables_of plan rows →

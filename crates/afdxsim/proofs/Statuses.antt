@@ -24,7 +24,7 @@ answered words kind status has known memory only_done only_shown only_mistake =
     record {
       bad_words = λ two. elim has [
         | inl e ↦ absurd (let five = memory e in omega arith)
-        | inr among ↦ inl (among-mistakes kind (found_in words) among (only_mistake two))
+        | inr among ↦ among-mistakes kind (found_in words) among (only_mistake two)
       ];
       mistaken = λ some none. elim has [
         | inl e ↦ inr (memory e)

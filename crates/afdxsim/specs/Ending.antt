@@ -2,7 +2,7 @@
 use Rattle.std.specs.Prelude.{◌≡◌, ◌⊎◌, ◌+◌, ℕ, List, Option}
 use Rattle.std.specs.Io.KnownBytes.{append_known}
 use Rattle.afdxsim.specs.declared.fault.Fault.{Fault}
-use Rattle.afdxsim.specs.declared.fault.Fault.TheVariants.{Description, JournalLine, JournalFull, CannotRead, CannotWriteFile, CannotWrite, Layout, OutOfMemory, Exhausted}
+use Rattle.afdxsim.specs.declared.fault.Fault.TheVariants.{Description, JournalLine, JournalFull, CannotRead, CannotWriteFile, CannotWrite, Layout, OutOfMemory, Exhausted, Spawn, Torn}
 use Rattle.afdxsim.specs.Telling.{Telling, TellsOne}
 
 -- a stream took this text behind what it had taken
@@ -24,6 +24,8 @@ IsFaultOfOutput failures old new CannotWrite = failures new ≡ failures old + 1
 IsFaultOfOutput failures old new Layout = Unit
 IsFaultOfOutput failures old new OutOfMemory = Unit
 IsFaultOfOutput failures old new Exhausted = ⊥
+IsFaultOfOutput failures old new Spawn = ⊥
+IsFaultOfOutput failures old new Torn = ⊥
 
 -- a command has ended: with status 0, and this was done, or a fault was met, and was told
 abbrev pub Ends : ℕ → Type 0 → (Fault → Type 0) → (Telling → Type 0) → Type 0

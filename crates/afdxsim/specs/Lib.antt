@@ -3,6 +3,7 @@ pub mod Telling
 pub mod Ending
 pub mod Checking
 pub mod Sequencing
+pub mod Workers
 pub mod Reading
 pub mod Replaying
 pub mod Performing

@@ -1,16 +1,15 @@
 -- What the words after the program's name come to, as its status tells.
-use Rattle.std.specs.Prelude.{◌≡◌, ◌≢◌, ◌⊎◌, ℕ, List, [], ◌∷◌, Option, Some, codes}
+use Rattle.std.specs.Prelude.{◌≡◌, ◌≢◌, ◌⊎◌, ℕ, List, [], ◌∷◌, Option}
 use Rattle.clap.specs.Words.{Kinds, Text, fault_of}
-use Rattle.command_line.specs.Meaning.{command_in}
 use Rattle.command_line.specs.Program.{program}
 use Rattle.netdesc.specs.Plan.{Plan}
-use Rattle.afdxsim.specs.declared.fault.Fault.{Fault}
 use Rattle.afdxsim.specs.declared.fault.Fault.TheVariants.{CannotWrite}
 use Rattle.afdxsim.specs.Checking.{check_text}
 use Rattle.afdxsim.specs.Ending.{Ends, IsFaultOfOutput, Told, Took}
 use Rattle.afdxsim.specs.Reading.{GivesNetwork, IsFaultOfNet}
 use Rattle.afdxsim.specs.Replaying.{GivesTexts, IsFaultOfSteps}
 use Rattle.afdxsim.specs.Sequencing.{IsFaultOfSeq, IsTablesText}
+use Rattle.afdxsim.specs.Workers.{IsFaultOfRunBy}
 use Rattle.afdxsim.specs.Words.{AsksFor, AsksForText}
 
 -- among these kinds is a mistake in the words
@@ -24,8 +23,8 @@ found_in words = fault_of program words
 
 -- a status where words were read and no order was done, by what was found in them. Want of memory has the status 5.
 pub record AnswersWords (words : List Text) (status : ℕ) : Type 0 where
-  -- 2 comes for a mistake alone, and for `run`, which is not there yet
-  pub bad_words : status ≡ 2 → HasMistake (found_in words) ⊎ (command_in words ≡ Some (codes "run"))
+  -- 2 comes for a mistake alone
+  pub bad_words : status ≡ 2 → HasMistake (found_in words)
   -- words with a mistake, and without one that asks for help, have no other, but for want of memory
   pub mistaken : found_in words ≢ [] → ¬ (AsksForText (found_in words)) → (status ≡ 2) ⊎ (status ≡ 5)
   -- 0 comes where they are accepted, or where they ask for help
@@ -50,6 +49,15 @@ EndsSeq gives net trace took failed o o' said unsaid e e' status =
     Ends status
     (((plan : Plan) × (text : List ℕ) × GivesNetwork gives plan × IsTablesText plan text × Took took o o' text) × (e' ≡ e))
     (λ fault. IsFaultOfSeq gives net trace (IsFaultOfOutput failed o o') fault × (fault ≢ CannotWrite → o' ≡ o))
+    (Told said unsaid e e' status)
+
+-- the same of `run NET`, with the journal and the trace for these files, if there are such: the tables are those of the one-thread run here too
+abbrev pub EndsRun : {O E : Type 0} → (Option (List ℕ) → Type 0) → List ℕ → Option (List ℕ) → Option (List ℕ) →
+    (O → Option (List ℕ)) → (O → ℕ) → O → O → (E → Option (List ℕ)) → (E → ℕ) → E → E → ℕ → Type 0
+EndsRun gives net journal trace took failed o o' said unsaid e e' status =
+    Ends status
+    (((plan : Plan) × (text : List ℕ) × GivesNetwork gives plan × IsTablesText plan text × Took took o o' text) × (e' ≡ e))
+    (λ fault. IsFaultOfRunBy gives net journal trace (IsFaultOfOutput failed o o') fault × (fault ≢ CannotWrite → o' ≡ o))
     (Told said unsaid e e' status)
 
 -- the same of `replay NET STEPS`, where gives tells what a read of a file may give by its path: what goes out is the text of the tables of what

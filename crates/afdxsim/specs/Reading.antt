@@ -4,7 +4,7 @@ use Rattle.network_rows.specs.declared.fault.DescFault.TheVariants.{Syntax}
 use Rattle.netdesc.specs.Plan.{Plan}
 use Rattle.netdesc.specs.Description.{TellsFaultOf, Describes}
 use Rattle.afdxsim.specs.declared.fault.Fault.{Fault}
-use Rattle.afdxsim.specs.declared.fault.Fault.TheVariants.{Description, JournalLine, JournalFull, CannotRead, CannotWriteFile, CannotWrite, Layout, OutOfMemory, Exhausted}
+use Rattle.afdxsim.specs.declared.fault.Fault.TheVariants.{Description, JournalLine, JournalFull, CannotRead, CannotWriteFile, CannotWrite, Layout, OutOfMemory, Exhausted, Spawn, Torn}
 
 -- the first fault of these bytes as a description, or want of memory; that of bytes that are no text is their syntax
 abbrev pub TellsOf : List ℕ → Fault → Type 0
@@ -17,6 +17,8 @@ TellsOf bytes CannotWrite = ⊥
 TellsOf bytes Layout = ⊥
 TellsOf bytes OutOfMemory = ⊥
 TellsOf bytes Exhausted = ⊥
+TellsOf bytes Spawn = ⊥
+TellsOf bytes Torn = ⊥
 
 -- why the file with this path was not read, where this is what a read of it may give
 abbrev pub IsFaultOfFile : (Option (List ℕ) → Type 0) → List ℕ → Fault → Type 0
@@ -29,6 +31,8 @@ IsFaultOfFile gives path CannotWrite = ⊥
 IsFaultOfFile gives path Layout = ⊥
 IsFaultOfFile gives path OutOfMemory = Unit
 IsFaultOfFile gives path Exhausted = ⊥
+IsFaultOfFile gives path Spawn = ⊥
+IsFaultOfFile gives path Torn = ⊥
 
 -- a read of the file may give a text that describes this network: it has no fault then
 abbrev pub GivesNetwork : (Option (List ℕ) → Type 0) → Plan → Type 0

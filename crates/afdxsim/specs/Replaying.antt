@@ -19,7 +19,7 @@ use Rattle.seqsim.specs.Committed.{after, AreCommittedRows}
 use Rattle.timewarp.specs.Replaying.{did, not_enabled, refused}
 use Rattle.afdxsim.specs.declared.account.Account.{Account}
 use Rattle.afdxsim.specs.declared.fault.Fault.{Fault}
-use Rattle.afdxsim.specs.declared.fault.Fault.TheVariants.{Description, JournalLine, JournalFull, CannotRead, CannotWriteFile, CannotWrite, Layout, OutOfMemory, Exhausted}
+use Rattle.afdxsim.specs.declared.fault.Fault.TheVariants.{Description, JournalLine, JournalFull, CannotRead, CannotWriteFile, CannotWrite, Layout, OutOfMemory, Exhausted, Spawn, Torn}
 use Rattle.afdxsim.specs.Reading.{GivesNetwork, IsFaultOfFile, IsFaultOfNet}
 
 -- the most lines of a journal
@@ -95,6 +95,8 @@ IsFaultOfJournal plan text CannotWrite = ⊥
 IsFaultOfJournal plan text Layout = ⊥
 IsFaultOfJournal plan text OutOfMemory = length (lines text) ≤ most_lines
 IsFaultOfJournal plan text Exhausted = (steps : List Noting) × IsJournal text steps × IsExhaustedIn plan steps
+IsFaultOfJournal plan text Spawn = ⊥
+IsFaultOfJournal plan text Torn = ⊥
 
 -- reads of two files may give a network and a journal, and of what comes of it this is the text of the tables, and this the line
 abbrev pub GivesTexts : (Option (List ℕ) → Type 0) → (Option (List ℕ) → Type 0) → List ℕ → List ℕ → Type 0

@@ -10,7 +10,7 @@ use Rattle.trace_tables.specs.Tables.{tables_of}
 use Rattle.trace_tables.specs.Text.{tables_text}
 use Rattle.seqsim.specs.Networks.{AreRowsOf}
 use Rattle.afdxsim.specs.declared.fault.Fault.{Fault}
-use Rattle.afdxsim.specs.declared.fault.Fault.TheVariants.{Description, JournalLine, JournalFull, CannotRead, CannotWriteFile, CannotWrite, Layout, OutOfMemory, Exhausted}
+use Rattle.afdxsim.specs.declared.fault.Fault.TheVariants.{Description, JournalLine, JournalFull, CannotRead, CannotWriteFile, CannotWrite, Layout, OutOfMemory, Exhausted, Spawn, Torn}
 use Rattle.afdxsim.specs.Reading.{GivesNetwork, IsFaultOfNet}
 
 -- why a one-thread run was given up, as a fault of the program
@@ -34,6 +34,8 @@ IsFaultOfRun plan CannotWrite = ⊥
 IsFaultOfRun plan Layout = ⊥
 IsFaultOfRun plan OutOfMemory = Unit
 IsFaultOfRun plan Exhausted = (n : ℕ) × IsExhaustedAt (simulation_of plan) n
+IsFaultOfRun plan Spawn = ⊥
+IsFaultOfRun plan Torn = ⊥
 
 -- why a trace is not in the file with this path: the file was not made or not written, its rows were not laid out, or a growth was refused
 abbrev pub IsFaultOfTrace : List ℕ → Fault → Type 0
@@ -46,6 +48,8 @@ IsFaultOfTrace path CannotWrite = ⊥
 IsFaultOfTrace path Layout = Unit
 IsFaultOfTrace path OutOfMemory = Unit
 IsFaultOfTrace path Exhausted = ⊥
+IsFaultOfTrace path Spawn = ⊥
+IsFaultOfTrace path Torn = ⊥
 
 -- why `seq` ended early, of a network in the file with this path and a trace for the file with that path, if there is one: there was no
 -- network, its run was given up, the trace was not written, or the tables were not

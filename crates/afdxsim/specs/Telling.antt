@@ -6,7 +6,7 @@ use Rattle.network_rows.specs.declared.fault.DescFault.{DescFault}
 use Rattle.network_rows.specs.declared.fault.DescFault.TheVariants as desc
 use Rattle.network_rows.specs.declared.fault.Place.{Place}
 use Rattle.afdxsim.specs.declared.fault.Fault.{Fault}
-use Rattle.afdxsim.specs.declared.fault.Fault.TheVariants.{Description, JournalLine, JournalFull, CannotRead, CannotWriteFile, CannotWrite, Layout, OutOfMemory, Exhausted}
+use Rattle.afdxsim.specs.declared.fault.Fault.TheVariants.{Description, JournalLine, JournalFull, CannotRead, CannotWriteFile, CannotWrite, Layout, OutOfMemory, Exhausted, Spawn, Torn}
 
 -- the section, the row and the key, with one blank between; a row or a key that the place has not is left out
 abbrev pub place_text : Place → List ℕ
@@ -55,12 +55,14 @@ fault_text CannotWrite = codes "cannot write"
 fault_text Layout = codes "cannot lay out rows"
 fault_text OutOfMemory = codes "out of memory"
 fault_text Exhausted = codes "numbers used up"
+fault_text Spawn = codes "cannot start a worker"
+fault_text Torn = codes "torn"
 
 -- the line of a text on error output
 abbrev pub told : List ℕ → List ℕ
 told text = codes "afdxsim: " ++ text ++ 10 ∷ []
 
--- 3 for a description or a line of a journal, 4 for a file or standard output, 5 for memory, numbers, a journal that is too long and rows that are not laid out
+-- 3 for a description or a line of a journal, 4 for a file, standard output or a worker that does not start, 5 for memory, numbers, a journal that is too long or torn, and rows that are not laid out
 abbrev pub status_of : Fault → ℕ
 status_of (Description desc.OutOfMemory) = 5
 status_of (Description fault) = 3
@@ -72,6 +74,8 @@ status_of CannotWrite = 4
 status_of Layout = 5
 status_of OutOfMemory = 5
 status_of Exhausted = 5
+status_of Spawn = 4
+status_of Torn = 5
 
 -- a line on error output, and the status that the program ends with
 pub record Telling : Type 0 where
@@ -86,6 +90,6 @@ telling_of fault = record { line = told (fault_text fault); status = status_of f
 abbrev pub TellsOne : Fault → (Telling → Type 0) → Type 0
 TellsOne fault IsTold = IsTold (telling_of fault) ⊎ IsTold (telling_of OutOfMemory)
 
--- a status of the program: 0 done, 2 bad words, 3 a bad description or journal, 4 a file or standard output, 5 memory, numbers, a journal that is too long or rows that are not laid out
+-- a status of the program: 0 done, 2 bad words, 3 a bad description or journal, 4 a file, standard output or a worker that does not start, 5 memory, numbers, a journal that is too long or torn, or rows that are not laid out
 abbrev pub IsStatus : ℕ → Type 0
 IsStatus status = (status ≡ 0) ⊎ (status ≡ 2) ⊎ (status ≡ 3) ⊎ (status ≡ 4) ⊎ (status ≡ 5)

@@ -5,6 +5,7 @@ ghost use Rattle.afdxsim.specs.Telling.{status_of};
 use netdesc::DescFault;
 use seqsim::SimFault;
 use std::alloc::AllocError;
+use worker_pool::PoolFault;
 
 /// The status where all was done.
 pub const DONE: u8 = 0;
@@ -19,7 +20,7 @@ pub enum Fault<'a> {
     Description(DescFault),
     /// The line with this number, from 1, is the first of a journal that is the text of no step.
     JournalLine(u64),
-    /// A journal has more lines than are allowed.
+    /// A journal has more lines than are allowed, or a run by workers more steps.
     JournalFull,
     /// The file with this path cannot be read.
     CannotRead(&'a str),
@@ -33,6 +34,10 @@ pub enum Fault<'a> {
     OutOfMemory,
     /// A process has not enough numbers left for what one event can send.
     Exhausted,
+    /// A worker cannot be started.
+    Spawn,
+    /// In a run by workers a process was not the one of the journal, or an entry of the journal was there already.
+    Torn,
 }
 
 impl Fault<'_> {
@@ -52,6 +57,8 @@ impl Fault<'_> {
             Fault::Layout => 5,
             Fault::OutOfMemory => 5,
             Fault::Exhausted => 5,
+            Fault::Spawn => 4,
+            Fault::Torn => 5,
         }
     }
 }
@@ -88,6 +95,23 @@ impl From<SimFault> for Fault<'_> {
         match it {
             SimFault::OutOfMemory => Fault::OutOfMemory,
             SimFault::Exhausted => Fault::Exhausted,
+        }
+    }
+}
+
+impl From<PoolFault> for Fault<'_> {
+    ghost use Rattle.std.specs.Prelude.{◌≡◌};
+    ghost use Rattle.afdxsim.specs.Workers.{fault_of_pool};
+
+    ghost from_gives = { λ it fault. fault ≡ fault_of_pool it };
+
+    fn from(it: PoolFault) -> Self {
+        match it {
+            PoolFault::OutOfMemory => Fault::OutOfMemory,
+            PoolFault::Exhausted => Fault::Exhausted,
+            PoolFault::JournalFull => Fault::JournalFull,
+            PoolFault::Spawn => Fault::Spawn,
+            PoolFault::Torn => Fault::Torn,
         }
     }
 }

@@ -11,7 +11,9 @@ mod obeying;
 mod perform;
 mod reading;
 mod replay;
+mod run;
 mod seq;
+mod steps;
 mod system;
 mod telling;
 
@@ -20,6 +22,7 @@ pub use journal_text::read_steps;
 pub use perform::perform;
 use std::process::ExitCode;
 use std::{env, io};
+pub use steps::write_steps;
 use system::System;
 
 fn main(rt: HostRuntime) -> io::Result<ExitCode> {
@@ -28,7 +31,7 @@ fn main(rt: HostRuntime) -> io::Result<ExitCode> {
         words.push(word)?;
     }
     let mut system = System::new(rt);
-    Ok(ExitCode::from(perform(rt.alloc(), &words, &mut system)))
+    Ok(ExitCode::from(perform(&rt, rt.alloc(), &words, &mut system)))
 }
 
 #[cfg(test)]

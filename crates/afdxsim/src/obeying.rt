@@ -1,22 +1,26 @@
 //! What an order comes to: it is done, or the fault that it met is told.
-ghost use Rattle.std.specs.Prelude.{◌≡◌, ◌⊎◌, OnOk, IfErr, codes, option_map, string_bytes};
-ghost use Rattle.command_line.specs.Meaning.{command_of};
+ghost use Rattle.std.specs.Prelude.{◌≡◌, ◌⊎◌, OnOk, IfErr, option_map, string_bytes};
+ghost use Rattle.command_line.specs.Meaning.{IsWithinLimits, RunLimits};
 ghost use Rattle.command_line.specs.declared.orders.Check.{Check as Checked};
 ghost use Rattle.command_line.specs.declared.orders.Seq.{Seq as Sequenced};
+ghost use Rattle.command_line.specs.declared.orders.Run.{Run as Worked};
 ghost use Rattle.command_line.specs.declared.orders.Replay.{Replay as Replayed};
 ghost use Rattle.command_line.specs.declared.orders.Order.TheVariants as ordered;
-ghost use Rattle.afdxsim.specs.Telling.{IsStatus, TellsOne};
+ghost use Rattle.afdxsim.specs.Telling.{TellsOne};
 ghost use Rattle.afdxsim.specs.Ending.{Told};
-ghost use Rattle.afdxsim.specs.Performing.{EndsCheck, EndsSeq, EndsReplay};
+ghost use Rattle.afdxsim.specs.Performing.{EndsCheck, EndsRun, EndsSeq, EndsReplay};
 
 use crate::check::check;
-use crate::fault::{BAD_WORDS, DONE, Fault};
+use crate::fault::{DONE, Fault};
 use crate::host::Host;
 use crate::replay::replay;
+use crate::run::run_ordered;
 use crate::seq::seq;
-use crate::telling::{say, tell};
-use command_line::{Check, Order, Replay, Seq};
+use crate::telling::tell;
+use command_line::{Check, Order, Replay, Run, Seq};
 use std::alloc::Global;
+use std::sync::Wait;
+use std::thread::Threads;
 
 /// Tells a fault, if there was one.
 fn end<H: Host>(alloc: Global, outcome: Result<(), Fault<'_>>, host: &mut H) -> u8
@@ -76,22 +80,41 @@ fn obey_replay<H: Host>(alloc: Global, order: &Replay, host: &mut H) -> u8
     end(alloc, outcome, host)
 }
 
-/// Says that a command is not there yet.
-fn lack<H: Host>(line: &str, host: &mut H) -> u8
-    ensures { result ≡ 2 }
+/// Does `run NET` with its options.
+fn obey_run<H: Host, T: Threads + Wait + Sync>(
+    rt: &T,
+    alloc: Global,
+    order: &Run,
+    host: &mut H,
+) -> u8
+    requires { RunLimits order.now }
+    ensures status { (result ≡ 0) ⊎ (result ≡ 3) ⊎ (result ≡ 4) ⊎ (result ≡ 5) }
+    ensures ends { EndsRun (H.gives host.old (string_bytes order.now.net)) (string_bytes order.now.net)
+        (option_map string_bytes order.now.journal) (option_map string_bytes order.now.trace)
+        H.Output.taken H.Output.failures (H.output host.old) (H.output host.new)
+        H.Errors.taken H.Errors.failures (H.errors host.old) (H.errors host.new) result }
 {
-    say(line, host.errors());
-    BAD_WORDS
+    let outcome = run_ordered(rt, alloc, order, host);
+    end(alloc, outcome, host)
 }
 
 /// Does what is ordered.
-pub fn obey<H: Host>(alloc: Global, order: &Order, host: &mut H) -> u8
-    ensures status { IsStatus result }
-    ensures lacks { result ≡ 2 → command_of order.now ≡ codes "run" }
+pub fn obey<H: Host, T: Threads + Wait + Sync>(
+    rt: &T,
+    alloc: Global,
+    order: &Order,
+    host: &mut H,
+) -> u8
+    requires { IsWithinLimits order.now }
+    ensures status { (result ≡ 0) ⊎ (result ≡ 3) ⊎ (result ≡ 4) ⊎ (result ≡ 5) }
     ensures check { (o : Checked) → order.now ≡ ordered.Check o → EndsCheck (H.gives host.old (string_bytes o.net)) (string_bytes o.net)
         H.Output.taken H.Output.failures (H.output host.old) (H.output host.new)
         H.Errors.taken H.Errors.failures (H.errors host.old) (H.errors host.new) result }
     ensures seq { (o : Sequenced) → order.now ≡ ordered.Seq o → EndsSeq (H.gives host.old (string_bytes o.net)) (string_bytes o.net) (option_map string_bytes o.trace)
+        H.Output.taken H.Output.failures (H.output host.old) (H.output host.new)
+        H.Errors.taken H.Errors.failures (H.errors host.old) (H.errors host.new) result }
+    ensures run { (o : Worked) → order.now ≡ ordered.Run o → EndsRun (H.gives host.old (string_bytes o.net)) (string_bytes o.net)
+        (option_map string_bytes o.journal) (option_map string_bytes o.trace)
         H.Output.taken H.Output.failures (H.output host.old) (H.output host.new)
         H.Errors.taken H.Errors.failures (H.errors host.old) (H.errors host.new) result }
     ensures replay { (o : Replayed) → order.now ≡ ordered.Replay o → EndsReplay (H.gives host.old) (string_bytes o.net) (string_bytes o.steps)
@@ -101,7 +124,7 @@ pub fn obey<H: Host>(alloc: Global, order: &Order, host: &mut H) -> u8
     match order {
         Order::Check(order) => obey_check(alloc, order, host),
         Order::Seq(order) => obey_seq(alloc, order, host),
-        Order::Run(_) => lack("afdxsim: run is not there yet\n", host),
+        Order::Run(order) => obey_run(rt, alloc, order, host),
         Order::Replay(order) => obey_replay(alloc, order, host),
     }
 }

@@ -3,7 +3,7 @@ ghost use Rattle.std.specs.Prelude.{◌≡◌, [], ℕ, List, map, codes};
 ghost use Rattle.clap.specs.Words.{first_of};
 ghost use Rattle.command_line.specs.Meaning.{command_in, rows_in};
 ghost use Rattle.afdxsim.specs.Telling.{IsStatus};
-ghost use Rattle.afdxsim.specs.Performing.{AnswersWords, EndsCheck, EndsSeq, EndsReplay, found_in};
+ghost use Rattle.afdxsim.specs.Performing.{AnswersWords, EndsCheck, EndsRun, EndsSeq, EndsReplay, found_in};
 
 use crate::answering::answer;
 use crate::host::Host;
@@ -11,14 +11,21 @@ use crate::obeying::obey;
 use command_line::order;
 use std::alloc::Global;
 use std::convert::AsStr;
+use std::sync::Wait;
+use std::thread::Threads;
 
 /// The whole program. The words are those after its name; the answer is the status that it ends with: 0 done, or help was asked for;
-/// 2 bad words; 3 a bad description or journal; 4 a file or standard output failed; 5 memory or the numbers of a process were wanting,
-/// or a journal has too many lines.
+/// 2 bad words; 3 a bad description or journal; 4 a file or standard output failed, or a worker did not start; 5 memory or the numbers of a
+/// process were wanting, or a journal has too many lines or is torn.
 ///
 /// What the words ask for goes to standard output and into files. A fault is told by one line on error output, bad words by clap's
 /// text; where error output fails, nothing more is said. A fault ends the program at once, and what was written before it stays.
-pub fn perform<'a, S: AsStr, H: Host>(alloc: Global, words: &'a [S], host: &mut H) -> u8
+pub fn perform<'a, S: AsStr, H: Host, T: Threads + Wait + Sync>(
+    rt: &T,
+    alloc: Global,
+    words: &'a [S],
+    host: &mut H,
+) -> u8
     ensures status { IsStatus result }
     ensures words { AnswersWords (map S.text words.entry.now) result }
     ensures check { found_in (map S.text words.entry.now) ≡ [] → command_in (map S.text words.entry.now) ≡ Some (codes "check") →
@@ -31,6 +38,12 @@ pub fn perform<'a, S: AsStr, H: Host>(alloc: Global, words: &'a [S], host: &mut 
         EndsSeq (H.gives host.old net) net (first_of (codes "trace") (rows_in (map S.text words.entry.now)))
         H.Output.taken H.Output.failures (H.output host.old) (H.output host.new)
         H.Errors.taken H.Errors.failures (H.errors host.old) (H.errors host.new) result }
+    ensures run { found_in (map S.text words.entry.now) ≡ [] → command_in (map S.text words.entry.now) ≡ Some (codes "run") →
+        (net : List ℕ) → first_of (codes "NET") (rows_in (map S.text words.entry.now)) ≡ Some net →
+        EndsRun (H.gives host.old net) net (first_of (codes "journal") (rows_in (map S.text words.entry.now)))
+        (first_of (codes "trace") (rows_in (map S.text words.entry.now)))
+        H.Output.taken H.Output.failures (H.output host.old) (H.output host.new)
+        H.Errors.taken H.Errors.failures (H.errors host.old) (H.errors host.new) result }
     ensures replay { found_in (map S.text words.entry.now) ≡ [] → command_in (map S.text words.entry.now) ≡ Some (codes "replay") →
         (net steps : List ℕ) → first_of (codes "NET") (rows_in (map S.text words.entry.now)) ≡ Some net →
         first_of (codes "STEPS") (rows_in (map S.text words.entry.now)) ≡ Some steps →
@@ -39,7 +52,7 @@ pub fn perform<'a, S: AsStr, H: Host>(alloc: Global, words: &'a [S], host: &mut 
         H.Errors.taken H.Errors.failures (H.errors host.old) (H.errors host.new) result }
 {
     match order(alloc, words) {
-        Ok(order) => obey(alloc, &order, host),
+        Ok(order) => obey(rt, alloc, &order, host),
         Err(error) => answer(alloc, &error, host),
     }
 }

@@ -94,6 +94,8 @@ fn push_fault(text: &mut String, fault: &Fault<'_>) -> Result<(), AllocError>
         Fault::Layout => text.push_str("cannot lay out rows"),
         Fault::OutOfMemory => text.push_str("out of memory"),
         Fault::Exhausted => text.push_str("numbers used up"),
+        Fault::Spawn => text.push_str("cannot start a worker"),
+        Fault::Torn => text.push_str("torn"),
     }
 }
 

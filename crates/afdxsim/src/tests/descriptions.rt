@@ -11,7 +11,9 @@ use keys::{KINDS, LIMITS, LIMITS_OF_LINKS, LIMITS_OF_VIRTUAL_LINKS, MISSING, SYN
 use order::{KEYS, NUMBERS, SECTIONS};
 use rules::{ACCEPTED, DOUBLE, LINKS, SIZES, TREES, UNKNOWN};
 use std::alloc::{AllocError, Global};
+use std::sync::Wait;
 use std::test::Fail;
+use std::thread::Threads;
 
 /// Each row tells the line of `check`, or the fault.
 const ROWS: [&str; 15] = [
@@ -38,7 +40,7 @@ fn a_description_is_accepted_or_its_first_fault_is_told(rt: HostRuntime) -> Resu
         for row in rows.lines() {
             if !row.is_empty() {
                 let (net, told) = changed(rt.alloc(), row)?;
-                assert!(rt; is_told(rt.alloc(), net.as_str(), told)?, "{row}");
+                assert!(rt; is_told(&rt, rt.alloc(), net.as_str(), told)?, "{row}");
             }
         }
     }
@@ -46,14 +48,19 @@ fn a_description_is_accepted_or_its_first_fault_is_told(rt: HostRuntime) -> Resu
 }
 
 // `check` tells this of a description, and `seq` refuses what `check` refuses.
-fn is_told(alloc: Global, net: &str, told: &str) -> Result<bool, Fail> {
+fn is_told<T: Threads + Wait + Sync>(
+    rt: &T,
+    alloc: Global,
+    net: &str,
+    told: &str,
+) -> Result<bool, Fail> {
     if told.starts_with("ok") {
         let line = format!(in alloc; "{told}\n")?;
-        return says(alloc, net, &["check", "net.toml"], 0, line.as_str(), "");
+        return says(rt, alloc, net, &["check", "net.toml"], 0, line.as_str(), "");
     }
     let line = format!(in alloc; "afdxsim: description: {told}\n")?;
-    let check = says(alloc, net, &["check", "net.toml"], 3, "", line.as_str())?;
-    let seq = says(alloc, net, &["seq", "net.toml"], 3, "", line.as_str())?;
+    let check = says(rt, alloc, net, &["check", "net.toml"], 3, "", line.as_str())?;
+    let seq = says(rt, alloc, net, &["seq", "net.toml"], 3, "", line.as_str())?;
     Ok(check && seq)
 }
 
@@ -109,7 +116,7 @@ fn each_beginning_is_answered(rt: HostRuntime) -> Result<(), Fail> {
     let mut text = String::new(rt.alloc());
     let mut lines = net.lines();
     for told in OF_LINES.lines() {
-        assert!(rt; is_told(rt.alloc(), text.as_str(), told)?, "{told}");
+        assert!(rt; is_told(&rt, rt.alloc(), text.as_str(), told)?, "{told}");
         if let Some(line) = lines.next() {
             text.push_str(line)?;
             text.push_str("\n")?;
@@ -118,15 +125,15 @@ fn each_beginning_is_answered(rt: HostRuntime) -> Result<(), Fail> {
     assert!(rt; text.as_str() == net.as_str());
     for end in 0..=net.len() {
         let text = net.as_str().get(..end).ok_or("each byte is a character")?;
-        assert!(rt; is_answered(rt.alloc(), text)?, "{end} bytes");
+        assert!(rt; is_answered(&rt, rt.alloc(), text)?, "{end} bytes");
     }
     Ok(())
 }
 
 // A description is accepted or its fault is told; without both keys of the top table it is not accepted.
-fn is_answered(alloc: Global, net: &str) -> Result<bool, Fail> {
+fn is_answered<T: Threads + Wait + Sync>(rt: &T, alloc: Global, net: &str) -> Result<bool, Fail> {
     let mut host = MemoryHost::new(alloc, net.as_bytes())?;
-    let status = perform(alloc, &["check", "net.toml"], &mut host);
+    let status = perform(rt, alloc, &["check", "net.toml"], &mut host);
     Ok(status == 3 || status == 0 && net.starts_with("until_ns = 2000000\nseed = 4"))
 }
 
@@ -137,21 +144,40 @@ fn files_that_are_no_text_and_devices_that_fail_are_told(rt: HostRuntime) -> Res
     for command in ["check", "seq"] {
         for bytes in [[0xff].as_slice(), &[0x75, 0xff], carriage_return] {
             let mut host = MemoryHost::new(rt.alloc(), bytes)?;
-            assert!(rt; tells(rt.alloc(), &mut host, &[command, "net.toml"], 3, syntax));
+            assert!(rt;
+                tells(
+                    &rt,
+                    rt.alloc(),
+                    &mut host,
+                    &[command, "net.toml"],
+                    3,
+                    syntax
+                )
+            );
         }
         let mut host = MemoryHost::new(rt.alloc(), "".as_bytes())?;
         let absent = "afdxsim: cannot read no/net.toml\n";
-        assert!(rt; tells(rt.alloc(), &mut host, &[command, "no/net.toml"], 4, absent));
+        assert!(rt;
+            tells(
+                &rt,
+                rt.alloc(),
+                &mut host,
+                &[command, "no/net.toml"],
+                4,
+                absent
+            )
+        );
 
         // Where error output fails, nothing more is said.
         let mut host = MemoryHost::new(rt.alloc(), "".as_bytes())?;
         host.errors.writes = 0;
-        assert!(rt; tells(rt.alloc(), &mut host, &[command, "net.toml"], 3, ""));
+        assert!(rt; tells(&rt, rt.alloc(), &mut host, &[command, "net.toml"], 3, ""));
         let net = network(rt.alloc(), "n1")?;
         let mut host = MemoryHost::new(rt.alloc(), net.as_bytes())?;
         host.output.writes = 0;
         assert!(rt;
             tells(
+                &rt,
                 rt.alloc(),
                 &mut host,
                 &[command, "net.toml"],
@@ -164,8 +190,15 @@ fn files_that_are_no_text_and_devices_that_fail_are_told(rt: HostRuntime) -> Res
 }
 
 // These words end with this status and this on error output, and nothing is on standard output.
-fn tells(alloc: Global, host: &mut MemoryHost, words: &[&str], status: u8, errors: &str) -> bool {
-    let ended = perform(alloc, words, host);
+fn tells<T: Threads + Wait + Sync>(
+    rt: &T,
+    alloc: Global,
+    host: &mut MemoryHost,
+    words: &[&str],
+    status: u8,
+    errors: &str,
+) -> bool {
+    let ended = perform(rt, alloc, words, host);
     ended == status && host.output.holds("") && host.errors.holds(errors)
 }
 
@@ -227,7 +260,7 @@ fn want_of_memory_is_no_other_answer(rt: HostRuntime) {
             "afdxsim: description: 5 UnknownName at top\n",
         ),
     ] {
-        match is_told_or_wants_memory(rt.alloc(), command, net, status, told) {
+        match is_told_or_wants_memory(&rt, rt.alloc(), command, net, status, told) {
             Ok(is_told) => assert!(rt; is_told, "{told}"),
             Err(_) => untried = untried.saturating_add(1),
         }
@@ -236,7 +269,8 @@ fn want_of_memory_is_no_other_answer(rt: HostRuntime) {
 }
 
 // The command tells this of the description, or that memory was wanting. The pages have their room before the program begins.
-fn is_told_or_wants_memory(
+fn is_told_or_wants_memory<T: Threads + Wait + Sync>(
+    rt: &T,
     alloc: Global,
     command: &str,
     net: &str,
@@ -246,7 +280,7 @@ fn is_told_or_wants_memory(
     let mut host = MemoryHost::new(alloc, net.as_bytes())?;
     host.output = Page::with_room(alloc, 128)?;
     host.errors = Page::with_room(alloc, 128)?;
-    let ended = perform(alloc, &[command, "net.toml"], &mut host);
+    let ended = perform(rt, alloc, &[command, "net.toml"], &mut host);
     let (page, other) = if ended == 0 {
         (&host.output, &host.errors)
     } else {

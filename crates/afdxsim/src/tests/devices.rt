@@ -3,7 +3,9 @@ use super::host::MemoryHost;
 use super::networks::network;
 use crate::perform;
 use std::alloc::Global;
+use std::sync::Wait;
 use std::test::Fail;
+use std::thread::Threads;
 
 /// A network, words, and the status that they end with, with the line on error output if there is one.
 const ROWS: &str = r#"
@@ -20,7 +22,7 @@ empty => seq net.toml => 3 description: 2 Missing at top until_ns
 fn what_was_written_before_a_failure_stays(rt: HostRuntime) -> Result<(), Fail> {
     for row in ROWS.lines() {
         if !row.is_empty() {
-            assert!(rt; is_told(rt.alloc(), row)?, "{row}");
+            assert!(rt; is_told(&rt, rt.alloc(), row)?, "{row}");
         }
     }
     Ok(())
@@ -36,17 +38,17 @@ struct Outcome {
 }
 
 // The words end as the row tells, and as they must where each file and stream takes some bytes, one a write, and then fails.
-fn is_told(alloc: Global, row: &str) -> Result<bool, Fail> {
+fn is_told<T: Threads + Wait + Sync>(rt: &T, alloc: Global, row: &str) -> Result<bool, Fail> {
     let (name, rest) = row.split_once(" => ").ok_or("no network")?;
     let (words, told) = rest.split_once(" => ").ok_or("no words")?;
     let net = network(alloc, name)?;
-    let whole = end(alloc, net.as_str(), words, usize::MAX, u64::MAX)?;
+    let whole = end(rt, alloc, net.as_str(), words, usize::MAX, u64::MAX)?;
     if !is_whole(alloc, &whole, told)? {
         return Ok(false);
     }
     let most = whole.output.len().max(whole.errors.len());
     for writes in 0..=most.max(whole.trace.len()) {
-        let cut = end(alloc, net.as_str(), words, 1, writes as u64)?;
+        let cut = end(rt, alloc, net.as_str(), words, 1, writes as u64)?;
         if !is_cut(&whole, &cut, writes) {
             return Ok(false);
         }
@@ -55,7 +57,14 @@ fn is_told(alloc: Global, row: &str) -> Result<bool, Fail> {
 }
 
 // What these words leave behind, where each file and stream takes at most so many bytes a write and fails after so many writes.
-fn end(alloc: Global, net: &str, words: &str, most: usize, writes: u64) -> Result<Outcome, Fail> {
+fn end<T: Threads + Wait + Sync>(
+    rt: &T,
+    alloc: Global,
+    net: &str,
+    words: &str,
+    most: usize,
+    writes: u64,
+) -> Result<Outcome, Fail> {
     let mut all = Vec::new(alloc);
     for word in words.split(' ') {
         all.push(word)?;
@@ -67,7 +76,7 @@ fn end(alloc: Global, net: &str, words: &str, most: usize, writes: u64) -> Resul
     host.errors.writes = writes;
     host.file.most = most;
     host.file.writes = writes;
-    let status = perform(alloc, &all, &mut host);
+    let status = perform(rt, alloc, &all, &mut host);
     let trace = host.written();
     Ok(Outcome {
         status,

@@ -4,7 +4,9 @@ use crate::perform;
 use std::alloc::{AllocError, Global};
 use std::cell::Cell;
 use std::rc::Rc;
+use std::sync::Wait;
 use std::test::Fail;
+use std::thread::Threads;
 use trace_tables::{Sink, SinkFault};
 
 /// It keeps the bytes, of which it takes at most `most` at a time, and fails after `writes` writes.
@@ -214,7 +216,8 @@ impl Host for MemoryHost {
 }
 
 /// These words, where `net.toml` has this text, end with this status, and this and no more is on standard output and error output.
-pub fn says(
+pub fn says<T: Threads + Wait + Sync>(
+    rt: &T,
     alloc: Global,
     net: &str,
     words: &[&str],
@@ -223,6 +226,6 @@ pub fn says(
     errors: &str,
 ) -> Result<bool, Fail> {
     let mut host = MemoryHost::new(alloc, net.as_bytes())?;
-    let ended = perform(alloc, words, &mut host);
+    let ended = perform(rt, alloc, words, &mut host);
     Ok(ended == status && host.output.holds(output) && host.errors.holds(errors))
 }

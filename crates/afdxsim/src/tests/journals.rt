@@ -8,7 +8,9 @@ use journal_text::read_steps;
 use netdesc::read;
 use nodes::Node;
 use std::alloc::Global;
+use std::sync::Wait;
 use std::test::Fail;
+use std::thread::Threads;
 use timewarp::{Replay, World, replay};
 use trace_tables::write_csv;
 use vlink::{Body, Letter, Sign, VlId};
@@ -97,24 +99,33 @@ n1 => until_ns = 2000000 -> until_ns = 10000000 => period_ns = 1000000000000 -> 
 fn a_journal_is_done_or_its_fault_is_told(rt: HostRuntime) -> Result<(), Fail> {
     for row in ROWS.lines() {
         if !row.is_empty() {
-            assert!(rt; is_told(rt.alloc(), row)?, "{row}");
+            assert!(rt; is_told(&rt, rt.alloc(), row)?, "{row}");
         }
     }
     Ok(())
 }
 
 // `replay` tells what the row tells.
-fn is_told(alloc: Global, row: &str) -> Result<bool, Fail> {
+fn is_told<T: Threads + Wait + Sync>(rt: &T, alloc: Global, row: &str) -> Result<bool, Fail> {
     let (begin, told) = row.rsplit_once(" => ").ok_or("a row of one part")?;
     let (net, steps) = changed(alloc, begin)?;
     let steps = steps_of(alloc, steps)?;
     let Some((line, tables)) = told.split_once(';') else {
         let line = format!(in alloc; "afdxsim: {told}\n")?;
-        return replays(alloc, net.as_str(), steps.as_str(), 3, "", line.as_str());
+        return replays(
+            rt,
+            alloc,
+            net.as_str(),
+            steps.as_str(),
+            3,
+            "",
+            line.as_str(),
+        );
     };
     let line = format!(in alloc; "replay: {line}\n")?;
-    let tables = tables_of(alloc, net.as_str(), tables)?;
+    let tables = tables_of(rt, alloc, net.as_str(), tables)?;
     replays(
+        rt,
         alloc,
         net.as_str(),
         steps.as_str(),
@@ -140,10 +151,15 @@ fn steps_of(alloc: Global, row: &str) -> Result<String, Fail> {
 }
 
 // The tables with these lines, or those of `seq`.
-fn tables_of(alloc: Global, net: &str, lines: &str) -> Result<String, Fail> {
+fn tables_of<T: Threads + Wait + Sync>(
+    rt: &T,
+    alloc: Global,
+    net: &str,
+    lines: &str,
+) -> Result<String, Fail> {
     if lines == "seq" {
         let mut host = MemoryHost::new(alloc, net.as_bytes())?;
-        let _done = perform(alloc, &["seq", "net.toml"], &mut host);
+        let _done = perform(rt, alloc, &["seq", "net.toml"], &mut host);
         return Ok(String::from_utf8_lossy(alloc, host.output.bytes.as_slice())?);
     }
     let lines = lines_of(alloc, lines)?;
@@ -151,7 +167,8 @@ fn tables_of(alloc: Global, net: &str, lines: &str) -> Result<String, Fail> {
 }
 
 // `replay`, where the files have these texts, ends with this status, and this and no more is on standard output and error output.
-fn replays(
+fn replays<T: Threads + Wait + Sync>(
+    rt: &T,
     alloc: Global,
     net: &str,
     steps: &str,
@@ -160,7 +177,7 @@ fn replays(
     errors: &str,
 ) -> Result<bool, Fail> {
     let mut host = MemoryHost::of(alloc, net.as_bytes(), Some(steps.as_bytes()))?;
-    let ended = perform(alloc, &WORDS, &mut host);
+    let ended = perform(rt, alloc, &WORDS, &mut host);
     Ok(ended == status && host.output.holds(output) && host.errors.holds(errors))
 }
 
@@ -168,7 +185,7 @@ fn replays(
 fn all_steps_at_once_come_to_the_same(rt: HostRuntime) -> Result<(), Fail> {
     for row in KEPT.lines() {
         if !row.is_empty() {
-            assert!(rt; is_kept(rt.alloc(), row)?, "{row}");
+            assert!(rt; is_kept(&rt, rt.alloc(), row)?, "{row}");
         }
     }
     for (most, told) in [(1, "too many lines"), (2, "line 2 is no step")] {
@@ -186,7 +203,7 @@ fn is_refused(alloc: Global, most: u64, told: &str) -> Result<bool, Fail> {
 }
 
 // The program tells of the journal what the steps come to that are read and done at once, and what they leave is what the row tells.
-fn is_kept(alloc: Global, row: &str) -> Result<bool, Fail> {
+fn is_kept<T: Threads + Wait + Sync>(rt: &T, alloc: Global, row: &str) -> Result<bool, Fail> {
     let (begin, told) = row.rsplit_once(" => ").ok_or("a row of one part")?;
     let (net, steps) = changed(alloc, begin)?;
     let steps = steps_of(alloc, steps)?;
@@ -194,6 +211,7 @@ fn is_kept(alloc: Global, row: &str) -> Result<bool, Fail> {
     let line = counts_of(alloc, &found)?;
     let tables = csv_of(alloc, &found.world)?;
     let same = replays(
+        rt,
         alloc,
         net.as_str(),
         steps.as_str(),
@@ -277,24 +295,30 @@ fn push_node(alloc: Global, text: &mut String, node: &Node) -> Result<(), Fail> 
 #[test]
 fn a_stream_that_takes_no_more_is_told(rt: HostRuntime) -> Result<(), Fail> {
     let net = network(rt.alloc(), "n1")?;
-    let whole = tables_of(rt.alloc(), net.as_str(), "latency,1,ES2,,0,0,0,0;")?;
+    let whole = tables_of(&rt, rt.alloc(), net.as_str(), "latency,1,ES2,,0,0,0,0;")?;
     for writes in 0..whole.len() {
-        let cut = is_cut(rt.alloc(), net.as_str(), whole.as_str(), writes)?;
+        let cut = is_cut(&rt, rt.alloc(), net.as_str(), whole.as_str(), writes)?;
         assert!(rt; cut, "{writes}");
     }
     let mut host = MemoryHost::of(rt.alloc(), net.as_bytes(), Some(b"G\n"))?;
     host.errors.writes = 0;
-    assert_eq!(rt; perform(rt.alloc(), &WORDS, &mut host), 0);
+    assert_eq!(rt; perform(&rt, rt.alloc(), &WORDS, &mut host), 0);
     assert!(rt; host.output.holds(whole.as_str()) && host.errors.holds(""));
     Ok(())
 }
 
 // Where standard output takes so many bytes, one at a time, it has just these of the whole, and the fault is told.
-fn is_cut(alloc: Global, net: &str, whole: &str, writes: usize) -> Result<bool, Fail> {
+fn is_cut<T: Threads + Wait + Sync>(
+    rt: &T,
+    alloc: Global,
+    net: &str,
+    whole: &str,
+    writes: usize,
+) -> Result<bool, Fail> {
     let mut host = MemoryHost::of(alloc, net.as_bytes(), Some(b"G\n"))?;
     host.output.most = 1;
     host.output.writes = writes as u64;
-    let ended = perform(alloc, &WORDS, &mut host);
+    let ended = perform(rt, alloc, &WORDS, &mut host);
     let shown = host.output.bytes.as_slice();
     let is_front = shown.len() == writes && whole.as_bytes().starts_with(shown);
     Ok(ended == 4 && is_front && host.errors.holds("afdxsim: cannot write\n"))

@@ -5,7 +5,9 @@ use crate::perform;
 use netdesc::read;
 use seqsim::run;
 use std::alloc::Global;
+use std::sync::Wait;
 use std::test::Fail;
+use std::thread::Threads;
 use trace_tables::write_csv;
 
 const HEAD: &str = "table,vl,where,cause,count,least_ns,greatest_ns,sum_ns\n";
@@ -211,13 +213,13 @@ n1 => + [[outage]];from = "ES1";to = "SW1";from_ns = 5760;to_ns = 5761; => + 4 x
 #[test]
 fn a_run_is_told_by_its_tables_and_its_trace(rt: HostRuntime) -> Result<(), Fail> {
     for row in ROWS.split("\n\n") {
-        assert!(rt; is_told(rt.alloc(), row)?, "{row}");
+        assert!(rt; is_told(&rt, rt.alloc(), row)?, "{row}");
     }
     Ok(())
 }
 
 // `check` tells the row's line, or `seq` its tables and its trace, or the tables are written with another network.
-fn is_told(alloc: Global, row: &str) -> Result<bool, Fail> {
+fn is_told<T: Threads + Wait + Sync>(rt: &T, alloc: Global, row: &str) -> Result<bool, Fail> {
     if let Some((one, other)) = row.split_once("=> for ") {
         return is_told_for(alloc, one, other);
     }
@@ -225,6 +227,7 @@ fn is_told(alloc: Global, row: &str) -> Result<bool, Fail> {
     if told.starts_with("ok") {
         let line = format!(in alloc; "{told}\n")?;
         return says(
+            rt,
             alloc,
             net.as_str(),
             &["check", "net.toml"],
@@ -239,6 +242,7 @@ fn is_told(alloc: Global, row: &str) -> Result<bool, Fail> {
     };
     let tables = text_of(alloc, HEAD, tables)?;
     let alone = says(
+        rt,
         alloc,
         net.as_str(),
         &["seq", "net.toml"],
@@ -246,7 +250,7 @@ fn is_told(alloc: Global, row: &str) -> Result<bool, Fail> {
         tables.as_str(),
         "",
     )?;
-    Ok(alone && is_traced(alloc, net.as_str(), tables.as_str(), trace)?)
+    Ok(alone && is_traced(rt, alloc, net.as_str(), tables.as_str(), trace)?)
 }
 
 // The tables of a run of one network, written with the other one, have the lines that it tells.
@@ -267,10 +271,16 @@ fn is_told_for(alloc: Global, one: &str, other: &str) -> Result<bool, Fail> {
 }
 
 // Where `seq` is to keep the trace, it tells these tables, and the trace has these lines.
-fn is_traced(alloc: Global, net: &str, tables: &str, lines: Option<&str>) -> Result<bool, Fail> {
+fn is_traced<T: Threads + Wait + Sync>(
+    rt: &T,
+    alloc: Global,
+    net: &str,
+    tables: &str,
+    lines: Option<&str>,
+) -> Result<bool, Fail> {
     let mut host = MemoryHost::new(alloc, net.as_bytes())?;
     let words = ["seq", "net.toml", "--trace", "trace.csv"];
-    let ended = perform(alloc, &words, &mut host);
+    let ended = perform(rt, alloc, &words, &mut host);
     let is_kept = match lines {
         Some(lines) => {
             let trace = text_of(alloc, "time_ns,where,vl,what,value\n", lines)?;

@@ -5,7 +5,9 @@ use crate::perform;
 use command_line::order;
 use std::alloc::Global;
 use std::str;
+use std::sync::Wait;
 use std::test::Fail;
+use std::thread::Threads;
 
 /// Each row has what `net.toml` describes, the words, the status, and what is told, in parts with ` | ` between them: on standard output
 /// where the status is 0, else on error output. There `;` stands for the end of a line. `''` is an empty word, and `(none)` is no word.
@@ -22,7 +24,10 @@ n1 => seq net.toml --trace t.csv => 4 => afdxsim: cannot write t.csv;
 n1 => seq --trace=t.csv net.toml => 4 => afdxsim: cannot write t.csv;
 n1 => seq net.toml --trace= => 4 => afdxsim: cannot write ;
 n1 => seq n.toml --trace t.csv => 4 => afdxsim: cannot read n.toml;
-n1 => run net.toml => 2 => afdxsim: run is not there yet;
+n1 => run net.toml => 0 => latency,1,ES2,,1,27720,27720,27720;
+n1 => run net.toml --journal t.txt => 4 => afdxsim: cannot write t.txt;
+n1 => run net.toml --trace t.csv => 4 => afdxsim: cannot write t.csv;
+n1 => run no.toml => 4 => afdxsim: cannot read no.toml;
 n1 => replay net.toml steps.txt => 4 => afdxsim: cannot read steps.txt;
 n1 => replay no.toml steps.txt => 4 => afdxsim: cannot read no.toml;
 empty => replay net.toml steps.txt => 3 => afdxsim: description: 2 Missing at top until_ns;
@@ -55,13 +60,16 @@ n1 => run x --speed 9 => 2 => error: unexpected argument '--speed' found
 n1 => --help => 0 => Usage: afdxsim | ;  check  | ;  seq  | ;  run  | ;  replay  | afdxsim seq examples/n1.toml --trace t.csv
 n1 => -h => 0 => Usage: afdxsim | ;  check  | ;  seq  | ;  run  | ;  replay  | afdxsim seq examples/n1.toml --trace t.csv
 n1 => help => 0 => Usage: afdxsim | ;  check  | ;  seq  | ;  run  | ;  replay  | afdxsim seq examples/n1.toml --trace t.csv
+n1 => --version => 0 => afdxsim 0.1.0;
+n1 => -V => 0 => afdxsim 0.1.0;
+n1 => check --version => 2 => error: unexpected argument '--version' found
 n1 => check --help => 0 => Usage: afdxsim check <NET>
 n1 => seq --help => 0 => Usage: afdxsim seq [OPTIONS] <NET> | --trace <FILE>
 n1 => run --help => 0 => Usage: afdxsim run [OPTIONS] <NET> | --workers <N> | [default: 4] | --turn <N> | [default: 16] | --window <NS> | [default: 1000000] | --journal <FILE> | --trace <FILE>
 n1 => replay --help => 0 => Usage: afdxsim replay <NET> <STEPS>
 ";
 
-/// Each row has words and the order that they make, since the program does not run it yet.
+/// Each row has words and the order that they make, of which the tables do not tell.
 const RUNS: &str = r#"
 run x => Run(Run { net: "x", workers: 4, turn: 16, window_ns: 1000000, journal: None, trace: None })
 run x --workers 1 => Run(Run { net: "x", workers: 1, turn: 16, window_ns: 1000000, journal: None, trace: None })
@@ -77,12 +85,12 @@ run n.toml --workers 8 --turn 32 --window 500 --journal j.txt --trace t.csv => R
 fn words_are_done_or_refused(rt: HostRuntime) -> Result<(), Fail> {
     for row in ROWS.lines() {
         if !row.is_empty() {
-            assert!(rt; is_told(rt.alloc(), row)?, "{row}");
+            assert!(rt; is_told(&rt, rt.alloc(), row)?, "{row}");
         }
     }
     let mut host = MemoryHost::new(rt.alloc(), b"")?;
     host.output.writes = 0;
-    assert_eq!(rt; perform(rt.alloc(), &["--help"], &mut host), 4);
+    assert_eq!(rt; perform(&rt, rt.alloc(), &["--help"], &mut host), 4);
     assert!(rt; host.errors.holds("afdxsim: cannot write\n"));
     Ok(())
 }
@@ -99,14 +107,14 @@ fn words_order_a_run(rt: HostRuntime) -> Result<(), Fail> {
 }
 
 /// The program tells what the row tells, and nothing on the other stream.
-pub fn is_told(alloc: Global, row: &str) -> Result<bool, Fail> {
+pub fn is_told<T: Threads + Wait + Sync>(rt: &T, alloc: Global, row: &str) -> Result<bool, Fail> {
     let (base, row) = row.split_once(" => ").ok_or("no words")?;
     let (words, row) = row.split_once(" => ").ok_or("no status")?;
     let (status, parts) = row.split_once(" => ").ok_or("nothing told")?;
     let net = network(alloc, base)?;
     let words = words_of(alloc, words)?;
     let mut host = MemoryHost::new(alloc, net.as_bytes())?;
-    let ended = perform(alloc, &words, &mut host);
+    let ended = perform(rt, alloc, &words, &mut host);
     let is_ended = format!(in alloc; "{ended}")?.as_str() == status;
     let (told, other) = if ended == 0 {
         (&host.output, &host.errors)

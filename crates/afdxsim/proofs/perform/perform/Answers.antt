@@ -3,7 +3,7 @@ use Rattle.clap.specs.Words.{first_of}
 use Rattle.clap.specs.Values.{kind_of}
 use Rattle.command_line.specs.Meaning.{rows_in}
 use Rattle.afdxsim.proofs.Statuses.{answered}
-use Rattle.afdxsim.proofs.Ended.{check_words, seq_words, replay_words, check_memory, seq_memory, replay_memory}
+use Rattle.afdxsim.proofs.Ended.{check_words, seq_words, run_words, replay_words, check_memory, seq_memory, run_memory, replay_memory}
 use Rattle.afdxsim.proofs.perform.perform.Goals as goal
 
 pub returns-in-Ok-clause-check : goal.returns-in-Ok-clause-check
@@ -47,6 +47,25 @@ returns-in-Err-clause-seq g c = λ none named net given.
     g.H.Output.Sink.taken g.H.Output.Sink.failures (output c.args.host.now) (output c.answer.new.host)
     g.H.Errors.Sink.taken g.H.Errors.Sink.failures (errors c.args.host.now) (errors c.answer.new.host)
     (kind_of c.in-Err.error) (first_of (codes "trace") (rows_in (map g.S.AsStr.text c.args.words.now))) none c.in-Err.ensures.mistake c.answer.ensures.told c.answer.ensures.output
+
+pub returns-in-Ok-clause-run : goal.returns-in-Ok-clause-run
+returns-in-Ok-clause-run g c = λ none named net given.
+    let output = g.H.Host.output in
+    let errors = g.H.Host.errors in
+    run_words (map g.S.AsStr.text c.args.words.now) c.obey.result (g.H.Host.gives c.args.host.now) net
+    g.H.Output.Sink.taken g.H.Output.Sink.failures (output c.args.host.now) (output c.obey.new.host)
+    g.H.Errors.Sink.taken g.H.Errors.Sink.failures (errors c.args.host.now) (errors c.obey.new.host)
+    c.in-Ok.order c.in-Ok.ensures.command c.in-Ok.ensures.names c.obey.ensures.run named given
+
+pub returns-in-Err-clause-run : goal.returns-in-Err-clause-run
+returns-in-Err-clause-run g c = λ none named net given.
+    let output = g.H.Host.output in
+    let errors = g.H.Host.errors in
+    run_memory (map g.S.AsStr.text c.args.words.now) c.answer.result (g.H.Host.gives c.args.host.now) net
+    g.H.Output.Sink.taken g.H.Output.Sink.failures (output c.args.host.now) (output c.answer.new.host)
+    g.H.Errors.Sink.taken g.H.Errors.Sink.failures (errors c.args.host.now) (errors c.answer.new.host)
+    (kind_of c.in-Err.error) (first_of (codes "journal") (rows_in (map g.S.AsStr.text c.args.words.now))) (first_of (codes "trace") (rows_in (map g.S.AsStr.text c.args.words.now)))
+    none c.in-Err.ensures.mistake c.answer.ensures.told c.answer.ensures.output
 
 pub returns-in-Ok-clause-replay : goal.returns-in-Ok-clause-replay
 returns-in-Ok-clause-replay g c = λ none named net steps given read.

@@ -1,0 +1,71 @@
+-- A text that goes out in parts: what has gone out, and what is still held.
+use Rattle.std.proofs.Common.{◌≡◌, ◌∙◌, ℕ, ◌+◌, ◌<◌, List, [], ◌∷◌, ◌++◌, length, take, drop, get_or, Option, Some, None, Result, Ok, Err, refl, sym, ap, subst, append_assoc, length-append, arith}
+use Rattle.std.specs.Prelude.{IfErr}
+use Rattle.std.specs.Io.KnownBytes.{append_known}
+use Rattle.std.specs.List.{flat_map}
+use Rattle.std.proofs.Math.Seq.{take-append-add}
+use Rattle.std.proofs.lemmas.List.{append-nil, take-append-drop, take-append-le, take_more}
+use Rattle.std.proofs.lemmas.Grind.{flat_map-append}
+use Rattle.trace_tables.specs.Sinking.{IsBeginning}
+
+-- of this text, put behind what a sink had taken, a part has gone out, and the rest is held
+pub record IsHeld (old now : Option (List ℕ)) (held text : List ℕ) : Type 0 where
+  pub sent : List ℕ
+  pub took : now ≡ append_known old sent
+  pub whole : sent ++ held ≡ text
+
+nothing-more : (old : Option (List ℕ)) → old ≡ append_known old []
+nothing-more None = refl
+nothing-more (Some xs) = ap Some (sym (append-nil xs))
+
+appended : (old : Option (List ℕ)) (xs ys : List ℕ) → append_known (append_known old xs) ys ≡ append_known old (xs ++ ys)
+appended None xs ys = refl
+appended (Some zs) xs ys = ap Some (append_assoc zs xs ys)
+
+pub held-none : (old : Option (List ℕ)) → IsHeld old old [] []
+held-none old = record { sent = []; took = nothing-more old; whole = refl }
+
+-- more of the text is held
+pub held-more : (old now : Option (List ℕ)) (held text more : List ℕ) → IsHeld old now held text → IsHeld old now (held ++ more) (text ++ more)
+held-more old now held text more h =
+    record { sent = h.sent; took = h.took; whole = sym (append_assoc h.sent held more) ∙ ap (λ (xs : List ℕ). xs ++ more) h.whole }
+
+-- all that was held goes out
+pub held-out : (old now later : Option (List ℕ)) (held text : List ℕ) → IsHeld old now held text → later ≡ append_known now held → later ≡ append_known old text
+held-out old now later held text h went =
+    went ∙ ap (λ o. append_known o held) h.took ∙ appended old h.sent held ∙ ap (append_known old) h.whole
+
+pub held-anew : (old now later : Option (List ℕ)) (held text : List ℕ) → IsHeld old now held text → later ≡ append_known now held → IsHeld old later [] text
+held-anew old now later held text h went = record { sent = text; took = held-out old now later held text h went; whole = append-nil text }
+
+-- a beginning of what was held goes out
+pub held-beginning : (old now later : Option (List ℕ)) (held text rest : List ℕ) → IsHeld old now held text → IsBeginning now later held → IsBeginning old later (text ++ rest)
+held-beginning old now later held text rest h (n, low, went) =
+    let front : take (length h.sent + n) (text ++ rest) ≡ h.sent ++ take n held =
+    ap (λ (xs : List ℕ). take (length h.sent + n) (xs ++ rest)) (sym h.whole)
+    ∙ ap (take (length h.sent + n)) (append_assoc h.sent held rest)
+    ∙ take-append-add h.sent (held ++ rest) n
+    ∙ ap (λ (xs : List ℕ). h.sent ++ xs) (take-append-le n held rest low) in (
+      length h.sent + n,
+      omega (arith, low, ap length h.whole, length-append h.sent held, length-append text rest),
+      went ∙ ap (λ o. append_known o (take n held)) h.took ∙ appended old h.sent (take n held) ∙ ap (append_known old) (sym front),
+    )
+
+-- one more of those that are made one after another
+pub one-more : {X : Type 0} (f : X → List ℕ) (xs : List X) (i : ℕ) (x : X) → i < length xs → x ≡ get_or xs i x → flat_map f (take i xs) ++ f x ≡ flat_map f (take (i + 1) xs)
+one-more f xs i x below at =
+    ap (λ (ys : List ℕ). flat_map f (take i xs) ++ ys) (sym (append-nil (f x)))
+    ∙ sym (flat_map-append f (take i xs) (x ∷ []))
+    ∙ ap (flat_map f) (ap (λ (y : _). take i xs ++ y ∷ []) at ∙ sym (take_more xs i x below))
+
+-- the first of them are at the front of all
+pub first-ones : {X : Type 0} (f : X → List ℕ) (xs : List X) (i : ℕ) → flat_map f (take i xs) ++ flat_map f (drop i xs) ≡ flat_map f xs
+first-ones f xs i = sym (flat_map-append f (take i xs) (drop i xs)) ∙ ap (flat_map f) (take-append-drop i xs)
+
+-- where a write of what was held fails, a beginning of all went out
+pub part-out : {A E X : Type 0} (IsDevice : E → Type 0) (r : Result A E) (f : X → List ℕ) (xs : List X) (i : ℕ) (old now later : Option (List ℕ)) (held bytes : List ℕ) →
+    IsHeld old now held (flat_map f (take i xs)) → bytes ≡ held → IsBeginning now later bytes → IfErr r (λ fault. IsDevice fault → IsBeginning old later (flat_map f xs))
+part-out IsDevice (Ok x) f xs i old now later held bytes h same begins = tt
+part-out IsDevice (Err fault) f xs i old now later held bytes h same begins = λ is.
+    subst (IsBeginning old later) (first-ones f xs i)
+    (held-beginning old now later held (flat_map f (take i xs)) (flat_map f (drop i xs)) h (subst (IsBeginning now later) same begins))

@@ -1,0 +1,179 @@
+//! Runs in which a process waits for another one: while a message is handled, another worker goes on.
+use super::host::Page;
+use super::networks::network;
+use crate::write_steps;
+use netdesc::read;
+use std::alloc::{AllocError, Global};
+use std::sync::Wait;
+use std::sync::atomic::{AtomicBool, AtomicU64, Ordering};
+use std::test::Fail;
+use std::thread::Threads;
+use std::{str, thread};
+use vlink::Step;
+use worker_pool::{Gate, Outcome, Pace, run};
+
+/// How many workers there are, how often a process looks whether the other one has begun, at most, and which process waits for which; then
+/// how many looked in vain, and two steps of which the first one stands in the journal before the second, if that is told.
+///
+/// With one worker the process that waits stands in the way of the other one.
+pub const ROWS: &str = "
+2 => 100000000 => 0:6 => 0 => T 6 0,R 0
+1 => 4096 => 0:6 => 1 => R 0,T 6 0
+2 => 100000000 => 0:1 1:0 => 0 => any
+1 => 4096 => 0:1 1:0 => 1 => any
+";
+
+/// What is known of one process.
+#[derive(Drop)]
+struct Place {
+    /// The process that it waits for before its first message.
+    waits_for: Option<u16>,
+    /// It is to handle its first message, or has handled it.
+    has_begun: AtomicBool,
+    /// How many messages it has handled.
+    handled: AtomicU64,
+}
+
+/// A gate that holds processes back before their first message until others have begun.
+#[derive(Drop)]
+struct Meeting {
+    places: Vec<Place>,
+    looks: u64,
+    /// How many processes looked in vain.
+    missed: AtomicU64,
+}
+
+impl Meeting {
+    // So many processes, of which none waits.
+    fn of(alloc: Global, processes: usize, looks: u64) -> Result<Self, AllocError> {
+        let mut places = Vec::new(alloc);
+        for _ in 0..processes {
+            places.push(Place {
+                waits_for: None,
+                has_begun: AtomicBool::new(false),
+                handled: AtomicU64::new(0),
+            })?;
+        }
+        Ok(Meeting {
+            places,
+            looks,
+            missed: AtomicU64::new(0),
+        })
+    }
+
+    // The first process of the pair is to wait for the second.
+    fn wait(&mut self, pair: &str) -> Result<(), Fail> {
+        let (first, second) = pair.split_once(':').ok_or("no pair")?;
+        let first: u16 = first.parse().map_err(|_| "no process")?;
+        let second: u16 = second.parse().map_err(|_| "no process")?;
+        let place = self.places.get_mut(usize::from(first)).ok_or("no place")?;
+        place.waits_for = Some(second);
+        Ok(())
+    }
+
+    // Whether it was seen that this process has begun.
+    fn sees(&self, process: u16) -> bool {
+        let Some(place) = self.places.get(usize::from(process)) else {
+            return false;
+        };
+        for look in 0..self.looks {
+            if place.has_begun.load(Ordering::SeqCst) {
+                return true;
+            }
+            if look % 1024 == 1023 {
+                thread::yield_now();
+            }
+        }
+        false
+    }
+}
+
+impl Gate for Meeting {
+    fn before(&self, process: u16, run: u64) {
+        if run != 0 {
+            return;
+        }
+        let Some(place) = self.places.get(usize::from(process)) else {
+            return;
+        };
+        place.has_begun.store(true, Ordering::SeqCst);
+        if let Some(other) = place.waits_for {
+            if !self.sees(other) {
+                self.missed.fetch_add(1, Ordering::SeqCst);
+            }
+        }
+    }
+
+    fn after(&self, process: u16, _run: u64) {
+        if let Some(place) = self.places.get(usize::from(process)) {
+            place.handled.fetch_add(1, Ordering::SeqCst);
+        }
+    }
+}
+
+/// The run is as the row tells, and the gate was told of each message as often as the journal has it handled.
+pub fn is_met<T: Threads + Wait + Sync>(rt: &T, alloc: Global, row: &str) -> Result<bool, Fail> {
+    let (begin, order) = row.rsplit_once(" => ").ok_or("no order")?;
+    let (begin, missed) = begin.rsplit_once(" => ").ok_or("none missed")?;
+    let (begin, waits) = begin.rsplit_once(" => ").ok_or("none waits")?;
+    let (workers, looks) = begin.split_once(" => ").ok_or("no workers")?;
+    let workers: u8 = workers.parse().map_err(|_| "no workers")?;
+    let looks: u64 = looks.parse().map_err(|_| "no looks")?;
+    let missed: u64 = missed.parse().map_err(|_| "none missed")?;
+    let net = network(alloc, "n3")?;
+    let network = read(alloc, net.as_str())?;
+    let mut gate = Meeting::of(alloc, network.process_count(), looks)?;
+    for pair in waits.split(' ') {
+        gate.wait(pair)?;
+    }
+    if workers == 0 || workers > 64 {
+        return Err("no pace")?;
+    }
+    let pace = Pace {
+        workers,
+        turn: 1,
+        window_ns: 1_000_000,
+    };
+    let outcome = run(rt, alloc, &network, pace, &gate)?;
+    let is_missed = gate.missed.load(Ordering::SeqCst) == missed;
+    Ok(is_missed && is_told(&gate, &outcome) && is_ordered(alloc, &outcome, order)?)
+}
+
+// The gate was told of each process as often as the journal has that it handled a message.
+fn is_told(gate: &Meeting, outcome: &Outcome) -> bool {
+    for process in 0..gate.places.len() {
+        let handled = gate.places[process].handled.load(Ordering::SeqCst);
+        if handled != runs_of(outcome.journal.as_slice(), process) {
+            return false;
+        }
+    }
+    true
+}
+
+// How often the steps have that this process handled a message.
+fn runs_of(steps: &[Step], process: usize) -> u64 {
+    let mut runs = 0u64;
+    for step in steps {
+        if let Step::Run { process: found } = *step {
+            if found as usize == process {
+                runs = runs.saturating_add(1);
+            }
+        }
+    }
+    runs
+}
+
+// Of two steps the first one stands in the journal before the second, or none is told.
+fn is_ordered(alloc: Global, outcome: &Outcome, order: &str) -> Result<bool, Fail> {
+    let Some((first, second)) = order.split_once(',') else {
+        return Ok(true);
+    };
+    let mut page = Page::new(alloc);
+    write_steps(alloc, outcome.journal.as_slice(), &mut page)?;
+    let text = str::from_utf8(page.bytes.as_slice()).map_err(|_| "no text")?;
+    let first = format!(in alloc; "{first}\n")?;
+    let second = format!(in alloc; "{second}\n")?;
+    let first = text.find(first.as_str()).ok_or("no first step")?;
+    let second = text.find(second.as_str()).ok_or("no second step")?;
+    Ok(first < second)
+}
