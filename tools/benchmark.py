@@ -1,7 +1,7 @@
 #!/usr/bin/env python3
-"""Measures how fast a build of the program is: `check` and `seq` on three networks that large_network.py writes.
+"""Measures how fast a build of the program is: `check`, `seq` and `run` on three networks that large_network.py writes.
 
-    benchmark.py PROGRAM [--sizes small,aircraft,limit] [--reps 5]
+    benchmark.py PROGRAM [--sizes small,aircraft,limit] [--reps 5] [--workers 1,2,4]
 
 PROGRAM is the built program: crates/afdxsim/out/afdxsim, once `rt run` was called in crates/afdxsim. A table goes to
 standard output, one line for each network and command:
@@ -9,12 +9,13 @@ standard output, one line for each network and command:
   network    small     16 end systems, 2 x 2 switches, 60 virtual links, 1 simulated second
              aircraft  120 end systems, 2 x 8 switches, 1,000 virtual links, 1 simulated second
              limit     760 end systems, 2 x 38 switches (4,096 processes), 65,536 virtual links, 0.1 simulated seconds
-  command    check or seq; the whole run of the program counts, with its start and the reading of the description
+  command    check, seq, or run with so many workers, where --workers names some; the whole run of the program counts,
+             with its start and the reading of the description
   events     messages handled by seq, counted once by second_opinion.py --events. Empty where large_network.py has been
              changed, so that its text is no longer the one that was counted
   rows       frames delivered and frames dropped, duplicates among them, as the tables of seq tell. It is the number of
              lines that a trace would have after its first
-  seconds    wall time, the median of the repetitions
+  seconds    wall time, the median of the repetitions; the commands take turns, so that what else the machine does falls on all
   least      wall time, the least of them
   events/s   events by the median
   MiB        peak memory of the program, the greatest of the repetitions. The system counts from the start of a process,
@@ -90,21 +91,24 @@ def rows_of(tables):
         return sum(int(line.split(",")[4]) for line in lines)
 
 
-def measure(program, size, folder, reps):
+def measure(program, size, folder, reps, workers):
     """The lines of the table for one network."""
     net = os.path.join(folder, size + ".toml")
     write_description(size, net)
     counted = events_of(size, net)
-    for command in COMMANDS:
-        output = os.path.join(folder, "output")
-        runs = [Run([program, command, net], output) for _ in range(reps)]
+    commands = [[name, net] for name in COMMANDS] + [["run", net, "--workers", str(number)] for number in workers]
+    outputs = [os.path.join(folder, f"output-{at}") for at in range(len(commands))]
+    rounds = [[Run([program, *words], output) for words, output in zip(commands, outputs)] for _ in range(reps)]
+    for command, output, runs in zip(commands, outputs, zip(*rounds)):
         median = statistics.median(run.seconds for run in runs)
-        events = counted if command == "seq" else None
+        name = " ".join([command[0], *command[3:]])
+        has_tables = command[0] != "check"
+        events = counted if has_tables else None
         yield [
             size,
-            command,
+            name,
             f"{events:,}" if events else "",
-            f"{rows_of(output):,}" if command == "seq" else "",
+            f"{rows_of(output):,}" if has_tables else "",
             f"{median:.3f}",
             f"{min(run.seconds for run in runs):.3f}",
             f"{events / median:,.0f}" if events else "",
@@ -113,7 +117,7 @@ def measure(program, size, folder, reps):
 
 
 def print_line(cells):
-    widths = [10, 8, 11, 9, 9, 9, 12, 8]
+    widths = [10, 16, 11, 9, 9, 9, 12, 8]
     left = [cell.ljust(width) for cell, width in zip(cells[:2], widths)]
     right = [cell.rjust(width) for cell, width in zip(cells[2:], widths[2:])]
     print(" ".join(left + right), flush=True)
@@ -125,10 +129,14 @@ def main():
     add("program", metavar="PROGRAM", help="the program to measure")
     add("--sizes", default=",".join(SIZES), metavar="NAMES", help="networks, with commas between (default: all three)")
     add("--reps", type=int, default=5, metavar="N", help="repetitions of each command, at least 1 (default 5)")
+    add("--workers", default="", metavar="NUMBERS", help="numbers of workers to measure run with, 1 to 64 (default: none)")
     words = parser.parse_args()
     sizes = words.sizes.split(",")
     if not set(sizes) <= set(SIZES):
         parser.error("the networks are " + ", ".join(SIZES))
+    workers = words.workers.split(",") if words.workers else []
+    if not all(it.isdecimal() and 1 <= int(it) <= 64 for it in workers):
+        parser.error("workers are 1 to 64, with commas between")
     if words.reps < 1:
         parser.error("at least one repetition is needed")
     program = os.path.abspath(words.program)
@@ -137,7 +145,7 @@ def main():
     print_line(COLUMNS)
     with tempfile.TemporaryDirectory() as folder:
         for size in sizes:
-            for line in measure(program, size, folder, words.reps):
+            for line in measure(program, size, folder, words.reps, workers):
                 print_line(line)
         least = Run(["/bin/true"], os.path.join(folder, "output")).mebibytes
     print(f"The least MiB that can be seen here: {least:.1f}")

@@ -1,0 +1,86 @@
+"""Tests of threaded_runs.py, with a stand-in for the program that can be told to differ."""
+import contextlib
+import io
+import os
+import sys
+import tempfile
+import tomllib
+import unittest
+
+HERE = os.path.dirname(os.path.abspath(__file__))
+sys.path.insert(0, HERE)
+
+import threaded_runs  # noqa: E402
+
+# A program whose commands all print the same tables, and do these lines of a test's own before.
+STAND_IN = """#!{python}
+import sys
+command = sys.argv[1]
+tables, trace, told = "tables\\n", "trace\\n", "replay: 3 did, 0 not enabled, 0 refused, gvt 9, finished\\n"
+{lines}
+for flag, text in (("--trace", trace), ("--journal", "G\\n")):
+    if flag in sys.argv:
+        with open(sys.argv[sys.argv.index(flag) + 1], "w") as out:
+            out.write(text)
+sys.stdout.write(tables)
+if command == "replay":
+    sys.stderr.write(told)
+"""
+
+
+class ThreadedRuns(unittest.TestCase):
+    def ended(self, lines, *arguments):
+        """The status and the lines of the tool, over a stand-in with these lines."""
+        with tempfile.TemporaryDirectory() as folder:
+            program = os.path.join(folder, "program")
+            with open(program, "w") as out:
+                out.write(STAND_IN.format(python=sys.executable, lines=lines))
+            os.chmod(program, 0o755)
+            out = io.StringIO()
+            with contextlib.redirect_stdout(out):
+                status = threaded_runs.main(["--program", program, *arguments])
+            return status, out.getvalue().splitlines()
+
+    def test_runs_like_those_of_seq_are_counted(self):
+        status, lines = self.ended("", "--runs", "3")
+        self.assertEqual((status, lines), (0, ["3 runs, 3 came out as seq, 0 did not"]))
+
+    def test_each_difference_is_told(self):
+        for lines, told in (
+            ("if command == 'run': tables = 'others'", "the tables of run differ from those of seq"),
+            ("if command == 'run': trace = 'others'", "the rows of run's trace differ from those of seq"),
+            ("if command == 'run' and '--trace' not in sys.argv: tables = ''", "the tables of run alone differ from those of seq"),
+            ("if command == 'replay': tables = ''", "the tables of replay differ from those of seq"),
+            ("told = told.replace('finished', 'unfinished')", "replay told: replay: 3 did, 0 not enabled, 0 refused, gvt 9, unfinished"),
+            ("told = told.replace('0 refused', '1 refused')", "replay told: replay: 3 did, 0 not enabled, 1 refused, gvt 9, finished"),
+            ("if command == 'run': sys.exit('afdxsim: torn')", "run ended with status 1: afdxsim: torn"),
+        ):
+            with self.subTest(lines=lines):
+                status, found = self.ended(lines, "--runs", "1")
+                self.assertEqual((status, len(found)), (1, 2))
+                self.assertTrue(found[0].startswith("run 0 (--workers ") and found[0].endswith("): " + told), found[0])
+                self.assertEqual(found[1], "1 runs, 0 came out as seq, 1 did not")
+
+    def test_a_command_that_does_not_end_is_told(self):
+        with self.assertRaises(threaded_runs.Difference) as told:
+            threaded_runs.ended("/bin/sleep", ["60"], HERE, 0.1)
+        self.assertEqual(str(told.exception), "60 took longer than 0.1 seconds")
+
+    def test_a_run_can_be_made_again(self):
+        for number in range(20):
+            with self.subTest(number=number):
+                one, two = threaded_runs.Drawn(number), threaded_runs.Drawn(number)
+                self.assertEqual((one.network, one.pace()), (two.network, two.pace()))
+
+    def test_what_is_drawn_is_within_its_limits(self):
+        drawn = [threaded_runs.Drawn(number) for number in range(200)]
+        for name, most in (("workers", 64), ("turn", 256), ("window", 10**12)):
+            found = [getattr(one, name) for one in drawn]
+            self.assertTrue(all(1 <= value <= most for value in found))
+            self.assertTrue(min(found) <= most**0.25 and max(found) > most / 4)
+        for one in drawn:
+            tomllib.loads(one.network)
+
+
+if __name__ == "__main__":
+    unittest.main()

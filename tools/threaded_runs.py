@@ -1,0 +1,174 @@
+#!/usr/bin/env python3
+"""Runs drawn small networks by workers, and holds each run against the one-thread run.
+
+Each run has a network of its own, drawn by large_network.py: 2 to 6 end systems, 1 to 3 switches on each of the two
+networks, 1 to 12 virtual links, 1 to 20 ms of simulated time. Its number of workers is drawn from 1 to 64, its turn
+from 1 to 256 and its window from 1 to 10^12 ns, each evenly over its powers of two, so that small ones are as frequent
+as large ones. `afdxsim run` must then end with status 0, and its tables and its trace must have the bytes of
+`afdxsim seq`. One run of ten also writes its journal, and `afdxsim replay` of it must print the same tables, and tell
+that the run is finished, that nothing was refused and that nothing was not enabled.
+
+What is drawn follows from --first and the number of the run alone, so a run that differs can be made again. How the
+threads take turns is for the system, so it may come out well then.
+"""
+import argparse
+import collections
+import os
+import random
+import re
+import subprocess
+import sys
+import tempfile
+
+HERE = os.path.dirname(os.path.abspath(__file__))
+sys.path.insert(0, HERE)
+
+import large_network  # noqa: E402
+
+PROGRAM = os.path.normpath(os.path.join(HERE, "..", "crates", "afdxsim", "out", "afdxsim"))
+WELL_REPLAYED = re.compile(r"replay: \d+ did, 0 not enabled, 0 refused, gvt \d+, finished\n")
+GREATEST_SEED = 2**63 - 1
+
+EXAMPLES = """
+examples:
+  threaded_runs.py
+        a thousand runs
+  threaded_runs.py --runs 1 --first 417 --keep
+        the run 417 once more; its description, tables, trace and journal stay in the folder that is named
+
+It prints how many runs there were, how many of them came out as they must, and what the others did, a line each.
+
+status:
+  0  each run came out as it must
+  1  a run did not: it differs, ended with another status, or took longer than --seconds
+  2  a word is wrong, or the program is not there
+"""
+
+
+def power(draw, most):
+    """A number from 1 to the most, as likely to have few binary digits as many."""
+    low = 2 ** draw.randrange(most.bit_length())
+    return min(most, draw.randrange(low, 2 * low))
+
+
+def network_of(draw):
+    """The description of a drawn network."""
+    words = large_network.words_of(
+        ["--end-systems", str(draw.randint(2, 6)), "--switches", str(draw.randint(1, 3)), "--columns", "1"]
+        + ["--virtual-links", str(draw.randint(1, 12)), "--destinations", str(draw.randint(1, 3))]
+        + ["--port-bytes", str(draw.choice([1518, 4096, 65536])), "--until", str(draw.randint(1, 20) * 10**6)]
+        + ["--seed", str(draw.randint(0, GREATEST_SEED))]
+    )
+    pieces = []
+    refusal = large_network.write_network(words, pieces.append, lambda _: None)
+    if refusal:
+        raise ValueError(refusal)
+    return "".join(pieces)
+
+
+class Drawn:
+    """What run number `number` has: its network, and the words that set its pace."""
+
+    def __init__(self, number):
+        draw = random.Random(number)
+        self.number = number
+        self.network = network_of(draw)
+        self.workers = power(draw, 64)
+        self.turn = power(draw, 256)
+        self.window = power(draw, 10**12)
+        self.has_journal = number % 10 == 0
+
+    def pace(self):
+        return ["--workers", str(self.workers), "--turn", str(self.turn), "--window", str(self.window)]
+
+
+class Difference(Exception):
+    """What a run did that it must not do."""
+
+
+def read(path):
+    with open(path, "rb") as file:
+        return file.read()
+
+
+def ended(program, words, folder, seconds):
+    """The bytes that a command prints on both streams. Its status must be 0."""
+    try:
+        run = subprocess.run([program, *words], cwd=folder, capture_output=True, timeout=seconds)
+    except subprocess.TimeoutExpired:
+        raise Difference(f"{words[0]} took longer than {seconds} seconds") from None
+    if run.returncode:
+        raise Difference(f"{words[0]} ended with status {run.returncode}: {run.stderr.decode(errors='replace').strip()}")
+    return run.stdout, run.stderr
+
+
+def same(found, wanted, what):
+    if found != wanted:
+        raise Difference(f"{what} differ from those of seq")
+
+
+def hold(program, drawn, folder, seconds):
+    """Makes a run and holds it against the one-thread run."""
+    with open(os.path.join(folder, "net.toml"), "w", encoding="utf-8") as out:
+        out.write(drawn.network)
+    tables, _ = ended(program, ["seq", "net.toml", "--trace", "seq.csv"], folder, seconds)
+    journal = ["--journal", "steps.txt"] if drawn.has_journal else []
+    words = ["run", "net.toml", *drawn.pace(), "--trace", "run.csv", *journal]
+    same(ended(program, words, folder, seconds)[0], tables, "the tables of run")
+    same(read(os.path.join(folder, "run.csv")), read(os.path.join(folder, "seq.csv")), "the rows of run's trace")
+    # Without a trace and a journal the program makes neither, and counts the tables in another way.
+    same(ended(program, ["run", "net.toml", *drawn.pace()], folder, seconds)[0], tables, "the tables of run alone")
+    if drawn.has_journal:
+        printed, told = ended(program, ["replay", "net.toml", "steps.txt"], folder, seconds)
+        same(printed, tables, "the tables of replay")
+        if not WELL_REPLAYED.fullmatch(told.decode(errors="replace")):
+            raise Difference(f"replay told: {told.decode(errors='replace').strip()}")
+
+
+def one_run(words, number, tell):
+    """Makes one run, tells what it did where it must not, and answers what came out, in a word or two."""
+    drawn = Drawn(number)
+    folder = tempfile.mkdtemp(prefix=f"threaded-run-{number}-")
+    found = "as seq"
+    try:
+        hold(words.program, drawn, folder, words.seconds)
+    except Difference as fault:
+        found = "another way"
+        tell(f"run {number} ({' '.join(drawn.pace())}): {fault}")
+    if words.keep:
+        tell(f"run {number}: {folder}")
+    else:
+        for name in os.listdir(folder):
+            os.unlink(os.path.join(folder, name))
+        os.rmdir(folder)
+    return found
+
+
+def words_of(arguments=None):
+    parser = argparse.ArgumentParser(
+        description=__doc__, epilog=EXAMPLES, formatter_class=argparse.RawDescriptionHelpFormatter
+    )
+    add = parser.add_argument
+    add("--runs", type=large_network.whole(1, 10**6), default=1000, metavar="N", help="how many runs (default 1000)")
+    add("--first", type=large_network.whole(0, 10**9), default=0, metavar="N", help="number of the first (default 0)")
+    add("--seconds", type=large_network.whole(1, 3600), default=60, metavar="N", help="most of a command (default 60)")
+    add("--keep", action="store_true", help="keeps the files of each run, and names the folder")
+    add("--program", default=PROGRAM, metavar="FILE", help="the built program (default crates/afdxsim/out/afdxsim)")
+    words = parser.parse_args(arguments)
+    if not os.access(words.program, os.X_OK):
+        parser.error(f"no program at {words.program}: build it by `rt run` in crates/afdxsim")
+    words.program = os.path.abspath(words.program)
+    return words
+
+
+def main(arguments=None):
+    words = words_of(arguments)
+    outcomes = collections.Counter()
+    for number in range(words.first, words.first + words.runs):
+        outcomes[one_run(words, number, print)] += 1
+    print(f"{words.runs} runs, {outcomes['as seq']} came out as seq, {outcomes['another way']} did not")
+    return 1 if outcomes["another way"] else 0
+
+
+if __name__ == "__main__":
+    sys.exit(main())
