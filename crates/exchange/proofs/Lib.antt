@@ -5,6 +5,7 @@ mod Joining
 mod Listed
 mod Lists
 mod Moves
+mod Oldest
 mod Opened
 mod Outcomes
 mod Posted

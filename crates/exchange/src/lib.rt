@@ -14,6 +14,7 @@ mod posting;
 mod publishing;
 mod reading;
 mod run_of;
+mod sealed;
 mod working;
 
 pub use collecting::collect;

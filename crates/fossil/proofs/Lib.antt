@@ -1,1 +1,4 @@
 mod Counts
+pub mod EarlyRows
+pub mod RowTimes
+mod Between

@@ -3,5 +3,7 @@
 #![tactic(auto)]
 
 mod collection;
+mod rows;
 
 pub use collection::{commit, commit_oldest};
+pub use rows::rows_between;

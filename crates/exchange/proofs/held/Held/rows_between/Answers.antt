@@ -1,0 +1,25 @@
+use Rattle.std.proofs.Common.{sym, map, ◌∙◌}
+use Rattle.virtual_time.specs.Own.{local}
+use Rattle.virtual_time.specs.Journal.{act_by, after_own}
+use Rattle.reverse.specs.Rules.{rules_of}
+use Rattle.reverse.specs.Setting.{simulation_of}
+use Rattle.fossil.proofs.EarlyRows.{early-rows}
+use Rattle.fossil.proofs.RowTimes.{committed-in-time}
+use Rattle.exchange.specs.Keeps.{own_of}
+use Rattle.exchange.proofs.held.Held.rows_between.Goals as goal
+
+pub rows_between-requires : goal.rows_between-requires
+rows_between-requires g c =
+    let h = c.self.invariant in
+    let f = simulation_of (rules_of g.R.Reversible.plain g.R.Actor.counter) g.J.ActorRun.setting in
+    (_, _, h.stands, committed-in-time f (c.actor_laws.ensures g.J.ActorRun.setting h.laid) c.self.inside.number c.self.inside.seen _ h.safe)
+
+pub returns-clause-rows : goal.returns-clause-rows
+returns-clause-rows g c = rw (sym c.self.view_is) (c.rows_between.ensures _ _ c.self.invariant.stands)
+
+pub returns-clause-whole : goal.returns-clause-whole
+returns-clause-whole g c =
+    let h = c.self.invariant in
+    let f = simulation_of (rules_of g.R.Reversible.plain g.R.Actor.counter) g.J.ActorRun.setting in
+    rw (sym c.self.view_is) (λ low none turns ended. c.rows_between.ensures _ _ h.stands
+    ∙ sym (early-rows f (c.actor_laws.ensures g.J.ActorRun.setting h.laid) c.self.inside.number c.self.inside.seen c.args.from c.args.to _ h.safe low none turns ended))

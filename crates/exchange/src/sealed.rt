@@ -1,0 +1,54 @@
+//! The rows of a process in hand that are for good.
+ghost use Rattle.std.specs.Prelude.{◌≡◌, ◌≤◌, ◌↔◌, ℕ, [], map, IsTrue};
+ghost use Rattle.vlink.specs.declared.message.Message.{Message};
+ghost use Rattle.virtual_time.specs.Rules.{rowed};
+ghost use Rattle.virtual_time.specs.Lists.{earlier};
+ghost use Rattle.virtual_time.specs.OneThread.{one, rows_at};
+ghost use Rattle.reverse.specs.Rules.{rules_of};
+ghost use Rattle.reverse.specs.Setting.{simulation_of};
+ghost use Rattle.process_queues.specs.Past.{seen_row};
+ghost use Rattle.fossil.specs.Committed.{is_moment_before};
+ghost use Rattle.fossil.specs.Within.{rows_within};
+
+use crate::held::Held;
+use crate::run_of::ActorRun;
+use fossil::rows_between;
+use reverse::{Actor, actor_laws, actor_rules};
+use vlink::{Row, Time};
+
+impl<'a, R: Actor, J: ActorRun<R>> Held<'a, R, J> {
+    /// Whether its events before a moment, in ns, are all committed and are for good: the moment is not later than the GVT that it saw, and no
+    /// done event is earlier.
+    pub fn is_sealed_before(&self, moment: Time) -> bool
+        ensures { IsTrue result ↔ ((moment ≤ self.now.share.seen) × (earlier (rules_of R.plain R.counter) moment self.now.part.done ≡ [])) }
+    {
+        actor_rules::<R>();
+        moment.ns() <= self.seen.ns() && !is_before(self.process.oldest(), moment)
+    }
+
+    /// The rows of its committed events of the moments from `from` on and before `to`, in ns, in their order.
+    ///
+    /// - `rows`: they are such rows of its committed events.
+    /// - `whole`: where its events before `to` are all committed and are for good, they are all such rows that the one-thread run has of it.
+    pub fn rows_between(&self, from: Time, to: Time) -> &[Row]
+        ensures rows { map seen_row result.now
+            ≡ rows_within (rules_of R.plain R.counter) from to (rowed (rules_of R.plain R.counter) (J.setting.opening self.now.number) self.now.part.committed) }
+        ensures whole { to ≤ self.now.share.seen → earlier (rules_of R.plain R.counter) to self.now.part.done ≡ [] →
+            (turns : ℕ) → (one (simulation_of (rules_of R.plain R.counter) J.setting) turns).waiting ≡ [] → map seen_row result.now
+            ≡ rows_within (rules_of R.plain R.counter) from to (rows_at (simulation_of (rules_of R.plain R.counter) J.setting) self.now.number
+            (one (simulation_of (rules_of R.plain R.counter) J.setting) turns).rows) }
+    {
+        actor_laws::<R>();
+        rows_between(&self.process, from, to)
+    }
+}
+
+/// Whether there is a moment, and it is earlier than another.
+fn is_before(moment: Option<Time>, limit: Time) -> bool
+    ensures { result ≡ is_moment_before limit moment }
+{
+    match moment {
+        Some(moment) => moment < limit,
+        None => false,
+    }
+}

@@ -1,0 +1,17 @@
+-- Rows of a process that are of moments from one on and before another. Times are in ns.
+use Rattle.std.specs.Prelude.{ℕ, ◌&&◌, nat_le, nat_lt, Bool, List, filter}
+use Rattle.std.specs.List.Sorted.{IsNonDecreasingBy}
+use Rattle.virtual_time.specs.Rules.{Rules, Row}
+
+module _ {M S K N : Type 0} (r : Rules M S K N) where
+  -- the message is of a moment from one on and before another
+  abbrev pub is_within : ℕ → ℕ → M → Bool
+  is_within from to m = nat_le from (r.time m) && nat_lt (r.time m) to
+
+  -- the rows of such messages, in their order
+  abbrev pub rows_within : ℕ → ℕ → List (Row M N) → List (Row M N)
+  rows_within from to rows = filter (λ row. is_within from to row.message) rows
+
+  -- the moments of the rows do not fall
+  abbrev pub AreInTime : List (Row M N) → Type 0
+  AreInTime rows = IsNonDecreasingBy (λ row. r.time row.message) rows
