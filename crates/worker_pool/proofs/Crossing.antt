@@ -37,6 +37,7 @@ use Rattle.worker_pool.specs.declared.network_run.NetworkRun.{Ghosts as NetworkG
 use Rattle.worker_pool.specs.contracts.network_run.Of as Of
 use Rattle.worker_pool.specs.contracts.locks.Locked as Locked
 use Rattle.worker_pool.specs.contracts.locks.Locks as Locks
+use Rattle.worker_pool.proofs.desk.TraceLock.TheSendSync as trace
 
 -- ---- the table of entries
 past-send : IsSend Past.the_row
@@ -79,7 +80,8 @@ exchange-send a R J K g h k = view_send _ _ _ _ _ (declared_send (ExchangeIn.the
 
 -- ---- the locks
 locked-send : (a : NamedLft) (J : RattleType) (g : NetworkGhosts J.Denot) → IsSend (Locked.the_row a J g)
-locked-send a J g = declared_send (Locked.the_type a J g) (held-send _ _ (Of.the_row J) _ _ node_reversible.ghosts _ node.the_send node_record.the_send, (search sendable, tt))
+locked-send a J g = declared_send (Locked.the_type a J g) (held-send _ _ (Of.the_row J) _ _ node_reversible.ghosts _ node.the_send node_record.the_send, (search sendable, (search sendable, tt)))
 
 pub locks-sync : (a : NamedLft) (J : RattleType) (g : NetworkGhosts J.Denot) → IsSync (Locks.the_row a J g)
-locks-sync a J g = declared_sync (Locks.the_type a J g) (search (locked-send, crosses) depth 10, (time.the_sync, tt))
+locks-sync a J g = declared_sync (Locks.the_type a J g)
+    (search (locked-send, crosses) depth 10, (time.the_sync, (search (trace.the_sync, option.the_sync, sendable, crosses) depth 10, tt)))

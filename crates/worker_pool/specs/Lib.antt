@@ -1,2 +1,5 @@
 pub mod Paces
+pub mod Parts
 pub mod Runs
+pub mod Traces
+pub mod Written

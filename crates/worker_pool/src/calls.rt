@@ -16,13 +16,13 @@ pub(crate) struct Call {
 }
 
 /// Lists whom a process calls that has worked and has not yet posted: the receiver of each of its letters, and itself where it has a message
-/// to handle. Each is due half of this process's lead, `MOST_EARLY_NS` at most, before the moment of the letter or the message, so that it
-/// finds as many more. The lead of a receiver stands under a lock of its own, so this one serves for it.
+/// to handle. Each is due just when it may handle it, by this process's lead, `MOST_EARLY_NS` at most. The lead of a receiver stands under a
+/// lock of its own, so this one serves for it.
 pub(crate) fn list_calls<'a, J: NetworkRun>(
     calls: &mut Vec<Call>,
     locked: &Locked<'a, J>,
 ) -> Result<(), AllocError> {
-    let early_ns = (locked.lead_ns / 2).min(MOST_EARLY_NS);
+    let early_ns = locked.lead_ns.min(MOST_EARLY_NS);
     calls.clear();
     for letter in locked.held.outbox() {
         let message = &letter.message;
@@ -34,10 +34,10 @@ pub(crate) fn list_calls<'a, J: NetworkRun>(
     Ok(())
 }
 
-/// A call of the process, for this moment, less so many ns.
+/// A call of the process: it is due once the moment is less than so many ns ahead.
 fn call_for(process: u16, moment: Time, early_ns: u64) -> Call {
     Call {
         process,
-        due_ns: moment.ns().saturating_sub(early_ns),
+        due_ns: moment.ns().saturating_add(1).saturating_sub(early_ns),
     }
 }

@@ -4,6 +4,7 @@ ghost use Rattle.netdesc.specs.Faults.{process_count};
 
 use crate::hint::Hint;
 use crate::network_run::NetworkRun;
+use crossbeam_deque::Worker;
 use std::alloc::{AllocError, Global};
 use std::marker::PhantomData;
 use std::sync::atomic::{AtomicU64, Ordering};
@@ -46,17 +47,47 @@ impl<J: NetworkRun> Dues<J> {
     }
 
     /// Whether the process is due at this moment, in ns.
-    pub(crate) fn is_due(&self, process: usize, now_ns: u64) -> bool {
-        match self.moments.get(process) {
+    pub(crate) fn is_due(&self, process: u16, now_ns: u64) -> bool {
+        match self.moments.get(usize::from(process)) {
             Some(moment) => moment.load(Ordering::SeqCst) <= now_ns,
             None => false,
+        }
+    }
+
+    /// Keeps hints at those processes from number `from` on and below `to` that are due at this moment, in ns.
+    pub(crate) fn keep_due(&self, from: u16, to: u16, now_ns: u64, hints: &mut Worker<Hint<J>>) {
+        let moments = self.moments.as_slice();
+        let end = usize::from(to).min(moments.len());
+        for place in usize::from(from)..end {
+            if moments[place].load(Ordering::SeqCst) <= now_ns {
+                self.keep(place, now_ns, hints);
+            }
+        }
+    }
+
+    /// A hint at the first process from number `from` on and below `to` that is due at this moment, in ns.
+    pub(crate) fn first_due(&self, from: u16, to: u16, now_ns: u64) -> Option<Hint<J>> {
+        for process in from..to {
+            if let Some(hint) = self.hint(process, now_ns) {
+                return Some(hint);
+            }
+        }
+        None
+    }
+
+    /// Keeps a hint at the process, if it is due. One for which there is no room is not missed: the process stays due.
+    fn keep(&self, place: usize, now_ns: u64, hints: &mut Worker<Hint<J>>) {
+        if let Ok(process) = u16::try_from(place) {
+            if let Some(hint) = self.hint(process, now_ns) {
+                let _refused = hints.push(hint);
+            }
         }
     }
 
     /// A hint at the process, if it is due at this moment, in ns.
     pub(crate) fn hint(&self, process: u16, now_ns: u64) -> Option<Hint<J>> {
         let place = usize::from(process);
-        if place < self.moments.len() && self.is_due(place, now_ns) {
+        if place < self.moments.len() && self.moments[place].load(Ordering::SeqCst) <= now_ns {
             Some(Hint::new(process))
         } else {
             None
@@ -77,9 +108,9 @@ fn zeros(alloc: Global, count: usize) -> Result<Vec<AtomicU64>, AllocError>
 
 /// Lowers the moment to this one, where it is later, and answers what it was.
 fn lower(moment: &AtomicU64, due_ns: u64) -> u64 {
-    let before = moment.load(Ordering::SeqCst);
-    if before <= due_ns {
-        return before;
+    let before_ns = moment.load(Ordering::SeqCst);
+    if before_ns <= due_ns {
+        return before_ns;
     }
     moment.fetch_min(due_ns, Ordering::SeqCst)
 }

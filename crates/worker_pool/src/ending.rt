@@ -6,6 +6,7 @@ ghost use Rattle.journal.specs.declared.fault.PoolFault.TheVariants.{Torn};
 ghost use Rattle.exchange.specs.Views.{InShare};
 ghost use Rattle.worker_pool.specs.Runs.{IsOfWorld, IsEnded};
 
+use crate::desk::TraceLock;
 use crate::locks::{Locked, Locks};
 use crate::network_run::{NetworkRun, Of};
 use crate::pace::Pace;
@@ -17,11 +18,12 @@ use std::alloc::{AllocError, Global};
 use std::sync::{Mutex, Wait};
 use vlink::Time;
 
-/// The exchange and all processes of a run, out of their locks.
+/// The exchange and all processes of a run, out of their locks, and the lock of its trace, if one is written.
 #[derive(Drop)]
 pub(crate) struct Unlocked<'a, J: NetworkRun> {
     pub exchange: Exchange<'a, Node, Of<J>>,
     pub lockeds: Vec<Locked<'a, J>>,
+    pub trace: Option<TraceLock<J>>,
 }
 
 /// Whether this process is number `place`, has no step that is not in the journal, and is the one of the journal.
@@ -45,7 +47,7 @@ impl<'a, J: NetworkRun> Unlocked<'a, J> {
         locks: Locks<'a, J>,
         exchange: Mutex<Exchange<'a, Node, Of<J>>>,
     ) -> Result<Self, AllocError> {
-        let Locks { locks, .. } = locks;
+        let Locks { locks, trace, .. } = locks;
         let mut lockeds = Vec::with_capacity(alloc, locks.len())?;
         for lock in locks {
             lockeds.push(lock.into_inner())?;
@@ -53,10 +55,12 @@ impl<'a, J: NetworkRun> Unlocked<'a, J> {
         Ok(Unlocked {
             exchange: exchange.into_inner(),
             lockeds,
+            trace,
         })
     }
 
-    /// Gives each process a turn and sets GVT, once and again until the run is ended. `until` is the end time of the network.
+    /// Sets GVT and gives each process a turn, once and again until the run is ended. `until` is the end time of the network. In the last turn
+    /// each process has seen the GVT behind the end, and has no part of the trace left to give.
     ///
     /// `Torn`: a process is not the one of the journal.
     pub(crate) fn end<G: Gate, T: Wait>(
@@ -70,8 +74,8 @@ impl<'a, J: NetworkRun> Unlocked<'a, J> {
         ensures { OnOk result (IsEnded J.plan self.new.exchange.entries (map (λ l. l.held) self.new.lockeds.items)) }
     {
         for _ in rt.forever() {
-            self.take_turns(pace, gate)?;
             let _gvt = publish(&mut self.exchange)?;
+            self.take_turns(rt, pace, gate)?;
             if self.is_ended(until)? {
                 return Ok(());
             }
@@ -79,10 +83,18 @@ impl<'a, J: NetworkRun> Unlocked<'a, J> {
         unreachable!()
     }
 
-    /// Each process gets a turn.
-    fn take_turns<G: Gate>(&mut self, pace: &Pace, gate: &G) -> Result<(), PoolFault> {
+    /// Each process gets a turn, and gives the parts of the trace that it can give.
+    fn take_turns<G: Gate, T: Wait>(
+        &mut self,
+        rt: &T,
+        pace: &Pace,
+        gate: &G,
+    ) -> Result<(), PoolFault> {
         for locked in self.lockeds.iter_mut() {
             lent_turn(locked, &mut self.exchange, pace, gate)?;
+            if let Some(trace) = &self.trace {
+                trace.give_parts(rt, locked)?;
+            }
         }
         Ok(())
     }

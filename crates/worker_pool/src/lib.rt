@@ -3,22 +3,35 @@
 #![tactic(auto)]
 
 mod calls;
+mod desk;
 mod due;
 mod ending;
 mod hint;
+mod lawful_rows;
 mod locks;
 mod network_run;
 mod opening;
 mod pace;
+mod parts;
 mod picking;
 mod results;
+mod run_batch;
+mod run_gather;
+mod run_writer;
 mod running;
+mod trace_run;
+mod tracing;
 mod turn;
+mod worker;
 mod workers;
+mod writing;
 
 pub use exchange::{ActorRun, Exchange, Gate, Held, Mark, collect, post, publish, work};
 pub use journal::{Entries, PoolFault};
 pub use network_run::{NetworkRun, Of};
 pub use opening::open_network;
 pub use pace::Pace;
+pub use parts::next_part;
 pub use running::{Outcome, run, run_tables};
+pub use trace_run::TraceRun;
+pub use tracing::{Summary, Traced, run_tables_traced, run_traced};

@@ -4,6 +4,7 @@ ghost use Rattle.netdesc.specs.Faults.{process_count};
 ghost use Rattle.netdesc.specs.Limits.{greatest_processes};
 ghost use Rattle.journal.specs.declared.fault.PoolFault.TheVariants.{OutOfMemory};
 
+use crate::desk::TraceLock;
 use crate::network_run::{NetworkRun, Of};
 use crate::pace::Pace;
 use exchange::Held;
@@ -14,28 +15,33 @@ use std::alloc::{AllocError, Global};
 use std::sync::Mutex;
 use vlink::Time;
 
-/// What one lock keeps: a process in hand, and its lead: how far it runs ahead of the GVT that it saw, in ns.
+/// What one lock keeps: a process in hand; its lead: how far it runs ahead of the GVT that it saw, in ns; and of how many intervals of the
+/// trace its parts were given.
 #[derive(Drop)]
 pub(crate) struct Locked<'a, J: NetworkRun> {
     pub held: Held<'a, Node, Of<J>>,
     pub lead_ns: u64,
+    pub given: u16,
 }
 
-/// A lock for each process of the run, and the end time of the run.
+/// A lock for each process of the run, the end time of the run, and the lock of its trace, if one is written.
 #[derive(Drop)]
 pub(crate) struct Locks<'a, J: NetworkRun> {
     pub locks: Vec<Mutex<Locked<'a, J>>>,
     pub until: Time,
+    pub trace: Option<TraceLock<J>>,
     pub ghost all: { length locks.items ≡ process_count J.plan },
     pub ghost few: { length locks.items ≤ greatest_processes },
 }
 
-/// A lock for each process of the network, in order. The lead of each begins at the window. It is refused for memory alone.
+/// A lock for each process of the network, in order, beside that of the trace. The lead of each begins at the window. It is refused for memory
+/// alone.
 pub(crate) fn locks_of<'a, J: NetworkRun>(
     alloc: Global,
     network: &Network,
     helds: Vec<Held<'a, Node, Of<J>>>,
     pace: &Pace,
+    trace: Option<TraceLock<J>>,
 ) -> Result<Locks<'a, J>, PoolFault>
     requires network { network.now ≡ J.plan }
     requires all { length helds.items ≡ process_count network.now }
@@ -46,6 +52,7 @@ pub(crate) fn locks_of<'a, J: NetworkRun>(
     Ok(Locks {
         locks,
         until: network.until(),
+        trace,
     })
 }
 
@@ -59,7 +66,11 @@ fn mutexes_of<'a, J: NetworkRun>(
 {
     let mut locks = Vec::with_capacity(alloc, helds.len())?;
     for held in helds {
-        locks.push(Mutex::new(Locked { held, lead_ns }))?;
+        locks.push(Mutex::new(Locked {
+            held,
+            lead_ns,
+            given: 0,
+        }))?;
     }
     Ok(locks)
 }

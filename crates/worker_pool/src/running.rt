@@ -11,6 +11,7 @@ ghost use Rattle.seqsim.specs.Networks.{AreRowsOf};
 ghost use Rattle.worker_pool.specs.Paces.{IsPace};
 ghost use Rattle.worker_pool.specs.Runs.{IsEnded};
 
+use crate::desk::TraceLock;
 use crate::ending::Unlocked;
 use crate::locks::locks_of;
 use crate::network_run::NetworkRun;
@@ -39,21 +40,22 @@ pub struct Outcome {
     pub journal: Vec<Step>,
 }
 
-/// Runs a network by workers, over this table, until it is ended.
-fn run_to_end<'a, J: NetworkRun + Send + Sync, G: Gate + Sync, T: Threads + Wait + Sync>(
+/// Runs a network by workers, over this table, until it is ended. The parts of the trace go to its lock, if there is one.
+pub(crate) fn run_to_end<'a, J: NetworkRun + Send + Sync, G: Gate + Sync, T: Threads + Wait + Sync>(
     rt: &T,
     alloc: Global,
     network: &Network,
     table: &'a Entries,
     pace: &Pace,
     gate: &G,
+    trace: Option<TraceLock<J>>,
 ) -> Result<Unlocked<'a, J>, PoolFault>
     requires network { network.now ≡ J.plan }
     requires table { names table.now.pages.items ≡ J.pages }
     ensures { IfOk result (λ run. IsEnded J.plan run.exchange.entries (map (λ l. l.held) run.lockeds.items)) }
 {
     let (exchange, helds) = open_network::<J>(alloc, network, table, MOST_STEPS)?;
-    let locks = locks_of(alloc, network, helds, pace)?;
+    let locks = locks_of(alloc, network, helds, pace, trace)?;
     let exchange = Mutex::new(exchange);
     start_all(rt, alloc, &locks, &exchange, pace, gate)?;
     let mut unlocked = Unlocked::of(alloc, locks, exchange)?;
@@ -75,7 +77,7 @@ fn run_named<J: NetworkRun + Send + Sync, G: Gate + Sync, T: Threads + Wait + Sy
     ensures tables { IfOk result (λ o. o.tables ≡ tables_of network.now o.rows.items) }
     ensures finished { IfOk result (λ o. IsFinished (simulation_of network.now) (after network.now (map step_of o.journal.items))) }
 {
-    let ended = run_to_end::<J, G, T>(rt, alloc, network, table, pace, gate)?;
+    let ended = run_to_end::<J, G, T>(rt, alloc, network, table, pace, gate, None)?;
     let rows = ended.rows(alloc, network)?;
     let tables = Tables::of(alloc, network, &rows)?;
     let journal = ended.exchange.step_list(alloc)?;
@@ -99,7 +101,7 @@ fn tables_named<J: NetworkRun + Send + Sync, G: Gate + Sync, T: Threads + Wait +
     ensures whole { IfOk result (λ tables. (rows : List Noted) × AreRowsOf network.now rows × (tables ≡ tables_of network.now rows)) }
     ensures each { IfOk result (λ tables. (rows : List Noted) → AreRowsOf network.now rows → tables ≡ tables_of network.now rows) }
 {
-    let ended = run_to_end::<J, G, T>(rt, alloc, network, table, pace, gate)?;
+    let ended = run_to_end::<J, G, T>(rt, alloc, network, table, pace, gate, None)?;
     Ok(ended.tables(alloc, network)?)
 }
 

@@ -8,10 +8,16 @@ use crate::pace::Pace;
 use exchange::{Exchange, Gate, Held, collect, post, work};
 use journal::PoolFault;
 use nodes::Node;
-use std::sync::{Mutex, Wait};
+use std::hint;
+use std::sync::{Mutex, MutexGuard, Wait};
 
 /// A lead is not halved below this, in ns.
 const LEAST_LEAD_NS: u64 = 5_000;
+
+/// So often a worker tries to take the lock of the exchange before it sleeps, and so many pauses of the processor it makes after each try.
+const TRIES: u32 = 128;
+
+const PAUSES: u32 = 24;
 
 /// A turn of a process whose lock the caller has. The lock of the exchange is taken twice, and is free while the process works. Whom the turn
 /// calls is listed, in place of what was in the list.
@@ -23,10 +29,23 @@ pub(crate) fn turn<'a, J: NetworkRun, G: Gate, T: Wait>(
     gate: &G,
     calls: &mut Vec<Call>,
 ) -> Result<(), PoolFault> {
-    take_letters(&mut locked.held, &mut *exchange.lock(rt))?;
+    take_letters(&mut locked.held, &mut *locked_soon(rt, exchange))?;
     run_ahead(locked, pace, gate)?;
     list_calls(calls, locked)?;
-    give_letters(&mut locked.held, &mut *exchange.lock(rt))
+    give_letters(&mut locked.held, &mut *locked_soon(rt, exchange))
+}
+
+/// The value of a lock that others have for some microseconds at most: a thread that slept would lose more, so it tries for a while.
+fn locked_soon<'b, V, T: Wait>(rt: &T, lock: &'b Mutex<V>) -> MutexGuard<'b, V> {
+    for _ in 0..TRIES {
+        if let Some(guard) = lock.try_lock() {
+            return guard;
+        }
+        for _ in 0..PAUSES {
+            hint::spin_loop();
+        }
+    }
+    lock.lock(rt)
 }
 
 /// A turn of a process, where one thread has all in hand.
@@ -82,7 +101,7 @@ fn give_letters<'a, J: NetworkRun>(
     post(held, exchange)
 }
 
-/// The lead after a turn, in ns: a half, but not below `LEAST_LEAD_NS`, where its letters came too late; a thirty-second part more
+/// The lead after a turn, in ns: a half, but not below `LEAST_LEAD_NS`, where its letters came too late; a sixty-fourth part more
 /// otherwise; and never more than the window.
 fn lead_after(lead_ns: u64, window_ns: u64, was_late: bool) -> u64
     ensures { result ≤ window_ns }
@@ -90,7 +109,7 @@ fn lead_after(lead_ns: u64, window_ns: u64, was_late: bool) -> u64
     let lead = if was_late {
         (lead_ns / 2).max(LEAST_LEAD_NS)
     } else {
-        lead_ns.saturating_add(lead_ns / 32)
+        lead_ns.saturating_add(lead_ns / 64)
     };
     lead.min(window_ns)
 }

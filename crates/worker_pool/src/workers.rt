@@ -1,14 +1,13 @@
-//! Workers: threads that give turns to processes.
-ghost use Rattle.std.specs.Prelude.{◌≡◌, ◌<◌, ◌≤◌, ◌⊎◌, length, IfErr};
+//! Threads that give turns to processes.
+ghost use Rattle.std.specs.Prelude.{◌≡◌, ◌≤◌, ◌⊎◌, IfErr};
 ghost use Rattle.journal.specs.Faults.{fault_number};
 
-use crate::hint::Hint;
-use crate::locks::{Locked, Locks};
+use crate::locks::Locks;
 use crate::network_run::{NetworkRun, Of};
 use crate::pace::Pace;
 use crate::picking::{Notices, Picker, pickers};
-use crate::turn::turn;
-use exchange::{Exchange, Gate, publish};
+use crate::worker::Worker;
+use exchange::{Exchange, Gate};
 use journal::PoolFault;
 use nodes::Node;
 use std::alloc::Global;
@@ -44,7 +43,7 @@ pub(crate) fn start_all<'a, J: NetworkRun + Send + Sync, G: Gate + Sync, T: Thre
                 outcome = refused(stop, PoolFault::OutOfMemory);
                 break;
             }
-            match scope.spawn(move || worker(
+            match scope.spawn(move || work(
                 rt, picker, notices, locks, exchange, pace, gate, stop,
             )) {
                 Ok(handle) => handles.push_reserved(handle),
@@ -61,136 +60,31 @@ pub(crate) fn start_all<'a, J: NetworkRun + Send + Sync, G: Gate + Sync, T: Thre
     })
 }
 
-/// A worker: turns, until the run is over or a refusal ends it. One of its own ends the others at their next turn.
-fn worker<'a, J: NetworkRun, G: Gate, T: Wait>(
-    rt: &T,
+/// A worker gives turns until the run is over or a refusal ends it. One of its own ends the others at their next turn.
+fn work<'s, 'a, J: NetworkRun, G: Gate, T: Wait>(
+    rt: &'s T,
     picker: Picker<J>,
-    notices: &Notices<J>,
-    locks: &Locks<'a, J>,
-    exchange: &Mutex<Exchange<'a, Node, Of<J>>>,
-    pace: &Pace,
-    gate: &G,
-    stop: &AtomicBool,
+    notices: &'s Notices<J>,
+    locks: &'s Locks<'a, J>,
+    exchange: &'s Mutex<Exchange<'a, Node, Of<J>>>,
+    pace: &'s Pace,
+    gate: &'s G,
+    stop: &'s AtomicBool,
 ) -> Result<(), PoolFault> {
-    let mut picker = picker;
-    match turns(rt, &mut picker, notices, locks, exchange, pace, gate, stop) {
-        Err(fault) => refused(stop, fault),
-        Ok(()) => Ok(()),
-    }
-}
-
-/// A turn for the first process of the worker's round, and then round after round, until the run is over or the flag is set.
-fn turns<'a, J: NetworkRun, G: Gate, T: Wait>(
-    rt: &T,
-    picker: &mut Picker<J>,
-    notices: &Notices<J>,
-    locks: &Locks<'a, J>,
-    exchange: &Mutex<Exchange<'a, Node, Of<J>>>,
-    pace: &Pace,
-    gate: &G,
-    stop: &AtomicBool,
-) -> Result<(), PoolFault> {
-    if locks.locks.is_empty() || stop.load(Ordering::SeqCst) {
-        return Ok(());
-    }
-    turn_in_round(rt, picker, notices, locks, exchange, pace, gate)?;
-    for _ in rt.forever() {
-        if !round(rt, picker, notices, locks, exchange, pace, gate, stop)? {
-            return Ok(());
-        }
-    }
-    Ok(())
-}
-
-/// As many turns as there are processes, and GVT is set. A process that is passed over counts as a turn. The answer is whether there is more
-/// to do: the flag is not set, and GVT is not yet the moment after the end.
-fn round<'a, J: NetworkRun, G: Gate, T: Wait>(
-    rt: &T,
-    picker: &mut Picker<J>,
-    notices: &Notices<J>,
-    locks: &Locks<'a, J>,
-    exchange: &Mutex<Exchange<'a, Node, Of<J>>>,
-    pace: &Pace,
-    gate: &G,
-    stop: &AtomicBool,
-) -> Result<bool, PoolFault> {
-    for done in 0..locks.locks.len() {
-        if stop.load(Ordering::SeqCst) {
-            return Ok(false);
-        }
-        match picker.next_hint(&notices.stealers) {
-            Some(hint) => turn_by_hint(rt, &hint, picker, notices, locks, exchange, pace, gate)?,
-            None => turn_in_round(rt, picker, notices, locks, exchange, pace, gate)?,
-        }
-    }
-    let gvt = publish(&mut *exchange.lock(rt))?;
-    picker.went_round(gvt, pace.window_ns);
-    Ok(gvt <= locks.until)
-}
-
-/// The process that a hint names gets a turn. It is passed over where it is not due, or is busy.
-fn turn_by_hint<'a, J: NetworkRun, G: Gate, T: Wait>(
-    rt: &T,
-    hint: &Hint<J>,
-    picker: &mut Picker<J>,
-    notices: &Notices<J>,
-    locks: &Locks<'a, J>,
-    exchange: &Mutex<Exchange<'a, Node, Of<J>>>,
-    pace: &Pace,
-    gate: &G,
-) -> Result<(), PoolFault> {
-    let process = usize::from(hint.number);
-    if !picker.is_due(process, &notices.dues) {
-        return Ok(());
-    }
-    match locks.locks[process].try_lock() {
-        Some(mut locked) => give_turn(rt, &mut *locked, picker, notices, exchange, pace, gate),
-        None => Ok(()),
-    }
-}
-
-/// The next process of the round gets a turn. It is passed over where it is not due.
-fn turn_in_round<'a, J: NetworkRun, G: Gate, T: Wait>(
-    rt: &T,
-    picker: &mut Picker<J>,
-    notices: &Notices<J>,
-    locks: &Locks<'a, J>,
-    exchange: &Mutex<Exchange<'a, Node, Of<J>>>,
-    pace: &Pace,
-    gate: &G,
-) -> Result<(), PoolFault>
-    requires { 0 < length locks.now.locks.items }
-{
-    let process = picker.next_in_round(locks.locks.len());
-    if !picker.is_due(process, &notices.dues) {
-        return Ok(());
-    }
-    give_turn(
+    let mut worker = Worker {
         rt,
-        &mut *locks.locks[process].lock(rt),
         picker,
         notices,
+        locks,
         exchange,
         pace,
         gate,
-    )
-}
-
-/// A turn of a process whose lock the worker has, and what the workers tell one another of it.
-fn give_turn<'a, J: NetworkRun, G: Gate, T: Wait>(
-    rt: &T,
-    locked: &mut Locked<'a, J>,
-    picker: &mut Picker<J>,
-    notices: &Notices<J>,
-    exchange: &Mutex<Exchange<'a, Node, Of<J>>>,
-    pace: &Pace,
-    gate: &G,
-) -> Result<(), PoolFault> {
-    let process = locked.held.number();
-    notices.dues.begin(process);
-    turn(rt, locked, exchange, pace, gate, &mut picker.calls)?;
-    picker.turned(process, locked.held.share().seen, &notices.dues);
-    Ok(())
+        stop,
+    };
+    match worker.turns() {
+        Err(fault) => refused(stop, fault),
+        Ok(()) => Ok(()),
+    }
 }
 
 /// Sets the flag that ends all workers, and answers the fault.

@@ -1,0 +1,94 @@
+-- The parts of a run that wait, and its batches.
+use Rattle.std.proofs.Common.{◌≡◌, ◌∙◌, ℕ, zero, suc, List, [], ◌∷◌, Option, Some, None, length, refl, sym, ap, subst, arith}
+use Rattle.std.specs.Prelude.{Result, Ok, Err, IfOk, OnErr, IfSome, IfNone}
+use Rattle.std.specs.List.{repeat}
+use Rattle.std.proofs.lemmas.List.{length-map, length-set}
+use Rattle.vlink.specs.declared.note.Row.{Row as Noted}
+use Rattle.netdesc.specs.Plan.{Plan}
+use Rattle.netdesc.specs.Faults.{process_count}
+use Rattle.trace_tables.specs.Counting.{rows_at}
+use Rattle.trace_tables.specs.Gathered.{IsOfRows}
+use Rattle.trace_tables.specs.declared.part_fault.PartFault.{PartFault}
+use Rattle.trace_tables.specs.Gathering.{Gathering, no_parts, part_fault, with_part, Waits, Gives}
+use Rattle.trace_tables.specs.Intervals.{rows_within}
+use Rattle.trace_tables.specs.Parts.{PartRows, BatchRows}
+use Rattle.trace_tables.proofs.IntervalLemmas.{cut-rises}
+use Rattle.seqsim.specs.Networks.{AreRowsOf}
+use Rattle.worker_pool.specs.Parts.{IsPartOfRun}
+use Rattle.worker_pool.specs.Traces.{IsBatchOfRun, IsGatheringOfRun}
+
+-- what can be nothing else
+pub none-of : {X : Type 0} (o : Option X) → ((x : X) → o ≡ Some x → ⊥) → o ≡ None
+none-of None h = refl
+none-of (Some x) h = absurd (h x refl)
+
+-- of each process a list
+repeat-count : {X : Type 0} (x : X) (n : ℕ) → length (repeat n (x ∷ [])) ≡ n
+repeat-count x zero = refl
+repeat-count x (suc n) = let rest = repeat-count x n in omega arith
+
+module _ (plan : Plan) where
+  -- what waits has the rows of the run at each process
+  abbrev pub HasRowsOfRun : Gathering → Type 0
+  HasRowsOfRun g = (rows : List Noted) → AreRowsOf plan rows → IsOfRows g (λ p. rows_at p rows)
+
+  -- no part waits at first
+  pub none-gathered : (processes until : ℕ) → processes ≡ process_count plan → until ≡ plan.until → HasRowsOfRun (no_parts 0 processes until) →
+      (g : Gathering) → g ≡ no_parts 0 processes until → IsGatheringOfRun plan g
+  none-gathered processes until count ends rows_are g is =
+      subst (IsGatheringOfRun plan) (sym is) (record {
+        run_is = refl;
+        until_is = ends;
+        count = repeat-count _ processes ∙ count;
+        rows_are = rows_are;
+      })
+
+  -- a part of the run has the rows of its process and interval
+  pub own-rows : (part : PartRows) → (k : ℕ) × IsPartOfRun plan part.process k part → (rows : List Noted) → AreRowsOf plan rows →
+      part.rows ≡ rows_within part.from part.to (rows_at part.process rows)
+  own-rows part of_run rows r =
+      subst (λ (q : PartRows). q.rows ≡ rows_within q.from q.to (rows_at q.process rows)) (sym (of_run.1 rows r)) refl
+
+  module _ (old new : Gathering) (part : PartRows) (G : IsGatheringOfRun plan old) where
+    put-count : length (with_part part.process part.rows old.waiting) ≡ process_count plan
+    put-count = length-set old.waiting part.process _ ∙ G.count
+
+    -- a part more, which waits
+    pub waits-gathered : Waits old part new → HasRowsOfRun new → IsGatheringOfRun plan new
+    waits-gathered waits rows_are =
+        record {
+          run_is = ap (λ (g : Gathering). g.run) waits.kept ∙ G.run_is;
+          until_is = ap (λ (g : Gathering). g.until) waits.kept ∙ G.until_is;
+          count = ap (λ (g : Gathering). length g.waiting) waits.kept ∙ put-count;
+          rows_are = rows_are;
+        }
+
+    module _ (batch : BatchRows) (gives : Gives old part batch new) where
+      -- or with which a batch is given
+      pub gives-gathered : HasRowsOfRun new → IsGatheringOfRun plan new
+      gives-gathered rows_are =
+          record {
+            run_is = ap (λ (g : Gathering). g.run) gives.left ∙ G.run_is;
+            until_is = ap (λ (g : Gathering). g.until) gives.left ∙ G.until_is;
+            count = ap (λ (g : Gathering). length g.waiting) gives.left ∙ (length-map _ _ ∙ put-count);
+            rows_are = rows_are;
+          }
+
+      -- which ends no earlier than it begins
+      pub given-batch : ((rows : List Noted) → AreRowsOf plan rows → batch.rows ≡ rows_within batch.from batch.to rows) → IsBatchOfRun plan batch
+      given-batch rows_are =
+          record {
+            ordered = let first = gives.from in let last = gives.to in let up = cut-rises old.until old.given in omega arith;
+            rows_are = rows_are;
+          }
+
+    -- so what waits is of the run, whatever came of the part
+    pub part-gathered : (r : Result (Option BatchRows) PartFault) → ((fault : PartFault) → part_fault old part ≡ Some fault → r ≡ Err fault) →
+        OnErr r (new ≡ old) → IfOk r (λ given. IfNone given (Waits old part new)) → IfOk r (λ given. IfSome given (λ batch. Gives old part batch new)) →
+        (part_fault old part ≡ None → Waits old part new → HasRowsOfRun new) →
+        (part_fault old part ≡ None → (batch : BatchRows) → Gives old part batch new → HasRowsOfRun new) → IsGatheringOfRun plan new
+    part-gathered (Err fault) refused unchanged waits gives when_waits when_gives = subst (IsGatheringOfRun plan) (sym unchanged) G
+    part-gathered (Ok None) refused unchanged waits gives when_waits when_gives =
+        waits-gathered waits (when_waits (none-of (part_fault old part) (λ fault e. let f = refused fault e in absurd (cc))) waits)
+    part-gathered (Ok (Some batch)) refused unchanged waits gives when_waits when_gives =
+        gives-gathered batch gives (when_gives (none-of (part_fault old part) (λ fault e. let f = refused fault e in absurd (cc))) batch gives)

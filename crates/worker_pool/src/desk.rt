@@ -1,0 +1,167 @@
+//! The desk of a trace: where the parts of a run are gathered, and from where its batches go to the writer's thread.
+ghost use Rattle.std.specs.Prelude.{◌≡◌, ◌<◌, ℕ, IfSome};
+ghost use Rattle.vlink.specs.declared.time.TheConstants.{GREATEST_NS};
+ghost use Rattle.std.proofs.Props.{props};
+ghost use Rattle.netdesc.specs.Faults.{process_count};
+ghost use Rattle.worker_pool.specs.Parts.{IsPartOfRun};
+ghost use Rattle.worker_pool.specs.Written.{IsPlaceFault};
+
+use crate::calls::Call;
+use crate::locks::Locked;
+use crate::network_run::NetworkRun;
+use crate::parts::next_part;
+use crate::run_batch::RunBatch;
+use crate::run_gather::RunGather;
+use crossbeam_channel::{SendError, Sender};
+use journal::PoolFault;
+use netdesc::Network;
+use std::alloc::{AllocError, Global};
+use std::sync::{Mutex, Wait};
+use trace_tables::{Part, PartFault, cut};
+use vlink::Time;
+
+/// So many intervals a process without a turn stays behind GVT with its parts.
+const BEHIND: u64 = 16;
+
+/// What the lock of the trace keeps: the parts that wait for those of other processes, the end of the channel to the writer's thread, and
+/// the first fault of a part's place.
+#[derive(Drop)]
+pub(crate) struct Desk<J: NetworkRun> {
+    gather: RunGather<J>,
+    batches: Sender<RunBatch<J>>,
+    pub fault: Option<PartFault>,
+    pub ghost known: { IfSome fault IsPlaceFault } by { Prim.hlevel props },
+}
+
+impl<J: NetworkRun> Desk<J> {
+    /// No part is there yet. It is refused for memory alone.
+    fn new(
+        alloc: Global,
+        network: &Network,
+        batches: Sender<RunBatch<J>>,
+    ) -> Result<Self, AllocError>
+        requires { network.now ≡ J.plan }
+    {
+        Ok(Desk {
+            gather: RunGather::new(alloc, network)?,
+            batches,
+            fault: None,
+        })
+    }
+
+    /// Takes a part. Where it was the last one of its interval, the batch is sent. Of faults that are not want of memory the first is kept,
+    /// and the run goes on.
+    fn take<T: Wait>(&mut self, rt: &T, part: Part) -> Result<(), PoolFault>
+        requires run { part.run ≡ 0 }
+        requires process { part.process < process_count J.plan }
+        requires of_run { (k : ℕ) × IsPartOfRun J.plan part.process k part }
+    {
+        match self.gather.take(part) {
+            Ok(None) => Ok(()),
+            Ok(Some(batch)) => self.send(rt, batch),
+            Err(PartFault::OutOfMemory) => Err(PoolFault::OutOfMemory),
+            Err(fault) => {
+                self.keep(fault);
+                Ok(())
+            }
+        }
+    }
+
+    /// Sends a batch to the writer's thread, which takes batches as long as there is a desk.
+    fn send<T: Wait>(&self, rt: &T, batch: RunBatch<J>) -> Result<(), PoolFault> {
+        match self.batches.send(rt, batch) {
+            Err(SendError::OutOfMemory(_)) => Err(PoolFault::OutOfMemory),
+            Ok(()) | Err(SendError::Disconnected(_)) => Ok(()),
+        }
+    }
+
+    /// Keeps the fault, if it is the first.
+    fn keep(&mut self, fault: PartFault)
+        requires { IsPlaceFault fault }
+    {
+        if self.fault.is_none() {
+            self.fault = Some(fault);
+        }
+    }
+}
+
+/// The lock of the trace of a run, and the end time of the run.
+#[derive(Drop)]
+pub(crate) struct TraceLock<J: NetworkRun> {
+    alloc: Global,
+    until: Time,
+    desk: Mutex<Desk<J>>,
+    ghost ends: { until ≡ J.plan.until },
+    ghost inside: { until < GREATEST_NS },
+}
+
+impl<J: NetworkRun> TraceLock<J> {
+    /// No part is there yet, and batches are sent here. It is refused for memory alone.
+    pub(crate) fn new(
+        alloc: Global,
+        network: &Network,
+        batches: Sender<RunBatch<J>>,
+    ) -> Result<Self, AllocError>
+        requires { network.now ≡ J.plan }
+    {
+        let until = network.until();
+        let desk = Mutex::new(Desk::new(alloc, network, batches)?);
+        Ok(TraceLock { alloc, until, desk })
+    }
+
+    /// The next part that a process can give goes to the desk. The answer is whether there was one.
+    fn give_part<'a, T: Wait>(
+        &self,
+        rt: &T,
+        locked: &mut Locked<'a, J>,
+    ) -> Result<bool, PoolFault> {
+        let Some(part) = next_part(self.alloc, &locked.held, &mut locked.given, self.until)? else {
+            return Ok(false);
+        };
+        // The process is one of the network.
+        let _process = locked.held.number();
+        self.desk.lock(rt).take(rt, part)?;
+        Ok(true)
+    }
+
+    /// The parts that a process can give go to the desk, one after another. The caller has the lock of the process, and not that of the
+    /// exchange.
+    pub(crate) fn give_parts<'a, T: Wait>(
+        &self,
+        rt: &T,
+        locked: &mut Locked<'a, J>,
+    ) -> Result<(), PoolFault> {
+        for _ in rt.forever() {
+            if !self.give_part(rt, locked)? {
+                return Ok(());
+            }
+        }
+        unreachable!()
+    }
+
+    /// A process that gave its parts is called once GVT is `BEHIND` intervals further, though it may have nothing else to do: the parts of the
+    /// others wait for its own.
+    pub(crate) fn call<'a>(&self, locked: &Locked<'a, J>) -> Call {
+        Call {
+            process: locked.held.number(),
+            due_ns: cut(self.until, u64::from(locked.given) + BEHIND).ns(),
+        }
+    }
+
+    /// The first fault of a part that is not want of memory. No batch is sent from here on.
+    pub(crate) fn into_fault(self) -> Option<PartFault>
+        ensures { IfSome result IsPlaceFault }
+    {
+        self.desk.into_inner().fault
+    }
+}
+
+/// The first fault of a part that is not want of memory, where a trace is written. No batch is sent from here on.
+pub(crate) fn closed<J: NetworkRun>(trace: Option<TraceLock<J>>) -> Option<PartFault>
+    ensures { IfSome result IsPlaceFault }
+{
+    match trace {
+        Some(trace) => trace.into_fault(),
+        None => None,
+    }
+}
