@@ -149,7 +149,7 @@ module _ {O : Type 0} (r : Result (Unit {0}) Fault) (gives : Option (List ℕ) �
       OnOk r ((plan : Plan) × (text : List ℕ) × GivesNetwork gives plan × IsTablesText plan text × Took took o o' text)
   ran_to_tables took done = ok_then r done (λ t. (plan, t.0, given, t.1, subst (λ x. Took took x o' t.0) before t.2))
 
-  -- why such a run with files, or without them, was no success is why `run` was none
+  -- why such a run was no success is why `run` was none
   pub fault_with_files : (failed : O → ℕ) (net : List ℕ) (journal trace : Option (List ℕ)) →
       IfErr r (λ fault. IsFaultOfPool fault ⊎ (IsFaultOfFiles journal trace fault ⊎ IsFaultOfOutput failed p o' fault)) →
       IfErr r (IsFaultOfRunBy gives net journal trace (IsFaultOfOutput failed o o'))
@@ -158,14 +158,6 @@ module _ {O : Type 0} (r : Result (Unit {0}) Fault) (gives : Option (List ℕ) �
     | inr (inl written) ↦ inr (inr (inl written))
     | inr (inr shown) ↦ inr (inr (inr (subst (λ x. IsFaultOfOutput failed x o' fault) before shown)))
   ])
-
-  pub fault_without_files : (failed : O → ℕ) (net : List ℕ) (journal trace : Option (List ℕ)) →
-      IfErr r (λ fault. IsFaultOfPool fault ⊎ IsFaultOfOutput failed p o' fault) →
-      IfErr r (IsFaultOfRunBy gives net journal trace (IsFaultOfOutput failed o o'))
-  fault_without_files failed net journal trace met = fault_with_files failed net journal trace (err_then r met (λ fault is. elim is [
-    | inl run ↦ inl run
-    | inr shown ↦ inr (inr shown)
-  ]))
 
   pub kept_from_there : IfErr r (λ fault. fault ≢ CannotWrite → o' ≡ p) → IfErr r (λ fault. fault ≢ CannotWrite → o' ≡ o)
   kept_from_there kept = err_then r kept (λ fault same other. same other ∙ before)

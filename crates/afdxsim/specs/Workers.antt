@@ -1,12 +1,16 @@
 -- Why the program gives up a run by workers, and what it writes of one.
 use Rattle.std.specs.Prelude.{◌≡◌, ◌⊎◌, ℕ, List, Option, Some}
+use Rattle.std.specs.Borrow.{Bor}
 use Rattle.netdesc.specs.Plan.{Plan}
 use Rattle.journal.specs.declared.fault.PoolFault.{PoolFault}
 use Rattle.journal.specs.declared.fault.PoolFault.TheVariants as pool
+use Rattle.trace_tables.specs.declared.fault.OutFault.TheVariants as out
+use Rattle.trace_tables.specs.declared.part_fault.PartFault.TheVariants as part
+use Rattle.trace_tables.specs.declared.trace_fault.TraceFault.{TraceFault}
+use Rattle.trace_tables.specs.declared.trace_fault.TraceFault.TheVariants.{Part, Out}
 use Rattle.afdxsim.specs.declared.fault.Fault.{Fault}
 use Rattle.afdxsim.specs.declared.fault.Fault.TheVariants.{Description, JournalLine, JournalFull, CannotRead, CannotWriteFile, CannotWrite, Layout, OutOfMemory, Exhausted, Spawn, Torn}
 use Rattle.afdxsim.specs.Reading.{GivesNetwork, IsFaultOfNet}
-use Rattle.afdxsim.specs.Sequencing.{IsFaultOfTrace}
 
 -- why a run by workers was given up, as a fault of the program
 abbrev pub fault_of_pool : PoolFault → Fault
@@ -20,28 +24,35 @@ fault_of_pool pool.Torn = Torn
 abbrev pub IsFaultOfPool : Fault → Type 0
 IsFaultOfPool fault = (why : PoolFault) × (fault ≡ fault_of_pool why)
 
--- why a journal is not in the file with this path: the file was not made or not written, or a growth was refused
-abbrev pub IsFaultOfJournalFile : List ℕ → Fault → Type 0
-IsFaultOfJournalFile path (Description fault) = ⊥
-IsFaultOfJournalFile path (JournalLine n) = ⊥
-IsFaultOfJournalFile path JournalFull = ⊥
-IsFaultOfJournalFile path (CannotRead at) = ⊥
-IsFaultOfJournalFile path (CannotWriteFile at) = at.now ≡ path
-IsFaultOfJournalFile path CannotWrite = ⊥
-IsFaultOfJournalFile path Layout = ⊥
-IsFaultOfJournalFile path OutOfMemory = Unit
-IsFaultOfJournalFile path Exhausted = ⊥
-IsFaultOfJournalFile path Spawn = ⊥
-IsFaultOfJournalFile path Torn = ⊥
+-- why a run by workers did not write its trace, as a fault of the program, where the file has this path
+abbrev pub fault_of_trace : Bor (List ℕ) → TraceFault → Fault
+fault_of_trace path (Part part.OutOfMemory) = OutOfMemory
+fault_of_trace path (Part why) = CannotWriteFile path
+fault_of_trace path (Out out.OutOfMemory) = OutOfMemory
+fault_of_trace path (Out why) = CannotWriteFile path
 
--- why the files of a run were not written, a journal for this path and a trace for that one, where there are such
+-- why a file of a run by workers is not whole, where it has this path: it was not made or not written, or a growth was refused
+abbrev pub IsFaultOfRunFile : List ℕ → Fault → Type 0
+IsFaultOfRunFile path (Description fault) = ⊥
+IsFaultOfRunFile path (JournalLine n) = ⊥
+IsFaultOfRunFile path JournalFull = ⊥
+IsFaultOfRunFile path (CannotRead at) = ⊥
+IsFaultOfRunFile path (CannotWriteFile at) = at.now ≡ path
+IsFaultOfRunFile path CannotWrite = ⊥
+IsFaultOfRunFile path Layout = ⊥
+IsFaultOfRunFile path OutOfMemory = Unit
+IsFaultOfRunFile path Exhausted = ⊥
+IsFaultOfRunFile path Spawn = ⊥
+IsFaultOfRunFile path Torn = ⊥
+
+-- why the files of a run by workers are not whole, a journal with this path and a trace with that one, where there are such
 abbrev pub IsFaultOfFiles : Option (List ℕ) → Option (List ℕ) → Fault → Type 0
 IsFaultOfFiles journal trace fault =
-    ((path : List ℕ) × (journal ≡ Some path) × IsFaultOfJournalFile path fault)
-    ⊎ ((path : List ℕ) × (trace ≡ Some path) × IsFaultOfTrace path fault)
+    ((path : List ℕ) × (trace ≡ Some path) × IsFaultOfRunFile path fault)
+    ⊎ ((path : List ℕ) × (journal ≡ Some path) × IsFaultOfRunFile path fault)
 
--- why `run` ended early, of a network in the file with this path: there was no network, its run was given up, its files were not written, or
--- the tables were not
+-- why `run` ended early, of a network in the file with this path: there was no network, its run was given up, its trace was not made or not
+-- written, its journal was not, or the tables were not written
 abbrev pub IsFaultOfRunBy : (Option (List ℕ) → Type 0) → List ℕ → Option (List ℕ) → Option (List ℕ) → (Fault → Type 0) → Fault → Type 0
 IsFaultOfRunBy gives net journal trace IsOfOutput fault =
     IsFaultOfNet gives net fault

@@ -20,7 +20,7 @@ pub enum ReadFault {
 /// What the program reaches outside itself: files, standard output and error output.
 pub trait Host {
     /// A file that is being written.
-    type File: Sink + Drop;
+    type File: Sink + Drop + Send;
 
     /// Standard output.
     type Output: Sink;

@@ -16,6 +16,7 @@ mod seq;
 mod steps;
 mod system;
 mod telling;
+mod workers;
 
 pub use command_line::order;
 pub use journal_text::read_steps;

@@ -9,71 +9,79 @@ ghost use Rattle.afdxsim.specs.declared.fault.Fault.TheVariants.{CannotWrite};
 ghost use Rattle.afdxsim.specs.Ending.{Took, IsFaultOfOutput};
 ghost use Rattle.afdxsim.specs.Reading.{GivesNetwork};
 ghost use Rattle.afdxsim.specs.Sequencing.{IsTablesText};
-ghost use Rattle.afdxsim.specs.Workers.{IsFaultOfPool, IsFaultOfJournalFile, IsFaultOfFiles, IsFaultOfRunBy};
+ghost use Rattle.afdxsim.specs.Workers.{IsFaultOfPool, IsFaultOfRunFile, IsFaultOfFiles, IsFaultOfRunBy};
 
 use crate::fault::Fault;
 use crate::host::Host;
 use crate::reading::network_of;
-use crate::seq::{keep_trace, show_tables};
+use crate::seq::show_tables;
 use crate::steps::write_steps;
+use crate::workers::{found_by_workers, found_with_trace, pace_of};
 use command_line::Run;
 use netdesc::Network;
 use std::alloc::Global;
 use std::sync::Wait;
 use std::thread::Threads;
-use trace_tables::{OutFault, Sink, Tables};
+use trace_tables::{OutFault, Sink};
 use vlink::Step;
-use worker_pool::{Gate, Outcome, Pace, run, run_tables};
+use worker_pool::{Pace, Summary};
 
-/// A gate that is told of each message and does nothing.
-struct Open;
-
-impl Gate for Open {
-    fn before(&self, _process: u16, _run: u64) {}
-
-    fn after(&self, _process: u16, _run: u64) {}
-}
-
-/// The pace that is ordered.
-fn pace_of(order: &Run) -> Pace
-    requires { RunLimits order.now }
-    ensures { IsPace result }
+/// Makes the file with this path, and simulates the network by workers, which write the trace into it.
+fn simulate_with_trace<'a, H: Host, T: Threads + Wait + Sync>(
+    rt: &T,
+    alloc: Global,
+    network: &Network,
+    pace: Pace,
+    with_steps: bool,
+    path: &'a str,
+    host: &mut H,
+) -> Result<Summary, Fault<'a>>
+    requires { IsPace pace }
+    ensures text { IfOk result (λ found. IsTablesText network.now (tables_text network.now found.tables)) }
+    ensures fault { IfErr result (λ fault. IsFaultOfPool fault ⊎ IsFaultOfRunFile path.entry.now fault) }
+    ensures output { H.output host.new ≡ H.output host.old }
+    ensures errors { H.errors host.new ≡ H.errors host.old }
 {
-    Pace {
-        workers: order.workers,
-        turn: order.turn,
-        window_ns: order.window_ns,
+    match host.make(path) {
+        Ok(file) => {
+            let (found, _file) = found_with_trace(
+                rt, alloc, network, pace, with_steps, path, file,
+            )?;
+            Ok(found)
+        }
+        Err(_) => Err(Fault::CannotWriteFile(path)),
     }
 }
 
-/// The tables of the run of the network by workers.
-#[tactic(auto, using(crate::proofs::Running::tables_made, crate::proofs::Running::workers_gave_up))]
-fn tables_of_run<T: Threads + Wait + Sync>(
+/// Simulates the network by workers. Where a trace is asked for, its file is made first, and the run writes it.
+fn simulate<'a, H: Host, T: Threads + Wait + Sync>(
     rt: &T,
     alloc: Global,
     network: &Network,
-    pace: Pace,
-) -> Result<Tables, Fault<'static>>
-    requires { IsPace pace }
-    ensures text { IfOk result (λ tables. IsTablesText network.now (tables_text network.now tables)) }
-    ensures fault { IfErr result IsFaultOfPool }
+    order: &'a Run,
+    host: &mut H,
+) -> Result<Summary, Fault<'a>>
+    requires { RunLimits order.now }
+    ensures text { IfOk result (λ found. IsTablesText network.now (tables_text network.now found.tables)) }
+    ensures fault { IfErr result (λ fault. IsFaultOfPool fault ⊎
+        IsFaultOfFiles (option_map string_bytes order.entry.now.journal) (option_map string_bytes order.entry.now.trace) fault) }
+    ensures output { H.output host.new ≡ H.output host.old }
+    ensures errors { H.errors host.new ≡ H.errors host.old }
 {
-    Ok(run_tables(rt, alloc, network, pace, &Open)?)
-}
-
-/// The run of the network by workers, with its rows and its steps.
-#[tactic(auto, using(crate::proofs::Running::tables_made, crate::proofs::Running::workers_gave_up))]
-fn whole_run<T: Threads + Wait + Sync>(
-    rt: &T,
-    alloc: Global,
-    network: &Network,
-    pace: Pace,
-) -> Result<Outcome, Fault<'static>>
-    requires { IsPace pace }
-    ensures text { IfOk result (λ outcome. IsTablesText network.now (tables_text network.now outcome.tables)) }
-    ensures fault { IfErr result IsFaultOfPool }
-{
-    Ok(run(rt, alloc, network, pace, &Open)?)
+    let pace = pace_of(order);
+    let with_steps = order.journal.is_some();
+    match &order.trace {
+        Some(path) => simulate_with_trace(
+            rt,
+            alloc,
+            network,
+            pace,
+            with_steps,
+            path.as_str(),
+            host,
+        ),
+        None => found_by_workers(rt, alloc, network, pace, with_steps),
+    }
 }
 
 /// Writes the steps of a run into the file with this path.
@@ -84,7 +92,7 @@ fn write_steps_of<'a, F: Sink>(
     file: &mut F,
 ) -> Result<(), Fault<'a>>
     ensures text { OnOk result (Took F.taken file.old file.new (steps_text steps.now)) }
-    ensures fault { IfErr result (IsFaultOfJournalFile path.entry.now) }
+    ensures fault { IfErr result (IsFaultOfRunFile path.entry.now) }
 {
     match write_steps(alloc, steps, file) {
         Ok(()) => Ok(()),
@@ -100,7 +108,7 @@ fn keep_steps<'a, H: Host>(
     path: &'a str,
     host: &mut H,
 ) -> Result<(), Fault<'a>>
-    ensures fault { IfErr result (IsFaultOfJournalFile path.entry.now) }
+    ensures fault { IfErr result (IsFaultOfRunFile path.entry.now) }
     ensures output { H.output host.new ≡ H.output host.old }
     ensures errors { H.errors host.new ≡ H.errors host.old }
 {
@@ -110,11 +118,10 @@ fn keep_steps<'a, H: Host>(
     }
 }
 
-/// Writes the journal and then the trace of a run into the files that are ordered.
-fn keep_files<'a, H: Host>(
+/// Writes the journal of a run into its file, where one is ordered.
+fn keep_journal<'a, H: Host>(
     alloc: Global,
-    network: &Network,
-    outcome: &Outcome,
+    steps: &[Step],
     order: &'a Run,
     host: &mut H,
 ) -> Result<(), Fault<'a>>
@@ -122,35 +129,15 @@ fn keep_files<'a, H: Host>(
     ensures output { H.output host.new ≡ H.output host.old }
     ensures errors { H.errors host.new ≡ H.errors host.old }
 {
-    if let Some(path) = &order.journal {
-        keep_steps(alloc, outcome.journal.as_slice(), path.as_str(), host)?;
+    match &order.journal {
+        Some(path) => keep_steps(alloc, steps, path.as_str(), host),
+        None => Ok(()),
     }
-    if let Some(path) = &order.trace {
-        keep_trace(alloc, network, outcome.rows.as_slice(), path.as_str(), host)?;
-    }
-    Ok(())
 }
 
-/// Simulates the network by workers, and writes its tables on standard output.
-fn run_to_tables<H: Host, T: Threads + Wait + Sync>(
-    rt: &T,
-    alloc: Global,
-    network: &Network,
-    pace: Pace,
-    host: &mut H,
-) -> Result<(), Fault<'static>>
-    requires { IsPace pace }
-    ensures text { OnOk result ((text : List ℕ) × IsTablesText network.now text × Took H.Output.taken (H.output host.old) (H.output host.new) text) }
-    ensures fault { IfErr result (λ fault. IsFaultOfPool fault ⊎ IsFaultOfOutput H.Output.failures (H.output host.old) (H.output host.new) fault) }
-    ensures kept { IfErr result (λ fault. fault ≢ CannotWrite → H.output host.new ≡ H.output host.old) }
-    ensures errors { H.errors host.new ≡ H.errors host.old }
-{
-    let tables = tables_of_run(rt, alloc, network, pace)?;
-    show_tables(alloc, network, &tables, host.output())
-}
-
-/// Simulates the network by workers, writes the files that are ordered, and then the tables on standard output.
-fn run_to_files<'a, H: Host, T: Threads + Wait + Sync>(
+/// Simulates the network by workers, which write the trace on the way, if one is ordered. Then the journal goes into its file, if one is
+/// ordered, and then the tables to standard output.
+fn run_network<'a, H: Host, T: Threads + Wait + Sync>(
     rt: &T,
     alloc: Global,
     network: &Network,
@@ -165,13 +152,14 @@ fn run_to_files<'a, H: Host, T: Threads + Wait + Sync>(
     ensures kept { IfErr result (λ fault. fault ≢ CannotWrite → H.output host.new ≡ H.output host.old) }
     ensures errors { H.errors host.new ≡ H.errors host.old }
 {
-    let outcome = whole_run(rt, alloc, network, pace_of(order))?;
-    keep_files(alloc, network, &outcome, order, host)?;
-    show_tables(alloc, network, &outcome.tables, host.output())
+    let found = simulate(rt, alloc, network, order, host)?;
+    keep_journal(alloc, found.journal.as_slice(), order, host)?;
+    show_tables(alloc, network, &found.tables, host.output())
 }
 
-/// Simulates the network whose description is the file that is ordered, by workers. Then the journal and the trace go into their files, if
-/// they are asked for, and then the tables to standard output. Where neither is asked for, no list of rows or of steps is made.
+/// Simulates the network whose description is the file that is ordered, by workers. The trace's file is made before the run, which writes it;
+/// then come the journal's file and the tables on standard output. A fault ends it at once: what was written stays, and nothing that comes
+/// later is made or written. Steps are listed only for a journal, and all rows only for a journal without a trace.
 pub fn run_ordered<'a, H: Host, T: Threads + Wait + Sync>(
     rt: &T,
     alloc: Global,
@@ -188,8 +176,5 @@ pub fn run_ordered<'a, H: Host, T: Threads + Wait + Sync>(
     ensures errors { H.errors host.new ≡ H.errors host.old }
 {
     let network = network_of(alloc, order.net.as_str(), host)?;
-    if order.journal.is_none() && order.trace.is_none() {
-        return run_to_tables(rt, alloc, &network, pace_of(order), host);
-    }
-    run_to_files(rt, alloc, &network, order, host)
+    run_network(rt, alloc, &network, order, host)
 }

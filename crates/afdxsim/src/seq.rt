@@ -55,7 +55,7 @@ fn write_trace_of<'a, F: Sink>(
 }
 
 /// Makes the file with this path and writes the trace of a run into it.
-pub fn keep_trace<'a, H: Host>(
+fn keep_trace<'a, H: Host>(
     alloc: Global,
     network: &Network,
     rows: &[Row],

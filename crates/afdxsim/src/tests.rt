@@ -7,6 +7,7 @@ mod host;
 mod journals;
 mod meetings;
 mod networks;
+mod parts;
 mod runs;
 mod stage;
 mod tables;

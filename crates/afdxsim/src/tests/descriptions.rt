@@ -4,9 +4,8 @@ mod order;
 mod rules;
 
 use super::changes::changed;
-use super::host::{MemoryHost, Page, says};
+use super::host::{MemoryHost, Page, says, status_of};
 use super::networks::network;
-use crate::perform;
 use keys::{KINDS, LIMITS, LIMITS_OF_LINKS, LIMITS_OF_VIRTUAL_LINKS, MISSING, SYNTAX};
 use order::{KEYS, NUMBERS, SECTIONS};
 use rules::{ACCEPTED, DOUBLE, LINKS, SIZES, TREES, UNKNOWN};
@@ -58,10 +57,23 @@ fn is_told<T: Threads + Wait + Sync>(
         let line = format!(in alloc; "{told}\n")?;
         return says(rt, alloc, net, &["check", "net.toml"], 0, line.as_str(), "");
     }
+    is_refused(rt, alloc, net, told)
+}
+
+// Both commands tell this fault of a description.
+fn is_refused<T: Threads + Wait + Sync>(
+    rt: &T,
+    alloc: Global,
+    net: &str,
+    told: &str,
+) -> Result<bool, Fail> {
     let line = format!(in alloc; "afdxsim: description: {told}\n")?;
-    let check = says(rt, alloc, net, &["check", "net.toml"], 3, "", line.as_str())?;
-    let seq = says(rt, alloc, net, &["seq", "net.toml"], 3, "", line.as_str())?;
-    Ok(check && seq)
+    for command in ["check", "seq"] {
+        if !says(rt, alloc, net, &[command, "net.toml"], 3, "", line.as_str())? {
+            return Ok(false);
+        }
+    }
+    Ok(true)
 }
 
 /// What is told of the first 0, 1, 2, .. lines of the network `n1`. Three of its lines are empty.
@@ -133,7 +145,7 @@ fn each_beginning_is_answered(rt: HostRuntime) -> Result<(), Fail> {
 // A description is accepted or its fault is told; without both keys of the top table it is not accepted.
 fn is_answered<T: Threads + Wait + Sync>(rt: &T, alloc: Global, net: &str) -> Result<bool, Fail> {
     let mut host = MemoryHost::new(alloc, net.as_bytes())?;
-    let status = perform(rt, alloc, &["check", "net.toml"], &mut host);
+    let status = status_of(rt, alloc, &["check", "net.toml"], &mut host);
     Ok(status == 3 || status == 0 && net.starts_with("until_ns = 2000000\nseed = 4"))
 }
 
@@ -198,7 +210,7 @@ fn tells<T: Threads + Wait + Sync>(
     status: u8,
     errors: &str,
 ) -> bool {
-    let ended = perform(rt, alloc, words, host);
+    let ended = status_of(rt, alloc, words, host);
     ended == status && host.output.holds("") && host.errors.holds(errors)
 }
 
@@ -280,7 +292,7 @@ fn is_told_or_wants_memory<T: Threads + Wait + Sync>(
     let mut host = MemoryHost::new(alloc, net.as_bytes())?;
     host.output = Page::with_room(alloc, 128)?;
     host.errors = Page::with_room(alloc, 128)?;
-    let ended = perform(rt, alloc, &[command, "net.toml"], &mut host);
+    let ended = status_of(rt, alloc, &[command, "net.toml"], &mut host);
     let (page, other) = if ended == 0 {
         (&host.output, &host.errors)
     } else {

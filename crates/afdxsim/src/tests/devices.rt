@@ -1,7 +1,7 @@
 //! What is told, and what stays, where files and streams fail: a file that is not there or cannot be made, and each write in turn.
-use super::host::MemoryHost;
+use super::host::{MemoryHost, status_of_text};
 use super::networks::network;
-use crate::perform;
+use super::parts::is_cut_at_each_write;
 use std::alloc::Global;
 use std::sync::Wait;
 use std::test::Fail;
@@ -12,6 +12,9 @@ const ROWS: &str = r#"
 n1 => check net.toml => 0
 n2 => seq net.toml => 0
 n1 => seq net.toml --trace trace.csv => 0
+n1 => run net.toml --trace trace.csv => 0
+n1 => run net.toml --trace trace.csv --journal no/steps.txt => 4 cannot write no/steps.txt
+n1 => run net.toml --trace no/trace.csv --journal trace.csv => 4 cannot write no/trace.csv
 n1 => check no/net.toml => 4 cannot read no/net.toml
 n1 => seq no/net.toml => 4 cannot read no/net.toml
 n1 => seq net.toml --trace no/trace.csv => 4 cannot write no/trace.csv
@@ -25,6 +28,7 @@ fn what_was_written_before_a_failure_stays(rt: HostRuntime) -> Result<(), Fail> 
             assert!(rt; is_told(&rt, rt.alloc(), row)?, "{row}");
         }
     }
+    assert!(rt; is_cut_at_each_write(&rt, rt.alloc(), "n2")?);
     Ok(())
 }
 
@@ -43,7 +47,8 @@ fn is_told<T: Threads + Wait + Sync>(rt: &T, alloc: Global, row: &str) -> Result
     let (words, told) = rest.split_once(" => ").ok_or("no words")?;
     let net = network(alloc, name)?;
     let whole = end(rt, alloc, net.as_str(), words, usize::MAX, u64::MAX)?;
-    if !is_whole(alloc, &whole, told)? {
+    let has_trace = words.contains("--trace trace.csv");
+    if !is_whole(alloc, &whole, told)? || !is_kept(&whole, has_trace) {
         return Ok(false);
     }
     let most = whole.output.len().max(whole.errors.len());
@@ -65,10 +70,6 @@ fn end<T: Threads + Wait + Sync>(
     most: usize,
     writes: u64,
 ) -> Result<Outcome, Fail> {
-    let mut all = Vec::new(alloc);
-    for word in words.split(' ') {
-        all.push(word)?;
-    }
     let mut host = MemoryHost::new(alloc, net.as_bytes())?;
     host.output.most = most;
     host.output.writes = writes;
@@ -76,8 +77,8 @@ fn end<T: Threads + Wait + Sync>(
     host.errors.writes = writes;
     host.file.most = most;
     host.file.writes = writes;
-    let status = perform(rt, alloc, &all, &mut host);
-    let trace = host.written();
+    let status = status_of_text(rt, alloc, words, &mut host)?;
+    let trace = host.trace();
     Ok(Outcome {
         status,
         output: host.output.bytes,
@@ -95,6 +96,12 @@ fn is_whole(alloc: Global, whole: &Outcome, told: &str) -> Result<bool, Fail> {
     };
     let status = format!(in alloc; "{status}")?;
     Ok(told.starts_with(status.as_str()) && whole.errors.as_slice() == wanted.as_bytes())
+}
+
+// Nothing is on standard output behind a fault, and the file of the trace holds something where it is made.
+fn is_kept(whole: &Outcome, has_trace: bool) -> bool {
+    let is_silent = whole.status == 0 || whole.output.is_empty();
+    is_silent && whole.trace.is_empty() != has_trace
 }
 
 // This is left where each file and stream took so many bytes. The trace is written first, and nothing behind a failure but its line.

@@ -59,23 +59,8 @@ fn played<J: NetworkRun, K: NetworkRun>(
     requires first_table { names table.now.pages.items ≡ J.pages }
     requires second_table { names table.now.pages.items ≡ K.pages }
 {
-    if limit == 0 || limit > 1 << 26 {
-        return Err("no limit")?;
-    }
-    let (exchange, helds) = open_network::<J>(alloc, network, table, limit)?;
-    let gate = Counted::new();
-    let mut first = Stage {
-        exchange,
-        helds,
-        gate,
-    };
-    let (exchange, helds) = open_network::<K>(alloc, network, table, limit)?;
-    let gate = Counted::new();
-    let mut second = Stage {
-        exchange,
-        helds,
-        gate,
-    };
+    let mut first = stage_of::<J>(alloc, network, table, limit)?;
+    let mut second = stage_of::<K>(alloc, network, table, limit)?;
     let mut told = String::new(alloc);
     for word in script.as_str().split(' ') {
         if !told.is_empty() {
@@ -87,4 +72,26 @@ fn played<J: NetworkRun, K: NetworkRun>(
         }
     }
     Ok(told)
+}
+
+// An exchange of the network over this table, at its start.
+fn stage_of<'a, J: NetworkRun>(
+    alloc: Global,
+    network: &Network,
+    table: &'a Entries,
+    limit: u64,
+) -> Result<Stage<'a, J>, Fail>
+    requires network { network.now ≡ J.plan }
+    requires table { names table.now.pages.items ≡ J.pages }
+{
+    if limit == 0 || limit > 1 << 26 {
+        return Err("no limit")?;
+    }
+    let (exchange, helds) = open_network::<J>(alloc, network, table, limit)?;
+    let gate = Counted::new();
+    Ok(Stage {
+        exchange,
+        helds,
+        gate,
+    })
 }

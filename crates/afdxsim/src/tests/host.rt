@@ -2,9 +2,8 @@
 use crate::host::{Host, ReadFault};
 use crate::perform;
 use std::alloc::{AllocError, Global};
-use std::cell::Cell;
-use std::rc::Rc;
-use std::sync::Wait;
+use std::mem;
+use std::sync::{Arc, Mutex, Wait};
 use std::test::Fail;
 use std::thread::Threads;
 use trace_tables::{Sink, SinkFault};
@@ -75,12 +74,11 @@ impl Sink for Page {
     }
 }
 
-/// A file that is being written. Its bytes are also the host's.
+/// A file that is being written. Its bytes are also the host's, who looks at them once they are written: nobody waits for the lock.
 #[derive(Drop)]
 pub struct Leaf {
     page: Page,
-    bytes: Rc<Cell<Vec<u8>>>,
-    alloc: Global,
+    bytes: Arc<Mutex<Vec<u8>>>,
 }
 
 impl Sink for Leaf {
@@ -92,24 +90,24 @@ impl Sink for Leaf {
 
     fn write(&mut self, bytes: &[u8]) -> Result<usize, SinkFault> {
         let taken = self.page.write(bytes)?;
-        let mut all = self.bytes.replace(Vec::new(self.alloc));
-        let _kept = all.extend_from_slice(&bytes[..taken]);
-        self.bytes.set(all);
+        if let Some(mut all) = self.bytes.try_lock() {
+            let _kept = all.extend_from_slice(&bytes[..taken]);
+        }
         Ok(taken)
     }
 }
 
-/// A host with a file or two to read and one that can be written.
+/// A host with a file or two to read and two that can be written.
 #[derive(Drop)]
 pub struct MemoryHost {
     /// The bytes of the file `net.toml`.
     bytes: Vec<u8>,
     /// The bytes of the file `steps.txt`, where it is there.
     steps: Option<Vec<u8>>,
-    /// The path of the file that can be made.
-    made: &'static str,
-    written: Rc<Cell<Vec<u8>>>,
-    /// How that file takes what is written, at most so much at a time and so often.
+    /// What the file `trace.csv` holds once it is made, and the file `journal.txt`.
+    trace: Arc<Mutex<Vec<u8>>>,
+    journal: Arc<Mutex<Vec<u8>>>,
+    /// How these files take what is written, at most so much at a time and so often.
     pub file: Page,
     pub output: Page,
     pub errors: Page,
@@ -117,7 +115,7 @@ pub struct MemoryHost {
 }
 
 impl MemoryHost {
-    /// A host with the file `net.toml` alone, where `trace.csv` can be made. The standard streams take all.
+    /// A host with the file `net.toml` alone, where `trace.csv` and `journal.txt` can be made. Files and standard streams take all.
     pub fn new(alloc: Global, bytes: &[u8]) -> Result<Self, AllocError> {
         MemoryHost::of(alloc, bytes, None)
     }
@@ -131,8 +129,8 @@ impl MemoryHost {
         Ok(MemoryHost {
             bytes: Vec::from_slice(alloc, bytes)?,
             steps,
-            made: "trace.csv",
-            written: Rc::new(alloc, Cell::new(Vec::new(alloc)))?,
+            trace: Arc::new(alloc, Mutex::new(Vec::new(alloc)))?,
+            journal: Arc::new(alloc, Mutex::new(Vec::new(alloc)))?,
             file: Page::new(alloc),
             output: Page::new(alloc),
             errors: Page::new(alloc),
@@ -149,9 +147,32 @@ impl MemoryHost {
         }
     }
 
-    /// What the file that was made holds. It is empty afterwards.
-    pub fn written(&self) -> Vec<u8> {
-        self.written.replace(Vec::new(self.alloc))
+    /// What the file `trace.csv` holds. It is empty afterwards.
+    pub fn trace(&self) -> Vec<u8> {
+        taken(self.alloc, &self.trace)
+    }
+
+    /// What the file `journal.txt` holds. It is empty afterwards.
+    pub fn journal(&self) -> Vec<u8> {
+        taken(self.alloc, &self.journal)
+    }
+
+    // The bytes of the file with this path, where it can be made.
+    fn made(&self, path: &str) -> Option<&Arc<Mutex<Vec<u8>>>> {
+        match path {
+            "trace.csv" => Some(&self.trace),
+            "journal.txt" => Some(&self.journal),
+            _ => None,
+        }
+    }
+}
+
+// All bytes, of which none stay.
+fn taken(alloc: Global, bytes: &Mutex<Vec<u8>>) -> Vec<u8> {
+    let empty = Vec::new(alloc);
+    match bytes.try_lock() {
+        Some(mut all) => mem::replace(&mut *all, empty),
+        None => empty,
     }
 }
 
@@ -193,14 +214,13 @@ impl Host for MemoryHost {
     }
 
     fn make(&mut self, path: &str) -> Result<Leaf, SinkFault> {
-        if path != self.made {
+        let Some(bytes) = self.made(path) else {
             return Err(SinkFault);
-        }
-        match self.written.clone() {
+        };
+        match bytes.clone() {
             Ok(bytes) => Ok(Leaf {
                 page: self.file.like(self.alloc),
                 bytes,
-                alloc: self.alloc,
             }),
             Err(_) => Err(SinkFault),
         }
@@ -215,6 +235,30 @@ impl Host for MemoryHost {
     }
 }
 
+/// The status that the program ends with, where it is given these words. No clause of it is carried on.
+pub fn status_of<T: Threads + Wait + Sync>(
+    rt: &T,
+    alloc: Global,
+    words: &[&str],
+    host: &mut MemoryHost,
+) -> u8 {
+    perform(rt, alloc, words, host)
+}
+
+/// That status, where one blank stands between the words.
+pub fn status_of_text<T: Threads + Wait + Sync>(
+    rt: &T,
+    alloc: Global,
+    words: &str,
+    host: &mut MemoryHost,
+) -> Result<u8, Fail> {
+    let mut all = Vec::new(alloc);
+    for word in words.split(' ') {
+        all.push(word)?;
+    }
+    Ok(status_of(rt, alloc, all.as_slice(), host))
+}
+
 /// These words, where `net.toml` has this text, end with this status, and this and no more is on standard output and error output.
 pub fn says<T: Threads + Wait + Sync>(
     rt: &T,
@@ -226,6 +270,6 @@ pub fn says<T: Threads + Wait + Sync>(
     errors: &str,
 ) -> Result<bool, Fail> {
     let mut host = MemoryHost::new(alloc, net.as_bytes())?;
-    let ended = perform(rt, alloc, words, &mut host);
+    let ended = status_of(rt, alloc, words, &mut host);
     Ok(ended == status && host.output.holds(output) && host.errors.holds(errors))
 }

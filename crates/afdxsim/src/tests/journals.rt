@@ -1,13 +1,12 @@
 //! What `replay` tells of journals. What is expected was worked out by hand, and for the long journals by a plain model of the steps
 //! that shares no code with the product.
 use super::changes::{changed, lines_of, repeated};
-use super::host::{MemoryHost, Page};
+use super::host::{MemoryHost, Page, status_of};
 use super::networks::network;
-use crate::perform;
 use journal_text::read_steps;
 use netdesc::read;
 use nodes::Node;
-use std::alloc::Global;
+use std::alloc::{AllocError, Global};
 use std::sync::Wait;
 use std::test::Fail;
 use std::thread::Threads;
@@ -159,7 +158,7 @@ fn tables_of<T: Threads + Wait + Sync>(
 ) -> Result<String, Fail> {
     if lines == "seq" {
         let mut host = MemoryHost::new(alloc, net.as_bytes())?;
-        let _done = perform(rt, alloc, &["seq", "net.toml"], &mut host);
+        let _done = status_of(rt, alloc, &["seq", "net.toml"], &mut host);
         return Ok(String::from_utf8_lossy(alloc, host.output.bytes.as_slice())?);
     }
     let lines = lines_of(alloc, lines)?;
@@ -177,7 +176,7 @@ fn replays<T: Threads + Wait + Sync>(
     errors: &str,
 ) -> Result<bool, Fail> {
     let mut host = MemoryHost::of(alloc, net.as_bytes(), Some(steps.as_bytes()))?;
-    let ended = perform(rt, alloc, &WORDS, &mut host);
+    let ended = status_of(rt, alloc, &WORDS, &mut host);
     Ok(ended == status && host.output.holds(output) && host.errors.holds(errors))
 }
 
@@ -255,15 +254,27 @@ fn csv_of(alloc: Global, world: &World) -> Result<String, Fail> {
 // What is left of a world, as rows tell it.
 fn left_of(alloc: Global, world: World) -> Result<String, Fail> {
     let mut text = String::from_str(alloc, "mail")?;
+    push_mail(&mut text, &world)?;
+    push_first(&mut text, world)?;
+    Ok(text)
+}
+
+// The letters for process 3.
+fn push_mail(text: &mut String, world: &World) -> Result<(), Fail> {
     for place in 0..100 {
         if let Some(letter) = world.look(3, place) {
-            push_letter(&mut text, &letter)?;
+            push_letter(text, &letter)?;
         }
     }
-    if let Some(node) = world.undo_all(0) {
-        push_node(alloc, &mut text, &node)?;
+    Ok(())
+}
+
+// Process 0 as it was after its committed events.
+fn push_first(text: &mut String, world: World) -> Result<(), Fail> {
+    match world.undo_all(0) {
+        Some(node) => push_node(text, &node),
+        None => Ok(()),
     }
-    Ok(text)
 }
 
 // A letter that carries a frame.
@@ -278,17 +289,30 @@ fn push_letter(text: &mut String, letter: &Letter) -> Result<(), Fail> {
     Ok(())
 }
 
-// The state of ES1.
-fn push_node(alloc: Global, text: &mut String, node: &Node) -> Result<(), Fail> {
+// What the regulator of ES1 tells.
+fn push_regulator(text: &mut String, node: &Node) -> Result<(), Fail> {
     let regulator = node.regulator(VlId(1)).ok_or("no regulator")?;
+    let number = regulator.sn();
+    match regulator.last() {
+        Some(time) => push_number(text, ", last ", time.ns())?,
+        None => text.push_str(", last none")?,
+    }
+    write!(text, ", number {number}")?;
+    Ok(())
+}
+
+fn push_number(text: &mut String, name: &str, number: u64) -> Result<(), AllocError> {
+    text.push_str(name)?;
+    write!(text, "{number}")
+}
+
+// The state of ES1.
+fn push_node(text: &mut String, node: &Node) -> Result<(), Fail> {
+    let next = node.counter();
+    write!(text, ", next {next}")?;
+    push_regulator(text, node)?;
     let port = node.port(0).ok_or("no port")?;
-    let last = match regulator.last() {
-        Some(time) => format!(in alloc; "{}", time.ns())?,
-        None => String::from_str(alloc, "none")?,
-    };
-    let (next, number) = (node.counter(), regulator.sn());
-    let state = if port.is_busy() { "busy" } else { "idle" };
-    write!(text, ", next {next}, last {last}, number {number}, {state}")?;
+    text.push_str(if port.is_busy() { ", busy" } else { ", idle" })?;
     Ok(())
 }
 
@@ -302,7 +326,7 @@ fn a_stream_that_takes_no_more_is_told(rt: HostRuntime) -> Result<(), Fail> {
     }
     let mut host = MemoryHost::of(rt.alloc(), net.as_bytes(), Some(b"G\n"))?;
     host.errors.writes = 0;
-    assert_eq!(rt; perform(&rt, rt.alloc(), &WORDS, &mut host), 0);
+    assert_eq!(rt; status_of(&rt, rt.alloc(), &WORDS, &mut host), 0);
     assert!(rt; host.output.holds(whole.as_str()) && host.errors.holds(""));
     Ok(())
 }
@@ -318,7 +342,7 @@ fn is_cut<T: Threads + Wait + Sync>(
     let mut host = MemoryHost::of(alloc, net.as_bytes(), Some(b"G\n"))?;
     host.output.most = 1;
     host.output.writes = writes as u64;
-    let ended = perform(rt, alloc, &WORDS, &mut host);
+    let ended = status_of(rt, alloc, &WORDS, &mut host);
     let shown = host.output.bytes.as_slice();
     let is_front = shown.len() == writes && whole.as_bytes().starts_with(shown);
     Ok(ended == 4 && is_front && host.errors.holds("afdxsim: cannot write\n"))

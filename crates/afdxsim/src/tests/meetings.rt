@@ -1,8 +1,9 @@
 //! Runs in which a process waits for another one: while a message is handled, another worker goes on.
 use super::host::Page;
 use super::networks::network;
+use super::stage::number_of;
 use crate::write_steps;
-use netdesc::read;
+use netdesc::{Network, read};
 use std::alloc::{AllocError, Global};
 use std::sync::Wait;
 use std::sync::atomic::{AtomicBool, AtomicU64, Ordering};
@@ -27,7 +28,7 @@ pub const ROWS: &str = "
 #[derive(Drop)]
 struct Place {
     /// The process that it waits for before its first message.
-    waits_for: Option<u16>,
+    waits_for: Option<u64>,
     /// It is to handle its first message, or has handled it.
     has_begun: AtomicBool,
     /// How many messages it has handled.
@@ -63,17 +64,19 @@ impl Meeting {
 
     // The first process of the pair is to wait for the second.
     fn wait(&mut self, pair: &str) -> Result<(), Fail> {
-        let (first, second) = pair.split_once(':').ok_or("no pair")?;
-        let first: u16 = first.parse().map_err(|_| "no process")?;
-        let second: u16 = second.parse().map_err(|_| "no process")?;
-        let place = self.places.get_mut(usize::from(first)).ok_or("no place")?;
+        let mut parts = pair.split(':');
+        let first = number_of(parts.next())?;
+        let second = number_of(parts.next())?;
+        let Some(place) = self.places.get_mut(first as usize) else {
+            return Err("no place")?;
+        };
         place.waits_for = Some(second);
         Ok(())
     }
 
     // Whether it was seen that this process has begun.
-    fn sees(&self, process: u16) -> bool {
-        let Some(place) = self.places.get(usize::from(process)) else {
+    fn sees(&self, process: u64) -> bool {
+        let Some(place) = self.places.get(process as usize) else {
             return false;
         };
         for look in 0..self.looks {
@@ -111,21 +114,63 @@ impl Gate for Meeting {
     }
 }
 
+/// What a row tells.
+#[derive(Clone, Copy)]
+struct Told<'r> {
+    workers: u64,
+    looks: u64,
+    waits: &'r str,
+    missed: u64,
+    order: &'r str,
+}
+
+fn told_of(row: &str) -> Result<Told<'_>, Fail> {
+    let mut parts = row.split(" => ");
+    let workers = number_of(parts.next())?;
+    let looks = number_of(parts.next())?;
+    let waits = parts.next().unwrap_or("");
+    let missed = number_of(parts.next())?;
+    let order = parts.next().unwrap_or("");
+    Ok(Told {
+        workers,
+        looks,
+        waits,
+        missed,
+        order,
+    })
+}
+
 /// The run is as the row tells, and the gate was told of each message as often as the journal has it handled.
 pub fn is_met<T: Threads + Wait + Sync>(rt: &T, alloc: Global, row: &str) -> Result<bool, Fail> {
-    let (begin, order) = row.rsplit_once(" => ").ok_or("no order")?;
-    let (begin, missed) = begin.rsplit_once(" => ").ok_or("none missed")?;
-    let (begin, waits) = begin.rsplit_once(" => ").ok_or("none waits")?;
-    let (workers, looks) = begin.split_once(" => ").ok_or("no workers")?;
-    let workers: u8 = workers.parse().map_err(|_| "no workers")?;
-    let looks: u64 = looks.parse().map_err(|_| "no looks")?;
-    let missed: u64 = missed.parse().map_err(|_| "none missed")?;
+    let told = told_of(row)?;
     let net = network(alloc, "n3")?;
     let network = read(alloc, net.as_str())?;
-    let mut gate = Meeting::of(alloc, network.process_count(), looks)?;
-    for pair in waits.split(' ') {
+    let gate = gate_of(alloc, &network, told)?;
+    let outcome = run_of(rt, alloc, &network, told.workers, &gate)?;
+    if gate.missed.load(Ordering::SeqCst) != told.missed || !is_told(&gate, &outcome) {
+        return Ok(false);
+    }
+    is_ordered(alloc, &outcome, told.order)
+}
+
+// The gate that lets processes wait as a row tells.
+fn gate_of(alloc: Global, network: &Network, told: Told<'_>) -> Result<Meeting, Fail> {
+    let mut gate = Meeting::of(alloc, network.process_count(), told.looks)?;
+    for pair in told.waits.split(' ') {
         gate.wait(pair)?;
     }
+    Ok(gate)
+}
+
+// A run by so many workers, one message a turn.
+fn run_of<T: Threads + Wait + Sync>(
+    rt: &T,
+    alloc: Global,
+    network: &Network,
+    workers: u64,
+    gate: &Meeting,
+) -> Result<Outcome, Fail> {
+    let workers = u8::try_from(workers).unwrap_or(0);
     if workers == 0 || workers > 64 {
         return Err("no pace")?;
     }
@@ -134,9 +179,7 @@ pub fn is_met<T: Threads + Wait + Sync>(rt: &T, alloc: Global, row: &str) -> Res
         turn: 1,
         window_ns: 1_000_000,
     };
-    let outcome = run(rt, alloc, &network, pace, &gate)?;
-    let is_missed = gate.missed.load(Ordering::SeqCst) == missed;
-    Ok(is_missed && is_told(&gate, &outcome) && is_ordered(alloc, &outcome, order)?)
+    Ok(run(rt, alloc, network, pace, gate)?)
 }
 
 // The gate was told of each process as often as the journal has that it handled a message.
@@ -171,9 +214,15 @@ fn is_ordered(alloc: Global, outcome: &Outcome, order: &str) -> Result<bool, Fai
     let mut page = Page::new(alloc);
     write_steps(alloc, outcome.journal.as_slice(), &mut page)?;
     let text = str::from_utf8(page.bytes.as_slice()).map_err(|_| "no text")?;
-    let first = format!(in alloc; "{first}\n")?;
-    let second = format!(in alloc; "{second}\n")?;
-    let first = text.find(first.as_str()).ok_or("no first step")?;
-    let second = text.find(second.as_str()).ok_or("no second step")?;
-    Ok(first < second)
+    Ok(place_of(text, first)? < place_of(text, second)?)
+}
+
+// The number of the first line with this text.
+fn place_of(text: &str, wanted: &str) -> Result<usize, Fail> {
+    for (place, line) in text.lines().enumerate() {
+        if line == wanted {
+            return Ok(place);
+        }
+    }
+    Err("no such step")?
 }

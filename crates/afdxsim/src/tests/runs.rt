@@ -1,13 +1,18 @@
 //! Runs by workers, held against the one-thread run, and against a replay of their journals.
-use super::host::MemoryHost;
+use super::host::{MemoryHost, status_of_text};
 use super::meetings;
 use super::networks::network;
-use crate::perform;
 use std::alloc::Global;
 use std::str;
 use std::sync::Wait;
 use std::test::Fail;
 use std::thread::Threads;
+
+/// The words behind those that set the pace, which ask for files.
+const FILES: &str = "
+ --trace trace.csv
+ --journal journal.txt
+ --journal journal.txt --trace trace.csv";
 
 /// A network, and the words behind `run net.toml` that set the pace.
 const ROWS: &str = "
@@ -61,37 +66,85 @@ fn a_run_by_workers_is_that_of_one_thread(rt: HostRuntime) -> Result<(), Fail> {
     Ok(())
 }
 
-// With this pace the run prints and writes what `seq` does, and a replay of its journal is finished and prints the same.
+/// What is on standard output and in the trace after a run of a network on one thread.
+#[derive(Drop)]
+struct Wanted {
+    net: String,
+    tables: Vec<u8>,
+    trace: Vec<u8>,
+}
+
+// With this pace the run prints and writes what `seq` does, whatever files are asked for.
 fn is_as_seq<T: Threads + Wait + Sync>(
     rt: &T,
     alloc: Global,
     name: &str,
     pace: &str,
 ) -> Result<bool, Fail> {
+    let wanted = wanted_of(rt, alloc, name)?;
+    for files in FILES.lines() {
+        let words = format!(in alloc; "run net.toml {pace}{files}")?;
+        if !is_wanted(rt, alloc, &wanted, words.as_str())? {
+            return Ok(false);
+        }
+    }
+    Ok(true)
+}
+
+fn wanted_of<T: Threads + Wait + Sync>(rt: &T, alloc: Global, name: &str) -> Result<Wanted, Fail> {
     let net = network(alloc, name)?;
-    let net = net.as_str();
-    let seq = done(rt, alloc, net, "seq net.toml --trace trace.csv", None)?;
-    let words = format!(in alloc; "run net.toml {pace}")?;
-    let alone = done(rt, alloc, net, words.as_str(), None)?;
-    let words = format!(in alloc; "run net.toml {pace} --trace trace.csv")?;
-    let traced = done(rt, alloc, net, words.as_str(), None)?;
-    let words = format!(in alloc; "run net.toml {pace} --journal trace.csv")?;
-    let kept = done(rt, alloc, net, words.as_str(), None)?;
-    let journal = kept.written();
-    let replayed = done(
-        rt,
-        alloc,
+    let words = "seq net.toml --trace trace.csv";
+    let seq = done(rt, alloc, net.as_str(), words, None)?;
+    let trace = seq.trace();
+    Ok(Wanted {
         net,
-        "replay net.toml steps.txt",
-        Some(journal.as_slice()),
-    )?;
-    let tables = seq.output.bytes.as_slice();
-    let all_same = alone.output.bytes.as_slice() == tables
-        && traced.output.bytes.as_slice() == tables
-        && kept.output.bytes.as_slice() == tables
-        && replayed.output.bytes.as_slice() == tables;
-    let same_trace = traced.written().as_slice() == seq.written().as_slice();
-    Ok(all_same && same_trace && is_finished(&replayed)?)
+        tables: seq.output.bytes,
+        trace,
+    })
+}
+
+// The tables and the files that these words ask for are those that are wanted.
+fn is_wanted<T: Threads + Wait + Sync>(
+    rt: &T,
+    alloc: Global,
+    wanted: &Wanted,
+    words: &str,
+) -> Result<bool, Fail> {
+    let run = done(rt, alloc, wanted.net.as_str(), words, None)?;
+    let journal = run.journal();
+    if journal.is_empty() == words.contains("--journal") {
+        return Ok(false);
+    }
+    if !has_tables(&run, wanted) || !has_trace(&run, wanted, words) {
+        return Ok(false);
+    }
+    Ok(journal.is_empty() || is_replayed(rt, alloc, wanted, journal.as_slice())?)
+}
+
+fn has_tables(run: &MemoryHost, wanted: &Wanted) -> bool {
+    run.output.bytes.as_slice() == wanted.tables.as_slice()
+}
+
+// The trace is the one that is wanted, where these words ask for one.
+fn has_trace(run: &MemoryHost, wanted: &Wanted, words: &str) -> bool {
+    let trace = run.trace();
+    if words.contains("--trace") {
+        trace.as_slice() == wanted.trace.as_slice()
+    } else {
+        trace.is_empty()
+    }
+}
+
+// A replay of this journal is finished and prints the tables that are wanted.
+fn is_replayed<T: Threads + Wait + Sync>(
+    rt: &T,
+    alloc: Global,
+    wanted: &Wanted,
+    journal: &[u8],
+) -> Result<bool, Fail> {
+    let words = "replay net.toml steps.txt";
+    let replayed = done(rt, alloc, wanted.net.as_str(), words, Some(journal))?;
+    Ok(has_tables(&replayed, wanted) && is_finished(&replayed)?)
 }
 
 // What these words leave behind, which end with status 0.
@@ -102,12 +155,8 @@ fn done<T: Threads + Wait + Sync>(
     words: &str,
     steps: Option<&[u8]>,
 ) -> Result<MemoryHost, Fail> {
-    let mut all = Vec::new(alloc);
-    for word in words.split(' ') {
-        all.push(word)?;
-    }
     let mut host = MemoryHost::of(alloc, net.as_bytes(), steps)?;
-    if perform(rt, alloc, &all, &mut host) != 0 {
+    if status_of_text(rt, alloc, words, &mut host)? != 0 {
         Err("not done")?;
     }
     Ok(host)

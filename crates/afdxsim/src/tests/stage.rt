@@ -54,13 +54,13 @@ impl Gate for Counted {
     }
 }
 
-// A word: the name of a call, and its numbers, 0 where there is none.
+/// A word: the name of a call, and its numbers, 0 where there is none.
 #[derive(Clone, Copy)]
-struct Word<'w> {
-    name: &'w str,
-    first: u64,
-    second: u64,
-    third: u64,
+pub struct Word<'w> {
+    pub name: &'w str,
+    pub first: u64,
+    pub second: u64,
+    pub third: u64,
 }
 
 // What a call answers.
@@ -73,7 +73,8 @@ enum Answer {
     Nothing,
 }
 
-fn word_of(text: &str) -> Result<Word<'_>, Fail> {
+/// The word that this text writes.
+pub fn word_of(text: &str) -> Result<Word<'_>, Fail> {
     let mut parts = text.split(':');
     let name = parts.next().unwrap_or("");
     let first = number_of(parts.next())?;
@@ -87,7 +88,8 @@ fn word_of(text: &str) -> Result<Word<'_>, Fail> {
     })
 }
 
-fn number_of(digits: Option<&str>) -> Result<u64, Fail> {
+/// The number with these digits, 0 where there are none.
+pub fn number_of(digits: Option<&str>) -> Result<u64, Fail> {
     match digits {
         Some(digits) => Ok(digits.parse().map_err(|_| "no number")?),
         None => Ok(0),
@@ -134,7 +136,10 @@ impl<'a, J: NetworkRun> Stage<'a, J> {
 
     fn collect(&mut self, word: Word<'_>) -> Result<Result<Answer, PoolFault>, Fail> {
         let held = self.helds.get_mut(word.first as usize).ok_or("no process")?;
-        if held.pending() != 0 || !self.exchange.fits(held) {
+        if held.pending() != 0 {
+            return Err("it has a block")?;
+        }
+        if !self.exchange.fits(held) {
             return Err("it does not fit")?;
         }
         let count = collect(held, &mut self.exchange, small(word.second));
@@ -168,13 +173,19 @@ impl<'a, J: NetworkRun> Stage<'a, J> {
 
     fn asked(&self, word: Word<'_>) -> Result<Answer, Fail> {
         match word.name {
-            "steps" => Ok(Answer::Number(self.exchange.steps())),
-            "step" => Ok(at(self.exchange.step_at(word.first))),
-            "gvt" => Ok(Answer::Number(self.exchange.gvt().ns())),
-            "mail" => Ok(Answer::Number(self.letters(word))),
+            "steps" | "step" | "gvt" | "mail" => Ok(self.asked_of_exchange(word)),
             "before" => Ok(Answer::Number(self.gate.before.get())),
             "after" => Ok(Answer::Number(self.gate.after.get())),
             _ => self.asked_of_held(word),
+        }
+    }
+
+    fn asked_of_exchange(&self, word: Word<'_>) -> Answer {
+        match word.name {
+            "steps" => Answer::Number(self.exchange.steps()),
+            "step" => at(self.exchange.step_at(word.first)),
+            "gvt" => Answer::Number(self.exchange.gvt().ns()),
+            _ => Answer::Number(self.letters(word)),
         }
     }
 

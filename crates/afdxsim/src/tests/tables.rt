@@ -1,7 +1,7 @@
 //! What `seq` tells of a run by its tables and its trace, and how many offers `check` counts. What is expected was worked out by hand.
 use super::changes::{changed, lines_of};
-use super::host::{MemoryHost, Page, says};
-use crate::perform;
+use super::host::{MemoryHost, Page, says, status_of};
+use super::parts;
 use netdesc::read;
 use seqsim::run;
 use std::alloc::Global;
@@ -215,6 +215,11 @@ fn a_run_is_told_by_its_tables_and_its_trace(rt: HostRuntime) -> Result<(), Fail
     for row in ROWS.split("\n\n") {
         assert!(rt; is_told(&rt, rt.alloc(), row)?, "{row}");
     }
+    for row in parts::ROWS.lines() {
+        if !row.is_empty() {
+            assert!(rt; parts::is_told(rt.alloc(), row)?, "{row}");
+        }
+    }
     Ok(())
 }
 
@@ -280,11 +285,11 @@ fn is_traced<T: Threads + Wait + Sync>(
 ) -> Result<bool, Fail> {
     let mut host = MemoryHost::new(alloc, net.as_bytes())?;
     let words = ["seq", "net.toml", "--trace", "trace.csv"];
-    let ended = perform(rt, alloc, &words, &mut host);
+    let ended = status_of(rt, alloc, &words, &mut host);
     let is_kept = match lines {
         Some(lines) => {
             let trace = text_of(alloc, "time_ns,where,vl,what,value\n", lines)?;
-            host.written().as_slice() == trace.as_bytes()
+            host.trace().as_slice() == trace.as_bytes()
         }
         None => true,
     };

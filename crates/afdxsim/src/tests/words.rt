@@ -1,7 +1,6 @@
 //! What the program's words order, ask for, and get wrong.
-use super::host::{MemoryHost, Page};
+use super::host::{MemoryHost, Page, status_of};
 use super::networks::network;
-use crate::perform;
 use command_line::order;
 use std::alloc::Global;
 use std::str;
@@ -90,7 +89,7 @@ fn words_are_done_or_refused(rt: HostRuntime) -> Result<(), Fail> {
     }
     let mut host = MemoryHost::new(rt.alloc(), b"")?;
     host.output.writes = 0;
-    assert_eq!(rt; perform(&rt, rt.alloc(), &["--help"], &mut host), 4);
+    assert_eq!(rt; status_of(&rt, rt.alloc(), &["--help"], &mut host), 4);
     assert!(rt; host.errors.holds("afdxsim: cannot write\n"));
     Ok(())
 }
@@ -114,7 +113,7 @@ pub fn is_told<T: Threads + Wait + Sync>(rt: &T, alloc: Global, row: &str) -> Re
     let net = network(alloc, base)?;
     let words = words_of(alloc, words)?;
     let mut host = MemoryHost::new(alloc, net.as_bytes())?;
-    let ended = perform(rt, alloc, &words, &mut host);
+    let ended = status_of(rt, alloc, words.as_slice(), &mut host);
     let is_ended = format!(in alloc; "{ended}")?.as_str() == status;
     let (told, other) = if ended == 0 {
         (&host.output, &host.errors)

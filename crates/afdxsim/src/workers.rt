@@ -1,0 +1,146 @@
+//! A run by workers: its tables, and what else is asked for.
+ghost use Rattle.std.specs.Prelude.{◌≡◌, ◌⊎◌, List, IfErr, IfOk, OnOk};
+ghost use Rattle.vlink.specs.declared.note.Row.{Row as Noted};
+ghost use Rattle.trace_tables.specs.Sinking.{IsBeginning};
+ghost use Rattle.trace_tables.specs.Text.{tables_text, trace_text};
+ghost use Rattle.seqsim.specs.Networks.{AreRowsOf};
+ghost use Rattle.worker_pool.specs.Paces.{IsPace};
+ghost use Rattle.command_line.specs.Meaning.{RunLimits};
+ghost use Rattle.afdxsim.specs.Ending.{Took};
+ghost use Rattle.afdxsim.specs.Sequencing.{IsTablesText};
+ghost use Rattle.afdxsim.specs.Workers.{fault_of_trace, IsFaultOfPool, IsFaultOfRunFile};
+
+use crate::fault::Fault;
+use command_line::Run;
+use netdesc::Network;
+use std::alloc::Global;
+use std::sync::Wait;
+use std::thread::Threads;
+use trace_tables::{OutFault, PartFault, Sink, TraceFault};
+use worker_pool::{
+    Gate, Outcome, Pace, Summary, Traced, run, run_tables, run_tables_traced, run_traced,
+};
+
+/// A gate that is told of each message and does nothing.
+pub struct Open;
+
+impl Gate for Open {
+    fn before(&self, _process: u16, _run: u64) {}
+
+    fn after(&self, _process: u16, _run: u64) {}
+}
+
+/// The pace that is ordered.
+pub fn pace_of(order: &Run) -> Pace
+    requires { RunLimits order.now }
+    ensures { IsPace result }
+{
+    Pace {
+        workers: order.workers,
+        turn: order.turn,
+        window_ns: order.window_ns,
+    }
+}
+
+/// What a run of the network by workers finds: its tables, and its steps where they are asked for. Where they are not, neither steps nor rows
+/// are listed.
+#[tactic(auto, using(crate::proofs::Running::tables_made, crate::proofs::Running::workers_gave_up))]
+pub fn found_by_workers<T: Threads + Wait + Sync>(
+    rt: &T,
+    alloc: Global,
+    network: &Network,
+    pace: Pace,
+    with_steps: bool,
+) -> Result<Summary, Fault<'static>>
+    requires { IsPace pace }
+    ensures text { IfOk result (λ found. IsTablesText network.now (tables_text network.now found.tables)) }
+    ensures fault { IfErr result IsFaultOfPool }
+{
+    if with_steps {
+        let Outcome {
+            tables,
+            journal,
+            ..
+        } = run(rt, alloc, network, pace, &Open)?;
+        return Ok(Summary { tables, journal });
+    }
+    Ok(Summary {
+        tables: run_tables(rt, alloc, network, pace, &Open)?,
+        journal: Vec::new(alloc),
+    })
+}
+
+/// That run, where it writes its trace into this file. What the file has taken is at any end a beginning of the trace of the one-thread run.
+#[tactic(auto, using(crate::proofs::Running::tables_made, crate::proofs::Running::workers_gave_up))]
+fn traced<F: Sink + Drop + Send, T: Threads + Wait + Sync>(
+    rt: &T,
+    alloc: Global,
+    network: &Network,
+    pace: Pace,
+    with_steps: bool,
+    file: F,
+) -> Result<Traced<Summary, F>, Fault<'static>>
+    requires { IsPace pace }
+    ensures text { IfOk result (λ found. IsTablesText network.now (tables_text network.now found.outcome.tables)) }
+    ensures trace { IfOk result (λ found. OnOk found.written ((rows : List Noted) → AreRowsOf network.now rows →
+        Took F.taken file found.sink (trace_text network.now rows))) }
+    ensures beginning { IfOk result (λ found. (rows : List Noted) → AreRowsOf network.now rows →
+        IsBeginning (F.taken file) (F.taken found.sink) (trace_text network.now rows)) }
+    ensures fault { IfErr result IsFaultOfPool }
+{
+    if with_steps {
+        return Ok(run_traced(rt, alloc, network, pace, &Open, file)?);
+    }
+    let Traced {
+        outcome,
+        written,
+        sink,
+    } = run_tables_traced(rt, alloc, network, pace, &Open, file)?;
+    Ok(Traced {
+        outcome: Summary {
+            tables: outcome,
+            journal: Vec::new(alloc),
+        },
+        written,
+        sink,
+    })
+}
+
+/// Why a trace was not written into the file with this path, as a fault of the program.
+fn fault_of_trace<'a>(path: &'a str, why: TraceFault) -> Fault<'a>
+    ensures { result ≡ fault_of_trace path.entry why }
+{
+    match why {
+        TraceFault::Part(PartFault::OutOfMemory) => Fault::OutOfMemory,
+        TraceFault::Out(OutFault::OutOfMemory) => Fault::OutOfMemory,
+        _ => Fault::CannotWriteFile(path),
+    }
+}
+
+/// That run, where it writes its trace into this file, which has this path and is given back. A fault of the trace is told once the run has
+/// come to its end.
+pub fn found_with_trace<'a, F: Sink + Drop + Send, T: Threads + Wait + Sync>(
+    rt: &T,
+    alloc: Global,
+    network: &Network,
+    pace: Pace,
+    with_steps: bool,
+    path: &'a str,
+    file: F,
+) -> Result<(Summary, F), Fault<'a>>
+    requires { IsPace pace }
+    ensures text { IfOk result (λ found. IsTablesText network.now (tables_text network.now found.0.tables)) }
+    ensures trace { IfOk result (λ found. (rows : List Noted) → AreRowsOf network.now rows →
+        Took F.taken file found.1 (trace_text network.now rows)) }
+    ensures fault { IfErr result (λ fault. IsFaultOfPool fault ⊎ IsFaultOfRunFile path.entry.now fault) }
+{
+    let Traced {
+        outcome,
+        written,
+        sink,
+    } = traced(rt, alloc, network, pace, with_steps, file)?;
+    match written {
+        Ok(()) => Ok((outcome, sink)),
+        Err(why) => Err(fault_of_trace(path, why)),
+    }
+}
