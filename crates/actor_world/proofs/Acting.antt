@@ -36,9 +36,9 @@ module _ {S K : Type 0} (f : Simulation Message S K Note) (is_value : S → Mess
   within = process-within f is_value w old h p q here
 
   -- what a process does alone
-  acted : (act : S → Part Message S → Part Message S) (q' : Queues S K) → Does f.rules is_value act q q' → (ps : List (Queues S K)) → ps ≡ set old.processes p q' →
+  acted : (act : S → Part Message S → Part Message S) (q' : Queues S K) → Does f.rules is_value act q q' → q'.left ≡ q.left → (ps : List (Queues S K)) → ps ≡ set old.processes p q' →
       StandsForWorld f is_value (with_part f p (act (f.opening p) (w.parts p)) w) (record { processes = ps; mail = old.mail; floors = old.floors; gvt = old.gvt; until = old.until })
-  acted act q' does ps e = with_part-stands f is_value w old h p within (act (f.opening p) (w.parts p)) q' (does (f.opening p) (w.parts p) part-here) ps e
+  acted act q' does kept ps e = with_part-stands f is_value w old h p within (act (f.opening p) (w.parts p)) q' (does (f.opening p) (w.parts p) part-here) (kept ∙ h.whole p q here) ps e
 
   pub arrive-enabled : 0 < length q.tray → is_enabled f (Arrive p) w ≡ true
   unfolding is_enabled
@@ -48,19 +48,19 @@ module _ {S K : Type 0} (f : Simulation Message S K Note) (is_value : S → Mess
   unfolding is_enabled
   arrive-not e = rw (lt-ltb p f.processes within, sym (ap length part-here.tray) ∙ e) refl
 
-  pub arrived : (q' : Queues S K) → Does f.rules is_value (arrive f.rules) q q' → (ps : List (Queues S K)) → ps ≡ set old.processes p q' →
+  pub arrived : (q' : Queues S K) → Does f.rules is_value (arrive f.rules) q q' → q'.left ≡ q.left → (ps : List (Queues S K)) → ps ≡ set old.processes p q' →
       StandsForWorld f is_value (effect f (Arrive p) w) (record { processes = ps; mail = old.mail; floors = old.floors; gvt = old.gvt; until = old.until })
   unfolding effect
-  arrived q' does ps e = acted (arrive f.rules) q' does ps e
+  arrived q' does kept ps e = acted (arrive f.rules) q' does kept ps e
 
   pub run-enabled : (o : Option Message) → o ≡ next_of f.rules (w.parts p) → is_enabled f (Run p) w ≡ is_some o
   unfolding is_enabled
   run-enabled o e = rw (lt-ltb p f.processes within) (ap is_some (sym e))
 
-  pub ran : (q' : Queues S K) → Does f.rules is_value (λ opening. run_one f.rules) q q' → (ps : List (Queues S K)) → ps ≡ set old.processes p q' →
+  pub ran : (q' : Queues S K) → Does f.rules is_value (λ opening. run_one f.rules) q q' → q'.left ≡ q.left → (ps : List (Queues S K)) → ps ≡ set old.processes p q' →
       StandsForWorld f is_value (effect f (Run p) w) (record { processes = ps; mail = old.mail; floors = old.floors; gvt = old.gvt; until = old.until })
   unfolding effect
-  ran q' does ps e = acted (λ opening. run_one f.rules) q' does ps e
+  ran q' does kept ps e = acted (λ opening. run_one f.rules) q' does kept ps e
 
   ready-is : (part : Part Message S) (g : ℕ) → (is_early f g part.done && can_seal f.rules part part.done) ≡ is_ready f.rules g part
   ready-is part g = go part.done
@@ -73,14 +73,14 @@ module _ {S K : Type 0} (f : Simulation Message S K Note) (is_value : S → Mess
   unfolding is_enabled
   commit-enabled b e = rw (lt-ltb p f.processes within) (ready-is (w.parts p) w.gvt ∙ (ap (λ g. is_ready f.rules g (w.parts p)) (sym h.gvt) ∙ sym e))
 
-  pub sealed : true ≡ is_ready f.rules old.gvt (w.parts p) → (q' : Queues S K) → Does f.rules is_value (λ opening. committed_once f.rules old.gvt) q q' →
+  pub sealed : true ≡ is_ready f.rules old.gvt (w.parts p) → (q' : Queues S K) → Does f.rules is_value (λ opening. committed_once f.rules old.gvt) q q' → q'.left ≡ q.left →
       (ps : List (Queues S K)) → ps ≡ set old.processes p q' →
       StandsForWorld f is_value (effect f (Commit p) w) (record { processes = ps; mail = old.mail; floors = old.floors; gvt = old.gvt; until = old.until })
   unfolding effect
-  sealed ready q' does ps d =
+  sealed ready q' does kept ps d =
       let same : committed_once f.rules old.gvt (w.parts p) ≡ seal_oldest f.rules (w.parts p) = rw (sym ready) refl in
       subst (λ part. StandsForWorld f is_value (with_part f p part w) (record { processes = ps; mail = old.mail; floors = old.floors; gvt = old.gvt; until = old.until })) same
-      (acted (λ opening. committed_once f.rules old.gvt) q' does ps d)
+      (acted (λ opening. committed_once f.rules old.gvt) q' does kept ps d)
 
 module _ {S K : Type 0} (r : Rules Message S K Note) (number end : S → ℕ) (is_placed : S → Type 0) (is_value : S → Message → Type 0)
     (old : Holdings S K) (p : ℕ) (q : Queues S K) (here : slice_get old.processes p ≡ Some q) where
@@ -90,15 +90,15 @@ module _ {S K : Type 0} (r : Rules Message S K Note) (number end : S → ℕ) (i
       (λ x laid steps h. arrive-not (simulation_of r x) is_value (run (simulation_of r x) steps (start (simulation_of r x))) old h p q here e)
       (the_same old)
 
-  pub arrive-did : 0 < length q.tray → (q' : Queues S K) → Does r is_value (arrive r) q q' → (ps : List (Queues S K)) → ps ≡ set old.processes p q' →
+  pub arrive-did : 0 < length q.tray → (q' : Queues S K) → Does r is_value (arrive r) q q' → q'.left ≡ q.left → (ps : List (Queues S K)) → ps ≡ set old.processes p q' →
       IsStepped r number end is_placed is_value (Arrive p) old (record { processes = ps; mail = old.mail; floors = old.floors; gvt = old.gvt; until = old.until }) (Ok Did)
-  arrive-did e q' does ps d =
+  arrive-did e q' does kept ps d =
       when-did r number end is_placed is_value (Arrive p) old _ (λ x laid steps h d. d)
       (λ x laid steps h.
       let f = simulation_of r x in
       let w = run f steps (start f) in (
         arrive-enabled f is_value w old h p q here e,
-        arrived f is_value w old h p q here q' does ps d,
+        arrived f is_value w old h p q here q' does kept ps d,
       ))
 
   pub arrive-refused : 0 < length q.tray → (ps : List (Queues S K)) → ps ≡ old.processes → (answer : Result Done StepFault) → answer ≡ Err (fault_of process.OutOfMemory) →
@@ -138,13 +138,13 @@ module _ {S K : Type 0} (r : Rules Message S K Note) (number end : S → ℕ) (i
       )
 
   pub run-did : OfMessages r → (IsExhaustedIn q → ⊥) → (m : Message) → ((opening : S) (part : Part Message S) → StandsFor r is_value opening part q → Some m ≡ next_of r part) →
-      (q' : Queues S K) → Does r is_value (λ opening. run_one r) q q' → (ps : List (Queues S K)) → ps ≡ set old.processes p q' →
+      (q' : Queues S K) → Does r is_value (λ opening. run_one r) q q' → q'.left ≡ q.left → (ps : List (Queues S K)) → ps ≡ set old.processes p q' →
       IsStepped r number end is_placed is_value (Run p) old (record { processes = ps; mail = old.mail; floors = old.floors; gvt = old.gvt; until = old.until }) (Ok Did)
-  run-did R enough m e q' does ps d =
+  run-did R enough m e q' does kept ps d =
       when-did r number end is_placed is_value (Run p) old _ (has-numbers R enough)
       (λ x laid steps h. (
         enabled true (λ opening part k. ap is_some (sym (e opening part k))) x laid steps h,
-        ran (simulation_of r x) is_value (run (simulation_of r x) steps (start (simulation_of r x))) old h p q here q' does ps d,
+        ran (simulation_of r x) is_value (run (simulation_of r x) steps (start (simulation_of r x))) old h p q here q' does kept ps d,
       ))
 
   pub run-refused : OfMessages r → ((opening : S) (part : Part Message S) → StandsFor r is_value opening part q → IsSome (next_of r part)) →
@@ -182,15 +182,15 @@ module _ {S K : Type 0} (r : Rules Message S K Note) (number end : S → ℕ) (i
   commit-none e ps d = when-not_enabled r number end is_placed is_value (Commit p) old _ (ready false e) (the_same-when old ps d)
 
   pub commit-did : ((opening : S) (part : Part Message S) → StandsFor r is_value opening part q → true ≡ is_ready r old.gvt part) →
-      (q' : Queues S K) → Does r is_value (λ opening. committed_once r old.gvt) q q' → (ps : List (Queues S K)) → ps ≡ set old.processes p q' →
+      (q' : Queues S K) → Does r is_value (λ opening. committed_once r old.gvt) q q' → q'.left ≡ q.left → (ps : List (Queues S K)) → ps ≡ set old.processes p q' →
       IsStepped r number end is_placed is_value (Commit p) old (record { processes = ps; mail = old.mail; floors = old.floors; gvt = old.gvt; until = old.until }) (Ok Did)
-  commit-did e q' does ps d =
+  commit-did e q' does kept ps d =
       when-did r number end is_placed is_value (Commit p) old _ (λ x laid steps h d. d)
       (λ x laid steps h.
       let f = simulation_of r x in
       let w = run f steps (start f) in (
         ready true e x laid steps h,
-        sealed f is_value w old h p q here (e (f.opening p) (w.parts p) (h.parts p q here)) q' does ps d,
+        sealed f is_value w old h p q here (e (f.opening p) (w.parts p) (h.parts p q here)) q' does kept ps d,
       ))
 
   pub commit-refused : ((opening : S) (part : Part Message S) → StandsFor r is_value opening part q → is_ready r old.gvt part ≡ true) →

@@ -21,6 +21,7 @@ pub stands-same : {S K : Type 0} (f : Simulation Message S K Note) (is_value : S
 stands-same f is_value w old new s h = record {
   count = rw s.processes h.count;
   parts = rw s.processes h.parts;
+  whole = rw s.processes h.whole;
   boxes = s.boxes ∙ h.boxes;
   mail = λ p i. s.mail p ∙ h.mail p i;
   floor_count = rw s.floors h.floor_count;

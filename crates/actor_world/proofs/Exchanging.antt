@@ -30,7 +30,7 @@ use Rattle.actor_world.specs.declared.fault.StepFault.{StepFault}
 use Rattle.actor_world.specs.Faults.{fault_of}
 use Rattle.actor_world.specs.Worlds.{Holdings, StandsForWorld, AtEachWorld, IsAWorld}
 use Rattle.actor_world.specs.Stepping.{IsStepped}
-use Rattle.actor_world.proofs.Holding.{process-within, parts-set, when-did, when-not_enabled, when-no_memory, the_same, the_same-when}
+use Rattle.actor_world.proofs.Holding.{process-within, parts-set, whole-set, when-did, when-not_enabled, when-no_memory, the_same, the_same-when}
 
 -- no letter at this place: there are not so many
 none-past : {X : Type 0} (xs : List X) (i : ℕ) → slice_get xs i ≡ None → length xs ≤ i
@@ -52,17 +52,18 @@ module _ {S K : Type 0} (f : Simulation Message S K Note) (is_value : S → Mess
   module _ (q' : Queues S K) (ps : List (Queues S K)) (ps-is : ps ≡ set old.processes p q') (mail : List Store) (boxes : length mail ≡ length old.mail)
       (floors : List ℕ) (floor_count : length floors ≡ length old.floors) (floors_others : (k : ℕ) → (k ≡ p → ⊥) → slice_get floors k ≡ slice_get old.floors k)
       (until : ℕ) (until-is : until ≡ old.until) where
-    pub took : (i : ℕ) (l : Signed Message) → slice_get (letters_for p old.mail) i ≡ Some l → Does f.rules is_value (λ opening. delivered l) q q' →
+    pub took : (i : ℕ) (l : Signed Message) → slice_get (letters_for p old.mail) i ≡ Some l → Does f.rules is_value (λ opening. delivered l) q q' → q'.left ≡ q.left →
         letters_for p mail ≡ remove (letters_for p old.mail) i → ((k : ℕ) → (k ≡ p → ⊥) → letters_for k mail ≡ letters_for k old.mail) →
         slice_get floors p ≡ option_map (min (f.rules.time l.message)) (slice_get old.floors p) →
         StandsForWorld f is_value (effect f (Take p i) w) (record { processes = ps; mail = mail; floors = floors; gvt = old.gvt; until = until })
     unfolding effect
-    took i l e does left others lowered =
+    took i l e does kept left others lowered =
         subst (λ o. StandsForWorld f is_value (taken f p i w o) (record { processes = ps; mail = mail; floors = floors; gvt = old.gvt; until = until }))
         (sym (ap (λ ls. slice_get ls i) (sym (h.mail p within)) ∙ e))
         (record {
           count = ap length ps-is ∙ (length-set old.processes p q' ∙ h.count);
           parts = λ k o d. parts-set f is_value w old h p within (delivered l (w.parts p)) q' (does (f.opening p) (w.parts p) part-here) k o (subst (λ z. slice_get z k ≡ Some o) ps-is d);
+          whole = λ k o d. whole-set f is_value w old h p within q' (kept ∙ h.whole p q here) k o (subst (λ z. slice_get z k ≡ Some o) ps-is d);
           boxes = boxes ∙ h.boxes;
           mail = put_elim (λ k ls. k < f.processes → letters_for k mail ≡ ls) p (remove (w.mail p) i) w.mail (λ j. left ∙ ap (λ z. remove z i) (h.mail p within)) (λ k n j. others k n ∙ h.mail k j);
           floor_count = floor_count ∙ h.floor_count;
@@ -72,14 +73,15 @@ module _ {S K : Type 0} (f : Simulation Message S K Note) (is_value : S → Mess
           until = until-is ∙ h.until;
         })
 
-    pub did-post : Does f.rules is_value (λ opening. emptied) q q' →
+    pub did-post : Does f.rules is_value (λ opening. emptied) q q' → q'.left ≡ q.left →
         ((k : ℕ) → letters_for k mail ≡ letters_for k old.mail ++ received_by f.rules k q.outbox) →
         (floor : ℕ) → floor ≡ floor_of f.rules f.until (w.parts p) → slice_get floors p ≡ Some floor →
         StandsForWorld f is_value (effect f (Post p) w) (record { processes = ps; mail = mail; floors = floors; gvt = old.gvt; until = until })
     unfolding effect
-    did-post does sent floor floor-is here' = record {
+    did-post does kept sent floor floor-is here' = record {
       count = ap length ps-is ∙ (length-set old.processes p q' ∙ h.count);
       parts = λ k o d. parts-set f is_value w old h p within (emptied (w.parts p)) q' (does (f.opening p) (w.parts p) part-here) k o (subst (λ z. slice_get z k ≡ Some o) ps-is d);
+      whole = λ k o d. whole-set f is_value w old h p within q' (kept ∙ h.whole p q here) k o (subst (λ z. slice_get z k ≡ Some o) ps-is d);
       boxes = boxes ∙ h.boxes;
       mail = λ k j. sent k ∙ (ap (λ z. z ++ received_by f.rules k q.outbox) (h.mail k j) ∙ ap (λ z. w.mail k ++ received_by f.rules k z) part-here.outbox);
       floor_count = floor_count ∙ h.floor_count;
@@ -126,25 +128,25 @@ module _ {S K : Type 0} (r : Rules Message S K Note) (number end : S → ℕ) (i
   module _ (q' : Queues S K) (ps : List (Queues S K)) (ps-is : ps ≡ set old.processes p q') (mail : List Store) (boxes : length mail ≡ length old.mail)
       (floors : List ℕ) (floor_count : length floors ≡ length old.floors) (floors_others : (k : ℕ) → (k ≡ p → ⊥) → slice_get floors k ≡ slice_get old.floors k)
       (until : ℕ) (until-is : until ≡ old.until) where
-    pub take-did : (i : ℕ) (l : Signed Message) → slice_get (letters_for p old.mail) i ≡ Some l → Does r is_value (λ opening. delivered l) q q' →
+    pub take-did : (i : ℕ) (l : Signed Message) → slice_get (letters_for p old.mail) i ≡ Some l → Does r is_value (λ opening. delivered l) q q' → q'.left ≡ q.left →
         letters_for p mail ≡ remove (letters_for p old.mail) i → ((k : ℕ) → (k ≡ p → ⊥) → letters_for k mail ≡ letters_for k old.mail) →
         slice_get floors p ≡ option_map (min (r.time l.message)) (slice_get old.floors p) →
         IsStepped r number end is_placed is_value (Take p i) old (record { processes = ps; mail = mail; floors = floors; gvt = old.gvt; until = until }) (Ok Did)
-    take-did i l e does left others lowered =
+    take-did i l e does kept left others lowered =
         when-did r number end is_placed is_value (Take p i) old _ (λ x laid steps h d. d)
         (λ x laid steps h.
         let f = simulation_of r x in
         let w = run f steps (start f) in (
           take-enabled f is_value w old h p q here i l e,
-          took f is_value w old h p q here q' ps ps-is mail boxes floors floor_count floors_others until until-is i l e does left others lowered,
+          took f is_value w old h p q here q' ps ps-is mail boxes floors floor_count floors_others until until-is i l e does kept left others lowered,
         ))
 
-    pub post-did : IsOrder r → ((s : S) (m : Message) → end (r.after s m) ≡ end s) → Does r is_value (λ opening. emptied) q q' →
+    pub post-did : IsOrder r → ((s : S) (m : Message) → end (r.after s m) ≡ end s) → Does r is_value (λ opening. emptied) q q' → q'.left ≡ q.left →
         ((k : ℕ) → letters_for k mail ≡ letters_for k old.mail ++ received_by r k q.outbox) → q'.past ≡ q.past →
         (floor : ℕ) → ((opening : S) (part : Part Message S) → StandsFor r is_value opening part q' → floor ≡ floor_of r (end q'.past.state) part) →
         slice_get floors p ≡ Some floor →
         IsStepped r number end is_placed is_value (Post p) old (record { processes = ps; mail = mail; floors = floors; gvt = old.gvt; until = until }) (Ok Did)
-    post-did O stays does sent past floor floor-is here' =
+    post-did O stays does kept sent past floor floor-is here' =
         when-did r number end is_placed is_value (Post p) old _ (λ x laid steps h d. d)
         (λ x laid steps h.
         let f = simulation_of r x in
@@ -156,7 +158,7 @@ module _ {S K : Type 0} (r : Rules Message S K Note) (number end : S → ℕ) (i
         let same : floor ≡ floor_of r x.until (w.parts p) =
         floor' ∙ ap (λ t. floor_of r t (w.parts p)) (ap (λ (z : Past S K). end z.state) past ∙ at_end) in (
           post-enabled f is_value w old h p q here,
-          did-post f is_value w old h p q here q' ps ps-is mail boxes floors floor_count floors_others until until-is does sent floor same here',
+          did-post f is_value w old h p q here q' ps ps-is mail boxes floors floor_count floors_others until until-is does kept sent floor same here',
         ))
 
   pub post-refused : (ps : List (Queues S K)) → ps ≡ old.processes → (mail : List Store) → length mail ≡ length old.mail → ((k : ℕ) → letters_for k mail ≡ letters_for k old.mail) →
@@ -200,5 +202,5 @@ module _ {S K : Type 0} (r : Rules Message S K Note) (number end : S → ℕ) (i
       when-did r number end is_placed is_value Gvt old _ (λ x laid steps h d. d)
       (λ x laid steps h. (
         refl,
-        record { count = h.count; parts = h.parts; boxes = h.boxes; mail = h.mail; floor_count = h.floor_count; floors = h.floors; gvt = gvt x laid steps h; until = h.until },
+        record { count = h.count; parts = h.parts; whole = h.whole; boxes = h.boxes; mail = h.mail; floor_count = h.floor_count; floors = h.floors; gvt = gvt x laid steps h; until = h.until },
       ))

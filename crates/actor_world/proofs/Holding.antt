@@ -137,14 +137,23 @@ pub same-at : {X : Type 0} (xs : List X) (p : ℕ) (x y : X) → slice_get xs p 
 same-at xs p x y a b = let c : Some x ≡ Some y = sym a ∙ b in cc
 
 -- a place of a list that has a new element
-pub set_here : {X : Type 0} (xs : List X) (p : ℕ) (x y : X) → p < length xs → slice_get (set xs p x) p ≡ Some y → x ≡ y
+set_here : {X : Type 0} (xs : List X) (p : ℕ) (x y : X) → p < length xs → slice_get (set xs p x) p ≡ Some y → x ≡ y
 set_here xs p x y i e = sym (get_or-set_same xs p x x i) ∙ get_or_from_slice_get (set xs p x) p y x e
 
-pub set_there : {X : Type 0} (xs : List X) (p k : ℕ) (x y : X) → (k ≡ p → ⊥) → slice_get (set xs p x) k ≡ Some y → slice_get xs k ≡ Some y
+set_there : {X : Type 0} (xs : List X) (p k : ℕ) (x y : X) → (k ≡ p → ⊥) → slice_get (set xs p x) k ≡ Some y → slice_get xs k ≡ Some y
 set_there xs p k x y n e =
     let i : k < length xs = let a = slice_get_within (set xs p x) k y e in let b = length-set xs p x in omega arith in
     let a : get_or xs k y ≡ y = sym (get_or-set_other xs p k x y n) ∙ get_or_from_slice_get (set xs p x) k y y e in
     slice_get-get_or xs k y i ∙ ap (λ z. Some z) a
+
+-- what holds of the new element and of each other one holds of each
+each-set : {X : Type 0} (P : ℕ → X → Type 0) (xs : List X) (p : ℕ) (x : X) → p < length xs → P p x →
+    ((k : ℕ) (y : X) → (k ≡ p → ⊥) → slice_get xs k ≡ Some y → P k y) → (k : ℕ) (y : X) → slice_get (set xs p x) k ≡ Some y → P k y
+each-set P xs p x i here there k y e = go (cases_eq k p)
+  where
+    go : (k ≡ p) ⊎ (k ≡ p → ⊥) → P k y
+    go (inl d) = subst (λ j. P j y) (sym d) (subst (P p) (set_here xs p x y i (subst (λ j. slice_get (set xs p x) j ≡ Some y) d e)) here)
+    go (inr n) = there k y n (set_there xs p k x y n e)
 
 module _ {S K : Type 0} (f : Simulation Message S K Note) (is_value : S → Message → Type 0) (w : World Message S) (held : Holdings S K) (h : StandsForWorld f is_value w held) where
   pub process-within : (p : ℕ) (q : Queues S K) → slice_get held.processes p ≡ Some q → p < f.processes
@@ -153,20 +162,20 @@ module _ {S K : Type 0} (f : Simulation Message S K Note) (is_value : S → Mess
   -- process p is another part, and so are its queues
   pub parts-set : (p : ℕ) → p < f.processes → (part : Part Message S) (q : Queues S K) → StandsFor f.rules is_value (f.opening p) part q →
       (k : ℕ) (o : Queues S K) → slice_get (set held.processes p q) k ≡ Some o → StandsFor f.rules is_value (f.opening k) (put p part w.parts k) o
-  parts-set p i part q s k o e = go (cases_eq k p)
-    where
-      go : (k ≡ p) ⊎ (k ≡ p → ⊥) → StandsFor f.rules is_value (f.opening k) (put p part w.parts k) o
-      go (inl d) = rw (eq-eqb k p d)
-          (let same : q ≡ o = set_here held.processes p q o (let b = h.count in omega arith) (subst (λ j. slice_get (set held.processes p q) j ≡ Some o) d e) in
-          subst (λ j. StandsFor f.rules is_value (f.opening j) part o) (sym d) (subst (StandsFor f.rules is_value (f.opening p) part) same s))
-      go (inr n) = rw (ne_eqb k p n) (h.parts k o (set_there held.processes p k q o n e))
+  parts-set p i part q s = each-set (λ k o. StandsFor f.rules is_value (f.opening k) (put p part w.parts k) o) held.processes p q (let b = h.count in omega arith)
+      (rw (eq-eqb p p refl) s) (λ k o n e. rw (ne_eqb k p n) (h.parts k o e))
 
-  pub with_part-stands : (p : ℕ) → p < f.processes → (part : Part Message S) (q : Queues S K) → StandsFor f.rules is_value (f.opening p) part q →
+  -- no row has left
+  pub whole-set : (p : ℕ) → p < f.processes → (q : Queues S K) → q.left ≡ 0 → (k : ℕ) (o : Queues S K) → slice_get (set held.processes p q) k ≡ Some o → o.left ≡ 0
+  whole-set p i q none = each-set (λ k o. o.left ≡ 0) held.processes p q (let b = h.count in omega arith) none (λ k o n e. h.whole k o e)
+
+  pub with_part-stands : (p : ℕ) → p < f.processes → (part : Part Message S) (q : Queues S K) → StandsFor f.rules is_value (f.opening p) part q → q.left ≡ 0 →
       (ps : List (Queues S K)) → ps ≡ set held.processes p q →
       StandsForWorld f is_value (with_part f p part w) (record { processes = ps; mail = held.mail; floors = held.floors; gvt = held.gvt; until = held.until })
-  with_part-stands p i part q s ps e = record {
+  with_part-stands p i part q s none ps e = record {
     count = ap length e ∙ (length-set held.processes p q ∙ h.count);
     parts = λ k o d. parts-set p i part q s k o (subst (λ z. slice_get z k ≡ Some o) e d);
+    whole = λ k o d. whole-set p i q none k o (subst (λ z. slice_get z k ≡ Some o) e d);
     boxes = h.boxes;
     mail = h.mail;
     floor_count = h.floor_count;

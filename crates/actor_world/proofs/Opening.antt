@@ -67,9 +67,8 @@ module _ {S K : Type 0} (r : Rules Message S K Note) (is_value : S → Message �
   opens x actors offers o ps made mail boxes letters floors floor_count each gvt zero-is until until-is =
       record {
         count = opened-count actors ps made ∙ o.actors_open.count;
-        parts = λ p q e.
-            let i : p < x.processes = let a = slice_get_within ps p q e in let b = opened-count actors ps made in let k = o.actors_open.count in omega arith in
-            opened-each actors ps made p (x.opening p) q (o.actors_open.each p i) e;
+        parts = stands;
+        whole = λ p q e. let none = (stands p q e).sealed in omega arith;
         boxes = boxes ∙ o.actors_open.count;
         mail = λ p i. letters p ∙ ap (λ ms. received_by r p (map plus_of ms)) o.offered;
         floor_count = floor_count ∙ o.actors_open.count;
@@ -77,3 +76,8 @@ module _ {S K : Type 0} (r : Rules Message S K Note) (is_value : S → Message �
         gvt = zero-is;
         until = until-is;
       }
+    where
+      stands : (p : ℕ) (q : Queues S K) → slice_get ps p ≡ Some q → StandsFor r is_value (x.opening p) (opened (x.opening p)) q
+      stands p q e =
+          let i : p < x.processes = let a = slice_get_within ps p q e in let b = opened-count actors ps made in let k = o.actors_open.count in omega arith in
+          opened-each actors ps made p (x.opening p) q (o.actors_open.each p i) e

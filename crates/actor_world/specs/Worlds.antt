@@ -32,6 +32,8 @@ AreOpened r is_value (actor ∷ actors) [] = ⊥
 pub record StandsForWorld {S K : Type 0} (f : Simulation Message S K Note) (is_value : S → Message → Type 0) (w : World Message S) (held : Holdings S K) : Type 0 where
   pub count : length held.processes ≡ f.processes
   pub parts : (p : ℕ) (q : Queues S K) → slice_get held.processes p ≡ Some q → StandsFor f.rules is_value (f.opening p) (w.parts p) q
+  -- no row has left
+  pub whole : (p : ℕ) (q : Queues S K) → slice_get held.processes p ≡ Some q → q.left ≡ 0
   pub boxes : length held.mail ≡ f.processes
   pub mail : (p : ℕ) → p < f.processes → letters_for p held.mail ≡ w.mail p
   pub floor_count : length held.floors ≡ f.processes

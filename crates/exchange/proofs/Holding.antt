@@ -43,9 +43,9 @@ module _ {S K : Type 0} {r : Rules Message S K Note} {number end : S → ℕ} {i
       (h : Holds r number end is_placed x is_value pages table p seen block last q) (L : Laws (simulation_of r x)) where
     -- it does one step more
     pub holds-moved : (m : Move) → can_move (simulation_of r x) seen m (local r (x.opening p) (map act_by block) (after_own (simulation_of r x) p (own_of last))) ≡ true →
-        (q' : Queues S K) → StandsFor r is_value (x.opening p) (acted r (x.opening p) (act_by m) (local r (x.opening p) (map act_by block) (after_own (simulation_of r x) p (own_of last)))) q' →
+        (q' : Queues S K) → StandsFor r is_value (x.opening p) (acted r (x.opening p) (act_by m) (local r (x.opening p) (map act_by block) (after_own (simulation_of r x) p (own_of last)))) q' → q'.left ≡ q.left →
         (block' : List Move) → block' ≡ block ++ m ∷ [] → Holds r number end is_placed x is_value pages table p seen block' last q'
-    holds-moved m can q' stands block' longer =
+    holds-moved m can q' stands kept block' longer =
         let f = simulation_of r x in
         let base = after_own f p (own_of last) in
         let part = local r (x.opening p) (map act_by block) base in
@@ -54,6 +54,7 @@ module _ {S K : Type 0} {r : Rules Message S K Note} {number end : S → ℕ} {i
           laid = h.laid;
           same = h.same;
           number_is = h.number_is;
+          whole = kept ∙ h.whole;
           stands = subst (λ z. StandsFor r is_value (x.opening p) z q') (sym next) stands;
           safe = subst (λ z. IsSafePart f p seen z) (sym next) (acted-safe f L p seen h.number_is (act_by m) part h.safe (may-move f seen m part can));
           enabled = enabled-push f (x.opening p) seen block m base h.enabled can;
@@ -62,9 +63,9 @@ module _ {S K : Type 0} {r : Rules Message S K Note} {number end : S → ℕ} {i
 
     -- its block goes to the journal
     pub holds-posted : (last' : Option EntryPlace) → IsLast pages last' → own_of last' ≡ own_of last ++ acts_of (Posted block) →
-        (q' : Queues S K) → StandsFor r is_value (x.opening p) (emptied (local r (x.opening p) (map act_by block) (after_own (simulation_of r x) p (own_of last)))) q' →
+        (q' : Queues S K) → StandsFor r is_value (x.opening p) (emptied (local r (x.opening p) (map act_by block) (after_own (simulation_of r x) p (own_of last)))) q' → q'.left ≡ q.left →
         (block' : List Move) → block' ≡ [] → Holds r number end is_placed x is_value pages table p seen block' last' q'
-    holds-posted last' is-last own q' stands block' none =
+    holds-posted last' is-last own q' stands kept block' none =
         let f = simulation_of r x in
         let base = after_own f p (own_of last) in
         let part = local r (x.opening p) (map act_by block) base in
@@ -74,6 +75,7 @@ module _ {S K : Type 0} {r : Rules Message S K Note} {number end : S → ℕ} {i
           laid = h.laid;
           same = h.same;
           number_is = h.number_is;
+          whole = kept ∙ h.whole;
           stands = subst (λ z. StandsFor r is_value (x.opening p) z q') (sym next) stands;
           safe = subst (λ z. IsSafePart f p seen z) (sym next) (acted-safe f L p seen h.number_is Emptying part h.safe tt);
           enabled = tt;
@@ -95,14 +97,15 @@ module _ {S K : Type 0} {r : Rules Message S K Note} {number end : S → ℕ} {i
 
     -- it saw the GVT of the journal, and has no block
     pub holds-seen : Laws (simulation_of r x) → (is_value : S → Message → Type 0) (p : ℕ) → p < x.processes → (last : Option EntryPlace) → IsLast pages last →
-        own_of last ≡ own_in p (entries_of ts) → (q : Queues S K) → StandsFor r is_value (x.opening p) (after_own (simulation_of r x) p (own_of last)) q →
+        own_of last ≡ own_in p (entries_of ts) → (q : Queues S K) → StandsFor r is_value (x.opening p) (after_own (simulation_of r x) p (own_of last)) q → q.left ≡ 0 →
         (block : List Move) → block ≡ [] → Holds r number end is_placed x is_value pages table p gvt block last q
-    holds-seen L is_value p i last is-last mine q stands block none =
+    holds-seen L is_value p i last is-last mine q stands whole block none =
         let f = simulation_of r x in
         subst (λ b. Holds r number end is_placed x is_value pages table p gvt b last q) (sym none) (record {
           laid = k.laid;
           same = k.same;
           number_is = i;
+          whole = whole;
           stands = stands;
           safe = subst (λ z. IsSafePart f p gvt z) (sym (world-part p last mine))
               (subst (λ g. IsSafePart f p g ((reach f (entries_of ts)).parts p)) (sym k.gvt_is) (world-safe f L (steps (entries_of ts)) p i));

@@ -92,16 +92,17 @@ module _ {S K : Type 0} {r : Rules Message S K Note} {number end : S → ℕ} {i
         at : (p : ℕ) → p < x.processes → book_of books p ≡ blank
         at p i = ap (λ bs. book_of bs p) blanks ∙ get_or-replicate x.processes p blank blank i
 
-    pub holds-opened : Laws (simulation_of r x) → (is_value : S → Message → Type 0) (p : ℕ) → p < x.processes → (q : Queues S K) → StandsFor r is_value (x.opening p) (opened (x.opening p)) q →
+    pub holds-opened : Laws (simulation_of r x) → (is_value : S → Message → Type 0) (p : ℕ) → p < x.processes → (q : Queues S K) → StandsFor r is_value (x.opening p) (opened (x.opening p)) q → q.left ≡ 0 →
         (block : List Move) → block ≡ [] → (last : Option EntryPlace) → last ≡ None → (seen : ℕ) → seen ≡ 0 → Holds r number end is_placed x is_value pages table p seen block last q
     unfolding run
-    holds-opened L is_value p i q stands block none last nothing seen zero-is =
+    holds-opened L is_value p i q stands whole block none last nothing seen zero-is =
         subst (λ b. Holds r number end is_placed x is_value pages table p seen b last q) (sym none)
         (subst (λ l. Holds r number end is_placed x is_value pages table p seen [] l q) (sym nothing)
         (subst (λ s. Holds r number end is_placed x is_value pages table p s [] None q) (sym zero-is) (record {
           laid = laid;
           same = same;
           number_is = i;
+          whole = whole;
           stands = stands;
           safe = world-safe (simulation_of r x) L [] p i;
           enabled = tt;

@@ -63,15 +63,16 @@ module _ {S K : Type 0} {r : Rules Message S K Note} {number end : S → ℕ} {i
 
     -- what the Held keeps
     pub holds-taken : {mail' : List Store} {floors' : Floors} {count' : ℕ} {books' : List Mark} → IsRecorded r number end is_placed x pages table ts' mail' floors' gvt count' books' → Laws (simulation_of r x) → count' ≤ 67108864 →
-        (q₁ q' : Queues S K) → q₁ ≡ q → Does r is_value (λ opening. delivered_all (take n (letters_for p mail))) q₁ q' →
+        (q₁ q' : Queues S K) → q₁ ≡ q → Does r is_value (λ opening. delivered_all (take n (letters_for p mail))) q₁ q' → q'.left ≡ q₁.left →
         Holds r number end is_placed x is_value pages table' p gvt block (Some (record { number = at; tokens = t })) q'
-    holds-taken kept L few q₁ q' same does =
+    holds-taken kept L few q₁ q' same does left =
         let f = simulation_of r x in
         let here : at < 2 ^ 26 = let a = kept.enough in let b = ap length more ∙ length-append ts (t ∷ []) in omega arith in
         holds-at (holds-seen kept L is_value p h.number_is (Some (record { number = at; tokens = t })) (subst (λ m. IsAt pages m t) (sym at-is) new.at, here)
         (own-now new refl ∙ ap (λ us. own_in p (entries_of us)) (sym more)) q'
         (stands-collected f is_value p (own_of last) (entry_own t.cell.value) block (take n (letters_for p mail)) q q' none own h.stands
         (subst (λ z. Does r is_value (λ opening. delivered_all (take n (letters_for p mail))) z q') same does))
+        (left ∙ (ap (λ (z : Queues S K). z.left) same ∙ h.whole))
         block none)
         table' h.same
 

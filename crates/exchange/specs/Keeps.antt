@@ -80,12 +80,13 @@ module _ {S K : Type 0} (r : Rules Message S K Note) (number end : S → ℕ) (i
     pub parts_is : (q : ℕ) → (reach (simulation_of r x) (entries_of ts)).parts q ≡ after_own (simulation_of r x) q (own_in q (entries_of ts))
     pub booked : AreBooked x.processes ts gvt books
 
-  -- a Held: it stands for what its last entry and then its block make of it, in which each step could be done at the GVT that it saw, and
-  -- it is safe below that
+  -- a Held, which no row has left: it stands for what its last entry and then its block make of it, in which each step could be done at the
+  -- GVT that it saw, and it is safe below that
   pub record Holds (is_value : S → Message → Type 0) (pages table : List ℕ) (p seen : ℕ) (block : List Move) (last : Option EntryPlace) (q : Queues S K) : Type 0 where
     pub laid : IsLaidOut r number end is_placed x
     pub same : table ≡ pages
     pub number_is : p < x.processes
+    pub whole : q.left ≡ 0
     pub stands : StandsFor r is_value (x.opening p) (local r (x.opening p) (map act_by block) (after_own (simulation_of r x) p (own_of last))) q
     pub safe : IsSafePart (simulation_of r x) p seen (local r (x.opening p) (map act_by block) (after_own (simulation_of r x) p (own_of last)))
     pub enabled : AreEnabled (simulation_of r x) (x.opening p) seen block (after_own (simulation_of r x) p (own_of last))

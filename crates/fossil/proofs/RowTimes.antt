@@ -14,7 +14,7 @@ use Rattle.virtual_time.proofs.Order.{less-time}
 use Rattle.virtual_time.proofs.Lists.{in-head}
 use Rattle.virtual_time.proofs.Ascending.{ascending-filter, ascending-left}
 use Rattle.virtual_time.proofs.OneThread.{right}
-use Rattle.fossil.specs.Within.{AreInTime}
+use Rattle.fossil.specs.Within.{AreFrom, AreInTime}
 
 -- one in front of such as are not less
 rises-cons : {X : Type 0} (n : X → ℕ) (x : X) (xs : List X) → All (λ y. n x ≤ n y) xs → IsNonDecreasingBy n xs → IsNonDecreasingBy n (x ∷ xs)
@@ -24,23 +24,19 @@ rises-cons n x xs least up (suc i) zero d k j = absurd (omega arith)
 rises-cons n x xs least up (suc i) (suc j) d k l = up i j d (omega arith) (omega arith)
 
 module _ {M S K N : Type 0} (r : Rules M S K N) where
-  -- the rows are of a moment or later
-  abbrev AreFrom : ℕ → List (Row M N) → Type 0
-  AreFrom t rows = All (λ row. t ≤ r.time row.message) rows
-
-  event-from : (t : ℕ) (m : M) (ns : List N) (rows : List (Row M N)) → t ≤ r.time m → AreFrom t rows → AreFrom t (rows_of r m ns ++ rows)
+  event-from : (t : ℕ) (m : M) (ns : List N) (rows : List (Row M N)) → t ≤ r.time m → AreFrom r t rows → AreFrom r t (rows_of r m ns ++ rows)
   event-from t m [] rows le h = h
   event-from t m (n ∷ ns) rows le h =
       All-cons (λ row. t ≤ r.time row.message) (record { message = m; place = r.receiver m; note = n }) (rows_of r m ns ++ rows) le (event-from t m ns rows le h)
 
-  event-rises : (m : M) (ns : List N) (rows : List (Row M N)) → AreFrom (r.time m) rows → AreInTime r rows → AreInTime r (rows_of r m ns ++ rows)
+  event-rises : (m : M) (ns : List N) (rows : List (Row M N)) → AreFrom r (r.time m) rows → AreInTime r rows → AreInTime r (rows_of r m ns ++ rows)
   event-rises m [] rows h up = up
   event-rises m (n ∷ ns) rows h up =
       rises-cons (λ row. r.time row.message) (record { message = m; place = r.receiver m; note = n }) (rows_of r m ns ++ rows)
       (event-from (r.time m) m ns rows (omega arith) h) (event-rises m ns rows h up)
 
   module _ (O : IsOrder r) where
-    rows-from : (t : ℕ) (s : S) (ms : List M) → ((m : M) → IsIn r m ms → t ≤ r.time m) → AreFrom t (rowed r s ms)
+    rows-from : (t : ℕ) (s : S) (ms : List M) → ((m : M) → IsIn r m ms → t ≤ r.time m) → AreFrom r t (rowed r s ms)
     rows-from t s [] h = All-nil (λ row. t ≤ r.time row.message)
     rows-from t s (m ∷ ms) h =
         event-from t m (r.notes s m) (rowed r (r.after s m) ms) (h m (in-head r O m ms))

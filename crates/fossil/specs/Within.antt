@@ -1,5 +1,5 @@
 -- Rows of a process that are of moments from one on and before another. Times are in ns.
-use Rattle.std.specs.Prelude.{ℕ, ◌&&◌, nat_le, nat_lt, Bool, List, filter}
+use Rattle.std.specs.Prelude.{ℕ, ◌&&◌, ◌<◌, ◌≤◌, nat_le, nat_lt, Bool, List, All, filter, take}
 use Rattle.std.specs.List.Sorted.{IsNonDecreasingBy}
 use Rattle.virtual_time.specs.Rules.{Rules, Row}
 
@@ -11,6 +11,14 @@ module _ {M S K N : Type 0} (r : Rules M S K N) where
   -- the rows of such messages, in their order
   abbrev pub rows_within : ℕ → ℕ → List (Row M N) → List (Row M N)
   rows_within from to rows = filter (λ row. is_within from to row.message) rows
+
+  -- the first rows, so many, are of moments before one
+  abbrev pub AreFirstBefore : ℕ → ℕ → List (Row M N) → Type 0
+  AreFirstBefore moment count rows = All (λ row. r.time row.message < moment) (take count rows)
+
+  -- the rows are of a moment or later
+  abbrev pub AreFrom : ℕ → List (Row M N) → Type 0
+  AreFrom moment rows = All (λ row. moment ≤ r.time row.message) rows
 
   -- the moments of the rows do not fall
   abbrev pub AreInTime : List (Row M N) → Type 0

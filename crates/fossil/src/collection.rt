@@ -29,6 +29,7 @@ pub fn commit<R: Actor>(process: &mut Process<R>, gvt: Time, n: u64) -> Result<u
     ensures within { IfOk result (λ count. count ≤ n) }
     ensures none { IfOk result (λ count. count ≡ 0 → process.new.queues ≡ process.old.queues) }
     ensures tray { process.new.queues.tray ≡ process.old.queues.tray }
+    ensures left { process.new.queues.left ≡ process.old.queues.left }
     ensures outbox { process.new.queues.outbox ≡ process.old.queues.outbox }
     ensures unchanged { OnErr result (process.new.queues ≡ process.old.queues) }
     ensures reserved { OnErr result ((opening : R) (part : Part Message R) →
@@ -58,6 +59,7 @@ pub fn commit_oldest<R: Actor>(process: &mut Process<R>, gvt: Time) -> Result<bo
         StandsFor (rules_of R.plain R.counter) R.is_value opening part process.old.queues → is_ready (rules_of R.plain R.counter) gvt part ≡ true) }
     ensures none { result ≡ Ok false → process.new.queues ≡ process.old.queues }
     ensures tray { process.new.queues.tray ≡ process.old.queues.tray }
+    ensures left { process.new.queues.left ≡ process.old.queues.left }
     ensures outbox { process.new.queues.outbox ≡ process.old.queues.outbox }
     ensures unchanged { OnErr result (process.new.queues ≡ process.old.queues) }
 {

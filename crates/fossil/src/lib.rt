@@ -6,4 +6,4 @@ mod collection;
 mod rows;
 
 pub use collection::{commit, commit_oldest};
-pub use rows::rows_between;
+pub use rows::{let_rows_go, rows_between};

@@ -1,13 +1,13 @@
-//! Some rows of the committed events.
-ghost use Rattle.std.specs.Prelude.{◌≡◌, ◌≤◌, length, map, nat_lt, true, false};
+//! The rows of the committed events: those between two moments, and those that leave.
+ghost use Rattle.std.specs.Prelude.{◌≡◌, ◌+◌, ◌<◌, ◌≤◌, ◌^◌, ℕ, length, map, nat_lt, true, false};
 ghost use Rattle.std.specs.List.Sorted.{IsNonDecreasingBy, IsPartitionPoint};
 ghost use Rattle.vlink.specs.declared.message.Message.{Message};
 ghost use Rattle.virtual_time.specs.Rules.{rowed};
 ghost use Rattle.virtual_time.specs.Part.{Part};
 ghost use Rattle.reverse.specs.Rules.{rules_of};
 ghost use Rattle.process_queues.specs.Past.{seen_row};
-ghost use Rattle.process_queues.specs.Queues.{StandsFor};
-ghost use Rattle.fossil.specs.Within.{rows_within, AreInTime};
+ghost use Rattle.process_queues.specs.Queues.{StandsFor, Does, rows_there};
+ghost use Rattle.fossil.specs.Within.{rows_within, AreInTime, AreFirstBefore, AreFrom};
 
 use process_queues::Process;
 use reverse::Actor;
@@ -15,16 +15,47 @@ use vlink::{Row, Time};
 
 /// The rows of committed events of the moments from `from` on and before `to`, in their order, where the moments of all rows of committed events
 /// do not fall, as those of a process do that is safe. It takes no memory, and its time goes by the logarithm of their number.
+///
+/// - `there`: they are such rows of those that have not left.
+/// - `whole`: where no row has left but such as are earlier than `from`, they are all such rows.
 pub fn rows_between<R: Actor>(process: &Process<R>, from: Time, to: Time) -> &[Row]
     requires { (opening : R) × (part : Part Message R) × StandsFor (rules_of R.plain R.counter) R.is_value opening part process.now.queues
         × AreInTime (rules_of R.plain R.counter) (rowed (rules_of R.plain R.counter) opening part.committed) }
-    ensures { (opening : R) (part : Part Message R) → StandsFor (rules_of R.plain R.counter) R.is_value opening part process.now.queues →
+    ensures there { (opening : R) (part : Part Message R) → StandsFor (rules_of R.plain R.counter) R.is_value opening part process.now.queues →
+        map seen_row result.now ≡ rows_within (rules_of R.plain R.counter) from to (rows_there (rules_of R.plain R.counter) opening part process.now.queues) }
+    ensures whole { (opening : R) (part : Part Message R) → StandsFor (rules_of R.plain R.counter) R.is_value opening part process.now.queues →
+        AreFirstBefore (rules_of R.plain R.counter) from process.now.queues.left (rowed (rules_of R.plain R.counter) opening part.committed) →
         map seen_row result.now ≡ rows_within (rules_of R.plain R.counter) from to (rowed (rules_of R.plain R.counter) opening part.committed) }
 {
     let rows = process.sealed();
     let begin = count_before(rows, from);
     let end = count_before(rows, to).max(begin);
     &rows[begin..end]
+}
+
+/// The rows of committed events that are earlier than a moment, in ns, leave. It takes no memory.
+///
+/// - `stands`: the process stands for what it stood for.
+/// - `gone`: how many leave, all of them earlier than the moment.
+/// - `early`: where all rows that had left are earlier than a limit that is not before the moment, so are all that have left.
+/// - `late`: those that are still there are of the moment or later, where all rows of committed events are fewer than 2^64.
+pub fn let_rows_go<R: Actor>(process: &mut Process<R>, moment: Time)
+    requires { (opening : R) × (part : Part Message R) × StandsFor (rules_of R.plain R.counter) R.is_value opening part process.old.queues
+        × AreInTime (rules_of R.plain R.counter) (rowed (rules_of R.plain R.counter) opening part.committed) }
+    ensures stands { Does (rules_of R.plain R.counter) R.is_value (λ opening part. part) process.old.queues process.new.queues }
+    ensures gone { (opening : R) (part : Part Message R) → StandsFor (rules_of R.plain R.counter) R.is_value opening part process.old.queues →
+        (count : ℕ) × (process.new.queues.left ≡ process.old.queues.left + count)
+        × AreFirstBefore (rules_of R.plain R.counter) moment count (rows_there (rules_of R.plain R.counter) opening part process.old.queues) }
+    ensures early { (opening : R) (part : Part Message R) → StandsFor (rules_of R.plain R.counter) R.is_value opening part process.old.queues →
+        (limit : ℕ) → moment ≤ limit →
+        AreFirstBefore (rules_of R.plain R.counter) limit process.old.queues.left (rowed (rules_of R.plain R.counter) opening part.committed) →
+        AreFirstBefore (rules_of R.plain R.counter) limit process.new.queues.left (rowed (rules_of R.plain R.counter) opening part.committed) }
+    ensures late { (opening : R) (part : Part Message R) → StandsFor (rules_of R.plain R.counter) R.is_value opening part process.old.queues →
+        length (rowed (rules_of R.plain R.counter) opening part.committed) < 2 ^ 64 →
+        AreFrom (rules_of R.plain R.counter) moment (rows_there (rules_of R.plain R.counter) opening part process.new.queues) }
+{
+    let count = count_before(process.sealed(), moment);
+    let _gone = process.let_rows_go(count);
 }
 
 /// How many of these rows, whose moments do not fall, are earlier than a moment.

@@ -31,7 +31,7 @@ module _ {S K : Type 0} (r : Rules Message S K Note) (R : OfMessages r) (is_valu
       StaysPut r is_value opening part q h R (signed l)
   stays-put (inl e) = inl (not_turned r R (signed l) part.tally tally agrees e)
   stays-put (inr a) = inr (after-all r R.order part.done l.message h.past.ascending
-      (subst (λ ds. is_after r (newest_of ds) l.message ≡ true) (done-messages r is_value opening part q.past h.past) a))
+      (subst (λ ds. is_after r (newest_of ds) l.message ≡ true) (done-messages r is_value opening _ part q.past h.past) a))
 
   pub turns : change_by message_rules (signed l) tally ≢ Same → is_turned r (signed l) part.tally ≡ true
   turns n = turned r R (signed l) part.tally tally agrees n

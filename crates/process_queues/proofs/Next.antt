@@ -23,7 +23,7 @@ module _ {S K : Type 0} (r : Rules Message S K Note) (R : OfMessages r) (is_valu
     (h : StandsFor r is_value opening part q) where
   -- the newest done event
   newest-same : newest_of (map (λ e. e.message) q.past.done) ≡ newest_of part.done
-  newest-same = ap newest_of (done-messages r is_value opening part q.past h.past)
+  newest-same = ap newest_of (done-messages r is_value opening _ part q.past h.past)
 
   after-same : (o : Option Message) (m : Message) → is_after message_rules o m ≡ is_after r o m
   after-same None m = refl

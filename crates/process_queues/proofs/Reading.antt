@@ -1,7 +1,7 @@
 -- What of a process can be read, by the part that it stands for.
 use Rattle.std.proofs.Common.{◌≡◌, ℕ, suc, ◌+◌, ◌≤◌, min, List, [], ◌∷◌, ◌++◌, length, map, take, Some, None, slice_get, refl, sym, ap, ◌∙◌, arith}
 use Rattle.std.specs.Option.{option_map}
-use Rattle.std.proofs.lemmas.List.{length-append}
+use Rattle.std.proofs.lemmas.List.{length-append, length-drop}
 use Rattle.vlink.specs.declared.message.Message.{Message}
 use Rattle.vlink.specs.declared.message.Letter.{Letter}
 use Rattle.antimessages.specs.Letters.{signed}
@@ -14,7 +14,7 @@ use Rattle.virtual_time.proofs.Lowest.{lowest-top, lowest-message, lowest-messag
 use Rattle.virtual_time.proofs.Order.{not_less-time}
 use Rattle.process_queues.specs.declared.past.Event.{Event}
 use Rattle.process_queues.specs.Past.{event_of, events_of}
-use Rattle.process_queues.specs.Queues.{Queues, StandsFor}
+use Rattle.process_queues.specs.Queues.{Queues, StandsFor, rows_there}
 use Rattle.process_queues.proofs.Pasts.{front-of}
 
 some-same : {A : Type 0} (a b : A) → Some a ≡ Some b → a ≡ b
@@ -45,15 +45,19 @@ module _ {S K : Type 0} (r : Rules Message S K Note) (is_value : S → Message �
       go s [] k = refl
       go s (m ∷ ms) k = cc
 
-  -- the rows of the committed events are the first ones
-  pub sealed-rows : take q.sealed q.past.rows ≡ rowed r opening part.committed
-  sealed-rows = ap (take q.sealed) h.past.past_of.rows ∙ front-of (rowed r opening part.committed) _ q.sealed h.sealed
+  -- so many rows of committed events are still there
+  still-there : q.sealed ≡ length (rows_there r opening part q)
+  still-there = let k = h.sealed in let d = length-drop q.left (rowed r opening part.committed) in omega arith
+
+  -- those are the first ones
+  pub sealed-rows : take q.sealed q.past.rows ≡ rows_there r opening part q
+  sealed-rows = ap (take q.sealed) h.past.past_of.rows ∙ front-of (rows_there r opening part q) _ q.sealed still-there
 
   pub sealed-within : q.sealed ≤ length q.past.rows
   sealed-within =
       let a = ap length h.past.past_of.rows in
-      let b = h.sealed in
-      let c = length-append (rowed r opening part.committed) (rowed r (reached r opening part.committed) part.done) in
+      let b = still-there in
+      let c = length-append (rows_there r opening part q) (rowed r (reached r opening part.committed) part.done) in
       omega arith
 
 module _ {S K : Type 0} (r : Rules Message S K Note) (O : IsOrder r) (until : ℕ) (part : Part Message S) where

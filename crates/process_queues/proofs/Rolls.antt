@@ -2,7 +2,7 @@
 use Rattle.std.proofs.Common.{◌≡◌, ◌++◌, true, false, List, [], ◌∷◌, map, reverse, refl, sym, ap, ◌∙◌, subst}
 use Rattle.vlink.specs.declared.message.Message.{Message}
 use Rattle.vlink.specs.declared.note.Note.{Note}
-use Rattle.virtual_time.specs.Rules.{Rules, IsOrder, reached, rowed}
+use Rattle.virtual_time.specs.Rules.{Rules, IsOrder, reached}
 use Rattle.virtual_time.specs.Letters.{Letter as Signed, minus_of}
 use Rattle.virtual_time.specs.Lists.{IsAscending}
 use Rattle.virtual_time.specs.Part.{Part, rolled_back}
@@ -10,56 +10,56 @@ use Rattle.virtual_time.proofs.Rolling.{last_undone, roll-last, roll-none}
 use Rattle.virtual_time.proofs.Handling.{reached-append}
 use Rattle.virtual_time.proofs.Ascending.{ascending-left}
 use Rattle.antimessages.specs.Counting.{is_after}
-use Rattle.process_queues.specs.Past.{Past, IsPastOf, BelongsTo, LastDone, newest_of}
+use Rattle.process_queues.specs.Past.{Past, Rows, IsPastOf, BelongsTo, LastDone, newest_of}
 use Rattle.process_queues.proofs.Newest.{after-all, not_after-end}
 use Rattle.process_queues.proofs.Pasts.{messages-of}
 
-module _ {S K : Type 0} (r : Rules Message S K Note) (is_value : S → Message → Type 0) (opening : S) (m : Message) where
+module _ {S K : Type 0} (r : Rules Message S K Note) (is_value : S → Message → Type 0) (opening : S) (there : Rows) (m : Message) where
   -- a rollback to m on its way: the past and the letters are those of a part from which rollback makes the same as from the first one
   pub record Rolls (part : Part Message S) (past : Past S K) (letters : List (Signed Message)) : Type 0 where
     pub now : Part Message S
-    pub belongs : BelongsTo r is_value opening now past
+    pub belongs : BelongsTo r is_value opening there now past
     pub outbox : letters ≡ now.outbox
     pub same : rolled_back r opening m now ≡ rolled_back r opening m part
 
-  pub rolls-none : (part : Part Message S) (past : Past S K) (letters : List (Signed Message)) → BelongsTo r is_value opening part past → letters ≡ part.outbox →
+  pub rolls-none : (part : Part Message S) (past : Past S K) (letters : List (Signed Message)) → BelongsTo r is_value opening there part past → letters ≡ part.outbox →
       Rolls part past letters
   rolls-none part past letters b o = record { now = part; belongs = b; outbox = o; same = refl }
 
-module _ {S K : Type 0} (r : Rules Message S K Note) (is_value : S → Message → Type 0) (opening : S) where
+module _ {S K : Type 0} (r : Rules Message S K Note) (is_value : S → Message → Type 0) (opening : S) (there : Rows) where
   -- the messages of the done events
-  pub done-messages : (part : Part Message S) (past : Past S K) → BelongsTo r is_value opening part past → map (λ e. e.message) past.done ≡ part.done
+  pub done-messages : (part : Part Message S) (past : Past S K) → BelongsTo r is_value opening there part past → map (λ e. e.message) past.done ≡ part.done
   done-messages part past b = ap (map (λ e. e.message)) b.past_of.done ∙ messages-of r (reached r opening part.committed) part.done
 
-module _ {S K : Type 0} (r : Rules Message S K Note) (O : IsOrder r) (is_value : S → Message → Type 0) (opening : S) (m : Message) where
+module _ {S K : Type 0} (r : Rules Message S K Note) (O : IsOrder r) (is_value : S → Message → Type 0) (opening : S) (there : Rows) (m : Message) where
   -- where m does not come after the newest event, there is one, which it does not come after
   pub record IsLate (part : Part Message S) (past : Past S K) : Type 0 where
     pub front : List Message
     pub event : Message
     pub done : part.done ≡ front ++ event ∷ []
     pub late : r.less event m ≡ false
-    pub past_of : IsPastOf r is_value (reached r opening part.committed) (front ++ event ∷ []) (rowed r opening part.committed) past
+    pub past_of : IsPastOf r is_value (reached r opening part.committed) (front ++ event ∷ []) there past
 
-  pub is-late : (part : Part Message S) (past : Past S K) → BelongsTo r is_value opening part past →
+  pub is-late : (part : Part Message S) (past : Past S K) → BelongsTo r is_value opening there part past →
       is_after r (newest_of (map (λ e. e.message) past.done)) m ≡ false → IsLate part past
   is-late part past b a =
-      let k = not_after-end r O part.done m (subst (λ ds. is_after r (newest_of ds) m ≡ false) (done-messages r is_value opening part past b) a) in
+      let k = not_after-end r O part.done m (subst (λ ds. is_after r (newest_of ds) m ≡ false) (done-messages r is_value opening there part past b) a) in
       record {
         front = k.0;
         event = k.1;
         done = k.2;
         late = k.3;
-        past_of = subst (λ ds. IsPastOf r is_value (reached r opening part.committed) ds (rowed r opening part.committed) past) k.2 b.past_of;
+        past_of = subst (λ ds. IsPastOf r is_value (reached r opening part.committed) ds there past) k.2 b.past_of;
       }
 
   pub late-last : (part : Part Message S) (past : Past S K) → IsLate part past → LastDone r is_value past
-  late-last part past l = (reached r opening part.committed, l.front, l.event, rowed r opening part.committed, l.past_of)
+  late-last part past l = (reached r opening part.committed, l.front, l.event, there, l.past_of)
 
   -- the newest event is undone
   pub belongs-less : ((s : S) → (e : Message) → r.undo (r.after s e) e (r.kept s e) ≡ s) →
-      (part : Part Message S) (past past' : Past S K) (b : BelongsTo r is_value opening part past) (l : IsLate part past) →
-      IsPastOf r is_value (reached r opening part.committed) l.front (rowed r opening part.committed) past' →
-      BelongsTo r is_value opening (last_undone r O opening part l.front l.event) past'
+      (part : Part Message S) (past past' : Past S K) (b : BelongsTo r is_value opening there part past) (l : IsLate part past) →
+      IsPastOf r is_value (reached r opening part.committed) l.front there past' →
+      BelongsTo r is_value opening there (last_undone r O opening part l.front l.event) past'
   belongs-less law part past past' b l h = record {
     past_of = h;
     state = ap (λ z. r.undo z l.event (r.kept (reached r opening (part.committed ++ l.front)) l.event)) now ∙
@@ -72,10 +72,10 @@ module _ {S K : Type 0} (r : Rules Message S K Note) (O : IsOrder r) (is_value :
       now = b.state ∙ (l.past_of.state ∙ reached-append r (reached r opening part.committed) l.front (l.event ∷ []))
 
   pub rolls-more : ((s : S) → (e : Message) → r.undo (r.after s e) e (r.kept s e) ≡ s) →
-      (part : Part Message S) (past past' : Past S K) (letters letters' : List (Signed Message)) (h : Rolls r is_value opening m part past letters) →
-      (l : IsLate h.now past) → IsPastOf r is_value (reached r opening h.now.committed) l.front (rowed r opening h.now.committed) past' →
+      (part : Part Message S) (past past' : Past S K) (letters letters' : List (Signed Message)) (h : Rolls r is_value opening there m part past letters) →
+      (l : IsLate h.now past) → IsPastOf r is_value (reached r opening h.now.committed) l.front there past' →
       letters' ≡ letters ++ map minus_of (reverse (r.sends (reached r (reached r opening h.now.committed) l.front) l.event)) →
-      Rolls r is_value opening m part past' letters'
+      Rolls r is_value opening there m part past' letters'
   rolls-more law part past past' letters letters' h l p e = record {
     now = last_undone r O opening h.now l.front l.event;
     belongs = belongs-less law h.now past past' h.belongs l p;
@@ -86,8 +86,8 @@ module _ {S K : Type 0} (r : Rules Message S K Note) (O : IsOrder r) (is_value :
   }
 
   -- where m comes after all done events, the rollback is at its end
-  pub rolls-end : (part : Part Message S) (past : Past S K) (letters : List (Signed Message)) → (h : Rolls r is_value opening m part past letters) →
+  pub rolls-end : (part : Part Message S) (past : Past S K) (letters : List (Signed Message)) → (h : Rolls r is_value opening there m part past letters) →
       is_after r (newest_of (map (λ e. e.message) past.done)) m ≡ true → h.now ≡ rolled_back r opening m part
   rolls-end part past letters h a =
       sym (roll-none r O opening h.now m (after-all r O h.now.done m h.belongs.ascending
-      (subst (λ ds. is_after r (newest_of ds) m ≡ true) (done-messages r is_value opening h.now past h.belongs) a))) ∙ h.same
+      (subst (λ ds. is_after r (newest_of ds) m ≡ true) (done-messages r is_value opening there h.now past h.belongs) a))) ∙ h.same

@@ -1,7 +1,7 @@
 -- What each act of a process makes of the part that its queues stand for.
-use Rattle.std.proofs.Common.{◌≡◌, ℕ, ◌+◌, ◌⊎◌, inl, inr, Bool, true, false, not, cond, List, [], ◌∷◌, ◌++◌, length, map, Some, refl, sym, ap, ◌∙◌, subst, arith, append_assoc, append-nil}
+use Rattle.std.proofs.Common.{◌≡◌, ℕ, ◌+◌, ◌-◌, ◌≤◌, ◌⊎◌, inl, inr, Bool, true, false, not, cond, List, [], ◌∷◌, ◌++◌, length, map, drop, Some, refl, sym, ap, ◌∙◌, subst, arith, append_assoc, append-nil}
 use Rattle.std.specs.Prelude.{⊤}
-use Rattle.std.proofs.lemmas.List.{length-append}
+use Rattle.std.proofs.lemmas.List.{length-append, length-drop, drop-drop, drop-append-le}
 use Rattle.std.proofs.lemmas.Bool.{not_from_true}
 use Rattle.vlink.specs.declared.message.Message.{Message}
 use Rattle.vlink.specs.declared.note.Note.{Note}
@@ -17,14 +17,14 @@ use Rattle.virtual_time.proofs.WellStep.{opened-well, delivered-well, emptied-we
 use Rattle.virtual_time.proofs.WellArrive.{arrive-well}
 use Rattle.virtual_time.proofs.WellRun.{run-well}
 use Rattle.virtual_time.proofs.WellSeal.{seal-well}
-use Rattle.process_queues.specs.Past.{Past, IsPastOf, BelongsTo, handled_past, rows_by}
-use Rattle.process_queues.specs.Queues.{Queues, StandsFor, CountsAgree, delivered_all}
+use Rattle.process_queues.specs.Past.{Past, Rows, IsPastOf, BelongsTo, handled_past, rows_by}
+use Rattle.process_queues.specs.Queues.{Queues, StandsFor, CountsAgree, rows_there, delivered_all}
 use Rattle.process_queues.proofs.Counting.{OfMessages}
 use Rattle.process_queues.proofs.Pasts.{past-none, past-more, as_many, length-rows}
 
 module _ {S K : Type 0} (r : Rules Message S K Note) (is_value : S → Message → Type 0) where
   pub opened-stands : (actor : S) (q : Queues S K) →
-      q ≡ record { past = record { state = actor; done = []; sends = []; rows = [] }; sealed = 0; committed = 0; tally = []; tray = []; outbox = [] } →
+      q ≡ record { past = record { state = actor; done = []; sends = []; rows = [] }; left = 0; sealed = 0; committed = 0; tally = []; tray = []; outbox = [] } →
       StandsFor r is_value actor (opened actor) q
   opened-stands actor q e = subst (StandsFor r is_value actor (opened actor)) (sym e) (record {
     past = record { past_of = past-none r is_value actor [] [] _ refl refl refl refl; state = refl; ascending = tt };
@@ -91,12 +91,12 @@ module _ {S K : Type 0} (r : Rules Message S K Note) (is_value : S → Message �
         go false t = undone-is l rest e false t
 
     -- the part after the front letter was counted, before the rollback
-    pub counted-belongs : (l : Signed Message) (rest : List (Signed Message)) → BelongsTo r is_value opening (counted r l rest part) q.past
+    pub counted-belongs : (l : Signed Message) (rest : List (Signed Message)) → BelongsTo r is_value opening (rows_there r opening part q) (counted r l rest part) q.past
     counted-belongs l rest = record { past_of = h.past.past_of; state = h.past.state; ascending = h.past.ascending }
 
     -- how many events a rollback undid
     pub undone-back : (l : Signed Message) (rest : List (Signed Message)) (past' : Past S K) (count : ℕ) → q.tray ≡ l ∷ rest → is_turned r l part.tally ≡ true →
-        BelongsTo r is_value opening (rolled_back r opening l.message (counted r l rest part)) past' →
+        BelongsTo r is_value opening (rows_there r opening part q) (rolled_back r opening l.message (counted r l rest part)) past' →
         count + length past'.done ≡ length q.past.done → count ≡ undone_by r part part.tray
     undone-back l rest past' count e t b n =
         let a = ap length b.past_of.done ∙ as_many r (reached r opening part.committed) (before r l.message part.done) in
@@ -122,13 +122,13 @@ module _ {S K : Type 0} (r : Rules Message S K Note) (is_value : S → Message �
         }))
 
     pub arrived-back : (l : Signed Message) (rest tally : List (Signed Message)) → q.tray ≡ l ∷ rest → is_turned r l part.tally ≡ true →
-        CountsAgree r (l ∷ part.tally) tally → BelongsTo r is_value opening (rolled_back r opening l.message (counted r l rest part)) q'.past →
-        q'.sealed ≡ q.sealed → q'.committed ≡ q.committed → q'.tally ≡ tally → q'.tray ≡ rest →
+        CountsAgree r (l ∷ part.tally) tally → BelongsTo r is_value opening (rows_there r opening part q) (rolled_back r opening l.message (counted r l rest part)) q'.past →
+        q'.left ≡ q.left → q'.sealed ≡ q.sealed → q'.committed ≡ q.committed → q'.tally ≡ tally → q'.tray ≡ rest →
         q'.outbox ≡ (rolled_back r opening l.message (counted r l rest part)).outbox → StandsFor r is_value opening (arrive r opening part) q'
-    arrived-back l rest tally e t counts b a c d f o =
+    arrived-back l rest tally e t counts b n a c d f o =
         subst (λ z. StandsFor r is_value opening z q') (sym (arrive-is opening part q h R l rest e true t)) (record {
-          past = b;
-          sealed = a ∙ h.sealed;
+          past = subst (λ k. BelongsTo r is_value opening (drop k (rowed r opening part.committed)) (rolled_back r opening l.message (counted r l rest part)) q'.past) (sym n) b;
+          sealed = let k = h.sealed in omega arith;
           committed = c ∙ h.committed;
           counts = subst (CountsAgree r (l ∷ part.tally)) (sym d) counts;
           tray = f;
@@ -144,7 +144,7 @@ module _ {S K : Type 0} (r : Rules Message S K Note) (is_value : S → Message �
         subst (λ z. StandsFor r is_value opening z q') (sym (ap (handled r part) next))
         (subst (StandsFor r is_value opening (handled r part (Some m))) (sym f) (record {
           past = record {
-            past_of = past-more r is_value (reached r opening part.committed) part.done (rowed r opening part.committed) q.past m (R.places m) h.past.past_of valid;
+            past_of = past-more r is_value (reached r opening part.committed) part.done (rows_there r opening part q) q.past m (R.places m) h.past.past_of valid;
             state = ap (λ s. r.after s m) h.past.state;
             ascending = well.ascending;
           };
@@ -165,7 +165,7 @@ module _ {S K : Type 0} (r : Rules Message S K Note) (is_value : S → Message �
 
     pub sealed-stands : (m : Message) (rest : List Message) (past' : Past S K) (tally : List (Signed Message)) → part.done ≡ m ∷ rest → can_seal r part part.done ≡ true →
         IsPastOf r is_value (r.after (reached r opening part.committed) m) rest
-        (rowed r opening part.committed ++ rows_by m (r.notes (reached r opening part.committed) m)) past' →
+        (rows_there r opening part q ++ rows_by m (r.notes (reached r opening part.committed) m)) past' →
         past'.state ≡ q.past.state → CountsAgree r (minus_of m ∷ part.tally) tally →
         q' ≡ record q { past = past'; sealed = q.sealed + length (r.notes (reached r opening part.committed) m); committed = q.committed + 1; tally = tally } →
         StandsFor r is_value opening (seal_oldest r part) q'
@@ -173,8 +173,8 @@ module _ {S K : Type 0} (r : Rules Message S K Note) (is_value : S → Message �
         subst (λ z. StandsFor r is_value opening z q') (sym seals)
         (subst (StandsFor r is_value opening (sealed r part (m ∷ rest))) (sym f) (record {
           past = record {
-            past_of = subst (λ z. IsPastOf r is_value z rest (rowed r opening (part.committed ++ m ∷ [])) past') (sym (reached-append r opening part.committed (m ∷ [])))
-                (subst (λ z. IsPastOf r is_value (r.after (reached r opening part.committed) m) rest z past') (sym rows) p);
+            past_of = subst (λ z. IsPastOf r is_value z rest (drop q.left (rowed r opening (part.committed ++ m ∷ []))) past') (sym (reached-append r opening part.committed (m ∷ [])))
+                (subst (λ z. IsPastOf r is_value (r.after (reached r opening part.committed) m) rest z past') (sym there) p);
             state = h.past.state ∙ sym s;
             ascending = well.ascending;
           };
@@ -198,8 +198,40 @@ module _ {S K : Type 0} (r : Rules Message S K Note) (is_value : S → Message �
         rows = rowed-append r opening part.committed (m ∷ []) ∙
             ap (λ z. rowed r opening part.committed ++ z) (append-nil _ ∙ R.places m (r.notes (reached r opening part.committed) m))
 
+        there : drop q.left (rowed r opening (part.committed ++ m ∷ [])) ≡
+            rows_there r opening part q ++ rows_by m (r.notes (reached r opening part.committed) m)
+        there = ap (drop q.left) rows ∙ drop-append-le q.left (rowed r opening part.committed) _ (let k = h.sealed in omega arith)
+
         well : IsWell r (λ s. ⊤) opening (sealed r part (m ∷ rest))
         well = subst (IsWell r (λ s. ⊤) opening) seals (seal-well r R.order (λ s. ⊤) (λ s e g. R.undoes s e) opening part h.well).well
+
+  -- the oldest rows of committed events leave
+  pub gone-stands : (opening : S) (part : Part Message S) (q q' : Queues S K) → StandsFor r is_value opening part q → (n : ℕ) → n ≤ q.sealed →
+      q' ≡ record q { past = record q.past { rows = drop n q.past.rows }; left = q.left + n; sealed = q.sealed - n } → StandsFor r is_value opening part q'
+  gone-stands opening part q q' h n within e = subst (StandsFor r is_value opening part) (sym e) (record {
+    past = record {
+      past_of = record {
+        state = h.past.past_of.state;
+        done = h.past.past_of.done;
+        values = h.past.past_of.values;
+        sends = h.past.past_of.sends;
+        rows = ap (drop n) h.past.past_of.rows ∙
+            (drop-append-le n (drop q.left all) _ (let k = h.sealed in let d = length-drop q.left all in omega arith) ∙
+            ap (λ z. z ++ rowed r (reached r opening part.committed) part.done) (drop-drop n q.left all));
+      };
+      state = h.past.state;
+      ascending = h.past.ascending;
+    };
+    sealed = let k = h.sealed in omega arith;
+    committed = h.committed;
+    counts = h.counts;
+    tray = h.tray;
+    outbox = h.outbox;
+    well = h.well;
+  })
+    where
+      all : Rows
+      all = rowed r opening part.committed
 
   -- several letters come to the back of the tray
   pub delivered_all-stands : (opening : S) (ls : List (Signed Message)) (part : Part Message S) (q q' : Queues S K) → StandsFor r is_value opening part q →

@@ -12,7 +12,7 @@ use Rattle.process_queues.specs.declared.past.Event.{Event}
 abbrev pub Rows : Type 0
 Rows = List (Row Message Note)
 
--- the state of the actor, the done events, all that they sent, and the rows of the committed events and then of the done ones
+-- the state of the actor, the done events, all that they sent, and the rows of the committed events that are still there and then of the done ones
 pub record Past (S K : Type 0) : Type 0 where
   pub state : S
   pub done : List (Event K)
@@ -72,8 +72,8 @@ module _ {S K : Type 0} (r : Rules Message S K Note) where
   FirstDone is_value past =
       (start : S) × (ms : List Message) × (e : Message) × (earlier : Rows) × IsPastOf is_value start (e ∷ ms) earlier past
 
-  -- the past is that of a part of a process that opened in this state
-  pub record BelongsTo (is_value : S → Message → Type 0) (opening : S) (part : Part Message S) (past : Past S K) : Type 0 where
-    pub past_of : IsPastOf is_value (reached r opening part.committed) part.done (rowed r opening part.committed) past
+  -- the past is that of a part of a process that opened in this state, behind the rows of committed events that are still there
+  pub record BelongsTo (is_value : S → Message → Type 0) (opening : S) (there : Rows) (part : Part Message S) (past : Past S K) : Type 0 where
+    pub past_of : IsPastOf is_value (reached r opening part.committed) part.done there past
     pub state : part.state ≡ past.state
     pub ascending : IsAscending r part.done

@@ -1,5 +1,5 @@
 -- What a process has in hand, and when that stands for a part of the law of virtual time.
-use Rattle.std.specs.Prelude.{◌≡◌, ℕ, List, [], ◌∷◌, length, map, Option, ⊤}
+use Rattle.std.specs.Prelude.{◌≡◌, ℕ, ◌+◌, drop, List, [], ◌∷◌, length, map, Option, ⊤}
 use Rattle.vlink.specs.declared.message.Message.{Message}
 use Rattle.vlink.specs.declared.note.Note.{Note}
 use Rattle.virtual_time.specs.Rules.{Rules, rowed}
@@ -8,12 +8,13 @@ use Rattle.virtual_time.specs.Part.{Part, delivered}
 use Rattle.virtual_time.specs.Well.{IsWell}
 use Rattle.antimessages.specs.Letters.{message_rules}
 use Rattle.antimessages.specs.Counting.{signed_count, present_after}
-use Rattle.process_queues.specs.Past.{Past, BelongsTo, newest_of}
+use Rattle.process_queues.specs.Past.{Past, Rows, BelongsTo, newest_of}
 
--- the past, how many of its rows are those of committed events, how many events are committed, the letters that were counted, the tray
--- and the outbox
+-- the past, how many rows of committed events have left it and how many are still there, how many events are committed, the letters that
+-- were counted, the tray and the outbox
 pub record Queues (S K : Type 0) : Type 0 where
   pub past : Past S K
+  pub left : ℕ
   pub sealed : ℕ
   pub committed : ℕ
   pub tally : List (Signed Message)
@@ -30,12 +31,16 @@ pub record InHand (S K : Type 0) : Type 0 where
 abbrev pub CountsAgree : {S K : Type 0} → Rules Message S K Note → List (Signed Message) → List (Signed Message) → Type 0
 CountsAgree r a b = (m : Message) → signed_count r m a ≡ signed_count message_rules m b
 
+-- the rows of the committed events of this part, but those that have left, the oldest
+abbrev pub rows_there : {S K : Type 0} → Rules Message S K Note → S → Part Message S → Queues S K → Rows
+rows_there r opening part q = drop q.left (rowed r opening part.committed)
+
 -- the queues are those of this part of a process that opened in this state
 pub record StandsFor {S K : Type 0} (r : Rules Message S K Note) (is_value : S → Message → Type 0) (opening : S) (part : Part Message S) (q : Queues S K) : Type 0 where
-  -- the state, the done events with what is kept of them, what they sent, and the rows
-  pub past : BelongsTo r is_value opening part q.past
+  -- the state, the done events with what is kept of them, what they sent, and the rows that are there
+  pub past : BelongsTo r is_value opening (rows_there r opening part q) part q.past
   -- what is committed
-  pub sealed : q.sealed ≡ length (rowed r opening part.committed)
+  pub sealed : q.left + q.sealed ≡ length (rowed r opening part.committed)
   pub committed : q.committed ≡ length part.committed
   -- the letters
   pub counts : CountsAgree r part.tally q.tally

@@ -28,6 +28,7 @@ impl<R: Actor> Process<R> {
         ensures answer { IfOk result (λ undone. (opening : R) (part : Part Message R) → StandsFor (rules_of R.plain R.counter) R.is_value opening part self.old.queues →
             MatchOption undone (part.tray ≡ []) (λ count. (part.tray ≢ []) × (count ≡ undone_by (rules_of R.plain R.counter) part part.tray))) }
         ensures tray { OnOk result (self.new.queues.tray ≡ drop 1 self.old.queues.tray) }
+        ensures left { self.new.queues.left ≡ self.old.queues.left }
         ensures refused { OnErr result (self.old.queues.tray ≢ []) }
         ensures unchanged { OnErr result (self.new.queues ≡ self.old.queues) }
         ensures memory { IfErr result (λ fault. fault ≡ OutOfMemory) }
@@ -65,6 +66,7 @@ impl<R: Actor> Process<R> {
             StandsFor (rules_of R.plain R.counter) R.is_value opening part self.old.queues → message ≡ next_of (rules_of R.plain R.counter) part) }
         ensures next { IfOk result (λ message. message ≡ next_in self.old.queues) }
         ensures tray { self.new.queues.tray ≡ self.old.queues.tray }
+        ensures left { self.new.queues.left ≡ self.old.queues.left }
         ensures exhausted { (result ≡ Err Exhausted) ↔
             IsSome (next_in self.old.queues) × (greatest_number < R.counter (state_in self.old.queues) + 24) }
         ensures idle { result ≡ Ok None → self.new.queues ≡ self.old.queues }
@@ -83,6 +85,7 @@ impl<R: Actor> Process<R> {
             StandsFor (rules_of R.plain R.counter) R.is_value opening part self.old.queues → message ≡ next_of (rules_of R.plain R.counter) part) }
         ensures next { IfOk result (λ message. message ≡ next_in self.old.queues) }
         ensures tray { self.new.queues.tray ≡ self.old.queues.tray }
+        ensures left { self.new.queues.left ≡ self.old.queues.left }
         ensures exhausted { (result ≡ Err Exhausted) ↔
             IsSome (next_in self.old.queues) × (greatest_number < R.counter (state_in self.old.queues) + 24) }
         ensures idle { result ≡ Ok None → self.new.queues ≡ self.old.queues }
@@ -108,6 +111,7 @@ impl<R: Actor> Process<R> {
         ensures answer { IfOk result (λ done. (opening : R) (part : Part Message R) →
             StandsFor (rules_of R.plain R.counter) R.is_value opening part self.old.queues → done ≡ can_seal (rules_of R.plain R.counter) part part.done) }
         ensures tray { self.new.queues.tray ≡ self.old.queues.tray }
+        ensures left { self.new.queues.left ≡ self.old.queues.left }
         ensures outbox { self.new.queues.outbox ≡ self.old.queues.outbox }
         ensures room { self.old.committed_room ≤ self.new.committed_room + 1 }
         ensures unchanged { OnErr result (self.new.queues ≡ self.old.queues) }

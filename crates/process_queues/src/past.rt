@@ -28,7 +28,7 @@ pub(crate) struct Event<K: Copy> {
 }
 
 /// The actor with the events that it has done and not committed, oldest first, and all that they sent, in order. The rows are those of
-/// the committed events and then of the done ones.
+/// the committed events, but the oldest ones that are forgotten, and then those of the done ones.
 #[derive(Drop)]
 pub(crate) struct Past<R: Actor> {
     pub(crate) actor: R,
@@ -66,11 +66,19 @@ impl<R: Actor> Past<R> {
         &self.actor
     }
 
-    /// The rows of the committed events and of the done ones.
+    /// The rows of the committed events, but those that are forgotten, and of the done ones.
     pub(crate) fn rows(&self) -> &[Row]
         ensures { map seen_row result.now ≡ self.now.rows }
     {
         &self.rows
+    }
+
+    /// The oldest rows, so many, are forgotten.
+    pub(crate) fn forget_rows(&mut self, count: usize)
+        requires { count ≤ length self.old.rows }
+        ensures { self.new ≡ record self.old { rows = drop count self.old.rows } }
+    {
+        forget_first_rows(&mut self.rows, count);
     }
 
     /// The oldest done event, if there is one.
@@ -211,6 +219,14 @@ fn note_all(rows: &mut Vec<Row>, message: &Message, notes: &[Note])
             note: *note,
         });
     }
+}
+
+/// The first rows, so many, are forgotten.
+fn forget_first_rows(rows: &mut Vec<Row>, count: usize)
+    requires { count ≤ vec_len rows.old }
+    ensures { rows.new.items ≡ drop count rows.old.items }
+{
+    rows.drain(..count);
 }
 
 /// The first messages that were sent, so many, are forgotten.

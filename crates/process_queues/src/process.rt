@@ -2,7 +2,6 @@ ghost use Rattle.std.specs.Prelude.{◌≡◌, ◌≢◌, ◌+◌, ◌<◌, ◌�
 ghost use Rattle.std.specs.Option.{option_map};
 ghost use Rattle.std.specs.VecDeque.{deque_len, deque_capacity};
 ghost use Rattle.vlink.specs.declared.message.Message.{Message};
-ghost use Rattle.virtual_time.specs.Rules.{rowed};
 ghost use Rattle.virtual_time.specs.Letters.{lowest};
 ghost use Rattle.virtual_time.specs.Part.{Part, opened, delivered, next_of, floor_of};
 ghost use Rattle.reverse.specs.Rules.{rules_of};
@@ -11,7 +10,7 @@ ghost use Rattle.antimessages.specs.Counting.{signed_count};
 ghost use Rattle.antimessages.specs.Mailing.{letters_for};
 ghost use Rattle.process_queues.specs.declared.fault.ProcFault.TheVariants.{OutOfMemory};
 ghost use Rattle.process_queues.specs.Past.{seen_row};
-ghost use Rattle.process_queues.specs.Queues.{StandsFor, Does, delivered_all, next_in, state_in};
+ghost use Rattle.process_queues.specs.Queues.{StandsFor, Does, rows_there, delivered_all, next_in, state_in};
 
 use crate::fault::ProcFault;
 use crate::past::Past;
@@ -29,6 +28,8 @@ use vlink::{Letter, Message, Row, Time};
 #[derive(Drop)]
 pub struct Process<R: Actor> {
     pub(crate) past: Past<R>,
+    /// How many rows of committed events have left, and how many are still there.
+    pub(crate) left: usize,
     pub(crate) sealed: usize,
     /// How many rows each committed event gave.
     pub(crate) committed: Vec<u8>,
@@ -51,6 +52,7 @@ impl<R: Actor> Model for Process<R> {
     ghost view = { λ p. record {
       queues = record {
         past = p.past;
+        left = p.left;
         sealed = p.sealed;
         committed = length p.committed.items;
         tally = p.tally;
@@ -64,6 +66,7 @@ impl<R: Actor> Model for Process<R> {
     ghost invariant = { λ p. (opening : R) × (part : Part Message R) × StandsFor (rules_of R.plain R.counter) R.is_value opening part
         (record {
           past = p.past;
+          left = p.left;
           sealed = p.sealed;
           committed = length p.committed.items;
           tally = p.tally;
@@ -76,11 +79,13 @@ impl<R: Actor> Process<R> {
     /// A process that has done nothing, with this actor in its opening state. It takes no memory yet, so that it succeeds.
     pub fn new(alloc: Global, actor: R) -> Result<Self, ProcFault>
         ensures stands { IfOk result (λ process. StandsFor (rules_of R.plain R.counter) R.is_value actor (opened actor) process.queues) }
+        ensures left { IfOk result (λ process. process.queues.left ≡ 0) }
         ensures succeeds { IsOk result }
         ensures memory { IfErr result (λ fault. fault ≡ OutOfMemory) }
     {
         Ok(Process {
             past: Past::new(alloc, actor),
+            left: 0,
             sealed: 0,
             committed: Vec::new(alloc),
             tally: Tally::new(alloc),
@@ -123,12 +128,40 @@ impl<R: Actor> Process<R> {
         self.committed.len() as u64
     }
 
-    /// The rows of the committed events, in their order.
+    /// The rows of the committed events but those that have left, in their order.
     pub fn sealed(&self) -> &[Row]
         ensures { (opening : R) (part : Part Message R) → StandsFor (rules_of R.plain R.counter) R.is_value opening part self.now.queues →
-            map seen_row result.now ≡ rowed (rules_of R.plain R.counter) opening part.committed }
+            map seen_row result.now ≡ rows_there (rules_of R.plain R.counter) opening part self.now.queues }
     {
         &self.past.rows()[..self.sealed]
+    }
+
+    /// How many rows of committed events have left, the oldest ones.
+    pub fn left(&self) -> u64
+        ensures { result ≡ self.now.queues.left }
+    {
+        self.left as u64
+    }
+
+    /// The oldest rows of committed events leave, `count` or all that are still there where these are fewer. The answer is how many. None
+    /// leaves past the greatest number that `left` can tell. It takes no memory.
+    pub fn let_rows_go(&mut self, count: usize) -> usize
+        ensures stands { Does (rules_of R.plain R.counter) R.is_value (λ opening part. part) self.old.queues self.new.queues }
+        ensures left { self.new.queues.left ≡ self.old.queues.left + result }
+        ensures count { result ≡ min (min count self.old.queues.sealed) (2 ^ 64 - 1 - self.old.queues.left) }
+        ensures queues { self.new.queues ≡ record self.old.queues {
+          past = record self.old.queues.past { rows = drop result self.old.queues.past.rows };
+          left = self.old.queues.left + result;
+          sealed = self.old.queues.sealed - result;
+        } }
+        ensures room { self.new.room ≡ self.old.room }
+        ensures committed_room { self.new.committed_room ≡ self.old.committed_room }
+    {
+        let gone = count.min(self.sealed).min(usize::MAX - self.left);
+        self.past.forget_rows(gone);
+        self.left += gone;
+        self.sealed -= gone;
+        gone
     }
 
     /// The letters that wait to be posted, in order.

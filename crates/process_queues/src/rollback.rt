@@ -18,11 +18,11 @@ impl<R: Actor> Past<R> {
     /// Every done event that does not come before the message is undone, the newest first; what it sent goes to the outbox as
     /// antimessages, the last sent first. The outbox has room for all that was sent. The answer is how many events were undone.
     pub(crate) fn roll_back(&mut self, message: &Message, outbox: &mut Outbox) -> u64
-        requires some { (opening : R) × (part : Part Message R) × BelongsTo (rules_of R.plain R.counter) R.is_value opening part self.old }
+        requires some { (opening : R) × (there : Rows) × (part : Part Message R) × BelongsTo (rules_of R.plain R.counter) R.is_value opening there part self.old }
         requires room { length self.old.sends ≤ outbox.old.room }
-        ensures rolled { (opening : R) (part : Part Message R) → BelongsTo (rules_of R.plain R.counter) R.is_value opening part self.old →
-            BelongsTo (rules_of R.plain R.counter) R.is_value opening (rolled_back (rules_of R.plain R.counter) opening message.now part) self.new }
-        ensures posted { (opening : R) (part : Part Message R) → BelongsTo (rules_of R.plain R.counter) R.is_value opening part self.old →
+        ensures rolled { (opening : R) (there : Rows) (part : Part Message R) → BelongsTo (rules_of R.plain R.counter) R.is_value opening there part self.old →
+            BelongsTo (rules_of R.plain R.counter) R.is_value opening there (rolled_back (rules_of R.plain R.counter) opening message.now part) self.new }
+        ensures posted { (opening : R) (there : Rows) (part : Part Message R) → BelongsTo (rules_of R.plain R.counter) R.is_value opening there part self.old →
             outbox.old.letters ≡ part.outbox → outbox.new.letters ≡ (rolled_back (rules_of R.plain R.counter) opening message.now part).outbox }
         ensures count { result + length self.new.done ≡ length self.old.done }
     {

@@ -1,7 +1,7 @@
-use Rattle.std.proofs.Common.{◌≡◌, ◌≤◌, drop, length, take, sym, ◌∙◌, arith}
+use Rattle.std.proofs.Common.{◌≡◌, ◌≤◌, ◌++◌, drop, length, take, sym, ap, ◌∙◌, arith}
 use Rattle.antimessages.specs.Mailing.{letters_for}
 use Rattle.reverse.specs.Rules.{rules_of}
-use Rattle.process_queues.specs.Queues.{Does, delivered_all}
+use Rattle.process_queues.specs.Queues.{Queues, Does, delivered_all}
 use Rattle.exchange.proofs.Growth.{entry-fresh}
 use Rattle.exchange.proofs.Taken.{when-done, all-taken, kept-taken, holds-taken, collects-taken}
 use Rattle.exchange.proofs.collecting.collect.Goals as goal
@@ -50,8 +50,12 @@ invariant_of-held-in-Ok g c =
     (λ m. Does (rules_of g.R.Reversible.plain g.R.Actor.counter) g.R.Reversible.is_value (λ opening. delivered_all (take m letters)) c.reserve_letters.new.self.queues c.collect-taken.new.self.queues)
     taken.reserved room within taken.count taken.delivered in
     let none = rw (sym c.held.view_is) at c.requires.posted in
+    let queues = all-taken c.collect-taken.result
+    (λ m. c.collect-taken.new.self.queues ≡ record c.reserve_letters.new.self.queues { tray = c.reserve_letters.new.self.queues.tray ++ take m letters })
+    taken.reserved room within taken.count taken.queues in
     holds-taken k h n within (omega arith) new c.write.new.journal.items wrote.journal c.len-place.result c.from.result place c.from.ensures
     none mine kept (c.actor_laws.ensures g.J.ActorRun.setting k.laid) (omega arith) c.reserve_letters.new.self.queues c.collect-taken.new.self.queues c.reserve_letters.ensures.same does
+    (ap (λ (z : Queues g.row.R.Denot g.row.R-Record.Denot). z.left) queues)
 
 pub returns-in-Ok-clause-ok : goal.returns-in-Ok-clause-ok
 returns-in-Ok-clause-ok g c =

@@ -38,4 +38,4 @@ invariant_of-held g c =
     let base = after_own (simulation_of r x) p (own_of c.held.inside.last) in
     holds-at (holds-seen k (c.actor_laws.ensures x k.laid) g.R.Reversible.is_value p h.number_is c.held.inside.last h.last_is mine c.held.inside.process.queues
     (subst (λ b. StandsFor r g.R.Reversible.is_value (x.opening p) (local r (x.opening p) (map act_by b) base) c.held.inside.process.queues) none h.stands)
-    c.held.inside.block none) (names c.held.inside.table.now.pages.items) h.same
+    h.whole c.held.inside.block none) (names c.held.inside.table.now.pages.items) h.same

@@ -9,6 +9,7 @@ use Rattle.reverse.specs.Setting.{simulation_of}
 use Rattle.journal.specs.Deeds.{seen_entry}
 use Rattle.journal.specs.Places.{IsAt}
 use Rattle.journal.specs.declared.tokens.Tokens.{Tokens}
+use Rattle.process_queues.specs.Queues.{Queues}
 use Rattle.exchange.specs.Keeps.{place_in, own_of, entries_of}
 use Rattle.exchange.specs.Effects.{told, mark}
 use Rattle.exchange.proofs.Growth.{Fresh, entry-fresh, entries-are}
@@ -54,12 +55,14 @@ invariant_of-held g c =
     let place : c.len-place.result ≡ length ts = c.len-place.ensures ∙ c.exchange.inside.journal.ok.0 in
     let room = when-no-err c.reserve_post.result (sym c.is_err.ensures.value ∙ c.if-is_err.false) c.reserve_post.ensures.room in
     let did = when-ok c.post-posted.result (c.post-posted.ensures.reserved room) c.post-posted.ensures.emptied in
+    let queues = when-ok c.post-posted.result (c.post-posted.ensures.reserved room) c.post-posted.ensures.queues in
     holds-posted h (c.actor_laws.ensures x k.laid)
     (Some (record { number = c.len-place.result; tokens = c.in-Ok.tokens }))
     (subst (λ n. IsAt g.J.ActorRun.pages n c.in-Ok.tokens) (sym place) new.at, omega arith)
     (new.own_is ∙ ap (λ z. z ++ acts_of (Posted block)) (sym mine))
     c.post-posted.new.self.queues
     (did (x.opening p) _ h.stands)
+    (ap (λ (z : Queues g.row.R.Denot g.row.R-Record.Denot). z.left) queues)
     c.replace.new.dest (c.replace.ensures.after ∙ c.new.ensures)
 
 pub invariant_of-exchange-in-Ok : goal.invariant_of-exchange-in-Ok

@@ -20,6 +20,7 @@ loop-sealed-preserved g c =
       room = let room = c.seal_oldest-done.ensures.room in omega arith;
       none = λ e. absurd (omega arith);
       tray = c.seal_oldest-done.ensures.tray ∙ i.tray;
+      left = c.seal_oldest-done.ensures.left ∙ i.left;
       outbox = c.seal_oldest-done.ensures.outbox ∙ i.outbox;
     }
 

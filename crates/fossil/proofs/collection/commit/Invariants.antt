@@ -11,5 +11,6 @@ invariant-loop-sealed g l = record {
   room : l.count ≤ l.process.committed_room + l.sealed;
   none : l.sealed ≡ 0 → l.process.queues ≡ l.fn.process.queues;
   tray : l.process.queues.tray ≡ l.fn.process.queues.tray;
+  left : l.process.queues.left ≡ l.fn.process.queues.left;
   outbox : l.process.queues.outbox ≡ l.fn.process.queues.outbox;
 }

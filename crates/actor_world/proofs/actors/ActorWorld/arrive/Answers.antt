@@ -48,4 +48,4 @@ returns g c =
     let same = same-at _ p _ _ here now in
     let some = subst (λ (q : Queues g.row.R.Denot g.row.R-Record.Denot). 0 < length q.tray) same (let a = c.tray_len.ensures.value in let b = c.if-tray_len-eq0.false in omega arith) in
     seen-as r g.R.Actor.number g.R.Actor.end g.R.Actor.is_placed g.R.Reversible.is_value (Arrive p) _ _ _ _ c.self.view_is
-    (arrive-did r g.R.Actor.number g.R.Actor.end g.R.Actor.is_placed g.R.Reversible.is_value _ p _ now some _ c.in_ok-arrive.ensures.arrived _ (queues-set vs p c.from-2.result c.arrive.new.self c.from-2.ensures))
+    (arrive-did r g.R.Actor.number g.R.Actor.end g.R.Actor.is_placed g.R.Reversible.is_value _ p _ now some _ c.in_ok-arrive.ensures.arrived c.arrive.ensures.left _ (queues-set vs p c.from-2.result c.arrive.new.self c.from-2.ensures))

@@ -40,4 +40,4 @@ returns g c =
     let now = queues-at vs p c.from.result c.index_mut.result.now c.from.ensures there c.index_mut.ensures.value in
     seen-as r g.R.Actor.number g.R.Actor.end g.R.Actor.is_placed g.R.Reversible.is_value (Commit p) _ _ _ _ c.self.view_is
     (commit-did r g.R.Actor.number g.R.Actor.end g.R.Actor.is_placed g.R.Reversible.is_value _ p _ now (λ opening part h. sym c.if-not-committed.false ∙ c.in_ok-committed.ensures.answer opening part h)
-    _ c.in_ok-committed.ensures.committed _ (queues-set vs p c.from.result c.commit_oldest.new.process c.from.ensures))
+    _ c.in_ok-committed.ensures.committed c.commit_oldest.ensures.left _ (queues-set vs p c.from.result c.commit_oldest.new.process c.from.ensures))

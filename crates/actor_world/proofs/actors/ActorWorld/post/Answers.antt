@@ -60,6 +60,6 @@ returns g c =
     c.post.new.mail c.in_ok-post.ensures.processes
     c.set.new.self.floors c.set.ensures.processes c.set.ensures.others
     c.set.new.self.until c.set.ensures.until
-    (c.actor_laws.ensures world.0 world.1).order (λ s m. g.met.R.Actor.end_stays s m) c.in_ok-post.ensures.emptied c.in_ok-post.ensures.posted
+    (c.actor_laws.ensures world.0 world.1).order (λ s m. g.met.R.Actor.end_stays s m) c.in_ok-post.ensures.emptied (ap (λ (z : Queues g.row.R.Denot g.row.R-Record.Denot). z.left) c.in_ok-post.ensures.queues) c.in_ok-post.ensures.posted
     (ap (λ (z : Queues g.row.R.Denot g.row.R-Record.Denot). z.past) c.in_ok-post.ensures.queues)
     c.floor-floor.result floor c.set.ensures.here)

@@ -44,4 +44,4 @@ returns g c =
     let now = queues-at vs p c.from.result c.index_mut.result.now c.from.ensures there c.index_mut.ensures.value in
     seen-as r g.R.Actor.number g.R.Actor.end g.R.Actor.is_placed g.R.Reversible.is_value (Run p) _ _ _ _ c.self.view_is
     (run-did r g.R.Actor.number g.R.Actor.end g.R.Actor.is_placed g.R.Reversible.is_value _ p _ now R (λ n. let d = c.in_ok-_message.ensures.exhausted.1 n in cc) c.in-Some._message (λ opening part h. sym c.in-Some.is ∙ c.in_ok-_message.ensures.handled opening part h)
-    _ c.in_ok-_message.ensures.ran _ (queues-set vs p c.from.result c.run_with.new.self c.from.ensures))
+    _ c.in_ok-_message.ensures.ran c.run_with.ensures.left _ (queues-set vs p c.from.result c.run_with.new.self c.from.ensures))

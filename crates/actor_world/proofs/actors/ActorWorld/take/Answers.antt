@@ -4,6 +4,7 @@ use Rattle.std.proofs.lemmas.Result.{err_from_is_err_and}
 use Rattle.virtual_time.specs.World.Step.{Take}
 use Rattle.reverse.specs.Rules.{rules_of}
 use Rattle.antimessages.specs.Letters.{signed}
+use Rattle.process_queues.specs.Queues.{Queues}
 use Rattle.actor_world.specs.declared.done.Done.TheVariants.{NotEnabled}
 use Rattle.actor_world.specs.Worlds.{Holdings, IsAWorld}
 use Rattle.actor_world.specs.Faults.{fault_of}
@@ -57,5 +58,5 @@ returns g c =
     c.take-taken.new.self c.take-taken.ensures.processes
     c.lower.new.self.floors c.lower.ensures.processes c.lower.ensures.others
     c.lower.new.self.until c.lower.ensures.until
-    c.args.place (signed c.in-Some.letter) (sym c.in-Some.ensures) c.in_ok-deliver.ensures.delivered c.take-taken.ensures.left c.take-taken.ensures.others
+    c.args.place (signed c.in-Some.letter) (sym c.in-Some.ensures) c.in_ok-deliver.ensures.delivered (ap (λ (z : Queues g.row.R.Denot g.row.R-Record.Denot). z.left) c.in_ok-deliver.ensures.tray) c.take-taken.ensures.left c.take-taken.ensures.others
     (c.lower.ensures.lowered ∙ ap (λ t. option_map (min t) (slice_get c.self.inside.floors.floors p)) c.time_of-time.ensures))

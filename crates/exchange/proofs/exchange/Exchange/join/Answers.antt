@@ -1,6 +1,12 @@
-use Rattle.std.proofs.Common.{sym}
-use Rattle.exchange.proofs.Joining.{none-joined, some-at, some-joined}
+use Rattle.std.proofs.Common.{sym, arith}
+use Rattle.exchange.proofs.Joining.{none-joined, some-within, some-at, some-joined}
 use Rattle.exchange.proofs.exchange.Exchange.join.Goals as goal
+
+pub index-tokens-requires : goal.index-tokens-requires
+index-tokens-requires g c =
+    let e = rw (sym c.self.view_is, sym c.held.view_is) at c.requires in
+    let w = some-within c.self.invariant.2 c.held.invariant e c.in-Some.last c.in-Some.is in
+    omega (arith, w, c.self.inside.journal.ok.0)
 
 pub agrees-requires : goal.agrees-requires
 agrees-requires g c =

@@ -23,7 +23,7 @@ invariant_of-self-in-Ok-true g c =
     let ready : is_ready r seen part ≡ true = sym (c.in-Ok-true.ensures.answer _ _ h.stands) ∙ c.in-Ok-true.field-0-test in
     holds-moved h (c.actor_laws.ensures x h.laid) Sealed (ready-moves f seen part ready) c.commit_oldest.new.process.queues
     (subst (λ z. StandsFor r g.R.Reversible.is_value (x.opening p) z c.commit_oldest.new.process.queues) (ready-commits f seen part ready) (c.in-Ok-true.ensures.committed _ _ h.stands))
-    c.push.new.self c.in_ok-push.ensures.pushed
+    c.commit_oldest.ensures.left c.push.new.self c.in_ok-push.ensures.pushed
 
 pub returns-in-Ok-true-clause-committed : goal.returns-in-Ok-true-clause-committed
 returns-in-Ok-true-clause-committed g c = λ yes.

@@ -1,5 +1,17 @@
-use Rattle.std.proofs.Common.{sym}
+use Rattle.std.proofs.Common.{map, drop, sym, ap, ◌∙◌}
+use Rattle.virtual_time.specs.Rules.{rowed}
+use Rattle.virtual_time.specs.Own.{local}
+use Rattle.virtual_time.specs.Journal.{act_by, after_own}
+use Rattle.reverse.specs.Rules.{rules_of}
+use Rattle.reverse.specs.Setting.{simulation_of}
+use Rattle.exchange.specs.Keeps.{own_of}
 use Rattle.exchange.proofs.held.Held.sealed.Goals as goal
 
 pub returns : goal.returns
-returns g c = rw (sym c.self.view_is) (c.sealed.ensures _ _ c.self.invariant.stands)
+returns g c =
+    let h = c.self.invariant in
+    let r = rules_of g.R.Reversible.plain g.R.Actor.counter in
+    let x = g.J.ActorRun.setting in
+    let p = c.self.inside.number in
+    let part = local r (x.opening p) (map act_by c.self.inside.block) (after_own (simulation_of r x) p (own_of c.self.inside.last)) in
+    rw (sym c.self.view_is) (c.sealed.ensures _ _ h.stands ∙ ap (λ n. drop n (rowed r (x.opening p) part.committed)) h.whole)

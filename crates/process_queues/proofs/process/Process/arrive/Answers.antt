@@ -1,4 +1,5 @@
 use Rattle.std.proofs.Common.{rules, ◌≡◌, [], ◌∷◌, map, drop, slice_get, Some, refl, sym, ap, ◌∙◌, subst}
+use Rattle.virtual_time.specs.Rules.{rowed}
 use Rattle.virtual_time.specs.Part.{arrive, counted}
 use Rattle.reverse.specs.Rules.{rules_of}
 use Rattle.antimessages.specs.Letters.{message_rules, signed}
@@ -56,7 +57,10 @@ returns-then-undoes_nothing-clause-answer g c opening part h =
     )
 
 pub roll_back-undone-requires-clause-some : goal.roll_back-undone-requires-clause-some
-roll_back-undone-requires-clause-some g c = let i = c.self.invariant in (i.0, i.1, i.2.past)
+roll_back-undone-requires-clause-some g c =
+    let r = rules_of g.R.Reversible.plain g.R.Actor.counter in
+    let i = c.self.invariant in
+    (i.0, drop c.self.inside.left (rowed r i.0 (i.1).committed), i.1, i.2.past)
 
 pub returns-clause-arrived : goal.returns-clause-arrived
 returns-clause-arrived g c opening part h =
@@ -68,14 +72,15 @@ returns-clause-arrived g c opening part h =
     let first : slice_get c.self.inside.tray.items 0 ≡ Some l = search rules in
     let rest = map signed (drop 1 c.self.inside.tray.items) in
     let tray = front-split c.self.inside.tray.items l first in
+    let there = drop c.self.inside.left (rowed r opening part.committed) in
     let b = counted-belongs r v opening part _ k R (signed l) rest in
     arrived-back r v opening part _ _ k R (signed l) rest c.add-2.new.self tray
     (turns r R v opening part _ h l _ refl (c.if-undoes_nothing.ensures.something refl))
     (counts-with r R v opening part _ k l c.self.inside.tally refl c.add-2.new.self
     (added-same_counts message_rules R.messages l c.add-2.new.self c.self.inside.tally c.in_ok-add-2.ensures.count c.in_ok-add-2.ensures.others))
-    (c.roll_back-undone.ensures.rolled opening (counted r (signed l) rest part) b)
-    refl refl refl (ap (map signed) c.pop_front-2.ensures)
-    (c.roll_back-undone.ensures.posted opening (counted r (signed l) rest part) b (c.in_ok-reserve.ensures.same ∙ k.outbox))
+    (c.roll_back-undone.ensures.rolled opening there (counted r (signed l) rest part) b)
+    refl refl refl refl (ap (map signed) c.pop_front-2.ensures)
+    (c.roll_back-undone.ensures.posted opening there (counted r (signed l) rest part) b (c.in_ok-reserve.ensures.same ∙ k.outbox))
 
 pub invariant_of-self-2 : goal.invariant_of-self-2
 invariant_of-self-2 g c =
@@ -97,5 +102,5 @@ returns-clause-answer g c opening part h =
       λ none. let bad : signed l ∷ rest ≡ [] = sym tray ∙ (k.tray ∙ none) in cc,
       undone-back r v opening part _ k R (signed l) rest c.roll_back-undone.new.self c.roll_back-undone.result tray
           (turns r R v opening part _ h l _ refl (c.if-undoes_nothing.ensures.something refl))
-          (c.roll_back-undone.ensures.rolled opening (counted r (signed l) rest part) b) c.roll_back-undone.ensures.count,
+          (c.roll_back-undone.ensures.rolled opening (drop c.self.inside.left (rowed r opening part.committed)) (counted r (signed l) rest part) b) c.roll_back-undone.ensures.count,
     )

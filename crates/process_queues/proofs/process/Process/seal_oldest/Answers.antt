@@ -1,4 +1,4 @@
-use Rattle.std.proofs.Common.{rules, ◌≡◌, ◌+◌, [], ◌∷◌, length, pos, arith, refl, sym, ap, ◌∙◌, subst}
+use Rattle.std.proofs.Common.{rules, ◌≡◌, ◌+◌, [], ◌∷◌, length, drop, pos, arith, refl, sym, ap, ◌∙◌, subst}
 use Rattle.std.proofs.lemmas.Int.{ints}
 use Rattle.std.proofs.lemmas.List.{length-append}
 use Rattle.std.specs.Option.{option_copied}
@@ -39,7 +39,8 @@ forget_oldest-noted-requires g c =
     let i = c.self.invariant in
     let f = first-done r v i.0 i.1 _ i.2 c.in-Some.event.now (sym c.oldest.ensures ∙ ap option_copied c.in-Some.is) in
     let b = reached r i.0 (i.1).committed in
-    (b, f.0, c.in-Some.event.now.message, rowed r i.0 (i.1).committed, subst (λ ms. IsPastOf r v b ms (rowed r i.0 (i.1).committed) c.self.inside.past) f.1 (i.2).past.past_of)
+    let there = drop c.self.inside.left (rowed r i.0 (i.1).committed) in
+    (b, f.0, c.in-Some.event.now.message, there, subst (λ ms. IsPastOf r v b ms there c.self.inside.past) f.1 (i.2).past.past_of)
 
 pub returns-clause-sealed : goal.returns-clause-sealed
 returns-clause-sealed g c opening part h =
@@ -50,14 +51,15 @@ returns-clause-sealed g c opening part h =
     let m = c.in-Some.event.now.message in
     let f = first-done r v opening part _ k c.in-Some.event.now (sym c.oldest.ensures ∙ ap option_copied c.in-Some.is) in
     let b = reached r opening part.committed in
-    let p = subst (λ ms. IsPastOf r v b ms (rowed r opening part.committed) c.self.inside.past) f.1 k.past.past_of in
+    let there = drop c.self.inside.left (rowed r opening part.committed) in
+    let p = subst (λ ms. IsPastOf r v b ms there c.self.inside.past) f.1 k.past.past_of in
     let one : signed_count message_rules m c.self.inside.tally ≡ pos 1 = c.if-not-take_one.ensures.one.0 (search rules) in
     let seals = ap (can_seal r part) f.1 ∙ one-left r R m part.tally c.self.inside.tally k.counts one in
-    let noted : c.from.result ≡ length (r.notes b m) = c.from.ensures ∙ c.forget_oldest-noted.ensures.noted b f.0 m (rowed r opening part.committed) p in
+    let noted : c.from.result ≡ length (r.notes b m) = c.from.ensures ∙ c.forget_oldest-noted.ensures.noted b f.0 m there p in
     let more : length c.push_reserved.new.self.items ≡ length c.self.inside.committed.items + 1 =
     ap length (c.push_reserved.ensures.items) ∙ (length-append c.reserve_if_one.new.committed.items (c.forget_oldest-noted.result ∷ []) ∙ ap (λ xs. length xs + 1) c.in_ok-reserve_if_one.ensures.same) in
     sealed-stands r v opening part _ _ k R m f.0 c.forget_oldest-noted.new.self c.take_one.new.self f.1 seals
-    (c.forget_oldest-noted.ensures.forgotten b f.0 m (rowed r opening part.committed) p) c.forget_oldest-noted.ensures.state
+    (c.forget_oldest-noted.ensures.forgotten b f.0 m there p) c.forget_oldest-noted.ensures.state
     (counts-less r R m part.tally c.self.inside.tally c.take_one.new.self k.counts (let none = c.take_one.ensures.count (search rules) in omega (arith, ints)) (c.take_one.ensures.others))
     (rw (noted, more) refl)
 
