@@ -124,49 +124,56 @@ module _ {S K : Type 0} {r : Rules Message S K Note} {number end : S → ℕ} {i
       gvt k.gvt_is count' (counts ∙ ap (λ n. count + n) (sym many)) (subst (λ n. 0 < n) (sym many) some)
       (set books p (mark (Some (length ts)) gvt)) (books-set new k.booked (λ q. refl) i refl gvt (omega arith))))
 
--- the letters that a process without a block collected are delivered to it
+-- a process without a block, after these letters were collected for it
+pub part-collected : {S K : Type 0} (f : Simulation Message S K Note) (p : ℕ) (own own' : List (Act Message)) (block : List Move) (xs : List (Signed Message)) → block ≡ [] → own' ≡ own ++ acts_of (Took xs) →
+    after_own f p own' ≡ local f.rules (f.opening p) (acts_of (Took xs)) (local f.rules (f.opening p) (map act_by block) (after_own f p own))
+part-collected f p own own' block xs none more =
+    ap (after_own f p) more ∙
+    (local-append f (f.opening p) own (acts_of (Took xs)) (opened (f.opening p)) ∙
+    ap (λ b. local f.rules (f.opening p) (acts_of (Took xs)) (local f.rules (f.opening p) (map act_by b) (after_own f p own))) (sym none))
+
 pub stands-collected : {S K : Type 0} (f : Simulation Message S K Note) (is_value : S → Message → Type 0) (p : ℕ) (own own' : List (Act Message)) (block : List Move) (xs : List (Signed Message)) (q q' : Queues S K) →
     block ≡ [] → own' ≡ own ++ acts_of (Took xs) → StandsFor f.rules is_value (f.opening p) (local f.rules (f.opening p) (map act_by block) (after_own f p own)) q →
     Does f.rules is_value (λ opening. delivered_all xs) q q' → StandsFor f.rules is_value (f.opening p) (after_own f p own') q'
 stands-collected f is_value p own own' block xs q q' none more stands does =
-    subst (λ z. StandsFor f.rules is_value (f.opening p) z q')
-    (delivered-local f.rules (f.opening p) xs (after_own f p own) ∙ sym (ap (after_own f p) more ∙ local-append f (f.opening p) own (acts_of (Took xs)) (opened (f.opening p))))
-    (does (f.opening p) (after_own f p own) (subst (λ b. StandsFor f.rules is_value (f.opening p) (local f.rules (f.opening p) (map act_by b) (after_own f p own)) q) none stands))
+    let part = local f.rules (f.opening p) (map act_by block) (after_own f p own) in
+    subst (λ z. StandsFor f.rules is_value (f.opening p) z q') (delivered-local f.rules (f.opening p) xs part ∙ sym (part-collected f p own own' block xs none more))
+    (does (f.opening p) part stands)
 
--- what a process without a block is after these letters
-pub share-collected : {S K : Type 0} (f : Simulation Message S K Note) (p : ℕ) (own own' : List (Act Message)) (block : List Move) (xs : List (Signed Message)) (m m' : Mark) →
+-- and what contracts see of it
+pub share-collected : {S K : Type 0} (f : Simulation Message S K Note) (p : ℕ) (own own' : List (Act Message)) (block : List Move) (xs : List (Signed Message)) (m m' : Mark) (gone : ℕ) →
     block ≡ [] → own' ≡ own ++ acts_of (Took xs) → m ≡ m' →
     ◌≡◌ {A = InShare S}
-    (record { number = p; part = local f.rules (f.opening p) (map act_by block) (after_own f p own'); block = block; own = own'; share = m })
+    (record { number = p; part = local f.rules (f.opening p) (map act_by block) (after_own f p own'); block = block; own = own'; share = m; gone = gone })
     (record {
       number = p;
       part = local f.rules (f.opening p) (acts_of (Took xs)) (local f.rules (f.opening p) (map act_by block) (after_own f p own));
       block = [];
       own = own ++ acts_of (Took xs);
       share = m';
+      gone = gone;
     })
-share-collected f p own own' block xs m m' none more same =
-    (λ i. record { number = p; part = local f.rules (f.opening p) (map act_by (none i)) (after_own f p (more i)); block = none i; own = more i; share = same i }) ∙
-    (λ i. record {
+share-collected f p own own' block xs m m' gone none more same =
+    λ i. record {
       number = p;
-      part = (local-append f (f.opening p) own (acts_of (Took xs)) (opened (f.opening p)) ∙
-          ap (λ b. local f.rules (f.opening p) (acts_of (Took xs)) (local f.rules (f.opening p) (map act_by b) (after_own f p own))) (sym none)) i;
-      block = [];
-      own = own ++ acts_of (Took xs);
-      share = m';
-    })
+      part = (ap (λ b. local f.rules (f.opening p) (map act_by b) (after_own f p own')) none ∙ part-collected f p own own' block xs none more) i;
+      block = none i;
+      own = more i;
+      share = same i;
+      gone = gone;
+    }
 
 module _ {S K : Type 0} (f : Simulation Message S K Note) (x : Ledger) (h : InShare S) (y : Ledger) (k : InShare S) where
   -- some were there
   pub collects-some : (xs ys : List (Signed Message)) → ys ≡ xs → 0 < length ys →
       y ≡ record { entries = x.entries ++ told h.number h.share.place (Took ys) ∷ []; books = set x.books h.number (mark (Some (length x.entries)) (reach f x.entries).gvt); limit = x.limit } →
-      k ≡ record { number = h.number; part = local f.rules (f.opening h.number) (acts_of (Took ys)) h.part; block = []; own = h.own ++ acts_of (Took ys); share = mark (Some (length x.entries)) (reach f x.entries).gvt } →
+      k ≡ record h { part = local f.rules (f.opening h.number) (acts_of (Took ys)) h.part; block = []; own = h.own ++ acts_of (Took ys); share = mark (Some (length x.entries)) (reach f x.entries).gvt } →
       collects f xs x h y k
   collects-some xs ys is some a b = subst (λ z. collects f z x h y k) is (go ys some a b)
     where
       go : (zs : List (Signed Message)) → 0 < length zs →
           y ≡ record { entries = x.entries ++ told h.number h.share.place (Took zs) ∷ []; books = set x.books h.number (mark (Some (length x.entries)) (reach f x.entries).gvt); limit = x.limit } →
-          k ≡ record { number = h.number; part = local f.rules (f.opening h.number) (acts_of (Took zs)) h.part; block = []; own = h.own ++ acts_of (Took zs); share = mark (Some (length x.entries)) (reach f x.entries).gvt } →
+          k ≡ record h { part = local f.rules (f.opening h.number) (acts_of (Took zs)) h.part; block = []; own = h.own ++ acts_of (Took zs); share = mark (Some (length x.entries)) (reach f x.entries).gvt } →
           collects f zs x h y k
       go [] some a b = absurd (omega arith)
       go (l ∷ ls) some a b = (a, b)

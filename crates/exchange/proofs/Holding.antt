@@ -4,7 +4,7 @@ use Rattle.std.proofs.lemmas.Bool.{and_parts}
 use Rattle.std.proofs.lemmas.List.{map-append}
 use Rattle.vlink.specs.declared.message.Message.{Message}
 use Rattle.vlink.specs.declared.note.Note.{Note}
-use Rattle.virtual_time.specs.Rules.{Rules}
+use Rattle.virtual_time.specs.Rules.{Rules, rowed}
 use Rattle.virtual_time.specs.Simulation.{Simulation, Laws}
 use Rattle.virtual_time.specs.Part.{Part, opened, emptied}
 use Rattle.virtual_time.specs.Own.{acted, local}
@@ -17,10 +17,12 @@ use Rattle.reverse.specs.Setting.{Setting, simulation_of}
 use Rattle.antimessages.specs.Letters.{Store}
 use Rattle.gvt.specs.Horizon.{Floors}
 use Rattle.process_queues.specs.Queues.{Queues, StandsFor}
+use Rattle.fossil.specs.Within.{AreFirstBefore}
 use Rattle.journal.specs.declared.tokens.Tokens.{Tokens}
 use Rattle.journal.specs.declared.tokens.EntryPlace.{EntryPlace}
 use Rattle.exchange.specs.declared.mark.Mark.{Mark}
 use Rattle.exchange.specs.Keeps.{entries_of, own_of, IsLast, IsRecorded, Holds}
+use Rattle.exchange.proofs.Gone.{gone-stays}
 
 module _ {S K : Type 0} (f : Simulation Message S K Note) where
   -- some steps and then others
@@ -39,24 +41,24 @@ module _ {S K : Type 0} (f : Simulation Message S K Note) where
   may-move g Sealed part e = (and_parts _ _ e).0
 
 module _ {S K : Type 0} {r : Rules Message S K Note} {number end : S → ℕ} {is_placed : S → Type 0} {x : Setting S} where
-  module _ {is_value : S → Message → Type 0} {pages table : List ℕ} {p seen : ℕ} {block : List Move} {last : Option EntryPlace} {q : Queues S K}
-      (h : Holds r number end is_placed x is_value pages table p seen block last q) (L : Laws (simulation_of r x)) where
+  module _ {is_value : S → Message → Type 0} {pages table : List ℕ} {p seen gone : ℕ} {block : List Move} {last : Option EntryPlace} {q : Queues S K}
+      (h : Holds r number end is_placed x is_value pages table p seen gone block last q) (L : Laws (simulation_of r x)) where
     -- it does one step more
     pub holds-moved : (m : Move) → can_move (simulation_of r x) seen m (local r (x.opening p) (map act_by block) (after_own (simulation_of r x) p (own_of last))) ≡ true →
         (q' : Queues S K) → StandsFor r is_value (x.opening p) (acted r (x.opening p) (act_by m) (local r (x.opening p) (map act_by block) (after_own (simulation_of r x) p (own_of last)))) q' → q'.left ≡ q.left →
-        (block' : List Move) → block' ≡ block ++ m ∷ [] → Holds r number end is_placed x is_value pages table p seen block' last q'
+        (block' : List Move) → block' ≡ block ++ m ∷ [] → Holds r number end is_placed x is_value pages table p seen gone block' last q'
     holds-moved m can q' stands kept block' longer =
         let f = simulation_of r x in
         let base = after_own f p (own_of last) in
         let part = local r (x.opening p) (map act_by block) base in
         let next : local r (x.opening p) (map act_by (block ++ m ∷ [])) base ≡ acted r (x.opening p) (act_by m) part = moved-then f (x.opening p) block (m ∷ []) base in
-        subst (λ b. Holds r number end is_placed x is_value pages table p seen b last q') (sym longer) (record {
+        subst (λ b. Holds r number end is_placed x is_value pages table p seen gone b last q') (sym longer) (record {
           laid = h.laid;
           same = h.same;
           number_is = h.number_is;
-          whole = kept ∙ h.whole;
           stands = subst (λ z. StandsFor r is_value (x.opening p) z q') (sym next) stands;
           safe = subst (λ z. IsSafePart f p seen z) (sym next) (acted-safe f L p seen h.number_is (act_by m) part h.safe (may-move f seen m part can));
+          gone_early = gone-stays r (x.opening p) part q h.stands gone h.gone_early (act_by m ∷ []) _ next q' kept;
           enabled = enabled-push f (x.opening p) seen block m base h.enabled can;
           last_is = h.last_is;
         })
@@ -64,29 +66,29 @@ module _ {S K : Type 0} {r : Rules Message S K Note} {number end : S → ℕ} {i
     -- its block goes to the journal
     pub holds-posted : (last' : Option EntryPlace) → IsLast pages last' → own_of last' ≡ own_of last ++ acts_of (Posted block) →
         (q' : Queues S K) → StandsFor r is_value (x.opening p) (emptied (local r (x.opening p) (map act_by block) (after_own (simulation_of r x) p (own_of last)))) q' → q'.left ≡ q.left →
-        (block' : List Move) → block' ≡ [] → Holds r number end is_placed x is_value pages table p seen block' last' q'
+        (block' : List Move) → block' ≡ [] → Holds r number end is_placed x is_value pages table p seen gone block' last' q'
     holds-posted last' is-last own q' stands kept block' none =
         let f = simulation_of r x in
         let base = after_own f p (own_of last) in
         let part = local r (x.opening p) (map act_by block) base in
         let next : after_own f p (own_of last') ≡ emptied part =
         ap (after_own f p) own ∙ (local-append f (x.opening p) (own_of last) (acts_of (Posted block)) (opened (x.opening p)) ∙ emptied-last f (x.opening p) block base) in
-        subst (λ b. Holds r number end is_placed x is_value pages table p seen b last' q') (sym none) (record {
+        subst (λ b. Holds r number end is_placed x is_value pages table p seen gone b last' q') (sym none) (record {
           laid = h.laid;
           same = h.same;
           number_is = h.number_is;
-          whole = kept ∙ h.whole;
           stands = subst (λ z. StandsFor r is_value (x.opening p) z q') (sym next) stands;
           safe = subst (λ z. IsSafePart f p seen z) (sym next) (acted-safe f L p seen h.number_is Emptying part h.safe tt);
+          gone_early = gone-stays r (x.opening p) part q h.stands gone h.gone_early (Emptying ∷ []) _ next q' kept;
           enabled = tt;
           last_is = is-last;
         })
 
   -- another table of the same names
-  pub holds-at : {is_value : S → Message → Type 0} {pages table : List ℕ} {p seen : ℕ} {block : List Move} {last : Option EntryPlace} {q : Queues S K} →
-      Holds r number end is_placed x is_value pages table p seen block last q → (table' : List ℕ) → table' ≡ pages → Holds r number end is_placed x is_value pages table' p seen block last q
-  holds-at {is_value = is_value} {pages = pages} {p = p} {seen = seen} {block = block} {last = last} {q = q} h table' e =
-      subst (λ z. Holds r number end is_placed x is_value pages z p seen block last q) (h.same ∙ sym e) h
+  pub holds-at : {is_value : S → Message → Type 0} {pages table : List ℕ} {p seen gone : ℕ} {block : List Move} {last : Option EntryPlace} {q : Queues S K} →
+      Holds r number end is_placed x is_value pages table p seen gone block last q → (table' : List ℕ) → table' ≡ pages → Holds r number end is_placed x is_value pages table' p seen gone block last q
+  holds-at {is_value = is_value} {pages = pages} {p = p} {seen = seen} {gone = gone} {block = block} {last = last} {q = q} h table' e =
+      subst (λ z. Holds r number end is_placed x is_value pages z p seen gone block last q) (h.same ∙ sym e) h
 
   module _ {pages table : List ℕ} {ts : List Tokens} {mail : List Store} {floors : Floors} {gvt count : ℕ} {books : List Mark}
       (k : IsRecorded r number end is_placed x pages table ts mail floors gvt count books) where
@@ -97,25 +99,26 @@ module _ {S K : Type 0} {r : Rules Message S K Note} {number end : S → ℕ} {i
 
     -- it saw the GVT of the journal, and has no block
     pub holds-seen : Laws (simulation_of r x) → (is_value : S → Message → Type 0) (p : ℕ) → p < x.processes → (last : Option EntryPlace) → IsLast pages last →
-        own_of last ≡ own_in p (entries_of ts) → (q : Queues S K) → StandsFor r is_value (x.opening p) (after_own (simulation_of r x) p (own_of last)) q → q.left ≡ 0 →
-        (block : List Move) → block ≡ [] → Holds r number end is_placed x is_value pages table p gvt block last q
-    holds-seen L is_value p i last is-last mine q stands whole block none =
+        own_of last ≡ own_in p (entries_of ts) → (q : Queues S K) → StandsFor r is_value (x.opening p) (after_own (simulation_of r x) p (own_of last)) q →
+        (gone : ℕ) → AreFirstBefore r gone q.left (rowed r (x.opening p) (after_own (simulation_of r x) p (own_of last)).committed) →
+        (block : List Move) → block ≡ [] → Holds r number end is_placed x is_value pages table p gvt gone block last q
+    holds-seen L is_value p i last is-last mine q stands gone early block none =
         let f = simulation_of r x in
-        subst (λ b. Holds r number end is_placed x is_value pages table p gvt b last q) (sym none) (record {
+        subst (λ b. Holds r number end is_placed x is_value pages table p gvt gone b last q) (sym none) (record {
           laid = k.laid;
           same = k.same;
           number_is = i;
-          whole = whole;
           stands = stands;
           safe = subst (λ z. IsSafePart f p gvt z) (sym (world-part p last mine))
               (subst (λ g. IsSafePart f p g ((reach f (entries_of ts)).parts p)) (sym k.gvt_is) (world-safe f L (steps (entries_of ts)) p i));
+          gone_early = early;
           enabled = tt;
           last_is = is-last;
         })
 
     -- what is in hand is the process of the world and then its block, of which each step can be done there
-    pub joined : {is_value : S → Message → Type 0} {table' : List ℕ} {p seen : ℕ} {block : List Move} {last : Option EntryPlace} {q : Queues S K} →
-        Holds r number end is_placed x is_value pages table' p seen block last q → seen ≤ gvt → own_of last ≡ own_in p (entries_of ts) →
+    pub joined : {is_value : S → Message → Type 0} {table' : List ℕ} {p seen gone : ℕ} {block : List Move} {last : Option EntryPlace} {q : Queues S K} →
+        Holds r number end is_placed x is_value pages table' p seen gone block last q → seen ≤ gvt → own_of last ≡ own_in p (entries_of ts) →
         (local r (x.opening p) (map act_by block) (after_own (simulation_of r x) p (own_of last)) ≡ local r (x.opening p) (map act_by block) ((reach (simulation_of r x) (entries_of ts)).parts p))
         × AreEnabled (simulation_of r x) (x.opening p) (reach (simulation_of r x) (entries_of ts)).gvt block ((reach (simulation_of r x) (entries_of ts)).parts p)
         × (own_of last ≡ own_in p (entries_of ts))

@@ -22,8 +22,8 @@ use Rattle.exchange.proofs.Holding.{joined}
 
 module _ {S K : Type 0} {r : Rules Message S K Note} {number end : S → ℕ} {is_placed : S → Type 0} {x : Setting S} {pages table : List ℕ} {ts : List Tokens} {mail : List Store} {floors : Floors}
     {gvt count : ℕ} {books : List Mark} (k : IsRecorded r number end is_placed x pages table ts mail floors gvt count books)
-    {is_value : S → Message → Type 0} {table' : List ℕ} {p seen : ℕ} {block : List Move} {last : Option EntryPlace} {q : Queues S K}
-    (h : Holds r number end is_placed x is_value pages table' p seen block last q) (fits : mark (place_in last) seen ≡ book_of books p) where
+    {is_value : S → Message → Type 0} {table' : List ℕ} {p seen gone : ℕ} {block : List Move} {last : Option EntryPlace} {q : Queues S K}
+    (h : Holds r number end is_placed x is_value pages table' p seen gone block last q) (fits : mark (place_in last) seen ≡ book_of books p) where
   low : seen ≤ gvt
   low = subst (λ s. s ≤ gvt) (sym (ap (λ (m : Mark). m.seen) fits)) (k.booked.seen_low p h.number_is)
 

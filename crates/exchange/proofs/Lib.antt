@@ -1,4 +1,5 @@
 mod Collected
+mod Gone
 mod Growth
 mod Holding
 mod Joining

@@ -24,44 +24,36 @@ use Rattle.exchange.proofs.Holding.{moved-then}
 module _ {S K : Type 0} (f : Simulation Message S K Note) where
   -- no step, one after some, and some after some
   pub moved-none : (h : InShare S) → h ≡ moved_by f [] h
-  moved-none h = λ i. record { number = h.number; part = h.part; block = sym (append-nil h.block) i; own = h.own; share = h.share }
+  moved-none h = λ i. record h { block = sym (append-nil h.block) i }
 
   pub moved-chain : (ms ns : List Move) (h : InShare S) → moved_by f ns (moved_by f ms h) ≡ moved_by f (ms ++ ns) h
-  moved-chain ms ns h = λ i. record {
-    number = h.number;
-    part = sym (moved-then f (f.opening h.number) ms ns h.part) i;
-    block = append_assoc h.block ms ns i;
-    own = h.own;
-    share = h.share;
-  }
+  moved-chain ms ns h = λ i. record h { part = sym (moved-then f (f.opening h.number) ms ns h.part) i; block = append_assoc h.block ms ns i }
 
   pub moved-more : (k : ℕ) (m : Move) (h h' h'' : InShare S) → h' ≡ moved_by f (replicate k m) h → h'' ≡ moved_by f (m ∷ []) h' → h'' ≡ moved_by f (replicate (k + 1) m) h
   moved-more k m h h' h'' a b =
       b ∙ (ap (moved_by f (m ∷ [])) a ∙ (moved-chain (replicate k m) (m ∷ []) h ∙ ap (λ ms. moved_by f ms h) (replicate_more k m)))
 
   -- what contracts see of a process in hand, of which the journal tells last in this entry
-  abbrev pub in_hand : ℕ → Option EntryPlace → ℕ → List Move → InShare S
-  in_hand p last seen ms =
+  abbrev pub in_hand : ℕ → Option EntryPlace → ℕ → ℕ → List Move → InShare S
+  in_hand p last seen gone ms =
       record {
         number = p;
         part = local f.rules (f.opening p) (map act_by ms) (after_own f p (own_of last));
         block = ms;
         own = own_of last;
         share = mark (place_in last) seen;
+        gone = gone;
       }
 
   -- and after one step more
-  pub moved-view : (p : ℕ) (last : Option EntryPlace) (seen : ℕ) (ms : List Move) (m : Move) (h : InShare S) → in_hand p last seen ms ≡ h → (ms' : List Move) → ms' ≡ ms ++ m ∷ [] →
-      in_hand p last seen ms' ≡ moved_by f (m ∷ []) h
-  moved-view p last seen ms m h is ms' e = one ∙ ap (moved_by f (m ∷ [])) is
+  pub moved-view : (p : ℕ) (last : Option EntryPlace) (seen gone : ℕ) (ms : List Move) (m : Move) (h : InShare S) → in_hand p last seen gone ms ≡ h → (ms' : List Move) → ms' ≡ ms ++ m ∷ [] →
+      in_hand p last seen gone ms' ≡ moved_by f (m ∷ []) h
+  moved-view p last seen gone ms m h is ms' e = one ∙ ap (moved_by f (m ∷ [])) is
     where
-      one : in_hand p last seen ms' ≡ moved_by f (m ∷ []) (in_hand p last seen ms)
-      one = λ i. record {
-        number = p;
+      one : in_hand p last seen gone ms' ≡ moved_by f (m ∷ []) (in_hand p last seen gone ms)
+      one = λ i. record (in_hand p last seen gone ms) {
         part = (ap (λ b. local f.rules (f.opening p) (map act_by b) (after_own f p (own_of last))) e ∙ moved-then f (f.opening p) ms (m ∷ []) (after_own f p (own_of last))) i;
         block = e i;
-        own = own_of last;
-        share = mark (place_in last) seen;
       }
 
   -- each arrival takes one letter from the tray

@@ -25,6 +25,7 @@ use Rattle.journal.specs.declared.tokens.EntryPlace.{EntryPlace}
 use Rattle.exchange.specs.declared.mark.Mark.{Mark}
 use Rattle.exchange.specs.Views.{InShare, blank, book_of, opened_share}
 use Rattle.exchange.specs.Keeps.{IsBooked, IsRecorded, Holds}
+use Rattle.exchange.proofs.Gone.{gone-none}
 use Rattle.exchange.proofs.Lists.{slice_get-last, slice_get-more}
 
 -- messages to processes of which there are so many
@@ -93,18 +94,19 @@ module _ {S K : Type 0} {r : Rules Message S K Note} {number end : S → ℕ} {i
         at p i = ap (λ bs. book_of bs p) blanks ∙ get_or-replicate x.processes p blank blank i
 
     pub holds-opened : Laws (simulation_of r x) → (is_value : S → Message → Type 0) (p : ℕ) → p < x.processes → (q : Queues S K) → StandsFor r is_value (x.opening p) (opened (x.opening p)) q → q.left ≡ 0 →
-        (block : List Move) → block ≡ [] → (last : Option EntryPlace) → last ≡ None → (seen : ℕ) → seen ≡ 0 → Holds r number end is_placed x is_value pages table p seen block last q
+        (block : List Move) → block ≡ [] → (last : Option EntryPlace) → last ≡ None → (seen : ℕ) → seen ≡ 0 →
+        (gone : ℕ) → Holds r number end is_placed x is_value pages table p seen gone block last q
     unfolding run
-    holds-opened L is_value p i q stands whole block none last nothing seen zero-is =
-        subst (λ b. Holds r number end is_placed x is_value pages table p seen b last q) (sym none)
-        (subst (λ l. Holds r number end is_placed x is_value pages table p seen [] l q) (sym nothing)
-        (subst (λ s. Holds r number end is_placed x is_value pages table p s [] None q) (sym zero-is) (record {
+    holds-opened L is_value p i q stands whole block none last nothing seen zero-is gone =
+        subst (λ b. Holds r number end is_placed x is_value pages table p seen gone b last q) (sym none)
+        (subst (λ l. Holds r number end is_placed x is_value pages table p seen gone [] l q) (sym nothing)
+        (subst (λ s. Holds r number end is_placed x is_value pages table p s gone [] None q) (sym zero-is) (record {
           laid = laid;
           same = same;
           number_is = i;
-          whole = whole;
           stands = stands;
           safe = world-safe (simulation_of r x) L [] p i;
+          gone_early = gone-none r gone q.left whole [];
           enabled = tt;
           last_is = tt;
         })))

@@ -106,7 +106,7 @@ part-posted f p own own' block block' more none =
 module _ {S K : Type 0} (f : Simulation Message S K Note) (x : Ledger) (h : InShare S) (y : Ledger) (k : InShare S) where
   pub posts-some : (ms : List Move) → 0 < length ms →
       y ≡ record { entries = x.entries ++ told h.number h.share.place (Posted ms) ∷ []; books = set x.books h.number (mark (Some (length x.entries)) h.share.seen); limit = x.limit } →
-      k ≡ record { number = h.number; part = emptied h.part; block = []; own = h.own ++ acts_of (Posted ms); share = mark (Some (length x.entries)) h.share.seen } →
+      k ≡ record h { part = emptied h.part; block = []; own = h.own ++ acts_of (Posted ms); share = mark (Some (length x.entries)) h.share.seen } →
       posts-effect f ms x h y k
   posts-some [] some a b = absurd (omega arith)
   posts-some (m ∷ ms) some a b = (a, b)

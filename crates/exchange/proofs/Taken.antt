@@ -24,7 +24,8 @@ use Rattle.exchange.specs.Keeps.{entries_of, own_of, place_in, IsRecorded, Holds
 use Rattle.exchange.specs.Effects.{told, mark, Collects}
 use Rattle.exchange.proofs.Growth.{Fresh, entries-are, own-now}
 use Rattle.exchange.proofs.Holding.{holds-at, holds-seen}
-use Rattle.exchange.proofs.Collected.{kept-collected, stands-collected, share-collected, collects-some}
+use Rattle.exchange.proofs.Gone.{gone-stays}
+use Rattle.exchange.proofs.Collected.{kept-collected, stands-collected, part-collected, share-collected, collects-some}
 
 -- a call that was not refused
 pub when-done : {T E P : Type 0} (r : Result T E) → is_err r ≡ false → OnOk r P → P
@@ -38,8 +39,8 @@ all-taken (Err e) P a b c d h = absurd (omega arith)
 
 module _ {S K : Type 0} {r : Rules Message S K Note} {number end : S → ℕ} {is_placed : S → Type 0} {x : Setting S} {pages table : List ℕ} {ts : List Tokens} {mail : List Store} {floors : Floors}
     {gvt count : ℕ} {books : List Mark} (k : IsRecorded r number end is_placed x pages table ts mail floors gvt count books)
-    {is_value : S → Message → Type 0} {table' : List ℕ} {p seen : ℕ} {block : List Move} {last : Option EntryPlace} {q : Queues S K}
-    (h : Holds r number end is_placed x is_value pages table' p seen block last q) (n : ℕ) (within : n ≤ length (letters_for p mail)) (some : 0 < n)
+    {is_value : S → Message → Type 0} {table' : List ℕ} {p seen gone : ℕ} {block : List Move} {last : Option EntryPlace} {q : Queues S K}
+    (h : Holds r number end is_placed x is_value pages table' p seen gone block last q) (n : ℕ) (within : n ≤ length (letters_for p mail)) (some : 0 < n)
     {t : Tokens} (new : Fresh pages ts (told p (place_in last) (Took (take n (letters_for p mail)))) (own_in p (entries_of ts)) t)
     (ts' : List Tokens) (more : ts' ≡ ts ++ t ∷ []) (at index : ℕ) (at-is : at ≡ length ts) (index-is : index ≡ p) where
   many : length (take n (letters_for p mail)) ≡ n
@@ -64,15 +65,18 @@ module _ {S K : Type 0} {r : Rules Message S K Note} {number end : S → ℕ} {i
     -- what the Held keeps
     pub holds-taken : {mail' : List Store} {floors' : Floors} {count' : ℕ} {books' : List Mark} → IsRecorded r number end is_placed x pages table ts' mail' floors' gvt count' books' → Laws (simulation_of r x) → count' ≤ 67108864 →
         (q₁ q' : Queues S K) → q₁ ≡ q → Does r is_value (λ opening. delivered_all (take n (letters_for p mail))) q₁ q' → q'.left ≡ q₁.left →
-        Holds r number end is_placed x is_value pages table' p gvt block (Some (record { number = at; tokens = t })) q'
+        Holds r number end is_placed x is_value pages table' p gvt gone block (Some (record { number = at; tokens = t })) q'
     holds-taken kept L few q₁ q' same does left =
         let f = simulation_of r x in
+        let xs = take n (letters_for p mail) in
         let here : at < 2 ^ 26 = let a = kept.enough in let b = ap length more ∙ length-append ts (t ∷ []) in omega arith in
         holds-at (holds-seen kept L is_value p h.number_is (Some (record { number = at; tokens = t })) (subst (λ m. IsAt pages m t) (sym at-is) new.at, here)
         (own-now new refl ∙ ap (λ us. own_in p (entries_of us)) (sym more)) q'
-        (stands-collected f is_value p (own_of last) (entry_own t.cell.value) block (take n (letters_for p mail)) q q' none own h.stands
-        (subst (λ z. Does r is_value (λ opening. delivered_all (take n (letters_for p mail))) z q') same does))
-        (left ∙ (ap (λ (z : Queues S K). z.left) same ∙ h.whole))
+        (stands-collected f is_value p (own_of last) (entry_own t.cell.value) block xs q q' none own h.stands
+        (subst (λ z. Does r is_value (λ opening. delivered_all xs) z q') same does))
+        gone
+        (gone-stays r (x.opening p) (local r (x.opening p) (map act_by block) (after_own f p (own_of last))) q h.stands gone h.gone_early (acts_of (Took xs)) _
+        (part-collected f p (own_of last) (entry_own t.cell.value) block xs none own) q' (left ∙ ap (λ (z : Queues S K). z.left) same))
         block none)
         table' h.same
 
@@ -86,6 +90,7 @@ module _ {S K : Type 0} {r : Rules Message S K Note} {number end : S → ℕ} {i
           block = block;
           own = own_of last;
           share = mark (place_in last) seen;
+          gone = gone;
         })
         (record { entries = entries_of ts'; books = set books index (mark (Some at) gvt); limit = limit })
         (record {
@@ -94,6 +99,7 @@ module _ {S K : Type 0} {r : Rules Message S K Note} {number end : S → ℕ} {i
           block = block;
           own = entry_own t.cell.value;
           share = mark (Some at) gvt;
+          gone = gone;
         })
         n
     collects-taken most limit n-is =
@@ -109,5 +115,5 @@ module _ {S K : Type 0} {r : Rules Message S K Note} {number end : S → ℕ} {i
                 books = set books (index-is i) (mark (Some (place i)) (k.gvt_is i));
                 limit = limit;
               })
-              (share-collected f p (own_of last) (entry_own t.cell.value) block xs (mark (Some at) gvt) (mark (Some (length (entries_of ts))) w.gvt) none own (λ i. mark (Some (place i)) (k.gvt_is i))),
+              (share-collected f p (own_of last) (entry_own t.cell.value) block xs (mark (Some at) gvt) (mark (Some (length (entries_of ts))) w.gvt) gone none own (λ i. mark (Some (place i)) (k.gvt_is i))),
         )

@@ -33,21 +33,14 @@ module _ {S K : Type 0} (f : Simulation Message S K Note) where
         books = set x.books h.number (mark h.share.place (reach f x.entries).gvt);
         limit = x.limit;
       })
-      × (k ≡ record {
-        number = h.number;
-        part = h.part;
-        block = h.block;
-        own = h.own;
-        share = mark h.share.place (reach f x.entries).gvt;
-      })
+      × (k ≡ record h { share = mark h.share.place (reach f x.entries).gvt })
   collects (a ∷ more) x h y k =
       (y ≡ record {
         entries = x.entries ++ told h.number h.share.place (Took (a ∷ more)) ∷ [];
         books = set x.books h.number (mark (Some (length x.entries)) (reach f x.entries).gvt);
         limit = x.limit;
       })
-      × (k ≡ record {
-        number = h.number;
+      × (k ≡ record h {
         part = local f.rules (f.opening h.number) (acts_of (Took (a ∷ more))) h.part;
         block = [];
         own = h.own ++ acts_of (Took (a ∷ more));
@@ -69,8 +62,7 @@ module _ {S K : Type 0} (f : Simulation Message S K Note) where
         books = set x.books h.number (mark (Some (length x.entries)) h.share.seen);
         limit = x.limit;
       })
-      × (k ≡ record {
-        number = h.number;
+      × (k ≡ record h {
         part = emptied h.part;
         block = [];
         own = h.own ++ acts_of (Posted (m ∷ ms));
@@ -92,14 +84,7 @@ module _ {S K : Type 0} (f : Simulation Message S K Note) where
 
   -- the process did these steps, and they joined the block
   abbrev pub moved_by : List Move → InShare S → InShare S
-  moved_by ms h =
-      record {
-        number = h.number;
-        part = local f.rules (f.opening h.number) (map act_by ms) h.part;
-        block = h.block ++ ms;
-        own = h.own;
-        share = h.share;
-      }
+  moved_by ms h = record h { part = local f.rules (f.opening h.number) (map act_by ms) h.part; block = h.block ++ ms }
 
   -- each of so many runs handles a message that is earlier than the limit
   abbrev pub RanEarly : ℕ → ℕ → Part Message S → Type 0

@@ -2,7 +2,7 @@
 use Rattle.std.specs.Prelude.{◌≡◌, ℕ, ◌<◌, ◌≤◌, ◌^◌, List, [], map, length, Option, Some, None, slice_get, ⊤}
 use Rattle.vlink.specs.declared.message.Message.{Message}
 use Rattle.vlink.specs.declared.note.Note.{Note}
-use Rattle.virtual_time.specs.Rules.{Rules}
+use Rattle.virtual_time.specs.Rules.{Rules, rowed}
 use Rattle.virtual_time.specs.Own.{Act, local}
 use Rattle.virtual_time.specs.SafePart.{IsSafePart}
 use Rattle.virtual_time.specs.Journal.{Move, Entry, act_by, steps, own_in, last_place, reach, after_own, AreEnabled}
@@ -11,6 +11,7 @@ use Rattle.antimessages.specs.Letters.{Store}
 use Rattle.antimessages.specs.Mailing.{letters_for}
 use Rattle.gvt.specs.Horizon.{Floors}
 use Rattle.process_queues.specs.Queues.{Queues, StandsFor}
+use Rattle.fossil.specs.Within.{AreFirstBefore}
 use Rattle.journal.specs.Deeds.{seen_entry, entry_own}
 use Rattle.journal.specs.Places.{IsAt}
 use Rattle.journal.specs.declared.entry.Deed.{Deed}
@@ -80,14 +81,14 @@ module _ {S K : Type 0} (r : Rules Message S K Note) (number end : S → ℕ) (i
     pub parts_is : (q : ℕ) → (reach (simulation_of r x) (entries_of ts)).parts q ≡ after_own (simulation_of r x) q (own_in q (entries_of ts))
     pub booked : AreBooked x.processes ts gvt books
 
-  -- a Held, which no row has left: it stands for what its last entry and then its block make of it, in which each step could be done at the
-  -- GVT that it saw, and it is safe below that
-  pub record Holds (is_value : S → Message → Type 0) (pages table : List ℕ) (p seen : ℕ) (block : List Move) (last : Option EntryPlace) (q : Queues S K) : Type 0 where
+  -- a Held: it stands for what its last entry and then its block make of it, in which each step could be done at the GVT that it saw, it is
+  -- safe below that, and the rows of committed events that left it are of moments before `gone`
+  pub record Holds (is_value : S → Message → Type 0) (pages table : List ℕ) (p seen gone : ℕ) (block : List Move) (last : Option EntryPlace) (q : Queues S K) : Type 0 where
     pub laid : IsLaidOut r number end is_placed x
     pub same : table ≡ pages
     pub number_is : p < x.processes
-    pub whole : q.left ≡ 0
     pub stands : StandsFor r is_value (x.opening p) (local r (x.opening p) (map act_by block) (after_own (simulation_of r x) p (own_of last))) q
     pub safe : IsSafePart (simulation_of r x) p seen (local r (x.opening p) (map act_by block) (after_own (simulation_of r x) p (own_of last)))
+    pub gone_early : AreFirstBefore r gone q.left (rowed r (x.opening p) (local r (x.opening p) (map act_by block) (after_own (simulation_of r x) p (own_of last))).committed)
     pub enabled : AreEnabled (simulation_of r x) (x.opening p) seen block (after_own (simulation_of r x) p (own_of last))
     pub last_is : IsLast pages last

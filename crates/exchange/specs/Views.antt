@@ -13,13 +13,14 @@ pub record Ledger : Type 0 where
   pub limit : ℕ
 
 -- a process: its number, what it has in hand, the steps that it did alone and that are not in the journal yet, what the journal tells of
--- it alone, and its share
+-- it alone, its share, and the moment, in ns, before which rows of its committed events may have left; none has where that is 0
 pub record InShare (S : Type 0) : Type 0 where
   pub number : ℕ
   pub part : Part Message S
   pub block : List Move
   pub own : List (Act Message)
   pub share : Mark
+  pub gone : ℕ
 
 -- of a process that is not in the journal yet
 abbrev pub blank : Mark
@@ -31,4 +32,4 @@ book_of books p = get_or books p blank
 
 -- process p that has done nothing, from its opening state
 abbrev pub opened_share : {S : Type 0} → (ℕ → S) → ℕ → InShare S
-opened_share opening p = record { number = p; part = opened (opening p); block = []; own = []; share = blank }
+opened_share opening p = record { number = p; part = opened (opening p); block = []; own = []; share = blank; gone = 0 }

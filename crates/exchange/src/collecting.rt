@@ -86,11 +86,7 @@ fn see<'a, R: Actor, J: ActorRun<R>>(held: &mut Held<'a, R, J>, exchange: &mut E
           (reach (simulation_of (rules_of R.plain R.counter) J.setting) exchange.old.entries).gvt);
       limit = exchange.old.limit;
     } }
-    ensures held { held.new ≡ record {
-      number = held.old.number;
-      part = held.old.part;
-      block = held.old.block;
-      own = held.old.own;
+    ensures held { held.new ≡ record held.old {
       share = mark held.old.share.place (reach (simulation_of (rules_of R.plain R.counter) J.setting) exchange.old.entries).gvt;
     } }
 {

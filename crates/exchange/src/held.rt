@@ -18,7 +18,7 @@ use std::snapshot::Snapshot;
 use vlink::{Letter, Message, Row, Time};
 
 /// A process, the block of the steps that it did alone since its last post, and its share: where the journal tells of it last, and the GVT
-/// that it saw.
+/// that it saw. Rows of its committed events can leave it, the oldest ones first.
 #[derive(Drop)]
 pub struct Held<'a, R: Actor, J: ActorRun<R>> {
     pub(crate) table: &'a Entries,
@@ -31,6 +31,8 @@ pub struct Held<'a, R: Actor, J: ActorRun<R>> {
     pub(crate) block: Block,
     pub(crate) last: Option<EntryPlace<'a>>,
     pub(crate) seen: Time,
+    /// The rows of committed events that have left are of moments before this one.
+    pub(crate) gone: Time,
     /// Room for what one event sends and notes.
     pub(crate) out: Outbound,
     pub(crate) alloc: Global,
@@ -56,10 +58,11 @@ impl<'a, R: Actor, J: ActorRun<R>> Model for Held<'a, R, J> {
       block = h.block;
       own = own_of h.last;
       share = record { place = place_in h.last; seen = h.seen };
+      gone = h.gone;
     } };
 
     ghost invariant = { λ h. Holds (rules_of R.plain R.counter) R.number R.end R.is_placed J.setting R.is_value J.pages (names h.table.now.pages.items)
-        h.number h.seen h.block h.last h.process.queues };
+        h.number h.seen h.gone h.block h.last h.process.queues };
 }
 
 impl<'a, R: Actor, J: ActorRun<R>> Held<'a, R, J> {
@@ -98,9 +101,16 @@ impl<'a, R: Actor, J: ActorRun<R>> Held<'a, R, J> {
         }
     }
 
-    /// The rows of its committed events, in their order.
+    /// The moment, in ns, before which rows of its committed events may have left. None has where it is 0.
+    pub fn gone(&self) -> Time
+        ensures { result ≡ self.now.gone }
+    {
+        self.gone
+    }
+
+    /// The rows of its committed events, in their order, where none has left.
     pub fn sealed(&self) -> &[Row]
-        ensures { map seen_row result.now ≡ rowed (rules_of R.plain R.counter) (J.setting.opening self.now.number) self.now.part.committed }
+        ensures { self.now.gone ≡ 0 → map seen_row result.now ≡ rowed (rules_of R.plain R.counter) (J.setting.opening self.now.number) self.now.part.committed }
     {
         self.process.sealed()
     }

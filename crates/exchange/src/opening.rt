@@ -122,6 +122,7 @@ impl<'a, R: Actor, J: ActorRun<R>> Held<'a, R, J> {
                 block: Block::new(),
                 last: None,
                 seen: Time::default(),
+                gone: Time::default(),
                 out: Outbound::new(number, until, 0),
                 alloc,
                 of: PhantomData,

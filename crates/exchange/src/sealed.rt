@@ -1,5 +1,5 @@
 //! The rows of a process in hand that are for good.
-ghost use Rattle.std.specs.Prelude.{◌≡◌, ◌≤◌, ◌↔◌, ℕ, [], map, IsTrue};
+ghost use Rattle.std.specs.Prelude.{◌≡◌, ◌≤◌, ◌↔◌, ℕ, [], map, max, IsTrue};
 ghost use Rattle.vlink.specs.declared.message.Message.{Message};
 ghost use Rattle.virtual_time.specs.Rules.{rowed};
 ghost use Rattle.virtual_time.specs.Lists.{earlier};
@@ -12,7 +12,7 @@ ghost use Rattle.fossil.specs.Within.{rows_within};
 
 use crate::held::Held;
 use crate::run_of::ActorRun;
-use fossil::rows_between;
+use fossil::{let_rows_go, rows_between};
 use reverse::{Actor, actor_laws, actor_rules};
 use vlink::{Row, Time};
 
@@ -26,11 +26,13 @@ impl<'a, R: Actor, J: ActorRun<R>> Held<'a, R, J> {
         moment.ns() <= self.seen.ns() && !is_before(self.process.oldest(), moment)
     }
 
-    /// The rows of its committed events of the moments from `from` on and before `to`, in ns, in their order.
+    /// The rows of its committed events of the moments from `from` on and before `to`, in ns, in their order. None of these has left, since
+    /// `from` is not earlier than `gone`.
     ///
     /// - `rows`: they are such rows of its committed events.
     /// - `whole`: where its events before `to` are all committed and are for good, they are all such rows that the one-thread run has of it.
     pub fn rows_between(&self, from: Time, to: Time) -> &[Row]
+        requires { self.now.gone ≤ from }
         ensures rows { map seen_row result.now
             ≡ rows_within (rules_of R.plain R.counter) from to (rowed (rules_of R.plain R.counter) (J.setting.opening self.now.number) self.now.part.committed) }
         ensures whole { to ≤ self.now.share.seen → earlier (rules_of R.plain R.counter) to self.now.part.done ≡ [] →
@@ -40,6 +42,15 @@ impl<'a, R: Actor, J: ActorRun<R>> Held<'a, R, J> {
     {
         actor_laws::<R>();
         rows_between(&self.process, from, to)
+    }
+
+    /// The rows of its committed events that are earlier than a moment, in ns, leave. It takes no memory.
+    pub fn let_rows_go(&mut self, moment: Time)
+        ensures { self.new ≡ record self.old { gone = max self.old.gone moment } }
+    {
+        actor_laws::<R>();
+        let_rows_go(&mut self.process, moment);
+        self.gone = self.gone.max(moment);
     }
 }
 

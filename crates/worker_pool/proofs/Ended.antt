@@ -1,12 +1,12 @@
 -- What holds of a run that is ended.
-use Rattle.std.proofs.Common.{◌≡◌, ◌∙◌, ℕ, suc, ◌+◌, List, [], ◌++◌, map, length, slice_get, sym, ap, subst, arith}
+use Rattle.std.proofs.Common.{◌≡◌, ◌∙◌, ℕ, suc, ◌+◌, List, [], ◌++◌, filter, map, length, slice_get, sym, ap, subst, arith}
 use Rattle.std.specs.Prelude.{Some}
 use Rattle.std.proofs.lemmas.List.{nil_from_length}
 use Rattle.vlink.specs.declared.message.Message.{Message}
 use Rattle.vlink.specs.declared.note.Row.{Row as Noted}
 use Rattle.virtual_time.specs.Rules.{rowed}
 use Rattle.virtual_time.specs.Simulation.{Laws}
-use Rattle.virtual_time.specs.OneThread.{one}
+use Rattle.virtual_time.specs.OneThread.{one, rows_at}
 use Rattle.virtual_time.specs.Part.{Part}
 use Rattle.virtual_time.specs.Own.{local}
 use Rattle.virtual_time.specs.Safe.{IsWhole}
@@ -17,14 +17,13 @@ use Rattle.nodes.specs.rules.Node.{NodeState}
 use Rattle.nodes.specs.rules.Opening.{opening}
 use Rattle.nodes.specs.rules.Simulation.{simulation_of}
 use Rattle.exchange.specs.Views.{InShare}
-use Rattle.trace_tables.specs.Counting.{rows_at as noted_at}
-use Rattle.trace_tables.specs.Tables.{TableLists, tables_of}
 use Rattle.actor_run.specs.Running.{seen_row}
 use Rattle.seqsim.specs.Committed.{after, AreCommittedRows}
 use Rattle.seqsim.specs.Networks.{AreRowsOf}
 use Rattle.seqsim.proofs.CommittedRows.{AreRowsBelow, rows-more, rows-all, rows-whole}
-use Rattle.seqsim.proofs.SeenRows.{unseen, forth, same-at}
+use Rattle.seqsim.proofs.SeenRows.{unseen, forth}
 use Rattle.worker_pool.specs.Runs.{IsOfWorld, IsEnded}
+use Rattle.worker_pool.proofs.PartRows.{AreAsInRun, is_inside}
 use Rattle.worker_pool.proofs.Places.{some-at}
 
 -- the process at a place has committed all that it has done
@@ -90,10 +89,15 @@ module _ (plan : Plan) (entries : List (Entry Message)) where
         pub some-rows : (rows : List Noted) × AreRowsOf plan rows
         some-rows = let f = simulation_of plan in (unseen (one f W.turns).rows, (W.turns, W.none_waits, forth (one f W.turns).rows))
 
-        -- the tables of committed rows are theirs
-        pub tables-whole : ((xs ys : List Noted) → ((p : ℕ) → noted_at p xs ≡ noted_at p ys) → tables_of plan xs ≡ tables_of plan ys) →
-            (tables : TableLists) → (rows : List Noted) × AreCommittedRows plan (steps entries) rows × (tables ≡ tables_of plan rows) →
-            (rows : List Noted) → AreRowsOf plan rows → tables ≡ tables_of plan rows
-        tables-whole by_place tables found rows r =
+        -- in any interval the rows of a process are those that the one-thread run has of it
+        pub as-in-run : (n : ℕ) (share : InShare NodeState) → slice_get shares n ≡ Some share → (from to : ℕ) (rows : List Noted) →
+            map seen_row rows ≡ filter (is_inside plan n from to) (rowed (simulation_of plan).rules (opening plan share.number) share.part.committed) →
+            AreAsInRun plan n from to rows
+        as-in-run n share at from to rows is turns none =
             let f = simulation_of plan in
-            found.2 ∙ by_place found.0 rows (same-at f found.0 rows (λ p. found.1 p ∙ sym (rows-whole f L (steps entries) W rows r.0 r.1 r.2 p)))
+            let here = E.each n share at in
+            let numbered = ap (λ (p : ℕ). rowed f.rules (opening plan p) share.part.committed) here.0 in
+            let reached = ap (λ (part : Part Message NodeState). rowed f.rules (opening plan n) part.committed) here.1 in
+            let run = (one f turns).rows in
+            let whole = rows-whole f L (steps entries) W (unseen run) turns none (forth run) n in
+            is ∙ ap (filter (is_inside plan n from to)) (numbered ∙ (reached ∙ (sym whole ∙ ap (rows_at f n) (forth run))))

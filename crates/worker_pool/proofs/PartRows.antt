@@ -40,17 +40,17 @@ pass-again a q (x ∷ xs) = go (a x) (q x) refl refl (pass-again a q xs)
     go true false e d i = rw d i
 
 -- rows of the process that are those of the one-thread run in some interval
-abbrev AreAsInRun : Plan → ℕ → ℕ → ℕ → List Noted → Type 0
+abbrev pub AreAsInRun : Plan → ℕ → ℕ → ℕ → List Noted → Type 0
 AreAsInRun plan p from to rows =
     (turns : ℕ) → (one (simulation_of plan) turns).waiting ≡ [] → map seen_row rows
     ≡ filter (λ (row : Row Message Note). nat_le from row.message.time && nat_lt row.message.time to) (rows_at (simulation_of plan) p (one (simulation_of plan) turns).rows)
 
 module _ (plan : Plan) (p from to : ℕ) where
-  abbrev is_inside : Row Message Note → Bool
+  abbrev pub is_inside : Row Message Note → Bool
   is_inside row = nat_le from row.message.time && nat_lt row.message.time to
 
   -- they are those of its rows
-  same-rows : (rows run : List Noted) → AreAsInRun plan p from to rows → AreRowsOf plan run → rows ≡ rows_within from to (noted_at p run)
+  pub same-rows : (rows run : List Noted) → AreAsInRun plan p from to rows → AreRowsOf plan run → rows ≡ rows_within from to (noted_at p run)
   same-rows rows run here r =
       let seen : map seen_row rows ≡ map seen_row (rows_within from to (noted_at p run)) =
       here r.0 r.1 ∙ (ap (λ z. filter is_inside (rows_at (simulation_of plan) p z)) (sym r.2)
@@ -73,15 +73,18 @@ part-by-name plan p k part is rows r =
     is rows r ∙ ap (λ (n : ℕ). part_of 0 n k plan.until rows) (sym (ap (λ (z : PartRows). z.process) (is rows r)))
 
 -- numbers, places and moments that a call was given, and what they are
-module _ (plan : Plan) (k until to i : ℕ) (ends : until ≡ plan.until) (nth : i ≡ k) (last : to ≡ cut until (i + 1)) where
-  at-end : to ≡ cut plan.until (k + 1)
+module _ (plan : Plan) (k until from to i : ℕ) (ends : until ≡ plan.until) (nth : i ≡ k) (first : from ≡ cut until i) (last : to ≡ cut until (i + 1)) where
+  pub at-beginning : from ≡ cut plan.until k
+  at-beginning = first ∙ (ap (λ z. cut z i) ends ∙ ap (cut plan.until) nth)
+
+  pub at-end : to ≡ cut plan.until (k + 1)
   at-end = last ∙ (ap (λ z. cut z (i + 1)) ends ∙ ap (λ z. cut plan.until (z + 1)) nth)
 
-  pub part-at : (p n from : ℕ) → n ≡ p → from ≡ cut until i → (rows : List Noted) → AreAsInRun plan p from to rows →
+  pub part-at : (p n : ℕ) → n ≡ p → (rows : List Noted) → AreAsInRun plan p from to rows →
       (part : PartRows) → part ≡ part_of 0 n i until rows → IsPartOfRun plan p k part
-  part-at p n from here first rows seen part is =
+  part-at p n here rows seen part is =
       part-of-run plan p k rows
-      (subst (λ z. AreAsInRun plan p z (cut plan.until (k + 1)) rows) (first ∙ (ap (λ z. cut z i) ends ∙ ap (cut plan.until) nth))
+      (subst (λ z. AreAsInRun plan p z (cut plan.until (k + 1)) rows) at-beginning
       (subst (λ z. AreAsInRun plan p from z rows) at-end seen))
       part (is ∙ (ap (λ z. part_of 0 z i until rows) here ∙ (ap (λ z. part_of 0 p z until rows) nth ∙ ap (λ z. part_of 0 p k z rows) ends)))
 
@@ -92,13 +95,14 @@ module _ (plan : Plan) (k until to i : ℕ) (ends : until ≡ plan.until) (nth :
     abbrev is_for_good : Type 0
     is_for_good = (to ≤ share.share.seen) × (earlier (simulation_of plan).rules to share.part.done ≡ [])
 
-    -- there is a part just where there is such an interval, if it is for good
-    pub some-at : is_for_good → (A : Type 0) → A ↔ HasInterval until i → A ↔ IsIntervalSealed plan k share
-    some-at good A is = (
+    -- there is a part just where there is such an interval, if it is for good and its rows are there
+    pub some-at : is_for_good → share.gone ≤ from → (A : Type 0) → A ↔ HasInterval until i → A ↔ IsIntervalSealed plan k share
+    some-at good there A is = (
       λ a. record {
         inside = subst (λ (T : Type 0). T) same-interval (is.0 a);
         seen = subst (λ z. z ≤ share.share.seen) at-end good.0;
         none_done = subst (λ z. earlier (simulation_of plan).rules z share.part.done ≡ []) at-end good.1;
+        there = subst (λ z. share.gone ≤ z) at-beginning there;
       },
       λ s. is.1 (subst (λ (T : Type 0). T) (sym same-interval) s.inside),
     )

@@ -64,7 +64,7 @@ filter-both p q r both (x ∷ xs) = go (p x) (filter-both p q r both xs) ∙ ap 
 
 module _ (rows : List Noted) (splits : (moment : ℕ) → rows ≡ rows_before moment rows ++ rows_from moment rows) where
   -- the rows before a moment, and those within it and a later one, are those before the later one
-  before-more : (from to : ℕ) → from ≤ to → rows_before from rows ++ rows_within from to rows ≡ rows_before to rows
+  pub before-more : (from to : ℕ) → from ≤ to → rows_before from rows ++ rows_within from to rows ≡ rows_before to rows
   before-more from to le =
       sym (ap (rows_before to) (splits from)
       ∙ (filter-append (λ row. nat_lt row.message.time to) (rows_before from rows) (rows_from from rows)

@@ -10,12 +10,13 @@ use Rattle.trace_tables.specs.Intervals.{cut, HasInterval}
 use Rattle.trace_tables.specs.Parts.{PartRows, part_of}
 use Rattle.seqsim.specs.Networks.{AreRowsOf}
 
--- interval k is for good at a process: there is such an interval, its end is not later than the GVT that the process saw, and no done event
--- of the process is earlier
+-- interval k is for good at a process, and its rows are there: there is such an interval, its end is not later than the GVT that the process
+-- saw, no done event of the process is earlier, and no row from its beginning on has left
 pub record IsIntervalSealed (plan : Plan) (k : ℕ) (share : InShare NodeState) : Type 0 where
   pub inside : HasInterval plan.until k
   pub seen : cut plan.until (k + 1) ≤ share.share.seen
   pub none_done : earlier (simulation_of plan).rules (cut plan.until (k + 1)) share.part.done ≡ []
+  pub there : share.gone ≤ cut plan.until k
 
 -- the part has just the rows that the one-thread run of the network has of the process and of interval k
 abbrev pub IsPartOfRun : Plan → ℕ → ℕ → PartRows → Type 0

@@ -109,7 +109,7 @@ impl<J: NetworkRun> TraceLock<J> {
         Ok(TraceLock { alloc, until, desk })
     }
 
-    /// The next part that a process can give goes to the desk. The answer is whether there was one.
+    /// The next part that a process can give goes to the desk, and its rows leave the process. The answer is whether there was one.
     fn give_part<'a, T: Wait>(
         &self,
         rt: &T,
@@ -121,6 +121,9 @@ impl<J: NetworkRun> TraceLock<J> {
         // The process is one of the network.
         let _process = locked.held.number();
         self.desk.lock(rt).take(rt, part)?;
+        locked
+            .held
+            .let_rows_go(cut(self.until, u64::from(locked.given)));
         Ok(true)
     }
 

@@ -3,6 +3,7 @@
 #![tactic(auto)]
 
 mod calls;
+mod counted;
 mod desk;
 mod due;
 mod ending;

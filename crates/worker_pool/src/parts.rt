@@ -12,7 +12,8 @@ use trace_tables::{Part, cut};
 use vlink::{GREATEST_NS, Time};
 
 /// The part of the trace of the next interval that a process gives, as a part of run 0: number `given`, from 0. `until` is the end time of the
-/// network, in ns. None: events of the interval can still come or be undone, as far as the process saw, or all intervals were given.
+/// network, in ns. None: events of the interval can still come or be undone, as far as the process saw, rows of it may have left the process,
+/// or all intervals were given.
 ///
 /// It is refused for memory alone, and then the interval is still to be given.
 ///
@@ -42,7 +43,7 @@ pub fn next_part<'a, J: NetworkRun>(
     Ok(part)
 }
 
-/// The part of interval `k`, as a part of run 0, if the interval is for good at the process.
+/// The part of interval `k`, as a part of run 0, if the interval is for good at the process and its rows are there.
 fn sealed_part<'a, J: NetworkRun>(
     held: &Held<'a, Node, Of<J>>,
     alloc: Global,
@@ -56,16 +57,11 @@ fn sealed_part<'a, J: NetworkRun>(
     ensures some { IfOk result (λ part. IsSome part ↔ IsIntervalSealed J.plan k held.now) }
 {
     let k = u64::from(k);
+    let from = cut(until, k);
     let to = cut(until, k + 1);
-    if !held.is_sealed_before(to) {
+    if held.gone().ns() > from.ns() || !held.is_sealed_before(to) {
         return Ok(None);
     }
-    Part::cut(
-        alloc,
-        held.rows_between(cut(until, k), to),
-        0,
-        held.number(),
-        k,
-        until,
-    )
+    let rows = held.rows_between(from, to);
+    Part::cut(alloc, rows, 0, held.number(), k, until)
 }

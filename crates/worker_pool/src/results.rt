@@ -7,19 +7,24 @@ ghost use Rattle.seqsim.specs.Committed.{AreCommittedRows};
 ghost use Rattle.seqsim.specs.Networks.{AreRowsOf};
 ghost use Rattle.worker_pool.specs.Runs.{IsEnded};
 
+use crate::counted::Counted;
 use crate::ending::Unlocked;
+use crate::lawful_rows::lawful_rows;
 use crate::network_run::NetworkRun;
+use journal::PoolFault;
 use netdesc::Network;
 use nodes::{Node, NodeRecord};
 use seqsim::{network_laws, rows_by_process};
-use std::alloc::{AllocError, Global};
-use trace_tables::{Tables, TablesSoFar, put_in_message_order, tables_by_place};
+use std::alloc::Global;
+use trace_tables::{Tables, batches_in_order, put_in_message_order, tables_by_place};
 use virtual_time::headline;
-use vlink::{Message, Note, Row};
+use vlink::{Message, Note, Row, Time};
 
 impl<'a, J: NetworkRun> Unlocked<'a, J> {
     /// The rows of all committed events, process by process.
-    fn gathered_rows(&self, alloc: Global, network: &Network) -> Result<Vec<Row>, AllocError>
+    ///
+    /// `Torn`: rows have left a process.
+    fn gathered_rows(&self, alloc: Global, network: &Network) -> Result<Vec<Row>, PoolFault>
         requires network { network.now ≡ J.plan }
         requires ended { IsEnded J.plan self.now.exchange.entries (map (λ l. l.held) self.now.lockeds.items) }
         ensures { IfOk result (λ rows. AreCommittedRows J.plan (steps self.now.exchange.entries) rows.items) }
@@ -28,13 +33,18 @@ impl<'a, J: NetworkRun> Unlocked<'a, J> {
         let mut rows = Vec::new(alloc);
         for process in 0..self.lockeds.len() {
             let locked = &self.lockeds[process];
+            if locked.held.gone().ns() != 0 {
+                return Err(PoolFault::Torn);
+            }
             rows.extend_from_slice(locked.held.sealed())?;
         }
         Ok(rows)
     }
 
-    /// The rows of all events, in message order. It fails only where memory is refused.
-    pub(crate) fn rows(&self, alloc: Global, network: &Network) -> Result<Vec<Row>, AllocError>
+    /// The rows of all events, in message order.
+    ///
+    /// `OutOfMemory`: memory is refused. `Torn`: rows have left a process.
+    pub(crate) fn rows(&self, alloc: Global, network: &Network) -> Result<Vec<Row>, PoolFault>
         requires network { network.now ≡ J.plan }
         requires ended { IsEnded J.plan self.now.exchange.entries (map (λ l. l.held) self.now.lockeds.items) }
         ensures { IfOk result (λ rows. AreRowsOf J.plan rows.items) }
@@ -45,32 +55,32 @@ impl<'a, J: NetworkRun> Unlocked<'a, J> {
         Ok(rows)
     }
 
-    /// The tables of the rows of all committed events, counted process by process.
-    fn counted_tables(&self, alloc: Global, network: &Network) -> Result<Tables, AllocError>
-        requires network { network.now ≡ J.plan }
-        requires ended { IsEnded J.plan self.now.exchange.entries (map (λ l. l.held) self.now.lockeds.items) }
-        ensures { IfOk result (λ tables. (rows : List Noted) × AreCommittedRows J.plan (steps self.now.exchange.entries) rows ×
-            (tables ≡ tables_of J.plan rows)) }
-    {
-        network_laws(network);
-        let mut tables = TablesSoFar::none(alloc, network)?;
-        for process in 0..self.lockeds.len() {
-            let locked = &self.lockeds[process];
-            tables.count(network, locked.held.sealed())?;
-        }
-        tables.tables(network)
-    }
-
-    /// The tables of the run. No row of it is kept. It fails only where memory is refused.
-    pub(crate) fn tables(&self, alloc: Global, network: &Network) -> Result<Tables, AllocError>
+    /// The tables of the run: those of the rows that were counted, and of the rows that each process has from there on. No row of it is kept.
+    ///
+    /// `OutOfMemory`: memory is refused, or was while rows were counted. `Torn`: rows have left a process that were not counted.
+    pub(crate) fn tables(&self, network: &Network, counted: Counted<J>) -> Result<Tables, PoolFault>
         requires network { network.now ≡ J.plan }
         requires ended { IsEnded J.plan self.now.exchange.entries (map (λ l. l.held) self.now.lockeds.items) }
         ensures whole { IfOk result (λ tables. (rows : List Noted) × AreRowsOf J.plan rows × (tables ≡ tables_of J.plan rows)) }
         ensures each { IfOk result (λ tables. (rows : List Noted) → AreRowsOf J.plan rows → tables ≡ tables_of J.plan rows) }
     {
         network_laws(network);
+        lawful_rows(network);
+        batches_in_order();
         headline::<Message, Node, NodeRecord, Note>();
         tables_by_place();
-        self.counted_tables(alloc, network)
+        let Counted { tables, end, .. } = counted;
+        let Some(mut tables) = tables else {
+            return Err(PoolFault::OutOfMemory);
+        };
+        let behind = Time::known(network.until().ns() + 1);
+        for process in 0..self.lockeds.len() {
+            let locked = &self.lockeds[process];
+            if locked.held.gone().ns() > end.ns() {
+                return Err(PoolFault::Torn);
+            }
+            tables.count(network, locked.held.rows_between(end, behind))?;
+        }
+        Ok(tables.tables(network)?)
     }
 }

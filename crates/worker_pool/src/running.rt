@@ -11,6 +11,7 @@ ghost use Rattle.seqsim.specs.Networks.{AreRowsOf};
 ghost use Rattle.worker_pool.specs.Paces.{IsPace};
 ghost use Rattle.worker_pool.specs.Runs.{IsEnded};
 
+use crate::counted::Counted;
 use crate::desk::TraceLock;
 use crate::ending::Unlocked;
 use crate::locks::locks_of;
@@ -102,7 +103,8 @@ fn tables_named<J: NetworkRun + Send + Sync, G: Gate + Sync, T: Threads + Wait +
     ensures each { IfOk result (λ tables. (rows : List Noted) → AreRowsOf network.now rows → tables ≡ tables_of network.now rows) }
 {
     let ended = run_to_end::<J, G, T>(rt, alloc, network, table, pace, gate, None)?;
-    Ok(ended.tables(alloc, network)?)
+    let counted = Counted::none(alloc, network)?;
+    ended.tables(network, counted)
 }
 
 /// Simulates a network by workers that run ahead and roll back, as the pace says. The gate is told of each message that is handled.
@@ -112,7 +114,7 @@ fn tables_named<J: NetworkRun + Send + Sync, G: Gate + Sync, T: Threads + Wait +
 ///
 /// `OutOfMemory` comes only where a growth was refused, and `Exhausted` only where a process had not enough numbers left for what one event
 /// can send. `JournalFull`: the run takes more than 2^26 steps. `Spawn`: a worker cannot be started. `Torn`: a process was not the one of
-/// the journal. Of several the one with the least number is answered.
+/// the journal, or rows of it left that were not counted. Of several the one with the least number is answered.
 pub fn run<G: Gate + Sync, T: Threads + Wait + Sync>(
     rt: &T,
     alloc: Global,

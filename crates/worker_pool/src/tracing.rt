@@ -1,5 +1,5 @@
 //! The run of a network by workers whose trace is written while it goes on.
-ghost use Rattle.std.specs.Prelude.{◌≡◌, ◌+◌, List, map, IfOk, IfErr, IfSome, OnOk};
+ghost use Rattle.std.specs.Prelude.{◌≡◌, ◌+◌, List, map, IsTrue, IfOk, IfErr, IfSome, OnOk};
 ghost use Rattle.std.specs.Io.KnownBytes.{append_known};
 ghost use Rattle.vlink.specs.declared.note.Row.{Row as Noted};
 ghost use Rattle.virtual_time.specs.Safe.{IsFinished};
@@ -13,10 +13,14 @@ ghost use Rattle.trace_tables.specs.Tables.{tables_of};
 ghost use Rattle.trace_tables.specs.Text.{trace_text};
 ghost use Rattle.seqsim.specs.Committed.{after};
 ghost use Rattle.seqsim.specs.Networks.{AreRowsOf};
+ghost use Rattle.worker_pool.specs.Counts.{AreCountedBefore};
 ghost use Rattle.worker_pool.specs.Paces.{IsPace};
+ghost use Rattle.worker_pool.specs.Runs.{IsEnded};
 ghost use Rattle.worker_pool.specs.Written.{IsPlaceFault, IsFaultOfTrace, IsWritten};
 
+use crate::counted::Counted;
 use crate::desk::{TraceLock, closed};
+use crate::ending::Unlocked;
 use crate::network_run::NetworkRun;
 use crate::pace::Pace;
 use crate::run_writer::RunWriter;
@@ -53,52 +57,44 @@ pub struct Traced<O, S> {
     pub sink: S,
 }
 
-/// The tables and the steps of a run whose parts of the trace go to this lock, and the first fault of a part that is not want of memory. No batch
-/// is sent once the run is ended.
-fn summary_of_run<J: NetworkRun + Send + Sync, G: Gate + Sync, T: Threads + Wait + Sync>(
+/// Runs a network by workers until it is ended, where the parts of the trace go to this lock. Beside the run is the first fault of a part that
+/// is not want of memory. No batch is sent once the run is ended.
+fn run_closed<'a, J: NetworkRun + Send + Sync, G: Gate + Sync, T: Threads + Wait + Sync>(
     rt: &T,
     alloc: Global,
     network: &Network,
-    table: &Entries,
+    table: &'a Entries,
     pace: &Pace,
     gate: &G,
     trace: TraceLock<J>,
-) -> Result<(Summary, Option<PartFault>), PoolFault>
+) -> Result<(Unlocked<'a, J>, Option<PartFault>), PoolFault>
     requires network { network.now ≡ J.plan }
     requires table { names table.now.pages.items ≡ J.pages }
-    ensures tables { IfOk result (λ r. (rows : List Noted) × AreRowsOf J.plan rows × (r.0.tables ≡ tables_of J.plan rows)) }
-    ensures each { IfOk result (λ r. (rows : List Noted) → AreRowsOf J.plan rows → r.0.tables ≡ tables_of J.plan rows) }
-    ensures finished { IfOk result (λ r. IsFinished (simulation_of J.plan) (after J.plan (map step_of r.0.journal.items))) }
+    ensures ended { IfOk result (λ r. IsEnded J.plan r.0.exchange.entries (map (λ l. l.held) r.0.lockeds.items)) }
     ensures fault { IfOk result (λ r. IfSome r.1 IsPlaceFault) }
 {
     let mut ended = run_to_end::<J, G, T>(rt, alloc, network, table, pace, gate, Some(trace))?;
     let fault = closed(ended.trace.take());
-    let tables = ended.tables(alloc, network)?;
-    let journal = ended.exchange.step_list(alloc)?;
-    Ok((Summary { tables, journal }, fault))
+    Ok((ended, fault))
 }
 
-/// The tables of a run, as `summary_of_run` finds them, without its steps.
-fn tables_of_run<J: NetworkRun + Send + Sync, G: Gate + Sync, T: Threads + Wait + Sync>(
-    rt: &T,
+/// The steps of a run that is ended, or none where they are not asked for. It is refused for memory alone.
+fn steps_of<'a, J: NetworkRun>(
+    ended: &Unlocked<'a, J>,
     alloc: Global,
-    network: &Network,
-    table: &Entries,
-    pace: &Pace,
-    gate: &G,
-    trace: TraceLock<J>,
-) -> Result<(Tables, Option<PartFault>), PoolFault>
-    requires network { network.now ≡ J.plan }
-    requires table { names table.now.pages.items ≡ J.pages }
-    ensures tables { IfOk result (λ r. (rows : List Noted) × AreRowsOf J.plan rows × (r.0 ≡ tables_of J.plan rows)) }
-    ensures each { IfOk result (λ r. (rows : List Noted) → AreRowsOf J.plan rows → r.0 ≡ tables_of J.plan rows) }
-    ensures fault { IfOk result (λ r. IfSome r.1 IsPlaceFault) }
+    with_steps: bool,
+) -> Result<Vec<Step>, PoolFault>
+    requires { IsEnded J.plan ended.now.exchange.entries (map (λ l. l.held) ended.now.lockeds.items) }
+    ensures { IfOk result (λ steps. IsTrue with_steps → IsFinished (simulation_of J.plan) (after J.plan (map step_of steps.items))) }
 {
-    let mut ended = run_to_end::<J, G, T>(rt, alloc, network, table, pace, gate, Some(trace))?;
-    let fault = closed(ended.trace.take());
-    Ok((ended.tables(alloc, network)?, fault))
+    if with_steps {
+        ended.exchange.step_list(alloc)
+    } else {
+        Ok(Vec::new(alloc))
+    }
 }
 
+/// The run of `run_traced`, of this network run and this writing of a trace. Its steps are listed where they are asked for.
 fn traced_named<
     J: NetworkRun + Send + Sync,
     K: TraceRun + Send + Sync,
@@ -113,6 +109,7 @@ fn traced_named<
     pace: &Pace,
     gate: &G,
     sink: S,
+    with_steps: bool,
 ) -> Result<Traced<Summary, S>, PoolFault>
     requires network { network.now ≡ J.plan }
     requires table { names table.now.pages.items ≡ J.pages }
@@ -120,11 +117,12 @@ fn traced_named<
     requires failures { S.failures sink ≡ K.failures }
     ensures tables { IfOk result (λ t. (rows : List Noted) × AreRowsOf J.plan rows × (t.outcome.tables ≡ tables_of J.plan rows)) }
     ensures each { IfOk result (λ t. (rows : List Noted) → AreRowsOf J.plan rows → t.outcome.tables ≡ tables_of J.plan rows) }
-    ensures finished { IfOk result (λ t. IsFinished (simulation_of J.plan) (after J.plan (map step_of t.outcome.journal.items))) }
+    ensures finished { IfOk result (λ t. IsTrue with_steps → IsFinished (simulation_of J.plan) (after J.plan (map step_of t.outcome.journal.items))) }
     ensures written { IfOk result (λ t. IsWritten J.plan K.taken K.failures t.written (S.taken t.sink) (S.failures t.sink)) }
 {
     let (to, from) = bounded(alloc, MOST_BATCHES)?;
     let trace: TraceLock<J> = TraceLock::new(alloc, network, to)?;
+    let counted: Counted<J> = Counted::none(alloc, network)?;
     let writing: Writing<J, K, S> = Writing::new(RunWriter::new(alloc, network, sink));
     thread::scope(
         thread::scope_env(),
@@ -132,72 +130,24 @@ fn traced_named<
         |scope| -> Result<Traced<Summary, S>, PoolFault>
             requires network { network.now ≡ J.plan }
             requires table { names table.now.pages.items ≡ J.pages }
+            requires counted { IfSome counted.tables (AreCountedBefore J.plan counted.end) }
             ensures tables { IfOk result (λ t. (rows : List Noted) × AreRowsOf J.plan rows × (t.outcome.tables ≡ tables_of J.plan rows)) }
             ensures each { IfOk result (λ t. (rows : List Noted) → AreRowsOf J.plan rows → t.outcome.tables ≡ tables_of J.plan rows) }
-            ensures finished { IfOk result (λ t. IsFinished (simulation_of J.plan) (after J.plan (map step_of t.outcome.journal.items))) }
+            ensures finished { IfOk result (λ t. IsTrue with_steps → IsFinished (simulation_of J.plan) (after J.plan (map step_of t.outcome.journal.items))) }
             ensures written { IfOk result (λ t. IsWritten J.plan K.taken K.failures t.written (S.taken t.sink) (S.failures t.sink)) }
         {
-            let Ok(writer) = scope.spawn(move || write_batches(rt, writing, from)) else {
+            let Ok(writer) = scope.spawn(move || write_batches(rt, network, writing, counted, from))
+            else {
                 return Err(PoolFault::Spawn);
             };
-            let ran = summary_of_run(rt, alloc, network, table, pace, gate, trace);
-            let writing = writer.join(rt);
-            let (outcome, fault) = ran?;
+            let ran = run_closed(rt, alloc, network, table, pace, gate, trace);
+            let (writing, counted) = writer.join(rt);
+            let (ended, fault) = ran?;
+            let tables = ended.tables(network, counted)?;
+            let journal = steps_of(&ended, alloc, with_steps)?;
             let (written, sink) = writing.finish(fault);
             Ok(Traced {
-                outcome,
-                written,
-                sink,
-            })
-        },
-    )
-}
-
-fn tables_traced_named<
-    J: NetworkRun + Send + Sync,
-    K: TraceRun + Send + Sync,
-    S: Sink + Drop + Send,
-    G: Gate + Sync,
-    T: Threads + Wait + Sync,
->(
-    rt: &T,
-    alloc: Global,
-    network: &Network,
-    table: &Entries,
-    pace: &Pace,
-    gate: &G,
-    sink: S,
-) -> Result<Traced<Tables, S>, PoolFault>
-    requires network { network.now ≡ J.plan }
-    requires table { names table.now.pages.items ≡ J.pages }
-    requires taken { S.taken sink ≡ K.taken }
-    requires failures { S.failures sink ≡ K.failures }
-    ensures tables { IfOk result (λ t. (rows : List Noted) × AreRowsOf J.plan rows × (t.outcome ≡ tables_of J.plan rows)) }
-    ensures each { IfOk result (λ t. (rows : List Noted) → AreRowsOf J.plan rows → t.outcome ≡ tables_of J.plan rows) }
-    ensures written { IfOk result (λ t. IsWritten J.plan K.taken K.failures t.written (S.taken t.sink) (S.failures t.sink)) }
-{
-    let (to, from) = bounded(alloc, MOST_BATCHES)?;
-    let trace: TraceLock<J> = TraceLock::new(alloc, network, to)?;
-    let writing: Writing<J, K, S> = Writing::new(RunWriter::new(alloc, network, sink));
-    thread::scope(
-        thread::scope_env(),
-        rt,
-        |scope| -> Result<Traced<Tables, S>, PoolFault>
-            requires network { network.now ≡ J.plan }
-            requires table { names table.now.pages.items ≡ J.pages }
-            ensures tables { IfOk result (λ t. (rows : List Noted) × AreRowsOf J.plan rows × (t.outcome ≡ tables_of J.plan rows)) }
-            ensures each { IfOk result (λ t. (rows : List Noted) → AreRowsOf J.plan rows → t.outcome ≡ tables_of J.plan rows) }
-            ensures written { IfOk result (λ t. IsWritten J.plan K.taken K.failures t.written (S.taken t.sink) (S.failures t.sink)) }
-        {
-            let Ok(writer) = scope.spawn(move || write_batches(rt, writing, from)) else {
-                return Err(PoolFault::Spawn);
-            };
-            let ran = tables_of_run(rt, alloc, network, table, pace, gate, trace);
-            let writing = writer.join(rt);
-            let (outcome, fault) = ran?;
-            let (written, sink) = writing.finish(fault);
-            Ok(Traced {
-                outcome,
+                outcome: Summary { tables, journal },
                 written,
                 sink,
             })
@@ -206,7 +156,8 @@ fn tables_traced_named<
 }
 
 /// Simulates a network by workers that run ahead and roll back, as `run` does, and writes the trace to the sink while the run goes on: parts of
-/// it leave the processes in intervals that are the same for all, and a thread of its own writes them in order. No list of all rows is made.
+/// it leave the processes in intervals that are the same for all, and a thread of its own counts their rows and writes them in order. No list of
+/// all rows is made: the rows of an interval leave their process with its part, and are dropped once they are counted and written.
 ///
 /// - `whole`: where the writing went well, the sink took the trace of the rows of the one-thread run, as `trace_tables::write_trace` writes it.
 /// - `beginning`: in any case it took a beginning of that text, and nothing else.
@@ -217,7 +168,8 @@ fn tables_traced_named<
 /// where there was none either, the outcome of `TraceWriter::finish`. The run itself goes on after any of them.
 ///
 /// Its refusals are those of `run`, and the sink is dropped then, with a beginning of the trace in it. `OutOfMemory` comes also for a part or
-/// a batch, and `Spawn` also where the writer's thread cannot be started.
+/// a batch, or at the end where a growth was refused while rows were counted; `Torn` also where rows that left came in no batch, as behind a
+/// part that was refused; and `Spawn` also where the writer's thread cannot be started.
 pub fn run_traced<S: Sink + Drop + Send, G: Gate + Sync, T: Threads + Wait + Sync>(
     rt: &T,
     alloc: Global,
@@ -239,7 +191,7 @@ pub fn run_traced<S: Sink + Drop + Send, G: Gate + Sync, T: Threads + Wait + Syn
     ensures fault { IfOk result (λ t. IfErr t.written IsFaultOfTrace) }
 {
     let table = Entries::new(alloc)?;
-    traced_named::<Brand, Brand, S, G, T>(rt, alloc, network, &table, &pace, gate, sink)
+    traced_named::<Brand, Brand, S, G, T>(rt, alloc, network, &table, &pace, gate, sink, true)
 }
 
 /// Simulates a network by workers and writes its trace, as `run_traced` does, where beside it only the tables are asked for: the list of steps
@@ -264,5 +216,16 @@ pub fn run_tables_traced<S: Sink + Drop + Send, G: Gate + Sync, T: Threads + Wai
     ensures fault { IfOk result (λ t. IfErr t.written IsFaultOfTrace) }
 {
     let table = Entries::new(alloc)?;
-    tables_traced_named::<Brand, Brand, S, G, T>(rt, alloc, network, &table, &pace, gate, sink)
+    let Traced {
+        outcome,
+        written,
+        sink,
+    } = traced_named::<Brand, Brand, S, G, T>(
+        rt, alloc, network, &table, &pace, gate, sink, false,
+    )?;
+    Ok(Traced {
+        outcome: outcome.tables,
+        written,
+        sink,
+    })
 }

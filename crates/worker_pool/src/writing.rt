@@ -3,13 +3,16 @@ ghost use Rattle.std.specs.Prelude.{◌≡◌, true, Err, IfErr, IfSome};
 ghost use Rattle.std.proofs.Props.{props};
 ghost use Rattle.trace_tables.specs.declared.fault.OutFault.TheVariants.{Device};
 ghost use Rattle.trace_tables.specs.declared.trace_fault.TraceFault.TheVariants.{Out};
+ghost use Rattle.worker_pool.specs.Counts.{AreCountedBefore};
 ghost use Rattle.worker_pool.specs.Written.{outcome_of, IsPlaceFault, IsFaultOfTrace, IsWritten};
 
+use crate::counted::Counted;
 use crate::network_run::NetworkRun;
 use crate::run_batch::RunBatch;
 use crate::run_writer::RunWriter;
 use crate::trace_run::TraceRun;
 use crossbeam_channel::Receiver;
+use netdesc::Network;
 use std::sync::Wait;
 use trace_tables::{PartFault, Sink, TraceFault};
 
@@ -69,15 +72,23 @@ fn outcome_of(
     }
 }
 
-/// Writes batches in the order in which they come, until no more can come.
+/// Counts the rows of batches and writes their lines, in the order in which the batches come, until no more can come. Rows are counted after a
+/// fault too.
 pub(crate) fn write_batches<'a, J: NetworkRun, K: TraceRun, S: Sink, T: Wait>(
     rt: &T,
+    network: &Network,
     writing: Writing<'a, J, K, S>,
+    counted: Counted<J>,
     batches: Receiver<RunBatch<J>>,
-) -> Writing<'a, J, K, S> {
+) -> (Writing<'a, J, K, S>, Counted<J>)
+    requires network { network.now ≡ J.plan }
+    requires counted { IfSome counted.tables (AreCountedBefore J.plan counted.end) }
+{
     let mut writing = writing;
+    let mut counted = counted;
     for batch in batches.iter(rt) {
+        counted.take(network, &batch);
         writing.take(batch);
     }
-    writing
+    (writing, counted)
 }

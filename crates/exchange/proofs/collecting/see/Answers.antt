@@ -1,4 +1,4 @@
-use Rattle.std.proofs.Common.{refl, sym, ap, ◌∙◌, subst, arith, map}
+use Rattle.std.proofs.Common.{[], refl, sym, ap, ◌∙◌, subst, arith, map}
 use Rattle.virtual_time.specs.Own.{local}
 use Rattle.virtual_time.specs.Journal.{act_by, after_own}
 use Rattle.reverse.specs.Rules.{rules_of}
@@ -8,6 +8,7 @@ use Rattle.exchange.specs.declared.mark.Mark.{Mark}
 use Rattle.journal.specs.Names.{names}
 use Rattle.exchange.specs.Views.{book_of}
 use Rattle.exchange.specs.Keeps.{own_of}
+use Rattle.exchange.proofs.Gone.{gone-stays}
 use Rattle.exchange.proofs.Holding.{holds-at, holds-seen}
 use Rattle.exchange.proofs.Collected.{books-seen, kept-as}
 use Rattle.exchange.proofs.collecting.see.Goals as goal
@@ -38,4 +39,7 @@ invariant_of-held g c =
     let base = after_own (simulation_of r x) p (own_of c.held.inside.last) in
     holds-at (holds-seen k (c.actor_laws.ensures x k.laid) g.R.Reversible.is_value p h.number_is c.held.inside.last h.last_is mine c.held.inside.process.queues
     (subst (λ b. StandsFor r g.R.Reversible.is_value (x.opening p) (local r (x.opening p) (map act_by b) base) c.held.inside.process.queues) none h.stands)
-    h.whole c.held.inside.block none) (names c.held.inside.table.now.pages.items) h.same
+    c.held.inside.gone
+    (gone-stays r (x.opening p) (local r (x.opening p) (map act_by c.held.inside.block) base) c.held.inside.process.queues h.stands c.held.inside.gone h.gone_early [] base
+    (sym (ap (λ b. local r (x.opening p) (map act_by b) base) none)) c.held.inside.process.queues refl)
+    c.held.inside.block none) (names c.held.inside.table.now.pages.items) h.same

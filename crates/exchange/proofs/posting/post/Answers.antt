@@ -140,4 +140,5 @@ returns-in-Ok-clause-ok g c =
       block = none i;
       own = own i;
       share = mark (Some (at i)) seen;
+      gone = c.held.inside.gone;
     }))

@@ -1,4 +1,4 @@
-use Rattle.std.proofs.Common.{◌≡◌, ◌∙◌, ◌↔◌, ap}
+use Rattle.std.proofs.Common.{◌≡◌, ◌∙◌, ◌↔◌, ap, arith}
 use Rattle.std.specs.Prelude.{Option, IsSome, IfSome}
 use Rattle.std.proofs.lemmas.Option.{IfSome_then}
 use Rattle.actor_run.proofs.Errors.{ok-weaker}
@@ -10,21 +10,22 @@ use Rattle.worker_pool.proofs.parts.sealed_part.Goals as goal
 
 pub returns-clause-own : goal.returns-clause-own
 returns-clause-own g c =
-    ok-weaker (λ (part : Option PartRows). IfSome part (λ p. p ≡ part_of 0 c.number.result c.from-k.result c.args.until c.rows_between.result.now))
+    ok-weaker (λ (part : Option PartRows). IfSome part (λ p. p ≡ part_of 0 c.number.result c.from-k.result c.args.until c.rows_between-rows.result.now))
     (λ part. IfSome part (λ p. (p.run ≡ 0) × (p.process ≡ c.args.held.now.number)))
     (λ part h. IfSome_then part h (λ p is. (ap (λ (z : PartRows). z.run) is, ap (λ (z : PartRows). z.process) is ∙ c.number.ensures.number)))
-    c.cut-2.result c.cut-2.ensures.part
+    c.cut.result c.cut.ensures.part
 
 pub returns-clause-part : goal.returns-clause-part
 returns-clause-part g c =
     let plan = g.J.NetworkRun.plan in
     let share = c.args.held.now in
     let good = c.is_sealed_before.ensures.0 c.if-not-is_sealed_before.false in
-    ok-weaker (λ (part : Option PartRows). IfSome part (λ p. p ≡ part_of 0 c.number.result c.from-k.result c.args.until c.rows_between.result.now))
+    ok-weaker (λ (part : Option PartRows). IfSome part (λ p. p ≡ part_of 0 c.number.result c.from-k.result c.args.until c.rows_between-rows.result.now))
     (λ part. IfSome part (IsPartOfRun plan share.number c.args.k))
-    (λ part h. IfSome_then part h (part-at plan c.args.k c.args.until c.cut-to.result c.from-k.result c.requires.until c.from-k.ensures c.cut-to.ensures
-    share.number c.number.result c.cut.result c.number.ensures.number c.cut.ensures c.rows_between.result.now (c.rows_between.ensures.whole good.0 good.1)))
-    c.cut-2.result c.cut-2.ensures.part
+    (λ part h. IfSome_then part h (part-at plan c.args.k c.args.until c.cut-from.result c.cut-to.result c.from-k.result c.requires.until c.from-k.ensures
+    c.cut-from.ensures c.cut-to.ensures share.number c.number.result c.number.ensures.number c.rows_between-rows.result.now
+    (c.rows_between-rows.ensures.whole good.0 good.1)))
+    c.cut.result c.cut.ensures.part
 
 pub returns-clause-some : goal.returns-clause-some
 returns-clause-some g c =
@@ -32,5 +33,6 @@ returns-clause-some g c =
     let share = c.args.held.now in
     let good = c.is_sealed_before.ensures.0 c.if-not-is_sealed_before.false in
     ok-weaker (λ (part : Option PartRows). IsSome part ↔ HasInterval c.args.until c.from-k.result) (λ part. IsSome part ↔ IsIntervalSealed plan c.args.k share)
-    (λ part. some-at plan c.args.k c.args.until c.cut-to.result c.from-k.result c.requires.until c.from-k.ensures c.cut-to.ensures share good (IsSome part))
-    c.cut-2.result c.cut-2.ensures.some
+    (λ part. some-at plan c.args.k c.args.until c.cut-from.result c.cut-to.result c.from-k.result c.requires.until c.from-k.ensures
+    c.cut-from.ensures c.cut-to.ensures share good (omega arith) (IsSome part))
+    c.cut.result c.cut.ensures.some

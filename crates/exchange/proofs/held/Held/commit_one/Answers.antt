@@ -27,7 +27,7 @@ invariant_of-self-in-Ok-true g c =
 
 pub returns-in-Ok-true-clause-committed : goal.returns-in-Ok-true-clause-committed
 returns-in-Ok-true-clause-committed g c = λ yes.
-    moved-view (simulation_of (rules_of g.R.Reversible.plain g.R.Actor.counter) g.J.ActorRun.setting) c.self.inside.number c.self.inside.last c.self.inside.seen c.self.inside.block Sealed
+    moved-view (simulation_of (rules_of g.R.Reversible.plain g.R.Actor.counter) g.J.ActorRun.setting) c.self.inside.number c.self.inside.last c.self.inside.seen c.self.inside.gone c.self.inside.block Sealed
     c.args.self.now c.self.view_is c.push.new.self c.in_ok-push.ensures.pushed
 
 pub returns-in-Ok-true-clause-fewer : goal.returns-in-Ok-true-clause-fewer
@@ -40,8 +40,8 @@ returns-in-Ok-true-clause-fewer g c = λ yes.
     let seen = c.self.inside.seen in
     let part = local r (x.opening p) (map act_by c.self.inside.block) (after_own f p (own_of c.self.inside.last)) in
     let ready : is_ready r seen part ≡ true = sym (c.in-Ok-true.ensures.answer _ _ h.stands) ∙ c.in-Ok-true.field-0-test in
-    commit-takes f c.args.self.now (in_hand f p c.self.inside.last seen c.push.new.self) seen (subst (λ (z : InShare g.row.R.Denot). is_ready r seen z.part ≡ true) c.self.view_is ready)
-    (moved-view f p c.self.inside.last seen c.self.inside.block Sealed c.args.self.now c.self.view_is c.push.new.self c.in_ok-push.ensures.pushed)
+    commit-takes f c.args.self.now (in_hand f p c.self.inside.last seen c.self.inside.gone c.push.new.self) seen (subst (λ (z : InShare g.row.R.Denot). is_ready r seen z.part ≡ true) c.self.view_is ready)
+    (moved-view f p c.self.inside.last seen c.self.inside.gone c.self.inside.block Sealed c.args.self.now c.self.view_is c.push.new.self c.in_ok-push.ensures.pushed)
 
 pub returns-in-Ok-false-clause-none : goal.returns-in-Ok-false-clause-none
 returns-in-Ok-false-clause-none g c = λ no.

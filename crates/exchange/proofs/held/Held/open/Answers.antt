@@ -11,4 +11,4 @@ invariant_of-result g c =
     let q = c.in-Ok.process.queues in
     let stands = subst (λ s. StandsFor r g.R.Reversible.is_value s (opened s) q) c.requires.actor c.in-Ok.ensures.stands in
     holds-opened c.requires.layout c.requires.table (c.actor_laws.ensures g.J.ActorRun.setting c.requires.layout) g.R.Reversible.is_value c.args.number c.requires.within
-    q stands c.in-Ok.ensures.left c.new-in-Ok.result c.new-in-Ok.ensures _ refl c.default.result c.default.ensures
+    q stands c.in-Ok.ensures.left c.new-in-Ok.result c.new-in-Ok.ensures _ refl c.default.result c.default.ensures c.default-in-Ok.result

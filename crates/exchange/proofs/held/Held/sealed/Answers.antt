@@ -1,10 +1,12 @@
-use Rattle.std.proofs.Common.{map, drop, sym, ap, ◌∙◌}
+use Rattle.std.proofs.Common.{map, drop, sym, ap, ◌∙◌, subst, arith}
 use Rattle.virtual_time.specs.Rules.{rowed}
 use Rattle.virtual_time.specs.Own.{local}
 use Rattle.virtual_time.specs.Journal.{act_by, after_own}
 use Rattle.reverse.specs.Rules.{rules_of}
 use Rattle.reverse.specs.Setting.{simulation_of}
+use Rattle.fossil.specs.Within.{AreFirstBefore}
 use Rattle.exchange.specs.Keeps.{own_of}
+use Rattle.exchange.proofs.Gone.{gone-zero}
 use Rattle.exchange.proofs.held.Held.sealed.Goals as goal
 
 pub returns : goal.returns
@@ -14,4 +16,8 @@ returns g c =
     let x = g.J.ActorRun.setting in
     let p = c.self.inside.number in
     let part = local r (x.opening p) (map act_by c.self.inside.block) (after_own (simulation_of r x) p (own_of c.self.inside.last)) in
-    rw (sym c.self.view_is) (c.sealed.ensures _ _ h.stands ∙ ap (λ n. drop n (rowed r (x.opening p) part.committed)) h.whole)
+    let rows = rowed r (x.opening p) part.committed in
+    rw (sym c.self.view_is) (λ none.
+    let whole = gone-zero r c.self.inside.process.queues.left rows (let a = h.stands.sealed in omega arith)
+    (subst (λ t. AreFirstBefore r t c.self.inside.process.queues.left rows) none h.gone_early) in
+    c.sealed.ensures _ _ h.stands ∙ ap (λ n. drop n rows) whole)

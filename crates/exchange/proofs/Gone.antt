@@ -1,0 +1,83 @@
+-- Rows of committed events that left a process: the first ones, so many, which are of moments before one.
+use Rattle.std.proofs.Common.{◌≡◌, ℕ, zero, suc, ◌<◌, ◌≤◌, Bool, true, false, cond, All, List, [], ◌∷◌, ◌++◌, take, length, Option, Some, None, refl, sym, ap, ◌∙◌, subst, arith, append-nil, append_assoc}
+use Rattle.std.proofs.lemmas.List.{take-append-le}
+use Rattle.std.proofs.lemmas.List.Elements.{All-nil}
+use Rattle.vlink.specs.declared.message.Message.{Message}
+use Rattle.vlink.specs.declared.note.Note.{Note}
+use Rattle.virtual_time.specs.Rules.{Rules, Row, rowed, reached}
+use Rattle.virtual_time.specs.Letters.{Letter}
+use Rattle.virtual_time.specs.Part.{Part, next_of, handled, arrived, is_turned, rolled_back, counted, can_seal, sealed}
+use Rattle.virtual_time.specs.Own.{Act, acted, local}
+use Rattle.virtual_time.specs.Own.Act.{Deliver, Arriving, Running, Sealing, Emptying}
+use Rattle.virtual_time.proofs.Handling.{rowed-append}
+use Rattle.process_queues.specs.Queues.{Queues, StandsFor}
+use Rattle.fossil.specs.Within.{AreFirstBefore}
+
+module _ {S K : Type 0} (r : Rules Message S K Note) where
+  -- where no row has left, all that left are early
+  pub gone-none : (moment n : ℕ) → n ≡ 0 → (rows : List (Row Message Note)) → AreFirstBefore r moment n rows
+  gone-none moment n none rows = subst (λ z. AreFirstBefore r moment z rows) (sym none) (All-nil (λ row. r.time row.message < moment))
+
+  -- what is earlier than a moment is earlier than a later one
+  pub gone-later : (moment later : ℕ) → moment ≤ later → (n : ℕ) (rows : List (Row Message Note)) → AreFirstBefore r moment n rows → AreFirstBefore r later n rows
+  gone-later moment later le n rows h i d lt = let a = h i d lt in omega arith
+
+  -- no row is of a moment before 0, so that none has left
+  pub gone-zero : (n : ℕ) (rows : List (Row Message Note)) → n ≤ length rows → AreFirstBefore r 0 n rows → n ≡ 0
+  gone-zero zero rows within h = refl
+  gone-zero (suc n) [] within h = absurd (omega arith)
+  gone-zero (suc n) (x ∷ xs) within h = let a = h 0 x (omega arith) in absurd (omega arith)
+
+  module _ (o : S) where
+    -- each act leaves the committed events or puts some behind them
+    abbrev Grows : List Message → List Message → Type 0
+    Grows old new = (more : List Message) × (new ≡ old ++ more)
+
+    stays : (ms : List Message) → Grows ms ms
+    stays ms = ([], sym (append-nil ms))
+
+    arriving-grows : (part : Part Message S) (ls : List (Letter Message)) → Grows part.committed (arrived r o part ls).committed
+    arriving-grows part [] = stays part.committed
+    arriving-grows part (l ∷ rest) = go (is_turned r l part.tally)
+      where
+        go : (b : Bool) → Grows part.committed (cond b (rolled_back r o l.message (counted r l rest part)) (counted r l rest part)).committed
+        go true = stays part.committed
+        go false = stays part.committed
+
+    running-grows : (part : Part Message S) (m : Option Message) → Grows part.committed (handled r part m).committed
+    running-grows part None = stays part.committed
+    running-grows part (Some m) = stays part.committed
+
+    sealing-grows : (part : Part Message S) (ms : List Message) → Grows part.committed (cond (can_seal r part ms) (sealed r part ms) part).committed
+    sealing-grows part [] = stays part.committed
+    sealing-grows part (m ∷ rest) = go (can_seal r part (m ∷ rest))
+      where
+        go : (b : Bool) → Grows part.committed (cond b (sealed r part (m ∷ rest)) part).committed
+        go true = (m ∷ [], refl)
+        go false = stays part.committed
+
+    act-grows : (a : Act Message) (part : Part Message S) → Grows part.committed (acted r o a part).committed
+    act-grows (Deliver l) part = stays part.committed
+    act-grows Arriving part = arriving-grows part part.tray
+    act-grows Running part = running-grows part (next_of r part)
+    act-grows Sealing part = sealing-grows part part.done
+    act-grows Emptying part = stays part.committed
+
+    acts-grow : (acts : List (Act Message)) (part : Part Message S) → Grows part.committed (local r o acts part).committed
+    acts-grow [] part = stays part.committed
+    acts-grow (a ∷ as') part =
+        let one = act-grows a part in
+        let rest = acts-grow as' (acted r o a part) in
+        (one.0 ++ rest.0, rest.1 ∙ (ap (λ z. z ++ rest.0) one.1 ∙ append_assoc part.committed one.0 rest.0))
+
+    -- what a process does leaves its first rows what they were
+    pub gone-stays : {is_value : S → Message → Type 0} (part : Part Message S) (q : Queues S K) → StandsFor r is_value o part q → (moment : ℕ) → AreFirstBefore r moment q.left (rowed r o part.committed) →
+        (acts : List (Act Message)) (part' : Part Message S) → part' ≡ local r o acts part → (q' : Queues S K) → q'.left ≡ q.left → AreFirstBefore r moment q'.left (rowed r o part'.committed)
+    gone-stays part q stands moment h acts part' did q' kept =
+        let grown = acts-grow acts part in
+        let first = rowed r o part.committed in
+        let same : take q'.left (rowed r o part'.committed) ≡ take q.left first =
+        (λ i. take (kept i) (rowed r o ((ap (λ (z : Part Message S). z.committed) did ∙ grown.1) i)))
+        ∙ (ap (take q.left) (rowed-append r o part.committed grown.0)
+        ∙ take-append-le q.left first (rowed r (reached r o part.committed) grown.0) (let a = stands.sealed in omega arith)) in
+        subst (λ rows. All (λ row. r.time row.message < moment) rows) (sym same) h
