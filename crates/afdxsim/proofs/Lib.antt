@@ -2,4 +2,5 @@ pub mod Accounts
 pub mod Running
 pub mod Statuses
 pub mod Ended
+pub mod Leaving
 pub mod Holding

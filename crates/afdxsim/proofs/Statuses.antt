@@ -1,5 +1,5 @@
 -- The status of words, by the kind of clap's error.
-use Rattle.std.proofs.Common.{◌≡◌, ◌⊎◌, ℕ, inl, inr, List, [], ◌∷◌, arith, subst}
+use Rattle.std.proofs.Common.{◌≡◌, ◌⊎◌, ℕ, inl, inr, List, [], ◌∷◌, arith, subst, sym}
 use Rattle.clap.specs.declared.error.kind.ErrorKind.{ErrorKind}
 use Rattle.clap.specs.declared.error.kind.ErrorKind.TheVariants.{OutOfMemory}
 use Rattle.clap.specs.Words.{IsAmong, Kinds, Text}
@@ -15,6 +15,10 @@ among-asks : (kind : ErrorKind) (kinds : Kinds) → IsAmong kind kinds → AsksF
 among-asks kind [] among asks = among
 among-asks kind (k ∷ ks) (inl same) asks = inl (subst AsksFor same asks)
 among-asks kind (k ∷ ks) (inr later) asks = inr (among-asks kind ks later asks)
+
+-- a kind that is the same is as much a mistake
+pub same_kind : (words : List Text) (kind k : ErrorKind) → k ≡ kind → (kind ≡ OutOfMemory) ⊎ IsAmong kind (found_in words) → (k ≡ OutOfMemory) ⊎ IsAmong k (found_in words)
+same_kind words kind k is has = subst (λ x. (x ≡ OutOfMemory) ⊎ IsAmong x (found_in words)) (sym is) has
 
 -- the answer to an error
 pub answered : (words : List Text) (kind : ErrorKind) (status : ℕ) → (kind ≡ OutOfMemory) ⊎ IsAmong kind (found_in words) →

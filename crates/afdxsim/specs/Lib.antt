@@ -4,6 +4,7 @@ pub mod Ending
 pub mod Checking
 pub mod Sequencing
 pub mod Workers
+pub mod Files
 pub mod Reading
 pub mod Replaying
 pub mod Performing

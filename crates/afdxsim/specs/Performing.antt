@@ -6,9 +6,10 @@ use Rattle.netdesc.specs.Plan.{Plan}
 use Rattle.afdxsim.specs.declared.fault.Fault.TheVariants.{CannotWrite}
 use Rattle.afdxsim.specs.Checking.{check_text}
 use Rattle.afdxsim.specs.Ending.{Ends, IsFaultOfOutput, Told, Took}
+use Rattle.afdxsim.specs.Files.{ShowsTables}
 use Rattle.afdxsim.specs.Reading.{GivesNetwork, IsFaultOfNet}
 use Rattle.afdxsim.specs.Replaying.{GivesTexts, IsFaultOfSteps}
-use Rattle.afdxsim.specs.Sequencing.{IsFaultOfSeq, IsTablesText}
+use Rattle.afdxsim.specs.Sequencing.{IsFaultOfSeq}
 use Rattle.afdxsim.specs.Workers.{IsFaultOfRunBy}
 use Rattle.afdxsim.specs.Words.{AsksFor, AsksForText}
 
@@ -33,39 +34,42 @@ pub record AnswersWords (words : List Text) (status : ℕ) : Type 0 where
   pub asked : found_in words ≢ [] → ¬ (HasMistake (found_in words)) → (status ≡ 0) ⊎ (status ≡ 4) ⊎ (status ≡ 5)
 
 -- `check NET` ends with this status, where this is what a read of NET may give; o and e are standard output and error output before, and o'
--- and e' after. The network's line is all that goes out, or one fault is told and standard output took nothing, unless it is what failed
-abbrev pub EndsCheck : {O E : Type 0} → (Option (List ℕ) → Type 0) → List ℕ →
+-- and e' after. The network's line is all that goes out, and Left tells what else is left behind; or one fault is told and standard output
+-- took nothing, unless it is what failed
+abbrev pub EndsCheck : {O E : Type 0} → (Option (List ℕ) → Type 0) → List ℕ → Type 0 →
     (O → Option (List ℕ)) → (O → ℕ) → O → O → (E → Option (List ℕ)) → (E → ℕ) → E → E → ℕ → Type 0
-EndsCheck gives net took failed o o' said unsaid e e' status =
+EndsCheck gives net Left took failed o o' said unsaid e e' status =
     Ends status
-    (((plan : Plan) × GivesNetwork gives plan × Took took o o' (check_text plan)) × (e' ≡ e))
+    (((plan : Plan) × GivesNetwork gives plan × Took took o o' (check_text plan)) × Left × (e' ≡ e))
     (λ fault. (IsFaultOfNet gives net fault ⊎ IsFaultOfOutput failed o o' fault) × (fault ≢ CannotWrite → o' ≡ o))
     (Told said unsaid e e' status)
 
--- the same of `seq NET` with the trace for this file, if there is one: what goes out is the text of the tables of the one-thread run
-abbrev pub EndsSeq : {O E : Type 0} → (Option (List ℕ) → Type 0) → List ℕ → Option (List ℕ) →
+-- the same of `seq NET` with the trace for this file, if there is one: what goes out is the text of the tables of the one-thread run, and
+-- what else is left behind is of the same network
+abbrev pub EndsSeq : {O E : Type 0} → (Option (List ℕ) → Type 0) → List ℕ → Option (List ℕ) → (Plan → Type 0) →
     (O → Option (List ℕ)) → (O → ℕ) → O → O → (E → Option (List ℕ)) → (E → ℕ) → E → E → ℕ → Type 0
-EndsSeq gives net trace took failed o o' said unsaid e e' status =
+EndsSeq gives net trace Left took failed o o' said unsaid e e' status =
     Ends status
-    (((plan : Plan) × (text : List ℕ) × GivesNetwork gives plan × IsTablesText plan text × Took took o o' text) × (e' ≡ e))
+    (ShowsTables gives took o o' Left × (e' ≡ e))
     (λ fault. IsFaultOfSeq gives net trace (IsFaultOfOutput failed o o') fault × (fault ≢ CannotWrite → o' ≡ o))
     (Told said unsaid e e' status)
 
 -- the same of `run NET`, with the journal and the trace for these files, if there are such: the tables are those of the one-thread run here too
-abbrev pub EndsRun : {O E : Type 0} → (Option (List ℕ) → Type 0) → List ℕ → Option (List ℕ) → Option (List ℕ) →
+abbrev pub EndsRun : {O E : Type 0} → (Option (List ℕ) → Type 0) → List ℕ → Option (List ℕ) → Option (List ℕ) → (Plan → Type 0) →
     (O → Option (List ℕ)) → (O → ℕ) → O → O → (E → Option (List ℕ)) → (E → ℕ) → E → E → ℕ → Type 0
-EndsRun gives net journal trace took failed o o' said unsaid e e' status =
+EndsRun gives net journal trace Left took failed o o' said unsaid e e' status =
     Ends status
-    (((plan : Plan) × (text : List ℕ) × GivesNetwork gives plan × IsTablesText plan text × Took took o o' text) × (e' ≡ e))
+    (ShowsTables gives took o o' Left × (e' ≡ e))
     (λ fault. IsFaultOfRunBy gives net journal trace (IsFaultOfOutput failed o o') fault × (fault ≢ CannotWrite → o' ≡ o))
     (Told said unsaid e e' status)
 
 -- the same of `replay NET STEPS`, where gives tells what a read of a file may give by its path: what goes out is the text of the tables of what
 -- is committed, and error output takes the line that tells what was counted, unless a write to it failed
-abbrev pub EndsReplay : {O E : Type 0} → (List ℕ → Option (List ℕ) → Type 0) → List ℕ → List ℕ →
+abbrev pub EndsReplay : {O E : Type 0} → (List ℕ → Option (List ℕ) → Type 0) → List ℕ → List ℕ → Type 0 →
     (O → Option (List ℕ)) → (O → ℕ) → O → O → (E → Option (List ℕ)) → (E → ℕ) → E → E → ℕ → Type 0
-EndsReplay gives net steps took failed o o' said unsaid e e' status =
+EndsReplay gives net steps Left took failed o o' said unsaid e e' status =
     Ends status
-    ((tables : List ℕ) × (line : List ℕ) × GivesTexts (gives net) (gives steps) tables line × Took took o o' tables × (unsaid e' ≡ unsaid e → Took said e e' line))
+    (((tables : List ℕ) × (line : List ℕ) × GivesTexts (gives net) (gives steps) tables line × Took took o o' tables × (unsaid e' ≡ unsaid e → Took said e e' line))
+    × Left)
     (λ fault. (IsFaultOfSteps (gives net) net (gives steps) steps fault ⊎ IsFaultOfOutput failed o o' fault) × (fault ≢ CannotWrite → o' ≡ o))
     (Told said unsaid e e' status)

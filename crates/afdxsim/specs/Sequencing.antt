@@ -7,7 +7,7 @@ use Rattle.actor_run.specs.Running.{IsExhaustedAt}
 use Rattle.actor_run.specs.declared.fault.SimFault.{SimFault}
 use Rattle.actor_run.specs.declared.fault.SimFault.TheVariants as sim
 use Rattle.trace_tables.specs.Tables.{tables_of}
-use Rattle.trace_tables.specs.Text.{tables_text}
+use Rattle.trace_tables.specs.Text.{tables_text, trace_text}
 use Rattle.seqsim.specs.Networks.{AreRowsOf}
 use Rattle.afdxsim.specs.declared.fault.Fault.{Fault}
 use Rattle.afdxsim.specs.declared.fault.Fault.TheVariants.{Description, JournalLine, JournalFull, CannotRead, CannotWriteFile, CannotWrite, Layout, OutOfMemory, Exhausted, Spawn, Torn}
@@ -21,6 +21,10 @@ fault_of_run sim.Exhausted = Exhausted
 -- this is the text of the tables of the one-thread run of the network
 abbrev pub IsTablesText : Plan → List ℕ → Type 0
 IsTablesText plan text = (rows : List Noted) × AreRowsOf plan rows × (text ≡ tables_text plan (tables_of plan rows))
+
+-- this is the text of its trace
+abbrev pub IsTraceText : Plan → List ℕ → Type 0
+IsTraceText plan text = (rows : List Noted) × AreRowsOf plan rows × (text ≡ trace_text plan rows)
 
 -- why the one-thread run of a network was given up: after some events the process whose turn it is has not enough numbers left, or a growth
 -- was refused

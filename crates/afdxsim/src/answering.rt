@@ -1,18 +1,17 @@
 //! What is answered where words are no order: help, or why they are refused.
-ghost use Rattle.std.specs.Prelude.{◌≡◌, ◌⊎◌};
-ghost use Rattle.clap.specs.Values.{kind_of};
-ghost use Rattle.clap.specs.declared.error.kind.ErrorKind.TheVariants as kind;
-ghost use Rattle.afdxsim.specs.declared.fault.Fault.TheVariants.{OutOfMemory};
+ghost use Rattle.std.specs.Prelude.{◌≡◌, ◌≢◌, ◌⊎◌, ◌+◌, IfSome};
+ghost use Rattle.clap.specs.declared.error.kind.ErrorKind.TheVariants as Kind;
+ghost use Rattle.afdxsim.specs.declared.fault.Fault.TheVariants.{CannotWrite, OutOfMemory};
 ghost use Rattle.afdxsim.specs.Telling.{TellsOne};
-ghost use Rattle.afdxsim.specs.Ending.{Told};
+ghost use Rattle.afdxsim.specs.Ending.{Took, Told};
 ghost use Rattle.afdxsim.specs.Words.{AsksFor};
 
 use crate::fault::{BAD_WORDS, DONE, Fault};
 use crate::host::Host;
 use crate::telling::{say, tell};
-use clap::Error;
 use clap::error::ErrorKind;
 use std::alloc::Global;
+use std::fmt::Display;
 use trace_tables::write_all;
 
 /// Tells of want of memory.
@@ -27,6 +26,9 @@ fn tell_memory<H: Host>(alloc: Global, host: &mut H) -> u8
 /// Writes a text on standard output.
 fn show<H: Host>(alloc: Global, text: &str, host: &mut H) -> u8
     ensures status { (result ≡ 0) ⊎ (result ≡ 4) ⊎ (result ≡ 5) }
+    ensures shown { result ≡ 0 → Took H.Output.taken (H.output host.old) (H.output host.new) text.now }
+    ensures failed { result ≢ 0 → H.Output.failures (H.output host.new) ≡ H.Output.failures (H.output host.old) + 1 }
+    ensures told { result ≢ 0 → TellsOne CannotWrite (Told H.Errors.taken H.Errors.failures (H.errors host.old) (H.errors host.new) result) }
 {
     match write_all(host.output(), text.as_bytes()) {
         Ok(()) => DONE,
@@ -35,20 +37,28 @@ fn show<H: Host>(alloc: Global, text: &str, host: &mut H) -> u8
 }
 
 /// Writes the help that the words ask for.
-fn give_help<H: Host>(alloc: Global, error: &Error, host: &mut H) -> u8
+fn give_help<M: Display, H: Host>(alloc: Global, help: &M, host: &mut H) -> u8
     ensures status { (result ≡ 0) ⊎ (result ≡ 4) ⊎ (result ≡ 5) }
+    ensures shown { result ≡ 0 → IfSome (M.output help.now) (Took H.Output.taken (H.output host.old) (H.output host.new)) }
+    ensures failed { result ≡ 4 → H.Output.failures (H.output host.new) ≡ H.Output.failures (H.output host.old) + 1 }
+    ensures cannot_write { result ≡ 4 → TellsOne CannotWrite (Told H.Errors.taken H.Errors.failures (H.errors host.old) (H.errors host.new) result) }
+    ensures memory { result ≡ 5 → TellsOne OutOfMemory (Told H.Errors.taken H.Errors.failures (H.errors host.old) (H.errors host.new) result) }
 {
-    match error.to_string(alloc) {
+    match help.to_string(alloc) {
         Ok(text) => show(alloc, text.as_str(), host),
         Err(_) => tell_memory(alloc, host),
     }
 }
 
-/// Writes why the words are refused.
-fn refuse<H: Host>(alloc: Global, error: &Error, host: &mut H) -> u8
+/// Writes why the words are refused. Where error output fails, nothing more is said.
+fn refuse<M: Display, H: Host>(alloc: Global, why: &M, host: &mut H) -> u8
     ensures status { (result ≡ 2) ⊎ (result ≡ 5) }
+    ensures said { result ≡ 2 → H.Errors.failures (H.errors host.new) ≡ H.Errors.failures (H.errors host.old) →
+        IfSome (M.output why.now) (Took H.Errors.taken (H.errors host.old) (H.errors host.new)) }
+    ensures memory { result ≡ 5 → TellsOne OutOfMemory (Told H.Errors.taken H.Errors.failures (H.errors host.old) (H.errors host.new) result) }
+    ensures output { H.output host.new ≡ H.output host.old }
 {
-    match error.to_string(alloc) {
+    match why.to_string(alloc) {
         Ok(text) => {
             say(text.as_str(), host.errors());
             BAD_WORDS
@@ -57,20 +67,25 @@ fn refuse<H: Host>(alloc: Global, error: &Error, host: &mut H) -> u8
     }
 }
 
-/// Writes the help that the words ask for, or why they are refused.
-pub fn answer<H: Host>(alloc: Global, error: &Error, host: &mut H) -> u8
+/// Writes the message of clap for words that are no order, by its kind: the help that they ask for on standard output, or why they are
+/// refused on error output.
+pub fn answer<M: Display, H: Host>(alloc: Global, kind: ErrorKind, message: &M, host: &mut H) -> u8
     ensures status { (result ≡ 0) ⊎ (result ≡ 2) ⊎ (result ≡ 4) ⊎ (result ≡ 5) }
-    ensures memory { kind_of error.now ≡ kind.OutOfMemory → result ≡ 5 }
-    ensures told { kind_of error.now ≡ kind.OutOfMemory →
-        TellsOne OutOfMemory (Told H.Errors.taken H.Errors.failures (H.errors host.old) (H.errors host.new) result) }
-    ensures output { kind_of error.now ≡ kind.OutOfMemory → H.output host.new ≡ H.output host.old }
-    ensures only_done { result ≡ 0 → AsksFor (kind_of error.now) }
-    ensures only_shown { result ≡ 4 → AsksFor (kind_of error.now) }
-    ensures only_mistake { result ≡ 2 → ¬ (AsksFor (kind_of error.now)) }
+    ensures memory { kind ≡ Kind.OutOfMemory → result ≡ 5 }
+    ensures told { result ≡ 5 → TellsOne OutOfMemory (Told H.Errors.taken H.Errors.failures (H.errors host.old) (H.errors host.new) result) }
+    ensures output { kind ≡ Kind.OutOfMemory → H.output host.new ≡ H.output host.old }
+    ensures only_done { result ≡ 0 → AsksFor kind }
+    ensures only_shown { result ≡ 4 → AsksFor kind }
+    ensures only_mistake { result ≡ 2 → ¬ (AsksFor kind) }
+    ensures shown { result ≡ 0 → IfSome (M.output message.now) (Took H.Output.taken (H.output host.old) (H.output host.new)) }
+    ensures failed { result ≡ 4 → H.Output.failures (H.output host.new) ≡ H.Output.failures (H.output host.old) + 1 }
+    ensures cannot_write { result ≡ 4 → TellsOne CannotWrite (Told H.Errors.taken H.Errors.failures (H.errors host.old) (H.errors host.new) result) }
+    ensures said { result ≡ 2 → H.Errors.failures (H.errors host.new) ≡ H.Errors.failures (H.errors host.old) →
+        IfSome (M.output message.now) (Took H.Errors.taken (H.errors host.old) (H.errors host.new)) }
 {
-    match error.kind() {
+    match kind {
         ErrorKind::OutOfMemory => tell_memory(alloc, host),
-        ErrorKind::DisplayHelp | ErrorKind::DisplayVersion => give_help(alloc, error, host),
-        _ => refuse(alloc, error, host),
+        ErrorKind::DisplayHelp | ErrorKind::DisplayVersion => give_help(alloc, message, host),
+        _ => refuse(alloc, message, host),
     }
 }

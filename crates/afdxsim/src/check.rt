@@ -4,6 +4,7 @@ ghost use Rattle.netdesc.specs.Plan.{Plan};
 ghost use Rattle.afdxsim.specs.declared.fault.Fault.TheVariants.{CannotWrite};
 ghost use Rattle.afdxsim.specs.Checking.{counts_text, check_text};
 ghost use Rattle.afdxsim.specs.Ending.{Took, IsFaultOfOutput};
+ghost use Rattle.afdxsim.specs.Files.{ShowsAlone};
 ghost use Rattle.afdxsim.specs.Reading.{GivesNetwork, IsFaultOfNet};
 
 use crate::fault::Fault;
@@ -60,6 +61,7 @@ pub fn check<'a, H: Host>(alloc: Global, net: &'a str, host: &mut H) -> Result<(
     ensures fault { IfErr result (λ fault. IsFaultOfNet (H.gives host.old net.entry.now) net.entry.now fault ⊎
         IsFaultOfOutput H.Output.failures (H.output host.old) (H.output host.new) fault) }
     ensures kept { IfErr result (λ fault. fault ≢ CannotWrite → H.output host.new ≡ H.output host.old) }
+    ensures left { OnOk result (ShowsAlone H.with_output host.old host.new) }
     ensures errors { H.errors host.new ≡ H.errors host.old }
 {
     let network = network_of(alloc, net, host)?;

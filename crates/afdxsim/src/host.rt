@@ -1,4 +1,4 @@
-ghost use Rattle.std.specs.Prelude.{◌≡◌, ℕ, [], List, Option, IfOk, IfErr, IfSome};
+ghost use Rattle.std.specs.Prelude.{◌≡◌, ℕ, [], List, Option, IfOk, IfErr, IfSome, OnOk};
 ghost use Rattle.std.specs.Borrow.{sem, Lends};
 ghost use Rattle.afdxsim.specs.declared.host.ReadFault.TheVariants.{Device};
 
@@ -44,6 +44,12 @@ pub trait Host {
     /// The host once error output is this.
     ghost with_errors: { Self → Self.Errors → Self };
 
+    /// The host once a new, empty file with this path was made.
+    ghost made: { Self → List ℕ → Self };
+
+    /// The host once the file with this path was given back, as it is.
+    ghost closed: { Self → List ℕ → Self.File → Self };
+
     /// The bytes of the file with this path. `Device` comes where it cannot be read, and `OutOfMemory` only where a growth was refused.
     fn read(&mut self, alloc: Global, path: &str) -> Result<Vec<u8>, ReadFault>
         ensures bytes { IfOk result (λ bytes. gives self.old path.now (Some bytes.items)) }
@@ -53,8 +59,13 @@ pub trait Host {
     /// A new, empty file with this path, in the place of one that was there. It fails where the file cannot be made.
     fn make(&mut self, path: &str) -> Result<Self::File, SinkFault>
         ensures empty { IfOk result (λ file. IfSome (Self.File.taken file) (λ bytes. bytes ≡ [])) }
+        ensures host { OnOk result (self.new ≡ made self.old path.now) }
         ensures output { output self.new ≡ output self.old }
         ensures errors { errors self.new ≡ errors self.old };
+
+    /// The file with this path is whole: it is given back.
+    fn close(&mut self, path: &str, file: Self::File)
+        ensures { self.new ≡ closed self.old path.now file };
 
     /// Standard output.
     fn output(&mut self) -> &mut Self::Output
@@ -77,4 +88,16 @@ pub trait Host {
 
     /// What is written on error output is not on standard output.
     ghost output_beside: { (host : Self) → (out : Self.Errors) → output (with_errors host out) ≡ output host };
+
+    /// A file that is made is not on standard output.
+    ghost output_at_made: { (host : Self) → (path : List ℕ) → output (made host path) ≡ output host };
+
+    /// It is not on error output.
+    ghost errors_at_made: { (host : Self) → (path : List ℕ) → errors (made host path) ≡ errors host };
+
+    /// A file that is given back is not on standard output.
+    ghost output_at_closed: { (host : Self) → (path : List ℕ) → (file : Self.File) → output (closed host path file) ≡ output host };
+
+    /// It is not on error output.
+    ghost errors_at_closed: { (host : Self) → (path : List ℕ) → (file : Self.File) → errors (closed host path file) ≡ errors host };
 }

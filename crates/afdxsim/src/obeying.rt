@@ -8,6 +8,7 @@ ghost use Rattle.command_line.specs.declared.orders.Replay.{Replay as Replayed};
 ghost use Rattle.command_line.specs.declared.orders.Order.TheVariants as ordered;
 ghost use Rattle.afdxsim.specs.Telling.{TellsOne};
 ghost use Rattle.afdxsim.specs.Ending.{Told};
+ghost use Rattle.afdxsim.specs.Files.{LeavesRun, LeavesSeq, ShowsAlone, ShowsBoth};
 ghost use Rattle.afdxsim.specs.Performing.{EndsCheck, EndsRun, EndsSeq, EndsReplay};
 
 use crate::check::check;
@@ -25,7 +26,7 @@ use std::thread::Threads;
 /// Tells a fault, if there was one.
 fn end<H: Host>(alloc: Global, outcome: Result<(), Fault<'_>>, host: &mut H) -> u8
     ensures status { (result ≡ 0) ⊎ (result ≡ 3) ⊎ (result ≡ 4) ⊎ (result ≡ 5) }
-    ensures done { OnOk outcome.entry ((result ≡ 0) × (H.errors host.new ≡ H.errors host.old)) }
+    ensures done { OnOk outcome.entry ((result ≡ 0) × (host.new ≡ host.old)) }
     ensures told { IfErr outcome.entry (λ fault. TellsOne fault (Told H.Errors.taken H.Errors.failures (H.errors host.old) (H.errors host.new) result)) }
     ensures output { H.output host.new ≡ H.output host.old }
 {
@@ -39,6 +40,7 @@ fn end<H: Host>(alloc: Global, outcome: Result<(), Fault<'_>>, host: &mut H) -> 
 fn obey_check<H: Host>(alloc: Global, order: &Check, host: &mut H) -> u8
     ensures status { (result ≡ 0) ⊎ (result ≡ 3) ⊎ (result ≡ 4) ⊎ (result ≡ 5) }
     ensures ends { EndsCheck (H.gives host.old (string_bytes order.now.net)) (string_bytes order.now.net)
+        (ShowsAlone H.with_output host.old host.new)
         H.Output.taken H.Output.failures (H.output host.old) (H.output host.new)
         H.Errors.taken H.Errors.failures (H.errors host.old) (H.errors host.new) result }
 {
@@ -60,6 +62,7 @@ fn path_in(trace: &Option<String>) -> Option<&str>
 fn obey_seq<H: Host>(alloc: Global, order: &Seq, host: &mut H) -> u8
     ensures status { (result ≡ 0) ⊎ (result ≡ 3) ⊎ (result ≡ 4) ⊎ (result ≡ 5) }
     ensures ends { EndsSeq (H.gives host.old (string_bytes order.now.net)) (string_bytes order.now.net) (option_map string_bytes order.now.trace)
+        (LeavesSeq H.made H.closed H.File.taken H.with_output (option_map string_bytes order.now.trace) host.old host.new)
         H.Output.taken H.Output.failures (H.output host.old) (H.output host.new)
         H.Errors.taken H.Errors.failures (H.errors host.old) (H.errors host.new) result }
 {
@@ -71,6 +74,7 @@ fn obey_seq<H: Host>(alloc: Global, order: &Seq, host: &mut H) -> u8
 fn obey_replay<H: Host>(alloc: Global, order: &Replay, host: &mut H) -> u8
     ensures status { (result ≡ 0) ⊎ (result ≡ 3) ⊎ (result ≡ 4) ⊎ (result ≡ 5) }
     ensures ends { EndsReplay (H.gives host.old) (string_bytes order.now.net) (string_bytes order.now.steps)
+        (ShowsBoth H.with_output H.with_errors host.old host.new)
         H.Output.taken H.Output.failures (H.output host.old) (H.output host.new)
         H.Errors.taken H.Errors.failures (H.errors host.old) (H.errors host.new) result }
 {
@@ -91,6 +95,8 @@ fn obey_run<H: Host, T: Threads + Wait + Sync>(
     ensures status { (result ≡ 0) ⊎ (result ≡ 3) ⊎ (result ≡ 4) ⊎ (result ≡ 5) }
     ensures ends { EndsRun (H.gives host.old (string_bytes order.now.net)) (string_bytes order.now.net)
         (option_map string_bytes order.now.journal) (option_map string_bytes order.now.trace)
+        (LeavesRun H.made H.closed H.File.taken H.with_output
+        (option_map string_bytes order.now.journal) (option_map string_bytes order.now.trace) host.old host.new)
         H.Output.taken H.Output.failures (H.output host.old) (H.output host.new)
         H.Errors.taken H.Errors.failures (H.errors host.old) (H.errors host.new) result }
 {
@@ -108,16 +114,21 @@ pub fn obey<H: Host, T: Threads + Wait + Sync>(
     requires { IsWithinLimits order.now }
     ensures status { (result ≡ 0) ⊎ (result ≡ 3) ⊎ (result ≡ 4) ⊎ (result ≡ 5) }
     ensures check { (o : Checked) → order.now ≡ ordered.Check o → EndsCheck (H.gives host.old (string_bytes o.net)) (string_bytes o.net)
+        (ShowsAlone H.with_output host.old host.new)
         H.Output.taken H.Output.failures (H.output host.old) (H.output host.new)
         H.Errors.taken H.Errors.failures (H.errors host.old) (H.errors host.new) result }
     ensures seq { (o : Sequenced) → order.now ≡ ordered.Seq o → EndsSeq (H.gives host.old (string_bytes o.net)) (string_bytes o.net) (option_map string_bytes o.trace)
+        (LeavesSeq H.made H.closed H.File.taken H.with_output (option_map string_bytes o.trace) host.old host.new)
         H.Output.taken H.Output.failures (H.output host.old) (H.output host.new)
         H.Errors.taken H.Errors.failures (H.errors host.old) (H.errors host.new) result }
     ensures run { (o : Worked) → order.now ≡ ordered.Run o → EndsRun (H.gives host.old (string_bytes o.net)) (string_bytes o.net)
         (option_map string_bytes o.journal) (option_map string_bytes o.trace)
+        (LeavesRun H.made H.closed H.File.taken H.with_output
+        (option_map string_bytes o.journal) (option_map string_bytes o.trace) host.old host.new)
         H.Output.taken H.Output.failures (H.output host.old) (H.output host.new)
         H.Errors.taken H.Errors.failures (H.errors host.old) (H.errors host.new) result }
     ensures replay { (o : Replayed) → order.now ≡ ordered.Replay o → EndsReplay (H.gives host.old) (string_bytes o.net) (string_bytes o.steps)
+        (ShowsBoth H.with_output H.with_errors host.old host.new)
         H.Output.taken H.Output.failures (H.output host.old) (H.output host.new)
         H.Errors.taken H.Errors.failures (H.errors host.old) (H.errors host.new) result }
 {

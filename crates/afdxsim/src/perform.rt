@@ -3,6 +3,7 @@ ghost use Rattle.std.specs.Prelude.{◌≡◌, [], ℕ, List, map, codes};
 ghost use Rattle.clap.specs.Words.{first_of};
 ghost use Rattle.command_line.specs.Meaning.{command_in, rows_in};
 ghost use Rattle.afdxsim.specs.Telling.{IsStatus};
+ghost use Rattle.afdxsim.specs.Files.{LeavesRun, LeavesSeq, ShowsAlone, ShowsBoth};
 ghost use Rattle.afdxsim.specs.Performing.{AnswersWords, EndsCheck, EndsRun, EndsSeq, EndsReplay, found_in};
 
 use crate::answering::answer;
@@ -30,29 +31,32 @@ pub fn perform<'a, S: AsStr, H: Host, T: Threads + Wait + Sync>(
     ensures words { AnswersWords (map S.text words.entry.now) result }
     ensures check { found_in (map S.text words.entry.now) ≡ [] → command_in (map S.text words.entry.now) ≡ Some (codes "check") →
         (net : List ℕ) → first_of (codes "NET") (rows_in (map S.text words.entry.now)) ≡ Some net →
-        EndsCheck (H.gives host.old net) net
+        EndsCheck (H.gives host.old net) net (ShowsAlone H.with_output host.old host.new)
         H.Output.taken H.Output.failures (H.output host.old) (H.output host.new)
         H.Errors.taken H.Errors.failures (H.errors host.old) (H.errors host.new) result }
     ensures seq { found_in (map S.text words.entry.now) ≡ [] → command_in (map S.text words.entry.now) ≡ Some (codes "seq") →
         (net : List ℕ) → first_of (codes "NET") (rows_in (map S.text words.entry.now)) ≡ Some net →
         EndsSeq (H.gives host.old net) net (first_of (codes "trace") (rows_in (map S.text words.entry.now)))
+        (LeavesSeq H.made H.closed H.File.taken H.with_output (first_of (codes "trace") (rows_in (map S.text words.entry.now))) host.old host.new)
         H.Output.taken H.Output.failures (H.output host.old) (H.output host.new)
         H.Errors.taken H.Errors.failures (H.errors host.old) (H.errors host.new) result }
     ensures run { found_in (map S.text words.entry.now) ≡ [] → command_in (map S.text words.entry.now) ≡ Some (codes "run") →
         (net : List ℕ) → first_of (codes "NET") (rows_in (map S.text words.entry.now)) ≡ Some net →
         EndsRun (H.gives host.old net) net (first_of (codes "journal") (rows_in (map S.text words.entry.now)))
         (first_of (codes "trace") (rows_in (map S.text words.entry.now)))
+        (LeavesRun H.made H.closed H.File.taken H.with_output (first_of (codes "journal") (rows_in (map S.text words.entry.now)))
+        (first_of (codes "trace") (rows_in (map S.text words.entry.now))) host.old host.new)
         H.Output.taken H.Output.failures (H.output host.old) (H.output host.new)
         H.Errors.taken H.Errors.failures (H.errors host.old) (H.errors host.new) result }
     ensures replay { found_in (map S.text words.entry.now) ≡ [] → command_in (map S.text words.entry.now) ≡ Some (codes "replay") →
         (net steps : List ℕ) → first_of (codes "NET") (rows_in (map S.text words.entry.now)) ≡ Some net →
         first_of (codes "STEPS") (rows_in (map S.text words.entry.now)) ≡ Some steps →
-        EndsReplay (H.gives host.old) net steps
+        EndsReplay (H.gives host.old) net steps (ShowsBoth H.with_output H.with_errors host.old host.new)
         H.Output.taken H.Output.failures (H.output host.old) (H.output host.new)
         H.Errors.taken H.Errors.failures (H.errors host.old) (H.errors host.new) result }
 {
     match order(alloc, words) {
         Ok(order) => obey(rt, alloc, &order, host),
-        Err(error) => answer(alloc, &error, host),
+        Err(error) => answer(alloc, error.kind(), &error, host),
     }
 }

@@ -3,6 +3,7 @@ ghost use Rattle.std.specs.Prelude.{◌≡◌, ◌≢◌, ◌⊎◌, ℕ, List, 
 ghost use Rattle.trace_tables.specs.Text.{tables_text};
 ghost use Rattle.afdxsim.specs.declared.fault.Fault.TheVariants.{CannotWrite};
 ghost use Rattle.afdxsim.specs.Ending.{Took, IsFaultOfOutput};
+ghost use Rattle.afdxsim.specs.Files.{ShowsBoth};
 ghost use Rattle.afdxsim.specs.Reading.{GivesNetwork};
 ghost use Rattle.afdxsim.specs.Replaying.{GivesTexts, IsFaultOfSteps, TellsOfJournal};
 
@@ -43,6 +44,7 @@ fn show_account<H: Host>(
         Took H.Errors.taken (H.errors host.old) (H.errors host.new) (string_bytes account.now.line)) }
     ensures fault { IfErr result (IsFaultOfOutput H.Output.failures (H.output host.old) (H.output host.new)) }
     ensures kept { IfErr result (λ fault. fault ≢ CannotWrite → H.output host.new ≡ H.output host.old) }
+    ensures left { OnOk result (ShowsBoth H.with_output H.with_errors host.old host.new) }
     ensures quiet { OnErr result (H.errors host.new ≡ H.errors host.old) }
 {
     show_tables(
@@ -71,6 +73,7 @@ pub fn replay<'a, H: Host>(
         IsFaultOfSteps (H.gives host.old net.entry.now) net.entry.now (H.gives host.old steps.entry.now) steps.entry.now fault ⊎
         IsFaultOfOutput H.Output.failures (H.output host.old) (H.output host.new) fault) }
     ensures kept { IfErr result (λ fault. fault ≢ CannotWrite → H.output host.new ≡ H.output host.old) }
+    ensures left { OnOk result (ShowsBoth H.with_output H.with_errors host.old host.new) }
     ensures quiet { OnErr result (H.errors host.new ≡ H.errors host.old) }
 {
     let account = account_in(alloc, net, steps, host)?;

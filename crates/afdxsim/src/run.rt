@@ -1,15 +1,14 @@
 //! `run NET [--workers N] [--turn N] [--window NS] [--journal FILE] [--trace FILE]`: the run of a network by workers.
-ghost use Rattle.std.specs.Prelude.{◌≡◌, ◌≢◌, ◌⊎◌, ℕ, List, IfErr, IfOk, OnOk, option_map, string_bytes};
-ghost use Rattle.netdesc.specs.Plan.{Plan};
+ghost use Rattle.std.specs.Prelude.{◌≡◌, ◌≢◌, ◌⊎◌, ℕ, List, IfErr, IfOk, OnOk, option_map, is_some, string_bytes};
 ghost use Rattle.journal_text.specs.Text.{steps_text};
 ghost use Rattle.trace_tables.specs.Text.{tables_text};
 ghost use Rattle.worker_pool.specs.Paces.{IsPace};
 ghost use Rattle.command_line.specs.Meaning.{RunLimits};
 ghost use Rattle.afdxsim.specs.declared.fault.Fault.TheVariants.{CannotWrite};
 ghost use Rattle.afdxsim.specs.Ending.{Took, IsFaultOfOutput};
-ghost use Rattle.afdxsim.specs.Reading.{GivesNetwork};
-ghost use Rattle.afdxsim.specs.Sequencing.{IsTablesText};
-ghost use Rattle.afdxsim.specs.Workers.{IsFaultOfPool, IsFaultOfRunFile, IsFaultOfFiles, IsFaultOfRunBy};
+ghost use Rattle.afdxsim.specs.Files.{LeavesRun, ShowsTables, WritesAsked, WritesFile};
+ghost use Rattle.afdxsim.specs.Sequencing.{IsTablesText, IsTraceText};
+ghost use Rattle.afdxsim.specs.Workers.{IsFaultOfPool, IsFaultOfRunFile, IsFaultOfFiles, IsFaultOfRunBy, IsJournalAsked};
 
 use crate::fault::Fault;
 use crate::host::Host;
@@ -38,15 +37,16 @@ fn simulate_with_trace<'a, H: Host, T: Threads + Wait + Sync>(
 ) -> Result<Summary, Fault<'a>>
     requires { IsPace pace }
     ensures text { IfOk result (λ found. IsTablesText network.now (tables_text network.now found.tables)) }
+    ensures journal { IfOk result (λ found. IsJournalAsked network.now with_steps found.journal.items) }
+    ensures trace { OnOk result (WritesFile H.made H.closed H.File.taken path.entry.now (IsTraceText network.now) host.old host.new) }
     ensures fault { IfErr result (λ fault. IsFaultOfPool fault ⊎ IsFaultOfRunFile path.entry.now fault) }
     ensures output { H.output host.new ≡ H.output host.old }
     ensures errors { H.errors host.new ≡ H.errors host.old }
 {
     match host.make(path) {
         Ok(file) => {
-            let (found, _file) = found_with_trace(
-                rt, alloc, network, pace, with_steps, path, file,
-            )?;
+            let (found, file) = found_with_trace(rt, alloc, network, pace, with_steps, path, file)?;
+            host.close(path, file);
             Ok(found)
         }
         Err(_) => Err(Fault::CannotWriteFile(path)),
@@ -63,6 +63,8 @@ fn simulate<'a, H: Host, T: Threads + Wait + Sync>(
 ) -> Result<Summary, Fault<'a>>
     requires { RunLimits order.now }
     ensures text { IfOk result (λ found. IsTablesText network.now (tables_text network.now found.tables)) }
+    ensures journal { IfOk result (λ found. IsJournalAsked network.now (is_some order.entry.now.journal) found.journal.items) }
+    ensures trace { OnOk result (WritesAsked H.made H.closed H.File.taken (option_map string_bytes order.entry.now.trace) (IsTraceText network.now) host.old host.new) }
     ensures fault { IfErr result (λ fault. IsFaultOfPool fault ⊎
         IsFaultOfFiles (option_map string_bytes order.entry.now.journal) (option_map string_bytes order.entry.now.trace) fault) }
     ensures output { H.output host.new ≡ H.output host.old }
@@ -108,12 +110,17 @@ fn keep_steps<'a, H: Host>(
     path: &'a str,
     host: &mut H,
 ) -> Result<(), Fault<'a>>
+    ensures file { OnOk result (WritesFile H.made H.closed H.File.taken path.entry.now (λ text. text ≡ steps_text steps.now) host.old host.new) }
     ensures fault { IfErr result (IsFaultOfRunFile path.entry.now) }
     ensures output { H.output host.new ≡ H.output host.old }
     ensures errors { H.errors host.new ≡ H.errors host.old }
 {
     match host.make(path) {
-        Ok(mut file) => write_steps_of(alloc, steps, path, &mut file),
+        Ok(mut file) => {
+            write_steps_of(alloc, steps, path, &mut file)?;
+            host.close(path, file);
+            Ok(())
+        }
         Err(_) => Err(Fault::CannotWriteFile(path)),
     }
 }
@@ -125,6 +132,7 @@ fn keep_journal<'a, H: Host>(
     order: &'a Run,
     host: &mut H,
 ) -> Result<(), Fault<'a>>
+    ensures file { OnOk result (WritesAsked H.made H.closed H.File.taken (option_map string_bytes order.entry.now.journal) (λ text. text ≡ steps_text steps.now) host.old host.new) }
     ensures fault { IfErr result (IsFaultOfFiles (option_map string_bytes order.entry.now.journal) (option_map string_bytes order.entry.now.trace)) }
     ensures output { H.output host.new ≡ H.output host.old }
     ensures errors { H.errors host.new ≡ H.errors host.old }
@@ -146,6 +154,8 @@ fn run_network<'a, H: Host, T: Threads + Wait + Sync>(
 ) -> Result<(), Fault<'a>>
     requires { RunLimits order.now }
     ensures text { OnOk result ((text : List ℕ) × IsTablesText network.now text × Took H.Output.taken (H.output host.old) (H.output host.new) text) }
+    ensures left { OnOk result (LeavesRun H.made H.closed H.File.taken H.with_output
+        (option_map string_bytes order.entry.now.journal) (option_map string_bytes order.entry.now.trace) host.old host.new network.now) }
     ensures fault { IfErr result (λ fault. IsFaultOfPool fault ⊎
         (IsFaultOfFiles (option_map string_bytes order.entry.now.journal) (option_map string_bytes order.entry.now.trace) fault ⊎
         IsFaultOfOutput H.Output.failures (H.output host.old) (H.output host.new) fault)) }
@@ -167,8 +177,9 @@ pub fn run_ordered<'a, H: Host, T: Threads + Wait + Sync>(
     host: &mut H,
 ) -> Result<(), Fault<'a>>
     requires { RunLimits order.now }
-    ensures text { OnOk result ((plan : Plan) × (text : List ℕ) × GivesNetwork (H.gives host.old (string_bytes order.entry.now.net)) plan × IsTablesText plan text ×
-        Took H.Output.taken (H.output host.old) (H.output host.new) text) }
+    ensures shown { OnOk result (ShowsTables (H.gives host.old (string_bytes order.entry.now.net)) H.Output.taken (H.output host.old) (H.output host.new)
+        (LeavesRun H.made H.closed H.File.taken H.with_output
+        (option_map string_bytes order.entry.now.journal) (option_map string_bytes order.entry.now.trace) host.old host.new)) }
     ensures fault { IfErr result (IsFaultOfRunBy (H.gives host.old (string_bytes order.entry.now.net)) (string_bytes order.entry.now.net)
         (option_map string_bytes order.entry.now.journal) (option_map string_bytes order.entry.now.trace)
         (IsFaultOfOutput H.Output.failures (H.output host.old) (H.output host.new))) }

@@ -1,10 +1,10 @@
 //! `seq NET [--trace FILE]`: the one-thread run of a network.
 ghost use Rattle.std.specs.Prelude.{◌≡◌, ◌≢◌, ◌⊎◌, ℕ, List, IfErr, IfOk, OnOk, option_map};
-ghost use Rattle.netdesc.specs.Plan.{Plan};
+ghost use Rattle.seqsim.specs.Networks.{AreRowsOf};
 ghost use Rattle.trace_tables.specs.Text.{tables_text, trace_text};
 ghost use Rattle.afdxsim.specs.declared.fault.Fault.TheVariants.{CannotWrite};
 ghost use Rattle.afdxsim.specs.Ending.{Took, IsFaultOfOutput};
-ghost use Rattle.afdxsim.specs.Reading.{GivesNetwork, IsFaultOfNet};
+ghost use Rattle.afdxsim.specs.Files.{LeavesSeq, ShowsAlone, ShowsTables, WritesFile};
 ghost use Rattle.afdxsim.specs.Sequencing.{IsTablesText, IsFaultOfRun, IsFaultOfSeq, IsFaultOfTrace};
 
 use crate::fault::Fault;
@@ -62,12 +62,17 @@ fn keep_trace<'a, H: Host>(
     path: &'a str,
     host: &mut H,
 ) -> Result<(), Fault<'a>>
+    ensures file { OnOk result (WritesFile H.made H.closed H.File.taken path.entry.now (λ text. text ≡ trace_text network.now rows.now) host.old host.new) }
     ensures fault { IfErr result (IsFaultOfTrace path.entry.now) }
     ensures output { H.output host.new ≡ H.output host.old }
     ensures errors { H.errors host.new ≡ H.errors host.old }
 {
     match host.make(path) {
-        Ok(mut file) => write_trace_of(alloc, network, rows, path, &mut file),
+        Ok(mut file) => {
+            write_trace_of(alloc, network, rows, path, &mut file)?;
+            host.close(path, file);
+            Ok(())
+        }
         Err(_) => Err(Fault::CannotWriteFile(path)),
     }
 }
@@ -85,6 +90,7 @@ fn tables_of_run(alloc: Global, network: &Network) -> Result<Tables, Fault<'stat
 #[tactic(auto, using(crate::proofs::Running::tables_made, crate::proofs::Running::given_up))]
 fn whole_run(alloc: Global, network: &Network) -> Result<Finished, Fault<'static>>
     ensures text { IfOk result (λ finished. IsTablesText network.now (tables_text network.now finished.tables)) }
+    ensures rows { IfOk result (λ finished. AreRowsOf network.now finished.rows.items) }
     ensures fault { IfErr result (IsFaultOfRun network.now) }
 {
     Ok(run(alloc, network)?)
@@ -97,6 +103,7 @@ fn run_to_tables<H: Host>(
     host: &mut H,
 ) -> Result<(), Fault<'static>>
     ensures text { OnOk result ((text : List ℕ) × IsTablesText network.now text × Took H.Output.taken (H.output host.old) (H.output host.new) text) }
+    ensures left { OnOk result (ShowsAlone H.with_output host.old host.new) }
     ensures fault { IfErr result (λ fault. IsFaultOfRun network.now fault ⊎ IsFaultOfOutput H.Output.failures (H.output host.old) (H.output host.new) fault) }
     ensures kept { IfErr result (λ fault. fault ≢ CannotWrite → H.output host.new ≡ H.output host.old) }
     ensures errors { H.errors host.new ≡ H.errors host.old }
@@ -114,6 +121,7 @@ fn run_to_trace<'a, H: Host>(
     host: &mut H,
 ) -> Result<(), Fault<'a>>
     ensures text { OnOk result ((text : List ℕ) × IsTablesText network.now text × Took H.Output.taken (H.output host.old) (H.output host.new) text) }
+    ensures left { OnOk result (LeavesSeq H.made H.closed H.File.taken H.with_output (Some path.entry.now) host.old host.new network.now) }
     ensures fault { IfErr result (λ fault. IsFaultOfRun network.now fault ⊎ (IsFaultOfTrace path.entry.now fault ⊎ IsFaultOfOutput H.Output.failures (H.output host.old) (H.output host.new) fault)) }
     ensures kept { IfErr result (λ fault. fault ≢ CannotWrite → H.output host.new ≡ H.output host.old) }
     ensures errors { H.errors host.new ≡ H.errors host.old }
@@ -131,8 +139,8 @@ pub fn seq<'a, H: Host>(
     trace: Option<&'a str>,
     host: &mut H,
 ) -> Result<(), Fault<'a>>
-    ensures text { OnOk result ((plan : Plan) × (text : List ℕ) × GivesNetwork (H.gives host.old net.entry.now) plan × IsTablesText plan text ×
-        Took H.Output.taken (H.output host.old) (H.output host.new) text) }
+    ensures shown { OnOk result (ShowsTables (H.gives host.old net.entry.now) H.Output.taken (H.output host.old) (H.output host.new)
+        (LeavesSeq H.made H.closed H.File.taken H.with_output (option_map (λ path. path.now) trace.entry) host.old host.new)) }
     ensures fault { IfErr result (IsFaultOfSeq (H.gives host.old net.entry.now) net.entry.now (option_map (λ path. path.now) trace.entry)
         (IsFaultOfOutput H.Output.failures (H.output host.old) (H.output host.new))) }
     ensures kept { IfErr result (λ fault. fault ≢ CannotWrite → H.output host.new ≡ H.output host.old) }

@@ -98,6 +98,11 @@ impl Host for System {
 
     ghost with_errors = { λ system out. record system { errors = out } };
 
+    // Of its files the system tells nothing.
+    ghost made = { λ system _. system };
+
+    ghost closed = { λ system _ _. system };
+
     ghost output_stays = { λ system out. refl };
 
     ghost errors_stay = { λ system out. refl };
@@ -105,6 +110,14 @@ impl Host for System {
     ghost errors_beside = { λ system out. refl };
 
     ghost output_beside = { λ system out. refl };
+
+    ghost output_at_made = { λ system path. refl };
+
+    ghost errors_at_made = { λ system path. refl };
+
+    ghost output_at_closed = { λ system path file. refl };
+
+    ghost errors_at_closed = { λ system path file. refl };
 
     fn read(&mut self, alloc: Global, path: &str) -> Result<Vec<u8>, ReadFault> {
         match fs::read(&self.runtime, path) {
@@ -123,6 +136,8 @@ impl Host for System {
             Err(_) => Err(SinkFault),
         }
     }
+
+    fn close(&mut self, _path: &str, _file: Device<File>) {}
 
     fn output(&mut self) -> &mut Device<Stdout> {
         &mut self.output

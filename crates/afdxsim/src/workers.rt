@@ -8,7 +8,7 @@ ghost use Rattle.worker_pool.specs.Paces.{IsPace};
 ghost use Rattle.command_line.specs.Meaning.{RunLimits};
 ghost use Rattle.afdxsim.specs.Ending.{Took};
 ghost use Rattle.afdxsim.specs.Sequencing.{IsTablesText};
-ghost use Rattle.afdxsim.specs.Workers.{fault_of_trace, IsFaultOfPool, IsFaultOfRunFile};
+ghost use Rattle.afdxsim.specs.Workers.{fault_of_trace, IsFaultOfPool, IsFaultOfRunFile, IsJournalAsked};
 
 use crate::fault::Fault;
 use command_line::Run;
@@ -33,7 +33,8 @@ impl Gate for Open {
 /// The pace that is ordered.
 pub fn pace_of(order: &Run) -> Pace
     requires { RunLimits order.now }
-    ensures { IsPace result }
+    ensures value { result ≡ record { workers = order.now.workers; turn = order.now.turn; window_ns = order.now.window_ns } }
+    ensures within { IsPace result }
 {
     Pace {
         workers: order.workers,
@@ -54,6 +55,7 @@ pub fn found_by_workers<T: Threads + Wait + Sync>(
 ) -> Result<Summary, Fault<'static>>
     requires { IsPace pace }
     ensures text { IfOk result (λ found. IsTablesText network.now (tables_text network.now found.tables)) }
+    ensures journal { IfOk result (λ found. IsJournalAsked network.now with_steps found.journal.items) }
     ensures fault { IfErr result IsFaultOfPool }
 {
     if with_steps {
@@ -82,6 +84,7 @@ fn traced<F: Sink + Drop + Send, T: Threads + Wait + Sync>(
 ) -> Result<Traced<Summary, F>, Fault<'static>>
     requires { IsPace pace }
     ensures text { IfOk result (λ found. IsTablesText network.now (tables_text network.now found.outcome.tables)) }
+    ensures journal { IfOk result (λ found. IsJournalAsked network.now with_steps found.outcome.journal.items) }
     ensures trace { IfOk result (λ found. OnOk found.written ((rows : List Noted) → AreRowsOf network.now rows →
         Took F.taken file found.sink (trace_text network.now rows))) }
     ensures beginning { IfOk result (λ found. (rows : List Noted) → AreRowsOf network.now rows →
@@ -130,6 +133,7 @@ pub fn found_with_trace<'a, F: Sink + Drop + Send, T: Threads + Wait + Sync>(
 ) -> Result<(Summary, F), Fault<'a>>
     requires { IsPace pace }
     ensures text { IfOk result (λ found. IsTablesText network.now (tables_text network.now found.0.tables)) }
+    ensures journal { IfOk result (λ found. IsJournalAsked network.now with_steps found.0.journal.items) }
     ensures trace { IfOk result (λ found. (rows : List Noted) → AreRowsOf network.now rows →
         Took F.taken file found.1 (trace_text network.now rows)) }
     ensures fault { IfErr result (λ fault. IsFaultOfPool fault ⊎ IsFaultOfRunFile path.entry.now fault) }

@@ -195,6 +195,10 @@ impl Host for MemoryHost {
 
     ghost with_errors = { λ host out. record host { errors = out } };
 
+    ghost made = { λ host _. host };
+
+    ghost closed = { λ host _ _. host };
+
     ghost output_stays = { λ host out. refl };
 
     ghost errors_stay = { λ host out. refl };
@@ -202,6 +206,14 @@ impl Host for MemoryHost {
     ghost errors_beside = { λ host out. refl };
 
     ghost output_beside = { λ host out. refl };
+
+    ghost output_at_made = { λ host path. refl };
+
+    ghost errors_at_made = { λ host path. refl };
+
+    ghost output_at_closed = { λ host path file. refl };
+
+    ghost errors_at_closed = { λ host path file. refl };
 
     fn read(&mut self, alloc: Global, path: &str) -> Result<Vec<u8>, ReadFault> {
         let Some(bytes) = self.file(path) else {
@@ -225,6 +237,8 @@ impl Host for MemoryHost {
             Err(_) => Err(SinkFault),
         }
     }
+
+    fn close(&mut self, _path: &str, _leaf: Leaf) {}
 
     fn output(&mut self) -> &mut Page {
         &mut self.output
