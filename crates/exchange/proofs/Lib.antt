@@ -1,3 +1,4 @@
+mod Books
 mod Collected
 mod Gone
 mod Growth

@@ -42,7 +42,8 @@ module _ {S K : Type 0} {r : Rules Message S K Note} {number end : S → ℕ} {i
     {is_value : S → Message → Type 0} {table' : List ℕ} {p seen gone : ℕ} {block : List Move} {last : Option EntryPlace} {q : Queues S K}
     (h : Holds r number end is_placed x is_value pages table' p seen gone block last q) (n : ℕ) (within : n ≤ length (letters_for p mail)) (some : 0 < n)
     {t : Tokens} (new : Fresh pages ts (told p (place_in last) (Took (take n (letters_for p mail)))) (own_in p (entries_of ts)) t)
-    (ts' : List Tokens) (more : ts' ≡ ts ++ t ∷ []) (at index : ℕ) (at-is : at ≡ length ts) (index-is : index ≡ p) where
+    (ts' : List Tokens) (more : ts' ≡ ts ++ t ∷ []) (at index : ℕ) (at-is : at ≡ length ts) (index-is : index ≡ p)
+    (books' : List Mark) (told-is : books' ≡ set books index (mark (Some at) gvt)) where
   many : length (take n (letters_for p mail)) ≡ n
   many = omega (arith, length-take n (letters_for p mail))
 
@@ -51,19 +52,19 @@ module _ {S K : Type 0} {r : Rules Message S K Note} {number end : S → ℕ} {i
       (floors' : Floors) → length floors'.floors ≡ length floors.floors → floors'.until ≡ floors.until →
       slice_get floors'.floors p ≡ option_map (λ d. lowest d (times_of r (take n (letters_for p mail)))) (slice_get floors.floors p) →
       ((q : ℕ) → (q ≡ p → ⊥) → slice_get floors'.floors q ≡ slice_get floors.floors q) →
-      IsRecorded r number end is_placed x pages table ts' mail' floors' gvt (count + n) (set books index (mark (Some at) gvt))
+      IsRecorded r number end is_placed x pages table ts' mail' floors' gvt (count + n) books'
   kept-taken mail' boxes left others floors' floor_count until here elsewhere =
       let xs = take n (letters_for p mail) in
       kept-collected k p h.number_is xs (drop n (letters_for p mail)) (sym (take-append-drop n (letters_for p mail))) (subst (λ m. 0 < m) (sym many) some) new
       mail' boxes left others floors' floor_count until here elsewhere ts' more (count + n) (ap (λ m. count + m) (sym many))
-      (set books index (mark (Some at) gvt)) (λ i. set books (index-is i) (mark (Some (at-is i)) gvt))
+      books' (told-is ∙ (λ i. set books (index-is i) (mark (Some (at-is i)) gvt)))
 
   module _ (none : block ≡ []) (mine : own_of last ≡ own_in p (entries_of ts)) where
     own : entry_own t.cell.value ≡ own_of last ++ acts_of (Took (take n (letters_for p mail)))
     own = new.own_is ∙ ap (λ z. z ++ acts_of (Took (take n (letters_for p mail)))) (sym mine)
 
     -- what the Held keeps
-    pub holds-taken : {mail' : List Store} {floors' : Floors} {count' : ℕ} {books' : List Mark} → IsRecorded r number end is_placed x pages table ts' mail' floors' gvt count' books' → Laws (simulation_of r x) → count' ≤ 67108864 →
+    pub holds-taken : {mail' : List Store} {floors' : Floors} {count' : ℕ} → IsRecorded r number end is_placed x pages table ts' mail' floors' gvt count' books' → Laws (simulation_of r x) → count' ≤ 67108864 →
         (q₁ q' : Queues S K) → q₁ ≡ q → Does r is_value (λ opening. delivered_all (take n (letters_for p mail))) q₁ q' → q'.left ≡ q₁.left →
         Holds r number end is_placed x is_value pages table' p gvt gone block (Some (record { number = at; tokens = t })) q'
     holds-taken kept L few q₁ q' same does left =
@@ -92,7 +93,7 @@ module _ {S K : Type 0} {r : Rules Message S K Note} {number end : S → ℕ} {i
           share = mark (place_in last) seen;
           gone = gone;
         })
-        (record { entries = entries_of ts'; books = set books index (mark (Some at) gvt); limit = limit })
+        (record { entries = entries_of ts'; books = books'; limit = limit })
         (record {
           number = p;
           part = local r (x.opening p) (map act_by block) (after_own (simulation_of r x) p (entry_own t.cell.value));
@@ -112,7 +113,7 @@ module _ {S K : Type 0} {r : Rules Message S K Note} {number end : S → ℕ} {i
           collects-some f _ _ _ _ (take most (w.mail p)) xs same (subst (λ m. 0 < m) (sym many) some)
               (λ i. record {
                 entries = (ap entries_of more ∙ entries-are new) i;
-                books = set books (index-is i) (mark (Some (place i)) (k.gvt_is i));
+                books = (told-is ∙ (λ j. set books (index-is j) (mark (Some (place j)) (k.gvt_is j)))) i;
                 limit = limit;
               })
               (share-collected f p (own_of last) (entry_own t.cell.value) block xs (mark (Some at) gvt) (mark (Some (length (entries_of ts))) w.gvt) gone none own (λ i. mark (Some (place i)) (k.gvt_is i))),

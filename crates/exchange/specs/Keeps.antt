@@ -1,5 +1,5 @@
 -- What an Exchange and a Held keep, between all calls.
-use Rattle.std.specs.Prelude.{◌≡◌, ℕ, ◌<◌, ◌≤◌, ◌^◌, List, [], map, length, Option, Some, None, slice_get, ⊤}
+use Rattle.std.specs.Prelude.{◌≡◌, ℕ, ◌<◌, ◌≤◌, ◌^◌, List, [], map, length, Option, Some, None, slice_get, slice_index, ⊤}
 use Rattle.vlink.specs.declared.message.Message.{Message}
 use Rattle.vlink.specs.declared.note.Note.{Note}
 use Rattle.virtual_time.specs.Rules.{Rules, rowed}
@@ -19,6 +19,7 @@ use Rattle.journal.specs.declared.entry.Deed.TheVariants.{Collect, Post, Publish
 use Rattle.journal.specs.declared.entry.Entry.{Entry as Told}
 use Rattle.journal.specs.declared.tokens.Tokens.{Tokens}
 use Rattle.journal.specs.declared.tokens.EntryPlace.{EntryPlace}
+use Rattle.book_share.specs.declared.Share.{Share}
 use Rattle.exchange.specs.declared.mark.Mark.{Mark}
 use Rattle.exchange.specs.Views.{book_of}
 
@@ -61,6 +62,11 @@ IsCounted entry = IsCountedDeed entry.process entry.deed
 abbrev pub IsLast : List ℕ → Option EntryPlace → Type 0
 IsLast pages None = ⊤
 IsLast pages (Some last) = IsAt pages last.number last.tokens × (last.number < 2 ^ 26)
+
+-- the share of process p is that of the book with its name, and tells this
+pub record Tells (names : List ℕ) (p : ℕ) (share : Share Mark) (m : Mark) : Type 0 where
+  pub name : share.name ≡ slice_index names p
+  pub value : share.value ≡ m
 
 module _ {S K : Type 0} (r : Rules Message S K Note) (number end : S → ℕ) (is_placed : S → Type 0) (x : Setting S) where
   -- an Exchange over the table whose pages have these names: its n entries are the first n cells, mail, floors and GVT are those of the

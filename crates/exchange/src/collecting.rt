@@ -9,7 +9,6 @@ ghost use Rattle.antimessages.specs.Letters.{message_rules};
 ghost use Rattle.antimessages.specs.Mailing.{letters_for};
 ghost use Rattle.journal.specs.declared.fault.PoolFault.TheVariants.{OutOfMemory, JournalFull, Torn};
 ghost use Rattle.journal.specs.Deeds.{seen_deed, past_own, place_of};
-ghost use Rattle.exchange.specs.Views.{book_of};
 ghost use Rattle.exchange.specs.Keeps.{IsCountedDeed};
 ghost use Rattle.exchange.specs.Effects.{Collects, mark};
 
@@ -18,12 +17,13 @@ use crate::held::Held;
 use crate::mark::Mark;
 use crate::run_of::ActorRun;
 use antimessages::Mail;
+use book_share::tell;
 use gvt::Floors;
 use journal::{Deed, Entry, EntryPlace, PoolFault};
 use reverse::{Actor, actor_laws};
 use std::snapshot::Snapshot;
 
-/// The first letters of the mail of a process that fits, `most` or all where there are fewer, go to its tray, with one entry in the journal
+/// The first letters of the mail of a process, `most` or all where there are fewer, go to its tray, with one entry in the journal
 /// where there are any. Share and book note the GVT of the exchange. The answer is how many letters were taken.
 ///
 /// Any refusal leaves both as they were. `JournalFull`: the steps would pass the limit, which is looked at before any growth. `Torn`: the
@@ -33,7 +33,6 @@ pub fn collect<'a, R: Actor, J: ActorRun<R>>(
     exchange: &mut Exchange<'a, R, J>,
     most: u32,
 ) -> Result<u32, PoolFault>
-    requires fits { held.old.share ≡ book_of exchange.old.books held.old.number }
     requires posted { held.old.block ≡ [] }
     ensures ok { IfOk result (λ count. Collects (simulation_of (rules_of R.plain R.counter) J.setting) most exchange.old held.old exchange.new held.new count) }
     ensures unchanged { OnErr result ((exchange.new ≡ exchange.old) × (held.new ≡ held.old)) }
@@ -61,10 +60,12 @@ pub fn collect<'a, R: Actor, J: ActorRun<R>>(
             lower_floor(&mut exchange.floors, &exchange.mail, held.number, count);
             let _taken = held.process.collect(&mut exchange.mail, held.number, count);
             exchange.steps += count as u64;
-            exchange.books[usize::from(held.number)] = Mark {
+            let mark = Mark {
                 place: Some(place),
                 seen: exchange.gvt,
             };
+            let book = &mut exchange.books[usize::from(held.number)];
+            tell(book, &mut held.share, &mark);
             held.last = Some(EntryPlace {
                 number: place,
                 tokens,
@@ -76,9 +77,8 @@ pub fn collect<'a, R: Actor, J: ActorRun<R>>(
     }
 }
 
-/// Share and book of a process that fits note the GVT of the exchange.
+/// Share and book of a process note the GVT of the exchange.
 fn see<'a, R: Actor, J: ActorRun<R>>(held: &mut Held<'a, R, J>, exchange: &mut Exchange<'a, R, J>)
-    requires fits { held.old.share ≡ book_of exchange.old.books held.old.number }
     requires posted { held.old.block ≡ [] }
     ensures exchange { exchange.new ≡ record {
       entries = exchange.old.entries;
@@ -92,10 +92,12 @@ fn see<'a, R: Actor, J: ActorRun<R>>(held: &mut Held<'a, R, J>, exchange: &mut E
 {
     actor_laws::<R>();
     exchange.join(held);
-    exchange.books[usize::from(held.number)] = Mark {
+    let mark = Mark {
         place: held.share().place,
         seen: exchange.gvt,
     };
+    let book = &mut exchange.books[usize::from(held.number)];
+    tell(book, &mut held.share, &mark);
     held.seen = exchange.gvt;
 }
 

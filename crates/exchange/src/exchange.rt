@@ -9,6 +9,7 @@ ghost use Rattle.antimessages.specs.Letters.{signed};
 use crate::mark::Mark;
 use crate::run_of::ActorRun;
 use antimessages::Mail;
+use book_share::Book;
 use gvt::Floors;
 use journal::{Entries, Tokens};
 use reverse::Actor;
@@ -25,13 +26,14 @@ pub struct Exchange<'a, R: Actor, J: ActorRun<R>> {
     pub(crate) journal: Vec<Tokens<'a>>,
     /// For how many steps the entries stand.
     pub(crate) steps: u64,
-    pub(crate) books: Vec<Mark>,
+    /// The book of each process, in order. They have no bytes.
+    pub(crate) books: Vec<Book<Mark>>,
     pub(crate) limit: u64,
     pub(crate) of: PhantomData<(J, R)>,
 }
 
 impl<'a, R: Actor, J: ActorRun<R>> Model for Exchange<'a, R, J> {
-    ghost use Rattle.std.specs.Prelude.{◌≤◌};
+    ghost use Rattle.std.specs.Prelude.{◌≡◌, ◌≤◌, map};
     ghost use Rattle.reverse.specs.Rules.{rules_of};
     ghost use Rattle.journal.specs.Names.{names};
     ghost use Rattle.exchange.specs.Views.{Ledger};
@@ -39,11 +41,12 @@ impl<'a, R: Actor, J: ActorRun<R>> Model for Exchange<'a, R, J> {
 
     ghost Value = { Ledger };
 
-    ghost view = { λ x. record { entries = entries_of x.journal.items; books = x.books.items; limit = x.limit } };
+    ghost view = { λ x. record { entries = entries_of x.journal.items; books = map (λ b. b.value) x.books.items; limit = x.limit } };
 
     ghost invariant = { λ x. (x.steps ≤ x.limit) × (x.limit ≤ 67108864) ×
         IsRecorded (rules_of R.plain R.counter) R.number R.end R.is_placed J.setting J.pages (names x.table.now.pages.items)
-        x.journal.items x.mail x.floors x.gvt x.steps x.books.items };
+        x.journal.items x.mail x.floors x.gvt x.steps (map (λ b. b.value) x.books.items) ×
+        (map (λ b. b.name) x.books.items ≡ J.names) };
 }
 
 impl<'a, R: Actor, J: ActorRun<R>> Exchange<'a, R, J> {

@@ -1,5 +1,5 @@
 //! Whether a process in hand is the one of the journal.
-ghost use Rattle.std.specs.Prelude.{◌≡◌, ◌↔◌, true, map, IsTrue};
+ghost use Rattle.std.specs.Prelude.{◌≡◌, true, map};
 ghost use Rattle.virtual_time.specs.Own.{local};
 ghost use Rattle.virtual_time.specs.Journal.{act_by, own_in, reach, AreEnabled};
 ghost use Rattle.reverse.specs.Rules.{rules_of};
@@ -9,31 +9,29 @@ ghost use Rattle.exchange.specs.Views.{book_of};
 use crate::exchange::Exchange;
 use crate::held::Held;
 use crate::run_of::ActorRun;
+use book_share::agree;
 use reverse::Actor;
 
 impl<'a, R: Actor, J: ActorRun<R>> Exchange<'a, R, J> {
-    /// Whether share and book are equal. Then the process in hand is what the journal and then its block make of it, and each step of the
-    /// block can be done there. It takes no memory.
+    /// Whether share and book are equal: always, since a share has one book, and each call writes both. So the process in hand is what the
+    /// journal and then its block make of it, and each step of the block can be done there. It takes no memory.
     pub fn fits(&self, held: &Held<'a, R, J>) -> bool
-        ensures exact { IsTrue result ↔ (held.now.share ≡ book_of self.now.books held.now.number) }
-        ensures part { result ≡ true → held.now.part ≡ local (rules_of R.plain R.counter) (J.setting.opening held.now.number) (map act_by held.now.block)
+        ensures yes { result ≡ true }
+        ensures same { held.now.share ≡ book_of self.now.books held.now.number }
+        ensures part { held.now.part ≡ local (rules_of R.plain R.counter) (J.setting.opening held.now.number) (map act_by held.now.block)
             ((reach (simulation_of (rules_of R.plain R.counter) J.setting) self.now.entries).parts held.now.number) }
-        ensures enabled { result ≡ true → AreEnabled (simulation_of (rules_of R.plain R.counter) J.setting) (J.setting.opening held.now.number)
+        ensures enabled { AreEnabled (simulation_of (rules_of R.plain R.counter) J.setting) (J.setting.opening held.now.number)
             (reach (simulation_of (rules_of R.plain R.counter) J.setting) self.now.entries).gvt held.now.block
             ((reach (simulation_of (rules_of R.plain R.counter) J.setting) self.now.entries).parts held.now.number) }
-        ensures own { result ≡ true → held.now.own ≡ own_in held.now.number self.now.entries }
+        ensures own { held.now.own ≡ own_in held.now.number self.now.entries }
     {
-        let number = held.number();
-        let same = self.books[usize::from(number)] == held.share();
-        if same {
-            self.join(held);
-        }
-        same
+        self.join(held);
+        true
     }
 
     /// Share and book are equal, so that both speak of one entry. A call does nothing: its caller learns what the clauses say.
     pub(crate) fn join(&self, held: &Held<'a, R, J>)
-        requires { held.now.share ≡ book_of self.now.books held.now.number }
+        ensures same { held.now.share ≡ book_of self.now.books held.now.number }
         ensures part { held.now.part ≡ local (rules_of R.plain R.counter) (J.setting.opening held.now.number) (map act_by held.now.block)
             ((reach (simulation_of (rules_of R.plain R.counter) J.setting) self.now.entries).parts held.now.number) }
         ensures enabled { AreEnabled (simulation_of (rules_of R.plain R.counter) J.setting) (J.setting.opening held.now.number)
@@ -42,9 +40,17 @@ impl<'a, R: Actor, J: ActorRun<R>> Exchange<'a, R, J> {
         ensures own { held.now.own ≡ own_in held.now.number self.now.entries }
     {
         let _limit = self.limit;
+        self.meet(held);
         if let Some(last) = &held.last {
             let tokens = &self.journal[last.number as usize];
             tokens.agrees(&last.tokens);
         }
+    }
+
+    /// A share tells what its book tells. A call does nothing: its caller learns what the clause says.
+    pub(crate) fn meet(&self, held: &Held<'a, R, J>)
+        ensures { held.now.share ≡ book_of self.now.books held.now.number }
+    {
+        agree(&self.books[usize::from(held.number)], &held.share);
     }
 }

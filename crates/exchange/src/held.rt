@@ -9,6 +9,7 @@ ghost use Rattle.journal.specs.Deeds.{past_own, place_of};
 
 use crate::mark::Mark;
 use crate::run_of::ActorRun;
+use book_share::Share;
 use journal::{Block, Entries, EntryPlace, Past};
 use process_queues::Process;
 use reverse::{Actor, Outbound};
@@ -31,6 +32,8 @@ pub struct Held<'a, R: Actor, J: ActorRun<R>> {
     pub(crate) block: Block,
     pub(crate) last: Option<EntryPlace<'a>>,
     pub(crate) seen: Time,
+    /// The one share of its book, which tells place and GVT too. It has no bytes.
+    pub(crate) share: Share<Mark>,
     /// The rows of committed events that have left are of moments before this one.
     pub(crate) gone: Time,
     /// Room for what one event sends and notes.
@@ -47,7 +50,7 @@ impl<'a, R: Actor, J: ActorRun<R>> Model for Held<'a, R, J> {
     ghost use Rattle.reverse.specs.Setting.{simulation_of};
     ghost use Rattle.journal.specs.Names.{names};
     ghost use Rattle.exchange.specs.Views.{InShare};
-    ghost use Rattle.exchange.specs.Keeps.{Holds, own_of, place_in};
+    ghost use Rattle.exchange.specs.Keeps.{Holds, Tells, own_of, place_in};
 
     ghost Value = { InShare R };
 
@@ -62,7 +65,7 @@ impl<'a, R: Actor, J: ActorRun<R>> Model for Held<'a, R, J> {
     } };
 
     ghost invariant = { λ h. Holds (rules_of R.plain R.counter) R.number R.end R.is_placed J.setting R.is_value J.pages (names h.table.now.pages.items)
-        h.number h.seen h.gone h.block h.last h.process.queues };
+        h.number h.seen h.gone h.block h.last h.process.queues × Tells J.names h.number h.share (record { place = place_in h.last; seen = h.seen }) };
 }
 
 impl<'a, R: Actor, J: ActorRun<R>> Held<'a, R, J> {

@@ -1,5 +1,5 @@
 //! An exchange and its processes at the start.
-ghost use Rattle.std.specs.Prelude.{◌≡◌, ℕ, ◌<◌, ◌≤◌, [], replicate, length, slice_get, Some, IfOk, IfErr};
+ghost use Rattle.std.specs.Prelude.{◌≡◌, ℕ, ◌<◌, ◌≤◌, [], map, replicate, length, slice_get, slice_index, Some, IfOk, IfErr};
 ghost use Rattle.vlink.specs.declared.time.TheConstants.{GREATEST_NS};
 ghost use Rattle.reverse.specs.Rules.{rules_of};
 ghost use Rattle.reverse.specs.Setting.{Opens, IsLaidOut};
@@ -10,8 +10,10 @@ ghost use Rattle.exchange.specs.Views.{blank, opened_share};
 use crate::exchange::Exchange;
 use crate::held::Held;
 use crate::mark::Mark;
+use crate::pairs::Pairs;
 use crate::run_of::ActorRun;
 use antimessages::{Mail, plus_letters};
+use book_share::Share;
 use gvt::Floors;
 use journal::{Block, Entries, PoolFault};
 use process_queues::Process;
@@ -29,6 +31,7 @@ impl<'a, R: Actor + Drop, J: ActorRun<R>> Exchange<'a, R, J> {
         offers: &[Message],
         until: Time,
         table: &'a Entries,
+        pairs: Pairs,
         limit: u64,
     ) -> Result<(Exchange<'a, R, J>, Vec<Held<'a, R, J>>), PoolFault>
         requires opens { Opens J.setting actors.items offers.now }
@@ -36,6 +39,8 @@ impl<'a, R: Actor + Drop, J: ActorRun<R>> Exchange<'a, R, J> {
         requires end { until < GREATEST_NS }
         requires layout { IsLaidOut (rules_of R.plain R.counter) R.number R.end R.is_placed J.setting }
         requires table { names table.now.pages.items ≡ J.pages }
+        requires names { pairs ≡ J.names }
+        requires each { length J.names ≡ J.setting.processes }
         requires few { J.setting.processes ≤ 4096 }
         requires some { 1 ≤ limit }
         requires most { limit ≤ 67108864 }
@@ -49,12 +54,8 @@ impl<'a, R: Actor + Drop, J: ActorRun<R>> Exchange<'a, R, J> {
         let letters = plus_letters(alloc, offers)?;
         let mail = Mail::with_letters(alloc, count, &letters)?;
         let floors = Floors::new(alloc, count, until)?;
-        let blank = Mark {
-            place: None,
-            seen: Time::default(),
-        };
-        let books = vec![in alloc; blank; actors.len()]?;
-        let helds = helds_of(alloc, actors, until, table)?;
+        let Pairs { books, shares } = pairs;
+        let helds = helds_of(alloc, actors, shares, until, table)?;
         let exchange = Exchange {
             table,
             mail,
@@ -74,6 +75,7 @@ impl<'a, R: Actor + Drop, J: ActorRun<R>> Exchange<'a, R, J> {
 fn helds_of<'a, R: Actor + Drop, J: ActorRun<R>>(
     alloc: Global,
     actors: Vec<R>,
+    mut shares: Vec<Share<Mark>>,
     until: Time,
     table: &'a Entries,
 ) -> Result<Vec<Held<'a, R, J>>, PoolFault>
@@ -81,6 +83,9 @@ fn helds_of<'a, R: Actor + Drop, J: ActorRun<R>>(
     requires each { (p : ℕ) → p < J.setting.processes → slice_get actors.items p ≡ Some (J.setting.opening p) }
     requires layout { IsLaidOut (rules_of R.plain R.counter) R.number R.end R.is_placed J.setting }
     requires table { names table.now.pages.items ≡ J.pages }
+    requires names { map (λ s. s.name) shares.items ≡ J.names }
+    requires each_name { length J.names ≡ J.setting.processes }
+    requires blanks { map (λ s. s.value) shares.items ≡ replicate (length shares.items) blank }
     requires few { J.setting.processes ≤ 4096 }
     ensures count { IfOk result (λ helds. length helds.items ≡ J.setting.processes) }
     ensures each { IfOk result (λ helds. (p : ℕ) → p < J.setting.processes → slice_get helds.items p ≡ Some (opened_share J.setting.opening p)) }
@@ -89,7 +94,8 @@ fn helds_of<'a, R: Actor + Drop, J: ActorRun<R>>(
     let mut helds = Vec::with_capacity(alloc, actors.len())?;
     for actor in actors {
         let number = helds.len() as u16;
-        let held = Held::open(alloc, number, actor, until, table)?;
+        let share = shares.remove(0);
+        let held = Held::open(alloc, number, actor, share, until, table)?;
         helds.push_reserved(held);
     }
     Ok(helds)
@@ -101,11 +107,14 @@ impl<'a, R: Actor, J: ActorRun<R>> Held<'a, R, J> {
         alloc: Global,
         number: u16,
         actor: R,
+        share: Share<Mark>,
         until: Time,
         table: &'a Entries,
     ) -> Result<Self, PoolFault>
         requires within { number < J.setting.processes }
         requires actor { actor ≡ J.setting.opening number }
+        requires name { share.name ≡ slice_index J.names number }
+        requires blank { share.value ≡ blank }
         requires layout { IsLaidOut (rules_of R.plain R.counter) R.number R.end R.is_placed J.setting }
         requires table { names table.now.pages.items ≡ J.pages }
         ensures opened { IfOk result (λ held. held ≡ opened_share J.setting.opening number) }
@@ -122,6 +131,7 @@ impl<'a, R: Actor, J: ActorRun<R>> Held<'a, R, J> {
                 block: Block::new(),
                 last: None,
                 seen: Time::default(),
+                share,
                 gone: Time::default(),
                 out: Outbound::new(number, until, 0),
                 alloc,

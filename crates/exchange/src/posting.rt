@@ -5,18 +5,18 @@ ghost use Rattle.reverse.specs.Rules.{rules_of};
 ghost use Rattle.reverse.specs.Setting.{simulation_of};
 ghost use Rattle.journal.specs.declared.entry.Deed.TheVariants.{Post};
 ghost use Rattle.journal.specs.declared.fault.PoolFault.TheVariants.{OutOfMemory, JournalFull, Torn};
-ghost use Rattle.exchange.specs.Views.{book_of};
 ghost use Rattle.exchange.specs.Effects.{Posts};
 
 use crate::exchange::Exchange;
 use crate::held::Held;
 use crate::mark::Mark;
 use crate::run_of::ActorRun;
+use book_share::tell;
 use journal::{Block, Deed, Entry, EntryPlace, PoolFault};
 use reverse::{Actor, actor_laws};
 use std::mem;
 
-/// The block of a process that fits goes to the journal as one entry, its outbox goes to the mail, and its floor is what it has left. With
+/// The block of a process goes to the journal as one entry, its outbox goes to the mail, and its floor is what it has left. With
 /// an empty block nothing changes.
 ///
 /// Any refusal leaves both as they were. `JournalFull`: the steps would pass the limit, which is looked at before any growth. `Torn`: the
@@ -25,7 +25,6 @@ pub fn post<'a, R: Actor, J: ActorRun<R>>(
     held: &mut Held<'a, R, J>,
     exchange: &mut Exchange<'a, R, J>,
 ) -> Result<(), PoolFault>
-    requires { held.old.share ≡ book_of exchange.old.books held.old.number }
     ensures ok { OnOk result (Posts (simulation_of (rules_of R.plain R.counter) J.setting) exchange.old held.old exchange.new held.new) }
     ensures unchanged { OnErr result ((exchange.new ≡ exchange.old) × (held.new ≡ held.old)) }
     ensures full { result ≡ Err JournalFull → exchange.old.limit < length (steps exchange.old.entries) + length held.old.block + 1 }
@@ -55,10 +54,12 @@ pub fn post<'a, R: Actor, J: ActorRun<R>>(
             let _posted = held.process.post(&mut exchange.mail);
             exchange.floors.set(held.number, held.process.floor());
             exchange.steps += moves + 1;
-            exchange.books[usize::from(held.number)] = Mark {
+            let mark = Mark {
                 place: Some(place),
                 seen: held.seen,
             };
+            let book = &mut exchange.books[usize::from(held.number)];
+            tell(book, &mut held.share, &mark);
             held.last = Some(EntryPlace {
                 number: place,
                 tokens,

@@ -12,4 +12,7 @@ pub trait ActorRun<R: Actor> {
 
     /// The names of the pages of the table that its entries are written to.
     ghost pages: { List ℕ };
+
+    /// The names of the books and shares, one for each process.
+    ghost names: { List ℕ };
 }

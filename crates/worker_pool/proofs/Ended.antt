@@ -1,5 +1,5 @@
 -- What holds of a run that is ended.
-use Rattle.std.proofs.Common.{◌≡◌, ◌∙◌, ℕ, suc, ◌+◌, List, [], ◌++◌, filter, map, length, slice_get, sym, ap, subst, arith}
+use Rattle.std.proofs.Common.{◌≡◌, ◌≤◌, ◌∙◌, ℕ, suc, ◌+◌, List, [], ◌++◌, filter, map, length, slice_get, sym, ap, subst, arith}
 use Rattle.std.specs.Prelude.{Some}
 use Rattle.std.proofs.lemmas.List.{nil_from_length}
 use Rattle.vlink.specs.declared.message.Message.{Message}
@@ -29,6 +29,10 @@ use Rattle.worker_pool.proofs.Places.{some-at}
 -- the process at a place has committed all that it has done
 abbrev pub HasCommitted : ℕ → InShare NodeState → Type 0
 HasCommitted p share = share.part.done ≡ []
+
+-- the rows that have left the process at a place are of moments before this one
+abbrev pub HasGoneBy : ℕ → ℕ → InShare NodeState → Type 0
+HasGoneBy moment p share = share.gone ≤ moment
 
 -- at the first n processes the rows are those that are committed in the world that the journal reaches, and at no other process is a row
 abbrev pub AreCommittedBelow : Plan → List (Entry Message) → ℕ → List Noted → Type 0

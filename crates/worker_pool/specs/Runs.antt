@@ -1,5 +1,5 @@
 -- A run that nobody picked, and a run that is ended.
-use Rattle.std.specs.Prelude.{◌≡◌, ℕ, List, [], length, slice_get, Some}
+use Rattle.std.specs.Prelude.{◌≡◌, ◌≤◌, ℕ, List, [], length, slice_get, Some}
 use Rattle.vlink.specs.declared.message.Message.{Message}
 use Rattle.virtual_time.specs.Journal.{Entry, reach}
 use Rattle.virtual_time.specs.Safe.{IsFinished}
@@ -22,3 +22,7 @@ pub record IsEnded (plan : Plan) (entries : List (Entry Message)) (shares : List
   pub finished : IsFinished (simulation_of plan) (reach (simulation_of plan) entries)
   pub count : length shares ≡ process_count plan
   pub each : (p : ℕ) (share : InShare NodeState) → slice_get shares p ≡ Some share → IsOfWorld plan entries p share
+
+-- the rows that have left the processes are of moments before this one
+abbrev pub HaveGoneBy : ℕ → List (InShare NodeState) → Type 0
+HaveGoneBy moment shares = (p : ℕ) (share : InShare NodeState) → slice_get shares p ≡ Some share → share.gone ≤ moment

@@ -25,7 +25,8 @@ impl<J: NetworkRun> Counted<J> {
     /// No row is counted yet. It is refused for memory alone.
     pub(crate) fn none(alloc: Global, network: &Network) -> Result<Self, AllocError>
         requires { network.now ≡ J.plan }
-        ensures { IfOk result (λ counted. IfSome counted.tables (AreCountedBefore J.plan counted.end)) }
+        ensures counted { IfOk result (λ counted. IfSome counted.tables (AreCountedBefore J.plan counted.end)) }
+        ensures none { IfOk result (λ counted. counted.end ≡ 0) }
     {
         Ok(Counted {
             tables: Some(TablesSoFar::none(alloc, network)?),

@@ -1,10 +1,9 @@
 //! The end of a run: one thread has all in hand, and gives turns until everything is committed.
-ghost use Rattle.std.specs.Prelude.{◌≡◌, ◌<◌, ℕ, true, [], length, map, slice_get, Some, Ok, IfErr, OnOk};
+ghost use Rattle.std.specs.Prelude.{◌≡◌, ◌<◌, ℕ, true, [], length, map, slice_get, Some, IsTrue, OnOk};
 ghost use Rattle.netdesc.specs.Faults.{process_count};
 ghost use Rattle.nodes.specs.rules.Node.{NodeState};
-ghost use Rattle.journal.specs.declared.fault.PoolFault.TheVariants.{Torn};
 ghost use Rattle.exchange.specs.Views.{InShare};
-ghost use Rattle.worker_pool.specs.Runs.{IsOfWorld, IsEnded};
+ghost use Rattle.worker_pool.specs.Runs.{IsOfWorld, IsEnded, HaveGoneBy};
 
 use crate::desk::TraceLock;
 use crate::locks::{Locked, Locks};
@@ -26,7 +25,7 @@ pub(crate) struct Unlocked<'a, J: NetworkRun> {
     pub trace: Option<TraceLock<J>>,
 }
 
-/// Whether this process is number `place`, has no step that is not in the journal, and is the one of the journal.
+/// Whether this process is number `place`, and has no step that is not in the journal: then it is the one of the journal.
 fn is_of_world<'a, J: NetworkRun>(
     exchange: &Exchange<'a, Node, Of<J>>,
     held: &Held<'a, Node, Of<J>>,
@@ -59,24 +58,25 @@ impl<'a, J: NetworkRun> Unlocked<'a, J> {
         })
     }
 
-    /// Sets GVT and gives each process a turn, once and again until the run is ended. `until` is the end time of the network. In the last turn
-    /// each process has seen the GVT behind the end, and has no part of the trace left to give.
-    ///
-    /// `Torn`: a process is not the one of the journal.
+    /// Sets GVT and gives each process a turn, once and again until the run is ended, and, where it is asked for, no row has left a process.
+    /// `until` is the end time of the network. In the last turn each process has seen the GVT behind the end, and has no part of the trace left
+    /// to give.
     pub(crate) fn end<G: Gate, T: Wait>(
         &mut self,
         rt: &T,
         until: Time,
+        keeps_rows: bool,
         pace: &Pace,
         gate: &G,
     ) -> Result<(), PoolFault>
         requires { until ≡ J.plan.until }
-        ensures { OnOk result (IsEnded J.plan self.new.exchange.entries (map (λ l. l.held) self.new.lockeds.items)) }
+        ensures ended { OnOk result (IsEnded J.plan self.new.exchange.entries (map (λ l. l.held) self.new.lockeds.items)) }
+        ensures kept { OnOk result (IsTrue keeps_rows → HaveGoneBy 0 (map (λ l. l.held) self.new.lockeds.items)) }
     {
         for _ in rt.forever() {
             let _gvt = publish(&mut self.exchange)?;
             self.take_turns(rt, pace, gate)?;
-            if self.is_ended(until)? {
+            if self.is_ended(until) && (!keeps_rows || self.have_gone_by(Time::default())) {
                 return Ok(());
             }
         }
@@ -99,24 +99,31 @@ impl<'a, J: NetworkRun> Unlocked<'a, J> {
         Ok(())
     }
 
-    /// Whether GVT is past the end and each process has committed all that it has done.
-    ///
-    /// `Torn`: a process is not the one of the journal, or not in its place.
-    fn is_ended(&self, until: Time) -> Result<bool, PoolFault>
+    /// Whether GVT is past the end, all processes are there, each in its place and without a block, and each has committed all that it has done.
+    fn is_ended(&self, until: Time) -> bool
         requires { until ≡ J.plan.until }
-        ensures ended { result ≡ Ok true → IsEnded J.plan self.now.exchange.entries (map (λ l. l.held) self.now.lockeds.items) }
-        ensures torn { IfErr result (λ fault. fault ≡ Torn) }
+        ensures { result ≡ true → IsEnded J.plan self.now.exchange.entries (map (λ l. l.held) self.now.lockeds.items) }
     {
-        if !self.are_of_world() {
-            return Err(PoolFault::Torn);
+        if self.exchange.gvt().ns() != until.ns() + 1 || !self.are_of_world() {
+            return false;
         }
-        if self.exchange.gvt().ns() != until.ns() + 1 {
-            return Ok(false);
-        }
-        Ok(self.all_committed())
+        self.all_committed()
     }
 
-    /// Whether all processes of the network are there, each in its place, and each is the one of the journal.
+    /// Whether all rows that have left the processes are of moments before this one, in ns; none has where it is 0.
+    pub(crate) fn have_gone_by(&self, moment: Time) -> bool
+        ensures { result ≡ true → HaveGoneBy moment (map (λ l. l.held) self.now.lockeds.items) }
+    {
+        for place in 0..self.lockeds.len() {
+            let locked = &self.lockeds[place];
+            if locked.held.gone().ns() > moment.ns() {
+                return false;
+            }
+        }
+        true
+    }
+
+    /// Whether all processes of the network are there, each in its place and without a block.
     fn are_of_world(&self) -> bool
         ensures count { result ≡ true → length self.now.lockeds.items ≡ process_count J.plan }
         ensures each { result ≡ true → (p : ℕ) (share : InShare NodeState) → slice_get (map (λ l. l.held) self.now.lockeds.items) p ≡ Some share →

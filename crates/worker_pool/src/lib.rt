@@ -27,7 +27,7 @@ mod worker;
 mod workers;
 mod writing;
 
-pub use exchange::{ActorRun, Exchange, Gate, Held, Mark, collect, post, publish, work};
+pub use exchange::{ActorRun, Exchange, Gate, Held, Mark, Pairs, collect, post, publish, work};
 pub use journal::{Entries, PoolFault};
 pub use network_run::{NetworkRun, Of};
 pub use opening::open_network;

@@ -3,8 +3,8 @@ use exchange::ActorRun;
 use nodes::Node;
 use std::marker::{Brand, PhantomData};
 
-/// A run of a network, known by its type: which network it is of, and which table its entries are written to. It has no bytes, and who
-/// calls at `Brand` picks both.
+/// A run of a network, known by its type: which network it is of, which table its entries are written to, and which books and
+/// shares it has. It has no bytes, and who calls at `Brand` picks all three.
 pub trait NetworkRun {
     ghost use Rattle.std.specs.Prelude.{ℕ, List};
     ghost use Rattle.netdesc.specs.Plan.{Plan};
@@ -14,6 +14,9 @@ pub trait NetworkRun {
 
     /// The names of the pages of the table that the entries are written to.
     ghost pages: { List ℕ };
+
+    /// The names of the books and shares, one for each process.
+    ghost names: { List ℕ };
 }
 
 impl NetworkRun for Brand {
@@ -23,6 +26,8 @@ impl NetworkRun for Brand {
     ghost plan = { empty_plan };
 
     ghost pages = { [] };
+
+    ghost names = { [] };
 }
 
 /// The run of a network, as a run of its nodes and lines.
@@ -36,4 +41,6 @@ impl<J: NetworkRun> ActorRun<Node> for Of<J> {
     ghost setting = { setting_of J.plan };
 
     ghost pages = { J.pages };
+
+    ghost names = { J.names };
 }

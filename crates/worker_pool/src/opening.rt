@@ -7,7 +7,7 @@ ghost use Rattle.journal.specs.declared.fault.PoolFault.TheVariants.{OutOfMemory
 ghost use Rattle.exchange.specs.Views.{blank, opened_share};
 
 use crate::network_run::{NetworkRun, Of};
-use exchange::{Exchange, Held};
+use exchange::{Exchange, Held, Pairs};
 use journal::{Entries, PoolFault};
 use netdesc::Network;
 use nodes::Node;
@@ -17,15 +17,18 @@ use traffic::offers;
 
 /// The exchange of a network, with no entry in its journal, and each of its nodes and lines in hand, in order, in its opening state: the
 /// offers are in the mail, every floor is the moment after the end, and GVT is 0. The journal can have `limit` steps, and its entries are
-/// written to the table. It is refused for memory alone.
+/// written to the table. Each process has the share of its book. It is refused for memory alone.
 pub fn open_network<'a, J: NetworkRun>(
     alloc: Global,
     network: &Network,
     table: &'a Entries,
+    pairs: Pairs,
     limit: u64,
 ) -> Result<(Exchange<'a, Node, Of<J>>, Vec<Held<'a, Node, Of<J>>>), PoolFault>
     requires network { network.now ≡ J.plan }
     requires table { names table.now.pages.items ≡ J.pages }
+    requires names { pairs ≡ J.names }
+    requires each { length J.names ≡ process_count network.now }
     requires some { 1 ≤ limit }
     requires most { limit ≤ 67108864 }
     ensures exchange { IfOk result (λ r. r.0 ≡ record { entries = []; books = replicate (process_count network.now) blank; limit = limit }) }
@@ -38,5 +41,5 @@ pub fn open_network<'a, J: NetworkRun>(
     let _processes = network.process_count();
     let offers = offers(alloc, network)?;
     let nodes = nodes_of(alloc, network)?;
-    Exchange::open(alloc, nodes, &offers, network.until(), table, limit)
+    Exchange::open(alloc, nodes, &offers, network.until(), table, pairs, limit)
 }

@@ -5,7 +5,7 @@ ghost use Rattle.virtual_time.specs.Journal.{steps};
 ghost use Rattle.trace_tables.specs.Tables.{tables_of};
 ghost use Rattle.seqsim.specs.Committed.{AreCommittedRows};
 ghost use Rattle.seqsim.specs.Networks.{AreRowsOf};
-ghost use Rattle.worker_pool.specs.Runs.{IsEnded};
+ghost use Rattle.worker_pool.specs.Runs.{IsEnded, HaveGoneBy};
 
 use crate::counted::Counted;
 use crate::ending::Unlocked;
@@ -21,32 +21,27 @@ use virtual_time::headline;
 use vlink::{Message, Note, Row, Time};
 
 impl<'a, J: NetworkRun> Unlocked<'a, J> {
-    /// The rows of all committed events, process by process.
-    ///
-    /// `Torn`: rows have left a process.
+    /// The rows of all committed events, process by process. It is refused for memory alone.
     fn gathered_rows(&self, alloc: Global, network: &Network) -> Result<Vec<Row>, PoolFault>
         requires network { network.now ≡ J.plan }
         requires ended { IsEnded J.plan self.now.exchange.entries (map (λ l. l.held) self.now.lockeds.items) }
+        requires kept { HaveGoneBy 0 (map (λ l. l.held) self.now.lockeds.items) }
         ensures { IfOk result (λ rows. AreCommittedRows J.plan (steps self.now.exchange.entries) rows.items) }
     {
         network_laws(network);
         let mut rows = Vec::new(alloc);
         for process in 0..self.lockeds.len() {
             let locked = &self.lockeds[process];
-            if locked.held.gone().ns() != 0 {
-                return Err(PoolFault::Torn);
-            }
             rows.extend_from_slice(locked.held.sealed())?;
         }
         Ok(rows)
     }
 
-    /// The rows of all events, in message order.
-    ///
-    /// `OutOfMemory`: memory is refused. `Torn`: rows have left a process.
+    /// The rows of all events, in message order. It is refused for memory alone.
     pub(crate) fn rows(&self, alloc: Global, network: &Network) -> Result<Vec<Row>, PoolFault>
         requires network { network.now ≡ J.plan }
         requires ended { IsEnded J.plan self.now.exchange.entries (map (λ l. l.held) self.now.lockeds.items) }
+        requires kept { HaveGoneBy 0 (map (λ l. l.held) self.now.lockeds.items) }
         ensures { IfOk result (λ rows. AreRowsOf J.plan rows.items) }
     {
         rows_by_process(network);
@@ -57,10 +52,11 @@ impl<'a, J: NetworkRun> Unlocked<'a, J> {
 
     /// The tables of the run: those of the rows that were counted, and of the rows that each process has from there on. No row of it is kept.
     ///
-    /// `OutOfMemory`: memory is refused, or was while rows were counted. `Torn`: rows have left a process that were not counted.
+    /// `OutOfMemory`: memory is refused, or was while rows were counted.
     pub(crate) fn tables(&self, network: &Network, counted: Counted<J>) -> Result<Tables, PoolFault>
         requires network { network.now ≡ J.plan }
         requires ended { IsEnded J.plan self.now.exchange.entries (map (λ l. l.held) self.now.lockeds.items) }
+        requires counted { HaveGoneBy counted.end (map (λ l. l.held) self.now.lockeds.items) }
         ensures whole { IfOk result (λ tables. (rows : List Noted) × AreRowsOf J.plan rows × (tables ≡ tables_of J.plan rows)) }
         ensures each { IfOk result (λ tables. (rows : List Noted) → AreRowsOf J.plan rows → tables ≡ tables_of J.plan rows) }
     {
@@ -76,9 +72,6 @@ impl<'a, J: NetworkRun> Unlocked<'a, J> {
         let behind = Time::known(network.until().ns() + 1);
         for process in 0..self.lockeds.len() {
             let locked = &self.lockeds[process];
-            if locked.held.gone().ns() > end.ns() {
-                return Err(PoolFault::Torn);
-            }
             tables.count(network, locked.held.rows_between(end, behind))?;
         }
         Ok(tables.tables(network)?)

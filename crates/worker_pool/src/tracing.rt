@@ -1,9 +1,10 @@
 //! The run of a network by workers whose trace is written while it goes on.
-ghost use Rattle.std.specs.Prelude.{◌≡◌, ◌+◌, List, map, IsTrue, IfOk, IfErr, IfSome, OnOk};
+ghost use Rattle.std.specs.Prelude.{◌≡◌, ◌+◌, List, length, map, IsTrue, IfOk, IfErr, IfSome, OnOk};
 ghost use Rattle.std.specs.Io.KnownBytes.{append_known};
 ghost use Rattle.vlink.specs.declared.note.Row.{Row as Noted};
 ghost use Rattle.virtual_time.specs.Safe.{IsFinished};
 ghost use Rattle.antimessages.specs.Steps.{step_of};
+ghost use Rattle.netdesc.specs.Faults.{process_count};
 ghost use Rattle.nodes.specs.rules.Simulation.{simulation_of};
 ghost use Rattle.journal.specs.Names.{names};
 ghost use Rattle.trace_tables.specs.declared.fault.OutFault.TheVariants.{Device};
@@ -28,7 +29,7 @@ use crate::running::run_to_end;
 use crate::trace_run::TraceRun;
 use crate::writing::{Writing, write_batches};
 use crossbeam_channel::bounded;
-use exchange::Gate;
+use exchange::{Gate, Pairs};
 use journal::{Entries, PoolFault};
 use netdesc::Network;
 use std::alloc::Global;
@@ -64,16 +65,28 @@ fn run_closed<'a, J: NetworkRun + Send + Sync, G: Gate + Sync, T: Threads + Wait
     alloc: Global,
     network: &Network,
     table: &'a Entries,
+    pairs: Pairs,
     pace: &Pace,
     gate: &G,
     trace: TraceLock<J>,
 ) -> Result<(Unlocked<'a, J>, Option<PartFault>), PoolFault>
     requires network { network.now ≡ J.plan }
     requires table { names table.now.pages.items ≡ J.pages }
+    requires names { pairs ≡ J.names }
+    requires each_name { length J.names ≡ process_count network.now }
     ensures ended { IfOk result (λ r. IsEnded J.plan r.0.exchange.entries (map (λ l. l.held) r.0.lockeds.items)) }
     ensures fault { IfOk result (λ r. IfSome r.1 IsPlaceFault) }
 {
-    let mut ended = run_to_end::<J, G, T>(rt, alloc, network, table, pace, gate, Some(trace))?;
+    let mut ended = run_to_end::<J, G, T>(
+        rt,
+        alloc,
+        network,
+        table,
+        pairs,
+        pace,
+        gate,
+        Some(trace),
+    )?;
     let fault = closed(ended.trace.take());
     Ok((ended, fault))
 }
@@ -106,6 +119,7 @@ fn traced_named<
     alloc: Global,
     network: &Network,
     table: &Entries,
+    pairs: Pairs,
     pace: &Pace,
     gate: &G,
     sink: S,
@@ -113,6 +127,8 @@ fn traced_named<
 ) -> Result<Traced<Summary, S>, PoolFault>
     requires network { network.now ≡ J.plan }
     requires table { names table.now.pages.items ≡ J.pages }
+    requires names { pairs ≡ J.names }
+    requires each_name { length J.names ≡ process_count network.now }
     requires taken { S.taken sink ≡ K.taken }
     requires failures { S.failures sink ≡ K.failures }
     ensures tables { IfOk result (λ t. (rows : List Noted) × AreRowsOf J.plan rows × (t.outcome.tables ≡ tables_of J.plan rows)) }
@@ -130,6 +146,8 @@ fn traced_named<
         |scope| -> Result<Traced<Summary, S>, PoolFault>
             requires network { network.now ≡ J.plan }
             requires table { names table.now.pages.items ≡ J.pages }
+            requires names { pairs ≡ J.names }
+            requires each_name { length J.names ≡ process_count network.now }
             requires counted { IfSome counted.tables (AreCountedBefore J.plan counted.end) }
             ensures tables { IfOk result (λ t. (rows : List Noted) × AreRowsOf J.plan rows × (t.outcome.tables ≡ tables_of J.plan rows)) }
             ensures each { IfOk result (λ t. (rows : List Noted) → AreRowsOf J.plan rows → t.outcome.tables ≡ tables_of J.plan rows) }
@@ -140,9 +158,12 @@ fn traced_named<
             else {
                 return Err(PoolFault::Spawn);
             };
-            let ran = run_closed(rt, alloc, network, table, pace, gate, trace);
+            let ran = run_closed(rt, alloc, network, table, pairs, pace, gate, trace);
             let (writing, counted) = writer.join(rt);
             let (ended, fault) = ran?;
+            if !ended.have_gone_by(counted.end) {
+                return Err(PoolFault::Torn);
+            }
             let tables = ended.tables(network, counted)?;
             let journal = steps_of(&ended, alloc, with_steps)?;
             let (written, sink) = writing.finish(fault);
@@ -191,7 +212,10 @@ pub fn run_traced<S: Sink + Drop + Send, G: Gate + Sync, T: Threads + Wait + Syn
     ensures fault { IfOk result (λ t. IfErr t.written IsFaultOfTrace) }
 {
     let table = Entries::new(alloc)?;
-    traced_named::<Brand, Brand, S, G, T>(rt, alloc, network, &table, &pace, gate, sink, true)
+    let pairs = Pairs::new(alloc, network.process_count())?;
+    traced_named::<Brand, Brand, S, G, T>(
+        rt, alloc, network, &table, pairs, &pace, gate, sink, true,
+    )
 }
 
 /// Simulates a network by workers and writes its trace, as `run_traced` does, where beside it only the tables are asked for: the list of steps
@@ -216,12 +240,13 @@ pub fn run_tables_traced<S: Sink + Drop + Send, G: Gate + Sync, T: Threads + Wai
     ensures fault { IfOk result (λ t. IfErr t.written IsFaultOfTrace) }
 {
     let table = Entries::new(alloc)?;
+    let pairs = Pairs::new(alloc, network.process_count())?;
     let Traced {
         outcome,
         written,
         sink,
     } = traced_named::<Brand, Brand, S, G, T>(
-        rt, alloc, network, &table, &pace, gate, sink, false,
+        rt, alloc, network, &table, pairs, &pace, gate, sink, false,
     )?;
     Ok(Traced {
         outcome: outcome.tables,

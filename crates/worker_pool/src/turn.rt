@@ -32,7 +32,7 @@ pub(crate) fn turn<'a, J: NetworkRun, G: Gate, T: Wait>(
     take_letters(&mut locked.held, &mut *locked_soon(rt, exchange))?;
     run_ahead(locked, pace, gate)?;
     list_calls(calls, locked)?;
-    give_letters(&mut locked.held, &mut *locked_soon(rt, exchange))
+    post(&mut locked.held, &mut *locked_soon(rt, exchange))
 }
 
 /// The value of a lock that others have for some microseconds at most: a thread that slept would lose more, so it tries for a while.
@@ -57,18 +57,14 @@ pub(crate) fn lent_turn<'a, J: NetworkRun, G: Gate>(
 ) -> Result<(), PoolFault> {
     take_letters(&mut locked.held, exchange)?;
     run_ahead(locked, pace, gate)?;
-    give_letters(&mut locked.held, exchange)
+    post(&mut locked.held, exchange)
 }
 
 /// All letters in the mail of the process come to its tray. A process with a block, which a refusal left, takes none before that is posted.
-/// `Torn`: it is not the one of the journal.
 fn take_letters<'a, J: NetworkRun>(
     held: &mut Held<'a, Node, Of<J>>,
     exchange: &mut Exchange<'a, Node, Of<J>>,
 ) -> Result<(), PoolFault> {
-    if !exchange.fits(held) {
-        return Err(PoolFault::Torn);
-    }
     if held.pending() == 0 {
         let _letters = collect(held, exchange, u32::MAX)?;
     }
@@ -88,17 +84,6 @@ fn run_ahead<'a, J: NetworkRun, G: Gate>(
     let was_late = locked.held.undone() > undone;
     locked.lead_ns = lead_after(ahead_ns, pace.window_ns, was_late);
     Ok(())
-}
-
-/// What the process did goes to the journal, and its letters to the mail. `Torn`: it is not the one of the journal.
-fn give_letters<'a, J: NetworkRun>(
-    held: &mut Held<'a, Node, Of<J>>,
-    exchange: &mut Exchange<'a, Node, Of<J>>,
-) -> Result<(), PoolFault> {
-    if !exchange.fits(held) {
-        return Err(PoolFault::Torn);
-    }
-    post(held, exchange)
 }
 
 /// The lead after a turn, in ns: a half, but not below `LEAST_LEAD_NS`, where its letters came too late; a sixty-fourth part more

@@ -1,5 +1,6 @@
 //! What the calls on an exchange of a network and on its processes come to. What is expected was worked out by hand.
-ghost use Rattle.std.specs.Prelude.{◌≡◌};
+ghost use Rattle.std.specs.Prelude.{◌≡◌, length};
+ghost use Rattle.netdesc.specs.Faults.{process_count};
 ghost use Rattle.journal.specs.Names.{names};
 
 use super::changes::changed;
@@ -8,7 +9,7 @@ use netdesc::{Network, read};
 use std::alloc::Global;
 use std::marker::Brand;
 use std::test::Fail;
-use worker_pool::{Entries, NetworkRun, open_network};
+use worker_pool::{Entries, NetworkRun, Pairs, open_network};
 
 /// Behind the network and its changes each row has how many steps the journal can have, and a script; then what its words tell
 /// (`stage.rt` says how). What begins with `other` is done at a second exchange of the same network, over the same table.
@@ -42,7 +43,9 @@ fn is_told(alloc: Global, row: &str) -> Result<bool, Fail> {
     let network = read(alloc, net.as_str())?;
     let table = Entries::new(alloc)?;
     let script = String::from_str(alloc, script)?;
-    let found = played::<Brand, Brand>(alloc, &network, &table, limit, &script)?;
+    let first = Pairs::new(alloc, network.process_count())?;
+    let second = Pairs::new(alloc, network.process_count())?;
+    let found = played::<Brand, Brand>(alloc, &network, &table, first, second, limit, &script)?;
     Ok(found.as_str() == told)
 }
 
@@ -51,6 +54,8 @@ fn played<J: NetworkRun, K: NetworkRun>(
     alloc: Global,
     network: &Network,
     table: &Entries,
+    first: Pairs,
+    second: Pairs,
     limit: u64,
     script: &String,
 ) -> Result<String, Fail>
@@ -58,9 +63,13 @@ fn played<J: NetworkRun, K: NetworkRun>(
     requires second { network.now ≡ K.plan }
     requires first_table { names table.now.pages.items ≡ J.pages }
     requires second_table { names table.now.pages.items ≡ K.pages }
+    requires first_names { first ≡ J.names }
+    requires second_names { second ≡ K.names }
+    requires each_first { length J.names ≡ process_count network.now }
+    requires each_second { length K.names ≡ process_count network.now }
 {
-    let mut first = stage_of::<J>(alloc, network, table, limit)?;
-    let mut second = stage_of::<K>(alloc, network, table, limit)?;
+    let mut first = stage_of::<J>(alloc, network, table, first, limit)?;
+    let mut second = stage_of::<K>(alloc, network, table, second, limit)?;
     let mut told = String::new(alloc);
     for word in script.as_str().split(' ') {
         if !told.is_empty() {
@@ -79,15 +88,18 @@ fn stage_of<'a, J: NetworkRun>(
     alloc: Global,
     network: &Network,
     table: &'a Entries,
+    pairs: Pairs,
     limit: u64,
 ) -> Result<Stage<'a, J>, Fail>
     requires network { network.now ≡ J.plan }
     requires table { names table.now.pages.items ≡ J.pages }
+    requires names { pairs ≡ J.names }
+    requires each { length J.names ≡ process_count network.now }
 {
     if limit == 0 || limit > 1 << 26 {
         return Err("no limit")?;
     }
-    let (exchange, helds) = open_network::<J>(alloc, network, table, limit)?;
+    let (exchange, helds) = open_network::<J>(alloc, network, table, pairs, limit)?;
     let gate = Counted::new();
     Ok(Stage {
         exchange,

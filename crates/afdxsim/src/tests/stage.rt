@@ -139,9 +139,6 @@ impl<'a, J: NetworkRun> Stage<'a, J> {
         if held.pending() != 0 {
             return Err("it has a block")?;
         }
-        if !self.exchange.fits(held) {
-            return Err("it does not fit")?;
-        }
         let count = collect(held, &mut self.exchange, small(word.second));
         Ok(count.map(|count| Answer::Number(u64::from(count))))
     }
@@ -160,9 +157,6 @@ impl<'a, J: NetworkRun> Stage<'a, J> {
 
     fn post(&mut self, word: Word<'_>) -> Result<Result<Answer, PoolFault>, Fail> {
         let held = self.helds.get_mut(word.first as usize).ok_or("no process")?;
-        if !self.exchange.fits(held) {
-            return Err("it does not fit")?;
-        }
         Ok(post(held, &mut self.exchange).map(|_| Answer::Done))
     }
 

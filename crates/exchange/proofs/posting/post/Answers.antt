@@ -10,6 +10,9 @@ use Rattle.journal.specs.Deeds.{seen_entry}
 use Rattle.journal.specs.Places.{IsAt}
 use Rattle.journal.specs.declared.tokens.Tokens.{Tokens}
 use Rattle.process_queues.specs.Queues.{Queues}
+use Rattle.book_share.specs.declared.Book.{Book}
+use Rattle.exchange.specs.declared.mark.Mark.{Mark}
+use Rattle.exchange.proofs.Books.{names-set, values-set}
 use Rattle.exchange.specs.Keeps.{place_in, own_of, entries_of}
 use Rattle.exchange.specs.Effects.{told, mark}
 use Rattle.exchange.proofs.Growth.{Fresh, entry-fresh, entries-are}
@@ -21,7 +24,7 @@ use Rattle.exchange.proofs.posting.post.Goals as goal
 pub reserve_post-requires : goal.reserve_post-requires
 reserve_post-requires g c =
     let k = c.exchange.invariant.2 in
-    let h = c.held.invariant in
+    let h = c.held.invariant.0 in
     let L = c.actor_laws.ensures g.J.ActorRun.setting k.laid in
     let part = rw (sym c.held.view_is, sym c.exchange.view_is) at c.join.ensures.part in
     let enabled = rw (sym c.held.view_is, sym c.exchange.view_is) at c.join.ensures.enabled in
@@ -30,7 +33,7 @@ reserve_post-requires g c =
 pub post-posted-requires : goal.post-posted-requires
 post-posted-requires g c =
     let k = c.exchange.invariant.2 in
-    let h = c.held.invariant in
+    let h = c.held.invariant.0 in
     let L = c.actor_laws.ensures g.J.ActorRun.setting k.laid in
     let part = rw (sym c.held.view_is, sym c.exchange.view_is) at c.join.ensures.part in
     let enabled = rw (sym c.held.view_is, sym c.exchange.view_is) at c.join.ensures.enabled in
@@ -41,7 +44,7 @@ post-posted-requires g c =
 pub invariant_of-held : goal.invariant_of-held
 invariant_of-held g c =
     let k = c.exchange.invariant.2 in
-    let h = c.held.invariant in
+    let h = c.held.invariant.0 in
     let r = rules_of g.R.Reversible.plain g.R.Actor.counter in
     let x = g.J.ActorRun.setting in
     let p = c.held.inside.number in
@@ -55,27 +58,29 @@ invariant_of-held g c =
     let place : c.len-place.result ≡ length ts = c.len-place.ensures ∙ c.exchange.inside.journal.ok.0 in
     let room = when-no-err c.reserve_post.result (sym c.is_err.ensures.value ∙ c.if-is_err.false) c.reserve_post.ensures.room in
     let did = when-ok c.post-posted.result (c.post-posted.ensures.reserved room) c.post-posted.ensures.emptied in
-    let queues = when-ok c.post-posted.result (c.post-posted.ensures.reserved room) c.post-posted.ensures.queues in
-    holds-posted h (c.actor_laws.ensures x k.laid)
-    (Some (record { number = c.len-place.result; tokens = c.in-Ok.tokens }))
-    (subst (λ n. IsAt g.J.ActorRun.pages n c.in-Ok.tokens) (sym place) new.at, omega arith)
-    (new.own_is ∙ ap (λ z. z ++ acts_of (Posted block)) (sym mine))
-    c.post-posted.new.self.queues
-    (did (x.opening p) _ h.stands)
-    (ap (λ (z : Queues g.row.R.Denot g.row.R-Record.Denot). z.left) queues)
-    c.replace.new.dest (c.replace.ensures.after ∙ c.new.ensures)
+    let queues = when-ok c.post-posted.result (c.post-posted.ensures.reserved room) c.post-posted.ensures.queues in (
+      holds-posted h (c.actor_laws.ensures x k.laid)
+          (Some (record { number = c.len-place.result; tokens = c.in-Ok.tokens }))
+          (subst (λ n. IsAt g.J.ActorRun.pages n c.in-Ok.tokens) (sym place) new.at, omega arith)
+          (new.own_is ∙ ap (λ z. z ++ acts_of (Posted block)) (sym mine))
+          c.post-posted.new.self.queues
+          (did (x.opening p) _ h.stands)
+          (ap (λ (z : Queues g.row.R.Denot g.row.R-Record.Denot). z.left) queues)
+          c.replace.new.dest (c.replace.ensures.after ∙ c.new.ensures),
+      record { name = c.tell.ensures.other ∙ c.held.invariant.1.name; value = c.tell.ensures.share },
+    )
 
 pub invariant_of-exchange-in-Ok : goal.invariant_of-exchange-in-Ok
 invariant_of-exchange-in-Ok g c =
     let k = c.exchange.invariant.2 in
-    let h = c.held.invariant in
+    let h = c.held.invariant.0 in
     let r = rules_of g.R.Reversible.plain g.R.Actor.counter in
     let x = g.J.ActorRun.setting in
     let L = c.actor_laws.ensures x k.laid in
     let p = c.held.inside.number in
     let ts = c.exchange.inside.journal.items in
     let block = c.held.inside.block in
-    let fits = rw (sym c.held.view_is, sym c.exchange.view_is) at c.requires in
+    let fits = rw (sym c.held.view_is, sym c.exchange.view_is) at c.join.ensures.same in
     let mine = rw (sym c.held.view_is, sym c.exchange.view_is) at c.join.ensures.own in
     let part-is = rw (sym c.held.view_is, sym c.exchange.view_is) at c.join.ensures.part in
     let enabled = rw (sym c.held.view_is, sym c.exchange.view_is) at c.join.ensures.enabled in
@@ -90,6 +95,8 @@ invariant_of-exchange-in-Ok g c =
     let posted = when-ok c.post-posted.result is-ok c.post-posted.ensures.posted in
     let part = local r (x.opening p) (map act_by block) (after_own (simulation_of r x) p (own_of c.held.inside.last)) in
     let stands = did (x.opening p) part h.stands in
+    let books = c.exchange.inside.books.items in
+    let told = values-set books c.from.result p c.from.ensures c.tell.new.book (mark (Some c.len-place.result) c.held.inside.seen) c.tell.ensures.book in
     let end = end-told r g.R.Reversible.is_value (x.opening p) (emptied part) c.post-posted.new.self.queues stands L.order g.R.Actor.end (λ s m. g.met.R.Actor.end_stays s m) x.until (k.laid.end_is p h.number_is) in (
       omega arith,
       c.exchange.invariant.1,
@@ -100,7 +107,8 @@ invariant_of-exchange-in-Ok g c =
           c.floor.result (c.floor.ensures (x.opening p) (emptied part) stands ∙ ap (λ n. floor_of r n (emptied part)) end) c.set.ensures.here c.set.ensures.others
           c.write.new.journal.items wrote.journal _ (omega arith)
           c.held.inside.seen (seen-low k p h.number_is (mark (place_in c.held.inside.last) c.held.inside.seen) fits)
-          _ (λ j. set c.exchange.inside.books.items (c.from.ensures j) (mark (Some (place j)) c.held.inside.seen)),
+          _ (told ∙ (λ j. set (map (λ (b : Book Mark). b.value) books) p (mark (Some (place j)) c.held.inside.seen))),
+      names-set books c.from.result c.from.result refl c.index_mut-book.result.now c.tell.new.book c.index_mut-book.ensures.value c.tell.ensures.name ∙ c.exchange.invariant.3,
     )
 
 pub invariant_of-exchange-in-Err : goal.invariant_of-exchange-in-Err
@@ -109,6 +117,7 @@ invariant_of-exchange-in-Err g c =
       c.exchange.invariant.0,
       c.exchange.invariant.1,
       kept-refused k c.write.new.journal.items c.in-Err.ensures.unchanged c.reserve_post.new.mail c.reserve_post.ensures.processes c.reserve_post.ensures.same,
+      c.exchange.invariant.3,
     )
 
 pub returns-in-Ok-clause-ok : goal.returns-in-Ok-clause-ok
@@ -127,11 +136,13 @@ returns-in-Ok-clause-ok g c =
     let own = new.own_is ∙ ap (λ z. z ++ acts_of (Posted block)) (sym mine) in
     let none = c.replace.ensures.after ∙ c.new.ensures in
     let at : c.len-place.result ≡ length (entries_of ts) = c.len-place.ensures ∙ (c.exchange.inside.journal.ok.0 ∙ sym (length-map ts (λ (t : Tokens). seen_entry t.cell.value))) in
+    let books = c.exchange.inside.books.items in
+    let told = values-set books c.from.result p c.from.ensures c.tell.new.book (mark (Some c.len-place.result) seen) c.tell.ensures.book in
     let some : 0 < length block = omega arith in
     rw (sym c.held.view_is, sym c.exchange.view_is) (posts-some f _ _ _ _ block some
     (λ i. record {
       entries = (ap entries_of wrote.journal ∙ entries-are new) i;
-      books = set c.exchange.inside.books.items (c.from.ensures i) (mark (Some (at i)) seen);
+      books = (told ∙ (λ j. set (map (λ (b : Book Mark). b.value) books) p (mark (Some (at j)) seen))) i;
       limit = c.exchange.inside.limit;
     })
     (λ i. record {

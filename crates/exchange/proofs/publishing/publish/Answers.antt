@@ -1,6 +1,8 @@
-use Rattle.std.proofs.Common.{◌==◌, refl, sym, ap, ◌∙◌, arith}
+use Rattle.std.proofs.Common.{◌==◌, map, refl, sym, ap, ◌∙◌, arith}
 use Rattle.reverse.specs.Rules.{rules_of}
 use Rattle.reverse.specs.Setting.{simulation_of}
+use Rattle.book_share.specs.declared.Book.{Book}
+use Rattle.exchange.specs.declared.mark.Mark.{Mark}
 use Rattle.exchange.specs.Keeps.{entries_of}
 use Rattle.exchange.proofs.Growth.{entry-fresh, entries-are}
 use Rattle.exchange.proofs.Published.{gvt-told, kept-published, publishes-more, publishes-none}
@@ -15,6 +17,7 @@ invariant_of-exchange g c =
       c.exchange.invariant.1,
       kept-published k (c.actor_laws.ensures g.J.ActorRun.setting k.laid) (entry-fresh k.same wrote.at wrote.value refl refl refl refl tt)
           c.horizon-gvt.result gvt c.write.new.journal.items wrote.journal _ refl,
+      c.exchange.invariant.3,
     )
 
 pub returns-then-eq-clause-ok : goal.returns-then-eq-clause-ok
@@ -31,4 +34,4 @@ returns-in-Ok-clause-ok g c =
     let wrote = c.in-Ok.ensures in
     let gvt = c.horizon-gvt.ensures ∙ gvt-told k c.gvt_law.ensures (λ m. refl) in
     let longer = ap entries_of wrote.journal ∙ entries-are (entry-fresh k.same wrote.at wrote.value refl refl refl refl tt) in
-    rw (sym c.exchange.view_is) (gvt, publishes-more f _ _ _ (ap (λ z. c.horizon-gvt.result == z) (sym k.gvt_is) ∙ (sym c.eq.ensures ∙ c.if-eq.false)) (λ i. record { entries = longer i; books = c.exchange.inside.books.items; limit = c.exchange.inside.limit }))
+    rw (sym c.exchange.view_is) (gvt, publishes-more f _ _ _ (ap (λ z. c.horizon-gvt.result == z) (sym k.gvt_is) ∙ (sym c.eq.ensures ∙ c.if-eq.false)) (λ i. record { entries = longer i; books = map (λ (b : Book Mark). b.value) c.exchange.inside.books.items; limit = c.exchange.inside.limit }))

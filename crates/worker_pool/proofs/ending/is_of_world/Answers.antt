@@ -4,4 +4,4 @@ use Rattle.worker_pool.proofs.ending.is_of_world.Goals as goal
 
 pub returns : goal.returns
 returns g c = λ yes.
-    of-world g.J.NetworkRun.plan c.args.exchange.now.entries c.args.place c.args.held.now (omega arith) (omega arith) (c.fits.ensures.part yes)
+    of-world g.J.NetworkRun.plan c.args.exchange.now.entries c.args.place c.args.held.now (omega arith) (omega arith) c.fits.ensures.part

@@ -2,4 +2,4 @@ use Rattle.journal.specs.Names.{names}
 use Rattle.worker_pool.proofs.running.run.Given as goal
 
 abbrev pub ghosts-run_named : goal.ghosts-run_named
-ghosts-run_named g a = record { plan = a.network.now; pages = names a.table.now.pages.items }
+ghosts-run_named g a = record { plan = a.network.now; pages = names a.table.now.pages.items; names = a.pairs }

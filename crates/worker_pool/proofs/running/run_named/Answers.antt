@@ -17,4 +17,4 @@ returns-clause-rows g c = subst (λ z. AreRowsOf z c.in_ok-rows.rows.items) (sym
 pub returns-clause-finished : goal.returns-clause-finished
 returns-clause-finished g c =
     subst (λ z. AreFinal z (map step_of c.in_ok-journal.journal.items)) (sym c.requires.network)
-    (subst (AreFinal g.J.NetworkRun.plan) (sym c.in_ok-journal.ensures.list) c.in_ok-ended.ensures.finished)
+    (subst (AreFinal g.J.NetworkRun.plan) (sym c.in_ok-journal.ensures.list) c.in_ok-ended.ensures.ended.finished)

@@ -3,7 +3,7 @@ use Rattle.afdxsim.proofs.tests.exchanges.is_told.Given as goal
 
 -- both exchanges are of the network that was read, over the table that was made
 abbrev pub ghosts-played-J-NetworkRun : goal.ghosts-played-J-NetworkRun
-ghosts-played-J-NetworkRun a = record { plan = a.network.now; pages = names a.table.now.pages.items }
+ghosts-played-J-NetworkRun a = record { plan = a.network.now; pages = names a.table.now.pages.items; names = a.first }
 
 abbrev pub ghosts-played-K-NetworkRun : goal.ghosts-played-K-NetworkRun
-ghosts-played-K-NetworkRun a = record { plan = a.network.now; pages = names a.table.now.pages.items }
+ghosts-played-K-NetworkRun a = record { plan = a.network.now; pages = names a.table.now.pages.items; names = a.second }

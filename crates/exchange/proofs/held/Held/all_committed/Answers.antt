@@ -14,4 +14,4 @@ none-first time (x ∷ xs) first false e a = (λ t. absurd cc, λ n. absurd cc)
 
 pub returns : goal.returns
 returns g c =
-    rw (sym c.self.view_is) (none-first (λ (m : Message). m.time) _ c.oldest.result c.is_none.result (c.oldest.ensures _ _ c.self.invariant.stands) c.is_none.ensures)
+    rw (sym c.self.view_is) (none-first (λ (m : Message). m.time) _ c.oldest.result c.is_none.result (c.oldest.ensures _ _ c.self.invariant.0.stands) c.is_none.ensures)

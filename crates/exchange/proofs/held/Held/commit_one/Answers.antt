@@ -13,17 +13,19 @@ use Rattle.exchange.proofs.held.Held.commit_one.Goals as goal
 
 pub invariant_of-self-in-Ok-true : goal.invariant_of-self-in-Ok-true
 invariant_of-self-in-Ok-true g c =
-    let h = c.self.invariant in
+    let h = c.self.invariant.0 in
     let r = rules_of g.R.Reversible.plain g.R.Actor.counter in
     let x = g.J.ActorRun.setting in
     let f = simulation_of r x in
     let p = c.self.inside.number in
     let seen = c.self.inside.seen in
     let part = local r (x.opening p) (map act_by c.self.inside.block) (after_own f p (own_of c.self.inside.last)) in
-    let ready : is_ready r seen part ≡ true = sym (c.in-Ok-true.ensures.answer _ _ h.stands) ∙ c.in-Ok-true.field-0-test in
-    holds-moved h (c.actor_laws.ensures x h.laid) Sealed (ready-moves f seen part ready) c.commit_oldest.new.process.queues
-    (subst (λ z. StandsFor r g.R.Reversible.is_value (x.opening p) z c.commit_oldest.new.process.queues) (ready-commits f seen part ready) (c.in-Ok-true.ensures.committed _ _ h.stands))
-    c.commit_oldest.ensures.left c.push.new.self c.in_ok-push.ensures.pushed
+    let ready : is_ready r seen part ≡ true = sym (c.in-Ok-true.ensures.answer _ _ h.stands) ∙ c.in-Ok-true.field-0-test in (
+      holds-moved h (c.actor_laws.ensures x h.laid) Sealed (ready-moves f seen part ready) c.commit_oldest.new.process.queues
+          (subst (λ z. StandsFor r g.R.Reversible.is_value (x.opening p) z c.commit_oldest.new.process.queues) (ready-commits f seen part ready) (c.in-Ok-true.ensures.committed _ _ h.stands))
+          c.commit_oldest.ensures.left c.push.new.self c.in_ok-push.ensures.pushed,
+      c.self.invariant.1,
+    )
 
 pub returns-in-Ok-true-clause-committed : goal.returns-in-Ok-true-clause-committed
 returns-in-Ok-true-clause-committed g c = λ yes.
@@ -32,7 +34,7 @@ returns-in-Ok-true-clause-committed g c = λ yes.
 
 pub returns-in-Ok-true-clause-fewer : goal.returns-in-Ok-true-clause-fewer
 returns-in-Ok-true-clause-fewer g c = λ yes.
-    let h = c.self.invariant in
+    let h = c.self.invariant.0 in
     let r = rules_of g.R.Reversible.plain g.R.Actor.counter in
     let x = g.J.ActorRun.setting in
     let f = simulation_of r x in
@@ -45,7 +47,7 @@ returns-in-Ok-true-clause-fewer g c = λ yes.
 
 pub returns-in-Ok-false-clause-none : goal.returns-in-Ok-false-clause-none
 returns-in-Ok-false-clause-none g c = λ no.
-    let h = c.self.invariant in
+    let h = c.self.invariant.0 in
     let r = rules_of g.R.Reversible.plain g.R.Actor.counter in
     let x = g.J.ActorRun.setting in
     let f = simulation_of r x in

@@ -11,7 +11,7 @@ use Rattle.exchange.proofs.held.Held.sealed.Goals as goal
 
 pub returns : goal.returns
 returns g c =
-    let h = c.self.invariant in
+    let h = c.self.invariant.0 in
     let r = rules_of g.R.Reversible.plain g.R.Actor.counter in
     let x = g.J.ActorRun.setting in
     let p = c.self.inside.number in

@@ -7,6 +7,6 @@ invariant_of-result g c =
       of_run = ∣ none-counted g.J.NetworkRun.plan c.args.network.now c.requires c.in_ok-none.field-0 c.in_ok-none.ensures c.default.result c.default.ensures ∣₁;
     }
 
-pub returns : goal.returns
-returns g c =
+pub returns-clause-counted : goal.returns-clause-counted
+returns-clause-counted g c =
     none-counted g.J.NetworkRun.plan c.args.network.now c.requires c.in_ok-none.field-0 c.in_ok-none.ensures c.default.result c.default.ensures

@@ -22,7 +22,7 @@ loop-process-preserved g c =
     let locked = c.index-locked.result.now in
     let at = seen-at (λ x. x.held) c.args.self.now.lockeds.items c.loop-process.process locked (omega arith) c.index-locked.ensures in
     rows-next plan c.args.self.now.exchange.entries _ c.requires.ended L c.loop-process.process locked.held at
-    c.loop-process.rows.items c.sealed.result.now _ c.in_ok-extend_from_slice.ensures.items (c.sealed.ensures (omega arith)) c.loop-process.invariant
+    c.loop-process.rows.items c.sealed.result.now _ c.in_ok-extend_from_slice.ensures.items (c.sealed.ensures (let low = c.requires.kept c.loop-process.process locked.held at in omega arith)) c.loop-process.invariant
 
 pub returns : goal.returns
 returns g c =

@@ -26,6 +26,12 @@ loop-process-init g c =
     none-of-processes plan end c.in-Some.tables
     (subst (λ (tables : Option SoFarLists). ∥ IfSome tables (AreCountedBefore plan end) ∥₁) c.in-Some.is c.args.counted.of_run) some.0 some.1
 
+pub rows_between-requires : goal.rows_between-requires
+rows_between-requires g c =
+    let locked = c.index-locked.result.now in
+    let at = seen-at (λ x. x.held) c.args.self.now.lockeds.items c.loop-process.process locked (omega arith) c.index-locked.ensures in
+    c.requires.counted c.loop-process.process locked.held at
+
 pub count-requires : goal.count-requires
 count-requires g c =
     let now = c.loop-process.invariant in (now.rows, subst (λ p. IsSoFar p c.loop-process.tables now.rows) (sym c.requires.network) now.so_far)
