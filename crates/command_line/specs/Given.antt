@@ -12,4 +12,4 @@ pub record IsGiven (name : Text) (rows : List Row) : Type 0 where
   pub steps : name ≡ codes "replay" → is_some (first_of (codes "STEPS") rows) ≡ true
   pub workers : IsUpTo 64 (one_of (codes "workers") rows)
   pub turn : IsUpTo 256 (one_of (codes "turn") rows)
-  pub window : IsUpTo 1000000000000 (one_of (codes "window") rows)
+  pub window : IsUpTo 1000000000000000 (one_of (codes "window") rows)

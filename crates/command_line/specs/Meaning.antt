@@ -70,7 +70,7 @@ HasDefaults rows o = Unit {0}
 pub record RunLimits (o : Run) : Type 0 where
   pub workers : (1 ≤ o.workers) × (o.workers ≤ 64)
   pub turn : (1 ≤ o.turn) × (o.turn ≤ 256)
-  pub window : (1 ≤ o.window_ns) × (o.window_ns ≤ 1000000000000)
+  pub window : (1 ≤ o.window_ns) × (o.window_ns ≤ 1000000000000000)
 
 -- each number of the order lies within its limits
 abbrev pub IsWithinLimits : Order → Type 0

@@ -33,7 +33,7 @@ run_app =
     (with_rule
     (with_rule (with_rule (new_app (codes "run")) (path_rule (codes "NET"))) (number_rule (codes "workers") 64))
     (number_rule (codes "turn") 256))
-    (number_rule (codes "window") 1000000000000))
+    (number_rule (codes "window") 1000000000000000))
     (file_rule (codes "journal")))
     (file_rule (codes "trace"))
 

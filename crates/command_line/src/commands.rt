@@ -54,7 +54,7 @@ fn run_of(alloc: Global, values: &ArgMatches<'_>) -> Result<Run, AllocError>
     requires net { is_some (first_of (codes "NET") (rows_of (found_of values.now))) ≡ true }
     requires workers { IsUpTo 64 (one_of (codes "workers") (rows_of (found_of values.now))) }
     requires turn { IsUpTo 256 (one_of (codes "turn") (rows_of (found_of values.now))) }
-    requires window { IsUpTo 1000000000000 (one_of (codes "window") (rows_of (found_of values.now))) }
+    requires window { IsUpTo 1000000000000000 (one_of (codes "window") (rows_of (found_of values.now))) }
     ensures names { IfOk result (NamesRun (rows_of (found_of values.now))) }
     ensures defaults { IfOk result (RunDefaults (rows_of (found_of values.now))) }
     ensures limits { IfOk result RunLimits }

@@ -16,7 +16,7 @@ pub(crate) const MOST_TURN: u64 = 256;
 /// The number of events in a turn where the words name none.
 pub(crate) const USUAL_TURN: u64 = 16;
 /// The greatest window, in ns.
-pub(crate) const MOST_WINDOW_NS: u64 = 1_000_000_000_000;
+pub(crate) const MOST_WINDOW_NS: u64 = 1_000_000_000_000_000;
 /// The window, in ns, where the words name none.
 pub(crate) const USUAL_WINDOW_NS: u64 = 1_000_000;
 
@@ -50,7 +50,7 @@ pub(crate) fn turn<'a>(alloc: Global) -> Arg<'a>
 
 /// `--window NS`.
 pub(crate) fn window<'a>(alloc: Global) -> Arg<'a>
-    ensures rule { rule_of result ≡ number_rule (codes "window") 1000000000000 }
+    ensures rule { rule_of result ≡ number_rule (codes "window") 1000000000000000 }
     ensures local { result.global ≡ false }
 {
     number(
@@ -58,6 +58,6 @@ pub(crate) fn window<'a>(alloc: Global) -> Arg<'a>
         "window",
         "NS",
         value_parser!(u64).range(1..=MOST_WINDOW_NS as i64),
-        "How far a process may run ahead of the global virtual time, in ns: 1 to 1000000000000 [default: 1000000]. It is an upper bound: a process that has to undo much takes less by itself",
+        "How far a process may run ahead of the global virtual time, in ns: 1 to 1000000000000000 [default: 1000000]. It is an upper bound: a process that has to undo much takes less by itself",
     )
 }

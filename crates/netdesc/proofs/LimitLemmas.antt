@@ -45,6 +45,7 @@ link-limits : (row : VlRow) → IsVlWithin row → IsLinkInLimits (virtual_link 
 link-limits row within =
     let bag = one-of-bounds 1 128 row.bag_ms (1 ∷ 2 ∷ 4 ∷ 8 ∷ 16 ∷ 32 ∷ 64 ∷ 128 ∷ []) refl within.bag_ms in
     let depth = bounds 1 1024 row.depth within.depth in
+    let sub = bounds 1 4 row.sub within.sub in
     let period = bounds 1000 LATEST_NS row.period_ns within.period_ns in
     record {
       least_bag = bag.0;
@@ -53,6 +54,8 @@ link-limits row within =
       skew_max = (bounds 0 SECOND_NS row.skew_max_ns within.skew_max_ns).1;
       least_depth = depth.0;
       greatest_depth = depth.1;
+      least_sub = sub.0;
+      greatest_sub = sub.1;
       offset = (bounds 0 LATEST_NS row.offset_ns within.offset_ns).1;
       least_period = period.0;
       greatest_period = period.1;

@@ -28,6 +28,8 @@ pub record IsLinkInLimits (link : VirtualLink) : Type 0 where
   pub skew_max : link.skew_max_ns ≤ SECOND_NS
   pub least_depth : 1 ≤ link.depth
   pub greatest_depth : link.depth ≤ 1024
+  pub least_sub : 1 ≤ link.sub
+  pub greatest_sub : link.sub ≤ 4
   pub offset : link.offset_ns ≤ LATEST_NS
   pub least_period : 1000 ≤ link.period_ns
   pub greatest_period : link.period_ns ≤ LATEST_NS

@@ -4,7 +4,7 @@ ghost use Rattle.netdesc.specs.Trees.{source_among, source_of};
 ghost use Rattle.netdesc.specs.Code.Views.{items_of, lists_of};
 
 use crate::wiring::{Link, Outage};
-use network_rows::Priority;
+use network_rows::{Policing, Priority};
 use std::marker::Model;
 use vlink::{FrameSize, VlId};
 
@@ -20,10 +20,14 @@ pub struct VirtualLink {
     pub priority: Priority,
     /// How much earlier than the gap allows a switch lets a frame pass, in ns.
     pub policing_jitter_ns: u32,
+    /// What a switch counts when it polices.
+    pub policing: Policing,
     /// How long after one copy of a frame another may come, in ns.
     pub skew_max_ns: u32,
-    /// How many frames may wait at the source.
+    /// How many frames may wait at the source, in each sub-virtual link.
     pub depth: u16,
+    /// How many sub-virtual links there are.
+    pub sub: u8,
     /// The size of the frames that are offered.
     pub size: FrameSize,
     /// The moment of the first offer, in ns.

@@ -30,7 +30,7 @@ least_top : faults_of_text (codes "until_ns = 1\nseed = 0\n") ≡ []
 unfolding toml_on_literals
 least_top = refl
 
-late_end : faults_of_text (codes "until_ns = 1000000000001\nseed = -1\n") ≡ OutOfLimit (at_top UntilNs) ∷ OutOfLimit (at_top Seed) ∷ []
+late_end : faults_of_text (codes "until_ns = 1000000000000001\nseed = -1\n") ≡ OutOfLimit (at_top UntilNs) ∷ OutOfLimit (at_top Seed) ∷ []
 unfolding toml_on_literals
 late_end = refl
 

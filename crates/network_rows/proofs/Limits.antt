@@ -7,7 +7,7 @@ use Rattle.std.specs.List.{AllByRecursion, AllZip}
 use Rattle.toml.specs.Data.{Data, Members}
 use Rattle.network_rows.specs.declared.rule.Kind.{Kind}
 use Rattle.network_rows.specs.declared.rule.Presence.{Presence}
-use Rattle.network_rows.specs.declared.rule.Presence.TheVariants.{Required, ForSwitches, Optional}
+use Rattle.network_rows.specs.declared.rule.Presence.TheVariants.{Required, ForSwitches, Optional, OptionalWord}
 use Rattle.network_rows.specs.declared.rule.Rule.{Rule}
 use Rattle.network_rows.specs.declared.rows.NodeKind.{NodeKind}
 use Rattle.network_rows.specs.declared.rows.NodeKind.TheVariants.{EndSystem, Switch}
@@ -30,6 +30,7 @@ default_within : (presence : Presence) (kind : Kind) (n : ℕ) → IsDefaultWith
 default_within Required kind n of e = cc
 default_within ForSwitches kind n of e = cc
 default_within (Optional m) kind n of e = cc
+default_within (OptionalWord w) kind n of e = absurd of
 
 same_number : (kind : Kind) (d : Data) (n : ℕ) → IsAllowed kind d → as_number d ≡ Some n → allows kind n ≡ true
 same_number kind d n is e = let m = is.is in let allowed = is.allowed in cc
@@ -88,6 +89,7 @@ vl_within table row means = record {
   policing_jitter_ns = allowed keys.policing_jitter_ns table row.policing_jitter_ns (tt, tt) means.policing_jitter_ns;
   skew_max_ns = allowed keys.skew_max_ns table row.skew_max_ns (tt, tt) means.skew_max_ns;
   depth = allowed keys.depth table row.depth (tt, tt) means.depth;
+  sub = allowed keys.sub table row.sub (tt, refl) means.sub;
   size = allowed keys.size table row.size (tt, tt) means.size;
   offset_ns = allowed keys.offset_ns table row.offset_ns (tt, tt) means.offset_ns;
   period_ns = allowed keys.period_ns table row.period_ns (tt, tt) means.period_ns;

@@ -15,6 +15,8 @@ use Rattle.network_rows.specs.declared.rows.Rate.{Rate}
 use Rattle.network_rows.specs.declared.rows.Rate.TheVariants.{Mbit10, Mbit100}
 use Rattle.network_rows.specs.declared.rows.Priority.{Priority}
 use Rattle.network_rows.specs.declared.rows.Priority.TheVariants.{High, Low}
+use Rattle.network_rows.specs.declared.rows.Policing.{Policing}
+use Rattle.network_rows.specs.declared.rows.Policing.TheVariants.{Bytes, Frames}
 use Rattle.network_rows.specs.declared.rows.NodeRow.{NodeRow}
 use Rattle.network_rows.specs.declared.rows.LinkRow.{LinkRow}
 use Rattle.network_rows.specs.declared.rows.OutageRow.{OutageRow}
@@ -23,7 +25,7 @@ use Rattle.network_rows.specs.declared.rows.Rows.{Rows}
 use Rattle.network_rows.specs.Table as keys
 use Rattle.network_rows.specs.Keys.{word_text}
 use Rattle.network_rows.specs.Values.{as_number, as_paths, list_of}
-use Rattle.network_rows.specs.Rows.{IsAt, IsNumberAt, word_of_net, word_of_priority, mbit_of, MeansKind, MeansNode, MeansLink, MeansOutage, MeansVl, MeansRow, MeansList, MeansRows, Means}
+use Rattle.network_rows.specs.Rows.{IsAt, IsDefaultWordAt, IsNumberAt, IsWordOrDefaultAt, word_of_net, word_of_policing, word_of_priority, mbit_of, MeansKind, MeansNode, MeansLink, MeansOutage, MeansVl, MeansRow, MeansList, MeansRows, Means}
 
 -- ---- one key
 
@@ -57,6 +59,22 @@ one_priority High High e = refl
 one_priority High Low e = absurd (apart _ _ refl refl e)
 one_priority Low High e = absurd (apart _ _ refl refl e)
 one_priority Low Low e = refl
+
+one_policing : (p q : Policing) → word_text (word_of_policing p) ≡ word_text (word_of_policing q) → p ≡ q
+one_policing Bytes Bytes e = refl
+one_policing Bytes Frames e = absurd (apart _ _ refl refl e)
+one_policing Frames Bytes e = absurd (apart _ _ refl refl e)
+one_policing Frames Frames e = refl
+
+one_default : (p : Policing) (table : Members) → IsDefaultWordAt keys.policing table (word_of_policing p) → p ≡ Bytes
+one_default Bytes table default = refl
+one_default Frames table default = let e = default.default in cc
+
+one_policing_at : (table : Members) (p q : Policing) → IsWordOrDefaultAt keys.policing table (word_of_policing p) → IsWordOrDefaultAt keys.policing table (word_of_policing q) → p ≡ q
+one_policing_at table p q (inl a) (inl b) = one_policing p q (one_value as_str keys.policing table _ _ a b)
+one_policing_at table p q (inl a) (inr b) = let e : Some a.value ≡ None = sym a.there ∙ b.absent in cc
+one_policing_at table p q (inr a) (inl b) = let e : Some b.value ≡ None = sym b.there ∙ a.absent in cc
+one_policing_at table p q (inr a) (inr b) = one_default p table a ∙ sym (one_default q table b)
 
 one_rate : (r s : Rate) → mbit_of r ≡ mbit_of s → r ≡ s
 one_rate Mbit10 Mbit10 e = refl
@@ -140,26 +158,28 @@ one_outage table r s a b =
     (one_number keys.to_ns table _ _ a.to_ns b.to_ns)
     (a.has_unknown_key ∙ sym b.has_unknown_key)
 
-abbrev vl_from : ℕ → ℕ → ℕ → Priority → ℕ → ℕ → ℕ → ℕ → ℕ → ℕ → ℕ → List (List (List ℕ)) → List (List (List ℕ)) → Bool → VlRow
-vl_from x0 x1 x2 x3 x4 x5 x6 x7 x8 x9 x10 x11 x12 x13 = record {
+abbrev vl_from : ℕ → ℕ → ℕ → Priority → ℕ → Policing → ℕ → ℕ → ℕ → ℕ → ℕ → ℕ → ℕ → List (List (List ℕ)) → List (List (List ℕ)) → Bool → VlRow
+vl_from x0 x1 x2 x3 x4 x5 x6 x7 x8 x9 x10 x11 x12 x13 x14 x15 = record {
   id = record { 0 = x0 };
   bag_ms = x1;
   smax = x2;
   priority = x3;
   policing_jitter_ns = x4;
-  skew_max_ns = x5;
-  depth = x6;
-  size = x7;
-  offset_ns = x8;
-  period_ns = x9;
-  jitter_ns = x10;
-  a = x11;
-  b = x12;
-  has_unknown_key = x13;
+  policing = x5;
+  skew_max_ns = x6;
+  depth = x7;
+  sub = x8;
+  size = x9;
+  offset_ns = x10;
+  period_ns = x11;
+  jitter_ns = x12;
+  a = x13;
+  b = x14;
+  has_unknown_key = x15;
 }
 
-same_vl : {x0 y0 : ℕ} {x1 y1 : ℕ} {x2 y2 : ℕ} {x3 y3 : Priority} {x4 y4 : ℕ} {x5 y5 : ℕ} {x6 y6 : ℕ} {x7 y7 : ℕ} {x8 y8 : ℕ} {x9 y9 : ℕ} {x10 y10 : ℕ} {x11 y11 : List (List (List ℕ))} {x12 y12 : List (List (List ℕ))} {x13 y13 : Bool} → x0 ≡ y0 → x1 ≡ y1 → x2 ≡ y2 → x3 ≡ y3 → x4 ≡ y4 → x5 ≡ y5 → x6 ≡ y6 → x7 ≡ y7 → x8 ≡ y8 → x9 ≡ y9 → x10 ≡ y10 → x11 ≡ y11 → x12 ≡ y12 → x13 ≡ y13 → vl_from x0 x1 x2 x3 x4 x5 x6 x7 x8 x9 x10 x11 x12 x13 ≡ vl_from y0 y1 y2 y3 y4 y5 y6 y7 y8 y9 y10 y11 y12 y13
-same_vl e0 e1 e2 e3 e4 e5 e6 e7 e8 e9 e10 e11 e12 e13 = rw (e0, e1, e2, e3, e4, e5, e6, e7, e8, e9, e10, e11, e12, e13) refl
+same_vl : {x0 y0 : ℕ} {x1 y1 : ℕ} {x2 y2 : ℕ} {x3 y3 : Priority} {x4 y4 : ℕ} {x5 y5 : Policing} {x6 y6 : ℕ} {x7 y7 : ℕ} {x8 y8 : ℕ} {x9 y9 : ℕ} {x10 y10 : ℕ} {x11 y11 : ℕ} {x12 y12 : ℕ} {x13 y13 : List (List (List ℕ))} {x14 y14 : List (List (List ℕ))} {x15 y15 : Bool} → x0 ≡ y0 → x1 ≡ y1 → x2 ≡ y2 → x3 ≡ y3 → x4 ≡ y4 → x5 ≡ y5 → x6 ≡ y6 → x7 ≡ y7 → x8 ≡ y8 → x9 ≡ y9 → x10 ≡ y10 → x11 ≡ y11 → x12 ≡ y12 → x13 ≡ y13 → x14 ≡ y14 → x15 ≡ y15 → vl_from x0 x1 x2 x3 x4 x5 x6 x7 x8 x9 x10 x11 x12 x13 x14 x15 ≡ vl_from y0 y1 y2 y3 y4 y5 y6 y7 y8 y9 y10 y11 y12 y13 y14 y15
+same_vl e0 e1 e2 e3 e4 e5 e6 e7 e8 e9 e10 e11 e12 e13 e14 e15 = rw (e0, e1, e2, e3, e4, e5, e6, e7, e8, e9, e10, e11, e12, e13, e14, e15) refl
 
 one_vl : (table : Members) (r s : VlRow) → MeansVl table r → MeansVl table s → r ≡ s
 one_vl table r s a b =
@@ -169,8 +189,10 @@ one_vl table r s a b =
     (one_number keys.smax table _ _ a.smax b.smax)
     (one_priority r.priority s.priority (one_value as_str keys.priority table _ _ a.priority b.priority))
     (one_number keys.policing_jitter_ns table _ _ a.policing_jitter_ns b.policing_jitter_ns)
+    (one_policing_at table r.policing s.policing a.policing b.policing)
     (one_number keys.skew_max_ns table _ _ a.skew_max_ns b.skew_max_ns)
     (one_number keys.depth table _ _ a.depth b.depth)
+    (one_number keys.sub table _ _ a.sub b.sub)
     (one_number keys.size table _ _ a.size b.size)
     (one_number keys.offset_ns table _ _ a.offset_ns b.offset_ns)
     (one_number keys.period_ns table _ _ a.period_ns b.period_ns)

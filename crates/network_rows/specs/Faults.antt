@@ -9,7 +9,7 @@ use Rattle.network_rows.specs.declared.key.Section.{Section}
 use Rattle.network_rows.specs.declared.key.Section.TheVariants.{Top}
 use Rattle.network_rows.specs.declared.key.Word.TheVariants as word
 use Rattle.network_rows.specs.declared.rule.Presence.{Presence}
-use Rattle.network_rows.specs.declared.rule.Presence.TheVariants.{Required, ForSwitches, Optional}
+use Rattle.network_rows.specs.declared.rule.Presence.TheVariants.{Required, ForSwitches, Optional, OptionalWord}
 use Rattle.network_rows.specs.declared.rule.Rule.{Rule}
 use Rattle.network_rows.specs.declared.fault.Place.{Place}
 use Rattle.network_rows.specs.declared.fault.KeyFault.{KeyFault}
@@ -28,12 +28,14 @@ abbrev pub applies : Presence → Members → Bool
 applies Required row = true
 applies ForSwitches row = has_word key.Kind word.Switch row
 applies (Optional default) row = true
+applies (OptionalWord default) row = true
 
 -- a row that may have it has to have it
 abbrev pub is_needed : Presence → Bool
 is_needed Required = true
 is_needed ForSwitches = true
 is_needed (Optional default) = false
+is_needed (OptionalWord default) = false
 
 -- what is wrong with the value at a key: it is absent, of another kind, or outside the limit
 abbrev pub fault_of_value : Rule → Members → Option Data → Option KeyFault

@@ -11,7 +11,7 @@ use Rattle.network_rows.specs.declared.key.Section.{Section}
 use Rattle.network_rows.specs.declared.key.Section.TheVariants.{Top, Node, Link, Outage, Vl}
 use Rattle.network_rows.specs.declared.key.Word.{Word}
 use Rattle.network_rows.specs.declared.key.Word.TheVariants as word
-use Rattle.network_rows.specs.declared.rule.Presence.TheVariants.{Optional}
+use Rattle.network_rows.specs.declared.rule.Presence.TheVariants.{Optional, OptionalWord}
 use Rattle.network_rows.specs.declared.rule.Rule.{Rule}
 use Rattle.network_rows.specs.declared.rows.NodeKind.{NodeKind}
 use Rattle.network_rows.specs.declared.rows.NodeKind.TheVariants.{EndSystem, Switch}
@@ -19,6 +19,8 @@ use Rattle.network_rows.specs.declared.rows.Rate.{Rate}
 use Rattle.network_rows.specs.declared.rows.Rate.TheVariants.{Mbit10, Mbit100}
 use Rattle.network_rows.specs.declared.rows.Priority.{Priority}
 use Rattle.network_rows.specs.declared.rows.Priority.TheVariants.{High, Low}
+use Rattle.network_rows.specs.declared.rows.Policing.{Policing}
+use Rattle.network_rows.specs.declared.rows.Policing.TheVariants.{Bytes, Frames}
 use Rattle.network_rows.specs.declared.rows.NodeRow.{NodeRow}
 use Rattle.network_rows.specs.declared.rows.LinkRow.{LinkRow}
 use Rattle.network_rows.specs.declared.rows.OutageRow.{OutageRow}
@@ -57,6 +59,14 @@ pub record IsDefaultAt (rule : Rule) (table : Members) (n : ℕ) : Type 0 where
 abbrev pub IsNumberAt : Rule → Members → ℕ → Type 0
 IsNumberAt rule table n = IsAt as_number rule table n ⊎ IsDefaultAt rule table n
 
+-- the key is absent, and the word is the default that the line gives
+pub record IsDefaultWordAt (rule : Rule) (table : Members) (w : Word) : Type 0 where
+  pub absent : value_at rule.key table ≡ None
+  pub default : rule.presence ≡ OptionalWord w
+
+abbrev pub IsWordOrDefaultAt : Rule → Members → Word → Type 0
+IsWordOrDefaultAt rule table w = IsWordAt rule table w ⊎ IsDefaultWordAt rule table w
+
 -- ---- unknown keys
 
 -- the keys that a table of a section may have; the top one has the other sections too
@@ -87,6 +97,10 @@ word_of_net net.B = word.B
 abbrev pub word_of_priority : Priority → Word
 word_of_priority High = word.High
 word_of_priority Low = word.Low
+
+abbrev pub word_of_policing : Policing → Word
+word_of_policing Bytes = word.Bytes
+word_of_policing Frames = word.Frames
 
 abbrev pub mbit_of : Rate → ℕ
 mbit_of Mbit10 = 10
@@ -123,8 +137,10 @@ pub record MeansVl (table : Members) (row : VlRow) : Type 0 where
   pub smax : IsNumberAt keys.smax table row.smax
   pub priority : IsWordAt keys.priority table (word_of_priority row.priority)
   pub policing_jitter_ns : IsNumberAt keys.policing_jitter_ns table row.policing_jitter_ns
+  pub policing : IsWordOrDefaultAt keys.policing table (word_of_policing row.policing)
   pub skew_max_ns : IsNumberAt keys.skew_max_ns table row.skew_max_ns
   pub depth : IsNumberAt keys.depth table row.depth
+  pub sub : IsNumberAt keys.sub table row.sub
   pub size : IsNumberAt keys.size table row.size
   pub offset_ns : IsNumberAt keys.offset_ns table row.offset_ns
   pub period_ns : IsNumberAt keys.period_ns table row.period_ns

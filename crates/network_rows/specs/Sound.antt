@@ -6,7 +6,7 @@ use Rattle.network_rows.specs.declared.key.Section.{Section}
 use Rattle.network_rows.specs.declared.rule.Kind.{Kind}
 use Rattle.network_rows.specs.declared.rule.Kind.TheVariants.{Integer, IntegerAbove, OneOf, EitherInteger, EitherWord, NodeName, Reference, Paths}
 use Rattle.network_rows.specs.declared.rule.Presence.{Presence}
-use Rattle.network_rows.specs.declared.rule.Presence.TheVariants.{Required, ForSwitches, Optional}
+use Rattle.network_rows.specs.declared.rule.Presence.TheVariants.{Required, ForSwitches, Optional, OptionalWord}
 use Rattle.network_rows.specs.declared.rule.Rule.{Rule}
 use Rattle.network_rows.specs.Values.{value_at, list_of}
 use Rattle.network_rows.specs.Kinds.{allows}
@@ -41,11 +41,12 @@ IsOfNumbers (NodeName least greatest) = ⊥
 IsOfNumbers Reference = ⊥
 IsOfNumbers (Paths least greatest) = ⊥
 
--- the default, if there is one, is a number that the kind allows
+-- the default, if there is one, is a number that the kind allows, and no word
 abbrev pub IsDefaultWithin : Presence → Kind → Type 0
 IsDefaultWithin Required kind = ⊤
 IsDefaultWithin ForSwitches kind = ⊤
 IsDefaultWithin (Optional n) kind = allows kind n ≡ true
+IsDefaultWithin (OptionalWord word) kind = ⊥
 
 -- the line is one of numbers
 abbrev pub HasNumbers : Rule → Type 0

@@ -9,7 +9,7 @@ use Rattle.network_rows.specs.declared.key.Word.TheVariants as word
 use Rattle.network_rows.specs.declared.rule.Kind.{Kind}
 use Rattle.network_rows.specs.declared.rule.Kind.TheVariants.{Integer, IntegerAbove, OneOf, EitherInteger, EitherWord, NodeName, Reference, Paths}
 use Rattle.network_rows.specs.declared.rule.Presence.{Presence}
-use Rattle.network_rows.specs.declared.rule.Presence.TheVariants.{Required, ForSwitches}
+use Rattle.network_rows.specs.declared.rule.Presence.TheVariants.{Required, ForSwitches, Optional, OptionalWord}
 use Rattle.network_rows.specs.declared.rule.Rule.{Rule}
 
 abbrev pub asks : Key → Presence → Kind → Rule
@@ -18,7 +18,7 @@ asks key presence kind = record { key = key; presence = presence; kind = kind }
 -- ---- the top table
 
 abbrev pub until_ns : Rule
-until_ns = asks key.UntilNs Required (Integer 1 1000000000000)
+until_ns = asks key.UntilNs Required (Integer 1 1000000000000000)
 
 abbrev pub seed : Rule
 seed = asks key.Seed Required (Integer 0 9223372036854775807)
@@ -63,10 +63,10 @@ abbrev pub to : Rule
 to = asks key.To Required Reference
 
 abbrev pub from_ns : Rule
-from_ns = asks key.FromNs Required (Integer 0 1000000000000)
+from_ns = asks key.FromNs Required (Integer 0 1000000000000000)
 
 abbrev pub to_ns : Rule
-to_ns = asks key.ToNs Required (IntegerAbove key.FromNs 0 1000000000000)
+to_ns = asks key.ToNs Required (IntegerAbove key.FromNs 0 1000000000000000)
 
 -- ---- vl
 
@@ -85,20 +85,26 @@ priority = asks key.Priority Required (EitherWord word.High word.Low)
 abbrev pub policing_jitter_ns : Rule
 policing_jitter_ns = asks key.PolicingJitterNs Required (Integer 0 1000000000)
 
+abbrev pub policing : Rule
+policing = asks key.Policing (OptionalWord word.Bytes) (EitherWord word.Bytes word.Frames)
+
 abbrev pub skew_max_ns : Rule
 skew_max_ns = asks key.SkewMaxNs Required (Integer 0 1000000000)
 
 abbrev pub depth : Rule
 depth = asks key.Depth Required (Integer 1 1024)
 
+abbrev pub sub : Rule
+sub = asks key.Sub (Optional 1) (Integer 1 4)
+
 abbrev pub size : Rule
 size = asks key.Size Required (Integer 64 1518)
 
 abbrev pub offset_ns : Rule
-offset_ns = asks key.OffsetNs Required (Integer 0 1000000000000)
+offset_ns = asks key.OffsetNs Required (Integer 0 1000000000000000)
 
 abbrev pub period_ns : Rule
-period_ns = asks key.PeriodNs Required (Integer 1000 1000000000000)
+period_ns = asks key.PeriodNs Required (Integer 1000 1000000000000000)
 
 abbrev pub jitter_ns : Rule
 jitter_ns = asks key.JitterNs Required (Integer 0 1000000000)
@@ -121,4 +127,4 @@ keys_of Node = name ∷ kind ∷ port_bytes ∷ net ∷ latency_ns ∷ []
 keys_of Link = link_a ∷ link_b ∷ mbit ∷ propagation_ns ∷ []
 keys_of Outage = from ∷ to ∷ from_ns ∷ to_ns ∷ []
 keys_of Vl =
-    id ∷ bag_ms ∷ smax ∷ priority ∷ policing_jitter_ns ∷ skew_max_ns ∷ depth ∷ size ∷ offset_ns ∷ period_ns ∷ jitter_ns ∷ paths_a ∷ paths_b ∷ []
+    id ∷ bag_ms ∷ smax ∷ priority ∷ policing_jitter_ns ∷ policing ∷ skew_max_ns ∷ depth ∷ sub ∷ size ∷ offset_ns ∷ period_ns ∷ jitter_ns ∷ paths_a ∷ paths_b ∷ []

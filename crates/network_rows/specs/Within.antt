@@ -43,6 +43,7 @@ pub record IsVlWithin (row : VlRow) : Type 0 where
   pub policing_jitter_ns : Allows keys.policing_jitter_ns row.policing_jitter_ns
   pub skew_max_ns : Allows keys.skew_max_ns row.skew_max_ns
   pub depth : Allows keys.depth row.depth
+  pub sub : Allows keys.sub row.sub
   pub size : Allows keys.size row.size
   pub offset_ns : Allows keys.offset_ns row.offset_ns
   pub period_ns : Allows keys.period_ns row.period_ns

@@ -34,8 +34,10 @@ pub enum Key {
     Smax,
     Priority,
     PolicingJitterNs,
+    Policing,
     SkewMaxNs,
     Depth,
+    Sub,
     Size,
     OffsetNs,
     PeriodNs,
@@ -51,6 +53,8 @@ pub enum Word {
     B,
     High,
     Low,
+    Bytes,
+    Frames,
 }
 
 impl Section {
@@ -94,8 +98,10 @@ impl Key {
             Key::Smax => "smax",
             Key::Priority => "priority",
             Key::PolicingJitterNs => "policing_jitter_ns",
+            Key::Policing => "policing",
             Key::SkewMaxNs => "skew_max_ns",
             Key::Depth => "depth",
+            Key::Sub => "sub",
             Key::Size => "size",
             Key::OffsetNs => "offset_ns",
             Key::PeriodNs => "period_ns",
@@ -116,6 +122,8 @@ impl Word {
             Word::B => "B",
             Word::High => "high",
             Word::Low => "low",
+            Word::Bytes => "bytes",
+            Word::Frames => "frames",
         }
     }
 }

@@ -1,13 +1,13 @@
 //! What each kind of row is made of, where nothing is wrong with its table: numbers and words that are read, names and paths that are moved out of the table.
 ghost use Rattle.toml.specs.View.{table_view};
 ghost use Rattle.network_rows.specs.declared.key.Section.TheVariants.{Node, Link, Outage, Vl};
-ghost use Rattle.network_rows.specs.Table.{mbit, priority};
+ghost use Rattle.network_rows.specs.Table.{mbit, policing, priority};
 ghost use Rattle.network_rows.specs.Sound.{IsSoundAt, IsSoundTable};
-ghost use Rattle.network_rows.specs.Rows.{IsNumberAt, IsWordAt, mbit_of, word_of_priority, MeansKind, MeansNode, MeansLink, MeansOutage, MeansVl};
+ghost use Rattle.network_rows.specs.Rows.{IsNumberAt, IsWordAt, IsWordOrDefaultAt, mbit_of, word_of_policing, word_of_priority, MeansKind, MeansNode, MeansLink, MeansOutage, MeansVl};
 
 use crate::key::{Key, Section, Word};
 use crate::read_value::{name_of, number_at, paths_of};
-use crate::rows::{LinkRow, NodeKind, NodeRow, OutageRow, Priority, Rate, VlRow};
+use crate::rows::{LinkRow, NodeKind, NodeRow, OutageRow, Policing, Priority, Rate, VlRow};
 use crate::table;
 use crate::take::take_value;
 use crate::unknown::has_unknown_key;
@@ -71,8 +71,10 @@ pub fn vl_of(row: Table) -> VlRow
         smax: FrameSize::new(number_at(table::SMAX, &row) as u16).unwrap(),
         priority: priority(&row),
         policing_jitter_ns: number_at(table::POLICING_JITTER_NS, &row) as u32,
+        policing: policing(&row),
         skew_max_ns: number_at(table::SKEW_MAX_NS, &row) as u32,
         depth: number_at(table::DEPTH, &row) as u16,
+        sub: number_at(table::SUB, &row) as u8,
         size: FrameSize::new(number_at(table::SIZE, &row) as u16).unwrap(),
         offset_ns: number_at(table::OFFSET_NS, &row),
         period_ns: number_at(table::PERIOD_NS, &row),
@@ -123,5 +125,17 @@ fn priority(row: &Table) -> Priority
         Priority::High
     } else {
         Priority::Low
+    }
+}
+
+// What switches count of the virtual link of a row.
+fn policing(row: &Table) -> Policing
+    requires { IsSoundAt policing (table_view row.now) }
+    ensures { IsWordOrDefaultAt policing (table_view row.now) (word_of_policing result) }
+{
+    if has_word(row, Key::Policing, Word::Frames) {
+        Policing::Frames
+    } else {
+        Policing::Bytes
     }
 }

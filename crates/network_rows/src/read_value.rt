@@ -31,12 +31,14 @@ pub fn number_at(rule: Rule, row: &Table) -> u64
 impl Rule {
     // The number that an absent key stands for.
     fn number_if_absent(self) -> u64
-        requires { is_needed self.presence ≡ false }
+        requires absent { is_needed self.presence ≡ false }
+        requires numbers { HasNumbers self }
         ensures { self.presence ≡ Optional result }
     {
         match self.presence {
             Presence::Optional(default) => default,
-            Presence::Required | Presence::ForSwitches => unreachable!(),
+            Presence::Required | Presence::ForSwitches | Presence::OptionalWord(_) =>
+                unreachable!(),
         }
     }
 }

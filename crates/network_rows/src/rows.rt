@@ -25,6 +25,13 @@ pub enum Priority {
     Low,
 }
 
+/// What switches count when they police a virtual link.
+#[derive(Clone, Copy, Debug, PartialEq, Eq)]
+pub enum Policing {
+    Bytes,
+    Frames,
+}
+
 /// A row of the section `node`.
 #[derive(Debug, Drop)]
 pub struct NodeRow {
@@ -66,9 +73,12 @@ pub struct VlRow {
     pub smax: FrameSize,
     pub priority: Priority,
     pub policing_jitter_ns: u32,
+    pub policing: Policing,
     pub skew_max_ns: u32,
-    /// How many frames may wait at the source.
+    /// How many frames may wait at the source, in each sub-virtual link.
     pub depth: u16,
+    /// How many sub-virtual links there are.
+    pub sub: u8,
     pub size: FrameSize,
     pub offset_ns: u64,
     pub period_ns: u64,

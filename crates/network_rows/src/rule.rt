@@ -9,6 +9,8 @@ pub enum Presence {
     ForSwitches,
     /// Each row may have it. Where one has it not, the number is this.
     Optional(u64),
+    /// Each row may have it. Where one has it not, the text is this word.
+    OptionalWord(Word),
 }
 
 /// What the value at a key has to be: its kind, and with it the limit.

@@ -2,7 +2,7 @@
 ghost use Rattle.std.specs.Prelude.{◌≡◌};
 ghost use Rattle.network_rows.specs.Table.{keys_of};
 
-use crate::key::Word::{A, B, Es, High, Low, Switch};
+use crate::key::Word::{A, B, Bytes, Es, Frames, High, Low, Switch};
 use crate::key::{Key, Section};
 use crate::rule::Kind::{
     EitherInteger, EitherWord, Integer, IntegerAbove, NodeName, OneOf, Paths, Reference,
@@ -74,9 +74,21 @@ pub const PRIORITY: Rule = rule!(Priority, Required, EitherWord(High, Low));
 
 pub const POLICING_JITTER_NS: Rule = rule!(PolicingJitterNs, Required, Integer(0, SECOND_NS));
 
+pub const POLICING: Rule = Rule {
+    key: Key::Policing,
+    presence: Presence::OptionalWord(Bytes),
+    kind: EitherWord(Bytes, Frames),
+};
+
 pub const SKEW_MAX_NS: Rule = rule!(SkewMaxNs, Required, Integer(0, SECOND_NS));
 
 pub const DEPTH: Rule = rule!(Depth, Required, Integer(1, 1024));
+
+pub const SUB: Rule = Rule {
+    key: Key::Sub,
+    presence: Presence::Optional(1),
+    kind: Integer(1, 4),
+};
 
 pub const SIZE: Rule = rule!(Size, Required, Integer(LEAST_FRAME, GREATEST_FRAME));
 
@@ -98,14 +110,16 @@ const LINK_KEYS: [Rule; 4] = [LINK_A, LINK_B, MBIT, PROPAGATION_NS];
 
 const OUTAGE_KEYS: [Rule; 4] = [FROM, TO, FROM_NS, TO_NS];
 
-const VL_KEYS: [Rule; 13] = [
+const VL_KEYS: [Rule; 15] = [
     ID,
     BAG_MS,
     SMAX,
     PRIORITY,
     POLICING_JITTER_NS,
+    POLICING,
     SKEW_MAX_NS,
     DEPTH,
+    SUB,
     SIZE,
     OFFSET_NS,
     PERIOD_NS,

@@ -27,7 +27,7 @@ use Rattle.nodes.specs.undoing.EndSystem.{delivery_kept, regulated_kept, taken_k
 
 -- a regulator that releases a frame has room in its queue
 pub full-released : (e : RegEvent) (frame : Frame) → full e (Released frame) ≡ silent
-full-released (Offer at f) frame = refl
+full-released (Offer at sub f) frame = refl
 full-released (Release at) frame = refl
 
 -- to ask for a Release is to note nothing

@@ -77,7 +77,9 @@ impl EndSystem {
     {
         let at = message.time;
         match &message.body {
-            Body::Offer { vl, size } => self.regulate(at, *vl, &offer(at, *vl, *size), out),
+            Body::Offer { vl, size, sub } => {
+                self.regulate(at, *vl, &offer(at, *vl, *size, *sub), out)
+            }
             Body::Release { vl } => self.regulate(at, *vl, &RegEvent::Release { at }, out),
             Body::PortFree { port } => PartRecord::Port(self.ports.free(at, *port, out)),
             Body::Arrive { port, frame } if self.ports.exists(*port) => self.take(at, frame, out),
@@ -92,7 +94,7 @@ impl EndSystem {
     {
         let at = message.time;
         match message.body {
-            Body::Offer { vl, size } => self.unregulate(vl, &offer(at, vl, size), kept),
+            Body::Offer { vl, size, sub } => self.unregulate(vl, &offer(at, vl, size, sub), kept),
             Body::Release { vl } => self.unregulate(vl, &RegEvent::Release { at }, kept),
             Body::PortFree { port } => self.unfree(port, kept),
             Body::Arrive { port, frame } => self.untake(at, port, &frame, kept),
@@ -205,9 +207,9 @@ impl EndSystem {
     }
 }
 
-/// A frame of this size is offered to the regulator of a virtual link.
-fn offer(at: Time, vl: VlId, size: FrameSize) -> RegEvent
-    ensures { result ≡ Offer at (offered_frame at vl size) }
+/// A frame of this size is offered to a sub-virtual link of the regulator of a virtual link.
+fn offer(at: Time, vl: VlId, size: FrameSize, sub: u8) -> RegEvent
+    ensures { result ≡ Offer at sub (offered_frame at vl size) }
 {
     let frame = Frame {
         vl,
@@ -217,5 +219,5 @@ fn offer(at: Time, vl: VlId, size: FrameSize) -> RegEvent
         released: Time::default(),
         net: Net::A,
     };
-    RegEvent::Offer { at, frame }
+    RegEvent::Offer { at, sub, frame }
 }

@@ -1,7 +1,7 @@
 ghost use Rattle.std.specs.Prelude.{◌≡◌, All, map, IfOk};
 ghost use Rattle.netdesc.specs.Limits.{IsLinkInLimits};
 ghost use Rattle.nodes.specs.rules.Finding.{IsRising};
-ghost use Rattle.nodes.specs.rules.Opening.{regulator_of, receiving_of, account_of, port_priority};
+ghost use Rattle.nodes.specs.rules.Opening.{regulator_of, receiving_of, account_of, measure_of, port_priority};
 ghost use Rattle.nodes.specs.laws.Making.{number_met, end_met, source_met, sink_met, ports_among, transit_met};
 
 use crate::finding::place_of;
@@ -14,8 +14,8 @@ use crate::transit::Transit;
 use crate::vl_end::VlEnd;
 use bag_regulator::BagRegulator;
 use integrity::Integrity;
-use netdesc::VirtualLink;
-use policer::Account;
+use netdesc::{Policing, VirtualLink};
+use policer::{Account, Measure};
 use redundancy::Redundancy;
 use std::alloc::{AllocError, Global};
 use vlink::VlId;
@@ -36,7 +36,7 @@ fn regulator_of(alloc: Global, link: &VirtualLink) -> Result<BagRegulator, Alloc
     ensures { IfOk result (λ regulator. regulator ≡ regulator_of link.now) }
 {
     let bag_ns = u32::from(link.bag_ms) * 1_000_000;
-    BagRegulator::new(alloc, bag_ns, u32::from(link.depth))
+    BagRegulator::new(alloc, bag_ns, u32::from(link.depth), link.sub)
 }
 
 /// The virtual links that an end system sends.
@@ -80,13 +80,25 @@ pub fn sinks_of(alloc: Global, meetings: &[Meeting]) -> Result<Vec<Sink>, AllocE
     Ok(sinks)
 }
 
+/// What an account counts, as the virtual link says.
+fn measure_of(policing: Policing) -> Measure
+    ensures { result ≡ measure_of policing }
+{
+    match policing {
+        Policing::Bytes => Measure::Bytes,
+        Policing::Frames => Measure::Frames,
+    }
+}
+
 /// The account of a virtual link, full.
 fn account_of(link: &VirtualLink) -> Account
     requires { IsLinkInLimits link.now }
     ensures { result ≡ account_of link.now }
 {
     let bag_ns = u64::from(link.bag_ms) * 1_000_000;
-    Account::new(link.smax, bag_ns, u64::from(link.policing_jitter_ns)).unwrap()
+    let jitter_ns = u64::from(link.policing_jitter_ns);
+    let measure = measure_of(link.policing);
+    Account::new(link.smax, bag_ns, jitter_ns, measure).unwrap()
 }
 
 /// Which list of an output port the frames of a virtual link wait in.

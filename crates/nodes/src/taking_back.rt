@@ -22,7 +22,7 @@ pub fn take_back(
     ports: &mut Ports,
 )
     requires { SendingCameFrom event.now source.old.end source.old.regulator ports.old kept.now a b }
-    ensures source { source.new ≡ record source.old { regulator = undone source.old.regulator kept.now.change kept.now.last kept.now.sn } }
+    ensures source { source.new ≡ record source.old { regulator = undone source.old.regulator kept.now } }
     ensures ports { ports.new ≡ unput 0 a (unput 1 b ports.old) }
 {
     ports.undo_put(port_of(Net::B), b);

@@ -4,7 +4,7 @@ use Rattle.std.specs.Prelude.{nat_le, slice_get, slice_index, option_and_then}
 use Rattle.std.specs.List.{range_with_len, flat_map}
 use Rattle.std.specs.List.Sorted.{IsStrictlyIncreasing}
 use Rattle.std.specs.Option.{option_map}
-use Rattle.std.proofs.Math.Nat.{mod-lt, le-mul_of_pos_right}
+use Rattle.std.proofs.Math.Nat.{mod-lt, mul-le-mul_left}
 use Rattle.std.proofs.lemmas.Bool.{le-leb}
 use Rattle.std.proofs.lemmas.List.FromFn.{filter_of_map_range_with_len_more}
 use Rattle.std.proofs.lemmas.Option.{slice_get_within, get_or_from_slice_get, slice_get-map}
@@ -60,16 +60,15 @@ come_count_sure seed until link source (suc n) sure =
     let more = come_count_more seed until link source n true (sym comes) in
     sym (ap (come_count seed until link source) next) ∙ more ∙ ap (λ c. c + 1) before ∙ next
 
--- at most as many are due as there are moments
-pub due_count-few : (until : ℕ) (link : VirtualLink) → IsLinkInLimits link → due_count until link ≤ until + 1
+-- at most as many are due as the least period lets
+pub due_count-few : (until : ℕ) (link : VirtualLink) → IsLinkInLimits link → 1000 * due_count until link ≤ until + 1000
 due_count-few until link limits = go (due_count until link) refl
   where
-    go : (n : ℕ) → due_count until link ≡ n → n ≤ until + 1
+    go : (n : ℕ) → due_count until link ≡ n → 1000 * n ≤ until + 1000
     go zero is = omega arith
     go (suc k) is =
         let due : due_of link k ≤ until = (due_count-due until link k limits).0 (omega arith) in
-        let some : 0 < link.period_ns = (let least = limits.least_period in omega arith) in
-        let on : k ≤ k * link.period_ns = le-mul_of_pos_right k some in
+        let on : k * 1000 ≤ k * link.period_ns = mul-le-mul_left k limits.least_period in
         omega arith
 
 -- ---- all virtual links

@@ -1,6 +1,7 @@
 -- Small cases that are computed from the definitions. The words for the state 42 and the stream 54 are those of PCG's reference code.
 use Rattle.std.proofs.Common.{◌≡◌, [], ◌∷◌, map, refl}
 use Rattle.rand_pcg.specs.Lcg.{state_after}
+use Rattle.network_rows.specs.declared.rows.Policing.TheVariants.{Bytes}
 use Rattle.network_rows.specs.declared.rows.Priority.TheVariants.{Low}
 use Rattle.netdesc.specs.declared.plan.VirtualLink.{VirtualLink}
 use Rattle.traffic.specs.Offers.{generator_at, word_of, offers_from}
@@ -21,8 +22,10 @@ link_54 = record {
   smax = 64;
   priority = Low;
   policing_jitter_ns = 0;
+  policing = Bytes;
   skew_max_ns = 1000000;
   depth = 16;
+  sub = 1;
   size = 64;
   offset_ns = 0;
   period_ns = 1000000;

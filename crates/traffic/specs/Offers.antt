@@ -41,7 +41,7 @@ offer_by link source k word = record {
   receiver = source;
   sender = sender_of link.id.0;
   number = k;
-  body = Offer link.id link.size;
+  body = Offer link.id link.size (k % link.sub);
 }
 
 abbrev pub offer_of : ℕ → VirtualLink → ℕ → ℕ → Message

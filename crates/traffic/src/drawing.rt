@@ -1,5 +1,5 @@
 //! The offers of one virtual link.
-ghost use Rattle.std.specs.Prelude.{◌≡◌, ℕ, ◌+◌, ◌<◌, ◌≤◌, ◌↔◌, [], ◌∷◌, ◌++◌, OnOk, OnErr, vec_len, vec_capacity};
+ghost use Rattle.std.specs.Prelude.{◌≡◌, ℕ, ◌+◌, ◌%◌, ◌<◌, ◌≤◌, ◌↔◌, [], ◌∷◌, ◌++◌, OnOk, OnErr, vec_len, vec_capacity};
 ghost use Rattle.vlink.specs.declared.time.TheConstants.{LATEST_NS};
 ghost use Rattle.netdesc.specs.Limits.{IsLinkInLimits};
 ghost use Rattle.traffic.specs.Offers.{due_of, moment_of, due_count, sender_of, offer_by, come_until, offers_from};
@@ -41,6 +41,14 @@ pub fn moment(link: &VirtualLink, number: u64, word: u32) -> u64
     due + jitter
 }
 
+/// Which sub-virtual link the offer with this number goes to: they take turns.
+fn sub_of(link: &VirtualLink, number: u64) -> u8
+    requires { IsLinkInLimits link.now }
+    ensures { result ≡ number % link.now.sub }
+{
+    (number % u64::from(link.sub)) as u8
+}
+
 /// Puts the offer with this number and word behind the others, unless it comes after `until`.
 fn push_offer(
     offers: &mut Vec<Message>,
@@ -65,6 +73,7 @@ fn push_offer(
             body: Body::Offer {
                 vl: link.id,
                 size: link.size,
+                sub: sub_of(link, number),
             },
         })?;
     }

@@ -1,5 +1,5 @@
 //! How many offers there are, without a list of them.
-ghost use Rattle.std.specs.Prelude.{◌≡◌, ℕ, ◌+◌, ◌≤◌, ◌<◌, ◌↔◌, length, nat_le};
+ghost use Rattle.std.specs.Prelude.{◌≡◌, ℕ, ◌+◌, ◌*◌, ◌≤◌, ◌<◌, ◌↔◌, length, nat_le};
 ghost use Rattle.vlink.specs.declared.time.TheConstants.{LATEST_NS};
 ghost use Rattle.netdesc.specs.Limits.{IsLinkInLimits};
 ghost use Rattle.traffic.specs.Offers.{due_of, moment_of, due_count, offers_from, offers_of};
@@ -40,7 +40,7 @@ fn vl_offer_count(seed: u64, until: Time, link: &VirtualLink) -> u64
     requires limits { IsLinkInLimits link.now }
     requires until { until ≤ LATEST_NS }
     ensures value { (source : ℕ) → result ≡ length (offers_from seed until link.now source) }
-    ensures few { result ≤ LATEST_NS + 1 }
+    ensures few { 1000 * result ≤ LATEST_NS + 1000 }
 {
     let sure = sure_count(until, link);
     let mut words = Lcg64Xsh32::new(seed, u64::from(link.id.0));

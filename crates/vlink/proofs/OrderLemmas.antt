@@ -51,7 +51,10 @@ vl-equal : (v w : VlId) → nat_cmp v.0 w.0 ≡ Equal → v ≡ w
 vl-equal v w h = λ i. record { 0 = nat_cmp-equal v.0 w.0 h i }
 
 body_cmp-equal : (b c : Body) → body_cmp b c ≡ Equal → b ≡ c
-body_cmp-equal (Offer v s) (Offer w t) h = let a = both (nat_cmp v.0 w.0) _ h in λ i. Offer (vl-equal v w a.0 i) (nat_cmp-equal s t a.1 i)
+body_cmp-equal (Offer v s q) (Offer w t p) h =
+    let a = both (nat_cmp v.0 w.0) _ h in
+    let b = both (nat_cmp s t) _ a.1 in
+    λ i. Offer (vl-equal v w a.0 i) (nat_cmp-equal s t b.0 i) (nat_cmp-equal q p b.1 i)
 body_cmp-equal (Release v) (Release w) h = ap Release (vl-equal v w h)
 body_cmp-equal (PortFree p) (PortFree q) h = ap PortFree (nat_cmp-equal p q h)
 body_cmp-equal (Arrive p f) (Arrive q g) h = let a = both (nat_cmp p q) _ h in λ i. Arrive (nat_cmp-equal p q a.0 i) (frame_cmp-equal f g a.1 i)

@@ -1,10 +1,10 @@
 -- The limits of moments, in ns.
 use Rattle.std.specs.Prelude.{ℕ}
 
--- the latest end of a run: 1000 s
+-- the latest end of a run: a million seconds
 abbrev pub latest_end : ℕ
-latest_end = 1000000000000
+latest_end = 1000000000000000
 
 -- the greatest moment: the one after the latest end
 abbrev pub greatest_moment : ℕ
-greatest_moment = 1000000000001
+greatest_moment = 1000000000000001

@@ -42,7 +42,7 @@ frame_cmp f g =
 
 -- the kinds of bodies in their order
 abbrev pub kind_of : Body → ℕ
-kind_of (Offer vl size) = 0
+kind_of (Offer vl size sub) = 0
 kind_of (Release vl) = 1
 kind_of (PortFree port) = 2
 kind_of (Arrive port frame) = 3
@@ -51,7 +51,7 @@ kind_of (Carry frame) = 5
 
 -- two bodies of one kind by their fields, as they are written; of two kinds nothing is told
 abbrev pub fields_cmp : Body → Body → Ordering
-fields_cmp (Offer vl size) (Offer vl' size') = ordering_then (nat_cmp vl.0 vl'.0) (nat_cmp size size')
+fields_cmp (Offer vl size sub) (Offer vl' size' sub') = ordering_then (nat_cmp vl.0 vl'.0) (ordering_then (nat_cmp size size') (nat_cmp sub sub'))
 fields_cmp (Release vl) (Release vl') = nat_cmp vl.0 vl'.0
 fields_cmp (PortFree port) (PortFree port') = nat_cmp port port'
 fields_cmp (Arrive port frame) (Arrive port' frame') = ordering_then (nat_cmp port port') (frame_cmp frame frame')

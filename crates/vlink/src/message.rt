@@ -7,8 +7,8 @@ use crate::time::Time;
 /// What a message says to its receiver. The order of the kinds is part of the order of messages.
 #[derive(Clone, Copy, Debug, PartialEq, Eq, Hash, PartialOrd, Ord)]
 pub enum Body {
-    /// An application offers a frame of this size to the source of the virtual link.
-    Offer { vl: VlId, size: FrameSize },
+    /// An application offers a frame of this size to a sub-virtual link, at the source of the virtual link.
+    Offer { vl: VlId, size: FrameSize, sub: u8 },
     /// The regulator of the virtual link may release a waiting frame.
     Release { vl: VlId },
     /// The port's frame and the gap behind it have left.

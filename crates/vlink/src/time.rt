@@ -4,7 +4,7 @@ ghost use Rattle.vlink.specs.Moment.{latest_end, greatest_moment};
 use std::marker::Model;
 
 /// The latest end time of a run, in ns.
-pub const LATEST_NS: u64 = 1_000_000_000_000;
+pub const LATEST_NS: u64 = 1_000_000_000_000_000;
 
 /// The greatest moment, in ns: the one after the latest end time.
 pub const GREATEST_NS: u64 = LATEST_NS + 1;

@@ -1,10 +1,10 @@
 //! Rows of elements in hand.
 use crate::tests::playing::told_by;
-use crate::tests::words::{long, numbers, size};
+use crate::tests::words::{byte, long, numbers, size};
 use bag_regulator::BagRegulator;
 use integrity::Integrity;
 use output_port::Port;
-use policer::Account;
+use policer::{Account, Measure};
 use redundancy::Redundancy;
 use std::alloc::{AllocError, Global};
 use std::test::Fail;
@@ -12,13 +12,15 @@ use std::test::Fail;
 // An element with its fixed numbers, and the events that it is given; then its answers, the state that it comes to, and the states to
 // which undoing the events leads back, one after another, up to the first.
 //
-// A regulator has its BAG in ns and its depth, an account the greatest frame in bytes, BAG and jitter in ns, redundancy management the
+// A regulator has its BAG in ns, its depth and its sub-virtual links, an account the greatest frame in bytes, BAG and jitter in ns, redundancy management the
 // greatest skew in ns, a port its bytes.
 const ROWS: &str = "\
-regulator 1000000 2, offer@0 offer@10 offer@20 offer@30 => Released 0:0:0 Kept, release@1000000 Kept Dropped | (1 Some(0)) (1 Some(0)) (1 Some(0)) (1 Some(0)) (0 None)
-regulator 1000000 2, offer@0 offer@10 offer@20 release@999999 release@1000000 release@2000000 => Released 0:0:0 Kept, release@1000000 Kept Nothing Released 1:10:1000000, release@2000000 Released 2:20:2000000 | (3 Some(2000000)) (2 Some(1000000)) (1 Some(0)) (1 Some(0)) (1 Some(0)) (1 Some(0)) (0 None)
-regulator 1000000 0, offer@0 offer@10 => Released 0:0:0 Dropped | (1 Some(0)) (1 Some(0)) (0 None)
-regulator 1000000 16385, offer@0 offer@10 => Released 0:0:0 Kept, release@1000000 | (1 Some(0)) (1 Some(0)) (0 None)
+regulator 1000000 2 1, offer@0 offer@10 offer@20 offer@30 => Released 0:0:0 Kept, release@1000000 Kept Dropped | (1 Some(0)) (1 Some(0)) (1 Some(0)) (1 Some(0)) (0 None)
+regulator 1000000 2 1, offer@0 offer@10 offer@20 release@999999 release@1000000 release@2000000 => Released 0:0:0 Kept, release@1000000 Kept Nothing Released 1:10:1000000, release@2000000 Released 2:20:2000000 | (3 Some(2000000)) (2 Some(1000000)) (1 Some(0)) (1 Some(0)) (1 Some(0)) (1 Some(0)) (0 None)
+regulator 1000000 0 1, offer@0 offer@10 => Released 0:0:0 Dropped | (1 Some(0)) (1 Some(0)) (0 None)
+regulator 1000000 16385 1, offer@0 offer@10 => Released 0:0:0 Kept, release@1000000 | (1 Some(0)) (1 Some(0)) (0 None)
+regulator 1000000 2 1, offer@0:1 => Dropped | (0 None) (0 None)
+regulator 1000000 2 2, offer@0:0 offer@10:1 offer@20:0 offer@30:0 offer@40:0 release@1000000 release@2000000 release@3000000 => Released 0:0:0 Kept, release@1000000 Kept Kept Dropped Released 1:10:1000000, release@2000000 Released 2:20:2000000, release@3000000 Released 3:30:3000000 | (4 Some(3000000)) (3 Some(2000000)) (2 Some(1000000)) (1 Some(0)) (1 Some(0)) (1 Some(0)) (1 Some(0)) (1 Some(0)) (0 None)
 account 100 1000000 0, 100@0 100@999999 100@1000000 => Passed Refused Passed | (0/100000000@1000000) (99999900/100000000@999999) (0/100000000@0) (100000000/100000000@0)
 account 100 1000000 0, 64@0 100@540000 100@0 64@10000000 => Passed Refused Refused Passed | (36000000/100000000@10000000) (90000000/100000000@0) (90000000/100000000@540000) (36000000/100000000@0) (100000000/100000000@0)
 account 100 1000000 0, 64@0 64@140000 64@100 64@40 => Passed Refused Refused Refused | (50000000/100000000@40) (50000000/100000000@100) (50000000/100000000@140000) (36000000/100000000@0) (100000000/100000000@0)
@@ -80,7 +82,8 @@ fn tells(alloc: Global, opening: &str, script: &str) -> Result<String, AllocErro
     let fixed = numbers(fixed);
     match kind {
         "regulator" => of_regulator(alloc, fixed, script),
-        "account" => of_account(alloc, fixed, script),
+        "account" => of_account(alloc, Measure::Bytes, fixed, script),
+        "frame_account" => of_account(alloc, Measure::Frames, fixed, script),
         "integrity" => told_by(alloc, Integrity::default(), script),
         "redundancy" => of_redundancy(alloc, fixed, script),
         _ => of_port(alloc, fixed, script),
@@ -88,14 +91,19 @@ fn tells(alloc: Global, opening: &str, script: &str) -> Result<String, AllocErro
 }
 
 fn of_regulator(alloc: Global, fixed: [u64; 8], script: &str) -> Result<String, AllocError> {
-    let [bag_ns, depth, ..] = fixed;
-    let regulator = BagRegulator::new(alloc, long(bag_ns), long(depth))?;
+    let [bag_ns, depth, subs, ..] = fixed;
+    let regulator = BagRegulator::new(alloc, long(bag_ns), long(depth), byte(subs))?;
     told_by(alloc, regulator, script)
 }
 
-fn of_account(alloc: Global, fixed: [u64; 8], script: &str) -> Result<String, AllocError> {
+fn of_account(
+    alloc: Global,
+    measure: Measure,
+    fixed: [u64; 8],
+    script: &str,
+) -> Result<String, AllocError> {
     let [smax, bag_ns, jitter_ns, ..] = fixed;
-    match Account::new(size(smax), bag_ns, jitter_ns) {
+    match Account::new(size(smax), bag_ns, jitter_ns, measure) {
         Some(account) => told_by(alloc, account, script),
         None => String::from_str(alloc, "none"),
     }

@@ -1,4 +1,4 @@
-//! How rows write messages: `RECEIVER.SENDER.NUMBER/` and then one of `offer@NS:VL.BYTES`, `release@NS:VL`, `free@NS:PORT`,
+//! How rows write messages: `RECEIVER.SENDER.NUMBER/` and then one of `offer@NS:VL.BYTES.SUB`, `release@NS:VL`, `free@NS:PORT`,
 //! `arrive@NS:PORT:FRAME`, `enqueue@NS:PORT:FRAME` and `carry@NS:FRAME`. A frame is `VL.BYTES.NUMBER.NET.OFFERED.RELEASED`, with its moments
 //! in ns and 0 for network A. What is left out, in front or behind, is 0.
 use crate::tests::words::{byte, long, moment, numbers, short, size};
@@ -21,13 +21,14 @@ pub fn message(word: &str) -> Message {
 }
 
 fn body(kind: &str, fields: &str) -> Body {
-    let [_, first, second, ..] = numbers(fields);
+    let [_, first, second, third, ..] = numbers(fields);
     let (vl, port) = (VlId(short(first)), byte(first));
     let frame = frame(fields);
     match kind {
         "offer" => Body::Offer {
             vl,
             size: size(second),
+            sub: byte(third),
         },
         "release" => Body::Release { vl },
         "arrive" => Body::Arrive { port, frame },
@@ -56,7 +57,9 @@ pub fn tell_message(message: &Message, told: &mut String) -> Result<(), AllocErr
     let ns = message.time.ns();
     write!(told, "{receiver}.{sender}.{number}/")?;
     match message.body {
-        Body::Offer { vl, size } => write!(told, "offer@{ns}:{}.{} ", vl.0, size.bytes()),
+        Body::Offer { vl, size, sub } => {
+            write!(told, "offer@{ns}:{}.{}.{sub} ", vl.0, size.bytes())
+        }
         Body::Release { vl } => write!(told, "release@{ns}:{} ", vl.0),
         Body::PortFree { port } => write!(told, "free@{ns}:{port} "),
         Body::Arrive { port, frame } => {

@@ -1,6 +1,6 @@
-//! A regulator in hand: `offer@NS` and `release@NS`.
+//! A regulator in hand: `offer@NS:SUB` and `release@NS`.
 use crate::tests::playing::Played;
-use crate::tests::words::{moment, numbers};
+use crate::tests::words::{byte, moment, numbers};
 use bag_regulator::{BagRegulator, RegAnswer, RegEvent, RegOut};
 use std::alloc::AllocError;
 use std::fmt::Write;
@@ -9,13 +9,14 @@ use vlink::{Frame, Time};
 impl Played for BagRegulator {
     fn event(word: &str) -> RegEvent {
         let (kind, ns) = word.split_once('@').unwrap_or((word, ""));
-        let [ns, ..] = numbers(ns);
+        let [ns, sub, ..] = numbers(ns);
         let at = moment(ns);
         if kind == "release" {
             return RegEvent::Release { at };
         }
         RegEvent::Offer {
             at,
+            sub: byte(sub),
             frame: Frame {
                 offered: at,
                 ..Frame::default()

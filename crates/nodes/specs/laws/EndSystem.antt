@@ -152,8 +152,8 @@ arrived-undone t q frame s = go (exists s.ports q)
 
 pub end_system-undoes : (n t : ℕ) (body : Body) (s : EndSystemState) →
     end_system_restored body (end_system_kept t body s) (end_system n t body s).state ≡ s
-end_system-undoes n t (body.Offer vl size) s =
-    let frame = offered_frame t vl size in regulated-undone n t (Offer t frame) (loss Unknown frame) s vl
+end_system-undoes n t (body.Offer vl size sub) s =
+    let frame = offered_frame t vl size in regulated-undone n t (Offer t sub frame) (loss Unknown frame) s vl
 end_system-undoes n t (body.Release vl) s = regulated-undone n t (Release t) silent s vl
 end_system-undoes n t (body.PortFree q) s = ap (λ ports. record s { ports = ports }) (ports-undo q Free s.ports)
 end_system-undoes n t (body.Arrive q frame) s = arrived-undone t q frame s

@@ -57,14 +57,14 @@ received-quiet t frame r = go (integrity.out (check_of frame.net r) frame.number
     go check.Refused = loss-quiet Integrity frame
 
 pub end_system-cases : (K : EndSystemOutcome → Type 0) (n t : ℕ) (s : EndSystemState) → EndSystemCases K n t s → (b : Body) → K (end_system n t b s)
-end_system-cases K n t s is (body.Offer vl size) = go (source_at s vl) refl
+end_system-cases K n t s is (body.Offer vl size sub) = go (source_at s vl) refl
   where
     frame : Frame
     frame = offered_frame t vl size
 
-    go : (o : Option (Found Source)) → source_at s vl ≡ o → K (regulated n t (Offer t frame) (loss Unknown frame) s o)
+    go : (o : Option (Found Source)) → source_at s vl ≡ o → K (regulated n t (Offer t sub frame) (loss Unknown frame) s o)
     go None h = is.quiet s.sinks (loss Unknown frame) (loss-quiet Unknown frame)
-    go (Some found) h = is.asks vl (Offer t frame) (loss Unknown frame) found refl h
+    go (Some found) h = is.asks vl (Offer t sub frame) (loss Unknown frame) found refl h
 end_system-cases K n t s is (body.Release vl) = go (source_at s vl) refl
   where
     go : (o : Option (Found Source)) → source_at s vl ≡ o → K (regulated n t (Release t) silent s o)
@@ -130,10 +130,10 @@ released_reply-all P n t end answer.Dropped ports h = All-nil P
 released_reply-all P n t end answer.Nothing ports h = All-nil P
 
 full-quiet : (e : RegEvent) (a : RegAnswer) → IsQuiet (full e a)
-full-quiet (Offer at frame) answer.Dropped = loss-quiet QueueFull frame
-full-quiet (Offer at frame) (answer.Released f) = silent-quiet
-full-quiet (Offer at frame) answer.Kept = silent-quiet
-full-quiet (Offer at frame) answer.Nothing = silent-quiet
+full-quiet (Offer at sub frame) answer.Dropped = loss-quiet QueueFull frame
+full-quiet (Offer at sub frame) (answer.Released f) = silent-quiet
+full-quiet (Offer at sub frame) answer.Kept = silent-quiet
+full-quiet (Offer at sub frame) answer.Nothing = silent-quiet
 full-quiet (Release at) a = silent-quiet
 
 asked-all : (P : Wish → Type 0) (n : ℕ) (vl : VlId) (ask : Option ℕ) →

@@ -42,7 +42,7 @@ line-cases K t (Carry frame) s quiet arrives = go (list_any (is_within t) s.outa
     go : (b : Bool) → K (cond b (loss cause.Outage frame) (record { wishes = arrival t frame s ∷ []; notes = [] }))
     go true = quiet (loss cause.Outage frame) (loss-quiet cause.Outage frame)
     go false = arrives frame
-line-cases K t (Offer vl size) s quiet arrives = quiet _ silent-quiet
+line-cases K t (Offer vl size sub) s quiet arrives = quiet _ silent-quiet
 line-cases K t (Release vl) s quiet arrives = quiet _ silent-quiet
 line-cases K t (PortFree q) s quiet arrives = quiet _ silent-quiet
 line-cases K t (Arrive q frame) s quiet arrives = quiet _ silent-quiet

@@ -6,7 +6,7 @@ use Rattle.bag_regulator.specs.declared.event.RegEvent.{RegEvent}
 use Rattle.bag_regulator.specs.declared.event.RegEvent.TheVariants.{Offer, Release}
 use Rattle.bag_regulator.specs.declared.event.RegAnswer.TheVariants.{Kept, Dropped, Nothing}
 use Rattle.bag_regulator.specs.declared.event.RegUndo.TheVariants as undo
-use Rattle.bag_regulator.specs.Regulator.{Regulator, Outcome, regulator, outcome, queued, offered, due, releasing, idle, is_due, next_release, ask_of}
+use Rattle.bag_regulator.specs.Regulator.{Regulator, Outcome, regulator, outcome, list_at, with_frames, let_go, next_in_turn, appended, queued, direct, admitted, popped, served, due, idle, is_due, next_release, ask_of}
 use Rattle.bag_regulator.specs.Spacing.{moment_of}
 
 -- the BAG stays; and where it is at least 1 ns, a Release is asked for later than t
@@ -18,41 +18,44 @@ not_due-later : (t : ℕ) (next : Option ℕ) → is_due t next ≡ false → If
 not_due-later t None h = tt
 not_due-later t (Some next) h = leb-false next t h
 
-queued-kept : (g : Regulator) (t : ℕ) (frame : Frame) (ask : Option ℕ) → IfSome ask (λ at. t < at) → IsKept g t (queued g frame ask)
-queued-kept g t frame ask h = go (nat_lt (length g.waiting) g.depth)
+queued-kept : (g : Regulator) (t q : ℕ) (frame : Frame) (asks : Option ℕ) → IfSome asks (λ at. t < at) → IsKept g t (queued g q frame asks)
+queued-kept g t q frame asks h = go (nat_lt (length (list_at g.lists q).frames) (list_at g.lists q).room)
   where
-    go : (b : Bool) → IsKept g t (cond b (record {
-      state = record g { waiting = g.waiting ++ frame ∷ [] };
-      out = record { answer = Kept; release_at = ask };
-      change = undo.Kept;
-    }) (idle g Dropped))
+    go : (b : Bool) → IsKept g t (cond b (appended g q frame asks) (idle g Dropped))
     go true = record { bag = refl; later = λ b. h }
     go false = record { bag = refl; later = λ b. tt }
 
-ask-later : (t bag : ℕ) (xs : List Frame) → 1 ≤ bag → IfSome (ask_of xs (Some (t + bag))) (λ at. t < at)
-ask-later t bag [] h = tt
-ask-later t bag (x ∷ xs) h = omega (arith, h)
+ask-later : (t bag : ℕ) (next : Option ℕ) → 1 ≤ bag → IfSome (ask_of next (Some (t + bag))) (λ at. t < at)
+ask-later t bag None h = tt
+ask-later t bag (Some q) h = omega (arith, h)
+
+admitted-kept : (g : Regulator) (t q : ℕ) (frame : Frame) (next : Option ℕ) → IsKept g t (admitted g t q frame next)
+admitted-kept g t q frame None = pick (is_due t (next_release g g.last)) refl
+  where
+    pick : (b : Bool) → is_due t (next_release g g.last) ≡ b → IsKept g t (cond b (direct g t q frame) (queued g q frame (next_release g g.last)))
+    pick true e = record { bag = refl; later = λ b. tt }
+    pick false e = queued-kept g t q frame (next_release g g.last) (not_due-later t (next_release g g.last) e)
+admitted-kept g t q frame (Some p) = queued-kept g t q frame None tt
+
+served-kept : (g : Regulator) (t q : ℕ) (xs : List Frame) → IsKept g t (served g t q xs)
+served-kept g t q [] = record { bag = refl; later = λ b. tt }
+served-kept g t q (x ∷ xs) = pick (is_due t (next_release g g.last))
+  where
+    pick : (b : Bool) → IsKept g t (cond b (popped g t q x xs) (idle g Nothing))
+    pick true = record { bag = refl; later = ask-later t g.bag (next_in_turn (let_go g t q (with_frames g.lists q xs))) }
+    pick false = record { bag = refl; later = λ b. tt }
 
 kept : (g : Regulator) (e : RegEvent) → IsKept g (moment_of e) (outcome g e)
-kept g (Offer t frame) = go g.waiting
+kept g (Offer t q frame) = go (nat_lt q (length g.lists))
   where
-    go : (xs : List Frame) → IsKept g t (offered g t frame xs)
-    go [] = pick (is_due t (next_release g g.last)) refl
-      where
-        pick : (b : Bool) → is_due t (next_release g g.last) ≡ b →
-            IsKept g t (cond b (releasing g t frame [] None undo.AtOnce) (queued g frame (next_release g g.last)))
-        pick true e = record { bag = refl; later = λ b. tt }
-        pick false e = queued-kept g t frame (next_release g g.last) (not_due-later t (next_release g g.last) e)
-    go (x ∷ xs) = queued-kept g t frame None tt
-kept g (Release t) = go g.waiting
+    go : (b : Bool) → IsKept g t (cond b (admitted g t q frame (next_in_turn g)) (idle g Dropped))
+    go true = admitted-kept g t q frame (next_in_turn g)
+    go false = record { bag = refl; later = λ b. tt }
+kept g (Release t) = go (next_in_turn g)
   where
-    go : (xs : List Frame) → IsKept g t (due g t xs)
-    go [] = record { bag = refl; later = λ b. tt }
-    go (x ∷ xs) = pick (is_due t (next_release g g.last))
-      where
-        pick : (b : Bool) → IsKept g t (cond b (releasing g t x xs (ask_of xs (Some (t + g.bag))) (undo.Popped x)) (idle g Nothing))
-        pick true = record { bag = refl; later = ask-later t g.bag xs }
-        pick false = record { bag = refl; later = λ b. tt }
+    go : (next : Option ℕ) → IsKept g t (due g t next)
+    go None = record { bag = refl; later = λ b. tt }
+    go (Some q) = served-kept g t q (list_at g.lists q).frames
 
 pub bag-stays : (g : Regulator) (e : RegEvent) → (regulator.after g e).bag ≡ g.bag
 bag-stays g e = (kept g e).bag

@@ -69,7 +69,7 @@ enqueued-undone n t q frame s = go (exists s.ports q) (transit_at s frame.vl)
 
 pub switch-undoes : (n t : ℕ) (body : Body) (s : SwitchState) →
     switch_restored t body (switch_kept t body s) (switch n t body s).state ≡ s
-switch-undoes n t (Offer vl size) s = refl
+switch-undoes n t (Offer vl size sub) s = refl
 switch-undoes n t (Release vl) s = refl
 switch-undoes n t (PortFree q) s = ap (λ ports. record s { ports = ports }) (ports-undo q Free s.ports)
 switch-undoes n t (Arrive q frame) s = arrived-undone n t q frame s

@@ -29,7 +29,7 @@ pub record SwitchCases (K : SwitchOutcome → Type 0) (n t : ℕ) (s : SwitchSta
       K (record { state = record s { transits = transits }; reply = forwarded n (t + s.latency) frame outputs })
 
 pub switch-cases : (K : SwitchOutcome → Type 0) (n t : ℕ) (s : SwitchState) → SwitchCases K n t s → (body : Body) → K (switch n t body s)
-switch-cases K n t s is (Offer vl size) = is.quiet s.transits silent silent-quiet
+switch-cases K n t s is (Offer vl size sub) = is.quiet s.transits silent silent-quiet
 switch-cases K n t s is (Release vl) = is.quiet s.transits silent silent-quiet
 switch-cases K n t s is (PortFree q) = is.at_ports q Free
 switch-cases K n t s is (Arrive q frame) = go (exists s.ports q) (transit_at s frame.vl)

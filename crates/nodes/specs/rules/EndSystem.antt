@@ -94,15 +94,15 @@ asked n vl (Some at) = record { wishes = record { time = at; receiver = n; body 
 
 -- the frame that a regulator is offered is lost for this cause
 abbrev pub lost : Cause → RegEvent → Reply
-lost cause (Offer at frame) = loss cause frame
+lost cause (Offer at sub frame) = loss cause frame
 lost cause (Release at) = silent
 
 -- a frame that finds the queue full is lost
 abbrev pub full : RegEvent → RegAnswer → Reply
-full (Offer at frame) answer.Dropped = loss QueueFull frame
-full (Offer at frame) (answer.Released f) = silent
-full (Offer at frame) answer.Kept = silent
-full (Offer at frame) answer.Nothing = silent
+full (Offer at sub frame) answer.Dropped = loss QueueFull frame
+full (Offer at sub frame) (answer.Released f) = silent
+full (Offer at sub frame) answer.Kept = silent
+full (Offer at sub frame) answer.Nothing = silent
 full (Release at) a = silent
 
 -- a virtual link that the end system sends
@@ -124,10 +124,10 @@ regulated n t e otherwise s (Some found) =
     }
 
 -- a frame is offered: it is lost where the virtual link does not begin here
-abbrev pub offered : ℕ → ℕ → VlId → ℕ → EndSystemState → EndSystemOutcome
-offered n t vl size s =
+abbrev pub offered : ℕ → ℕ → VlId → ℕ → ℕ → EndSystemState → EndSystemOutcome
+offered n t vl size sub s =
     let frame = offered_frame t vl size in
-    regulated n t (Offer t frame) (loss Unknown frame) s (source_at s vl)
+    regulated n t (Offer t sub frame) (loss Unknown frame) s (source_at s vl)
 
 -- the moment of a Release has come
 abbrev pub released : ℕ → ℕ → VlId → EndSystemState → EndSystemOutcome
@@ -191,7 +191,7 @@ freed n t q s = record { state = record s { ports = changed q Free s.ports }; re
 
 -- end system n at moment t; a message that says something else changes nothing
 abbrev pub end_system : ℕ → ℕ → Body → EndSystemState → EndSystemOutcome
-end_system n t (body.Offer vl size) s = offered n t vl size s
+end_system n t (body.Offer vl size sub) s = offered n t vl size sub s
 end_system n t (body.Release vl) s = released n t vl s
 end_system n t (body.PortFree q) s = freed n t q s
 end_system n t (body.Arrive q frame) s = arrived t q frame s

@@ -28,7 +28,7 @@ carried t frame line =
 
 -- a line at moment t; a message that says something else gives nothing. A line has no state that changes
 abbrev pub line : ℕ → Body → LineState → Reply
-line t (Offer vl size) s = silent
+line t (Offer vl size sub) s = silent
 line t (Release vl) s = silent
 line t (PortFree q) s = silent
 line t (Arrive q frame) s = silent

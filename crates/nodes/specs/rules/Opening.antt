@@ -4,11 +4,16 @@ use Rattle.std.specs.List.{range_with_len}
 use Rattle.std.specs.Option.{option_map}
 use Rattle.network_rows.specs.declared.rows.NodeKind.{NodeKind}
 use Rattle.network_rows.specs.declared.rows.NodeKind.TheVariants as kind
+use Rattle.network_rows.specs.declared.rows.Policing.{Policing}
+use Rattle.network_rows.specs.declared.rows.Policing.TheVariants as counted
 use Rattle.network_rows.specs.declared.rows.Priority.{Priority}
 use Rattle.network_rows.specs.declared.rows.Priority.TheVariants as row
 use Rattle.bag_regulator.specs.Regulator as regulator
 use Rattle.bag_regulator.specs.Regulator.{Regulator}
-use Rattle.policer.specs.Account.{Policing, full}
+use Rattle.policer.specs.Account as policer
+use Rattle.policer.specs.Account.{full}
+use Rattle.policer.specs.declared.account.Measure.{Measure}
+use Rattle.policer.specs.declared.account.Measure.TheVariants as measure
 use Rattle.output_port.specs.Port as port
 use Rattle.output_port.specs.declared.event.Priority as waiting
 use Rattle.output_port.specs.declared.event.Priority.TheVariants.{High, Low}
@@ -70,7 +75,7 @@ abbrev pub bag_ns : VirtualLink → ℕ
 bag_ns link = link.bag_ms * 1000000
 
 abbrev pub regulator_of : VirtualLink → Regulator
-regulator_of link = regulator.opening (bag_ns link) link.depth
+regulator_of link = regulator.opening (bag_ns link) link.depth link.sub
 
 abbrev pub receiving_of : VirtualLink → Receiving
 receiving_of link = record { a = None; b = None; redundancy = record { skew_max = link.skew_max_ns; last = None } }
@@ -98,8 +103,12 @@ abbrev pub port_priority : Priority → waiting.Priority
 port_priority row.High = High
 port_priority row.Low = Low
 
-abbrev pub account_of : VirtualLink → Policing
-account_of link = full link.smax (bag_ns link) link.policing_jitter_ns
+abbrev pub measure_of : Policing → Measure
+measure_of counted.Bytes = measure.Bytes
+measure_of counted.Frames = measure.Frames
+
+abbrev pub account_of : VirtualLink → policer.Policing
+account_of link = full link.smax (bag_ns link) link.policing_jitter_ns (measure_of link.policing)
 
 abbrev pub transit_of : Plan → ℕ → VlPlan → Transit
 transit_of plan n vl = record {

@@ -86,7 +86,7 @@ enqueued n t q frame s = if exists s.ports q then put n t q frame s (transit_at 
 
 -- switch n at moment t; a message that says something else changes nothing
 abbrev pub switch : ℕ → ℕ → Body → SwitchState → SwitchOutcome
-switch n t (Offer vl size) s = record { state = s; reply = silent }
+switch n t (Offer vl size sub) s = record { state = s; reply = silent }
 switch n t (Release vl) s = record { state = s; reply = silent }
 switch n t (PortFree q) s = at_port n t q Free s
 switch n t (Arrive q frame) s = arrived n t q frame s

@@ -60,7 +60,7 @@ taken_kept frame (Some found) =
     kept.Received check (delivery_kept receiving (integrity.out check frame.number))
 
 abbrev pub end_system_kept : ℕ → Body → EndSystemState → PartRecord
-end_system_kept t (body.Offer vl size) s = regulated_kept (Offer t (offered_frame t vl size)) s (source_at s vl)
+end_system_kept t (body.Offer vl size sub) s = regulated_kept (Offer t sub (offered_frame t vl size)) s (source_at s vl)
 end_system_kept t (body.Release vl) s = regulated_kept (Release t) s (source_at s vl)
 end_system_kept t (body.PortFree q) s = kept.Port (port_kept q Free s.ports)
 end_system_kept t (body.Arrive q frame) s = if exists s.ports q then taken_kept frame (sink_at s frame.vl frame.net) else kept.Nothing
@@ -71,7 +71,7 @@ end_system_kept t (body.Carry frame) s = kept.Nothing
 abbrev pub unregulated_by : RegRecord → Option PutRecord → Option PutRecord → EndSystemState → Option (Found Source) → EndSystemState
 unregulated_by k a b s None = s
 unregulated_by k a b s (Some found) = record s {
-  sources = slice_set s.sources found.place (record found.entry { regulator = undone found.entry.regulator k.change k.last k.sn });
+  sources = slice_set s.sources found.place (record found.entry { regulator = undone found.entry.regulator k });
   ports = unput 0 a (unput 1 b s.ports);
 }
 
@@ -109,7 +109,7 @@ untaken frame (kept.Port k) s = s
 untaken frame (kept.Policed k) s = s
 
 abbrev pub end_system_restored : Body → PartRecord → EndSystemState → EndSystemState
-end_system_restored (body.Offer vl size) k s = unregulated vl k s
+end_system_restored (body.Offer vl size sub) k s = unregulated vl k s
 end_system_restored (body.Release vl) k s = unregulated vl k s
 end_system_restored (body.PortFree q) k s = unfreed q k s
 end_system_restored (body.Arrive q frame) k s = untaken frame k s
@@ -133,7 +133,7 @@ IsRegulatedValue e s (Some found) =
     IsRegulator source.regulator × AreCopiesValues source.end (regulator.out source.regulator e).answer s.ports
 
 abbrev pub IsEndSystemValue : ℕ → Body → EndSystemState → Type 0
-IsEndSystemValue t (body.Offer vl size) s = IsRegulatedValue (Offer t (offered_frame t vl size)) s (source_at s vl)
+IsEndSystemValue t (body.Offer vl size sub) s = IsRegulatedValue (Offer t sub (offered_frame t vl size)) s (source_at s vl)
 IsEndSystemValue t (body.Release vl) s = IsRegulatedValue (Release t) s (source_at s vl)
 IsEndSystemValue t (body.PortFree q) s = IsPortValue q s.ports
 IsEndSystemValue t (body.Arrive q frame) s = ⊤

@@ -32,7 +32,7 @@ put_kept q frame s None = kept.Nothing
 put_kept q frame s (Some found) = kept.Port (port_kept q (Put frame found.entry.priority) s.ports)
 
 abbrev pub switch_kept : ℕ → Body → SwitchState → PartRecord
-switch_kept t (Offer vl size) s = kept.Nothing
+switch_kept t (Offer vl size sub) s = kept.Nothing
 switch_kept t (Release vl) s = kept.Nothing
 switch_kept t (PortFree q) s = kept.Port (port_kept q Free s.ports)
 switch_kept t (Arrive q frame) s = if exists s.ports q then taken_kept t q frame (transit_at s frame.vl) else kept.Nothing
@@ -61,7 +61,7 @@ unpoliced t frame (kept.Port k) s = s
 unpoliced t frame (kept.Received c d) s = s
 
 abbrev pub switch_restored : ℕ → Body → PartRecord → SwitchState → SwitchState
-switch_restored t (Offer vl size) k s = s
+switch_restored t (Offer vl size sub) k s = s
 switch_restored t (Release vl) k s = s
 switch_restored t (PortFree q) k s = unported q k s
 switch_restored t (Arrive q frame) k s = unpoliced t frame k s
@@ -81,7 +81,7 @@ IsPutValue q s None = ⊤
 IsPutValue q s (Some found) = IsPortValue q s.ports
 
 abbrev pub IsSwitchValue : Body → SwitchState → Type 0
-IsSwitchValue (Offer vl size) s = ⊤
+IsSwitchValue (Offer vl size sub) s = ⊤
 IsSwitchValue (Release vl) s = ⊤
 IsSwitchValue (PortFree q) s = IsPortValue q s.ports
 IsSwitchValue (Arrive q frame) s = exists s.ports q ≡ true → IsTakenValue q frame (transit_at s frame.vl)

@@ -2,7 +2,7 @@ use Rattle.std.proofs.Common.{true, false, ap, sym, ◌∙◌, arith}
 use Rattle.std.specs.Prelude.{nat_le}
 use Rattle.traffic.specs.Offers.{moment_of}
 use Rattle.traffic.proofs.DrawingLemmas.{drawn_at}
-use Rattle.traffic.proofs.CountingLemmas.{generator_at-jumped, come_count_more, come_count_sure}
+use Rattle.traffic.proofs.CountingLemmas.{generator_at-jumped, come_count_more, come_count_sure, due_count-few}
 use Rattle.traffic.proofs.offer_counting.vl_offer_count.Goals.{then-comes, else-comes}
 use Rattle.traffic.proofs.offer_counting.vl_offer_count.Goals as goal
 
@@ -30,3 +30,9 @@ loop-number-preserved c =
       words = drawn.1;
       few = elim c.if-comes.branch [ then-comes w ↦ omega (arith, w.count-is, c.loop-number.invariant.few) | else-comes w ↦ omega (arith, w.count-is, c.loop-number.invariant.few) ];
     }
+
+pub returns-clause-few : goal.returns-clause-few
+returns-clause-few c =
+    let few = due_count-few c.args.until c.args.link.now c.requires.limits in
+    let due = c.due_count-number-end.ensures.value in
+    omega (arith, c.loop-number.invariant.few, c.sure_count-sure.ensures.few)

@@ -8,7 +8,7 @@ use Rattle.vlink.specs.Order.{frame_cmp, body_cmp}
 use Rattle.vlink.proofs.order.body_order.Goals as goal
 
 body-is : ((f g : Frame) → (frames.ghosts).cmp f g ≡ frame_cmp f g) → (b c : Body) → ghosts.cmp b c ≡ body_cmp b c
-body-is h (Offer v s) (Offer w t) = refl
+body-is h (Offer v s q) (Offer w t p) = refl
 body-is h (Release v) (Release w) = refl
 body-is h (PortFree p) (PortFree q) = refl
 body-is h (Arrive p f) (Arrive q g) = rw (h f g) refl

@@ -38,7 +38,7 @@ returns c =
     subst (λ (s : EndSystemState).
     record { sources = slice_set i.sources.items place c.take_back.new.source; sinks = i.sinks.items; ports = c.take_back.new.ports }
     ≡ record s {
-      sources = slice_set s.sources place (record source { regulator = undone source.regulator k.change k.last k.sn });
+      sources = slice_set s.sources place (record source { regulator = undone source.regulator k });
       ports = unput 0 a (unput 1 b s.ports);
     }) c.self.view_is
     (λ t. record { sources = slice_set i.sources.items place (c.take_back.ensures.source t); sinks = i.sinks.items; ports = c.take_back.ensures.ports t })
