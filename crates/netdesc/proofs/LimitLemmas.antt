@@ -13,10 +13,10 @@ use Rattle.network_rows.specs.declared.rows.NodeKind.TheVariants.{EndSystem, Swi
 use Rattle.network_rows.specs.declared.rows.NodeRow.{NodeRow}
 use Rattle.network_rows.specs.declared.rows.VlRow.{VlRow}
 use Rattle.network_rows.specs.Kinds.{is_within}
-use Rattle.network_rows.specs.Within.{IsNodeWithin, IsNodeKindWithin, IsVlWithin}
-use Rattle.netdesc.specs.declared.plan.VirtualLink.{VirtualLink}
+use Rattle.network_rows.specs.Within.{IsNodeWithin, IsNodeKindWithin, IsVirtualLinkWithin, IsVlWithin}
+use Rattle.network_rows.specs.declared.rows.VirtualLink.{VirtualLink}
 use Rattle.netdesc.specs.Names.{names_of}
-use Rattle.netdesc.specs.Plan.{Plan, NodePlan, VlPlan, node_plan, vl_plan, virtual_link}
+use Rattle.netdesc.specs.Plan.{Plan, NodePlan, VlPlan, node_plan, vl_plan}
 use Rattle.netdesc.specs.Accepted.{IsAccepted}
 use Rattle.netdesc.specs.Limits.{IsLinkInLimits, IsKindInLimits}
 use Rattle.netdesc.proofs.BuildLemmas.{read-item}
@@ -40,26 +40,26 @@ one-of-bounds least greatest n (m ∷ ms) all any =
     go true same here there later = subst (λ k. (least ≤ k) × (k ≤ greatest)) (eqb-true m n same) (bounds least greatest m here)
     go false apart here there later = later there
 
--- the numbers of a virtual link are those of its row
-link-limits : (row : VlRow) → IsVlWithin row → IsLinkInLimits (virtual_link row)
-link-limits row within =
-    let bag = one-of-bounds 1 128 row.bag_ms (1 ∷ 2 ∷ 4 ∷ 8 ∷ 16 ∷ 32 ∷ 64 ∷ 128 ∷ []) refl within.bag_ms in
-    let depth = bounds 1 1024 row.depth within.depth in
-    let sub = bounds 1 4 row.sub within.sub in
-    let period = bounds 1000 LATEST_NS row.period_ns within.period_ns in
+-- the numbers of a virtual link
+link-limits : (link : VirtualLink) → IsVirtualLinkWithin link → IsLinkInLimits link
+link-limits link within =
+    let bag = one-of-bounds 1 128 link.bag_ms (1 ∷ 2 ∷ 4 ∷ 8 ∷ 16 ∷ 32 ∷ 64 ∷ 128 ∷ []) refl within.bag_ms in
+    let depth = bounds 1 1024 link.depth within.depth in
+    let sub = bounds 1 4 link.sub within.sub in
+    let period = bounds 1000 LATEST_NS link.period_ns within.period_ns in
     record {
       least_bag = bag.0;
       greatest_bag = bag.1;
-      policing_jitter = (bounds 0 SECOND_NS row.policing_jitter_ns within.policing_jitter_ns).1;
-      skew_max = (bounds 0 SECOND_NS row.skew_max_ns within.skew_max_ns).1;
+      policing_jitter = (bounds 0 SECOND_NS link.policing_jitter_ns within.policing_jitter_ns).1;
+      skew_max = (bounds 0 SECOND_NS link.skew_max_ns within.skew_max_ns).1;
       least_depth = depth.0;
       greatest_depth = depth.1;
       least_sub = sub.0;
       greatest_sub = sub.1;
-      offset = (bounds 0 LATEST_NS row.offset_ns within.offset_ns).1;
+      offset = (bounds 0 LATEST_NS link.offset_ns within.offset_ns).1;
       least_period = period.0;
       greatest_period = period.1;
-      jitter = (bounds 0 SECOND_NS row.jitter_ns within.jitter_ns).1;
+      jitter = (bounds 0 SECOND_NS link.jitter_ns within.jitter_ns).1;
     }
 
 kind-limits : (kind : NodeKind) → IsNodeKindWithin kind → IsKindInLimits kind
@@ -75,7 +75,7 @@ HasKindInLimits node = IsKindInLimits node.kind
 
 all-links : (names : List (List ℕ)) (rows : List VlRow) → AllByRecursion IsVlWithin rows → AllByRecursion HasLinkInLimits (map (vl_plan names) rows)
 all-links names [] within = tt
-all-links names (row ∷ rows) within = (link-limits row within.0, all-links names rows within.1)
+all-links names (row ∷ rows) within = (link-limits row.link within.0.link, all-links names rows within.1)
 
 all-kinds : (rows : List NodeRow) → AllByRecursion IsNodeWithin rows → AllByRecursion HasKindInLimits (map node_plan rows)
 all-kinds [] within = tt

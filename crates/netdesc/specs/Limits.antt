@@ -5,7 +5,7 @@ use Rattle.vlink.specs.declared.time.TheConstants.{LATEST_NS}
 use Rattle.network_rows.specs.declared.table.TheConstants.{SECOND_NS}
 use Rattle.network_rows.specs.declared.rows.NodeKind.{NodeKind}
 use Rattle.network_rows.specs.declared.rows.NodeKind.TheVariants.{EndSystem, Switch}
-use Rattle.netdesc.specs.declared.plan.VirtualLink.{VirtualLink}
+use Rattle.network_rows.specs.declared.rows.VirtualLink.{VirtualLink}
 
 -- the most processes of a network, ports of a switch, outages of a network, and destinations of a virtual link
 abbrev pub greatest_processes : ℕ

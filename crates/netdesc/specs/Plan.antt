@@ -8,7 +8,7 @@ use Rattle.network_rows.specs.declared.rows.LinkRow.{LinkRow}
 use Rattle.network_rows.specs.declared.rows.OutageRow.{OutageRow}
 use Rattle.network_rows.specs.declared.rows.VlRow.{VlRow}
 use Rattle.network_rows.specs.declared.rows.Rows.{Rows}
-use Rattle.netdesc.specs.declared.plan.VirtualLink.{VirtualLink}
+use Rattle.network_rows.specs.declared.rows.VirtualLink.{VirtualLink}
 use Rattle.netdesc.specs.declared.wiring.Link.{Link}
 use Rattle.netdesc.specs.declared.wiring.Outage.{Outage}
 use Rattle.netdesc.specs.Names.{names_of, number_of}
@@ -55,25 +55,8 @@ link_plan names row = record { a = number_of names row.a; b = number_of names ro
 abbrev pub outage_plan : List (List ℕ) → OutageRow → Outage
 outage_plan names row = record { from = number_of names row.from; to = number_of names row.to; from_ns = row.from_ns; to_ns = row.to_ns }
 
-abbrev pub virtual_link : VlRow → VirtualLink
-virtual_link row = record {
-  id = row.id;
-  bag_ms = row.bag_ms;
-  smax = row.smax;
-  priority = row.priority;
-  policing_jitter_ns = row.policing_jitter_ns;
-  policing = row.policing;
-  skew_max_ns = row.skew_max_ns;
-  depth = row.depth;
-  sub = row.sub;
-  size = row.size;
-  offset_ns = row.offset_ns;
-  period_ns = row.period_ns;
-  jitter_ns = row.jitter_ns;
-}
-
 abbrev pub vl_plan : List (List ℕ) → VlRow → VlPlan
-vl_plan names row = record { link = virtual_link row; a = paths_numbers names row.a; b = paths_numbers names row.b }
+vl_plan names row = record { link = row.link; a = paths_numbers names row.a; b = paths_numbers names row.b }
 
 -- what rows say, with their virtual links in the order of the rows
 abbrev pub plan_of : Rows → Plan

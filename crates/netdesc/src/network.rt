@@ -13,10 +13,10 @@ ghost use Rattle.netdesc.specs.Faults.{process_count};
 ghost use Rattle.netdesc.specs.Lines.{lines_of, node_name, line_name, outages_of, departures_of, arrivals_of, place_of_vl};
 ghost use Rattle.netdesc.specs.Code.Tables.{plan_with};
 
-use crate::plan::{Numbered, VirtualLink};
+use crate::plan::Numbered;
 use crate::tables::{Tables, tables_of};
 use crate::wiring::{Direction, Outage, Way};
-use network_rows::{DescFault, NodeKind, NodeRow};
+use network_rows::{DescFault, NodeKind, NodeRow, VirtualLink};
 use std::alloc::Global;
 use std::marker::Model;
 use vlink::{Time, VlId};

@@ -7,7 +7,7 @@ ghost use Rattle.network_rows.specs.declared.rows.OutageRow.{OutageRow};
 ghost use Rattle.network_rows.specs.declared.rows.VlRow.{VlRow};
 ghost use Rattle.netdesc.specs.Rows.{when};
 ghost use Rattle.netdesc.specs.Names.{names_of, number_of};
-ghost use Rattle.netdesc.specs.Plan.{byte_ns_of, path_numbers, paths_numbers, link_plan, outage_plan, virtual_link, vl_plan};
+ghost use Rattle.netdesc.specs.Plan.{byte_ns_of, path_numbers, paths_numbers, link_plan, outage_plan, vl_plan};
 ghost use Rattle.netdesc.specs.Faults.{is_unknown, has_unknown, unknown_at_node, unknown_at_link, unknown_at_outage, unknown_at_vl, unknown_names};
 ghost use Rattle.netdesc.specs.Code.Finding.{Finds};
 ghost use Rattle.netdesc.specs.Code.Views.{Gives, items_of, lists_of};
@@ -15,7 +15,7 @@ ghost use Rattle.netdesc.specs.Code.Parts.{parts_of, parts_in};
 
 use crate::each::{Review, check_each, key_at, row_at};
 use crate::names::Names;
-use crate::plan::{Numbered, Routed, VirtualLink};
+use crate::plan::{Numbered, Routed};
 use crate::wiring::{Link, Outage};
 use network_rows::{
     DescFault, Key, LinkRow, NodeRow, OutageRow, Path, Paths, Place, Rate, Rows, Section, VlRow,
@@ -179,27 +179,6 @@ impl<'a, 'b> Review for Outages<'a, 'b> {
     }
 }
 
-/// What a row says of the frames of its virtual link.
-fn virtual_link(row: &VlRow) -> VirtualLink
-    ensures { result ≡ virtual_link row.now }
-{
-    VirtualLink {
-        id: row.id,
-        bag_ms: row.bag_ms,
-        smax: row.smax,
-        priority: row.priority,
-        policing_jitter_ns: row.policing_jitter_ns,
-        policing: row.policing,
-        skew_max_ns: row.skew_max_ns,
-        depth: row.depth,
-        sub: row.sub,
-        size: row.size,
-        offset_ns: row.offset_ns,
-        period_ns: row.period_ns,
-        jitter_ns: row.jitter_ns,
-    }
-}
-
 /// The virtual link of a row, whose place is `i`.
 fn vl_of(alloc: Global, names: &Names, i: usize, row: &VlRow) -> Result<Routed, DescFault>
     requires { i + 1 < 2 ^ 64 }
@@ -209,7 +188,7 @@ fn vl_of(alloc: Global, names: &Names, i: usize, row: &VlRow) -> Result<Routed, 
     check_keys(row.has_unknown_key, row_at(Section::Vl, i))?;
     let a = paths_at(alloc, names, &row.a, key_at(Section::Vl, i, Key::A))?;
     let b = paths_at(alloc, names, &row.b, key_at(Section::Vl, i, Key::B))?;
-    Ok(Routed::new(virtual_link(row), a, b))
+    Ok(Routed::new(row.link, a, b))
 }
 
 /// Makes the virtual links of rows.

@@ -14,14 +14,15 @@ use Rattle.network_rows.specs.declared.rows.NodeKind.TheVariants.{EndSystem, Swi
 use Rattle.network_rows.specs.declared.rows.NodeRow.{NodeRow}
 use Rattle.network_rows.specs.declared.rows.LinkRow.{LinkRow}
 use Rattle.network_rows.specs.declared.rows.OutageRow.{OutageRow}
+use Rattle.network_rows.specs.declared.rows.VirtualLink.{VirtualLink}
 use Rattle.network_rows.specs.declared.rows.VlRow.{VlRow}
 use Rattle.network_rows.specs.declared.rows.Rows.{Rows}
 use Rattle.network_rows.specs.Table as keys
 use Rattle.network_rows.specs.Values.{as_number}
 use Rattle.network_rows.specs.Kinds.{allows, allows_text, allows_path, is_above}
-use Rattle.network_rows.specs.Rows.{IsAt, IsTextAt, ArePathsAt, IsNumberAt, MeansKind, MeansNode, MeansLink, MeansOutage, MeansVl, MeansRow, MeansList, MeansRows}
+use Rattle.network_rows.specs.Rows.{IsAt, IsTextAt, ArePathsAt, IsNumberAt, MeansKind, MeansNode, MeansLink, MeansOutage, MeansVirtualLink, MeansVl, MeansRow, MeansList, MeansRows}
 use Rattle.network_rows.specs.Sound.{IsDefaultWithin, HasNumbers}
-use Rattle.network_rows.specs.Within.{Allows, ArePathsWithin, IsNodeKindWithin, IsNodeWithin, IsLinkWithin, IsOutageWithin, IsVlWithin, AreWithin}
+use Rattle.network_rows.specs.Within.{Allows, ArePathsWithin, IsNodeKindWithin, IsNodeWithin, IsLinkWithin, IsOutageWithin, IsVirtualLinkWithin, IsVlWithin, AreWithin}
 use Rattle.network_rows.proofs.Standing.{IsAllowed, number_within, both_true}
 
 -- ---- numbers, texts and paths
@@ -81,19 +82,24 @@ outage_within table row means = record {
       (number_there keys.from_ns table row.from_ns refl means.from_ns) (number_there keys.to_ns table row.to_ns refl means.to_ns);
 }
 
+virtual_link_within : (table : Members) (link : VirtualLink) → MeansVirtualLink table link → IsVirtualLinkWithin link
+virtual_link_within table link means = record {
+  id = allowed keys.id table link.id.0 (tt, tt) means.id;
+  bag_ms = allowed keys.bag_ms table link.bag_ms (tt, tt) means.bag_ms;
+  smax = allowed keys.smax table link.smax (tt, tt) means.smax;
+  policing_jitter_ns = allowed keys.policing_jitter_ns table link.policing_jitter_ns (tt, tt) means.policing_jitter_ns;
+  skew_max_ns = allowed keys.skew_max_ns table link.skew_max_ns (tt, tt) means.skew_max_ns;
+  depth = allowed keys.depth table link.depth (tt, tt) means.depth;
+  sub = allowed keys.sub table link.sub (tt, refl) means.sub;
+  size = allowed keys.size table link.size (tt, tt) means.size;
+  offset_ns = allowed keys.offset_ns table link.offset_ns (tt, tt) means.offset_ns;
+  period_ns = allowed keys.period_ns table link.period_ns (tt, tt) means.period_ns;
+  jitter_ns = allowed keys.jitter_ns table link.jitter_ns (tt, tt) means.jitter_ns;
+}
+
 vl_within : (table : Members) (row : VlRow) → MeansVl table row → IsVlWithin row
 vl_within table row means = record {
-  id = allowed keys.id table row.id.0 (tt, tt) means.id;
-  bag_ms = allowed keys.bag_ms table row.bag_ms (tt, tt) means.bag_ms;
-  smax = allowed keys.smax table row.smax (tt, tt) means.smax;
-  policing_jitter_ns = allowed keys.policing_jitter_ns table row.policing_jitter_ns (tt, tt) means.policing_jitter_ns;
-  skew_max_ns = allowed keys.skew_max_ns table row.skew_max_ns (tt, tt) means.skew_max_ns;
-  depth = allowed keys.depth table row.depth (tt, tt) means.depth;
-  sub = allowed keys.sub table row.sub (tt, refl) means.sub;
-  size = allowed keys.size table row.size (tt, tt) means.size;
-  offset_ns = allowed keys.offset_ns table row.offset_ns (tt, tt) means.offset_ns;
-  period_ns = allowed keys.period_ns table row.period_ns (tt, tt) means.period_ns;
-  jitter_ns = allowed keys.jitter_ns table row.jitter_ns (tt, tt) means.jitter_ns;
+  link = virtual_link_within table row.link means.link;
   a = paths_a_within table row.a means.a;
   b = paths_b_within table row.b means.b;
 }

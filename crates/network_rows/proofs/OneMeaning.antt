@@ -20,12 +20,13 @@ use Rattle.network_rows.specs.declared.rows.Policing.TheVariants.{Bytes, Frames}
 use Rattle.network_rows.specs.declared.rows.NodeRow.{NodeRow}
 use Rattle.network_rows.specs.declared.rows.LinkRow.{LinkRow}
 use Rattle.network_rows.specs.declared.rows.OutageRow.{OutageRow}
+use Rattle.network_rows.specs.declared.rows.VirtualLink.{VirtualLink}
 use Rattle.network_rows.specs.declared.rows.VlRow.{VlRow}
 use Rattle.network_rows.specs.declared.rows.Rows.{Rows}
 use Rattle.network_rows.specs.Table as keys
 use Rattle.network_rows.specs.Keys.{word_text}
 use Rattle.network_rows.specs.Values.{as_number, as_paths, list_of}
-use Rattle.network_rows.specs.Rows.{IsAt, IsDefaultWordAt, IsNumberAt, IsWordOrDefaultAt, word_of_net, word_of_policing, word_of_priority, mbit_of, MeansKind, MeansNode, MeansLink, MeansOutage, MeansVl, MeansRow, MeansList, MeansRows, Means}
+use Rattle.network_rows.specs.Rows.{IsAt, IsDefaultWordAt, IsNumberAt, IsWordOrDefaultAt, word_of_net, word_of_policing, word_of_priority, mbit_of, MeansKind, MeansNode, MeansLink, MeansOutage, MeansVirtualLink, MeansVl, MeansRow, MeansList, MeansRows, Means}
 
 -- ---- one key
 
@@ -97,109 +98,56 @@ one_kind table (Switch m k) (Switch n l) a b =
 
 -- ---- rows
 
-abbrev node_from : List ℕ → NodeKind → ℕ → Bool → NodeRow
-node_from x0 x1 x2 x3 = record {
-  name = x0;
-  kind = x1;
-  port_bytes = x2;
-  has_unknown_key = x3;
-}
-
-same_node : {x0 y0 : List ℕ} {x1 y1 : NodeKind} {x2 y2 : ℕ} {x3 y3 : Bool} → x0 ≡ y0 → x1 ≡ y1 → x2 ≡ y2 → x3 ≡ y3 → node_from x0 x1 x2 x3 ≡ node_from y0 y1 y2 y3
-same_node e0 e1 e2 e3 = rw (e0, e1, e2, e3) refl
-
 one_node : (table : Members) (r s : NodeRow) → MeansNode table r → MeansNode table s → r ≡ s
-one_node table r s a b =
-    same_node
-    (one_value as_str keys.name table _ _ a.name b.name)
-    (one_kind table r.kind s.kind a.kind b.kind)
-    (one_number keys.port_bytes table _ _ a.port_bytes b.port_bytes)
-    (a.has_unknown_key ∙ sym b.has_unknown_key)
-
-abbrev link_from : List ℕ → List ℕ → Rate → ℕ → Bool → LinkRow
-link_from x0 x1 x2 x3 x4 = record {
-  a = x0;
-  b = x1;
-  mbit = x2;
-  propagation_ns = x3;
-  has_unknown_key = x4;
+one_node table r s a b = λ i. record {
+  name = one_value as_str keys.name table r.name s.name a.name b.name i;
+  kind = one_kind table r.kind s.kind a.kind b.kind i;
+  port_bytes = one_number keys.port_bytes table r.port_bytes s.port_bytes a.port_bytes b.port_bytes i;
+  has_unknown_key = (a.has_unknown_key ∙ sym b.has_unknown_key) i;
 }
-
-same_link : {x0 y0 : List ℕ} {x1 y1 : List ℕ} {x2 y2 : Rate} {x3 y3 : ℕ} {x4 y4 : Bool} → x0 ≡ y0 → x1 ≡ y1 → x2 ≡ y2 → x3 ≡ y3 → x4 ≡ y4 → link_from x0 x1 x2 x3 x4 ≡ link_from y0 y1 y2 y3 y4
-same_link e0 e1 e2 e3 e4 = rw (e0, e1, e2, e3, e4) refl
 
 one_link : (table : Members) (r s : LinkRow) → MeansLink table r → MeansLink table s → r ≡ s
-one_link table r s a b =
-    same_link
-    (one_value as_str keys.link_a table _ _ a.a b.a)
-    (one_value as_str keys.link_b table _ _ a.b b.b)
-    (one_rate r.mbit s.mbit (one_number keys.mbit table _ _ a.mbit b.mbit))
-    (one_number keys.propagation_ns table _ _ a.propagation_ns b.propagation_ns)
-    (a.has_unknown_key ∙ sym b.has_unknown_key)
-
-abbrev outage_from : List ℕ → List ℕ → ℕ → ℕ → Bool → OutageRow
-outage_from x0 x1 x2 x3 x4 = record {
-  from = x0;
-  to = x1;
-  from_ns = x2;
-  to_ns = x3;
-  has_unknown_key = x4;
+one_link table r s a b = λ i. record {
+  a = one_value as_str keys.link_a table r.a s.a a.a b.a i;
+  b = one_value as_str keys.link_b table r.b s.b a.b b.b i;
+  mbit = one_rate r.mbit s.mbit (one_number keys.mbit table (mbit_of r.mbit) (mbit_of s.mbit) a.mbit b.mbit) i;
+  propagation_ns = one_number keys.propagation_ns table r.propagation_ns s.propagation_ns a.propagation_ns b.propagation_ns i;
+  has_unknown_key = (a.has_unknown_key ∙ sym b.has_unknown_key) i;
 }
-
-same_outage : {x0 y0 : List ℕ} {x1 y1 : List ℕ} {x2 y2 : ℕ} {x3 y3 : ℕ} {x4 y4 : Bool} → x0 ≡ y0 → x1 ≡ y1 → x2 ≡ y2 → x3 ≡ y3 → x4 ≡ y4 → outage_from x0 x1 x2 x3 x4 ≡ outage_from y0 y1 y2 y3 y4
-same_outage e0 e1 e2 e3 e4 = rw (e0, e1, e2, e3, e4) refl
 
 one_outage : (table : Members) (r s : OutageRow) → MeansOutage table r → MeansOutage table s → r ≡ s
-one_outage table r s a b =
-    same_outage
-    (one_value as_str keys.from table _ _ a.from b.from)
-    (one_value as_str keys.to table _ _ a.to b.to)
-    (one_number keys.from_ns table _ _ a.from_ns b.from_ns)
-    (one_number keys.to_ns table _ _ a.to_ns b.to_ns)
-    (a.has_unknown_key ∙ sym b.has_unknown_key)
-
-abbrev vl_from : ℕ → ℕ → ℕ → Priority → ℕ → Policing → ℕ → ℕ → ℕ → ℕ → ℕ → ℕ → ℕ → List (List (List ℕ)) → List (List (List ℕ)) → Bool → VlRow
-vl_from x0 x1 x2 x3 x4 x5 x6 x7 x8 x9 x10 x11 x12 x13 x14 x15 = record {
-  id = record { 0 = x0 };
-  bag_ms = x1;
-  smax = x2;
-  priority = x3;
-  policing_jitter_ns = x4;
-  policing = x5;
-  skew_max_ns = x6;
-  depth = x7;
-  sub = x8;
-  size = x9;
-  offset_ns = x10;
-  period_ns = x11;
-  jitter_ns = x12;
-  a = x13;
-  b = x14;
-  has_unknown_key = x15;
+one_outage table r s a b = λ i. record {
+  from = one_value as_str keys.from table r.from s.from a.from b.from i;
+  to = one_value as_str keys.to table r.to s.to a.to b.to i;
+  from_ns = one_number keys.from_ns table r.from_ns s.from_ns a.from_ns b.from_ns i;
+  to_ns = one_number keys.to_ns table r.to_ns s.to_ns a.to_ns b.to_ns i;
+  has_unknown_key = (a.has_unknown_key ∙ sym b.has_unknown_key) i;
 }
 
-same_vl : {x0 y0 : ℕ} {x1 y1 : ℕ} {x2 y2 : ℕ} {x3 y3 : Priority} {x4 y4 : ℕ} {x5 y5 : Policing} {x6 y6 : ℕ} {x7 y7 : ℕ} {x8 y8 : ℕ} {x9 y9 : ℕ} {x10 y10 : ℕ} {x11 y11 : ℕ} {x12 y12 : ℕ} {x13 y13 : List (List (List ℕ))} {x14 y14 : List (List (List ℕ))} {x15 y15 : Bool} → x0 ≡ y0 → x1 ≡ y1 → x2 ≡ y2 → x3 ≡ y3 → x4 ≡ y4 → x5 ≡ y5 → x6 ≡ y6 → x7 ≡ y7 → x8 ≡ y8 → x9 ≡ y9 → x10 ≡ y10 → x11 ≡ y11 → x12 ≡ y12 → x13 ≡ y13 → x14 ≡ y14 → x15 ≡ y15 → vl_from x0 x1 x2 x3 x4 x5 x6 x7 x8 x9 x10 x11 x12 x13 x14 x15 ≡ vl_from y0 y1 y2 y3 y4 y5 y6 y7 y8 y9 y10 y11 y12 y13 y14 y15
-same_vl e0 e1 e2 e3 e4 e5 e6 e7 e8 e9 e10 e11 e12 e13 e14 e15 = rw (e0, e1, e2, e3, e4, e5, e6, e7, e8, e9, e10, e11, e12, e13, e14, e15) refl
+one_virtual_link : (table : Members) (k l : VirtualLink) → MeansVirtualLink table k → MeansVirtualLink table l → k ≡ l
+one_virtual_link table k l a b = λ i. record {
+  id = record { 0 = one_number keys.id table k.id.0 l.id.0 a.id b.id i };
+  bag_ms = one_number keys.bag_ms table k.bag_ms l.bag_ms a.bag_ms b.bag_ms i;
+  smax = one_number keys.smax table k.smax l.smax a.smax b.smax i;
+  priority = one_priority k.priority l.priority (one_value as_str keys.priority table _ _ a.priority b.priority) i;
+  policing_jitter_ns = one_number keys.policing_jitter_ns table k.policing_jitter_ns l.policing_jitter_ns a.policing_jitter_ns b.policing_jitter_ns i;
+  policing = one_policing_at table k.policing l.policing a.policing b.policing i;
+  skew_max_ns = one_number keys.skew_max_ns table k.skew_max_ns l.skew_max_ns a.skew_max_ns b.skew_max_ns i;
+  depth = one_number keys.depth table k.depth l.depth a.depth b.depth i;
+  sub = one_number keys.sub table k.sub l.sub a.sub b.sub i;
+  size = one_number keys.size table k.size l.size a.size b.size i;
+  offset_ns = one_number keys.offset_ns table k.offset_ns l.offset_ns a.offset_ns b.offset_ns i;
+  period_ns = one_number keys.period_ns table k.period_ns l.period_ns a.period_ns b.period_ns i;
+  jitter_ns = one_number keys.jitter_ns table k.jitter_ns l.jitter_ns a.jitter_ns b.jitter_ns i;
+}
 
 one_vl : (table : Members) (r s : VlRow) → MeansVl table r → MeansVl table s → r ≡ s
-one_vl table r s a b =
-    same_vl
-    (one_number keys.id table _ _ a.id b.id)
-    (one_number keys.bag_ms table _ _ a.bag_ms b.bag_ms)
-    (one_number keys.smax table _ _ a.smax b.smax)
-    (one_priority r.priority s.priority (one_value as_str keys.priority table _ _ a.priority b.priority))
-    (one_number keys.policing_jitter_ns table _ _ a.policing_jitter_ns b.policing_jitter_ns)
-    (one_policing_at table r.policing s.policing a.policing b.policing)
-    (one_number keys.skew_max_ns table _ _ a.skew_max_ns b.skew_max_ns)
-    (one_number keys.depth table _ _ a.depth b.depth)
-    (one_number keys.sub table _ _ a.sub b.sub)
-    (one_number keys.size table _ _ a.size b.size)
-    (one_number keys.offset_ns table _ _ a.offset_ns b.offset_ns)
-    (one_number keys.period_ns table _ _ a.period_ns b.period_ns)
-    (one_number keys.jitter_ns table _ _ a.jitter_ns b.jitter_ns)
-    (one_value as_paths keys.paths_a table _ _ a.a b.a)
-    (one_value as_paths keys.paths_b table _ _ a.b b.b)
-    (a.has_unknown_key ∙ sym b.has_unknown_key)
+one_vl table r s a b = λ i. record {
+  link = one_virtual_link table r.link s.link a.link b.link i;
+  a = one_value as_paths keys.paths_a table r.a s.a a.a b.a i;
+  b = one_value as_paths keys.paths_b table r.b s.b a.b b.b i;
+  has_unknown_key = (a.has_unknown_key ∙ sym b.has_unknown_key) i;
+}
 
 -- ---- all rows
 
@@ -220,30 +168,16 @@ module _ {R : Type 0} (means : Members → R → Type 0) (one : (table : Members
   one_list (Some d) rs ss a b =
       one_each (list_of b.0) rs ss (subst (λ items. AllZip (MeansRow means) (list_of items) rs) (one_some a.0 b.0 (sym a.1 ∙ b.1)) a.2) b.2
 
-abbrev rows_from : ℕ → ℕ → List NodeRow → List LinkRow → List OutageRow → List VlRow → Bool → Rows
-rows_from x0 x1 x2 x3 x4 x5 x6 = record {
-  until = x0;
-  seed = x1;
-  nodes = x2;
-  links = x3;
-  outages = x4;
-  vls = x5;
-  has_unknown_key = x6;
-}
-
-same_rows : {x0 y0 : ℕ} {x1 y1 : ℕ} {x2 y2 : List NodeRow} {x3 y3 : List LinkRow} {x4 y4 : List OutageRow} {x5 y5 : List VlRow} {x6 y6 : Bool} → x0 ≡ y0 → x1 ≡ y1 → x2 ≡ y2 → x3 ≡ y3 → x4 ≡ y4 → x5 ≡ y5 → x6 ≡ y6 → rows_from x0 x1 x2 x3 x4 x5 x6 ≡ rows_from y0 y1 y2 y3 y4 y5 y6
-same_rows e0 e1 e2 e3 e4 e5 e6 = rw (e0, e1, e2, e3, e4, e5, e6) refl
-
 one_rows : (document : Members) (r s : Rows) → MeansRows document r → MeansRows document s → r ≡ s
-one_rows document r s a b =
-    same_rows
-    (one_number keys.until_ns document _ _ a.until b.until)
-    (one_number keys.seed document _ _ a.seed b.seed)
-    (one_list MeansNode one_node _ r.nodes s.nodes a.nodes b.nodes)
-    (one_list MeansLink one_link _ r.links s.links a.links b.links)
-    (one_list MeansOutage one_outage _ r.outages s.outages a.outages b.outages)
-    (one_list MeansVl one_vl _ r.vls s.vls a.vls b.vls)
-    (a.has_unknown_key ∙ sym b.has_unknown_key)
+one_rows document r s a b = λ i. record {
+  until = one_number keys.until_ns document r.until s.until a.until b.until i;
+  seed = one_number keys.seed document r.seed s.seed a.seed b.seed i;
+  nodes = one_list MeansNode one_node _ r.nodes s.nodes a.nodes b.nodes i;
+  links = one_list MeansLink one_link _ r.links s.links a.links b.links i;
+  outages = one_list MeansOutage one_outage _ r.outages s.outages a.outages b.outages i;
+  vls = one_list MeansVl one_vl _ r.vls s.vls a.vls b.vls i;
+  has_unknown_key = (a.has_unknown_key ∙ sym b.has_unknown_key) i;
+}
 
 pub one_meaning : (text : List ℕ) (r s : Rows) → Means text r → Means text s → r ≡ s
 one_meaning text r s a b =

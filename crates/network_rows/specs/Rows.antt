@@ -24,6 +24,7 @@ use Rattle.network_rows.specs.declared.rows.Policing.TheVariants.{Bytes, Frames}
 use Rattle.network_rows.specs.declared.rows.NodeRow.{NodeRow}
 use Rattle.network_rows.specs.declared.rows.LinkRow.{LinkRow}
 use Rattle.network_rows.specs.declared.rows.OutageRow.{OutageRow}
+use Rattle.network_rows.specs.declared.rows.VirtualLink.{VirtualLink}
 use Rattle.network_rows.specs.declared.rows.VlRow.{VlRow}
 use Rattle.network_rows.specs.declared.rows.Rows.{Rows}
 use Rattle.network_rows.specs.Table as keys
@@ -131,20 +132,23 @@ pub record MeansOutage (table : Members) (row : OutageRow) : Type 0 where
   pub to_ns : IsNumberAt keys.to_ns table row.to_ns
   pub has_unknown_key : row.has_unknown_key ≡ has_unknown_key Outage table
 
+pub record MeansVirtualLink (table : Members) (link : VirtualLink) : Type 0 where
+  pub id : IsNumberAt keys.id table link.id.0
+  pub bag_ms : IsNumberAt keys.bag_ms table link.bag_ms
+  pub smax : IsNumberAt keys.smax table link.smax
+  pub priority : IsWordAt keys.priority table (word_of_priority link.priority)
+  pub policing_jitter_ns : IsNumberAt keys.policing_jitter_ns table link.policing_jitter_ns
+  pub policing : IsWordOrDefaultAt keys.policing table (word_of_policing link.policing)
+  pub skew_max_ns : IsNumberAt keys.skew_max_ns table link.skew_max_ns
+  pub depth : IsNumberAt keys.depth table link.depth
+  pub sub : IsNumberAt keys.sub table link.sub
+  pub size : IsNumberAt keys.size table link.size
+  pub offset_ns : IsNumberAt keys.offset_ns table link.offset_ns
+  pub period_ns : IsNumberAt keys.period_ns table link.period_ns
+  pub jitter_ns : IsNumberAt keys.jitter_ns table link.jitter_ns
+
 pub record MeansVl (table : Members) (row : VlRow) : Type 0 where
-  pub id : IsNumberAt keys.id table row.id.0
-  pub bag_ms : IsNumberAt keys.bag_ms table row.bag_ms
-  pub smax : IsNumberAt keys.smax table row.smax
-  pub priority : IsWordAt keys.priority table (word_of_priority row.priority)
-  pub policing_jitter_ns : IsNumberAt keys.policing_jitter_ns table row.policing_jitter_ns
-  pub policing : IsWordOrDefaultAt keys.policing table (word_of_policing row.policing)
-  pub skew_max_ns : IsNumberAt keys.skew_max_ns table row.skew_max_ns
-  pub depth : IsNumberAt keys.depth table row.depth
-  pub sub : IsNumberAt keys.sub table row.sub
-  pub size : IsNumberAt keys.size table row.size
-  pub offset_ns : IsNumberAt keys.offset_ns table row.offset_ns
-  pub period_ns : IsNumberAt keys.period_ns table row.period_ns
-  pub jitter_ns : IsNumberAt keys.jitter_ns table row.jitter_ns
+  pub link : MeansVirtualLink table row.link
   pub a : ArePathsAt keys.paths_a table row.a
   pub b : ArePathsAt keys.paths_b table row.b
   pub has_unknown_key : row.has_unknown_key ≡ has_unknown_key Vl table

@@ -1,6 +1,7 @@
 -- The table of keys: the keys of each section in the order of checks, each with the rows that have it, its kind and its limits. Times are in ns,
 -- sizes in bytes, and the bandwidth allocation gap (ARINC 664 Part 7) in ms.
 use Rattle.std.specs.Prelude.{List, [], ◌∷◌}
+use Rattle.vlink.specs.declared.time.TheConstants.{LATEST_NS}
 use Rattle.network_rows.specs.declared.key.Section.{Section}
 use Rattle.network_rows.specs.declared.key.Section.TheVariants.{Top, Node, Link, Outage, Vl}
 use Rattle.network_rows.specs.declared.key.Key.{Key}
@@ -18,7 +19,7 @@ asks key presence kind = record { key = key; presence = presence; kind = kind }
 -- ---- the top table
 
 abbrev pub until_ns : Rule
-until_ns = asks key.UntilNs Required (Integer 1 1000000000000000)
+until_ns = asks key.UntilNs Required (Integer 1 LATEST_NS)
 
 abbrev pub seed : Rule
 seed = asks key.Seed Required (Integer 0 9223372036854775807)
@@ -63,10 +64,10 @@ abbrev pub to : Rule
 to = asks key.To Required Reference
 
 abbrev pub from_ns : Rule
-from_ns = asks key.FromNs Required (Integer 0 1000000000000000)
+from_ns = asks key.FromNs Required (Integer 0 LATEST_NS)
 
 abbrev pub to_ns : Rule
-to_ns = asks key.ToNs Required (IntegerAbove key.FromNs 0 1000000000000000)
+to_ns = asks key.ToNs Required (IntegerAbove key.FromNs 0 LATEST_NS)
 
 -- ---- vl
 
@@ -101,10 +102,10 @@ abbrev pub size : Rule
 size = asks key.Size Required (Integer 64 1518)
 
 abbrev pub offset_ns : Rule
-offset_ns = asks key.OffsetNs Required (Integer 0 1000000000000000)
+offset_ns = asks key.OffsetNs Required (Integer 0 LATEST_NS)
 
 abbrev pub period_ns : Rule
-period_ns = asks key.PeriodNs Required (Integer 1000 1000000000000000)
+period_ns = asks key.PeriodNs Required (Integer 1000 LATEST_NS)
 
 abbrev pub jitter_ns : Rule
 jitter_ns = asks key.JitterNs Required (Integer 0 1000000000)

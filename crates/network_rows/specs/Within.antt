@@ -6,6 +6,7 @@ use Rattle.network_rows.specs.declared.rows.NodeKind.TheVariants.{EndSystem, Swi
 use Rattle.network_rows.specs.declared.rows.NodeRow.{NodeRow}
 use Rattle.network_rows.specs.declared.rows.LinkRow.{LinkRow}
 use Rattle.network_rows.specs.declared.rows.OutageRow.{OutageRow}
+use Rattle.network_rows.specs.declared.rows.VirtualLink.{VirtualLink}
 use Rattle.network_rows.specs.declared.rows.VlRow.{VlRow}
 use Rattle.network_rows.specs.declared.rows.Rows.{Rows}
 use Rattle.network_rows.specs.Table as keys
@@ -36,18 +37,21 @@ pub record IsOutageWithin (row : OutageRow) : Type 0 where
 abbrev pub ArePathsWithin : Rule → List (List (List ℕ)) → Type 0
 ArePathsWithin rule paths = All (λ path. allows_path rule.kind path ≡ true) paths
 
+pub record IsVirtualLinkWithin (link : VirtualLink) : Type 0 where
+  pub id : Allows keys.id link.id.0
+  pub bag_ms : Allows keys.bag_ms link.bag_ms
+  pub smax : Allows keys.smax link.smax
+  pub policing_jitter_ns : Allows keys.policing_jitter_ns link.policing_jitter_ns
+  pub skew_max_ns : Allows keys.skew_max_ns link.skew_max_ns
+  pub depth : Allows keys.depth link.depth
+  pub sub : Allows keys.sub link.sub
+  pub size : Allows keys.size link.size
+  pub offset_ns : Allows keys.offset_ns link.offset_ns
+  pub period_ns : Allows keys.period_ns link.period_ns
+  pub jitter_ns : Allows keys.jitter_ns link.jitter_ns
+
 pub record IsVlWithin (row : VlRow) : Type 0 where
-  pub id : Allows keys.id row.id.0
-  pub bag_ms : Allows keys.bag_ms row.bag_ms
-  pub smax : Allows keys.smax row.smax
-  pub policing_jitter_ns : Allows keys.policing_jitter_ns row.policing_jitter_ns
-  pub skew_max_ns : Allows keys.skew_max_ns row.skew_max_ns
-  pub depth : Allows keys.depth row.depth
-  pub sub : Allows keys.sub row.sub
-  pub size : Allows keys.size row.size
-  pub offset_ns : Allows keys.offset_ns row.offset_ns
-  pub period_ns : Allows keys.period_ns row.period_ns
-  pub jitter_ns : Allows keys.jitter_ns row.jitter_ns
+  pub link : IsVirtualLinkWithin row.link
   pub a : ArePathsWithin keys.paths_a row.a
   pub b : ArePathsWithin keys.paths_b row.b
 

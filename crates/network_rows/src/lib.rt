@@ -26,5 +26,7 @@ pub use key::{Key, Section};
 pub use name::Name;
 pub use paths::{Path, Paths};
 pub use read::read_rows;
-pub use rows::{LinkRow, NodeKind, NodeRow, OutageRow, Policing, Priority, Rate, Rows, VlRow};
+pub use rows::{
+    LinkRow, NodeKind, NodeRow, OutageRow, Policing, Priority, Rate, Rows, VirtualLink, VlRow,
+};
 pub use sequence::Sequence;

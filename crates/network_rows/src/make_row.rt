@@ -3,11 +3,13 @@ ghost use Rattle.toml.specs.View.{table_view};
 ghost use Rattle.network_rows.specs.declared.key.Section.TheVariants.{Node, Link, Outage, Vl};
 ghost use Rattle.network_rows.specs.Table.{mbit, policing, priority};
 ghost use Rattle.network_rows.specs.Sound.{IsSoundAt, IsSoundTable};
-ghost use Rattle.network_rows.specs.Rows.{IsNumberAt, IsWordAt, IsWordOrDefaultAt, mbit_of, word_of_policing, word_of_priority, MeansKind, MeansNode, MeansLink, MeansOutage, MeansVl};
+ghost use Rattle.network_rows.specs.Rows.{IsNumberAt, IsWordAt, IsWordOrDefaultAt, mbit_of, word_of_policing, word_of_priority, MeansKind, MeansNode, MeansLink, MeansOutage, MeansVirtualLink, MeansVl};
 
 use crate::key::{Key, Section, Word};
 use crate::read_value::{name_of, number_at, paths_of};
-use crate::rows::{LinkRow, NodeKind, NodeRow, OutageRow, Policing, Priority, Rate, VlRow};
+use crate::rows::{
+    LinkRow, NodeKind, NodeRow, OutageRow, Policing, Priority, Rate, VirtualLink, VlRow,
+};
 use crate::table;
 use crate::take::take_value;
 use crate::unknown::has_unknown_key;
@@ -66,22 +68,32 @@ pub fn vl_of(row: Table) -> VlRow
 {
     let mut row = row;
     VlRow {
-        id: VlId(number_at(table::ID, &row) as u16),
-        bag_ms: number_at(table::BAG_MS, &row) as u8,
-        smax: FrameSize::new(number_at(table::SMAX, &row) as u16).unwrap(),
-        priority: priority(&row),
-        policing_jitter_ns: number_at(table::POLICING_JITTER_NS, &row) as u32,
-        policing: policing(&row),
-        skew_max_ns: number_at(table::SKEW_MAX_NS, &row) as u32,
-        depth: number_at(table::DEPTH, &row) as u16,
-        sub: number_at(table::SUB, &row) as u8,
-        size: FrameSize::new(number_at(table::SIZE, &row) as u16).unwrap(),
-        offset_ns: number_at(table::OFFSET_NS, &row),
-        period_ns: number_at(table::PERIOD_NS, &row),
-        jitter_ns: number_at(table::JITTER_NS, &row) as u32,
+        link: virtual_link(&row),
         has_unknown_key: has_unknown_key(Section::Vl, &row),
         a: paths_of(take_value(&mut row, Key::A)),
         b: paths_of(take_value(&mut row, Key::B)),
+    }
+}
+
+// What a row says of the frames of its virtual link.
+fn virtual_link(row: &Table) -> VirtualLink
+    requires { IsSoundTable Vl (table_view row.now) }
+    ensures { MeansVirtualLink (table_view row.now) result }
+{
+    VirtualLink {
+        id: VlId(number_at(table::ID, row) as u16),
+        bag_ms: number_at(table::BAG_MS, row) as u8,
+        smax: FrameSize::new(number_at(table::SMAX, row) as u16).unwrap(),
+        priority: priority(row),
+        policing_jitter_ns: number_at(table::POLICING_JITTER_NS, row) as u32,
+        policing: policing(row),
+        skew_max_ns: number_at(table::SKEW_MAX_NS, row) as u32,
+        depth: number_at(table::DEPTH, row) as u16,
+        sub: number_at(table::SUB, row) as u8,
+        size: FrameSize::new(number_at(table::SIZE, row) as u16).unwrap(),
+        offset_ns: number_at(table::OFFSET_NS, row),
+        period_ns: number_at(table::PERIOD_NS, row),
+        jitter_ns: number_at(table::JITTER_NS, row) as u32,
     }
 }
 

@@ -7,15 +7,16 @@ use crate::key::{Key, Section};
 use crate::rule::Kind::{
     EitherInteger, EitherWord, Integer, IntegerAbove, NodeName, OneOf, Paths, Reference,
 };
-use crate::rule::{Presence, Rule};
+use crate::rule::Presence::{ForSwitches, Optional, OptionalWord, Required};
+use crate::rule::Rule;
 use vlink::{FrameSize, LATEST_NS};
 
 // A line of the table: the key, which rows have it, and what its value has to be.
 macro_rules! rule {
-    ($key:ident, $presence:ident, $kind:expr) => {
+    ($key:ident, $presence:expr, $kind:expr) => {
         Rule {
             key: Key::$key,
-            presence: Presence::$presence,
+            presence: $presence,
             kind: $kind,
         }
     };
@@ -74,21 +75,13 @@ pub const PRIORITY: Rule = rule!(Priority, Required, EitherWord(High, Low));
 
 pub const POLICING_JITTER_NS: Rule = rule!(PolicingJitterNs, Required, Integer(0, SECOND_NS));
 
-pub const POLICING: Rule = Rule {
-    key: Key::Policing,
-    presence: Presence::OptionalWord(Bytes),
-    kind: EitherWord(Bytes, Frames),
-};
+pub const POLICING: Rule = rule!(Policing, OptionalWord(Bytes), EitherWord(Bytes, Frames));
 
 pub const SKEW_MAX_NS: Rule = rule!(SkewMaxNs, Required, Integer(0, SECOND_NS));
 
 pub const DEPTH: Rule = rule!(Depth, Required, Integer(1, 1024));
 
-pub const SUB: Rule = Rule {
-    key: Key::Sub,
-    presence: Presence::Optional(1),
-    kind: Integer(1, 4),
-};
+pub const SUB: Rule = rule!(Sub, Optional(1), Integer(1, 4));
 
 pub const SIZE: Rule = rule!(Size, Required, Integer(LEAST_FRAME, GREATEST_FRAME));
 

@@ -3,7 +3,7 @@ use Rattle.std.proofs.Common.{◌≡◌, ℕ, ◌+◌, ◌<◌, Bool, true, fals
 use Rattle.std.specs.Prelude.{slice_get}
 use Rattle.std.specs.List.{flat_map}
 use Rattle.std.specs.Option.{option_map, option_and_then, option_to_list}
-use Rattle.netdesc.specs.declared.plan.VirtualLink.{VirtualLink}
+use Rattle.network_rows.specs.declared.rows.VirtualLink.{VirtualLink}
 use Rattle.netdesc.specs.declared.wiring.Way.{Way}
 use Rattle.netdesc.specs.Rows.{place_by}
 use Rattle.netdesc.specs.Plan.{Plan, VlPlan}

@@ -11,7 +11,7 @@ use Rattle.std.proofs.lemmas.Option.{slice_get_within, get_or_from_slice_get, sl
 use Rattle.rand_pcg.specs.Lcg.{started, increment_of, advance}
 use Rattle.rand_pcg.specs.Pcg.{multiplier_64}
 use Rattle.vlink.specs.declared.message.Message.{Message}
-use Rattle.netdesc.specs.declared.plan.VirtualLink.{VirtualLink}
+use Rattle.network_rows.specs.declared.rows.VirtualLink.{VirtualLink}
 use Rattle.netdesc.specs.Limits.{IsLinkInLimits}
 use Rattle.netdesc.specs.Plan.{Plan, VlPlan}
 use Rattle.netdesc.specs.Trees.{source_of}

@@ -9,7 +9,7 @@ use Rattle.std.proofs.Math.Nat.{le-div_iff_mul-le}
 use Rattle.rand_pcg.specs.Lcg.{Lcg, started, increment_of, next, next_state, state_after}
 use Rattle.rand_pcg.specs.Pcg.{multiplier_64, pcg32}
 use Rattle.vlink.specs.declared.message.Message.{Message}
-use Rattle.netdesc.specs.declared.plan.VirtualLink.{VirtualLink}
+use Rattle.network_rows.specs.declared.rows.VirtualLink.{VirtualLink}
 use Rattle.netdesc.specs.Limits.{IsLinkInLimits}
 use Rattle.traffic.specs.Offers.{generator_at, word_of, due_of, due_count, come_until, offer_by, offer_of}
 

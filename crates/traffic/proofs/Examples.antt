@@ -3,7 +3,7 @@ use Rattle.std.proofs.Common.{◌≡◌, [], ◌∷◌, map, refl}
 use Rattle.rand_pcg.specs.Lcg.{state_after}
 use Rattle.network_rows.specs.declared.rows.Policing.TheVariants.{Bytes}
 use Rattle.network_rows.specs.declared.rows.Priority.TheVariants.{Low}
-use Rattle.netdesc.specs.declared.plan.VirtualLink.{VirtualLink}
+use Rattle.network_rows.specs.declared.rows.VirtualLink.{VirtualLink}
 use Rattle.traffic.specs.Offers.{generator_at, word_of, offers_from}
 
 first_word : word_of 42 54 0 ≡ 2707161783

@@ -12,7 +12,7 @@ use Rattle.virtual_time.specs.Lists.{IsNumbered, times_in, IsIn}
 use Rattle.virtual_time.specs.Simulation.{Simulation}
 use Rattle.virtual_time.proofs.Lists.{times-append, times-none, times-filter, times-filter_out, in-append, in-cons, in-filter}
 use Rattle.virtual_time.proofs.Numbers.{numbered-once}
-use Rattle.netdesc.specs.declared.plan.VirtualLink.{VirtualLink}
+use Rattle.network_rows.specs.declared.rows.VirtualLink.{VirtualLink}
 use Rattle.netdesc.specs.declared.too_many.TheConstants.{GREATEST_PROCESSES}
 use Rattle.netdesc.specs.Plan.{Plan, VlPlan}
 use Rattle.netdesc.specs.Trees.{source_of}

@@ -7,7 +7,7 @@ use Rattle.rand_pcg.specs.Pcg.{multiplier_64, pcg32}
 use Rattle.vlink.specs.declared.message.Message.{Message}
 use Rattle.vlink.specs.declared.message.Body.TheVariants.{Offer}
 use Rattle.netdesc.specs.declared.too_many.TheConstants.{GREATEST_PROCESSES}
-use Rattle.netdesc.specs.declared.plan.VirtualLink.{VirtualLink}
+use Rattle.network_rows.specs.declared.rows.VirtualLink.{VirtualLink}
 use Rattle.netdesc.specs.Plan.{Plan, VlPlan}
 use Rattle.netdesc.specs.Trees.{source_of}
 
