@@ -1,3 +1,4 @@
 pub mod Running
 pub mod Load
 pub mod Recording
+pub mod Left
