@@ -1,3 +1,4 @@
+//! What becomes of a step of a world.
 /// What became of a step that was not refused.
 #[derive(Clone, Copy, Debug, PartialEq, Eq)]
 pub enum Done {

@@ -1,3 +1,4 @@
+//! Why a world refuses a step or a call.
 use process_queues::ProcFault;
 use std::alloc::{AllocError, AllocFailed};
 use thiserror::Error;

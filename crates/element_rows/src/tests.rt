@@ -1,3 +1,4 @@
+//! Rows of data: the five elements, messages and nodes played by scripts.
 mod accounts;
 mod checks;
 mod elements;

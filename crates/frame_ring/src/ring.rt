@@ -1,3 +1,4 @@
+//! A ring of frames that wait.
 ghost use Rattle.std.specs.Prelude.{◌≡◌, ◌*◌, ◌<◌, ◌≤◌, ◌↔◌, [], ◌∷◌, ◌++◌, length, IsTrue, IsNone, IfOk, IfSome, IfNone};
 ghost use Rattle.frame_ring.specs.Queue.{bytes_of};
 

@@ -1,3 +1,4 @@
+//! Integrity checking of one virtual link on one network.
 ghost use Rattle.std.specs.Prelude.{◌≡◌, ℕ, Option, None};
 ghost use Rattle.integrity.specs.Integrity.{passes};
 

@@ -1,3 +1,4 @@
+//! Why a text is no journal.
 use std::alloc::{AllocError, AllocFailed};
 use thiserror::Error;
 

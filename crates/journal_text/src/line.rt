@@ -1,3 +1,4 @@
+//! One line of a journal's text as a step.
 ghost use Rattle.std.specs.Prelude.{◌≡◌, ◌∷◌, ◌++◌, IfSome, IfNone};
 ghost use Rattle.journal_text.specs.Text.{Fits, step_line};
 ghost use Rattle.journal_text.specs.Fronts.{BeginsWithNone};

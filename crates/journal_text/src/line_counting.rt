@@ -1,3 +1,4 @@
+//! How many lines a text has.
 ghost use Rattle.std.specs.Prelude.{◌≡◌, length};
 ghost use Rattle.journal_text.specs.Lines.{lines};
 

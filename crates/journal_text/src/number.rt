@@ -1,3 +1,4 @@
+//! A number at the front of a text.
 ghost use Rattle.std.specs.Prelude.{ℕ, List, ◌∷◌, ◌≡◌, ◌≢◌, ◌<◌, ◌^◌, ◌++◌, ◌↔◌, IsTrue, false, IfSome, IfNone};
 ghost use Rattle.std.specs.Char.{is_ascii_digit};
 ghost use Rattle.journal_text.specs.Text.{number_then};

@@ -1,3 +1,4 @@
+//! A whole text as a list of steps.
 ghost use Rattle.std.specs.Prelude.{ℕ, List, ◌≡◌, ◌<◌, ◌≤◌, All, length, IfOk, IfErr, IsErrOf};
 ghost use Rattle.vlink.specs.declared.step.Step.{Step};
 ghost use Rattle.journal_text.specs.declared.fault.LinesFault.TheVariants.{TooMany, BadLine};

@@ -1,3 +1,4 @@
+//! One direction of a link as a process.
 ghost use Rattle.std.specs.Prelude.{◌≡◌, ◌+◌, ◌<◌, ◌≤◌, length};
 ghost use Rattle.std.specs.List.{list_any};
 ghost use Rattle.vlink.specs.Numbering.{greatest_number};

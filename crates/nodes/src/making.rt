@@ -1,3 +1,4 @@
+//! The virtual links of a node in their opening states.
 ghost use Rattle.std.specs.Prelude.{◌≡◌, All, map, IfOk};
 ghost use Rattle.netdesc.specs.Limits.{IsLinkInLimits};
 ghost use Rattle.nodes.specs.rules.Finding.{IsRising};

@@ -1,3 +1,4 @@
+//! Where a virtual link and a node meet.
 ghost use Rattle.std.specs.Prelude.{◌≡◌, ◌<◌, ◌≤◌, ◌++◌, ◌∷◌, All, length, map, take, drop, IfOk, OnOk};
 ghost use Rattle.std.specs.List.{flat_map};
 ghost use Rattle.netdesc.specs.declared.too_many.TheConstants.{GREATEST_PORTS};

@@ -1,3 +1,4 @@
+//! A process of the simulation: an end system, a switch or a line.
 ghost use Rattle.std.specs.Prelude.{◌≡◌, ◌+◌, ◌<◌, ◌≤◌};
 ghost use Rattle.vlink.specs.declared.time.TheConstants.{GREATEST_NS};
 ghost use Rattle.std.specs.Option.{option_copied};

@@ -1,3 +1,4 @@
+//! All processes of a network in their opening states.
 ghost use Rattle.std.specs.Prelude.{◌≡◌, ◌<◌, length, slice_get, IfOk};
 ghost use Rattle.netdesc.specs.declared.too_many.TheConstants.{GREATEST_PORTS};
 ghost use Rattle.netdesc.specs.Faults.{process_count};

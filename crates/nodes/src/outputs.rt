@@ -1,3 +1,4 @@
+//! The output ports of a virtual link at a switch.
 ghost use Rattle.std.specs.Prelude.{◌≡◌, ◌≤◌, length};
 ghost use Rattle.nodes.specs.rules.Outputs.{marked_from};
 

@@ -1,3 +1,4 @@
+//! The three kinds of node.
 ghost use Rattle.std.specs.Prelude.{◌≡◌, ℕ, ◌+◌, ◌≤◌, []};
 ghost use Rattle.vlink.specs.Numbering.{greatest_number};
 ghost use Rattle.std.specs.Option.{option_copied};

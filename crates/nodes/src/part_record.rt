@@ -1,3 +1,4 @@
+//! What a node keeps for the undo of an event.
 use bag_regulator::RegRecord;
 use output_port::{PortRecord, PutRecord};
 use policer::AccountRecord;

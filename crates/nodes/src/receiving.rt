@@ -1,3 +1,4 @@
+//! The checks of one virtual link at a receiver.
 ghost use Rattle.std.specs.Prelude.{◌≡◌, ◌<◌, length};
 ghost use Rattle.integrity.specs.Integrity.{integrity};
 ghost use Rattle.integrity.specs.declared.checking.Checked.TheVariants.{Passed};

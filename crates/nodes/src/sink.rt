@@ -1,3 +1,4 @@
+//! A virtual link where it ends.
 ghost use Rattle.nodes.specs.rules.EndSystem.{sink_number};
 
 use crate::finding::Numbered;

@@ -1,3 +1,4 @@
+//! A virtual link where it begins.
 ghost use Rattle.nodes.specs.rules.EndSystem.{source_number};
 
 use crate::finding::Numbered;

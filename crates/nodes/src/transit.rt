@@ -1,3 +1,4 @@
+//! A virtual link at a switch on its way.
 ghost use Rattle.nodes.specs.rules.Switch.{transit_number};
 
 use crate::finding::Numbered;

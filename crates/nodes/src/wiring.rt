@@ -1,3 +1,4 @@
+//! Which line each port leads into.
 ghost use Rattle.std.specs.Prelude.{◌≡◌, ℕ, ◌+◌, ◌<◌, ◌&&◌, None, Some, is_none, if◌then◌else◌, length, slice_index_or, vec_len, IfOk};
 ghost use Rattle.std.specs.Option.{option_map};
 ghost use Rattle.netdesc.specs.Lines.{lines_of};

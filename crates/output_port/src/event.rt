@@ -1,3 +1,4 @@
+//! What an output port is asked, what it answers, and what it keeps for an undo.
 use vlink::Frame;
 
 /// The priority of a frame at an output port.

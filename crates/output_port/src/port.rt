@@ -1,3 +1,4 @@
+//! An output port: two lists by priority, and a line that is free or busy.
 ghost use Rattle.std.specs.Prelude.{◌≡◌, ◌+◌, ◌*◌, ◌≤◌, ◌++◌, [], ◌∷◌, true, false, length, ⊤, IfOk};
 ghost use Rattle.std.proofs.Props.{props};
 ghost use Rattle.output_port.specs.Port.{PortState, opening, port, IsWithinBytes, put, put_answer, put_kept, free, free_answer, undone, waiting, with_waiting, waiting_bytes, may_wait, without_last};

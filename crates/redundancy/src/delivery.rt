@@ -1,3 +1,4 @@
+//! Redundancy management of one virtual link at one receiver.
 ghost use Rattle.std.specs.Prelude.{◌≡◌, ◌≤◌, ◌↔◌, None, IsSome, IfSome};
 ghost use Rattle.redundancy.specs.Redundancy.{is_delivered};
 

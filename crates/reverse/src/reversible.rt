@@ -1,3 +1,4 @@
+//! An element whose events can be undone.
 ghost use Rattle.std.specs.Prelude.{◌≡◌};
 ghost use Rattle.reverse.specs.Plain.{Plain, CameFrom, IsReversible};
 

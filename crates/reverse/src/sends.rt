@@ -1,3 +1,4 @@
+//! Room for what one event sends and notes.
 ghost use Rattle.std.specs.Prelude.{◌≡◌, []};
 
 use arrayvec::ArrayVec;

@@ -1,3 +1,4 @@
+//! A small actor that sums moments, for rows of data.
 ghost use Rattle.std.specs.Prelude.{◌≡◌, ◌<◌};
 ghost use Rattle.vlink.specs.declared.time.TheConstants.{GREATEST_NS};
 

@@ -1,3 +1,4 @@
+//! A virtual link and a node where it ends.
 ghost use Rattle.std.specs.Prelude.{◌≡◌};
 ghost use Rattle.trace_tables.specs.declared.destination.Destination.{Destination};
 ghost use Rattle.trace_tables.specs.Destinations.{destination_cmp};

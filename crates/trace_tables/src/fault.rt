@@ -1,3 +1,4 @@
+//! Why a text does not go out.
 use std::alloc::AllocError;
 use thiserror::Error;
 

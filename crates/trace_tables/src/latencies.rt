@@ -1,3 +1,4 @@
+//! The latencies of one virtual link at one destination.
 ghost use Rattle.std.specs.Prelude.{◌≡◌, ◌-◌, ◌^◌, ◌<◌, []};
 ghost use Rattle.trace_tables.specs.Latencies.{counts_of, with_latency};
 

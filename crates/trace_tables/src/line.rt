@@ -1,3 +1,4 @@
+//! Rows of comma-separated fields, laid out by a writer over a text.
 ghost use Rattle.std.specs.Prelude.{◌≡◌, ◌≢◌, ℕ, [], List, map, OnOk, IfOk, IfErr};
 ghost use Rattle.trace_tables.specs.declared.fault.OutFault.TheVariants.{Device};
 ghost use Rattle.trace_tables.specs.Text.{line};

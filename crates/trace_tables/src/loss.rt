@@ -1,3 +1,4 @@
+//! Frames that were dropped, by virtual link, place and cause.
 ghost use Rattle.std.specs.Prelude.{◌≡◌};
 ghost use Rattle.vlink.specs.declared.note.Cause.{Cause};
 ghost use Rattle.trace_tables.specs.declared.loss.Loss.{Loss};

@@ -1,3 +1,4 @@
+//! The names of processes.
 ghost use Rattle.std.specs.Prelude.{◌≡◌};
 ghost use Rattle.trace_tables.specs.Text.{place_name, cause_name};
 

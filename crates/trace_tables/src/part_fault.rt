@@ -1,3 +1,4 @@
+//! Why a part of the trace is not taken.
 use std::alloc::AllocError;
 use thiserror::Error;
 

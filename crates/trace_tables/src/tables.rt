@@ -1,3 +1,4 @@
+//! The tables of a run: latencies and losses.
 ghost use Rattle.std.specs.Prelude.{◌≡◌, IfOk};
 ghost use Rattle.trace_tables.specs.Tables.{tables_of};
 

@@ -1,3 +1,4 @@
+//! The lines of the tables, cell by cell. A new column begins here.
 ghost use Rattle.std.specs.Prelude.{◌≡◌, ◌≢◌, map, OnOk, IfErr};
 ghost use Rattle.std.specs.List.{flat_map};
 ghost use Rattle.trace_tables.specs.declared.fault.OutFault.TheVariants.{Device};

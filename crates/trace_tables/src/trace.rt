@@ -1,3 +1,4 @@
+//! The text of a trace.
 ghost use Rattle.std.specs.Prelude.{◌≡◌, ◌≢◌, [], ◌∷◌, decimal, OnOk, IfErr};
 ghost use Rattle.std.specs.List.{flat_map};
 ghost use Rattle.trace_tables.specs.declared.fault.OutFault.TheVariants.{Device};

@@ -1,3 +1,4 @@
+//! Why a trace is not written.
 use crate::fault::OutFault;
 use crate::part_fault::PartFault;
 use thiserror::Error;

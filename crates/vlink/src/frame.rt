@@ -1,3 +1,4 @@
+//! Frames, their sizes and the numbers of virtual links.
 ghost use Rattle.std.specs.Prelude.{◌≡◌, ℕ, ◌≤◌, ◌↔◌, IsSome, IfSome};
 
 use crate::time::Time;

@@ -1,3 +1,4 @@
+//! Messages between processes.
 ghost use Rattle.std.specs.Prelude.{◌≡◌};
 ghost use Rattle.vlink.specs.declared.message.Body.TheVariants.{PortFree};
 

@@ -1,3 +1,4 @@
+//! What a process notes of a frame: delivered, or dropped and why.
 ghost use Rattle.std.specs.Prelude.{◌≡◌};
 ghost use Rattle.vlink.specs.declared.note.Note.TheVariants.{Delivered};
 

@@ -1,3 +1,4 @@
+//! Sequence numbers of frames.
 ghost use Rattle.std.specs.Prelude.{◌≡◌};
 ghost use Rattle.vlink.specs.Numbering.{next_number, steps_between};
 

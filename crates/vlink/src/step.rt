@@ -1,3 +1,4 @@
+//! The steps of a parallel run.
 /// One step of a parallel run, as its journal has it. Processes are told by their numbers; a number that no process has names none.
 #[derive(Clone, Copy, Debug, PartialEq, Eq)]
 pub enum Step {

@@ -1,3 +1,4 @@
+//! Moments, in ns.
 ghost use Rattle.std.specs.Prelude.{◌≡◌, ℕ, ◌≤◌, ◌↔◌, IsSome, IfSome};
 ghost use Rattle.vlink.specs.Moment.{latest_end, greatest_moment};
 

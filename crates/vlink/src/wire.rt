@@ -1,3 +1,4 @@
+//! How long frames take on a wire.
 ghost use Rattle.std.specs.Prelude.{◌≡◌, ◌≤◌};
 ghost use Rattle.vlink.specs.Wire.{last_bit_after, busy_for};
 

@@ -1,3 +1,4 @@
+//! Done events as plain vectors: the second body, for comparison.
 ghost use Rattle.std.specs.Prelude.{◌≡◌, ◌+◌, ◌<◌, ◌≤◌, false, IsSome, length, vec_len, vec_capacity};
 ghost use Rattle.std.specs.VecDeque.{deque_len, deque_capacity};
 ghost use Rattle.vlink.specs.Numbering.{greatest_number};

@@ -1,3 +1,4 @@
+//! A process over a sorted tally: the second body, for comparison.
 use super::past::Past;
 use super::tally::Tally;
 use crate::Summing;

@@ -1,3 +1,4 @@
+//! A tally as a sorted vector: the second body, for comparison.
 use super::counted::{change_at, count_of, first_plus, opposite, place_of_one, stands_at};
 use super::ends::{put_in, take_at, take_out};
 use super::sorted::{place_after, place_behind, place_of, place_to_enter};
