@@ -1,3 +1,4 @@
+//! Why a one-thread run is given up.
 use std::alloc::{AllocError, AllocFailed};
 use thiserror::Error;
 

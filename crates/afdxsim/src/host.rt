@@ -1,3 +1,4 @@
+//! What the program reaches outside itself.
 ghost use Rattle.std.specs.Prelude.{◌≡◌, ℕ, [], List, Option, IfOk, IfErr, IfSome, OnOk};
 ghost use Rattle.std.specs.Borrow.{sem, Lends};
 ghost use Rattle.afdxsim.specs.declared.host.ReadFault.TheVariants.{Device};

@@ -1,3 +1,4 @@
+//! The mail: a box of letters for each process.
 ghost use Rattle.std.specs.Prelude.{◌≡◌, ◌≢◌, ℕ, ◌<◌, ◌≤◌, [], ◌++◌, length, map, remove, slice_get, All, IsOk, OnOk, OnErr, IfOk};
 ghost use Rattle.std.specs.Option.{option_map};
 ghost use Rattle.virtual_time.specs.Letters.{received_by};

@@ -1,3 +1,4 @@
+//! The outbox of a process.
 ghost use Rattle.std.specs.Prelude.{◌≡◌, ◌+◌, ◌<◌, ◌≤◌, ◌↔◌, [], ◌∷◌, ◌++◌, map, All, IsTrue, IsOk, IfOk, OnOk, OnErr};
 ghost use Rattle.virtual_time.specs.Letters.{plus_of};
 ghost use Rattle.antimessages.specs.Letters.{signed};

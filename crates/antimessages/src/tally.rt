@@ -1,3 +1,4 @@
+//! The tally of a process: the signed count of each message.
 ghost use Rattle.std.specs.Prelude.{◌≡◌, ◌≢◌, ◌↔◌, ◌+◌, [], List, IsTrue, pos, ◌+ℤ◌, Some, OnOk, OnErr, IfOk, false, not};
 ghost use Rattle.std.specs.Option.{MatchOption, option_copied};
 ghost use Rattle.vlink.specs.declared.message.Message.{Message};

@@ -1,3 +1,4 @@
+//! The floors of all processes.
 ghost use Rattle.std.specs.Prelude.{◌≡◌, ◌≢◌, ℕ, ◌+◌, ◌<◌, min, replicate, length, slice_get, slice_index, slice_set, IsOk, IfOk};
 ghost use Rattle.std.specs.Option.{option_map};
 ghost use Rattle.vlink.specs.declared.time.TheConstants.{GREATEST_NS};

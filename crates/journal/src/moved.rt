@@ -1,3 +1,4 @@
+//! The steps that a process does alone.
 /// A step that a process does alone.
 #[derive(Clone, Copy, Debug, PartialEq, Eq)]
 pub enum Moved {

@@ -1,3 +1,4 @@
+//! The names of nodes, and their numbers.
 ghost use Rattle.std.specs.Prelude.{◌≡◌, IfOk, IfSome, is_some};
 ghost use Rattle.netdesc.specs.Names.{names_of, is_among, place_among, number_of};
 ghost use Rattle.netdesc.specs.Code.Finding.{AreNumbers};

@@ -1,3 +1,4 @@
+//! The network that an accepted description gives.
 ghost use Rattle.std.specs.Prelude.{◌≡◌, ◌*◌, ◌<◌, ◌≤◌, true, Some, length, slice_get, IfOk, IfErr};
 ghost use Rattle.network_rows.specs.declared.fault.DescFault.TheVariants.{OutOfMemory};
 ghost use Rattle.std.specs.List.Sorted.{IsStrictlyIncreasing};

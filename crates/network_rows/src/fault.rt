@@ -1,3 +1,4 @@
+//! Why a description is refused, and where.
 use crate::key::{Key, Section};
 use std::alloc::{AllocError, AllocFailed};
 use thiserror::Error;

@@ -1,3 +1,4 @@
+//! The first fault of a document, sort by sort.
 ghost use Rattle.std.specs.Prelude.{◌≡◌};
 ghost use Rattle.network_rows.specs.Firsts.{nowhere, noted, told};
 

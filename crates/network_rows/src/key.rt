@@ -1,3 +1,4 @@
+//! Sections, keys and words of a description.
 ghost use Rattle.std.specs.Prelude.{◌≡◌};
 ghost use Rattle.network_rows.specs.Keys.{key_text, section_text, word_text};
 

@@ -1,3 +1,4 @@
+//! The name of a node.
 ghost use Rattle.std.specs.Prelude.{◌≡◌, string_bytes};
 
 use std::marker::Model;

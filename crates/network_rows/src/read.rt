@@ -1,3 +1,4 @@
+//! From the text of a description to its rows.
 ghost use Rattle.std.specs.Prelude.{◌≡◌, IfOk, IfErr};
 ghost use Rattle.network_rows.specs.declared.rows.Rows.{Rows};
 ghost use Rattle.network_rows.specs.Faults.{faults_of_text, IsFirstFault};

@@ -1,3 +1,4 @@
+//! The rows of a description, section by section.
 use crate::name::Name;
 use crate::paths::Paths;
 use crate::sequence::Sequence;

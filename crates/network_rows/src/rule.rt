@@ -1,3 +1,4 @@
+//! What a line of the table of keys says.
 use crate::key::{Key, Word};
 
 /// Which rows have a key.

@@ -1,3 +1,4 @@
+//! Lists of values in a description.
 ghost use Rattle.std.specs.Prelude.{◌≡◌, List};
 
 use std::marker::Model;

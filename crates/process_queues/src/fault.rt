@@ -1,3 +1,4 @@
+//! Why a process refuses a call.
 use std::alloc::AllocError;
 use thiserror::Error;
 

@@ -1,3 +1,4 @@
+//! The done events of a process.
 ghost use Rattle.std.specs.Prelude.{◌≡◌, ◌+◌, ◌<◌, ◌≤◌, ◌-◌, List, [], ◌∷◌, ◌++◌, ◌↔◌, length, map, take, drop, reverse, vec_len, vec_capacity, IsTrue, OnOk, OnErr, IfErr, slice_get};
 ghost use Rattle.std.specs.Option.{option_map, option_copied};
 ghost use Rattle.std.specs.VecDeque.{deque_len, deque_capacity};

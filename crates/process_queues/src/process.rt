@@ -1,3 +1,4 @@
+//! A process that runs ahead and rolls back.
 ghost use Rattle.std.specs.Prelude.{◌≡◌, ◌≢◌, ◌+◌, ◌<◌, ◌≤◌, ◌^◌, ◌-◌, ◌↔◌, [], ◌∷◌, ◌++◌, ℕ, length, map, min, take, drop, All, IsTrue, IsOk, OnOk, OnErr, IfOk, IfErr, slice_get};
 ghost use Rattle.std.specs.Option.{option_map};
 ghost use Rattle.std.specs.VecDeque.{deque_len, deque_capacity};
