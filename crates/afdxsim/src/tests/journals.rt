@@ -38,6 +38,7 @@ n1 => T 0 4294967295;T 4294967295 0;A 0;A 4294967295;R 0;R 4294967295;P 0;P 4294
 n1 => + 4 x [[node]];name = 'E#';kind = 'es';port_bytes = 4096; => R 10;R 11;P 9;P 10;P 11;P 100; => 2 did, 1 not enabled, 3 refused, gvt 0, unfinished;latency,1,ES2,,0,0,0,0;
 n1 => until_ns = 2000000 -> until_ns = 10000000 => period_ns = 1000000000000 -> period_ns = 1000 => T 0 10001;T 0 10000;T 0 10000;T 0 9999;T 0 9999; + 9898 x T 0 0; + T 0 101;T 0 100;T 0 100; => 9901 did, 5 not enabled, 0 refused, gvt 0, unfinished;latency,1,ES2,,0,0,0,0;
 empty => x; => description: 2 Missing at top until_ns
+endless => G; => out of memory
 n1 => G;C 0;G 0;x; => journal line 3
 n1 => G;x; => journal line 2
 n1 => G;G => journal line 2
@@ -111,12 +112,13 @@ fn is_told<T: Threads + Wait + Sync>(rt: &T, alloc: Global, row: &str) -> Result
     let steps = steps_of(alloc, steps)?;
     let Some((line, tables)) = told.split_once(';') else {
         let line = format!(in alloc; "afdxsim: {told}\n")?;
+        let status = if told == "out of memory" { 5 } else { 3 };
         return replays(
             rt,
             alloc,
             net.as_str(),
             steps.as_str(),
-            3,
+            status,
             "",
             line.as_str(),
         );

@@ -1,7 +1,7 @@
 //! Runs by workers, held against the one-thread run, and against a replay of their journals.
+use super::changes::changed;
 use super::host::{MemoryHost, status_of_text};
 use super::meetings;
-use super::networks::network;
 use std::alloc::Global;
 use std::str;
 use std::sync::Wait;
@@ -14,39 +14,43 @@ const FILES: &str = "
  --journal journal.txt
  --journal journal.txt --trace trace.csv";
 
-/// A network, and the words behind `run net.toml` that set the pace.
+/// A network, what it differs by, and the words behind `run net.toml` that set the pace.
 const ROWS: &str = "
 n1 => --workers 1
+n1 => until_ns = 2000000 -> until_ns = 1000000000000000 => offset_ns = 0 -> offset_ns = 999999999972280 => --workers 1
+n1 => until_ns = 2000000 -> until_ns = 1000000000000000 => offset_ns = 0 -> offset_ns = 999999999972280 => --workers 2
+n1 => until_ns = 2000000 -> until_ns = 1000000000000000 => offset_ns = 0 -> offset_ns = 999999999972281 => --workers 1
+n1 => until_ns = 2000000 -> until_ns = 1000000000000000 => offset_ns = 0 -> offset_ns = 999999999972281 => --workers 2 --window 1000000000000000
 n2 => --workers 1
 n2 => --workers 2
 n2 => --workers 8
 n2 => --workers 1 --turn 1 --window 1
 n2 => --workers 1 --turn 1 --window 1000000
-n2 => --workers 1 --turn 1 --window 1000000000000
+n2 => --workers 1 --turn 1 --window 1000000000000000
 n2 => --workers 1 --turn 16 --window 1
 n2 => --workers 1 --turn 16 --window 1000000
-n2 => --workers 1 --turn 16 --window 1000000000000
+n2 => --workers 1 --turn 16 --window 1000000000000000
 n2 => --workers 1 --turn 256 --window 1
 n2 => --workers 1 --turn 256 --window 1000000
-n2 => --workers 1 --turn 256 --window 1000000000000
+n2 => --workers 1 --turn 256 --window 1000000000000000
 n2 => --workers 2 --turn 1 --window 1
 n2 => --workers 2 --turn 1 --window 1000000
-n2 => --workers 2 --turn 1 --window 1000000000000
+n2 => --workers 2 --turn 1 --window 1000000000000000
 n2 => --workers 2 --turn 16 --window 1
 n2 => --workers 2 --turn 16 --window 1000000
-n2 => --workers 2 --turn 16 --window 1000000000000
+n2 => --workers 2 --turn 16 --window 1000000000000000
 n2 => --workers 2 --turn 256 --window 1
 n2 => --workers 2 --turn 256 --window 1000000
-n2 => --workers 2 --turn 256 --window 1000000000000
+n2 => --workers 2 --turn 256 --window 1000000000000000
 n2 => --workers 8 --turn 1 --window 1
 n2 => --workers 8 --turn 1 --window 1000000
-n2 => --workers 8 --turn 1 --window 1000000000000
+n2 => --workers 8 --turn 1 --window 1000000000000000
 n2 => --workers 8 --turn 16 --window 1
 n2 => --workers 8 --turn 16 --window 1000000
-n2 => --workers 8 --turn 16 --window 1000000000000
+n2 => --workers 8 --turn 16 --window 1000000000000000
 n2 => --workers 8 --turn 256 --window 1
 n2 => --workers 8 --turn 256 --window 1000000
-n2 => --workers 8 --turn 256 --window 1000000000000
+n2 => --workers 8 --turn 256 --window 1000000000000000
 n3 => --workers 2 --turn 256 --window 1
 top => --workers 8
 ";
@@ -54,8 +58,8 @@ top => --workers 8
 #[test]
 fn a_run_by_workers_is_that_of_one_thread(rt: HostRuntime) -> Result<(), Fail> {
     for row in ROWS.lines() {
-        if let Some((name, pace)) = row.split_once(" => ") {
-            assert!(rt; is_as_seq(&rt, rt.alloc(), name, pace)?, "{row}");
+        if !row.is_empty() {
+            assert!(rt; is_as_seq(&rt, rt.alloc(), row)?, "{row}");
         }
     }
     for row in meetings::ROWS.lines() {
@@ -74,14 +78,10 @@ struct Wanted {
     trace: Vec<u8>,
 }
 
-// With this pace the run prints and writes what `seq` does, whatever files are asked for.
-fn is_as_seq<T: Threads + Wait + Sync>(
-    rt: &T,
-    alloc: Global,
-    name: &str,
-    pace: &str,
-) -> Result<bool, Fail> {
-    let wanted = wanted_of(rt, alloc, name)?;
+// With the row's pace the run prints and writes what `seq` does, whatever files are asked for.
+fn is_as_seq<T: Threads + Wait + Sync>(rt: &T, alloc: Global, row: &str) -> Result<bool, Fail> {
+    let (net, pace) = changed(alloc, row)?;
+    let wanted = wanted_of(rt, alloc, net)?;
     for files in FILES.lines() {
         let words = format!(in alloc; "run net.toml {pace}{files}")?;
         if !is_wanted(rt, alloc, &wanted, words.as_str())? {
@@ -91,8 +91,7 @@ fn is_as_seq<T: Threads + Wait + Sync>(
     Ok(true)
 }
 
-fn wanted_of<T: Threads + Wait + Sync>(rt: &T, alloc: Global, name: &str) -> Result<Wanted, Fail> {
-    let net = network(alloc, name)?;
+fn wanted_of<T: Threads + Wait + Sync>(rt: &T, alloc: Global, net: String) -> Result<Wanted, Fail> {
     let words = "seq net.toml --trace trace.csv";
     let seq = done(rt, alloc, net.as_str(), words, None)?;
     let trace = seq.trace();

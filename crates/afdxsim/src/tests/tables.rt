@@ -62,6 +62,18 @@ n1 => until_ns = 2000000 -> until_ns = 1100000 => period_ns = 1000000000000 -> p
     => latency,1,ES2,,2,27720,627720,655440;
     trace 27720,ES2,1,delivered,27720;1027720,ES2,1,delivered,627720;
 
+n1 => until_ns = 2000000 -> until_ns = 1100000 => period_ns = 1000000000000 -> period_ns = 400000 => depth = 16 -> depth = 16;sub = 2
+    => latency,1,ES2,,2,27720,627720,655440;
+    trace 27720,ES2,1,delivered,27720;1027720,ES2,1,delivered,627720;
+
+n1 => until_ns = 2000000 -> until_ns = 1000000000000000 => offset_ns = 0 -> offset_ns = 999999999972280
+    => latency,1,ES2,,1,27720,27720,27720;
+    trace 1000000000000000,ES2,1,delivered,27720;
+
+n1 => until_ns = 2000000 -> until_ns = 1000000000000000 => offset_ns = 0 -> offset_ns = 999999999972281
+    => latency,1,ES2,,0,0,0,0;
+    trace
+
 n1 => until_ns = 2000000 -> until_ns = 1100000 => period_ns = 1000000000000 -> period_ns = 1000000
     => latency,1,ES2,,2,27720,27720,55440;
     trace 27720,ES2,1,delivered,27720;1027720,ES2,1,delivered,27720;
@@ -178,8 +190,8 @@ n1 => offset_ns = 0 -> offset_ns = 2000001 => ok: 7 processes, 1 virtual links, 
 n1 => until_ns = 2000000 -> until_ns = 1100000 => period_ns = 1000000000000 -> period_ns = 400000
     => ok: 7 processes, 1 virtual links, 3 offers
 
-n1 => until_ns = 2000000 -> until_ns = 1000000000000 => period_ns = 1000000000000 -> period_ns = 1000
-    => ok: 7 processes, 1 virtual links, 1000000001 offers
+n1 => until_ns = 2000000 -> until_ns = 1000000000000000 => period_ns = 1000000000000 -> period_ns = 1000
+    => ok: 7 processes, 1 virtual links, 1000000000001 offers
 
 n1 => until_ns = 2000000 -> until_ns = 458 => id = 1 -> id = 54 => period_ns = 1000000000000 -> period_ns = 1000
     => ;jitter_ns = 0 -> ;jitter_ns = 5000 => ok: 7 processes, 1 virtual links, 0 offers

@@ -24,6 +24,11 @@ n1 => seq --trace=t.csv net.toml => 4 => afdxsim: cannot write t.csv;
 n1 => seq net.toml --trace= => 4 => afdxsim: cannot write ;
 n1 => seq n.toml --trace t.csv => 4 => afdxsim: cannot read n.toml;
 n1 => run net.toml => 0 => latency,1,ES2,,1,27720,27720,27720;
+endless => check net.toml => 0 => ok: 12 processes, 20 virtual links, 20000000000020 offers;
+endless => seq net.toml => 5 => afdxsim: out of memory;
+endless => seq net.toml --trace trace.csv => 5 => afdxsim: out of memory;
+endless => run net.toml => 5 => afdxsim: out of memory;
+endless => run net.toml --journal journal.txt --trace trace.csv => 5 => afdxsim: out of memory;
 n1 => run net.toml --journal t.txt => 4 => afdxsim: cannot write t.txt;
 n1 => run net.toml --trace t.csv => 4 => afdxsim: cannot write t.csv;
 n1 => run no.toml => 4 => afdxsim: cannot read no.toml;
@@ -38,7 +43,7 @@ n1 => run x --turn 0 => 2 => error: invalid value '0' for '--turn <N>'
 n1 => run x --turn 257 => 2 => error: invalid value '257' for '--turn <N>'
 n1 => run x --turn 1.5 => 2 => error: invalid value '1.5' for '--turn <N>'
 n1 => run x --window 0 => 2 => error: invalid value '0' for '--window <NS>'
-n1 => run x --window 1000000000001 => 2 => error: invalid value '1000000000001' for '--window <NS>'
+n1 => run x --window 1000000000000001 => 2 => error: invalid value '1000000000000001' for '--window <NS>'
 n1 => run x --window 18446744073709551617 => 2 => error: invalid value '18446744073709551617' for '--window <NS>'
 n1 => run x --window x => 2 => error: invalid value 'x' for '--window <NS>'
 n1 => run x --workers => 2 => error: a value is required for '--workers <N>' but none was supplied
@@ -64,7 +69,7 @@ n1 => -V => 0 => afdxsim 0.1.0;
 n1 => check --version => 2 => error: unexpected argument '--version' found
 n1 => check --help => 0 => Usage: afdxsim check <NET>
 n1 => seq --help => 0 => Usage: afdxsim seq [OPTIONS] <NET> | --trace <FILE>
-n1 => run --help => 0 => Usage: afdxsim run [OPTIONS] <NET> | --workers <N> | [default: 4] | --turn <N> | [default: 16] | --window <NS> | [default: 1000000] | --journal <FILE> | --trace <FILE>
+n1 => run --help => 0 => Usage: afdxsim run [OPTIONS] <NET> | --workers <N> | [default: 4] | --turn <N> | [default: 16] | --window <NS> | 1 to 1000000000000000 [default: 1000000] | --journal <FILE> | --trace <FILE>
 n1 => replay --help => 0 => Usage: afdxsim replay <NET> <STEPS>
 ";
 
@@ -76,7 +81,7 @@ run x --workers 64 => Run(Run { net: "x", workers: 64, turn: 16, window_ns: 1000
 run x --turn 1 => Run(Run { net: "x", workers: 4, turn: 1, window_ns: 1000000, journal: None, trace: None })
 run x --turn 256 => Run(Run { net: "x", workers: 4, turn: 256, window_ns: 1000000, journal: None, trace: None })
 run x --window 1 => Run(Run { net: "x", workers: 4, turn: 16, window_ns: 1, journal: None, trace: None })
-run x --window 1000000000000 => Run(Run { net: "x", workers: 4, turn: 16, window_ns: 1000000000000, journal: None, trace: None })
+run x --window 1000000000000000 => Run(Run { net: "x", workers: 4, turn: 16, window_ns: 1000000000000000, journal: None, trace: None })
 run n.toml --workers 8 --turn 32 --window 500 --journal j.txt --trace t.csv => Run(Run { net: "n.toml", workers: 8, turn: 32, window_ns: 500, journal: Some("j.txt"), trace: Some("t.csv") })
 "#;
 

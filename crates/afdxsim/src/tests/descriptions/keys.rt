@@ -80,6 +80,9 @@ n1 => "low" -> 0 => 3 WrongKind at vl 1 priority
 n1 => policing_jitter_ns = 0 -> policing_jitter_ns = false => 3 WrongKind at vl 1 policing_jitter_ns
 n1 => skew_max_ns = 1000000 -> skew_max_ns = [] => 3 WrongKind at vl 1 skew_max_ns
 n1 => depth = 16 -> depth = {} => 3 WrongKind at vl 1 depth
+n1 => depth = 16 -> depth = 16;sub = "1" => 3 WrongKind at vl 1 sub
+n1 => depth = 16 -> depth = 16;policing = 1 => 3 WrongKind at vl 1 policing
+n1 => depth = 16 -> depth = 16;policing = ["frames"] => 3 WrongKind at vl 1 policing
 n1 => ;size = 64 -> ;size = 64.0 => 3 WrongKind at vl 1 size
 n1 => offset_ns = 0 -> offset_ns = 07:32:00 => 3 WrongKind at vl 1 offset_ns
 n1 => period_ns = 1000000000000 -> period_ns = 1e12 => 3 WrongKind at vl 1 period_ns
@@ -103,10 +106,11 @@ top => + vl = ["a", 1]; => 3 WrongKind at vl 1
 /// The top table and the nodes, at each end of their limits and beyond.
 pub const LIMITS: &str = r#"
 n1 => 2000000 -> 1 => ok: 7 processes, 1 virtual links, 1 offers
-n1 => 2000000 -> 1000000000000 => ok: 7 processes, 1 virtual links, 2 offers
+n1 => 2000000 -> 1000000000001 => ok: 7 processes, 1 virtual links, 2 offers
+n1 => 2000000 -> 1000000000000000 => ok: 7 processes, 1 virtual links, 1001 offers
 n1 => 2000000 -> 0 => 4 OutOfLimit at top until_ns
 n1 => 2000000 -> -1 => 4 OutOfLimit at top until_ns
-n1 => 2000000 -> 1000000000001 => 4 OutOfLimit at top until_ns
+n1 => 2000000 -> 1000000000000001 => 4 OutOfLimit at top until_ns
 n1 => = 42 -> = 0 => ok: 7 processes, 1 virtual links, 1 offers
 n1 => = 42 -> = 9223372036854775807 => ok: 7 processes, 1 virtual links, 1 offers
 n1 => = 42 -> = -1 => 4 OutOfLimit at top seed
@@ -151,11 +155,11 @@ n1 => b = "SW1" -> b = "" => 5 UnknownName at link 1 b
 n1 => b = "SW1" -> b = "no such node" => 5 UnknownName at link 1 b
 n1 => + [[outage]];from = "";to = "SW1";from_ns = 0;to_ns = 1; => 5 UnknownName at outage 1 from
 n1 => + [[outage]];from = "ES1";to = "SW1";from_ns = 0;to_ns = 1; => ok: 7 processes, 1 virtual links, 1 offers
-n1 => + [[outage]];from = "ES1";to = "SW1";from_ns = 999999999999;to_ns = 1000000000000; => ok: 7 processes, 1 virtual links, 1 offers
+n1 => + [[outage]];from = "ES1";to = "SW1";from_ns = 999999999999999;to_ns = 1000000000000000; => ok: 7 processes, 1 virtual links, 1 offers
 n1 => + [[outage]];from = "ES1";to = "SW1";from_ns = -1;to_ns = 1; => 4 OutOfLimit at outage 1 from_ns
 n1 => + [[outage]];from = "ES1";to = "SW1";from_ns = -7;to_ns = -6; => 4 OutOfLimit at outage 1 from_ns
-n1 => + [[outage]];from = "ES1";to = "SW1";from_ns = 1000000000001;to_ns = 1000000000000; => 4 OutOfLimit at outage 1 from_ns
-n1 => + [[outage]];from = "ES1";to = "SW1";from_ns = 0;to_ns = 1000000000001; => 4 OutOfLimit at outage 1 to_ns
+n1 => + [[outage]];from = "ES1";to = "SW1";from_ns = 1000000000000001;to_ns = 1000000000000000; => 4 OutOfLimit at outage 1 from_ns
+n1 => + [[outage]];from = "ES1";to = "SW1";from_ns = 0;to_ns = 1000000000000001; => 4 OutOfLimit at outage 1 to_ns
 n1 => + [[outage]];from = "ES1";to = "SW1";from_ns = 5;to_ns = 5; => 4 OutOfLimit at outage 1 to_ns
 n1 => + [[outage]];from = "ES1";to = "SW1";from_ns = 6;to_ns = 5; => 4 OutOfLimit at outage 1 to_ns
 n1 => + [[outage]];from = "ES1";to = "SW1";from_ns = 0;to_ns = 0; => 4 OutOfLimit at outage 1 to_ns
@@ -189,6 +193,11 @@ n1 => "low" -> "" => 4 OutOfLimit at vl 1 priority
 n1 => policing_jitter_ns = 0 -> policing_jitter_ns = 1000000000 => ok: 7 processes, 1 virtual links, 1 offers
 n1 => policing_jitter_ns = 0 -> policing_jitter_ns = -1 => 4 OutOfLimit at vl 1 policing_jitter_ns
 n1 => policing_jitter_ns = 0 -> policing_jitter_ns = 1000000001 => 4 OutOfLimit at vl 1 policing_jitter_ns
+n1 => depth = 16 -> depth = 16;policing = "bytes" => ok: 7 processes, 1 virtual links, 1 offers
+n1 => depth = 16 -> depth = 16;policing = "frames" => ok: 7 processes, 1 virtual links, 1 offers
+n1 => depth = 16 -> depth = 16;policing = "packets" => 4 OutOfLimit at vl 1 policing
+n1 => depth = 16 -> depth = 16;policing = "Frames" => 4 OutOfLimit at vl 1 policing
+n1 => depth = 16 -> depth = 16;policing = "" => 4 OutOfLimit at vl 1 policing
 n1 => skew_max_ns = 1000000 -> skew_max_ns = 0 => ok: 7 processes, 1 virtual links, 1 offers
 n1 => skew_max_ns = 1000000 -> skew_max_ns = 1000000000 => ok: 7 processes, 1 virtual links, 1 offers
 n1 => skew_max_ns = 1000000 -> skew_max_ns = -1 => 4 OutOfLimit at vl 1 skew_max_ns
@@ -197,17 +206,23 @@ n1 => depth = 16 -> depth = 1 => ok: 7 processes, 1 virtual links, 1 offers
 n1 => depth = 16 -> depth = 1024 => ok: 7 processes, 1 virtual links, 1 offers
 n1 => depth = 16 -> depth = 0 => 4 OutOfLimit at vl 1 depth
 n1 => depth = 16 -> depth = 1025 => 4 OutOfLimit at vl 1 depth
+n1 => depth = 16 -> depth = 16;sub = 1 => ok: 7 processes, 1 virtual links, 1 offers
+n1 => depth = 16 -> depth = 16;sub = 4 => ok: 7 processes, 1 virtual links, 1 offers
+n1 => depth = 16 -> depth = 16;sub = 0 => 4 OutOfLimit at vl 1 sub
+n1 => depth = 16 -> depth = 16;sub = 5 => 4 OutOfLimit at vl 1 sub
+n1 => depth = 16 -> depth = 16;sub = -1 => 4 OutOfLimit at vl 1 sub
 n1 => ;size = 64 -> ;size = 1518 => ok: 7 processes, 1 virtual links, 1 offers
 n1 => ;size = 64 -> ;size = 63 => 4 OutOfLimit at vl 1 size
 n1 => ;size = 64 -> ;size = 1519 => 4 OutOfLimit at vl 1 size
 n1 => offset_ns = 0 -> offset_ns = 2000000 => ok: 7 processes, 1 virtual links, 1 offers
 n1 => offset_ns = 0 -> offset_ns = 2000001 => ok: 7 processes, 1 virtual links, 0 offers
-n1 => 2000000 -> 1000000000000 => offset_ns = 0 -> offset_ns = 1000000000000 => ok: 7 processes, 1 virtual links, 1 offers
+n1 => 2000000 -> 1000000000000000 => offset_ns = 0 -> offset_ns = 1000000000000000 => ok: 7 processes, 1 virtual links, 1 offers
 n1 => offset_ns = 0 -> offset_ns = -1 => 4 OutOfLimit at vl 1 offset_ns
-n1 => offset_ns = 0 -> offset_ns = 1000000000001 => 4 OutOfLimit at vl 1 offset_ns
+n1 => offset_ns = 0 -> offset_ns = 1000000000000001 => 4 OutOfLimit at vl 1 offset_ns
 n1 => 2000000 -> 10000000 => period_ns = 1000000000000 -> period_ns = 1000 => ok: 7 processes, 1 virtual links, 10001 offers
 n1 => period_ns = 1000000000000 -> period_ns = 999 => 4 OutOfLimit at vl 1 period_ns
-n1 => period_ns = 1000000000000 -> period_ns = 1000000000001 => 4 OutOfLimit at vl 1 period_ns
+n1 => 2000000 -> 1000000000000000 => period_ns = 1000000000000 -> period_ns = 1000000000000000 => ok: 7 processes, 1 virtual links, 2 offers
+n1 => period_ns = 1000000000000 -> period_ns = 1000000000000001 => 4 OutOfLimit at vl 1 period_ns
 n1 => 2000000 -> 1000000000 => ;jitter_ns = 0 -> ;jitter_ns = 1000000000 => ok: 7 processes, 1 virtual links, 1 offers
 n1 => ;jitter_ns = 0 -> ;jitter_ns = -1 => 4 OutOfLimit at vl 1 jitter_ns
 n1 => ;jitter_ns = 0 -> ;jitter_ns = 1000000001 => 4 OutOfLimit at vl 1 jitter_ns

@@ -59,6 +59,15 @@ top => + node = [{ name = 1, kind = "es", port_bytes = 1518 }, 7]; => 3 WrongKin
 n1 => "ES2" -> 2 => "ES1" -> 1 => 3 WrongKind at node 1 name
 n1 => = 4096 -> = "" => "ES1" -> 1 => 3 WrongKind at node 1 name
 n1 => depth = 16 -> depth = 0 => smax = 64 -> smax = 0 => 4 OutOfLimit at vl 1 smax
+n1 => depth = 16 -> sub = 2 => 2 Missing at vl 1 depth
+n1 => depth = 16 -> sub = 0;depth = 0 => 4 OutOfLimit at vl 1 depth
+n1 => depth = 16 -> sub = "";depth = "" => 3 WrongKind at vl 1 depth
+n1 => depth = 16 -> depth = 16;sub = 0 => ;size = 64 -> ;size = 0 => 4 OutOfLimit at vl 1 sub
+n1 => depth = 16 -> depth = 16;sub = "" => ;size = 64 -> ;size = "" => 3 WrongKind at vl 1 sub
+n1 => skew_max_ns = 1000000 -> skew_max_ns = -1;policing = "" => 4 OutOfLimit at vl 1 policing
+n1 => skew_max_ns = 1000000 -> skew_max_ns = "";policing = 1 => 3 WrongKind at vl 1 policing
+n1 => policing_jitter_ns = 0 -> policing = "";policing_jitter_ns = -1 => 4 OutOfLimit at vl 1 policing_jitter_ns
+n1 => policing_jitter_ns = 0 -> policing = 1;policing_jitter_ns = "" => 3 WrongKind at vl 1 policing_jitter_ns
 n1 => b = [] -> b = [[]] => ;jitter_ns = 0 -> ;jitter_ns = -1 => 4 OutOfLimit at vl 1 jitter_ns
 n1 => b = [] -> b = [[]] => [["ES1", "SW1", "ES2"]] -> [[]] => 4 OutOfLimit at vl 1 a
 n1 => b = "ES2" -> b = "ES9" => a = "ES1" -> a = "ES8" => 5 UnknownName at link 1 a

@@ -21,6 +21,8 @@ n1 => 4096 -> 4096;latency_ns = [] => 5 UnknownName at node 1
 n1 => 16000 -> 16000;ports = 2 => 5 UnknownName at node 3
 n1 => mbit = 100 -> mbit = 100;colour = 1 => 5 UnknownName at link 1
 n1 => mbit = 100 -> mbit = 100;name = "" => 5 UnknownName at link 1
+n1 => mbit = 100 -> mbit = 100;sub = 1 => 5 UnknownName at link 1
+n1 => 4096 -> 4096;policing = "bytes" => 5 UnknownName at node 1
 n1 => + [[outage]];from = "ES1";to = "SW1";from_ns = 0;to_ns = 1;at_ns = 1; => 5 UnknownName at outage 1
 n1 => id = 1 -> id = 1;colour = 1 => 5 UnknownName at vl 1
 n1 => depth = 16 -> depth = 16;deep = 1 => 5 UnknownName at vl 1
