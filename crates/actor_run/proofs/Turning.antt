@@ -1,12 +1,13 @@
 -- One turn of the one-thread run, over actors, a heap of messages and rows.
-use Rattle.std.proofs.Common.{◌≡◌, ℕ, suc, ◌<◌, ◌⊎◌, inl, inr, List, [], ◌∷◌, ◌++◌, ◌∙◌, Some, map, length, slice_get, get_or, All, false, IsPermutation, refl, sym, ap, subst, arith}
+use Rattle.std.proofs.Common.{◌≡◌, ℕ, zero, suc, ◌+◌, ◌≤◌, ◌<◌, ◌⊎◌, inl, inr, List, [], ◌∷◌, ◌++◌, ◌∙◌, Option, Some, map, length, slice_get, get_or, All, false, IsPermutation, refl, sym, ap, subst, arith}
 use Rattle.std.proofs.Math.ListN.{set}
-use Rattle.std.proofs.lemmas.Bool.{cases_eq}
+use Rattle.std.proofs.lemmas.Bool.{cases_eq, cases_lt}
 use Rattle.std.proofs.lemmas.List.{get_or-set_same, get_or-set_other, length-set, map-append}
-use Rattle.std.proofs.lemmas.Option.{slice_get-get_or, get_or_from_slice_get}
+use Rattle.std.proofs.lemmas.Option.{slice_get-get_or, get_or_from_slice_get, same_Some, none-some}
 use Rattle.vlink.specs.declared.message.Message.{Message}
 use Rattle.vlink.specs.declared.note.Note.{Note}
 use Rattle.vlink.specs.declared.note.Row.{Row as Noted}
+use Rattle.vlink.specs.Numbering.{greatest_number}
 use Rattle.virtual_time.specs.Rules.{Rules, Row, rows_of}
 use Rattle.virtual_time.specs.Lists.{times_in, least, without}
 use Rattle.virtual_time.specs.Simulation.{Simulation, Laws, put}
@@ -17,7 +18,7 @@ use Rattle.virtual_time.proofs.Reading.{least-from}
 use Rattle.virtual_time.proofs.OneThread.{right, times-without, put_same, put_other}
 use Rattle.actor_run.specs.Recording.{noted_at}
 use Rattle.reverse.specs.Setting.{Setting, simulation_of, Opens, AreInStates}
-use Rattle.actor_run.specs.Running.{AreOnTheWay, StandsAt, seen_row}
+use Rattle.actor_run.specs.Running.{AreOnTheWay, HasNumbersFrom, IsExhaustedAt, StandsAt, seen_row}
 use Rattle.actor_run.proofs.Counting.{times-permutation, taken-least}
 
 -- one actor is in a new state
@@ -69,6 +70,41 @@ pub noted-behind : (rows : List Noted) (message : Message) (notes : List Note) �
 noted-behind rows message notes =
     map-append seen_row rows (noted_at message notes) ∙ ap (λ z. map seen_row rows ++ z) (seen-noted message notes)
 
+module _ {S K : Type 0} (f : Simulation Message S K Note) where
+  -- where nothing waits, nothing waits later
+  stays-over : (n m : ℕ) → n ≤ m → (one f n).waiting ≡ [] → (one f m).waiting ≡ []
+  unfolding one
+  stays-over n zero i e = let same : n ≡ 0 = omega (arith, i) in subst (λ k. (one f k).waiting ≡ []) same e
+  stays-over n (suc m) i e =
+      elim (cases_lt m n) [
+        | inl j ↦ (let same : n ≡ suc m = omega (arith, i, j) in subst (λ k. (one f k).waiting ≡ []) same e)
+        | inr j ↦
+            (let now = stays-over n m j e in
+            ap (λ (o : Option Message). (handle f (one f m) o).waiting) (ap (least f.rules) now) ∙ now)
+      ]
+
+  -- so no actor wants numbers from then on
+  ended-numbers : (n : ℕ) → (one f n).waiting ≡ [] → HasNumbersFrom f n
+  ended-numbers n e k i z = none-some z.0 (sym (ap (least f.rules) (stays-over n k i e)) ∙ z.1)
+
+  -- no actor has wanted numbers from the n-th event to the k-th
+  abbrev pub HadNumbers : ℕ → ℕ → Type 0
+  HadNumbers n k = (j : ℕ) → n ≤ j → j < k → IsExhaustedAt f j → ⊥
+
+  pub none-yet : (n : ℕ) → HadNumbers n n
+  none-yet n j i k z = omega (arith, i, k)
+
+  pub one-more : (n k : ℕ) → HadNumbers n k → (IsExhaustedAt f k → ⊥) → HadNumbers n (suc k)
+  one-more n k had has j i l z =
+      elim (cases_lt j k) [
+        | inl m ↦ had j i m z
+        | inr m ↦ has (let same : j ≡ k = omega (arith, l, m) in subst (IsExhaustedAt f) same z)
+      ]
+
+  -- when the run is over, none has, and none will
+  pub never : (n k : ℕ) → HadNumbers n k → (one f k).waiting ≡ [] → HasNumbersFrom f n
+  never n k had e j i z = elim (cases_lt j k) [ inl m ↦ had j i m z | inr m ↦ ended-numbers k e j m z ]
+
 module _ {S K : Type 0} (f : Simulation Message S K Note) (L : Laws f) (n : ℕ) (actors : List S) (heap : List Message) (rows : List Noted) (h : StandsAt f n actors heap rows) where
   -- the least of the heap is handled next
   pub next-least : (m : Message) → IsLeast f.rules L.order m heap → least f.rules (one f n).waiting ≡ Some m
@@ -92,6 +128,10 @@ module _ {S K : Type 0} (f : Simulation Message S K Note) (L : Laws f) (n : ℕ)
           let i = in-head f.rules L.order w ws in
           omega arith)
 
+  -- so no numbers are used up
+  pub over-numbers : heap ≡ [] → IsExhaustedAt f n → ⊥
+  over-numbers e z = none-some z.0 (sym (ap (least f.rules) (over e)) ∙ z.1)
+
   module _ (m : Message) (rest : List Message) (taken : IsPermutation heap (m ∷ rest)) (first : All (λ x. f.rules.less x m ≡ false) heap) where
     pub is_next : least f.rules (one f n).waiting ≡ Some m
     is_next = next-least m (taken-least f.rules L.order m heap rest taken first)
@@ -106,6 +146,13 @@ module _ {S K : Type 0} (f : Simulation Message S K Note) (L : Laws f) (n : ℕ)
     -- the receiver is in its state of the run
     pub receiver_is : slice_get actors (f.rules.receiver m) ≡ Some ((one f n).states (f.rules.receiver m))
     receiver_is = h.states.each (f.rules.receiver m) receiver_there
+
+    -- where the receiver has numbers left, they are not used up
+    pub has-numbers : f.rules.counter ((one f n).states (f.rules.receiver m)) + 24 ≤ greatest_number → IsExhaustedAt f n → ⊥
+    has-numbers few z =
+        let same : z.0 ≡ m = same_Some z.0 m (sym z.1 ∙ is_next) in
+        let used = subst (λ (y : Message). greatest_number < f.rules.counter ((one f n).states (f.rules.receiver y)) + 24) same z.2 in
+        omega (arith, few, used)
 
     pub receiver_within : f.rules.receiver m < length actors
     receiver_within = let a = receiver_there in let b = h.states.count in omega arith

@@ -1,5 +1,5 @@
 -- The one-thread run of a list of actors: when actors, waiting messages and rows are those of the run.
-use Rattle.std.specs.Prelude.{◌≡◌, ℕ, ◌+◌, ◌<◌, List, [], map, Some}
+use Rattle.std.specs.Prelude.{◌≡◌, ℕ, suc, ◌+◌, ◌<◌, ◌≤◌, List, [], map, Some}
 use Rattle.vlink.specs.declared.message.Message.{Message}
 use Rattle.vlink.specs.declared.note.Note.{Note}
 use Rattle.vlink.specs.declared.note.Row.{Row as Noted}
@@ -26,6 +26,14 @@ module _ {S K : Type 0} (f : Simulation Message S K Note) where
   abbrev pub IsExhaustedAt : ℕ → Type 0
   IsExhaustedAt n =
       (m : Message) × (least f.rules (one f n).waiting ≡ Some m) × (greatest_number < f.rules.counter ((one f n).states (f.rules.receiver m)) + 24)
+
+  -- from the n-th event on no actor wants numbers
+  abbrev pub HasNumbersFrom : ℕ → Type 0
+  HasNumbersFrom n = (k : ℕ) → n ≤ k → IsExhaustedAt k → ⊥
+
+  -- after n events the first waiting message was for an actor that had numbers left. It was handled, and the actors stand as they do then
+  abbrev pub IsCutOffAt : ℕ → List S → Type 0
+  IsCutOffAt n actors = (IsExhaustedAt n → ⊥) × AreInStates f.processes (one f (suc n)).states actors
 
   -- in the run after some number of events nothing waits any more, its rows are these, and the actors are in its states
   abbrev pub IsWholeRun : List Noted → List S → Type 0

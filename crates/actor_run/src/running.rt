@@ -1,5 +1,5 @@
 //! The run: one message after another.
-ghost use Rattle.std.specs.Prelude.{◌≡◌, [], List, ℕ, suc, true, false, ◌<◌, ◌≤◌, ◌+◌, ◌++◌, All, length, map, slice_get, Some, Ok, Err, OnOk, OnErr, IfOk, IfErr, IfSome, IfNone};
+ghost use Rattle.std.specs.Prelude.{◌≡◌, [], List, ℕ, suc, true, false, ◌<◌, ◌≤◌, ◌+◌, ◌++◌, ◌⊎◌, All, length, map, slice_get, Some, Ok, Err, OnOk, OnErr, IfOk, IfErr, IfSome, IfNone};
 ghost use Rattle.std.proofs.Math.ListN.{set};
 ghost use Rattle.vlink.specs.declared.note.Row.{Row as Noted};
 ghost use Rattle.vlink.specs.declared.time.TheConstants.{GREATEST_NS};
@@ -8,7 +8,7 @@ ghost use Rattle.virtual_time.specs.Rules.{rows_of};
 ghost use Rattle.virtual_time.specs.OneThread.{one};
 ghost use Rattle.reverse.specs.Rules.{rules_of};
 ghost use Rattle.actor_run.specs.declared.fault.SimFault.TheVariants.{OutOfMemory, Exhausted};
-ghost use Rattle.actor_run.specs.Running.{StandsAt, IsExhaustedAt, IsRunning, AtEach, IsWholeRun, AreOnTheWay, CanRun, OfEach};
+ghost use Rattle.actor_run.specs.Running.{StandsAt, IsExhaustedAt, HasNumbersFrom, IsCutOffAt, IsRunning, AtEach, IsWholeRun, AreOnTheWay, CanRun, OfEach};
 ghost use Rattle.actor_run.specs.Load.{load};
 
 use crate::fault::SimFault;
@@ -43,6 +43,7 @@ fn act<A: Actor>(actors: &mut [A], message: &Message, out: &mut Outbound) -> boo
     ensures in_limits { result ≡ true → All (λ m. m.time ≤ GREATEST_NS) out.new.messages }
     ensures unchanged { result ≡ false → actors.new ≡ actors.old }
     ensures exhausted { result ≡ false → (s : A) → slice_get actors.old message.now.receiver ≡ Some s → greatest_number < A.counter s + 24 }
+    ensures numbers { result ≡ true → (s : A) → slice_get actors.old message.now.receiver ≡ Some s → A.counter s + 24 ≤ greatest_number }
 {
     let actor = &mut actors[usize::from(message.receiver)];
     if !actor.has_numbers() {
@@ -71,6 +72,10 @@ fn take_turn<A: Actor, R: Recorder>(
     ensures purpose { OnOk result (R.purpose recorder.new ≡ R.purpose recorder.old) }
     ensures exhausted { result ≡ Err Exhausted → (rows : List Noted) → R.has_taken recorder.old rows →
         AtEach (rules_of A.plain A.counter) actors.old waiting.old rows IsExhaustedAt }
+    ensures used_up { (rows : List Noted) → R.has_taken recorder.old rows → AtEach (rules_of A.plain A.counter) actors.old waiting.old rows
+        (λ f n. IsExhaustedAt f n → result ≡ Err Exhausted) }
+    ensures memory { result ≡ Err OutOfMemory → (rows : List Noted) → R.has_taken recorder.old rows →
+        AtEach (rules_of A.plain A.counter) actors.old waiting.old rows (λ f n. IsCutOffAt f n actors.new) }
     ensures left { OnErr result ((rows : List Noted) → R.has_taken recorder.old rows → AtEach (rules_of A.plain A.counter) actors.old waiting.old rows
         (λ f n. AreOnTheWay f actors.new)) }
 {
@@ -88,8 +93,8 @@ fn take_turn<A: Actor, R: Recorder>(
 /// Runs a simulation of these actors, where actor p is process p, from where it stands: the first of all waiting messages is handled by
 /// its receiver, until none waits. `recorder` takes a row for each note, in the order in which the messages are handled.
 ///
-/// `OutOfMemory` comes only where a growth was refused, and `Exhausted` only where the actor whose turn it is has not enough numbers left.
-/// Either leaves the actors in the states of the run after some number of events.
+/// `OutOfMemory` comes only where a growth was refused, and `Exhausted` exactly where the actor whose turn it is has not enough numbers
+/// left. Either leaves the actors in the states of the run after some number of events.
 ///
 /// All that one turn does becomes a part of it.
 #[inline(never)]
@@ -104,6 +109,10 @@ pub fn take_all_turns<A: Actor, R: Recorder>(
     ensures purpose { OnOk result (R.purpose recorder.new ≡ R.purpose recorder.old) }
     ensures exhausted { result ≡ Err Exhausted → (rows : List Noted) → R.has_taken recorder.old rows →
         AtEach (rules_of A.plain A.counter) actors.old waiting.old rows (λ f n. (k : ℕ) × IsExhaustedAt f k) }
+    ensures numbers { OnOk result ((rows : List Noted) → R.has_taken recorder.old rows → AtEach (rules_of A.plain A.counter) actors.old waiting.old rows
+        HasNumbersFrom) }
+    ensures memory { result ≡ Err OutOfMemory → (rows : List Noted) → R.has_taken recorder.old rows →
+        AtEach (rules_of A.plain A.counter) actors.old waiting.old rows (λ f n. (k : ℕ) × IsCutOffAt f k actors.new) }
     ensures left { OnErr result ((rows : List Noted) → R.has_taken recorder.old rows → AtEach (rules_of A.plain A.counter) actors.old waiting.old rows
         (λ f n. AreOnTheWay f actors.new)) }
 {
@@ -116,8 +125,8 @@ pub fn take_all_turns<A: Actor, R: Recorder>(
 /// by its receiver, until none waits. The answer has a row for each note, in the order in which the messages were handled. The order of
 /// messages is the derived one: by time in ns, receiver, sender, number and body (profile).
 ///
-/// `OutOfMemory` comes only where a growth was refused, and `Exhausted` only where the actor whose turn it is has not enough numbers left.
-/// Either leaves the actors in the states of the run after some number of events.
+/// `OutOfMemory` comes only where a growth was refused, and `Exhausted` exactly where the actor whose turn it is has not enough numbers
+/// left. Either leaves the actors in the states of the run after some number of events.
 pub fn run_actors<A: Actor>(
     alloc: Global,
     actors: &mut [A],
@@ -126,6 +135,9 @@ pub fn run_actors<A: Actor>(
     requires { CanRun (rules_of A.plain A.counter) actors.old offers.now }
     ensures whole { IfOk result (λ rows. OfEach (rules_of A.plain A.counter) actors.old offers.now (λ f. IsWholeRun f rows.items actors.new)) }
     ensures exhausted { result ≡ Err Exhausted → OfEach (rules_of A.plain A.counter) actors.old offers.now (λ f. (n : ℕ) × IsExhaustedAt f n) }
+    ensures numbers { OnOk result (OfEach (rules_of A.plain A.counter) actors.old offers.now (λ f. HasNumbersFrom f 0)) }
+    ensures memory { result ≡ Err OutOfMemory → OfEach (rules_of A.plain A.counter) actors.old offers.now
+        (λ f. (actors.new ≡ actors.old) ⊎ ((n : ℕ) × IsCutOffAt f n actors.new)) }
     ensures left { OnErr result (OfEach (rules_of A.plain A.counter) actors.old offers.now (λ f. AreOnTheWay f actors.new)) }
 {
     let mut waiting = Waiting::with_offers(alloc, offers, actors.len())?;

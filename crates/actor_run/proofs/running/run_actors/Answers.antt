@@ -1,7 +1,7 @@
-use Rattle.std.proofs.Common.{◌≡◌, refl, subst, sym, List, [], Err}
+use Rattle.std.proofs.Common.{◌≡◌, inl, inr, refl, subst, sym, List, [], Err}
 use Rattle.reverse.specs.Rules.{rules_of}
 use Rattle.std.proofs.lemmas.Result.{err_from_is_err_and}
-use Rattle.actor_run.specs.declared.fault.SimFault.TheVariants.{Exhausted}
+use Rattle.actor_run.specs.declared.fault.SimFault.TheVariants.{OutOfMemory, Exhausted}
 use Rattle.vlink.specs.declared.note.Row.{Row as Noted}
 use Rattle.reverse.specs.Setting.{simulation_of}
 use Rattle.actor_run.specs.Running.{IsWholeRun}
@@ -45,3 +45,20 @@ returns-clause-whole g c = λ x o L.
     let whole = c.in_ok-take_all_turns.ensures.whole [] c.none-all.ensures x L 0
     (started (rules_of g.A.Reversible.plain g.A.Actor.counter) x _ c.args.offers.now _ [] o c.in_ok-waiting.ensures.offered refl) in
     subst (λ (rows : List Noted). IsWholeRun f rows c.take_all_turns.new.actors) (sym whole.1) whole.2
+
+pub returns-in_err-waiting-clause-memory : goal.returns-in_err-waiting-clause-memory
+returns-in_err-waiting-clause-memory g c = λ e x o L. inl refl
+
+pub returns-in_err-take_all_turns-clause-memory : goal.returns-in_err-take_all_turns-clause-memory
+returns-in_err-take_all_turns-clause-memory g c = λ e x o L.
+    let p = err_from_is_err_and c.from_residual-in_err-take_all_turns.result c.from_residual-in_err-take_all_turns.ensures.1 in
+    let q : p.0 ≡ c.in_err-take_all_turns.field-0.0 = p.2 in
+    let w : c.take_all_turns.result ≡ Err c.in_err-take_all_turns.field-0.0 = c.in_err-take_all_turns.was in
+    let k : c.take_all_turns.result ≡ Err OutOfMemory = cc in
+    inr (c.take_all_turns.ensures.memory k [] c.none-all.ensures x L 0
+    (started (rules_of g.A.Reversible.plain g.A.Actor.counter) x _ c.args.offers.now _ [] o c.in_ok-waiting.ensures.offered refl))
+
+pub returns-clause-numbers : goal.returns-clause-numbers
+returns-clause-numbers g c = λ x o L.
+    c.in_ok-take_all_turns.ensures.numbers [] c.none-all.ensures x L 0
+    (started (rules_of g.A.Reversible.plain g.A.Actor.counter) x _ c.args.offers.now _ [] o c.in_ok-waiting.ensures.offered refl)

@@ -5,7 +5,7 @@ use Rattle.reverse.specs.Rules.{rules_of}
 use Rattle.actor_run.specs.Recording.{noted_at}
 use Rattle.reverse.specs.Setting.{simulation_of}
 use Rattle.actor_run.specs.Running.{StandsAt}
-use Rattle.actor_run.proofs.Turning.{over, is_next, receiver_is, receiver_within, states_after, noted-behind, turned}
+use Rattle.actor_run.proofs.Turning.{over, over-numbers, has-numbers, is_next, receiver_is, receiver_within, states_after, noted-behind, turned}
 use Rattle.actor_run.proofs.Errors.{after-error}
 use Rattle.actor_run.proofs.Loading.{load-falls}
 use Rattle.actor_run.proofs.running.take_turn.Goals as goal
@@ -91,3 +91,52 @@ returns-clause-smaller g c =
     (subst (λ (sent : List Message). IsPermutation (c.pop.new.self ++ sent) c.push_all.new.self) c.messages.ensures.messages c.in_ok-push_all.ensures.more)
     (c.if-not-act.ensures.later refl) (c.if-not-act.ensures.in_limits refl)
     (let a = c.messages.ensures.few in let b = ap length c.messages.ensures.messages in omega arith)
+
+pub returns-in_default-clause-used_up : goal.returns-in_default-clause-used_up
+returns-in_default-clause-used_up g c = λ rows taken x L n h z.
+    let f = simulation_of (rules_of g.A.Reversible.plain g.A.Actor.counter) x in
+    absurd (over-numbers f L n _ _ _ h c.in_default.ensures.none z)
+
+pub returns-in_err-push_all-clause-used_up : goal.returns-in_err-push_all-clause-used_up
+returns-in_err-push_all-clause-used_up g c = λ rows taken x L n h z.
+    let one = c.in-Some.ensures.one in
+    let first = c.in-Some.ensures.first in
+    let f = simulation_of (rules_of g.A.Reversible.plain g.A.Actor.counter) x in
+    let r = receiver_is f L n _ _ _ h c.in-Some.message c.pop.new.self one first in
+    absurd (has-numbers f L n _ _ _ h c.in-Some.message c.pop.new.self one first (c.if-not-act.ensures.numbers refl _ r) z)
+
+pub returns-in_err-record-clause-used_up : goal.returns-in_err-record-clause-used_up
+returns-in_err-record-clause-used_up g c = λ rows taken x L n h z.
+    let one = c.in-Some.ensures.one in
+    let first = c.in-Some.ensures.first in
+    let f = simulation_of (rules_of g.A.Reversible.plain g.A.Actor.counter) x in
+    let r = receiver_is f L n _ _ _ h c.in-Some.message c.pop.new.self one first in
+    absurd (has-numbers f L n _ _ _ h c.in-Some.message c.pop.new.self one first (c.if-not-act.ensures.numbers refl _ r) z)
+
+pub returns-clause-used_up : goal.returns-clause-used_up
+returns-clause-used_up g c = λ rows taken x L n h z.
+    let one = c.in-Some.ensures.one in
+    let first = c.in-Some.ensures.first in
+    let f = simulation_of (rules_of g.A.Reversible.plain g.A.Actor.counter) x in
+    let r = receiver_is f L n _ _ _ h c.in-Some.message c.pop.new.self one first in
+    absurd (has-numbers f L n _ _ _ h c.in-Some.message c.pop.new.self one first (c.if-not-act.ensures.numbers refl _ r) z)
+
+pub returns-in_err-push_all-clause-memory : goal.returns-in_err-push_all-clause-memory
+returns-in_err-push_all-clause-memory g c = λ e rows taken x L n h.
+    let one = c.in-Some.ensures.one in
+    let first = c.in-Some.ensures.first in
+    let f = simulation_of (rules_of g.A.Reversible.plain g.A.Actor.counter) x in
+    let r = receiver_is f L n _ _ _ h c.in-Some.message c.pop.new.self one first in (
+      has-numbers f L n _ _ _ h c.in-Some.message c.pop.new.self one first (c.if-not-act.ensures.numbers refl _ r),
+      states_after f L n _ _ _ h c.in-Some.message c.pop.new.self one first c.act.new.actors (c.if-not-act.ensures.state refl _ r),
+    )
+
+pub returns-in_err-record-clause-memory : goal.returns-in_err-record-clause-memory
+returns-in_err-record-clause-memory g c = λ e rows taken x L n h.
+    let one = c.in-Some.ensures.one in
+    let first = c.in-Some.ensures.first in
+    let f = simulation_of (rules_of g.A.Reversible.plain g.A.Actor.counter) x in
+    let r = receiver_is f L n _ _ _ h c.in-Some.message c.pop.new.self one first in (
+      has-numbers f L n _ _ _ h c.in-Some.message c.pop.new.self one first (c.if-not-act.ensures.numbers refl _ r),
+      states_after f L n _ _ _ h c.in-Some.message c.pop.new.self one first c.act.new.actors (c.if-not-act.ensures.state refl _ r),
+    )
