@@ -13,7 +13,6 @@ With a file of limits, each run is held against them, and the status is 1 where 
 """
 import argparse
 import concurrent.futures
-import json
 import os
 import random
 import re
@@ -22,8 +21,9 @@ import sys
 import tempfile
 import threading
 import time
-import tomllib
-from collections import namedtuple
+
+import afdx
+from afdx import CAUSES, GREATEST_SEED, PROGRAM, TABLES_HEAD, Fault, limits_of, text_of, whole, write_whole
 
 EXAMPLES = """
 examples:
@@ -48,131 +48,35 @@ status:
      the file and the line, and nothing is written
 """
 
-HERE = os.path.dirname(os.path.abspath(__file__))
-PROGRAM = os.path.normpath(os.path.join(HERE, "..", "crates", "afdxsim", "out", "afdxsim"))
-CAUSES = ["queue_full", "port_full", "outage", "unknown", "too_long", "policed", "integrity", "duplicate"]
-HEAD = "table,vl,where,cause,count,least_ns,greatest_ns,sum_ns"
-NUMBER = re.compile(r"0|[1-9][0-9]*")
-GREATEST_SEED = 2**63 - 1
-
-
-class Fault(Exception):
-    """What is wrong with a file, in one line that names the file and, where there is one, the line."""
-
-    def __init__(self, path, line, text):
-        super().__init__(f"{path} line {line}: {text}" if line else f"{path}: {text}")
-
 
 class Failure(Exception):
     """Why a run failed."""
 
 
-# ---- files ----
-
-
-def text_of(path):
-    """The text of a file."""
-    try:
-        with open(path, "rb") as file:
-            found = file.read()
-    except OSError as fault:
-        raise Fault(path, None, f"cannot be read: {fault.strerror}") from None
-    try:
-        return found.decode("utf-8")
-    except UnicodeDecodeError as fault:
-        raise Fault(path, found.count(b"\n", 0, fault.start) + 1, "is no UTF-8") from None
-
-
-def write_whole(path, text):
-    """Writes a file beside, which then takes the name."""
-    beside = f"{path}.{os.getpid()}.part"
-    try:
-        try:
-            with open(beside, "w", encoding="utf-8", newline="\n") as out:
-                out.write(text)
-            os.replace(beside, path)
-        except OSError:
-            if os.path.exists(beside):
-                os.unlink(beside)
-            raise
-    except OSError as fault:
-        raise Fault(path, None, f"cannot be written: {fault.strerror}") from None
-
-
-def fault_of_toml(text):
-    """What the reader of TOML says against a text and the line, or None."""
-    try:
-        tomllib.loads(text)
-    except tomllib.TOMLDecodeError as fault:
-        where = re.search(r"^(.*) \(at line (\d+), column \d+\)$", str(fault))
-        return (where[1], int(where[2])) if where else (str(fault), text.rstrip("\n").count("\n") + 1)
-    return None
-
-
-def line_of_place(text, place):
-    """The line of a description in which a place stands, as the program names it: section, row and key, or `top` and a
-    key. The reader of TOML does not tell lines. Of what is not there it is the first line."""
-    section, row, key = re.fullmatch(r"(\w+)(?: (\d+))?(?: (\w+))?", place).groups()
-    lines = text.split("\n")
-    has_key = re.compile(rf"(^|[\s{{,]){key}\s*=") if key else None
-    if section == "top":
-        return next((i + 1 for i, line in enumerate(lines) if has_key and has_key.match(line)), 1)
-    row = int(row or 0)
-    heads = [i for i, line in enumerate(lines) if re.match(rf"\s*\[\[\s*{section}\s*\]\]", line)]
-    if 0 < row <= len(heads):
-        first = heads[row - 1]
-        for i in range(first + 1, len(lines)) if has_key else ():
-            if re.match(r"\s*\[\[?\s*[A-Za-z]", lines[i]):
-                break
-            if has_key.search(lines[i]):
-                return i + 1
-        return first + 1
-    begin = next(
-        (i for i, line in enumerate(lines) if re.match(rf"\s*(\[+\s*{section}\s*\]|{section}\s*=)", line)), None
-    )
-    for i in range(begin, len(lines)) if begin is not None else ():
-        row -= re.sub(r'"[^"]*"|#.*', "", lines[i]).count("{")
-        if row <= 0:
-            return i + 1
-    return 1
-
-
 # ---- the network ----
 
 
-class Network:
+class Network(afdx.Network):
     """A description that the program has accepted."""
 
     def __init__(self, path, program):
-        self.path = path
-        self.text = text_of(path)
-        self.check(program)
-        fault = fault_of_toml(self.text)
-        if fault:
-            raise Fault(path, fault[1], f"is no TOML 1.0: {fault[0]}")
-        found = tomllib.loads(self.text)
-        self.seed = found["seed"]
-        names = [node["name"] for node in found.get("node", [])]
-        for link in found.get("link", []):
-            names += [link["a"] + ">" + link["b"], link["b"] + ">" + link["a"]]
-        self.process = {name: i for i, name in enumerate(names)}
-        self.destinations = {(vl["id"], way[-1]) for vl in found.get("vl", []) for way in (*vl["a"], *vl["b"])}
-        self.write(found)
+        text = text_of(path)
+        self.check(path, text, program)
+        super().__init__(path, text)
+        self.write(self.description.tree)
 
-    def check(self, program):
+    @staticmethod
+    def check(path, text, program):
         """Has the program judge the description."""
         try:
             run = subprocess.run(
-                [program, "check", os.path.abspath(self.path)], stdin=subprocess.DEVNULL, capture_output=True
+                [program, "check", os.path.abspath(path)], stdin=subprocess.DEVNULL, capture_output=True
             )
         except OSError as fault:
             raise Fault(program, None, f"cannot be run: {fault.strerror}") from None
         if run.returncode != 0:
             said = run.stderr.decode("utf-8", "replace").strip().split("\n")[0]
-            place = re.search(r" at (\w+(?: \d+)?(?: \w+)?)$", said)
-            fault = fault_of_toml(self.text)
-            line = fault[1] if fault else line_of_place(self.text, place[1]) if place else 0
-            raise Fault(self.path, line, "is refused: " + (said or f"status {run.returncode}"))
+            raise Fault(path, afdx.line_of_refusal(text, said), "is refused: " + (said or f"status {run.returncode}"))
 
     def write(self, found):
         """Writes the description anew, line by line, but for the seed, which stands first."""
@@ -185,7 +89,7 @@ class Network:
                 for key, value in row.items():
                     if section == "vl" and key == "offset_ns":
                         self.offsets.append((len(self.lines), row["period_ns"]))
-                    self.lines.append(f"{key} = {written(value)}")
+                    self.lines.append(f"{key} = {afdx.written(value)}")
 
     def with_seed(self, seed, drawn):
         """The text of the description with another seed, and with drawn offsets if they are asked for."""
@@ -197,43 +101,22 @@ class Network:
         return "\n".join(lines) + "\n"
 
 
-def written(value):
-    """A value in TOML. Those of an accepted description are whole numbers, texts, and lists of them."""
-    if type(value) is list:
-        return "[" + ", ".join(map(written, value)) + "]"
-    return json.dumps(value, ensure_ascii=False)
-
-
-Limit = namedtuple("Limit", "vl where ns line")
-
-
-def limits_of(path, net):
-    """The limits of a file, by virtual link and destination."""
-    limits = {}
-    for i, line in enumerate(text_of(path).split("\n"), 1):
-        if not line.strip() or line.startswith("#"):
-            continue
-        fields = line.split(",")
-        if len(fields) != 3:
-            raise Fault(path, i, f"has {len(fields)} fields in place of 3: VL,NAME,NS")
-        vl, where, ns = fields
-        for name, text in (("the virtual link", vl), ("the limit", ns)):
-            if not NUMBER.fullmatch(text):
-                raise Fault(path, i, f"{name} is {text!r}, and no whole number")
-        key = int(vl), where
-        if key not in net.destinations:
-            raise Fault(path, i, f"{where!r} is no destination of virtual link {vl} in {net.path}")
-        if key in limits:
-            raise Fault(path, i, f"says again what line {limits[key].line} says")
-        limits[key] = Limit(*key, int(ns), i)
-    return limits
-
-
 # ---- tables ----
 
 
-class Tables:
-    """Tables of one run or of several."""
+def tables_of(net, text):
+    """The tables that a run printed."""
+    lines = text.split("\n")
+    if lines.pop() or not lines or lines[0] != TABLES_HEAD:
+        raise Failure("what it printed are no whole tables")
+    try:
+        return afdx.Tables("what it printed", net, text)
+    except Fault as fault:
+        raise Failure(str(fault)) from None
+
+
+class Merged:
+    """The tables of several runs together."""
 
     def __init__(self, net):
         self.net = net
@@ -242,51 +125,27 @@ class Tables:
         # For each virtual link, place and cause: count, the greatest count of one run, and its seed.
         self.losses = {}
 
-    @classmethod
-    def read(cls, net, seed, text):
-        """The tables that a run printed."""
-        tables = cls(net)
-        lines = text.split("\n")
-        if lines.pop() or not lines or lines[0] != HEAD:
-            raise Failure("what it printed are no whole tables")
-        for i, line in enumerate(lines[1:], 2):
-            fields = line.split(",")
-            try:
-                table, vl, where, cause = fields[:4]
-                if table == "latency":
-                    count, least, greatest, total = map(int, fields[4:])
-                    tables.latencies[int(vl), where] = [count, least, greatest, total, seed if count else None]
-                elif table == "dropped" and cause in CAUSES and where in net.process and fields[5:] == [""] * 3:
-                    tables.losses[int(vl), where, cause] = [int(fields[4]), int(fields[4]), seed]
-                else:
-                    raise ValueError
-            except ValueError:
-                raise Failure(f"line {i} of what it printed is none of tables: {line}") from None
-        if set(tables.latencies) != net.destinations:
-            raise Failure("what it printed has not the destinations of the network")
-        return tables
-
-    def add(self, other):
-        """Adds the tables of a later seed."""
-        for key, (count, least, greatest, total, seed) in other.latencies.items():
+    def add(self, seed, tables):
+        """Adds the tables of the run of a later seed."""
+        for key, row in tables.latencies.items():
             mine = self.latencies.setdefault(key, [0, 0, 0, 0, None])
-            if count == 0:
+            if row.count == 0:
                 continue
-            if mine[0] == 0 or greatest > mine[2]:
-                mine[2], mine[4] = greatest, seed
-            mine[1] = least if mine[0] == 0 else min(mine[1], least)
-            mine[0] += count
-            mine[3] += total
-        for key, (count, most, seed) in other.losses.items():
+            if mine[0] == 0 or row.greatest > mine[2]:
+                mine[2], mine[4] = row.greatest, seed
+            mine[1] = row.least if mine[0] == 0 else min(mine[1], row.least)
+            mine[0] += row.count
+            mine[3] += row.total
+        for key, row in tables.losses.items():
             mine = self.losses.setdefault(key, [0, 0, None])
-            mine[0] += count
-            if most > mine[1]:
-                mine[1], mine[2] = most, seed
+            mine[0] += row.count
+            if row.count > mine[1]:
+                mine[1], mine[2] = row.count, seed
 
     def text(self):
         """The tables in the order in which the program prints tables, with the seed as the last column."""
         process = self.net.process
-        lines = [HEAD + ",seed"]
+        lines = [TABLES_HEAD + ",seed"]
         for vl, where in sorted(self.latencies, key=lambda it: (it[0], process[it[1]])):
             *numbers, seed = self.latencies[vl, where]
             lines.append(f"latency,{vl},{where},,{','.join(map(str, numbers))},{'' if seed is None else seed}")
@@ -341,7 +200,7 @@ class Runs:
             ended = f"status {run.returncode}" if run.returncode > 0 else f"signal {-run.returncode}"
             raise Failure(f"{said} ({ended})" if said else ended)
         printed = printed.decode("utf-8", "replace")
-        tables = Tables.read(self.net, seed, printed)
+        tables = tables_of(self.net, printed)
         if self.keep:
             write_whole(os.path.join(self.keep, f"seed-{seed}.toml"), text)
             write_whole(os.path.join(self.keep, f"seed-{seed}.tables.csv"), printed)
@@ -391,15 +250,15 @@ class Campaign:
 
     def __init__(self, net, limits, seeds):
         self.net, self.limits, self.seeds = net, limits, seeds
-        self.merged, self.done, self.failure = Tables(net), 0, None
+        self.merged, self.done, self.failure = Merged(net), 0, None
         # For each limit that is broken: in how many runs.
         self.broken = {}
 
-    def take(self, tables):
+    def take(self, seed, tables):
         for key, limit in self.limits.items():
-            if tables.latencies[key][2] > limit.ns:
+            if tables.latencies[key].greatest > limit.ns:
                 self.broken[key] = self.broken.get(key, 0) + 1
-        self.merged.add(tables)
+        self.merged.add(seed, tables)
         self.done += 1
 
     def run(self, runs, jobs):
@@ -411,7 +270,7 @@ class Campaign:
                 for seed in self.seeds:
                     while len(waiting) < 2 * jobs and (new := next(rest, None)) is not None:
                         waiting[new] = pool.submit(self.watched, runs, new)
-                    self.take(waiting.pop(seed).result())
+                    self.take(seed, waiting.pop(seed).result())
                     progress.tell(self.done, self.merged.worst() if progress.shown else None)
             except (Failure, Fault, OSError) as failure:
                 self.failure = f"seed {seed}: {failure}"
@@ -459,19 +318,6 @@ class Campaign:
 # ---- words ----
 
 
-def whole(least, greatest):
-    """The kind of a word of the command line: a whole number within these limits."""
-
-    def read(text):
-        number = int(text)
-        if not least <= number <= greatest:
-            raise argparse.ArgumentTypeError(f"{number} is not from {least} to {greatest}")
-        return number
-
-    read.__name__ = "whole number"
-    return read
-
-
 def words_of(arguments=None):
     parser = argparse.ArgumentParser(
         description=__doc__, epilog=EXAMPLES, formatter_class=argparse.RawDescriptionHelpFormatter
@@ -498,9 +344,8 @@ def prepare(words):
     limits = limits_of(words.limits, net) if words.limits else {}
     first = net.seed if words.first is None else words.first
     if first + words.seeds - 1 > GREATEST_SEED:
-        raise Fault(
-            words.net, line_of_place(net.text, "top seed"), f"the seeds from {first} on would pass {GREATEST_SEED}"
-        )
+        line = net.description.line("top", None, "seed")
+        raise Fault(words.net, line, f"the seeds from {first} on would pass {GREATEST_SEED}")
     try:
         os.makedirs(words.output, exist_ok=True)
     except OSError as fault:

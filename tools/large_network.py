@@ -17,6 +17,9 @@ import random
 import sys
 from fractions import Fraction
 
+from afdx import BYTES_BETWEEN_FRAMES, GREATEST_SEED, LATEST_NS, MOST_DESTINATIONS, MOST_NODES_OF_A_PATH
+from afdx import MOST_PORTS, MOST_PROCESSES, whole
+
 # Percent of the virtual links with this BAG in ms.
 BAG_SHARES = {1: 1, 2: 2, 4: 4, 8: 8, 16: 14, 32: 23, 64: 22, 128: 26}
 
@@ -32,14 +35,9 @@ SIZE_SHARES = {
 }
 
 PERCENT_HIGH = 30
-MOST_PROCESSES = 4096
 MOST_VIRTUAL_LINKS = 65536
-MOST_PORTS = 24
-MOST_DESTINATIONS = 64
-MOST_SWITCHES_OF_A_PATH = 30
-LONGEST_PERIOD_NS = 10**12
+MOST_SWITCHES_OF_A_PATH = MOST_NODES_OF_A_PATH - 2
 NS_A_BYTE = 80
-BYTES_BETWEEN_FRAMES = 20
 
 EXAMPLES = """
 examples:
@@ -235,7 +233,7 @@ def write_links(wiring, draw, out):
 
 def write_virtual_link(number, vl, stretch, out):
     bag_ns = vl.bag_ms * 10**6
-    period = min(LONGEST_PERIOD_NS, int(bag_ns * stretch))
+    period = min(LATEST_NS, int(bag_ns * stretch))
     out(f"[[vl]]\nid = {number}\nbag_ms = {vl.bag_ms}\nsmax = {vl.size}\n")
     out(f'priority = "{"high" if vl.high else "low"}"\npolicing_jitter_ns = 500000\nskew_max_ns = 5000000\n')
     out(f"depth = 16\nsize = {vl.size}\noffset_ns = {int(period * vl.phase)}\nperiod_ns = {period}\n")
@@ -273,19 +271,6 @@ def write_network(words, out, tell):
     return None
 
 
-def whole(least, greatest):
-    """The kind of a word of the command line: a whole number within these limits."""
-
-    def read(text):
-        number = int(text)
-        if not least <= number <= greatest:
-            raise argparse.ArgumentTypeError(f"{number} is not from {least} to {greatest}")
-        return number
-
-    read.__name__ = "whole number"
-    return read
-
-
 def words_of(arguments=None):
     parser = argparse.ArgumentParser(
         description=__doc__, epilog=EXAMPLES, formatter_class=argparse.RawDescriptionHelpFormatter
@@ -310,8 +295,8 @@ def words_of(arguments=None):
         "0: every period is its BAG",
     )
     number("port-bytes", 1518, 1048576, 65536, "BYTES", "waiting bytes of each port")
-    number("until", 1, 10**12, 10**9, "NS", "end time in ns")
-    number("seed", 0, 2**63 - 1, 1, "N", "seed of all that is drawn, here and in the run")
+    number("until", 1, LATEST_NS, 10**9, "NS", "end time in ns")
+    number("seed", 0, GREATEST_SEED, 1, "N", "seed of all that is drawn, here and in the run")
     return parser.parse_args(arguments)
 
 

@@ -17,9 +17,10 @@ import math
 import os
 import re
 import sys
-import tomllib
-from collections import Counter, namedtuple
+from collections import Counter
 from fractions import Fraction
+
+from afdx import CAUSES, Fault, Network, Tables, Trace, write_whole
 
 EXAMPLES = """
 examples:
@@ -45,12 +46,8 @@ error output then names the file and the line. The page is written to a file bes
 whole; so an earlier page stays until then.
 """
 
-CAUSES = ["queue_full", "port_full", "outage", "unknown", "too_long", "policed", "integrity", "duplicate"]
 LOSSES = CAUSES[:-1]
 COLOURS = dict(zip(LOSSES, ["#e69f00", "#c9392b", "#6c757d", "#111827", "#8e5ea2", "#2f6fb0", "#2a9d78"]))
-TABLES_HEAD = "table,vl,where,cause,count,least_ns,greatest_ns,sum_ns"
-TRACE_HEAD = "time_ns,where,vl,what,value"
-NUMBER = re.compile(r"0|[1-9][0-9]*")
 
 FOLD_ABOVE = 15
 WORST = 10
@@ -60,364 +57,17 @@ BARS = 28
 MOMENTS = 100
 
 
-class Fault(Exception):
-    """What is wrong with a file, in one line that names the file and, where there is one, the line."""
-
-    def __init__(self, path, line, text):
-        super().__init__(f"{path} line {line}: {text}" if line else f"{path}: {text}")
+# ---- what the trace tells ----
 
 
-# ---- files ----
-
-
-def text_of(path):
-    """The text of a file."""
-    try:
-        with open(path, "rb") as file:
-            found = file.read()
-    except OSError as fault:
-        raise Fault(path, None, f"cannot be read: {fault.strerror}") from None
-    try:
-        return found.decode("utf-8")
-    except UnicodeDecodeError as fault:
-        line = found.count(b"\n", 0, fault.start) + 1
-        raise Fault(path, line, "is no UTF-8") from None
-
-
-def lines_of(path, head, name):
-    """The lines of a file of tables or of a trace, without line feeds. The first of them must be a head."""
-    lines = text_of(path).split("\n")
-    if lines[0] not in head:
-        raise Fault(path, 1, f"the columns are not those of {name}: {head[0]}")
-    if lines.pop():
-        raise Fault(path, len(lines) + 1, "the line feed at the end is missing, so the file is not whole")
-    return lines
-
-
-def write_whole(path, text):
-    """Writes a file beside, which then takes the name."""
-    beside = f"{path}.{os.getpid()}.part"
-    try:
-        try:
-            with open(beside, "w", encoding="utf-8", newline="\n") as out:
-                out.write(text)
-            os.replace(beside, path)
-        except OSError:
-            if os.path.exists(beside):
-                os.unlink(beside)
-            raise
-    except OSError as fault:
-        raise Fault(path, None, f"cannot be written: {fault.strerror}") from None
-
-
-def line_of_place(text, section, row, key):
-    """The line of a description in which a row of a section begins, or a key of it. The reader of TOML does not tell
-    lines. Of what is not there it is the first line."""
-    lines = text.split("\n")
-    has_key = re.compile(rf"(^|[\s{{,]){re.escape(key)}\s*=") if key else None
-    if not section:
-        return next((i + 1 for i, line in enumerate(lines) if has_key and has_key.match(line)), 1)
-    heads = [i for i, line in enumerate(lines) if re.match(rf"\s*\[\[\s*{section}\s*\]\]", line)]
-    if 0 < row <= len(heads):
-        first = heads[row - 1]
-        for i in range(first + 1, len(lines)) if has_key else ():
-            if re.match(r"\s*\[\[?\s*[A-Za-z]", lines[i]):
-                break
-            if has_key.search(lines[i]):
-                return i + 1
-        return first + 1
-    begin = next(
-        (i for i, line in enumerate(lines) if re.match(rf"\s*(\[+\s*{section}\s*\]|{section}\s*=)", line)), None
-    )
-    for i in range(begin, len(lines)) if begin is not None else ():
-        row -= re.sub(r'"[^"]*"|#.*', "", lines[i]).count("{")
-        if row <= 0:
-            return i + 1
-    return 1
-
-
-# ---- the network ----
-
-Node = namedtuple("Node", "name kind net latency_ns")
-Link = namedtuple("Link", "a b mbit")
-Outage = namedtuple("Outage", "line from_ns to_ns")
-VirtualLink = namedtuple("VirtualLink", "id bag_ns period_ns jitter_ns policing_ns size source sinks lines places")
-
-KEYS = {
-    "node": {"name": str, "kind": str},
-    "link": {"a": str, "b": str, "mbit": int},
-    "outage": {"from": str, "to": str, "from_ns": int, "to_ns": int},
-    "vl": {"id": int, "bag_ms": int, "period_ns": int, "jitter_ns": int, "policing_jitter_ns": int, "size": int}
-    | {"a": list, "b": list},
-}
-
-
-class Network:
-    """What the page needs of a description. It does not judge the description as the program does: `afdxsim check`
-    does that. A description that cannot be drawn is refused."""
-
-    def __init__(self, path):
-        self.path = path
-        self.text = text_of(path)
-        try:
-            found = tomllib.loads(self.text)
-        except tomllib.TOMLDecodeError as fault:
-            where = re.search(r"^(.*) \(at line (\d+), column \d+\)$", str(fault))
-            line = int(where[2]) if where else self.text.rstrip("\n").count("\n") + 1
-            raise Fault(path, line, "is no TOML: " + (where[1] if where else str(fault))) from None
-        self.until_ns, self.seed = (self.value(found, "", 0, key, int) for key in ("until_ns", "seed"))
-        if self.until_ns < 1:
-            self.refuse("", 0, "until_ns", "is less than 1")
-        rows = {section: self.rows(found, section) for section in KEYS}
-        self.nodes = {}
-        for i, row in enumerate(rows["node"], 1):
-            self.add_node(i, row)
-        self.links, self.mbit = [], {}
-        for i, row in enumerate(rows["link"], 1):
-            self.add_link(i, row)
-        self.process = {name: i for i, name in enumerate([*self.nodes, *self.mbit])}
-        self.outages = [self.outage(i, row) for i, row in enumerate(rows["outage"], 1)]
-        self.vls = {}
-        for i, row in enumerate(rows["vl"], 1):
-            if row["id"] in self.vls:
-                self.refuse("vl", i, "id", f"{row['id']} was there before")
-            self.vls[row["id"]] = self.virtual_link(i, row)
-        self.load, self.users = self.loads()
-
-    def refuse(self, section, row, key, text):
-        place = " ".join(str(part) for part in (section or "top", row or "", key or "") if part)
-        raise Fault(self.path, line_of_place(self.text, section, row, key), f"{place} {text}")
-
-    def value(self, table, section, row, key, kind):
-        if key not in table:
-            self.refuse(section, row, key, "is missing")
-        if type(table[key]) is not kind:
-            self.refuse(section, row, key, "has another kind than it must have")
-        return table[key]
-
-    def rows(self, found, section):
-        rows = found.get(section, [])
-        if type(rows) is not list:
-            self.refuse(section, 0, "", "is no list")
-        for i, row in enumerate(rows, 1):
-            if type(row) is not dict:
-                self.refuse(section, i, "", "is no table")
-            for key, kind in KEYS[section].items():
-                self.value(row, section, i, key, kind)
-        return rows
-
-    def add_node(self, i, row):
-        if row["name"] in self.nodes:
-            self.refuse("node", i, "name", f"{row['name']} was there before")
-        if row["kind"] not in ("es", "switch"):
-            self.refuse("node", i, "kind", 'is neither "es" nor "switch"')
-        net, latency = None, 0
-        if row["kind"] == "switch":
-            net, latency = self.value(row, "node", i, "net", str), self.value(row, "node", i, "latency_ns", int)
-            if net not in ("A", "B"):
-                self.refuse("node", i, "net", 'is neither "A" nor "B"')
-        self.nodes[row["name"]] = Node(row["name"], row["kind"], net, latency)
-
-    def add_link(self, i, row):
-        for key in "ab":
-            if row[key] not in self.nodes:
-                self.refuse("link", i, key, f"names {row[key]}, which is no node")
-        a, b = row["a"], row["b"]
-        nets = {self.nodes[end].net for end in (a, b)} - {None}
-        if a == b or len(nets) != 1:
-            self.refuse("link", i, "b", "joins two nodes that no link can join")
-        if row["mbit"] not in (10, 100):
-            self.refuse("link", i, "mbit", "is neither 10 nor 100")
-        if a + ">" + b in self.mbit:
-            self.refuse("link", i, "b", f"has a link of {a} and {b} once more")
-        self.links.append(Link(a, b, row["mbit"]))
-        for line in (a + ">" + b, b + ">" + a):
-            self.mbit[line] = row["mbit"]
-
-    def outage(self, i, row):
-        line = row["from"] + ">" + row["to"]
-        if line not in self.mbit:
-            self.refuse("outage", i, "to", f"names {line}, which is no line")
-        if row["from_ns"] >= row["to_ns"]:
-            self.refuse("outage", i, "to_ns", "is not after from_ns")
-        return Outage(line, row["from_ns"], row["to_ns"])
-
-    def virtual_link(self, i, row):
-        sinks, lines, places = {}, {}, set()
-        for key in "ab":
-            for way in row[key]:
-                if type(way) is not list or len(way) < 3 or not all(type(name) is str for name in way):
-                    self.refuse("vl", i, key, "has a path that is no list of three names or more")
-                for line in (before + ">" + after for before, after in zip(way, way[1:])):
-                    if line not in self.mbit:
-                        self.refuse("vl", i, key, f"has a path over {line}, which is no line")
-                    lines[line] = None
-                sinks.setdefault(way[-1], set()).add(key)
-                places.update(way)
-        if not sinks:
-            self.refuse("vl", i, "a", "has no path")
-        for key, least in (("bag_ms", 1), ("period_ns", 1), ("size", 1), ("jitter_ns", 0), ("policing_jitter_ns", 0)):
-            if row[key] < least:
-                self.refuse("vl", i, key, f"is less than {least}")
-        source = (row["a"] or row["b"])[0][0]
-        bag_ns = row["bag_ms"] * 10**6
-        jitters = row["jitter_ns"], row["policing_jitter_ns"]
-        return VirtualLink(
-            row["id"], bag_ns, row["period_ns"], *jitters, row["size"], source, sinks, list(lines), places | set(lines)
-        )
-
-    def loads(self):
-        """For each line its load in percent, and how many virtual links go over it."""
-        load, users = {line: Fraction(0) for line in self.mbit}, Counter()
-        for vl in self.vls.values():
-            bits_by_us = Fraction((vl.size + 20) * 8 * 1000, max(vl.bag_ns, vl.period_ns))
-            for line in vl.lines:
-                load[line] += bits_by_us * 100 / self.mbit[line]
-                users[line] += 1
-        return load, users
-
-    def of_kind(self, kind, net=None):
-        return [node.name for node in self.nodes.values() if node.kind == kind and node.net == net]
-
-
-# ---- tables and trace ----
-
-Latency = namedtuple("Latency", "vl where count least greatest total seed line")
-Loss = namedtuple("Loss", "vl where cause count seed line")
-
-
-class Tables:
-    """The tables of a run or of a campaign, which must be those of the network."""
-
-    def __init__(self, path, net):
-        self.path, self.net = path, net
-        lines = lines_of(path, [TABLES_HEAD, TABLES_HEAD + ",seed"], "tables")
-        self.merged = lines[0] != TABLES_HEAD
-        self.latencies, self.losses = {}, {}
-        for i, line in enumerate(lines[1:], 2):
-            fields = line.split(",")
-            if len(fields) != 8 + self.merged:
-                raise Fault(path, i, f"has {len(fields)} fields in place of {8 + self.merged}")
-            self.add(i, *fields[:8], fields[8] if self.merged else "")
-        for vl in net.vls.values():
-            for where in vl.sinks:
-                if (vl.id, where) not in self.latencies:
-                    text = (
-                        f"the file ends without the latencies of virtual link {vl.id} at {where}, as {net.path} has it"
-                    )
-                    raise Fault(path, len(lines), text)
-
-    def add(self, i, table, vl, where, cause, *rest):
-        numbers, seed = rest[:4], rest[4]
-        if table not in ("latency", "dropped"):
-            raise Fault(self.path, i, f"begins neither with latency nor with dropped, but with {table!r}")
-        vl = self.virtual_link(i, vl)
-        seed = self.number(i, "seed", seed) if seed else None
-        if table == "latency":
-            if cause:
-                raise Fault(self.path, i, f"has the cause {cause!r}, and latencies have none")
-            if where not in vl.sinks:
-                raise Fault(self.path, i, f"{where!r} is no destination of virtual link {vl.id} in {self.net.path}")
-            count, least, greatest, total = map(self.number, [i] * 4, TABLES_HEAD.split(",")[4:], numbers)
-            if not count * least <= total <= count * greatest or (count == 0) != (greatest == 0):
-                raise Fault(
-                    self.path, i, f"{count} latencies from {least} to {greatest} ns cannot have the sum {total} ns"
-                )
-            row, rows, key = (
-                Latency(vl.id, where, count, least, greatest, total, seed, i),
-                self.latencies,
-                (vl.id, where),
-            )
-        else:
-            if cause not in CAUSES:
-                raise Fault(self.path, i, f"{cause!r} is no cause of loss")
-            if where not in vl.places:
-                raise Fault(self.path, i, f"virtual link {vl.id} does not pass {where!r} in {self.net.path}")
-            count = self.number(i, "count", numbers[0])
-            if count == 0 or any(numbers[1:]):
-                raise Fault(self.path, i, "a loss has a count above 0 and no other number")
-            row, rows, key = Loss(vl.id, where, cause, count, seed, i), self.losses, (vl.id, where, cause)
-        if key in rows:
-            raise Fault(self.path, i, f"says again what line {rows[key].line} says")
-        rows[key] = row
-
-    def number(self, i, column, text):
-        if not NUMBER.fullmatch(text):
-            raise Fault(self.path, i, f"{column} is {text!r}, and no whole number")
-        return int(text)
-
-    def virtual_link(self, i, text):
-        number = self.number(i, "vl", text)
-        if number not in self.net.vls:
-            raise Fault(self.path, i, f"virtual link {number} is not in {self.net.path}")
-        return self.net.vls[number]
-
-
-class Trace:
-    """The latencies of each virtual link and destination, rising, and how many frames were lost when and why."""
-
-    def __init__(self, path, tables):
-        self.path, self.tables, self.net = path, tables, tables.net
-        self.latencies = {key: [] for key in tables.latencies}
-        self.losses = Counter()
-        self.over_time = {cause: [0] * MOMENTS for cause in CAUSES}
-        lines = lines_of(path, [TRACE_HEAD], "a trace")
-        known, until, before = {}, self.net.until_ns, 0
-        for i, line in enumerate(lines[1:], 2):
-            time, _, rest = line.partition(",")
-            what, _, value = rest.rpartition(",")
-            if not (NUMBER.fullmatch(time) and NUMBER.fullmatch(value)):
-                raise Fault(path, i, "has no whole number at its begin and at its end")
-            moment, number = int(time), int(value)
-            if not before <= moment <= until:
-                text = f"its moment, {moment} ns, is before that of the line above, or after the end of {self.net.path}"
-                raise Fault(path, i, text)
-            before = moment
-            if what not in known:
-                known[what] = self.what(i, what)
-            found, cause = known[what]
-            if cause is None:
-                found.append(number)
-            else:
-                self.losses[found] += 1
-                self.over_time[cause][moment * MOMENTS // (until + 1)] += 1
-        self.compare(len(lines))
-        for found in self.latencies.values():
-            found.sort()
-
-    def what(self, i, text):
-        """The list for the latencies that a line tells of, or which loss it tells of and its cause."""
-        fields = text.split(",")
-        if len(fields) != 3:
-            raise Fault(self.path, i, f"has {len(fields) + 2} fields in place of 5")
-        where, vl, what = fields
-        if not NUMBER.fullmatch(vl) or int(vl) not in self.net.vls:
-            raise Fault(self.path, i, f"virtual link {vl} is not in {self.net.path}")
-        if what == "delivered":
-            if (int(vl), where) not in self.latencies:
-                raise Fault(self.path, i, f"{where!r} is no destination of virtual link {vl} in {self.net.path}")
-            return self.latencies[int(vl), where], None
-        if what not in CAUSES:
-            raise Fault(self.path, i, f"{what!r} is neither delivered nor a cause of loss")
-        if where not in self.net.vls[int(vl)].places:
-            raise Fault(self.path, i, f"virtual link {vl} does not pass {where!r} in {self.net.path}")
-        return (int(vl), where, what), what
-
-    def compare(self, last):
-        """Refuses a trace that is of another run than the tables."""
-        other = f"so it is the trace of another run than {self.tables.path}"
-        for key, row in self.tables.latencies.items():
-            found = self.latencies[key]
-            told = (len(found), min(found, default=0), max(found, default=0), sum(found))
-            if told != row[2:6]:
-                text = f"{told[0]} frames of virtual link {row.vl} came to {row.where} with a sum of {told[3]} ns, "
-                text += f"and line {row.line} of the tables has {row.count} and {row.total}, "
-                raise Fault(self.path, last, text + other)
-        for key in [*self.tables.losses, *self.losses]:
-            row = self.tables.losses.get(key)
-            if self.losses[key] != (row.count if row else 0):
-                text = f"{self.losses[key]} frames of virtual link {key[0]} were lost at {key[1]} as {key[2]}, "
-                raise Fault(self.path, last, text + f"and the tables have {row.count if row else 0}, " + other)
+def over_time(trace):
+    """For each cause how many frames were lost in each hundredth of the run."""
+    found = {cause: [0] * MOMENTS for cause in CAUSES}
+    end = trace.net.until_ns + 1
+    for moment, _, _, what, _ in trace.rows:
+        if what != "delivered":
+            found[what][moment * MOMENTS // end] += 1
+    return found
 
 
 def percentile(rising, percent):
@@ -982,7 +632,7 @@ def copies_panel(net, tables):
     return panel("copies", "Second copies", words, table("copies-of", columns, rows, "without one"))
 
 
-# ---- what the trace tells ----
+# ---- the distribution of latencies ----
 
 
 def histogram(rising, marks):
@@ -1100,7 +750,8 @@ def chart_over_time(net, parts, high, name):
 
 
 def time_panel(net, trace):
-    parts = [(cause, trace.over_time[cause], COLOURS[cause]) for cause in LOSSES if any(trace.over_time[cause])]
+    lost = over_time(trace)
+    parts = [(cause, lost[cause], COLOURS[cause]) for cause in LOSSES if any(lost[cause])]
     step = span(Fraction(net.until_ns, MOMENTS).__ceil__())
     words = f"From the trace: frames in each hundredth of the run, {step}, by cause."
     if net.outages:
@@ -1112,7 +763,7 @@ def time_panel(net, trace):
         pieces = [f'<div class="legend">{keys}</div>', chart_over_time(net, parts, 170, "lost-over-time")]
     else:
         pieces = ["<p><b>Nothing was lost.</b></p>"]
-    copies = trace.over_time["duplicate"]
+    copies = lost["duplicate"]
     if any(copies):
         pieces += ["<h3>Second copies (ordinary)</h3>"]
         pieces += [chart_over_time(net, [("second copies", copies, "#a9b4bf")], 70, "copies-over-time")]

@@ -9,22 +9,11 @@ With --events it tells on error output how many messages were handled. It handle
 """
 import heapq
 import sys
-import tomllib
+
+import afdx
+from afdx import CAUSES
 
 BODIES = ["Offer", "Release", "PortFree", "Arrive", "Enqueue", "Carry"]
-CAUSES = ["queue_full", "port_full", "outage", "unknown", "too_long", "policed", "integrity", "duplicate"]
-
-
-def words(seed, stream):
-    """The words of PCG XSH RR 64/32."""
-    mask = 2**64 - 1
-    increment = (stream << 1 | 1) & mask
-    state = ((seed + increment) * 6364136223846793005 + increment) & mask
-    while True:
-        shifted = ((state >> 18 ^ state) >> 27) & 0xFFFFFFFF
-        turn = state >> 59
-        yield (shifted >> turn | shifted << (32 - turn)) & 0xFFFFFFFF
-        state = (state * 6364136223846793005 + increment) & mask
 
 
 class Simulation:
@@ -71,13 +60,9 @@ class Simulation:
         self.handled = 0
         for vl in sorted(self.vls):
             row = self.vls[vl]
-            drawn = words(net["seed"], vl)
-            k = 0
-            while row["offset_ns"] + k * row["period_ns"] <= self.until:
-                time = row["offset_ns"] + k * row["period_ns"] + next(drawn) % (row["jitter_ns"] + 1)
-                if time <= self.until:
-                    self.push(time, self.source[vl], 4096 + vl, k, "Offer", (vl, row["size"]))
-                k += 1
+            drawn = afdx.offers(net["seed"], vl, row["offset_ns"], row["period_ns"], row["jitter_ns"], self.until)
+            for k, time in drawn:
+                self.push(time, self.source[vl], 4096 + vl, k, "Offer", (vl, row["size"]))
 
     def push(self, time, receiver, sender, number, kind, fields):
         heapq.heappush(self.heap, (time, receiver, sender, number, BODIES.index(kind), fields))
@@ -206,7 +191,7 @@ class Simulation:
             self.handled += 1
 
     def tables(self):
-        yield "table,vl,where,cause,count,least_ns,greatest_ns,sum_ns"
+        yield afdx.TABLES_HEAD
         latencies = {}
         for _, place, vl, what, value in self.rows:
             if what == "delivered":
@@ -227,8 +212,7 @@ class Simulation:
 def main():
     if len(sys.argv) not in (2, 3) or sys.argv[2:] not in ([], ["--events"]):
         sys.exit(__doc__)
-    with open(sys.argv[1], "rb") as file:
-        simulation = Simulation(tomllib.load(file))
+    simulation = Simulation(afdx.Description(sys.argv[1]).tree)
     simulation.run()
     if sys.argv[2:]:
         print(simulation.handled, "events", file=sys.stderr)

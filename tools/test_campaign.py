@@ -223,7 +223,10 @@ class WithAStandIn(Here):
             ("if seed == 9: sys.exit(5)", "status 5"),
             ("if seed == 9: os.kill(os.getpid(), signal.SIGKILL)", "signal 9"),
             ("if seed == 9: sys.exit(print('no table'))", "what it printed are no whole tables"),
-            ("if seed == 9: del net['vl'][0]", "what it printed has not the destinations of the network"),
+            (
+                "if seed == 9: del net['vl'][0]",
+                f"what it printed line 1: the file ends without the latencies of virtual link 1 at ES2, as {net} has it",
+            ),
             ("if seed == 9: print('x')", "what it printed are no whole tables"),
             (
                 "if seed == 9: sys.exit('later')\nif seed == 8: time.sleep(1)\nif seed > 9: sys.exit('no')",

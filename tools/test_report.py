@@ -16,6 +16,7 @@ from html.parser import HTMLParser
 HERE = os.path.dirname(os.path.abspath(__file__))
 sys.path.insert(0, HERE)
 
+import afdx  # noqa: E402
 import report  # noqa: E402
 from second_opinion import Simulation  # noqa: E402
 
@@ -440,8 +441,8 @@ class WithoutABrowser(unittest.TestCase):
 
     def test_a_network_without_anything(self):
         net = self.file("net.toml", "until_ns = 5\nseed = 1\n")
-        tables = self.file("tables.csv", report.TABLES_HEAD + "\n")
-        trace = self.file("trace.csv", report.TRACE_HEAD + "\n")
+        tables = self.file("tables.csv", afdx.TABLES_HEAD + "\n")
+        trace = self.file("trace.csv", afdx.TRACE_HEAD + "\n")
         self.assertEqual(make(net, tables, "--trace", trace, "-o", self.page), (0, ""))
 
     def test_bad_tables(self):
@@ -535,10 +536,10 @@ class WithoutABrowser(unittest.TestCase):
     def test_bad_descriptions(self):
         path, tables = example("n1")
         good = read(path)
-        inline = 'until_ns = 1\nseed = 1\nnode = [\n  # {\n  { name = "A{", kind = "es" },\n  { name = "B" },\n]\n'
+        inline = 'until_ns = 1\nseed = 1\nnode = [\n  # {\n  { name = "A{", kind = "es", port_bytes = 1518 },\n  { name = "B" },\n]\n'
         for text, said in (
-            (good.replace("seed = 42", "seed = = 42"), "line 2: is no TOML: Invalid value"),
-            ("until_ns = 1\nseed = [\n", "line 2: is no TOML: Invalid value (at end of document)"),
+            (good.replace("seed = 42", "seed = = 42"), "line 2: is no TOML: there is '= 42' where a value is wanted"),
+            ("until_ns = 1\nseed = [\n", "line 2: is no TOML: the list that begins here has no end"),
             (good.replace("until_ns", "until"), "line 1: top until_ns is missing"),
             (good.replace("seed = 42", 'seed = "x"'), "line 2: top seed has another kind than it must have"),
             (good.replace("bag_ms = 1\n", ""), "line 30: vl 1 bag_ms is missing"),

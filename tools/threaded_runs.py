@@ -24,10 +24,9 @@ HERE = os.path.dirname(os.path.abspath(__file__))
 sys.path.insert(0, HERE)
 
 import large_network  # noqa: E402
+from afdx import GREATEST_SEED, PROGRAM, whole  # noqa: E402
 
-PROGRAM = os.path.normpath(os.path.join(HERE, "..", "crates", "afdxsim", "out", "afdxsim"))
 WELL_REPLAYED = re.compile(r"replay: \d+ did, 0 not enabled, 0 refused, gvt \d+, finished\n")
-GREATEST_SEED = 2**63 - 1
 
 EXAMPLES = """
 examples:
@@ -149,9 +148,9 @@ def words_of(arguments=None):
         description=__doc__, epilog=EXAMPLES, formatter_class=argparse.RawDescriptionHelpFormatter
     )
     add = parser.add_argument
-    add("--runs", type=large_network.whole(1, 10**6), default=1000, metavar="N", help="how many runs (default 1000)")
-    add("--first", type=large_network.whole(0, 10**9), default=0, metavar="N", help="number of the first (default 0)")
-    add("--seconds", type=large_network.whole(1, 3600), default=60, metavar="N", help="most of a command (default 60)")
+    add("--runs", type=whole(1, 10**6), default=1000, metavar="N", help="how many runs (default 1000)")
+    add("--first", type=whole(0, 10**9), default=0, metavar="N", help="number of the first (default 0)")
+    add("--seconds", type=whole(1, 3600), default=60, metavar="N", help="most of a command (default 60)")
     add("--keep", action="store_true", help="keeps the files of each run, and names the folder")
     add("--program", default=PROGRAM, metavar="FILE", help="the built program (default crates/afdxsim/out/afdxsim)")
     words = parser.parse_args(arguments)

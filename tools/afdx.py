@@ -1,0 +1,600 @@
+"""What the tools share: descriptions with the line of each key, the networks that they describe with paths and loads,
+how offers are drawn, tables and traces.
+
+    net = afdx.Network("net.toml")            # Fault where it is none, in one line with the file and the line
+    tables = afdx.Tables("tables.csv", net)   # those that the program prints, or merged ones
+    trace = afdx.Trace("trace.csv", tables)
+
+None of this judges a description as the program does: `afdxsim check` does, and tools/explain.py tells all its faults.
+"""
+import argparse
+import json
+import os
+import re
+from collections import Counter, namedtuple
+from fractions import Fraction
+
+import toml_lines
+
+HERE = os.path.dirname(os.path.abspath(__file__))
+PROGRAM = os.path.normpath(os.path.join(HERE, "..", "crates", "afdxsim", "out", "afdxsim"))
+
+CAUSES = ["queue_full", "port_full", "outage", "unknown", "too_long", "policed", "integrity", "duplicate"]
+TABLES_HEAD = "table,vl,where,cause,count,least_ns,greatest_ns,sum_ns"
+TRACE_HEAD = "time_ns,where,vl,what,value"
+NUMBER = re.compile(r"0|[1-9][0-9]*")
+
+GREATEST_SEED = 2**63 - 1
+# The latest end of a run and the longest period, and the longest jitter and propagation, in ns.
+LATEST_NS = 10**15
+SECOND_NS = 10**9
+LEAST_FRAME, GREATEST_FRAME = 64, 1518
+# How many bytes of a line's time a frame takes beyond its own: preamble, start delimiter and the gap between frames.
+BYTES_BETWEEN_FRAMES = 20
+BAGS_MS = (1, 2, 4, 8, 16, 32, 64, 128)
+MOST_PROCESSES, MOST_PORTS, MOST_OUTAGES, MOST_DESTINATIONS = 4096, 24, 1024, 64
+MOST_NODES_OF_A_PATH = 32
+
+
+class Fault(Exception):
+    """What is wrong with a file, in one line that names the file and, where there is one, the line."""
+
+    def __init__(self, path, line, text):
+        super().__init__(f"{path} line {line}: {text}" if line else f"{path}: {text}")
+        self.path, self.line, self.text = path, line, text
+
+
+def whole(least, greatest):
+    """The kind of a word of the command line: a whole number within these limits."""
+
+    def read(text):
+        number = int(text)
+        if not least <= number <= greatest:
+            raise argparse.ArgumentTypeError(f"{number} is not from {least} to {greatest}")
+        return number
+
+    read.__name__ = "whole number"
+    return read
+
+
+# ---- files ----
+
+
+def text_of(path):
+    """The text of a file."""
+    try:
+        with open(path, "rb") as file:
+            found = file.read()
+    except OSError as fault:
+        raise Fault(path, None, f"cannot be read: {fault.strerror}") from None
+    try:
+        return found.decode("utf-8")
+    except UnicodeDecodeError as fault:
+        raise Fault(path, found.count(b"\n", 0, fault.start) + 1, "is no UTF-8") from None
+
+
+def lines_of(path, head, name, text=None):
+    """The lines of a file of tables or of a trace, without line feeds. The first of them must be a head."""
+    lines = (text_of(path) if text is None else text).split("\n")
+    if lines[0] not in head:
+        raise Fault(path, 1, f"the columns are not those of {name}: {head[0]}")
+    if lines.pop():
+        raise Fault(path, len(lines) + 1, "the line feed at the end is missing, so the file is not whole")
+    return lines
+
+
+def write_whole(path, text):
+    """Writes a file beside, which then takes the name."""
+    beside = f"{path}.{os.getpid()}.part"
+    try:
+        try:
+            with open(beside, "w", encoding="utf-8", newline="\n") as out:
+                out.write(text)
+            os.replace(beside, path)
+        except OSError:
+            if os.path.exists(beside):
+                os.unlink(beside)
+            raise
+    except OSError as fault:
+        raise Fault(path, None, f"cannot be written: {fault.strerror}") from None
+
+
+# ---- the keys of a description ----
+
+
+class Key(namedtuple("Key", "name kind least greatest choices needed usual says")):
+    """A key of a section: its kind (integer, text, name or paths), its limits or the values that it may have, which
+    rows must have it (all, switches, or none), what it means where it is absent, and what it says."""
+
+    def python_kind(self):
+        return {"integer": int, "paths": toml_lines.Array}.get(self.kind, str)
+
+    def is_needed(self, row):
+        return self.needed == "all" or self.needed == "switches" and row.get("kind") == "switch"
+
+
+def number_key(name, least, greatest, says, needed="all", usual=None):
+    return Key(name, "integer", least, greatest, None, needed, usual, says)
+
+
+def choice_key(name, choices, says, needed="all", usual=None):
+    kind = "integer" if type(choices[0]) is int else "text"
+    return Key(name, kind, None, None, choices, needed, usual, says)
+
+
+def name_key(name, says):
+    return Key(name, "name", None, None, None, "all", None, says)
+
+
+# The keys of each section, in the order of checks. Moments and times are whole ns.
+KEYS = {
+    "top": [
+        number_key("until_ns", 1, LATEST_NS, "End of the run, in ns."),
+        number_key("seed", 0, GREATEST_SEED, "Seed of the jitter of the offers."),
+    ],
+    "node": [
+        Key("name", "text", 1, 32, None, "all", None, "Name of the node: letters, digits, _ and -. Each name once."),
+        choice_key("kind", ("es", "switch"), 'End system ("es") or "switch".'),
+        number_key("port_bytes", GREATEST_FRAME, 2**20, "How many bytes of frames may wait at each of its ports."),
+        choice_key("net", ("A", "B"), "The network of a switch. An end system has no such key.", "switches"),
+        number_key(
+            "latency_ns", 1, SECOND_NS,
+            "From the arrival of a frame at a switch to its output port, in ns. An end system has no such key.",
+            "switches",
+        ),
+    ],
+    "link": [
+        name_key("a", "One of the two nodes that the link joins, in both directions."),
+        name_key("b", "The other node."),
+        choice_key("mbit", (10, 100), "Speed in Mbit/s."),
+        number_key("propagation_ns", 1, SECOND_NS, "Propagation time in ns: 5 for each metre of cable."),
+    ],
+    "outage": [
+        name_key("from", "The node from which the line that is out leads. The other direction of the link is not out."),
+        name_key("to", "The node to which it leads."),
+        number_key("from_ns", 0, LATEST_NS, "The line is out from this moment on, in ns."),
+        number_key("to_ns", 0, LATEST_NS, "The line is out no more at this moment, in ns; it is after from_ns."),
+    ],
+    "vl": [
+        number_key("id", 0, 65535, "Number of the virtual link. Each number once."),
+        choice_key("bag_ms", BAGS_MS, "Bandwidth allocation gap in ms: at most one frame in it leaves the source."),
+        number_key("smax", LEAST_FRAME, GREATEST_FRAME, "Greatest frame that switches pass, in bytes, from the destination address to the check sequence."),
+        choice_key("priority", ("high", "low"), "Priority at the output ports of switches."),
+        number_key("policing_jitter_ns", 0, SECOND_NS, "How much closer than one BAG frames may come to a switch, in ns."),
+        choice_key("policing", ("bytes", "frames"), "Whether the account of a switch counts the bytes of frames, or each frame as one of smax bytes.", "none", "bytes"),
+        number_key("skew_max_ns", 0, SECOND_NS, "How much later the second copy of a frame is still known as a copy, in ns."),
+        number_key("depth", 1, 1024, "How many frames may wait at the source, for each sub-virtual link."),
+        number_key("sub", 1, 4, "How many sub-virtual links take turns at the source; the offers go to them in turn.", "none", 1),
+        number_key("size", LEAST_FRAME, GREATEST_FRAME, "Size of the frames that the application offers, in bytes, from the destination address to the check sequence."),
+        number_key("offset_ns", 0, LATEST_NS, "Moment of the first offer, before jitter, in ns."),
+        number_key("period_ns", 1000, LATEST_NS, "From one offer to the next, before jitter, in ns."),
+        number_key("jitter_ns", 0, SECOND_NS, "How late an offer may be at most, in ns; it is drawn for each offer."),
+        Key("a", "paths", 3, MOST_NODES_OF_A_PATH, None, "all", None, "Paths on network A: one list of names for each destination, from the source by switches to the destination. May be empty where b is not."),
+        Key("b", "paths", 3, MOST_NODES_OF_A_PATH, None, "all", None, "Paths on network B."),
+    ],
+}
+SECTIONS = ["node", "link", "outage", "vl"]
+
+
+# ---- descriptions ----
+
+Place = namedtuple("Place", "section row key")
+
+
+def place_of(text):
+    """A place as the program names it: a section and a row from 1 and a key, where there are such."""
+    section, row, key = re.fullmatch(r"(\w+)(?: (\d+))?(?: (\w+))?", text).groups()
+    return Place(section, int(row) if row else None, key)
+
+
+def place_text(place):
+    return " ".join(str(part) for part in place if part is not None and part != "")
+
+
+class Description:
+    """The text of a description, what it says, and where: `tree` is the table that the text is."""
+
+    def __init__(self, path, text=None):
+        self.path = path
+        self.text = text_of(path) if text is None else text
+        try:
+            self.tree = toml_lines.read(self.text)
+        except toml_lines.BadToml as fault:
+            raise Fault(path, fault.line, f"is no TOML: {fault}") from None
+
+    def rows(self, section):
+        """The rows of a section that is a list."""
+        return self.tree.get(section, toml_lines.Array(1))
+
+    def line(self, section, row=None, key=None):
+        """The line of a key, of a row or of a section. Of what is not there it is that of what it would stand in."""
+        if section == "top":
+            return self.tree.lines.get(key, 1)
+        lines, found = self.tree.lines, self.tree
+        if section not in found:
+            return 1
+        line, found = lines[section], found[section]
+        if type(found) is not toml_lines.Array or not row or row > len(found):
+            return line
+        line, found = found.lines[row - 1], found[row - 1]
+        return found.lines.get(key, line) if type(found) is toml_lines.Table else line
+
+    def fault(self, section, row, key, text):
+        """A fault that names the place as the program does."""
+        return Fault(self.path, self.line(section, row, key), f"{place_text((section, row, key))} {text}")
+
+
+def written(value):
+    """A value in TOML. Those of an accepted description are whole numbers, texts, and lists of them."""
+    if isinstance(value, list):
+        return "[" + ", ".join(map(written, value)) + "]"
+    return json.dumps(value, ensure_ascii=False)
+
+
+def line_of_refusal(text, said):
+    """The line of a description at which the program refuses it, by the line that it says; None where it names none."""
+    try:
+        description = Description("", text)
+    except Fault as fault:
+        return fault.line
+    place = re.search(r" at (\w+(?: \d+)?(?: \w+)?)$", said)
+    return description.line(*place_of(place[1])) if place else None
+
+
+# ---- networks ----
+
+Node = namedtuple("Node", "name kind net latency_ns port_bytes")
+Link = namedtuple("Link", "a b mbit propagation_ns")
+Outage = namedtuple("Outage", "line from_ns to_ns")
+# Of a virtual link: `row` is its row in the description; `policing_ns` the jitter that its accounts allow; `paths` has
+# the paths of each network as lists of names; `sinks` for each destination the networks (a, b) by which it comes;
+# `lines` the lines that it goes over, each once; `places` the nodes and lines where it may be.
+VirtualLink = namedtuple(
+    "VirtualLink",
+    "id row bag_ns smax priority policing_ns policing skew_ns depth sub size offset_ns period_ns jitter_ns source "
+    "paths sinks lines places",
+)
+
+
+def lines_of_path(path):
+    """The names of the lines between the nodes of a path."""
+    return [before + ">" + after for before, after in zip(path, path[1:])]
+
+
+class Network:
+    """What a description describes. It does not judge the description as the program does: `afdxsim check` does that.
+    A description that has not the keys, or names what is not there, is refused."""
+
+    def __init__(self, path, text=None):
+        self.path = path
+        self.description = Description(path, text)
+        self.text = self.description.text
+        for key in KEYS["top"]:
+            self.value(self.description.tree, "top", None, key)
+        self.until_ns, self.seed = self.description.tree["until_ns"], self.description.tree["seed"]
+        if self.until_ns < 1:
+            self.refuse("top", None, "until_ns", "is less than 1")
+        rows = {section: self.rows(section) for section in SECTIONS}
+        self.nodes = {}
+        for i, row in enumerate(rows["node"], 1):
+            self.add_node(i, row)
+        # For each line its speed in Mbit/s, and its propagation time in ns.
+        self.links, self.mbit, self.propagation_ns = [], {}, {}
+        for i, row in enumerate(rows["link"], 1):
+            self.add_link(i, row)
+        self.process = {name: i for i, name in enumerate([*self.nodes, *self.mbit])}
+        self.outages = [self.outage(i, row) for i, row in enumerate(rows["outage"], 1)]
+        self.vls = {}
+        for i, row in enumerate(rows["vl"], 1):
+            if row["id"] in self.vls:
+                self.refuse("vl", i, "id", f"{row['id']} was there before")
+            self.vls[row["id"]] = self.virtual_link(i, row)
+        self.destinations = {(vl.id, where) for vl in self.vls.values() for where in vl.sinks}
+        self.load, self.users = self.loads()
+
+    def refuse(self, section, row, key, text):
+        raise self.description.fault(section, row, key, text)
+
+    def value(self, table, section, row, key):
+        """The value of a key of a row, which has to be there where it is needed, and of its kind."""
+        if key.name not in table:
+            if key.is_needed(table):
+                self.refuse(section, row, key.name, "is missing")
+            return key.usual
+        if type(table[key.name]) is not key.python_kind():
+            self.refuse(section, row, key.name, "has another kind than it must have")
+        return table[key.name]
+
+    def rows(self, section):
+        """The rows of a section as dictionaries; what may be absent has its usual value."""
+        rows = self.description.rows(section)
+        if type(rows) is not toml_lines.Array:
+            self.refuse(section, None, None, "is no list")
+        found = []
+        for i, row in enumerate(rows, 1):
+            if type(row) is not toml_lines.Table:
+                self.refuse(section, i, None, "is no table")
+            found.append({key.name: self.value(row, section, i, key) for key in KEYS[section]})
+        return found
+
+    def add_node(self, i, row):
+        if row["name"] in self.nodes:
+            self.refuse("node", i, "name", f"{row['name']} was there before")
+        if row["kind"] not in ("es", "switch"):
+            self.refuse("node", i, "kind", 'is neither "es" nor "switch"')
+        net, latency = None, 0
+        if row["kind"] == "switch":
+            net, latency = row["net"], row["latency_ns"]
+            if net not in ("A", "B"):
+                self.refuse("node", i, "net", 'is neither "A" nor "B"')
+        self.nodes[row["name"]] = Node(row["name"], row["kind"], net, latency, row["port_bytes"])
+
+    def add_link(self, i, row):
+        for key in "ab":
+            if row[key] not in self.nodes:
+                self.refuse("link", i, key, f"names {row[key]}, which is no node")
+        a, b = row["a"], row["b"]
+        nets = {self.nodes[end].net for end in (a, b)} - {None}
+        if a == b or len(nets) != 1:
+            self.refuse("link", i, "b", "joins two nodes that no link can join")
+        if row["mbit"] not in (10, 100):
+            self.refuse("link", i, "mbit", "is neither 10 nor 100")
+        if a + ">" + b in self.mbit:
+            self.refuse("link", i, "b", f"has a link of {a} and {b} once more")
+        self.links.append(Link(a, b, row["mbit"], row["propagation_ns"]))
+        for line in (a + ">" + b, b + ">" + a):
+            self.mbit[line], self.propagation_ns[line] = row["mbit"], row["propagation_ns"]
+
+    def outage(self, i, row):
+        line = row["from"] + ">" + row["to"]
+        if line not in self.mbit:
+            self.refuse("outage", i, "to", f"names {line}, which is no line")
+        if row["from_ns"] >= row["to_ns"]:
+            self.refuse("outage", i, "to_ns", "is not after from_ns")
+        return Outage(line, row["from_ns"], row["to_ns"])
+
+    def virtual_link(self, i, row):
+        sinks, lines, places = {}, {}, set()
+        for key in "ab":
+            for way in row[key]:
+                if type(way) is not toml_lines.Array or len(way) < 3 or not all(type(name) is str for name in way):
+                    self.refuse("vl", i, key, "has a path that is no list of three names or more")
+                for line in lines_of_path(way):
+                    if line not in self.mbit:
+                        self.refuse("vl", i, key, f"has a path over {line}, which is no line")
+                    lines[line] = None
+                sinks.setdefault(way[-1], set()).add(key)
+                places.update(way)
+        if not sinks:
+            self.refuse("vl", i, "a", "has no path")
+        self.check_numbers(i, row)
+        source = (row["a"] or row["b"])[0][0]
+        return VirtualLink(
+            row["id"], i, row["bag_ms"] * 10**6, row["smax"], row["priority"], row["policing_jitter_ns"],
+            row["policing"], row["skew_max_ns"], row["depth"], row["sub"], row["size"], row["offset_ns"],
+            row["period_ns"], row["jitter_ns"], source, {"A": row["a"], "B": row["b"]}, sinks, list(lines),
+            places | set(lines),
+        )
+
+    def check_numbers(self, i, row):
+        """What would make a number of a page, a bound or a draw meaningless."""
+        for key in KEYS["vl"]:
+            if key.kind == "integer":
+                least = min(key.choices) if key.choices else min(key.least, 1)
+                if row[key.name] < least:
+                    self.refuse("vl", i, key.name, f"is less than {least}")
+
+    def loads(self):
+        """For each line its load in percent, and how many virtual links go over it. Each virtual link sends a frame in
+        each BAG, or in each period where that is longer."""
+        load, users = {line: Fraction(0) for line in self.mbit}, Counter()
+        for vl in self.vls.values():
+            bits_by_us = Fraction((vl.size + BYTES_BETWEEN_FRAMES) * 8 * 1000, max(vl.bag_ns, vl.period_ns))
+            for line in vl.lines:
+                load[line] += bits_by_us * 100 / self.mbit[line]
+                users[line] += 1
+        return load, users
+
+    def offers(self, vl, seed=None):
+        """The moments in which frames of a virtual link are offered, until the end, in the order of their numbers."""
+        drawn = offers(self.seed if seed is None else seed, vl.id, vl.offset_ns, vl.period_ns, vl.jitter_ns, self.until_ns)
+        return [moment for _, moment in drawn]
+
+    def of_kind(self, kind, net=None):
+        return [node.name for node in self.nodes.values() if node.kind == kind and node.net == net]
+
+
+# ---- offers ----
+
+
+def words(seed, stream):
+    """The words of PCG XSH RR 64/32."""
+    mask = 2**64 - 1
+    increment = (stream << 1 | 1) & mask
+    state = ((seed + increment) * 6364136223846793005 + increment) & mask
+    while True:
+        shifted = ((state >> 18 ^ state) >> 27) & 0xFFFFFFFF
+        turn = state >> 59
+        yield (shifted >> turn | shifted << (32 - turn)) & 0xFFFFFFFF
+        state = (state * 6364136223846793005 + increment) & mask
+
+
+def offers(seed, vl, offset_ns, period_ns, jitter_ns, until_ns):
+    """The offers of a virtual link: each with its number and its moment. One that is later than the end is left out."""
+    drawn, k = words(seed, vl), 0
+    while offset_ns + k * period_ns <= until_ns:
+        moment = offset_ns + k * period_ns + next(drawn) % (jitter_ns + 1)
+        if moment <= until_ns:
+            yield k, moment
+        k += 1
+
+
+# ---- tables and trace ----
+
+Latency = namedtuple("Latency", "vl where count least greatest total seed line")
+Loss = namedtuple("Loss", "vl where cause count seed line")
+
+
+class Tables:
+    """The tables of a run or of a campaign, which must be those of the network."""
+
+    def __init__(self, path, net, text=None):
+        self.path, self.net = path, net
+        lines = lines_of(path, [TABLES_HEAD, TABLES_HEAD + ",seed"], "tables", text)
+        self.merged = lines[0] != TABLES_HEAD
+        self.latencies, self.losses = {}, {}
+        for i, line in enumerate(lines[1:], 2):
+            fields = line.split(",")
+            if len(fields) != 8 + self.merged:
+                raise Fault(path, i, f"has {len(fields)} fields in place of {8 + self.merged}")
+            self.add(i, *fields[:8], fields[8] if self.merged else "")
+        for vl in net.vls.values():
+            for where in vl.sinks:
+                if (vl.id, where) not in self.latencies:
+                    text = (
+                        f"the file ends without the latencies of virtual link {vl.id} at {where}, as {net.path} has it"
+                    )
+                    raise Fault(path, len(lines), text)
+
+    def add(self, i, table, vl, where, cause, *rest):
+        numbers, seed = rest[:4], rest[4]
+        if table not in ("latency", "dropped"):
+            raise Fault(self.path, i, f"begins neither with latency nor with dropped, but with {table!r}")
+        vl = self.virtual_link(i, vl)
+        seed = self.number(i, "seed", seed) if seed else None
+        if table == "latency":
+            row, rows = self.latency(i, vl, where, cause, numbers, seed), self.latencies
+            key = vl.id, where
+        else:
+            row, rows = self.loss(i, vl, where, cause, numbers, seed), self.losses
+            key = vl.id, where, cause
+        if key in rows:
+            raise Fault(self.path, i, f"says again what line {rows[key].line} says")
+        rows[key] = row
+
+    def latency(self, i, vl, where, cause, numbers, seed):
+        if cause:
+            raise Fault(self.path, i, f"has the cause {cause!r}, and latencies have none")
+        if where not in vl.sinks:
+            raise Fault(self.path, i, f"{where!r} is no destination of virtual link {vl.id} in {self.net.path}")
+        count, least, greatest, total = map(self.number, [i] * 4, TABLES_HEAD.split(",")[4:], numbers)
+        if not count * least <= total <= count * greatest or (count == 0) != (greatest == 0):
+            raise Fault(self.path, i, f"{count} latencies from {least} to {greatest} ns cannot have the sum {total} ns")
+        return Latency(vl.id, where, count, least, greatest, total, seed, i)
+
+    def loss(self, i, vl, where, cause, numbers, seed):
+        if cause not in CAUSES:
+            raise Fault(self.path, i, f"{cause!r} is no cause of loss")
+        if where not in vl.places:
+            raise Fault(self.path, i, f"virtual link {vl.id} does not pass {where!r} in {self.net.path}")
+        count = self.number(i, "count", numbers[0])
+        if count == 0 or any(numbers[1:]):
+            raise Fault(self.path, i, "a loss has a count above 0 and no other number")
+        return Loss(vl.id, where, cause, count, seed, i)
+
+    def number(self, i, column, text):
+        if not NUMBER.fullmatch(text):
+            raise Fault(self.path, i, f"{column} is {text!r}, and no whole number")
+        return int(text)
+
+    def virtual_link(self, i, text):
+        number = self.number(i, "vl", text)
+        if number not in self.net.vls:
+            raise Fault(self.path, i, f"virtual link {number} is not in {self.net.path}")
+        return self.net.vls[number]
+
+
+class Trace:
+    """What a trace says of the run whose tables are given: `rows` has its notes in their order as (time, where, vl,
+    what, value), `latencies` those of each virtual link and destination, rising, and `losses` how many frames were lost
+    where and why."""
+
+    def __init__(self, path, tables, text=None):
+        self.path, self.tables, self.net = path, tables, tables.net
+        self.latencies = {key: [] for key in tables.latencies}
+        self.losses = Counter()
+        self.rows = []
+        lines = lines_of(path, [TRACE_HEAD], "a trace", text)
+        known, until, before = {}, self.net.until_ns, 0
+        for i, line in enumerate(lines[1:], 2):
+            time, _, rest = line.partition(",")
+            what, _, value = rest.rpartition(",")
+            if not (NUMBER.fullmatch(time) and NUMBER.fullmatch(value)):
+                raise Fault(path, i, "has no whole number at its begin and at its end")
+            moment, number = int(time), int(value)
+            if not before <= moment <= until:
+                text = f"its moment, {moment} ns, is before that of the line above, or after the end of {self.net.path}"
+                raise Fault(path, i, text)
+            before = moment
+            if what not in known:
+                known[what] = self.what(i, what)
+            where, vl, what, found = known[what]
+            self.rows.append((moment, where, vl, what, number))
+            if found is None:
+                self.losses[vl, where, what] += 1
+            else:
+                found.append(number)
+        self.compare(len(lines))
+        for found in self.latencies.values():
+            found.sort()
+
+    def what(self, i, text):
+        """What a line tells of: place, virtual link, delivered or cause; and where it is delivered, its latencies."""
+        fields = text.split(",")
+        if len(fields) != 3:
+            raise Fault(self.path, i, f"has {len(fields) + 2} fields in place of 5")
+        where, vl, what = fields
+        if not NUMBER.fullmatch(vl) or int(vl) not in self.net.vls:
+            raise Fault(self.path, i, f"virtual link {vl} is not in {self.net.path}")
+        if what == "delivered":
+            if (int(vl), where) not in self.latencies:
+                raise Fault(self.path, i, f"{where!r} is no destination of virtual link {vl} in {self.net.path}")
+            return where, int(vl), what, self.latencies[int(vl), where]
+        if what not in CAUSES:
+            raise Fault(self.path, i, f"{what!r} is neither delivered nor a cause of loss")
+        if where not in self.net.vls[int(vl)].places:
+            raise Fault(self.path, i, f"virtual link {vl} does not pass {where!r} in {self.net.path}")
+        return where, int(vl), what, None
+
+    def compare(self, last):
+        """Refuses a trace that is of another run than the tables."""
+        other = f"so it is the trace of another run than {self.tables.path}"
+        for key, row in self.tables.latencies.items():
+            found = self.latencies[key]
+            told = (len(found), min(found, default=0), max(found, default=0), sum(found))
+            if told != row[2:6]:
+                text = f"{told[0]} frames of virtual link {row.vl} came to {row.where} with a sum of {told[3]} ns, "
+                text += f"and line {row.line} of the tables has {row.count} and {row.total}, "
+                raise Fault(self.path, last, text + other)
+        for key in [*self.tables.losses, *self.losses]:
+            row = self.tables.losses.get(key)
+            if self.losses[key] != (row.count if row else 0):
+                text = f"{self.losses[key]} frames of virtual link {key[0]} were lost at {key[1]} as {key[2]}, "
+                raise Fault(self.path, last, text + f"and the tables have {row.count if row else 0}, " + other)
+
+
+# ---- limits ----
+
+Limit = namedtuple("Limit", "vl where ns line")
+
+
+def limits_of(path, net):
+    """The limits of a file, by virtual link and destination."""
+    limits = {}
+    for i, line in enumerate(text_of(path).split("\n"), 1):
+        if not line.strip() or line.startswith("#"):
+            continue
+        fields = line.split(",")
+        if len(fields) != 3:
+            raise Fault(path, i, f"has {len(fields)} fields in place of 3: VL,NAME,NS")
+        vl, where, ns = fields
+        for name, text in (("the virtual link", vl), ("the limit", ns)):
+            if not NUMBER.fullmatch(text):
+                raise Fault(path, i, f"{name} is {text!r}, and no whole number")
+        key = int(vl), where
+        if key not in net.destinations:
+            raise Fault(path, i, f"{where!r} is no destination of virtual link {vl} in {net.path}")
+        if key in limits:
+            raise Fault(path, i, f"says again what line {limits[key].line} says")
+        limits[key] = Limit(*key, int(ns), i)
+    return limits
