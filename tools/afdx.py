@@ -11,6 +11,7 @@ import argparse
 import json
 import os
 import re
+import sys
 from collections import Counter, namedtuple
 from fractions import Fraction
 
@@ -97,6 +98,22 @@ def write_whole(path, text):
             raise
     except OSError as fault:
         raise Fault(path, None, f"cannot be written: {fault.strerror}") from None
+
+
+def write_out(text):
+    """Writes to standard output."""
+    try:
+        sys.stdout.write(text)
+        sys.stdout.flush()
+    except OSError as fault:
+        # What is left in the buffer goes nowhere.
+        os.dup2(os.open(os.devnull, os.O_WRONLY), 1)
+        raise Fault("standard output", None, f"cannot be written: {fault.strerror}") from None
+
+
+def is_same_file(one, other):
+    """Whether two names are those of one file, as far as the host can tell."""
+    return os.path.exists(one) and os.path.exists(other) and os.path.samefile(one, other)
 
 
 # ---- the keys of a description ----
@@ -229,6 +246,16 @@ def written(value):
     if isinstance(value, list):
         return "[" + ", ".join(map(written, value)) + "]"
     return json.dumps(value, ensure_ascii=False)
+
+
+def text_of_tree(tree):
+    """A description written anew, with a row's keys one a line. Comments are lost."""
+    lines = [f"{key} = {written(value)}" for key, value in tree.items() if key not in SECTIONS]
+    for section in SECTIONS:
+        for row in tree.get(section, []):
+            lines.append(f"[[{section}]]")
+            lines += (f"{key} = {written(value)}" for key, value in row.items())
+    return "\n".join(lines) + "\n"
 
 
 def line_of_refusal(text, said):

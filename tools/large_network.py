@@ -35,6 +35,7 @@ SIZE_SHARES = {
 }
 
 PERCENT_HIGH = 30
+POLICINGS = ["bytes", "frames"]
 MOST_VIRTUAL_LINKS = 65536
 MOST_SWITCHES_OF_A_PATH = MOST_NODES_OF_A_PATH - 2
 NS_A_BYTE = 80
@@ -170,6 +171,9 @@ class VirtualLink:
         self.size = least + draw.below(greatest - least + 1)
         self.high = draw.happens(PERCENT_HIGH)
         self.phase = draw.random()
+        # Nothing is drawn for what was not asked for: the same words give the same text in every edition.
+        self.sub = 1 + draw.below(words.sub) if words.sub > 1 else None
+        self.policing = draw.one_of(POLICINGS) if words.policing == "both" else words.policing
 
     def by_distance(self, wiring, tree):
         """The end systems but the source, as lists by the number of switches on the way. No list is empty."""
@@ -235,8 +239,10 @@ def write_virtual_link(number, vl, stretch, out):
     bag_ns = vl.bag_ms * 10**6
     period = min(LATEST_NS, int(bag_ns * stretch))
     out(f"[[vl]]\nid = {number}\nbag_ms = {vl.bag_ms}\nsmax = {vl.size}\n")
-    out(f'priority = "{"high" if vl.high else "low"}"\npolicing_jitter_ns = 500000\nskew_max_ns = 5000000\n')
-    out(f"depth = 16\nsize = {vl.size}\noffset_ns = {int(period * vl.phase)}\nperiod_ns = {period}\n")
+    policing = f'policing = "{vl.policing}"\n' if vl.policing else ""
+    sub = f"sub = {vl.sub}\n" if vl.sub else ""
+    out(f'priority = "{"high" if vl.high else "low"}"\npolicing_jitter_ns = 500000\n{policing}skew_max_ns = 5000000\n')
+    out(f"depth = 16\n{sub}size = {vl.size}\noffset_ns = {int(period * vl.phase)}\nperiod_ns = {period}\n")
     out(f"jitter_ns = {bag_ns // 20}\n")
     for net in "AB":
         paths = []
@@ -293,6 +299,11 @@ def words_of(arguments=None):
         "load", 0, 1000, 0, "PERCENT",
         "greatest load of the busiest line: if it would be higher, all periods are stretched alike. "
         "0: every period is its BAG",
+    )
+    number("sub", 1, 4, 1, "N", "the most sub-virtual links of a virtual link; each has 1 to so many. 1: no key sub is written")
+    parser.add_argument(
+        "--policing", choices=[*POLICINGS, "both"],
+        help="how switches police; both: drawn for each virtual link (default: no key policing is written, so bytes)",
     )
     number("port-bytes", 1518, 1048576, 65536, "BYTES", "waiting bytes of each port")
     number("until", 1, LATEST_NS, 10**9, "NS", "end time in ns")

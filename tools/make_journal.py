@@ -16,9 +16,9 @@ import argparse
 import collections
 import heapq
 import sys
-import tomllib
 
-from second_opinion import BODIES, Simulation
+import afdx
+from second_opinion import BODIES, Simulation, network_of
 
 
 class Journal(Simulation):
@@ -108,10 +108,11 @@ def main():
     given = words.parse_args()
     if given.turn < 1 or given.window < 1:
         words.error("a turn has at least one message, and a window at least 1 ns")
-    with open(given.net, "rb") as file:
-        journal = Journal(tomllib.load(file))
-    for step in journal.steps(given.turn, given.window):
-        print(step)
+    try:
+        journal = Journal(network_of(given.net))
+        afdx.write_out("".join(step + "\n" for step in journal.steps(given.turn, given.window)))
+    except afdx.Fault as fault:
+        sys.exit(f"make_journal.py: {fault}")
 
 
 if __name__ == "__main__":

@@ -1,22 +1,37 @@
 #!/usr/bin/env python3
-"""A second opinion on the tables of a network: a plain simulator of one thread, which shares no code with the product.
+"""A second opinion on the tables of a network: a plain simulator of one thread, which shares no code with the program.
 
-It reads an accepted description and prints the tables. Its use is to work out what tests expect.
-
-    python3 tools/second_opinion.py NET.toml [--events]
-
-With --events it tells on error output how many messages were handled. It handles some 60,000 messages a second.
+It follows the rules of docs/TRAFFIC.md message by message, and prints the tables as `afdxsim seq` does; with --trace it
+writes the trace too. It needs nothing but Python, so it also serves where a table is wanted within a second and the
+program is not built yet. It handles some 60,000 messages a second.
 """
+import argparse
 import heapq
 import sys
 
 import afdx
-from afdx import CAUSES
+import explain
+from afdx import CAUSES, Fault
+
+EXAMPLES = """
+examples:
+  second_opinion.py net.toml
+        the tables
+  second_opinion.py net.toml --trace trace.csv > tables.csv
+        the tables and the trace, for report.py
+  second_opinion.py net.toml | diff - tables.csv
+        whether the program, which printed tables.csv, says the same
+
+status: 0; 2 where a word is wrong, a file cannot be read or written, or the description is not accepted. One line on
+error output then names the file and the line; explain.py tells all that is wrong with a description.
+"""
 
 BODIES = ["Offer", "Release", "PortFree", "Arrive", "Enqueue", "Carry"]
 
 
 class Simulation:
+    """The run of a network, a dictionary as the reader of TOML gives it. `rows` has its notes, in their order."""
+
     def __init__(self, net):
         self.net = net
         self.until = net["until_ns"]
@@ -53,7 +68,10 @@ class Simulation:
                     for before, here, after in zip(path, path[1:], path[2:]):
                         self.inputs[vl, self.place[here]] = self.port_of[here, before]
                         self.outputs.setdefault((vl, self.place[here]), set()).add(self.port_of[here, after])
-        self.regulators = {vl: {"waiting": [], "last": None, "sn": 0} for vl in self.vls}
+        self.regulators = {
+            vl: {"waiting": [[] for _ in range(row.get("sub", 1))], "pointer": 0, "last": None, "sn": 0}
+            for vl, row in self.vls.items()
+        }
         self.ports, self.accounts, self.checks, self.delivered = {}, {}, {}, {}
         self.counters = {}
         self.heap, self.rows = [], []
@@ -62,7 +80,7 @@ class Simulation:
             row = self.vls[vl]
             drawn = afdx.offers(net["seed"], vl, row["offset_ns"], row["period_ns"], row["jitter_ns"], self.until)
             for k, time in drawn:
-                self.push(time, self.source[vl], 4096 + vl, k, "Offer", (vl, row["size"]))
+                self.push(time, self.source[vl], 4096 + vl, k, "Offer", (vl, row["size"], k % row.get("sub", 1)))
 
     def push(self, time, receiver, sender, number, kind, fields):
         heapq.heappush(self.heap, (time, receiver, sender, number, BODIES.index(kind), fields))
@@ -95,11 +113,12 @@ class Simulation:
         else:
             self.lose(t, p, frame, "port_full")
 
-    def release(self, t, p, vl, frame):
-        """The regulator has let the frame go."""
+    def release(self, t, vl, q, frame):
+        """The regulator lets a frame of the sub-virtual link q go; the one after q has the next turn."""
         g = self.regulators[vl]
         out = (vl, g["sn"], frame[2], frame[3], t)
         g["last"], g["sn"] = t, 1 if g["sn"] == 255 else g["sn"] + 1
+        g["pointer"] = (q + 1) % len(g["waiting"])
         return out
 
     def copies(self, t, p, vl, frame):
@@ -130,26 +149,10 @@ class Simulation:
             self.at_switch(t, p, kind, fields)
 
     def at_end_system(self, t, p, kind, fields):
-        if kind in ("Offer", "Release"):
-            vl = fields[0]
-            g, bag = self.regulators[vl], self.vls[vl]["bag_ms"] * 10**6
-            due = g["last"] is None or t >= g["last"] + bag
-            if kind == "Offer":
-                frame = (vl, 0, fields[1], t, 0)
-                if not g["waiting"] and due:
-                    self.copies(t, p, vl, self.release(t, p, vl, frame))
-                elif len(g["waiting"]) < self.vls[vl]["depth"]:
-                    if not g["waiting"]:
-                        self.send(g["last"] + bag, p, p, "Release", (vl,))
-                    g["waiting"].append(frame)
-                else:
-                    self.lose(t, p, frame, "queue_full")
-            elif g["waiting"] and due:
-                out = self.release(t, p, vl, g["waiting"].pop(0))
-                if g["waiting"]:
-                    self.send(t + bag, p, p, "Release", (vl,))
-                self.copies(t, p, vl, out)
-            return
+        if kind == "Offer":
+            return self.offer(t, p, *fields)
+        if kind == "Release":
+            return self.next_turn(t, p, *fields)
         _, frame = fields
         vl, number, net = frame[0], frame[1], frame[5]
         before = self.checks.get((vl, p, net))
@@ -165,6 +168,37 @@ class Simulation:
         else:
             self.lose(t, p, frame, "duplicate")
 
+    def is_due(self, t, vl):
+        last = self.regulators[vl]["last"]
+        return last is None or t >= last + self.vls[vl]["bag_ms"] * 10**6
+
+    def offer(self, t, p, vl, size, q):
+        """The application offers a frame to the sub-virtual link q."""
+        g, frame = self.regulators[vl], (vl, 0, size, t, 0)
+        waits = any(g["waiting"])
+        if q >= len(g["waiting"]):
+            self.lose(t, p, frame, "queue_full")
+        elif not waits and self.is_due(t, vl):
+            self.copies(t, p, vl, self.release(t, vl, q, frame))
+        elif len(g["waiting"][q]) < self.vls[vl]["depth"]:
+            g["waiting"][q].append(frame)
+            if not waits and g["last"] is not None:
+                self.send(g["last"] + self.vls[vl]["bag_ms"] * 10**6, p, p, "Release", (vl,))
+        else:
+            self.lose(t, p, frame, "queue_full")
+
+    def next_turn(self, t, p, vl):
+        """The regulator's turn: the first sub-virtual link from the pointer on, going round, that has a frame."""
+        g = self.regulators[vl]
+        if not (any(g["waiting"]) and self.is_due(t, vl)):
+            return
+        count = len(g["waiting"])
+        q = next(q % count for q in range(g["pointer"], g["pointer"] + count) if g["waiting"][q % count])
+        out = self.release(t, vl, q, g["waiting"][q].pop(0))
+        if any(g["waiting"]):
+            self.send(t + self.vls[vl]["bag_ms"] * 10**6, p, p, "Release", (vl,))
+        self.copies(t, p, vl, out)
+
     def at_switch(self, t, p, kind, fields):
         q, frame = fields
         vl = frame[0]
@@ -177,8 +211,9 @@ class Simulation:
         cap = row["smax"] * (bag + row["policing_jitter_ns"])
         level, last = self.accounts.get((vl, p), (cap, 0))
         level = min(cap, level + row["smax"] * max(0, t - last))
-        passes = level >= frame[2] * bag
-        self.accounts[vl, p] = (level - frame[2] * bag if passes else level, t)
+        amount = (row["smax"] if row.get("policing") == "frames" else frame[2]) * bag
+        passes = level >= amount
+        self.accounts[vl, p] = (level - amount if passes else level, t)
         if not passes:
             return self.lose(t, p, frame, "policed")
         for out in sorted(self.outputs[vl, p]):
@@ -190,7 +225,14 @@ class Simulation:
             self.handle(time, receiver, BODIES[kind], fields)
             self.handled += 1
 
+    def trace(self):
+        """The lines of the trace: each delivery and each loss, in the order of the messages."""
+        yield afdx.TRACE_HEAD
+        for time, place, vl, what, value in self.rows:
+            yield "%d,%s,%d,%s,%d" % (time, self.names[place], vl, what, value)
+
     def tables(self):
+        """The lines of the tables."""
         yield afdx.TABLES_HEAD
         latencies = {}
         for _, place, vl, what, value in self.rows:
@@ -209,16 +251,38 @@ class Simulation:
             yield "dropped,%d,%s,%s,%d,,," % (vl, self.names[place], CAUSES[cause], count)
 
 
-def main():
-    if len(sys.argv) not in (2, 3) or sys.argv[2:] not in ([], ["--events"]):
-        sys.exit(__doc__)
-    simulation = Simulation(afdx.Description(sys.argv[1]).tree)
-    simulation.run()
-    if sys.argv[2:]:
+def network_of(path):
+    """The table that an accepted description is."""
+    text = afdx.text_of(path)
+    fault = explain.first_fault(path, text)
+    if fault:
+        raise Fault(path, fault.line, f"is refused: {explain.answer(fault)}; {fault.text}")
+    return afdx.Description(path, text).tree
+
+
+def main(arguments=None):
+    parser = argparse.ArgumentParser(
+        description=__doc__, epilog=EXAMPLES, formatter_class=argparse.RawDescriptionHelpFormatter
+    )
+    parser.add_argument("net", metavar="NET", help="the description (TOML)")
+    parser.add_argument("--trace", metavar="FILE", help="writes the trace to this file")
+    parser.add_argument("--events", action="store_true", help="tells on error output how many messages were handled")
+    words = parser.parse_args(arguments)
+    if words.trace and afdx.is_same_file(words.net, words.trace):
+        parser.error(f"NET and --trace name one file, {words.net}")
+    try:
+        simulation = Simulation(network_of(words.net))
+        simulation.run()
+        if words.trace:
+            afdx.write_whole(words.trace, "".join(line + "\n" for line in simulation.trace()))
+        afdx.write_out("".join(line + "\n" for line in simulation.tables()))
+    except Fault as fault:
+        print(f"second_opinion.py: {fault}", file=sys.stderr)
+        return 2
+    if words.events:
         print(simulation.handled, "events", file=sys.stderr)
-    for line in simulation.tables():
-        print(line)
+    return 0
 
 
 if __name__ == "__main__":
-    main()
+    sys.exit(main())

@@ -1,12 +1,21 @@
 #!/usr/bin/env python3
-"""Runs drawn small networks by workers, and holds each run against the one-thread run.
+"""Runs drawn small networks by workers, and holds each run against the one-thread run; or holds the one-thread run
+against the second opinion.
 
 Each run has a network of its own, drawn by large_network.py: 2 to 6 end systems, 1 to 3 switches on each of the two
-networks, 1 to 12 virtual links, 1 to 20 ms of simulated time. Its number of workers is drawn from 1 to 64, its turn
-from 1 to 256 and its window from 1 to 10^12 ns, each evenly over its powers of two, so that small ones are as frequent
-as large ones. `afdxsim run` must then end with status 0, and its tables and its trace must have the bytes of
-`afdxsim seq`. One run of ten also writes its journal, and `afdxsim replay` of it must print the same tables, and tell
-that the run is finished, that nothing was refused and that nothing was not enabled.
+networks, 1 to 12 virtual links with 1 to 4 sub-virtual links and both kinds of policing, 1 to 20 ms of simulated time.
+Half of the networks are bent, so that frames wait and are lost: periods from a tenth of the BAG on, depths of 1 to 3,
+jitters up to the BAG, frames above Smax, little jitter for policing, lines of 10 Mbit/s, outages; and half of these lie
+at the latest end of a run, 10^15 ns.
+
+The number of workers is drawn from 1 to 64, the turn from 1 to 256 and the window from 1 to 10^15 ns, each evenly over
+its powers of two, so that small ones are as frequent as large ones. `afdxsim run` must then end with status 0, and its
+tables and its trace must have the bytes of `afdxsim seq`. One run of ten also writes its journal, and `afdxsim replay`
+of it must print the same tables, and tell that the run is finished, that nothing was refused and that nothing was not
+enabled.
+
+With --second-opinion no worker runs: the tables and the trace of `afdxsim seq` must have the bytes of those that
+tools/second_opinion.py makes.
 
 What is drawn follows from --first and the number of the run alone, so a run that differs can be made again. How the
 threads take turns is for the system, so it may come out well then.
@@ -24,7 +33,9 @@ HERE = os.path.dirname(os.path.abspath(__file__))
 sys.path.insert(0, HERE)
 
 import large_network  # noqa: E402
-from afdx import GREATEST_SEED, PROGRAM, whole  # noqa: E402
+import toml_lines  # noqa: E402
+from afdx import GREATEST_FRAME, GREATEST_SEED, LATEST_NS, PROGRAM, text_of_tree, whole  # noqa: E402
+from second_opinion import Simulation  # noqa: E402
 
 WELL_REPLAYED = re.compile(r"replay: \d+ did, 0 not enabled, 0 refused, gvt \d+, finished\n")
 
@@ -34,6 +45,8 @@ examples:
         a thousand runs
   threaded_runs.py --runs 1 --first 417 --keep
         the run 417 once more; its description, tables, trace and journal stay in the folder that is named
+  threaded_runs.py --second-opinion
+        the one-thread run of a thousand networks, against the second opinion
 
 It prints how many runs there were, how many of them came out as they must, and what the others did, a line each.
 
@@ -56,13 +69,58 @@ def network_of(draw):
         ["--end-systems", str(draw.randint(2, 6)), "--switches", str(draw.randint(1, 3)), "--columns", "1"]
         + ["--virtual-links", str(draw.randint(1, 12)), "--destinations", str(draw.randint(1, 3))]
         + ["--port-bytes", str(draw.choice([1518, 4096, 65536])), "--until", str(draw.randint(1, 20) * 10**6)]
-        + ["--seed", str(draw.randint(0, GREATEST_SEED))]
+        + ["--seed", str(draw.randint(0, GREATEST_SEED)), "--sub", "4", "--policing", "both"]
     )
     pieces = []
     refusal = large_network.write_network(words, pieces.append, lambda _: None)
     if refusal:
         raise ValueError(refusal)
-    return "".join(pieces)
+    tree = toml_lines.read("".join(pieces))
+    if draw.random() < 0.5:
+        bend(tree, draw)
+        if draw.random() < 0.5:
+            move_to_the_latest_end(tree)
+    return text_of_tree(tree)
+
+
+def bend(tree, draw):
+    """Changes a description, so that frames wait, are late and are lost."""
+    for link in tree["link"]:
+        link["mbit"] = draw.choice([10, 100, 100, 100])
+    for node in tree["node"]:
+        node["port_bytes"] = draw.choice([GREATEST_FRAME, 4096, 65536])
+    for vl in tree["vl"]:
+        bag_ns = vl["bag_ms"] * 10**6
+        vl["period_ns"] = max(1000, int(bag_ns * draw.choice([0.1, 0.3, 0.7, 0.999, 1, 1.001, 3])))
+        vl["jitter_ns"] = int(bag_ns * draw.choice([0, 0, 0.01, 0.5, 1]))
+        vl["offset_ns"] = draw.choice([0, 0, 1, draw.randrange(tree["until_ns"] + 2)])
+        vl["depth"] = draw.randint(1, 3)
+        vl["policing_jitter_ns"] = draw.choice([0, 1000, 100_000, 500_000, 10**9])
+        vl["skew_max_ns"] = draw.choice([0, 1000, 10**6, 10**9])
+        if draw.random() < 0.2:
+            vl["smax"] = max(64, vl["size"] - draw.choice([1, 10]))
+        elif draw.random() < 0.3:
+            vl["smax"] = min(GREATEST_FRAME, vl["size"] + draw.choice([1, 10, 300]))
+        for key in ("sub", "policing"):
+            if draw.random() < 0.1:
+                del vl[key]
+    tree["outage"] = []
+    for _ in range(draw.choice([0, 0, 1, 3]) if tree["link"] else 0):
+        link, begin = draw.choice(tree["link"]), draw.randrange(tree["until_ns"])
+        ends = draw.sample([link["a"], link["b"]], 2)
+        times = {"from_ns": begin, "to_ns": begin + draw.randint(1, tree["until_ns"])}
+        tree["outage"].append({"from": ends[0], "to": ends[1]} | times)
+
+
+def move_to_the_latest_end(tree):
+    """The same network, with all of its moments as late as can be."""
+    late = LATEST_NS - tree["until_ns"]
+    tree["until_ns"] = LATEST_NS
+    for vl in tree["vl"]:
+        vl["offset_ns"] = min(LATEST_NS, vl["offset_ns"] + late)
+    for outage in tree["outage"]:
+        outage["from_ns"] = outage["from_ns"] + late
+        outage["to_ns"] = min(LATEST_NS, outage["to_ns"] + late)
 
 
 class Drawn:
@@ -74,7 +132,7 @@ class Drawn:
         self.network = network_of(draw)
         self.workers = power(draw, 64)
         self.turn = power(draw, 256)
-        self.window = power(draw, 10**12)
+        self.window = power(draw, LATEST_NS)
         self.has_journal = number % 10 == 0
 
     def pace(self):
@@ -124,13 +182,27 @@ def hold(program, drawn, folder, seconds):
             raise Difference(f"replay told: {told.decode(errors='replace').strip()}")
 
 
+def hold_by_second_opinion(program, drawn, folder, seconds):
+    """Makes a run of one thread and holds it against the second opinion."""
+    with open(os.path.join(folder, "net.toml"), "w", encoding="utf-8") as out:
+        out.write(drawn.network)
+    tables, _ = ended(program, ["seq", "net.toml", "--trace", "seq.csv"], folder, seconds)
+    simulation = Simulation(toml_lines.read(drawn.network))
+    simulation.run()
+    for lines, found, what in (
+        (simulation.tables(), tables, "the tables of the second opinion"),
+        (simulation.trace(), read(os.path.join(folder, "seq.csv")), "the rows of the second opinion's trace"),
+    ):
+        same("".join(line + "\n" for line in lines).encode(), found, what)
+
+
 def one_run(words, number, tell):
     """Makes one run, tells what it did where it must not, and answers what came out, in a word or two."""
     drawn = Drawn(number)
     folder = tempfile.mkdtemp(prefix=f"threaded-run-{number}-")
-    found = "as seq"
+    found = "well"
     try:
-        hold(words.program, drawn, folder, words.seconds)
+        (hold_by_second_opinion if words.second_opinion else hold)(words.program, drawn, folder, words.seconds)
     except Difference as fault:
         found = "another way"
         tell(f"run {number} ({' '.join(drawn.pace())}): {fault}")
@@ -151,6 +223,7 @@ def words_of(arguments=None):
     add("--runs", type=whole(1, 10**6), default=1000, metavar="N", help="how many runs (default 1000)")
     add("--first", type=whole(0, 10**9), default=0, metavar="N", help="number of the first (default 0)")
     add("--seconds", type=whole(1, 3600), default=60, metavar="N", help="most of a command (default 60)")
+    add("--second-opinion", action="store_true", help="holds seq against the second opinion; no worker runs")
     add("--keep", action="store_true", help="keeps the files of each run, and names the folder")
     add("--program", default=PROGRAM, metavar="FILE", help="the built program (default crates/afdxsim/out/afdxsim)")
     words = parser.parse_args(arguments)
@@ -165,7 +238,7 @@ def main(arguments=None):
     outcomes = collections.Counter()
     for number in range(words.first, words.first + words.runs):
         outcomes[one_run(words, number, print)] += 1
-    print(f"{words.runs} runs, {outcomes['as seq']} came out as seq, {outcomes['another way']} did not")
+    print(f"{words.runs} runs, {outcomes['well']} came out as {'the second opinion' if words.second_opinion else 'seq'}, {outcomes['another way']} did not")
     return 1 if outcomes["another way"] else 0
 
 
