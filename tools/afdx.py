@@ -223,8 +223,9 @@ class Description:
         """The rows of a section that is a list."""
         return self.tree.get(section, toml_lines.Array(1))
 
-    def line(self, section, row=None, key=None):
-        """The line of a key, of a row or of a section. Of what is not there it is that of what it would stand in."""
+    def line(self, section, row=None, key=None, item=None):
+        """The line of a key, of a row or of a section, or of an item, from 1, of the list that a key is. Of what is not
+        there it is that of what it would stand in."""
         if section == "top":
             return self.tree.lines.get(key, 1)
         lines, found = self.tree.lines, self.tree
@@ -234,7 +235,9 @@ class Description:
         if type(found) is not toml_lines.Array or not row or row > len(found):
             return line
         line, found = found.lines[row - 1], found[row - 1]
-        return found.lines.get(key, line) if type(found) is toml_lines.Table else line
+        if type(found) is not toml_lines.Table or key not in found:
+            return line
+        return found[key].lines[item - 1] if item else found.lines[key]
 
     def fault(self, section, row, key, text):
         """A fault that names the place as the program does."""

@@ -282,8 +282,7 @@ class Judge:
 
     def at_path(self, number, i, key, path, text):
         """Adds a fault of one path, from 1, of a virtual link."""
-        paths = self.tree["vl"][i - 1][key]
-        self.add(number, "vl", i, key, text, paths.lines[path - 1], f", path {path}")
+        self.add(number, "vl", i, key, text, self.description.line("vl", i, key, path), f", path {path}")
 
     # ---- 5: unknown keys and names ----
 
@@ -536,7 +535,12 @@ def findings_of(path, text):
     found, read = syntax_faults(text)
     if read is None:
         return found, False
-    return found + sorted(Judge(afdx.Description(path, read)).findings, key=rank), True
+    return found + judged(afdx.Description(path, read)), True
+
+
+def judged(description):
+    """The faults from 2 on of a description that is TOML, in the order in which the program tries them."""
+    return sorted(Judge(description).findings, key=rank)
 
 
 def first_fault(path, text):

@@ -123,11 +123,11 @@ PIECES = ['"', "'", "=", "[", "]", "[[", "]]", "{", "}", ",", ".", "#", "\n", "\
 
 
 def mutated(text, draw):
-    """A text with one to three mistakes: of a character, of a piece, of a line, of a word, or of two texts."""
+    """A text with one to three mistakes: of a character, a piece, a line, a word, a number, a name or a row."""
     for _ in range(draw.choice([1, 1, 1, 2, 3])):
         place, lines = draw.randrange(len(text) + 1), text.split("\n")
         here, there = draw.randrange(len(lines)), draw.randrange(len(lines))
-        kind = draw.choice([0, 1, 2, 3, 4, 5, 6, 6, 6, 6, 7, 7, 7, 8])
+        kind = draw.choice([0, 1, 2, 3, 4, 5, 6, 6, 7, 7, 7, 8, 9, 9, 9, 9, 10, 10])
         if kind == 0:
             text = text[:place] + text[place + 1 :]
         elif kind == 1:
@@ -152,8 +152,17 @@ def mutated(text, draw):
                 old = draw.choice(numbers)
                 new = draw.choice(["0", "-1", "1", "10", str(10**15), str(10**15 + 1), str(2**63), "64", "1518", "1519"])
                 text = text[: old.start()] + new + text[old.end() :]
-        else:
+        elif kind == 8:
             text = text[:place]
+        elif kind == 9:
+            names = list(re.finditer(r'"[\w-]+"', text))
+            if names:
+                old, new = draw.choice(names), draw.choice(names)
+                text = text[: old.start()] + new[0] + text[old.end() :]
+        else:
+            blocks = re.split(r"(?m)^(?=\[\[)", text)
+            blocks.insert(draw.randrange(1, len(blocks) + 1), draw.choice(blocks[1:] or [""]))
+            text = "".join(blocks)
     return text
 
 

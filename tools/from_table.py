@@ -1,0 +1,552 @@
+#!/usr/bin/env python3
+"""Makes a description of tables, as they stand in an interface control document: one line a virtual link, one line a
+node, one line a link, in one CSV file or in several.
+
+Paths are shortest ones on both networks. What the tables leave open has usual values. The description says in comments
+which value is usual, which frame size was computed of a payload, and which line of which table each row is made of.
+
+--back makes the tables of a description.
+"""
+import argparse
+import csv
+import io
+import re
+import sys
+from collections import namedtuple
+from fractions import Fraction
+
+import afdx
+import explain
+from afdx import BAGS_MS, KEYS, SECTIONS, Fault
+
+EXAMPLES = """
+examples:
+  from_table.py icd.csv -o net.toml
+        the description of a table that has all
+  from_table.py virtual_links.csv topology.csv -o net.toml
+        the same of two tables
+  from_table.py --back net.toml -o tables.csv
+        the tables of a description
+
+a table begins with a line that names its columns, and ends with an empty line or with the file. Its columns tell what
+it has. Columns marked * must be there; lines that begin with # are passed over:
+  virtual links   id*, source*, destinations* (names with blanks between), bag_ms, smax or payload (bytes), priority,
+                  sub, policing, policing_jitter_ns, skew_max_ns, depth, size, offset_ns, period_ns, jitter_ns; bag_ms
+                  or period_ns must be there, and so must smax, size or payload. `via` names switches that come first
+                  where two ways are equally short, else the name decides; `a` and `b` state the paths of a network
+                  themselves, as `ADC SWA DU | ADC SWA FWC`, and - for none
+  nodes           name*, kind (es or switch; a node with a net is a switch), net, port_bytes, latency_ns
+  links           a*, b*, mbit, propagation_ns or length_m
+  outages         from*, to*, from_ns*, to_ns*
+  the run         until_ns, seed
+A node that is a source or a destination and has no line is an end system. A time may be given in another unit: period_ms,
+jitter_us, until_s. Capital letters, blanks and brackets in the name of a column do not matter: `BAG (ms)` is bag_ms.
+docs/FORMATS.md, section 11, has more.
+
+status: 0; 1 where the tables have a fault: all are told, each with its file and line, and nothing is written; 2 where a
+word is wrong, or a file cannot be read or written.
+"""
+
+# The bytes of a frame beside the payload of UDP: Ethernet header 14, IP 20, UDP 8, sequence number 1, check sequence 4.
+BYTES_AROUND_A_PAYLOAD = 47
+GREATEST_PAYLOAD = afdx.GREATEST_FRAME - BYTES_AROUND_A_PAYLOAD
+NS_A_METRE = 5
+
+USUAL = {
+    "top": {"until_ns": 2 * 10**9, "seed": 1},
+    "es": {"port_bytes": 16384},
+    "switch": {"port_bytes": 65536, "latency_ns": 16000},
+    "link": {"mbit": 100, "propagation_ns": 100},
+    "vl": {"priority": "low", "policing_jitter_ns": 500_000, "depth": 4, "offset_ns": 0, "jitter_ns": 0},
+}
+
+# The names of columns beside those of the keys.
+ALIASES = {
+    "vl": "id",
+    "vl_id": "id",
+    "number": "id",
+    "bag": "bag_ms",
+    "src": "source",
+    "destination": "destinations",
+    "dest": "destinations",
+    "dst": "destinations",
+    "sinks": "destinations",
+    "payload_bytes": "payload",
+    "smax_bytes": "smax",
+    "size_bytes": "size",
+    "sub_links": "sub",
+    "sub_virtual_links": "sub",
+    "sub_vls": "sub",
+    "network": "net",
+    "type": "kind",
+    "node": "name",
+    "speed": "mbit",
+    "mbit_s": "mbit",
+    "speed_mbit_s": "mbit",
+    "length": "length_m",
+    "paths_a": "a",
+    "paths_b": "b",
+}
+MORE_COLUMNS = {"vl": ["source", "destinations", "payload", "via"], "link": ["length_m"]}
+# Which columns tell what a table has, the first that fits.
+SORTS = [("vl", {"id"}), ("node", {"name"}), ("outage", {"from", "to"}), ("link", {"a", "b"}), ("top", {"until_ns"}), ("top", {"seed"})]
+NEEDED = {"vl": ["id"], "node": ["name"], "link": ["a", "b"], "outage": ["from", "to", "from_ns", "to_ns"], "top": []}
+WORDS = {"end system": "es", "end_system": "es", "sw": "switch"}
+UNITS = {"ns": 1, "us": 10**3, "ms": 10**6, "s": 10**9}
+
+# A line of a table: the file, the line, and the cells that are not empty, by the names of their columns.
+Line = namedtuple("Line", "path number cells")
+# A value of a description, and what a comment says of it.
+Value = namedtuple("Value", "value said")
+
+
+# ---- tables ----
+
+
+def column_of(text):
+    """The name of a column as this tool knows it."""
+    name = re.sub("[^a-z0-9]+", "_", text.strip().lower().replace("µ", "u")).strip("_")
+    return ALIASES.get(name, name)
+
+
+def unit_of(column, section):
+    """The key of times for which a column stands, and its unit in ns; None where it is no such column."""
+    found = re.fullmatch("(.*)_(ns|us|ms|s)", column)
+    key = found and found[1] + "_ns"
+    return (key, UNITS[found[2]]) if key in [it.name for it in KEYS[section]] else None
+
+
+class Tables:
+    """The lines of tables by section, and their faults."""
+
+    def __init__(self, paths):
+        self.lines, self.faults = {section: [] for section in ("top", *SECTIONS)}, []
+        for path in paths:
+            text = afdx.text_of(path).removeprefix("\ufeff")
+            first = next((line for line in text.split("\n") if line.strip() and not line.startswith("#")), "")
+            rows = csv.reader(io.StringIO(text, newline=""), delimiter=max(",;\t", key=first.count))
+            try:
+                self.read(path, rows)
+            except csv.Error as fault:
+                self.add(Line(path, rows.line_num, {}), f"is no line of a table: {fault}")
+
+    def add(self, line, text):
+        self.faults.append(Fault(line.path, line.number, text))
+
+    def read(self, path, rows):
+        section, columns = None, None
+        for cells in rows:
+            cells = [cell.strip() for cell in cells]
+            if not any(cells):
+                section, columns = None, None
+            elif cells[0].startswith("#"):
+                pass
+            elif columns is None:
+                columns = [column_of(cell) for cell in cells]
+                section = self.section_of(Line(path, rows.line_num, {}), columns)
+            elif section:
+                self.line(Line(path, rows.line_num, {}), section, columns, cells)
+
+    def section_of(self, line, columns):
+        """What a table has whose columns these are."""
+        section = next((section for section, names in SORTS if names <= set(columns)), None)
+        if section is None:
+            self.add(line, f"names no columns of a table, but {', '.join(filter(None, columns))}: --help has them")
+            return None
+        known = [key.name for key in KEYS[section]] + MORE_COLUMNS.get(section, [])
+        for i, column in enumerate(columns):
+            if column in columns[:i] and column:
+                self.add(line, f"has the column {column} twice")
+            elif column and column not in known and not unit_of(column, section):
+                self.add(line, f"has the column {column}, which is none of this table{explain.meant(column, known)}")
+        for column in NEEDED[section]:
+            if column not in columns and not any((unit_of(it, section) or "?")[0] == column for it in columns):
+                self.add(line, f"has no column {column}")
+        return section
+
+    def line(self, line, section, columns, cells):
+        if len(cells) > len(columns) and any(cells[len(columns) :]):
+            self.add(line, f"has {len(cells)} cells, and the table has {len(columns)} columns")
+        for column, cell in zip(columns, cells):
+            if cell and column:
+                line.cells[column] = cell
+        self.lines[section].append(line)
+
+
+# ---- a description of tables ----
+
+
+class Maker:
+    """The rows of a description, made of the lines of tables. Each row is a dictionary of values, and `made_of` has the
+    line of each."""
+
+    def __init__(self, tables):
+        self.tables, self.add = tables, tables.add
+        self.made_of = {section: [] for section in ("top", *SECTIONS)}
+        self.rows = {section: [] for section in SECTIONS}
+        self.top = self.top_of(tables.lines["top"])
+        for line in tables.lines["node"]:
+            self.put("node", line, self.node(line))
+        self.unnamed_end_systems()
+        for line in tables.lines["link"]:
+            self.put("link", line, self.link(line))
+        for line in tables.lines["outage"]:
+            self.put("outage", line, self.row_of(line, "outage", {}))
+        self.networks = {net: self.network(net) for net in "AB"}
+        for line in tables.lines["vl"]:
+            self.put("vl", line, self.virtual_link(line))
+
+    def put(self, section, line, row):
+        self.rows[section].append(row)
+        self.made_of[section].append(line)
+
+    def value(self, line, section, column):
+        """The value of a cell, or None where the cell is empty or is none."""
+        text = line.cells[column]
+        time = unit_of(column, section)
+        if time and column != "bag_ms":
+            return self.time(line, column, text, time[1])
+        if column in ("length_m", "payload") or any(it.name == column and it.kind == "integer" for it in KEYS[section]):
+            plain = text.replace("_", "")
+            if re.fullmatch("[0-9]+", plain):
+                return int(plain)
+            self.add(line, f"{column} is {text!r}, and no whole number")
+            return None
+        if column in ("net",):
+            return text.upper()
+        if column in ("kind", "priority", "policing"):
+            return WORDS.get(text.lower(), text.lower())
+        return text
+
+    def time(self, line, column, text, unit):
+        plain = text.replace("_", "")
+        if not re.fullmatch(r"[0-9]+(\.[0-9]+)?", plain):
+            self.add(line, f"{column} is {text!r}, and no number")
+            return None
+        ns = Fraction(plain) * unit
+        if ns.denominator != 1:
+            self.add(line, f"{column} is {text}, which is no whole number of ns")
+            return None
+        return int(ns)
+
+    def row_of(self, line, section, usual):
+        """The values of the keys of a section that a line has, or else usual ones."""
+        row = {}
+        for column in line.cells:
+            time = unit_of(column, section)
+            key = time[0] if time and column != "bag_ms" else column
+            if key in [it.name for it in KEYS[section]] and key not in ("a", "b") or section == "link" and key in "ab":
+                value = self.value(line, section, column)
+                if key in row:
+                    self.add(line, f"has {key} twice, as {column} too")
+                said = f"{column} {line.cells[column]}" if column != key else ""
+                if value is not None:
+                    row[key] = Value(value, said)
+        for key, value in usual.items():
+            row.setdefault(key, Value(value, "usual"))
+        return row
+
+    def top_of(self, lines):
+        """The end and the seed, which stand in one line, or in several of which each has one."""
+        row = {}
+        for line in lines:
+            for key, value in self.row_of(line, "top", {}).items():
+                if key in row:
+                    self.add(line, f"says {key} again")
+                row[key] = value
+            self.made_of["top"].append(line)
+        for key, value in USUAL["top"].items():
+            row.setdefault(key, Value(value, "usual"))
+        return row
+
+    def node(self, line):
+        row = self.row_of(line, "node", {})
+        if "kind" not in row:
+            row["kind"] = Value("switch" if "net" in row else "es", "since it has a net" if "net" in row else "usual")
+        for key, value in USUAL.get(row["kind"].value, {}).items():
+            row.setdefault(key, Value(value, "usual"))
+        return row
+
+    def unnamed_end_systems(self):
+        """Adds the sources and destinations that have no line."""
+        named = {row["name"].value for row in self.rows["node"] if "name" in row}
+        for line in self.tables.lines["vl"]:
+            for name in [line.cells.get("source"), *names_of(line.cells.get("destinations", ""))]:
+                if name and name not in named:
+                    named.add(name)
+                    row = {"name": Value(name, "no table has it: an end system"), "kind": Value("es", "usual")}
+                    self.put("node", line, row | {"port_bytes": Value(USUAL["es"]["port_bytes"], "usual")})
+
+    def link(self, line):
+        row = self.row_of(line, "link", {})
+        if "length_m" in line.cells:
+            metres = self.value(line, "link", "length_m")
+            if "propagation_ns" in row:
+                self.add(line, "has length_m and propagation_ns, of which one says the other")
+            if metres is not None:
+                row["propagation_ns"] = Value(max(1, metres * NS_A_METRE), f"{metres} m of {NS_A_METRE} ns")
+        for key, value in USUAL["link"].items():
+            row.setdefault(key, Value(value, "usual"))
+        return row
+
+    def network(self, net):
+        """Who is linked with whom on a network, where one of the two is a switch of it."""
+        kinds = {row["name"].value: (row["kind"].value, row.get("net", Value(None, ""))) for row in self.rows["node"] if "name" in row}
+        is_there = lambda name: name in kinds and (kinds[name][0] == "es" or kinds[name][1].value == net)
+        is_switch = lambda name: name in kinds and kinds[name][0] == "switch"
+        beside = {}
+        for row in self.rows["link"]:
+            ends = [row[key].value if key in row else None for key in "ab"]
+            if all(map(is_there, ends)) and any(map(is_switch, ends)):
+                for here, there in (ends, ends[::-1]):
+                    beside.setdefault(here, []).append(there)
+        return beside, {name for name in beside if is_switch(name)}
+
+    # ---- virtual links ----
+
+    def virtual_link(self, line):
+        row = self.row_of(line, "vl", {})
+        self.sizes(line, row)
+        self.times(line, row)
+        for key, value in USUAL["vl"].items():
+            row.setdefault(key, Value(value, "usual"))
+        for net, key in (("A", "a"), ("B", "b")):
+            row[key] = self.stated(line, key) if key in line.cells else self.shortest(line, net)
+        self.ends(line, row)
+        return row
+
+    def sizes(self, line, row):
+        """Smax and the size of the frames, of each other or of the payload."""
+        if "payload" in line.cells:
+            payload = self.value(line, "vl", "payload")
+            if payload is not None and payload > GREATEST_PAYLOAD:
+                self.add(line, f"payload is {payload}, and a frame has {GREATEST_PAYLOAD} bytes of it at most")
+            if payload is not None:
+                size = max(afdx.LEAST_FRAME, payload + BYTES_AROUND_A_PAYLOAD)
+                padded = f", and {afdx.LEAST_FRAME} at least" if size > payload + BYTES_AROUND_A_PAYLOAD else ""
+                said = f"payload {payload} and {BYTES_AROUND_A_PAYLOAD} bytes around it{padded}"
+                row.setdefault("smax", Value(size, said))
+                row.setdefault("size", Value(size, said))
+        if not {"smax", "size", "payload"} & set(line.cells):
+            self.add(line, "has neither smax nor size nor payload")
+        for key, other in (("smax", "size"), ("size", "smax")):
+            if key not in row and other in row:
+                row[key] = Value(row[other].value, f"that of {other}")
+
+    def times(self, line, row):
+        """BAG and period, of each other, and the skew."""
+        if "bag_ms" not in row and "period_ns" not in row:
+            if not any(column == "bag_ms" or column.startswith("period_") for column in line.cells):
+                self.add(line, "has neither bag_ms nor period_ns")
+            return
+        if "bag_ms" not in row:
+            fitting = [bag for bag in BAGS_MS if bag * 10**6 <= row["period_ns"].value]
+            row["bag_ms"] = Value(max(fitting, default=1), "the greatest that is not above the period")
+        row.setdefault("period_ns", Value(row["bag_ms"].value * 10**6, "usual: the BAG"))
+        row.setdefault("skew_max_ns", Value(row["bag_ms"].value * 500_000, "usual: half of the BAG"))
+
+    def stated(self, line, key):
+        """The paths that a column states."""
+        text = line.cells[key]
+        if text == "-":
+            return Value([], "")
+        return Value([names_of(path) for path in text.split("|") if path.strip()], "")
+
+    def shortest(self, line, net):
+        """Shortest paths from the source to each destination that the network reaches."""
+        beside, switches = self.networks[net]
+        source, wanted = line.cells.get("source"), names_of(line.cells.get("destinations", ""))
+        before = ways_from(source, beside, switches, set(names_of(line.cells.get("via", ""))))
+        paths, missed = [], []
+        for name in dict.fromkeys(wanted):
+            path = [name]
+            while path[-1] in before and len(path) <= len(before) + 1:
+                path.append(before[path[-1]])
+            if len(path) > 1 and path[-1] == source:
+                paths.append(path[::-1])
+            else:
+                missed.append(name)
+        said = "shortest" if paths else ""
+        if missed and switches:
+            said += f"{'; ' if said else ''}not reached: {', '.join(missed)}"
+        return Value(paths, said)
+
+    def ends(self, line, row):
+        """Holds the paths against source and destinations."""
+        source, wanted = line.cells.get("source"), names_of(line.cells.get("destinations", ""))
+        is_stated = "a" in line.cells or "b" in line.cells
+        if not is_stated and not source:
+            self.add(line, "has no source")
+        if not is_stated and not wanted:
+            self.add(line, "has no destinations")
+        paths = [path for key in "ab" for path in row[key].value if path]
+        for path in paths:
+            if source and path[0] != source:
+                self.add(line, f"the path {' '.join(path)} begins at {path[0]}, and the source is {source}")
+            if wanted and path[-1] not in wanted:
+                self.add(line, f"the path {' '.join(path)} ends at {path[-1]}, which destinations does not name")
+        reached = {path[-1] for path in paths}
+        for name in wanted:
+            if name not in reached and source:
+                self.add(line, f"{name} is reached from {source} neither on A nor on B{self.alone(source, name)}")
+
+    def alone(self, *names):
+        """Which of some names is in no link, and the one that may be meant."""
+        linked = {*self.networks["A"][0], *self.networks["B"][0]}
+        for name in names:
+            if name not in linked:
+                return f": {name} has no link{explain.meant(name, linked)}"
+        return ""
+
+
+def names_of(text):
+    """Names with blanks, commas or other marks between them."""
+    return [name for name in re.split(r"[\s,;>|]+", text) if name]
+
+
+def ways_from(source, beside, switches, via):
+    """For each node that is reached from the source by switches, the node before it on a shortest way. Of several the
+    first by name is taken, and before all those of `via`."""
+    before, reached, ring = {}, {source}, [source]
+    while ring:
+        found = {}
+        for here in ring:
+            for there in beside.get(here, []):
+                if there not in reached and (here == source or here in switches):
+                    found.setdefault(there, []).append(here)
+        for there, ones in found.items():
+            before[there] = min(ones, key=lambda name: (name not in via, name))
+        reached.update(found)
+        ring = sorted(found)
+    return before
+
+
+# ---- the text ----
+
+
+def line_of_value(key, value):
+    text = f"{key} = {afdx.written(value.value)}"
+    return f"{text:<31} # {value.said}" if value.said else text
+
+
+def text_of_rows(maker, paths):
+    """The description, and for each of its rows the line of the table."""
+    lines = [
+        f"# Made of {', '.join(paths)} by tools/from_table.py.",
+        "#",
+        "# Behind a value stands where it is from, unless it stands in the table itself: `usual` where the table says nothing.",
+        "# smax and size count a frame from the destination address to the check sequence: the payload of UDP and 47 bytes.",
+        "# Paths are the shortest ones; where two are equally short, names decide.",
+    ]
+    lines += [line_of_value(key.name, maker.top[key.name]) for key in KEYS["top"] if key.name in maker.top]
+    for section in SECTIONS:
+        for row, made_of in zip(maker.rows[section], maker.made_of[section]):
+            lines += ["", f"[[{section}]] # {made_of.path} line {made_of.number}"]
+            lines += [line_of_value(key.name, row[key.name]) for key in KEYS[section] if key.name in row]
+    return "\n".join(lines) + "\n"
+
+
+def made(paths):
+    """The description of tables, and their faults."""
+    tables = Tables(paths)
+    maker = Maker(tables)
+    text = text_of_rows(maker, paths)
+    if not tables.faults:
+        for finding in explain.judged(Made(text, maker)):
+            tables.faults.append(fault_of(finding, maker, paths))
+    return text, tables.faults
+
+
+class Made(afdx.Description):
+    """A description whose places are those of the tables that it is made of."""
+
+    def __init__(self, text, maker):
+        super().__init__("", text)
+        self.maker = maker
+
+    def line(self, section, row=None, key=None, item=None):
+        lines = self.maker.made_of[section]
+        return lines[(row or 1) - 1].number if (row or 1) <= len(lines) else 0
+
+
+def fault_of(finding, maker, paths):
+    """A fault of the description as one of a table."""
+    section, row, _ = finding.place
+    lines = maker.made_of[section]
+    path = lines[(row or 1) - 1].path if (row or 1) <= len(lines) else paths[0]
+    who = re.sub(r" ?\(?\w+ row \d+\)?", "", finding.who).strip(", ")
+    joint = " " if finding.text.startswith(("is ", "has ")) else ": "
+    return Fault(path, finding.line, f"{who}{joint}{finding.text}" if who else finding.text)
+
+
+# ---- back ----
+
+
+def cell_of(key, value):
+    if key.kind == "paths":
+        return " | ".join(" ".join(path) for path in value) or "-"
+    return str(value)
+
+
+def back(path):
+    """The tables of a description."""
+    text = afdx.text_of(path)
+    fault = explain.first_fault(path, text)
+    if fault:
+        raise Fault(path, fault.line, f"is refused: {explain.answer(fault)}; {fault.text}")
+    tree = afdx.Description(path, text).tree
+    blocks = []
+    for section in ("top", *SECTIONS):
+        rows = [tree] if section == "top" else tree.get(section, [])
+        keys = [key for key in KEYS[section] if any(key.name in row for row in rows)]
+        columns = [key.name for key in keys]
+        lines = [[cell_of(key, row[key.name]) if key.name in row else "" for key in keys] for row in rows]
+        if section == "vl" and rows:
+            columns[1:1] = ["source", "destinations"]
+            for row, cells in zip(rows, lines):
+                paths = [*row["a"], *row["b"]]
+                cells[1:1] = [paths[0][0], " ".join(dict.fromkeys(way[-1] for way in paths))]
+        if rows:
+            blocks.append("\n".join(",".join(cells) for cells in [columns, *lines]) + "\n")
+    return "\n".join(blocks)
+
+
+# ---- words of the command line ----
+
+
+def words_of(arguments):
+    parser = argparse.ArgumentParser(
+        description=__doc__, epilog=EXAMPLES, formatter_class=argparse.RawDescriptionHelpFormatter
+    )
+    parser.add_argument("tables", metavar="TABLE", nargs="+", help="the tables (CSV); with --back the description")
+    parser.add_argument("-o", "--output", metavar="FILE", help="the file to write (default: standard output)")
+    parser.add_argument("--back", action="store_true", help="makes the tables of a description")
+    words = parser.parse_args(arguments)
+    if words.back and len(words.tables) > 1:
+        parser.error("--back makes the tables of one description")
+    for path in words.tables:
+        if words.output and afdx.is_same_file(path, words.output):
+            parser.error(f"{path} would be overwritten by what is made of it")
+    return words
+
+
+def main(arguments=None):
+    words = words_of(arguments)
+    try:
+        text, faults = (back(words.tables[0]), []) if words.back else made(words.tables)
+        for fault in faults:
+            print(f"from_table.py: {fault}", file=sys.stderr)
+        if faults:
+            return 1
+        if words.output:
+            afdx.write_whole(words.output, text)
+        else:
+            afdx.write_out(text)
+    except Fault as fault:
+        print(f"from_table.py: {fault}", file=sys.stderr)
+        return 2
+    return 0
+
+
+if __name__ == "__main__":
+    sys.exit(main())
