@@ -39,7 +39,7 @@ it has. Columns marked * must be there; lines that begin with # are passed over:
   links           a*, b*, mbit, propagation_ns or length_m
   outages         from*, to*, from_ns*, to_ns*
   the run         until_ns, seed
-A node that is a source or a destination and has no line is an end system. A time may be given in another unit: period_ms,
+A node that has no line of its own is an end system. A time may be given in another unit: period_ms,
 jitter_us, until_s. Capital letters, blanks and brackets in the name of a column do not matter: `BAG (ms)` is bag_ms.
 docs/FORMATS.md, section 11, has more.
 
@@ -149,7 +149,8 @@ class Tables:
 
     def section_of(self, line, columns):
         """What a table has whose columns these are."""
-        section = next((section for section, names in SORTS if names <= set(columns)), None)
+        found = {*columns, *(unit_of(it, "top")[0] for it in columns if unit_of(it, "top"))}
+        section = next((section for section, names in SORTS if names <= found), None)
         if section is None:
             self.add(line, f"names no columns of a table, but {', '.join(filter(None, columns))}: --help has them")
             return None
@@ -268,13 +269,15 @@ class Maker:
         return row
 
     def unnamed_end_systems(self):
-        """Adds the sources and destinations that have no line."""
-        named = {row["name"].value for row in self.rows["node"] if "name" in row}
-        for line in self.tables.lines["vl"]:
-            for name in [line.cells.get("source"), *names_of(line.cells.get("destinations", ""))]:
-                if name and name not in named:
-                    named.add(name)
-                    row = {"name": Value(name, "no table has it: an end system"), "kind": Value("es", "usual")}
+        """Adds the nodes that have no line: sources and destinations, and then what links name."""
+        self.named = {row["name"].value for row in self.rows["node"] if "name" in row}
+        ends = [(it, [it.cells.get("source"), *names_of(it.cells.get("destinations", ""))]) for it in self.tables.lines["vl"]]
+        ends += [(it, [it.cells.get("a"), it.cells.get("b")]) for it in self.tables.lines["link"]]
+        for line, names in ends:
+            for name in names:
+                if name and name not in self.named:
+                    self.named.add(name)
+                    row = {"name": Value(name, "no line has it: an end system"), "kind": Value("es", "usual")}
                     self.put("node", line, row | {"port_bytes": Value(USUAL["es"]["port_bytes"], "usual")})
 
     def link(self, line):
@@ -395,7 +398,7 @@ class Maker:
         linked = {*self.networks["A"][0], *self.networks["B"][0]}
         for name in names:
             if name not in linked:
-                return f": {name} has no link{explain.meant(name, linked)}"
+                return f": {name} has no link{explain.meant(name, self.named - {name})}"
         return ""
 
 

@@ -1,0 +1,196 @@
+"""Tests of second_opinion.py. Those of the class WithTheProgram need the built program, at crates/afdxsim/out/afdxsim, where
+`rt ci` leaves it."""
+import contextlib
+import glob
+import io
+import os
+import subprocess
+import sys
+import tempfile
+import unittest
+
+HERE = os.path.dirname(os.path.abspath(__file__))
+sys.path.insert(0, HERE)
+
+import afdx  # noqa: E402
+import second_opinion  # noqa: E402
+import threaded_runs  # noqa: E402
+import toml_lines  # noqa: E402
+from second_opinion import Simulation  # noqa: E402
+
+EXAMPLES = os.path.join(HERE, "..", "examples")
+
+
+def read(path):
+    with open(path, encoding="utf-8") as file:
+        return file.read()
+
+
+N1 = read(os.path.join(EXAMPLES, "n1.toml"))
+
+
+def changed(*changes):
+    """The smallest example with some changes, each of a piece for another."""
+    text = N1
+    for old, new in changes:
+        assert old in text
+        text = text.replace(old, new, 1)
+    return text
+
+
+def tables_of(text):
+    simulation = Simulation(toml_lines.read(text))
+    simulation.run()
+    return list(simulation.tables())[1:]
+
+
+def called(*words):
+    """The status of second_opinion.py with these words, and what it says on both streams."""
+    out, said = io.StringIO(), io.StringIO()
+    with contextlib.redirect_stdout(out), contextlib.redirect_stderr(said):
+        try:
+            status = second_opinion.main(list(words))
+        except SystemExit as ended:
+            status = ended.code
+    return status, out.getvalue(), said.getvalue()
+
+
+class Rules(unittest.TestCase):
+    """What was worked out by hand of the rules in docs/TRAFFIC.md."""
+
+    def regulator(self, sub, depth, offers):
+        """The regulator of the smallest example after offers of a moment and a sub-virtual link, with what it sent and
+        released since."""
+        simulation = Simulation(toml_lines.read(changed(("depth = 16", f"depth = {depth}\nsub = {sub}"))))
+        simulation.heap.clear()
+        told = []
+        simulation.send = lambda time, _sender, _to, kind, _fields: told.append((kind, time))
+        simulation.copies = lambda time, _at, _vl, out: told.append(("released", out[1], out[3]))
+        simulation.lose = lambda time, _at, _frame, cause: told.append((cause, time))
+        for moment, q in offers:
+            simulation.offer(moment, 0, 1, 64, q)
+        return simulation, told
+
+    def test_sub_virtual_links_take_turns(self):
+        simulation, told = self.regulator(2, 2, [(0, 0), (10, 1), (20, 0), (30, 0), (40, 0)])
+        self.assertEqual(told, [("released", 0, 0), ("Release", 10**6), ("queue_full", 40)])
+        told.clear()
+        for moment in (10**6, 2 * 10**6, 3 * 10**6):
+            simulation.next_turn(moment, 0, 1)
+        # The frame of 10 has the next turn, then that of 20, and behind them that of 30, after which none waits.
+        released = [("Release", 2 * 10**6), ("released", 1, 10), ("Release", 3 * 10**6), ("released", 2, 20)]
+        self.assertEqual(told, [*released, ("released", 3, 30)])
+        self.assertEqual(simulation.regulators[1]["pointer"], 1)
+
+    def test_an_offer_beyond_the_sub_virtual_links_is_lost_before_any_rule(self):
+        simulation, told = self.regulator(2, 2, [(0, 2)])
+        self.assertEqual(told, [("queue_full", 0)])
+        self.assertEqual(simulation.regulators[1]["last"], None)
+
+    def test_sub_virtual_links_do_not_move_what_is_released_in_the_same_order(self):
+        more = [("period_ns = 1000000000000", "period_ns = 400000"), ("until_ns = 2000000", "until_ns = 1100000")]
+        wanted = ["latency,1,ES2,,2,27720,627720,655440"]
+        for change in ([], [("depth = 16", "depth = 16\nsub = 2")], [("depth = 16", "depth = 16\nsub = 4")]):
+            self.assertEqual(tables_of(changed(*more, *change)), wanted)
+
+    def account(self, policing, moments):
+        """Which frames of 64 bytes pass the account of the switch, with Smax 100 and no jitter, and the level then."""
+        text = changed(("smax = 64", "smax = 100"), ("skew_max_ns", f'policing = "{policing}"\nskew_max_ns'))
+        simulation = Simulation(toml_lines.read(text))
+        simulation.heap.clear()
+        found = []
+        for moment in moments:
+            simulation.rows.clear()
+            simulation.at_switch(moment, 2, "Arrive", (0, (1, 0, 64, 0, 0, "A")))
+            found.append((not simulation.rows, simulation.accounts[1, 2][0]))
+        return found
+
+    def test_policing_by_frames_and_by_bytes(self):
+        self.assertEqual(self.account("frames", [0, 640000, 10**6]), [(True, 0), (False, 64 * 10**6), (True, 0)])
+        self.assertEqual(self.account("bytes", [0, 280000]), [(True, 36 * 10**6), (True, 0)])
+
+    def test_moments_up_to_the_latest_end(self):
+        end = ("until_ns = 2000000", "until_ns = 1000000000000000")
+        for offset, line in ((999999999972280, "1,27720,27720,27720"), (999999999972281, "0,0,0,0")):
+            found = tables_of(changed(end, ("offset_ns = 0", f"offset_ns = {offset}")))
+            self.assertEqual(found, ["latency,1,ES2,," + line])
+
+    def test_the_tables_of_the_examples(self):
+        for path in glob.glob(os.path.join(EXAMPLES, "*.toml")):
+            with self.subTest(path):
+                self.assertEqual(called(path), (0, read(path.replace(".toml", ".tables.csv")), ""))
+
+
+class Words(unittest.TestCase):
+    def setUp(self):
+        folder = tempfile.TemporaryDirectory()
+        self.addCleanup(folder.cleanup)
+        self.folder = folder.name
+
+    def file(self, text):
+        path = os.path.join(self.folder, "net.toml")
+        with open(path, "w", encoding="utf-8") as out:
+            out.write(text)
+        return path
+
+    def test_the_trace(self):
+        trace = os.path.join(self.folder, "trace.csv")
+        path = self.file(N1)
+        self.assertEqual(called(path, "--trace", trace)[0], 0)
+        self.assertEqual(read(trace), "time_ns,where,vl,what,value\n27720,ES2,1,delivered,27720\n")
+        status, out, said = called(path, "--trace", path)
+        self.assertEqual((status, out, read(path)), (2, "", N1))
+        self.assertIn(f"NET and --trace name one file, {path}", said)
+
+    def test_plain_errors(self):
+        none = os.path.join(self.folder, "none")
+        self.assertEqual(called(none), (2, "", f"second_opinion.py: {none}: cannot be read: No such file or directory\n"))
+        for text, said in (
+            (changed(("bag_ms = 1", "bag_ms = 3")), "line 32: is refused: 4 OutOfLimit at vl 1 bag_ms; is 3, and must be "),
+            (changed(("size = 64\n", "")), "line 30: is refused: 2 Missing at vl 1 size; is missing: "),
+            ("until_ns =\n", "line 1: is refused: 1 Syntax; there is "),
+            (changed(('b = "ES2"', 'b = "ES3"')), "line 26: is refused: 5 UnknownName at link 2 b; ES3 is no node; ES2?"),
+        ):
+            path = self.file(text)
+            status, out, told = called(path)
+            self.assertEqual((status, out), (2, ""))
+            self.assertTrue(told.startswith(f"second_opinion.py: {path} {said}"), told)
+
+    def test_a_trace_that_cannot_be_written(self):
+        status, out, told = called(self.file(N1), "--trace", self.folder)
+        self.assertEqual((status, out), (2, ""))
+        self.assertEqual(told, f"second_opinion.py: {self.folder}: cannot be written: Is a directory\n")
+
+    def test_help(self):
+        run = subprocess.run(
+            [sys.executable, os.path.join(HERE, "second_opinion.py"), "--help"], capture_output=True, text=True
+        )
+        self.assertEqual((run.returncode, run.stderr), (0, ""))
+        for word in ("--trace", "--events", "examples:", "status:"):
+            self.assertIn(word, run.stdout)
+
+    def test_a_standard_output_that_is_full(self):
+        with open("/dev/full", "w") as full:
+            command = [sys.executable, os.path.join(HERE, "second_opinion.py"), self.file(N1)]
+            run = subprocess.run(command, stdout=full, stderr=subprocess.PIPE, text=True)
+        told = "second_opinion.py: standard output: cannot be written: No space left on device\n"
+        self.assertEqual((run.returncode, run.stderr), (2, told))
+
+
+class WithTheProgram(unittest.TestCase):
+    def test_the_program_prints_the_tables_of_the_examples(self):
+        for path in glob.glob(os.path.join(EXAMPLES, "*.toml")):
+            with self.subTest(path):
+                run = subprocess.run([afdx.PROGRAM, "seq", path], capture_output=True, text=True)
+                self.assertEqual((run.stdout, run.returncode), (read(path.replace(".toml", ".tables.csv")), 0))
+
+    def test_drawn_networks(self):
+        """Forty networks, by hand a thousand: threaded_runs.py --second-opinion."""
+        out = io.StringIO()
+        with contextlib.redirect_stdout(out):
+            status = threaded_runs.main(["--second-opinion", "--runs", "40"])
+        self.assertEqual((status, out.getvalue()), (0, "40 runs, 40 came out as the second opinion, 0 did not\n"))
+
+
+if __name__ == "__main__":
+    unittest.main()
