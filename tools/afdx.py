@@ -209,13 +209,14 @@ def place_text(place):
 
 
 class Description:
-    """The text of a description, what it says, and where: `tree` is the table that the text is."""
+    """The text of a description, what it says, and where: `tree` is the table that the text is. What was read already
+    may be given."""
 
-    def __init__(self, path, text=None):
+    def __init__(self, path, text=None, tree=None):
         self.path = path
         self.text = text_of(path) if text is None else text
         try:
-            self.tree = toml_lines.read(self.text)
+            self.tree = toml_lines.read(self.text) if tree is None else tree
         except toml_lines.BadToml as fault:
             raise Fault(path, fault.line, f"is no TOML: {fault}") from None
 
@@ -295,9 +296,9 @@ class Network:
     """What a description describes. It does not judge the description as the program does: `afdxsim check` does that.
     A description that has not the keys, or names what is not there, is refused."""
 
-    def __init__(self, path, text=None):
+    def __init__(self, path, text=None, description=None):
         self.path = path
-        self.description = Description(path, text)
+        self.description = description or Description(path, text)
         self.text = self.description.text
         for key in KEYS["top"]:
             self.value(self.description.tree, "top", None, key)

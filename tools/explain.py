@@ -514,13 +514,12 @@ def unread(line, fault):
 
 
 def syntax_faults(text):
-    """The faults of a text that is no TOML, line by line, and the text with what could not be read marked; None for the
-    text where what is behind the last fault cannot be read."""
+    """The faults of a text that is no TOML, line by line, and the table that it is, with what could not be read marked;
+    None for the table where what is behind the last fault cannot be read."""
     found, lines = [], text.split("\n")
     while len(found) < 100:
         try:
-            toml_lines.read("\n".join(lines))
-            return found, "\n".join(lines)
+            return found, toml_lines.read("\n".join(lines))
         except toml_lines.BadToml as fault:
             found.append(Finding(1, None, fault.line, "", str(fault)))
             instead = unread(lines[fault.line - 1], fault)
@@ -531,11 +530,13 @@ def syntax_faults(text):
 
 
 def findings_of(path, text):
-    """The faults of a description in the order in which the program tries them, and whether all of it could be judged."""
-    found, read = syntax_faults(text)
-    if read is None:
-        return found, False
-    return found + judged(afdx.Description(path, read)), True
+    """The faults of a description in the order in which the program tries them, and the description; None for it where
+    not all of it could be judged."""
+    found, tree = syntax_faults(text)
+    if tree is None:
+        return found, None
+    description = afdx.Description(path, text, tree)
+    return found + judged(description), description
 
 
 def judged(description):
@@ -546,6 +547,15 @@ def judged(description):
 def first_fault(path, text):
     """The first fault, or None where the description is accepted."""
     return next(iter(findings_of(path, text)[0]), None)
+
+
+def accepted(path):
+    """The description of a file, or a fault that names the first of those that it has."""
+    text = afdx.text_of(path)
+    found, description = findings_of(path, text)
+    if found:
+        raise Fault(path, found[0].line, f"is refused: {answer(found[0])}; {found[0].text}")
+    return description
 
 
 def line_of(path, finding):
@@ -626,16 +636,16 @@ def explain(path):
     except Fault as fault:
         if fault.line is None:
             raise
-        found, is_whole = [Finding(1, None, fault.line, "", "the file is not UTF-8")], False
+        found, description = [Finding(1, None, fault.line, "", "the file is not UTF-8")], None
     else:
-        found, is_whole = findings_of(path, text)
+        found, description = findings_of(path, text)
     lines = [line_of(path, finding) for finding in found]
     if found:
         lines[0] += f" [afdxsim: description: {answer(found[0])}]"
-        behind = "" if is_whole else f"; what is behind line {found[-1].line} was not judged"
+        behind = "" if description else f"; what is behind line {found[-1].line} was not judged"
         lines.append(f"{path}: {counted(found, 'fault')}, the first is what afdxsim answers{behind}")
     else:
-        warnings = Warnings(afdx.Network(path, text)).findings
+        warnings = Warnings(afdx.Network(path, text, description)).findings
         lines = [line_of(path, finding) for finding in warnings]
         lines.append(f"{path}: accepted" + (f", {counted(warnings, 'warning')}" if warnings else ""))
     return "".join(line + "\n" for line in lines), 1 if found else 0

@@ -493,11 +493,7 @@ def cell_of(key, value):
 
 def back(path):
     """The tables of a description."""
-    text = afdx.text_of(path)
-    fault = explain.first_fault(path, text)
-    if fault:
-        raise Fault(path, fault.line, f"is refused: {explain.answer(fault)}; {fault.text}")
-    tree = afdx.Description(path, text).tree
+    tree = explain.accepted(path).tree
     blocks = []
     for section in ("top", *SECTIONS):
         rows = [tree] if section == "top" else tree.get(section, [])

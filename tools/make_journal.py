@@ -18,7 +18,8 @@ import heapq
 import sys
 
 import afdx
-from second_opinion import BODIES, Simulation, network_of
+import explain
+from second_opinion import BODIES, Simulation
 
 
 class Journal(Simulation):
@@ -109,7 +110,7 @@ def main():
     if given.turn < 1 or given.window < 1:
         words.error("a turn has at least one message, and a window at least 1 ns")
     try:
-        journal = Journal(network_of(given.net))
+        journal = Journal(explain.accepted(given.net).tree)
         afdx.write_out("".join(step + "\n" for step in journal.steps(given.turn, given.window)))
     except afdx.Fault as fault:
         sys.exit(f"make_journal.py: {fault}")

@@ -251,15 +251,6 @@ class Simulation:
             yield "dropped,%d,%s,%s,%d,,," % (vl, self.names[place], CAUSES[cause], count)
 
 
-def network_of(path):
-    """The table that an accepted description is."""
-    text = afdx.text_of(path)
-    fault = explain.first_fault(path, text)
-    if fault:
-        raise Fault(path, fault.line, f"is refused: {explain.answer(fault)}; {fault.text}")
-    return afdx.Description(path, text).tree
-
-
 def main(arguments=None):
     parser = argparse.ArgumentParser(
         description=__doc__, epilog=EXAMPLES, formatter_class=argparse.RawDescriptionHelpFormatter
@@ -271,7 +262,7 @@ def main(arguments=None):
     if words.trace and afdx.is_same_file(words.net, words.trace):
         parser.error(f"NET and --trace name one file, {words.net}")
     try:
-        simulation = Simulation(network_of(words.net))
+        simulation = Simulation(explain.accepted(words.net).tree)
         simulation.run()
         if words.trace:
             afdx.write_whole(words.trace, "".join(line + "\n" for line in simulation.trace()))

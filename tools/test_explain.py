@@ -208,6 +208,273 @@ class Rows(unittest.TestCase):
         self.assertGreater(count, 200)
 
 
+class Reader(unittest.TestCase):
+    """toml_lines.py. Which texts it refuses is held against the program; what they say, against Python's reader, which
+    reads TOML 1.0."""
+
+    def test_what_texts_say(self):
+        draw, texts = random.Random(5), list(examples().values())
+        compared = 0
+        for _ in range(400):
+            text = mutated(draw.choice(texts), draw)
+            try:
+                wanted = tomllib.loads(text)
+            except (tomllib.TOMLDecodeError, ValueError):
+                continue
+            try:
+                self.assertEqual(repr_of(toml_lines.read(text)), repr_of(wanted), text)
+            except toml_lines.BadToml as fault:
+                self.assertRegex(str(fault), "64 signed bits|greater than any number", text)
+            compared += 1
+        self.assertGreater(compared, 200)
+
+    def test_toml_1_1(self):
+        """What TOML 1.1 has and TOML 1.0 has not."""
+        text = 'a = { b = 1,\n  # a comment\n  c = "\\e\\x41",\n}\nd = 07:32\n'
+        self.assertEqual(toml_lines.read(text), {"a": {"b": 1, "c": "\x1bA"}, "d": "07:32"})
+        with self.assertRaises(tomllib.TOMLDecodeError):
+            tomllib.loads(text)
+
+    def test_lines(self):
+        text = """# a
+until_ns = 5
+node = [
+  { name = "A",
+    kind = "es" }, { name = "B" },
+  # and
+  { name = "C" },
+]
+
+[[vl]]
+a = [["X",
+      "Y"],
+
+     ["Z"]]
+t = \"\"\"
+two
+lines\"\"\"
+b = 1
+[ [ vl ] ]
+""".replace("[ [ vl ] ]", "[[ vl ]]")
+        tree = toml_lines.read(text)
+        self.assertEqual(tree.lines, {"until_ns": 2, "node": 3, "vl": 10})
+        self.assertEqual(tree["node"].lines, [4, 5, 7])
+        self.assertEqual(tree["node"][0].lines, {"name": 4, "kind": 5})
+        self.assertEqual(tree["vl"].lines, [10, 19])
+        self.assertEqual(tree["vl"][0].lines, {"a": 11, "t": 15, "b": 18})
+        self.assertEqual(tree["vl"][0]["a"].lines, [11, 14])
+
+    def test_what_is_no_toml_is_told_with_its_line(self):
+        for text, line, said in (
+            ("a = 1\nb =\n", 2, "there is the end of the line where a value is wanted"),
+            ("a = 1\nb = ES1\n", 2, 'ES1 is a text without quotes; it is written "ES1"'),
+            ('a = "x\nb = 1\n', 1, "the text that begins here has no \" at its end: '\"x'"),
+            ("a = 2 000\n", 1, "2 000 is no number: digits are set apart by _, as in 2_000"),
+            ("a = 007\n", 1, "007 is no number: it has a zero in front"),
+            ("a = 1__0\n", 1, "1__0 has a _ that does not stand between two digits"),
+            ("a = 9223372036854775808\n", 1, "9223372036854775808 does not fit 64 signed bits: it must be from -2^63 to 2^63 - 1"),
+            ("\na = [1,\n 2\n", 2, "the list that begins here has no end"),
+            ("a = [1\n 2]\n", 2, "there is '2]' where a comma or ] is wanted, in the list that begins in line 1"),
+            ("a = 1\na = 2\n", 2, "the key 'a' is there already, in line 1"),
+            ("[a]\n[a]\n", 2, "[a] is there already, in line 1"),
+            ("[[a]\n", 1, "the header does not end with ]], but there is ']'"),
+            ("a = 1 b = 2\n", 1, "there is 'b = 2' after a value, in the same line"),
+            ("a 1\n", 1, "there is '1' after the key 'a', and not ="),
+            ('a = "\\d"\n', 1, "\\d is no escape in a text; a backslash is written \\\\"),
+            ("a = 1979-13-01\n", 1, "1979-13-01 is no number and no date or time"),
+            ("a = 1\r", 1, "there is '\\r' where a key is wanted"),
+        ):
+            with self.subTest(text):
+                with self.assertRaises(toml_lines.BadToml) as told:
+                    toml_lines.read(text)
+                self.assertEqual((told.exception.line, str(told.exception)), (line, said))
+
+
+def repr_of(value):
+    """A value as a text that tells kinds apart, with dates and times as one kind."""
+    if isinstance(value, dict):
+        return {key: repr_of(one) for key, one in value.items()}
+    if isinstance(value, list):
+        return [repr_of(one) for one in value]
+    if type(value) in (bool, int, float):
+        return repr(value)
+    return "text " + value if type(value) is str else "moment"
+
+
+BAD = """until_ns = 10_000_000
+seed = 1
+node = [
+  { name = "ADC", kind = "es",     port_bytes = 16_384 },
+  { name = "DU",  kind = "es",     port_bytes = 16_384 },
+  { name = "SWA", kind = "switch", port_bytes = 65_536, net = "A", latency_ns = 16_000 },
+]
+link = [
+  { a = "ADC", b = "SWA", mbit = 100, propagation_ns = 100 },
+  { a = "SWA", b = "DU",  mbit = 100, propagation_ns = 100 },
+]
+[[vl]]
+id = 120
+bag_ms = 8
+smax = 128
+priority = "high"
+policing_jitter_ns = 500_000
+skew_max_ns = 1_000_000
+depth = 4
+size = 128
+offset_ns = 0
+period_ns = 8_000_000
+jitter_ns = 0
+a = [["ADC", "SWA", "DU"]]
+b = []
+"""
+
+
+class Explained(unittest.TestCase):
+    def told(self, *changes, text=BAD):
+        """What is told of a text with changes, each of a piece for another: the lines without the name of the file."""
+        for old, new in changes:
+            self.assertIn(old, text)
+            text = text.replace(old, new, 1)
+        with tempfile.TemporaryDirectory() as folder:
+            path = os.path.join(folder, "net.toml")
+            with open(path, "wb") as out:
+                out.write(text if type(text) is bytes else text.encode("utf-8"))
+            out = io.StringIO()
+            with contextlib.redirect_stdout(out):
+                status = explain.main([path])
+            lines = out.getvalue().splitlines()
+        self.assertTrue(all(line.startswith(path + ":") for line in lines), lines)
+        return status, [line.removeprefix(path + ":").strip() for line in lines]
+
+    def test_each_mistake_with_its_line_and_what_is_allowed(self):
+        vl = "virtual link 120 (vl row 1)"
+        for old, new, number, wanted in (
+            ('name = "ADC"', 'name = "ADC', 1, """4: no TOML: there is 'es",     port_bytes = 16..' where a comma or } is wanted, in the table that begins in line 4"""),
+            ("bag_ms = 8\n", "", 2, f"12: {vl}, bag_ms is missing: 1, 2, 4, 8, 16, 32, 64 or 128"),
+            ("seed = 1\n", "", 2, "1: seed is missing: a whole number from 0 to 2^63 - 1"),
+            ("bag_ms = 8", "bag = 8", 2, f"12: {vl}, bag_ms is missing: 1, 2, 4, 8, 16, 32, 64 or 128. Is bag meant, in line 14?"),
+            ("smax = 128", 'smax = "128"', 3, f'15: {vl}, smax is a text, "128", and must be a whole number from 64 to 1518, without quotes'),
+            ("smax = 128", "smax = 128.0", 3, f"15: {vl}, smax is a number with a point, 128.0, and must be a whole number from 64 to 1518, without a point"),
+            ('"high"', "1", 3, f'16: {vl}, priority is a whole number, 1, and must be "high" or "low", in quotes'),
+            ('[["ADC", "SWA", "DU"]]', '["ADC", "SWA", "DU"]', 3, f'24: {vl}, a is a list, ["ADC", "SWA", "DU"], and must be a list of paths, each a list of 3 to 32 names, as [["ES1", "SW1", "ES2"]]; or []: a pair of brackets more'),
+            ("[[vl]]", "[vl]", 3, "12: vl: this section is a table, and must be a list of tables: it is written [[vl]], with two brackets"),
+            ("bag_ms = 8", "bag_ms = 10", 4, f"14: {vl}, bag_ms is 10, and must be 1, 2, 4, 8, 16, 32, 64 or 128. The next below 10 is 8"),
+            ("mbit = 100", "mbit = 1000", 4, "9: link ADC-SWA (link row 1), mbit is 1000, and must be 10 or 100"),
+            ('"high"', '"High"', 4, f'16: {vl}, priority is "High", and must be "high" or "low"; high?'),
+            ('name = "DU"', 'name = "D U"', 4, """5: end system D U (node row 2), name is "D U", and must be a text of 1 to 32 letters, digits, _ and -: it has ' '"""),
+            ("depth = 4", "depth = 4\nsub = 5", 4, f"20: {vl}, sub is 5, and must be a whole number from 1 to 4"),
+            ("10_000_000", "1_000_000_000_000_001", 4, "1: until_ns is 1000000000000001, and must be a whole number from 1 to 10^15"),
+            ('[["ADC", "SWA", "DU"]]', '[["ADC", "SWA", "DU"],\n["ADC", "DU"]]', 4, f"25: {vl}, a, path 2: it has 2 names, and must have 3 to 32: the source, each switch on the way, and the destination"),
+            ("depth = 4", "depth = 4\ndeep = 1", 5, f"20: {vl}, deep is no key of a virtual link"),
+            ('kind = "es",', 'kind = "es", net = "A",', 5, "4: end system ADC (node row 1), net is a key of switches: an end system has none"),
+            ("seed = 1", "seed = 1\nuntil = 5", 5, "3: the description: until is no key of a description; until_ns?"),
+            ('["ADC", "SWA", "DU"]', '["ADC", "SW_A", "DU"]', 5, f"24: {vl}, a, path 1: SW_A is no node; SWA?"),
+            ('[[vl]]', '[[node]]\nname = "ADC"\nkind = "es"\nport_bytes = 1518\n[[vl]]', 1, "12: no TOML: [[node]] adds to what line 3 makes no list of tables"),
+            ("]\nlink", '  { name = "ADC", kind = "es", port_bytes = 1518 },\n]\nlink', 6, "7: end system ADC (node row 4), name: the name ADC is there already, in line 4"),
+            ('b = "DU"', 'b = "ADC"', 6, "10: link SWA-ADC (link row 2), b: there is a link of SWA and ADC already, in line 9"),
+            ('a = "SWA", b = "DU"', 'a = "ADC", b = "DU"', 7, "10: link ADC-DU (link row 2), b: it joins two end systems, ADC and DU: end systems are linked to switches alone"),
+            ('["ADC", "SWA", "DU"]', '["ADC", "SWA", "SWA", "DU"]', 7, f"24: {vl}, a, path 1: there is no link from SWA to SWA; SWA is linked with ADC, DU"),
+        ):
+            with self.subTest(wanted):
+                status, lines = self.told((old, new))
+                self.assertEqual(status, 1)
+                first, _, answer = lines[0].partition(" [afdxsim: description: ")
+                self.assertEqual((first, int(answer.split()[0])), (wanted, number))
+
+    def test_each_rule_of_a_path_is_named(self):
+        two = (
+            ('name = "DU"', 'name = "ADR",  kind = "es", port_bytes = 16_384 },\n  { name = "DU"'),
+            ('  { name = "SWA"', '  { name = "SWB", kind = "switch", port_bytes = 65_536, net = "B", latency_ns = 1 },\n  { name = "SWX", kind = "switch", port_bytes = 65_536, net = "A", latency_ns = 1 },\n  { name = "SWA"'),
+            ('  { a = "ADC"', '  { a = "ADR", b = "SWA", mbit = 100, propagation_ns = 1 },\n  { a = "SWX", b = "SWA", mbit = 100, propagation_ns = 1 },\n  { a = "SWX", b = "DU", mbit = 100, propagation_ns = 1 },\n  { a = "ADC", b = "SWB", mbit = 100, propagation_ns = 1 },\n  { a = "DU", b = "SWB", mbit = 100, propagation_ns = 1 },\n  { a = "ADC"'),
+            ('{ a = "SWX", b = "DU", mbit = 100, propagation_ns = 1 },\n', ""),
+        )
+        for paths, rule, said in (
+            ('[["ADC", "SWA", "SWX"]]', 1, "path 1: it ends at SWX, which is a switch"),
+            ('[["ADC", "SWB", "DU"]]', 2, "path 1: SWB is in it, which is a switch of network B"),
+            ('[["ADC", "SWA", "SWX", "SWA", "DU"]]', 3, "path 1: SWA is in it 2 times"),
+            ('[["ADC", "SWA", "DU"], ["ADR", "SWA", "ADC"]]', 4, "path 2: it begins at ADR, and path 1 at ADC"),
+            ('[["ADC", "SWA", "DU"], ["ADC", "SWA", "DU"]]', 5, "path 2: it ends at DU, as path 1 does"),
+            ('[["ADC", "SWA", "DU"], ["ADC", "SWB", "DU"]]', 6, "path 2: DU comes behind SWB, and behind SWA in path 1"),
+        ):
+            with self.subTest(rule):
+                status, lines = self.told(*two, ('[["ADC", "SWA", "DU"]]', paths))
+                wanted = f", a, {said} (broken: rule {rule} of 6, {explain.RULES[rule]})"
+                self.assertEqual(status, 1)
+                self.assertTrue(any(wanted in line for line in lines), lines)
+                self.assertIn("[afdxsim: description: 8 NotATree at vl 1 a]", lines[0])
+
+    def test_all_faults_at_once(self):
+        """Also those in lines that can be read, where others are no TOML."""
+        status, lines = self.told(("id = 120", "id = one"), ("bag_ms = 8", "bag_ms = 10"), ("depth = 4", 'depth = "4'), ('"SWA", "DU"]', '"SW", "DU"]'))
+        self.assertEqual(status, 1)
+        self.assertEqual(
+            lines,
+            [
+                '13: no TOML: one is a text without quotes; it is written "one" [afdxsim: description: 1 Syntax]',
+                "19: no TOML: the text that begins here has no \" at its end: '\"4'",
+                "14: vl row 1, bag_ms is 10, and must be 1, 2, 4, 8, 16, 32, 64 or 128. The next below 10 is 8",
+                "24: vl row 1, a, path 1: SW is no node; SWA?",
+                "4 faults, the first is what afdxsim answers",
+            ],
+        )
+        status, lines = self.told(("[[vl]]", "[[vl"), ("10_000_000", "0"))
+        self.assertEqual(lines[-1], "1 fault, the first is what afdxsim answers; what is behind line 12 was not judged")
+
+    def test_a_file_that_is_not_utf_8(self):
+        status, lines = self.told(text=BAD.encode() + b"# \xff\n")
+        self.assertEqual((status, lines[0]), (1, "26: no TOML: the file is not UTF-8 [afdxsim: description: 1 Syntax]"))
+
+    def test_warnings(self):
+        vl = "virtual link 120 (vl row 1)"
+        self.assertEqual(self.told(), (0, ["accepted"]))
+        other = '{ name = "SWB", kind = "switch", port_bytes = 1518, net = "B", latency_ns = 1 },\n  { name = "SWA"'
+        links = '{ a = "ADC", b = "SWB", mbit = 100, propagation_ns = 1 },\n  { a = "FWC", b = "SWB", mbit = 100, propagation_ns = 1 },\n  { a = "FWC", b = "SWA", mbit = 100, propagation_ns = 1 },\n  { a = "ADC"'
+        both = [('{ name = "SWA"', '{ name = "FWC", kind = "es", port_bytes = 1518 },\n  ' + other), ('{ a = "ADC"', links)]
+        outage = '[[outage]]\nfrom = "ADC"\nto = "SWA"\nfrom_ns = 10_000_001\nto_ns = 10_000_002\n[[vl]]'
+        for changes, wanted in (
+            ([("size = 128", "size = 129")], f"20: warning: {vl}, size is 129, above smax, which is 128: every frame is dropped at the first switch (too_long)"),
+            ([("period_ns = 8_000_000", "period_ns = 7_999_999")], f"22: warning: {vl}, period_ns is 7999999, below the BAG of 8000000 ns: frames wait in the regulator, and are dropped once as many wait as depth says (queue_full)"),
+            ([("bag_ms = 8", "bag_ms = 16")], f"22: warning: {vl}, period_ns is 8000000, below the BAG of 16000000 ns: "),
+            ([("bag_ms = 8", "bag_ms = 16"), ("8_000_000", "16_000_000")], f"14: warning: {vl}, bag_ms is longer than the run, which ends at 10000000 ns: one frame leaves at most"),
+            ([("offset_ns = 0", "offset_ns = 10_000_001")], f"21: warning: {vl}, offset_ns is 10000001: nothing is offered before the end, which is at 10000000 ns"),
+            ([("[[vl]]", outage)], "15: warning: outage ADC>SWA (outage row 1), from_ns is 10000001, and the run ends at 10000000: the line is never out"),
+            (both, f"30: warning: {vl}, b is empty: no destination has a second copy, by network B"),
+            ([*both, ('["ADC", "SWA", "DU"]]', '["ADC", "SWA", "DU"], ["ADC", "SWA", "FWC"]]'), ("b = []", 'b = [["ADC", "SWB", "FWC"]]')], f"30: warning: {vl}, b has no path to DU: reached by network A alone, without a second copy"),
+            ([("bag_ms = 8", "bag_ms = 1"), ("8_000_000", "15_000"), ("mbit = 100", "mbit = 10")], "22: warning: "),
+        ):
+            with self.subTest(wanted):
+                status, lines = self.told(*changes)
+                self.assertEqual(status, 0, lines)
+                self.assertTrue(any(line.startswith(wanted) for line in lines), lines)
+                self.assertRegex(lines[-1], r"^accepted, \d warnings?$")
+
+    def test_loads(self):
+        """One virtual link of 1518 bytes a ms is 12.3 percent of 100 Mbit/s, and 123 of 10; seven of them are 86."""
+        full = [("bag_ms = 8", "bag_ms = 1"), ("8_000_000", "1_000_000"), ("smax = 128", "smax = 1518"), ("size = 128", "size = 1518")]
+        status, lines = self.told(*full, ("mbit = 100", "mbit = 10"))
+        wanted = "9: warning: link ADC-SWA (link row 1): gets 123.0 percent of the 10 Mbit/s of ADC>SWA: frames are lost or late there, whatever the moments"
+        self.assertEqual((status, lines), (0, [wanted, "accepted, 1 warning"]))
+        text = BAD
+        for old, new in full:
+            text = text.replace(old, new, 1)
+        head, _, vl = text.partition("[[vl]]")
+        seven = head + "".join("[[vl]]" + vl.replace("id = 120", f"id = {i}") for i in range(7))
+        status, lines = self.told(text=seven)
+        wanted = "gets 86.1 percent of the 100 Mbit/s of {}: frames wait long there"
+        self.assertEqual(status, 0)
+        self.assertEqual([line.split(": ", 3)[-1] for line in lines[:2]], [wanted.format(line) for line in ("ADC>SWA", "SWA>DU")])
+
+    def test_words(self):
+        said = io.StringIO()
+        with contextlib.redirect_stderr(said):
+            self.assertEqual(explain.main([os.path.join(HERE, "none")]), 2)
+        self.assertEqual(said.getvalue(), f"explain.py: {os.path.join(HERE, 'none')}: cannot be read: No such file or directory\n")
+        run = subprocess.run([sys.executable, os.path.join(HERE, "explain.py"), "--help"], capture_output=True, text=True)
+        self.assertEqual((run.returncode, run.stderr), (0, ""))
+        for word in ("warnings", "examples:", "status:"):
+            self.assertIn(word, run.stdout)
+
+
 if __name__ == "__main__":
     if len(sys.argv) == 2 and sys.argv[1].isdigit():
         found, differing = hold_mutated(int(sys.argv[1]), 2026)
