@@ -143,6 +143,12 @@ def name_key(name, says):
     return Key(name, "name", None, None, None, "all", None, says)
 
 
+def paths_key(name, says):
+    return Key(name, "paths", 3, MOST_NODES_OF_A_PATH, None, "all", None, says)
+
+
+COUNTED = "from the destination address to the check sequence"
+
 # The keys of each section, in the order of checks. Moments and times are whole ns.
 KEYS = {
     "top": [
@@ -175,19 +181,36 @@ KEYS = {
     "vl": [
         number_key("id", 0, 65535, "Number of the virtual link. Each number once."),
         choice_key("bag_ms", BAGS_MS, "Bandwidth allocation gap in ms: at most one frame in it leaves the source."),
-        number_key("smax", LEAST_FRAME, GREATEST_FRAME, "Greatest frame that switches pass, in bytes, from the destination address to the check sequence."),
+        number_key("smax", LEAST_FRAME, GREATEST_FRAME, f"Greatest frame that switches pass, in bytes, {COUNTED}."),
         choice_key("priority", ("high", "low"), "Priority at the output ports of switches."),
-        number_key("policing_jitter_ns", 0, SECOND_NS, "How much closer than one BAG frames may come to a switch, in ns."),
-        choice_key("policing", ("bytes", "frames"), "Whether the account of a switch counts the bytes of frames, or each frame as one of smax bytes.", "none", "bytes"),
-        number_key("skew_max_ns", 0, SECOND_NS, "How much later the second copy of a frame is still known as a copy, in ns."),
+        number_key(
+            "policing_jitter_ns", 0, SECOND_NS, "How much closer than one BAG frames may come to a switch, in ns."
+        ),
+        choice_key(
+            "policing", ("bytes", "frames"),
+            "Whether the account of a switch counts the bytes of frames, or each frame as one of smax bytes.",
+            "none", "bytes",
+        ),
+        number_key(
+            "skew_max_ns", 0, SECOND_NS, "How much later the second copy of a frame is still known as a copy, in ns."
+        ),
         number_key("depth", 1, 1024, "How many frames may wait at the source, for each sub-virtual link."),
-        number_key("sub", 1, 4, "How many sub-virtual links take turns at the source; the offers go to them in turn.", "none", 1),
-        number_key("size", LEAST_FRAME, GREATEST_FRAME, "Size of the frames that the application offers, in bytes, from the destination address to the check sequence."),
+        number_key(
+            "sub", 1, 4, "How many sub-virtual links take turns at the source; the offers go to them in turn.", "none", 1
+        ),
+        number_key(
+            "size", LEAST_FRAME, GREATEST_FRAME,
+            f"Size of the frames that the application offers, in bytes, {COUNTED}.",
+        ),
         number_key("offset_ns", 0, LATEST_NS, "Moment of the first offer, before jitter, in ns."),
         number_key("period_ns", 1000, LATEST_NS, "From one offer to the next, before jitter, in ns."),
         number_key("jitter_ns", 0, SECOND_NS, "How late an offer may be at most, in ns; it is drawn for each offer."),
-        Key("a", "paths", 3, MOST_NODES_OF_A_PATH, None, "all", None, "Paths on network A: one list of names for each destination, from the source by switches to the destination. May be empty where b is not."),
-        Key("b", "paths", 3, MOST_NODES_OF_A_PATH, None, "all", None, "Paths on network B."),
+        paths_key(
+            "a",
+            "Paths on network A: one list of names for each destination, from the source by switches to the destination. "
+            "May be empty where b is not.",
+        ),
+        paths_key("b", "Paths on network B."),
     ],
 }
 SECTIONS = ["node", "link", "outage", "vl"]
@@ -428,8 +451,8 @@ class Network:
 
     def offers(self, vl, seed=None):
         """The moments in which frames of a virtual link are offered, until the end, in the order of their numbers."""
-        drawn = offers(self.seed if seed is None else seed, vl.id, vl.offset_ns, vl.period_ns, vl.jitter_ns, self.until_ns)
-        return [moment for _, moment in drawn]
+        seed = self.seed if seed is None else seed
+        return [it for _, it in offers(seed, vl.id, vl.offset_ns, vl.period_ns, vl.jitter_ns, self.until_ns)]
 
     def of_kind(self, kind, net=None):
         return [node.name for node in self.nodes.values() if node.kind == kind and node.net == net]

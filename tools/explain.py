@@ -47,7 +47,7 @@ NAMES = {
     9: "TooMany",
 }
 ORDER = ["top", *SECTIONS]
-SECTION_NAMES = {"top": "description", "link": "link", "outage": "outage", "vl": "virtual link"}
+A_ROW = {"node": "a node", "link": "a link", "outage": "an outage", "vl": "a virtual link"}
 
 # Stands for the value of a line that is no TOML. It is not judged.
 UNREAD = "\ufffd"
@@ -232,7 +232,8 @@ class Judge:
         if value == UNREAD:
             return
         if not self.has_kind(key, value):
-            self.add(3, section, i, key.name, f"is {kind_of(value)}, {shown(value)}, and must be {self.wanted(key, value)}")
+            wanted = self.wanted(key, value)
+            self.add(3, section, i, key.name, f"is {kind_of(value)}, {shown(value)}, and must be {wanted}")
             return
         self.limits(section, i, row, key, value)
 
@@ -260,12 +261,14 @@ class Judge:
                     text += "the source, each switch on the way, and the destination"
                     self.at_path(4, i, key.name, number, text)
         elif key.choices and value not in key.choices:
-            self.add(4, section, i, key.name, f"is {shown(value)}, and must be {allowed(key)}{self.near_choice(key, value)}")
+            near = self.near_choice(key, value)
+            self.add(4, section, i, key.name, f"is {shown(value)}, and must be {allowed(key)}{near}")
         elif key.kind == "integer" and not key.choices:
             if not key.least <= value <= key.greatest:
                 self.add(4, section, i, key.name, f"is {value}, and must be {allowed(key)}")
             elif key.name == "to_ns" and type(row.get("from_ns")) is int and 0 <= value <= row["from_ns"]:
-                self.add(4, section, i, key.name, f"is {value}, and must be later than from_ns, which is {row['from_ns']}")
+                text = f"is {value}, and must be later than from_ns, which is {row['from_ns']}"
+                self.add(4, section, i, key.name, text)
         elif key.name == "name" and not re.fullmatch("[A-Za-z0-9_-]{1,32}", value):
             odd = re.search("[^A-Za-z0-9_-]", value)
             why = f"it has {odd[0]!r}" if odd else f"it has {len(value)}"
@@ -300,8 +303,7 @@ class Judge:
         keys = {key.name: key for key in KEYS[section]}
         if name not in keys:
             known = [it for it in keys if it not in row]
-            what = {"node": "a node"}.get(section, f"{'an' if section == 'outage' else 'a'} {SECTION_NAMES.get(section)}")
-            self.unknown_key(section, i, name, f"is no key of {what}{meant(name, known)}", row)
+            self.unknown_key(section, i, name, f"is no key of {A_ROW[section]}{meant(name, known)}", row)
         elif keys[name].needed == "switches" and row.get("kind") not in ("switch", UNREAD):
             if row.get("kind") == "es":
                 self.unknown_key(section, i, name, "is a key of switches: an end system has none", row)
@@ -339,7 +341,7 @@ class Judge:
     def is_known_kind(self, name):
         return name in self.node and (self.is_end_system(name) or self.net_of(name) in ("A", "B"))
 
-    def unknown_name(self, section, i, key, name, add):
+    def is_known(self, section, i, key, name, add):
         """Tells that no node has the name, and answers whether one has it."""
         if name in self.node:
             return True
@@ -354,7 +356,7 @@ class Judge:
         self.linked, self.on_network, self.beside = {}, {}, {}
         for i, row in self.tables["link"]:
             ends = [row.get("a"), row.get("b")]
-            known = [is_name(end) and self.unknown_name("link", i, key, end, self.add) for key, end in zip("ab", ends)]
+            known = [is_name(end) and self.is_known("link", i, key, end, self.add) for key, end in zip("ab", ends)]
             if not all(known):
                 continue
             a, b = ends
@@ -391,7 +393,7 @@ class Judge:
         for i, row in self.tables["outage"]:
             ends = [row.get("from"), row.get("to")]
             known = [
-                is_name(end) and self.unknown_name("outage", i, key, end, self.add)
+                is_name(end) and self.is_known("outage", i, key, end, self.add)
                 for key, end in zip(("from", "to"), ends)
             ]
             if all(known) and frozenset(ends) not in self.linked:
@@ -432,7 +434,7 @@ class Judge:
     def path(self, i, key, number, path, net):
         """Judges one path alone, and answers whether its names are known."""
         add = lambda fault, _section, i, key, text: self.at_path(fault, i, key, number, text)
-        known = [self.unknown_name("vl", i, key, name, add) for name in dict.fromkeys(path)]
+        known = [self.is_known("vl", i, key, name, add) for name in dict.fromkeys(path)]
         if not path or not all(known):
             return False
         for here, there in zip(path, path[1:]):
@@ -601,7 +603,8 @@ class Warnings:
     def virtual_link(self, vl):
         net, add = self.net, lambda key, text: self.add("vl", vl.row, key, f"virtual link {vl.id}", text)
         if vl.size > vl.smax:
-            add("size", f"is {vl.size}, above smax, which is {vl.smax}: every frame is dropped at the first switch (too_long)")
+            text = f"is {vl.size}, above smax, which is {vl.smax}: every frame is dropped at the first switch (too_long)"
+            add("size", text)
         if vl.period_ns < vl.bag_ns:
             text = f"is {vl.period_ns}, below the BAG of {vl.bag_ns} ns: frames wait in the regulator, and are dropped "
             add("period_ns", text + "once as many wait as depth says (queue_full)")

@@ -89,7 +89,8 @@ ALIASES = {
 }
 MORE_COLUMNS = {"vl": ["source", "destinations", "payload", "via"], "link": ["length_m"]}
 # Which columns tell what a table has, the first that fits.
-SORTS = [("vl", {"id"}), ("node", {"name"}), ("outage", {"from", "to"}), ("link", {"a", "b"}), ("top", {"until_ns"}), ("top", {"seed"})]
+SORTS = [("vl", {"id"}), ("node", {"name"}), ("outage", {"from", "to"}), ("link", {"a", "b"})]
+SORTS += [("top", {"until_ns"}), ("top", {"seed"})]
 NEEDED = {"vl": ["id"], "node": ["name"], "link": ["a", "b"], "outage": ["from", "to", "from_ns", "to_ns"], "top": []}
 WORDS = {"end system": "es", "end_system": "es", "sw": "switch"}
 UNITS = {"ns": 1, "us": 10**3, "ms": 10**6, "s": 10**9}
@@ -271,8 +272,9 @@ class Maker:
     def unnamed_end_systems(self):
         """Adds the nodes that have no line: sources and destinations, and then what links name."""
         self.named = {row["name"].value for row in self.rows["node"] if "name" in row}
-        ends = [(it, [it.cells.get("source"), *names_of(it.cells.get("destinations", ""))]) for it in self.tables.lines["vl"]]
-        ends += [(it, [it.cells.get("a"), it.cells.get("b")]) for it in self.tables.lines["link"]]
+        lines, destinations = self.tables.lines, lambda cells: names_of(cells.get("destinations", ""))
+        ends = [(line, [line.cells.get("source"), *destinations(line.cells)]) for line in lines["vl"]]
+        ends += [(line, [line.cells.get("a"), line.cells.get("b")]) for line in lines["link"]]
         for line, names in ends:
             for name in names:
                 if name and name not in self.named:
@@ -294,9 +296,10 @@ class Maker:
 
     def network(self, net):
         """Who is linked with whom on a network, where one of the two is a switch of it."""
-        kinds = {row["name"].value: (row["kind"].value, row.get("net", Value(None, ""))) for row in self.rows["node"] if "name" in row}
-        is_there = lambda name: name in kinds and (kinds[name][0] == "es" or kinds[name][1].value == net)
-        is_switch = lambda name: name in kinds and kinds[name][0] == "switch"
+        nodes = {row["name"].value: row for row in self.rows["node"] if "name" in row}
+        is_switch = lambda name: name in nodes and nodes[name]["kind"].value == "switch"
+        net_of = lambda name: nodes[name]["net"].value if is_switch(name) and "net" in nodes[name] else None
+        is_there = lambda name: name in nodes and (not is_switch(name) or net_of(name) == net)
         beside = {}
         for row in self.rows["link"]:
             ends = [row[key].value if key in row else None for key in "ab"]
@@ -437,8 +440,8 @@ def text_of_rows(maker, paths):
     lines = [
         f"# Made of {', '.join(paths)} by tools/from_table.py.",
         "#",
-        "# Behind a value stands where it is from, unless it stands in the table itself: `usual` where the table says nothing.",
-        "# smax and size count a frame from the destination address to the check sequence: the payload of UDP and 47 bytes.",
+        "# Behind a value stands where it is from, unless the table has it itself: `usual` where the table says nothing.",
+        f"# smax and size count a frame {afdx.COUNTED}: the payload of UDP and 47 bytes.",
         "# Paths are the shortest ones; where two are equally short, names decide.",
     ]
     lines += [line_of_value(key.name, maker.top[key.name]) for key in KEYS["top"] if key.name in maker.top]

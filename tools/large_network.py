@@ -300,7 +300,10 @@ def words_of(arguments=None):
         "greatest load of the busiest line: if it would be higher, all periods are stretched alike. "
         "0: every period is its BAG",
     )
-    number("sub", 1, 4, 1, "N", "the most sub-virtual links of a virtual link; each has 1 to so many. 1: no key sub is written")
+    number(
+        "sub", 1, 4, 1, "N",
+        "the most sub-virtual links of a virtual link; each has 1 to so many. 1: no key sub is written",
+    )
     parser.add_argument(
         "--policing", choices=[*POLICINGS, "both"],
         help="how switches police; both: drawn for each virtual link (default: no key policing is written, so bytes)",

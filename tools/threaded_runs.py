@@ -238,7 +238,8 @@ def main(arguments=None):
     outcomes = collections.Counter()
     for number in range(words.first, words.first + words.runs):
         outcomes[one_run(words, number, print)] += 1
-    print(f"{words.runs} runs, {outcomes['well']} came out as {'the second opinion' if words.second_opinion else 'seq'}, {outcomes['another way']} did not")
+    other = "the second opinion" if words.second_opinion else "seq"
+    print(f"{words.runs} runs, {outcomes['well']} came out as {other}, {outcomes['another way']} did not")
     return 1 if outcomes["another way"] else 0
 
 

@@ -27,7 +27,7 @@ PLAIN = {
     ("'", True): re.compile(r"(?:[^'\x00-\x08\x0b-\x1f\x7f]|\r\n)*"),
 }
 ESCAPES = {"b": "\b", "e": "\x1b", "f": "\f", "n": "\n", "r": "\r", "t": "\t", '"': '"', "\\": "\\"}
-HEX_ESCAPES = {"x": re.compile("[0-9A-Fa-f]{2}"), "u": re.compile("[0-9A-Fa-f]{4}"), "U": re.compile("[0-9A-Fa-f]{8}")}
+HEX_ESCAPES = {sign: re.compile("[0-9A-Fa-f]{%d}" % count) for sign, count in (("x", 2), ("u", 4), ("U", 8))}
 RADIXES = {"0x": (16, "[0-9A-Fa-f]+"), "0o": (8, "[0-7]+"), "0b": (2, "[01]+")}
 DECIMAL = re.compile(r"([+-]?)(0|[1-9][0-9]*)(\.[0-9]+)?([eE][+-]?[0-9]+)?")
 MOMENT = re.compile(
@@ -52,7 +52,7 @@ class BadToml(Exception):
 
 
 class Table(dict):
-    """A table, and the lines of its keys. What made it, a header, a dotted key or a value, decides what may be added."""
+    """A table, and the lines of its keys. What made it, a header, a dotted key or a value, tells what may be added."""
 
     def __init__(self, line, origin):
         super().__init__()
@@ -283,7 +283,8 @@ class Reader:
             self.refuse(begin, f"{what} here has no end")
         if not self.text.startswith(end, place):
             line = self.line_at(begin)
-            self.refuse(place, f"there is {self.shown(place)} where a comma or {end} is wanted, in {what} in line {line}")
+            wanted = f"where a comma or {end} is wanted, in {what} in line {line}"
+            self.refuse(place, f"there is {self.shown(place)} {wanted}")
         return place
 
     def string(self, begin, place, delim, multi):
