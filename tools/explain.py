@@ -336,10 +336,11 @@ class Judge:
 
     def net_of(self, name):
         """The network of a switch, or None."""
-        return self.node[name][2] if name in self.node and self.node[name][1] == "switch" else None
+        _, kind, net = self.node.get(name, (0, None, None))
+        return net if kind == "switch" and net in ("A", "B") else None
 
     def is_known_kind(self, name):
-        return name in self.node and (self.is_end_system(name) or self.net_of(name) in ("A", "B"))
+        return name in self.node and (self.is_end_system(name) or self.net_of(name) is not None)
 
     def is_known(self, section, i, key, name, add):
         """Tells that no node has the name, and answers whether one has it."""
@@ -369,7 +370,7 @@ class Judge:
             self.linked.setdefault(frozenset(ends), i)
             for here, there in (ends, ends[::-1]):
                 self.beside.setdefault(here, []).append(there)
-                if self.is_end_system(here) and self.net_of(there) in ("A", "B"):
+                if self.is_end_system(here) and self.net_of(there):
                     self.on_network.setdefault((here, self.net_of(there)), i)
 
     def why_no_link(self, a, b):
@@ -383,7 +384,7 @@ class Judge:
             return f"it joins two switches of different networks: {a} is on {nets[0]}, {b} on {nets[1]}"
         for here, there in ((a, b), (b, a)):
             before = self.on_network.get((here, self.net_of(there)))
-            if self.is_end_system(here) and before:
+            if before:
                 line = self.description.line("link", before)
                 net = self.net_of(there)
                 return f"it is the second link of the end system {here} on network {net}; the first is in line {line}"

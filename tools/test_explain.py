@@ -4,6 +4,7 @@ crates/afdxsim/out/afdxsim, where `rt ci` leaves it. Called by itself with a num
     python3 tools/test_explain.py 2000
 
 it holds explain.py against the program on so many mutated texts, and says how many there were of each answer."""
+import atexit
 import collections
 import contextlib
 import glob
@@ -11,6 +12,7 @@ import io
 import os
 import random
 import re
+import shutil
 import subprocess
 import sys
 import tempfile
@@ -68,8 +70,9 @@ class Program:
     def __init__(self):
         if not os.path.isfile(afdx.PROGRAM):
             raise AssertionError(f"there is no program at {afdx.PROGRAM}: `rt ci` at the top builds it")
-        self.folder = tempfile.TemporaryDirectory()
-        self.path = os.path.join(self.folder.name, "net.toml")
+        folder = tempfile.mkdtemp()
+        atexit.register(shutil.rmtree, folder)
+        self.path = os.path.join(folder, "net.toml")
 
     def tells(self, text):
         with open(self.path, "wb") as out:
@@ -186,11 +189,11 @@ class WithTheProgram(unittest.TestCase):
         program, draw = Program(), random.Random(1)
         for name, text in examples().items():
             texts = list(changes_of_each_key(text))
-            for one in texts if name == "n1" else draw.sample(texts, 40):
+            for one in texts if name == "n1" else draw.sample(texts, 15):
                 self.assertEqual(told_by_explain(one), program.tells(one), one)
 
     def test_mutated_texts(self):
-        _, differ = hold_mutated(300, 62)
+        _, differ = hold_mutated(150, 62)
         self.assertEqual(differ, [])
 
 

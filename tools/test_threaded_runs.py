@@ -4,13 +4,16 @@ import io
 import os
 import sys
 import tempfile
-import tomllib
 import unittest
 
 HERE = os.path.dirname(os.path.abspath(__file__))
 sys.path.insert(0, HERE)
 
+import afdx  # noqa: E402
+import explain  # noqa: E402
 import threaded_runs  # noqa: E402
+import toml_lines  # noqa: E402
+from second_opinion import Simulation  # noqa: E402
 
 # A program whose commands all print the same tables, and do these lines of a test's own before.
 STAND_IN = """#!{python}
@@ -74,12 +77,40 @@ class ThreadedRuns(unittest.TestCase):
 
     def test_what_is_drawn_is_within_its_limits(self):
         drawn = [threaded_runs.Drawn(number) for number in range(200)]
-        for name, most in (("workers", 64), ("turn", 256), ("window", 10**12)):
+        for name, most in (("workers", 64), ("turn", 256), ("window", 10**15)):
             found = [getattr(one, name) for one in drawn]
             self.assertTrue(all(1 <= value <= most for value in found))
             self.assertTrue(min(found) <= most**0.25 and max(found) > most / 4)
-        for one in drawn:
-            tomllib.loads(one.network)
+
+    def test_networks_are_accepted_and_have_what_is_told(self):
+        """Sub-virtual links and kinds of policing of each sort and none, moments at both ends, and frames that wait and
+        are lost."""
+        nets = [toml_lines.read(threaded_runs.Drawn(number).network) for number in range(100)]
+        for number, net in enumerate(nets):
+            fault = explain.first_fault("net.toml", threaded_runs.Drawn(number).network)
+            self.assertIsNone(fault, number)
+        vls = [vl for net in nets for vl in net["vl"]]
+        self.assertEqual({vl.get("sub") for vl in vls}, {None, 1, 2, 3, 4})
+        self.assertEqual({vl.get("policing") for vl in vls}, {None, "bytes", "frames"})
+        self.assertEqual({net["until_ns"] > 10**14 for net in nets}, {True, False})
+        self.assertTrue(any(10**15 - 10**7 < vl["offset_ns"] for vl in vls) and any(vl["offset_ns"] == 0 for vl in vls))
+        causes = set()
+        for net in nets[:40]:
+            simulation = Simulation(net)
+            simulation.run()
+            causes |= {what for _, _, _, what, _ in simulation.rows}
+        self.assertEqual(causes, {"delivered", *afdx.CAUSES} - {"unknown"})
+
+    def test_the_second_opinion_is_held_against_seq(self):
+        status, lines = self.ended("", "--runs", "1", "--second-opinion")
+        self.assertEqual((status, lines[1]), (1, "1 runs, 0 came out as the second opinion, 1 did not"))
+        self.assertTrue(lines[0].endswith("the tables of the second opinion differ from those of seq"), lines[0])
+        simulation = Simulation(toml_lines.read(threaded_runs.Drawn(0).network))
+        simulation.run()
+        tables, trace = ("".join(line + "\n" for line in lines) for lines in (simulation.tables(), simulation.trace()))
+        for trace, told in ((trace, ()), ("other", ("the rows of the second opinion's trace differ from those of seq",))):
+            status, lines = self.ended(f"tables, trace = {tables!r}, {trace!r}", "--runs", "1", "--second-opinion")
+            self.assertEqual((status, tuple(line.split("): ")[1] for line in lines[:-1])), (len(told), told))
 
 
 if __name__ == "__main__":
