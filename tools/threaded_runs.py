@@ -4,9 +4,9 @@ against the second opinion.
 
 Each run has a network of its own, drawn by large_network.py: 2 to 6 end systems, 1 to 3 switches on each of the two
 networks, 1 to 12 virtual links with 1 to 4 sub-virtual links and both kinds of policing, 1 to 20 ms of simulated time.
-Half of the networks are bent, so that frames wait and are lost: periods from a tenth of the BAG on, depths of 1 to 3,
-jitters up to the BAG, frames above Smax, little jitter for policing, lines of 10 Mbit/s, outages; and half of these lie
-at the latest end of a run, 10^15 ns.
+Half of the networks are bent, so that frames wait and are lost: short BAGs and periods from a tenth of them on, long
+frames, depths of 1 to 3, jitters up to the BAG, frames above Smax, little jitter for policing, lines of 10 Mbit/s,
+outages; and half of these lie at the latest end of a run, 10^15 ns.
 
 The number of workers is drawn from 1 to 64, the turn from 1 to 256 and the window from 1 to 10^15 ns, each evenly over
 its powers of two, so that small ones are as frequent as large ones. `afdxsim run` must then end with status 0, and its
@@ -90,7 +90,10 @@ def bend(tree, draw):
     for node in tree["node"]:
         node["port_bytes"] = draw.choice([GREATEST_FRAME, 4096, 65536])
     for vl in tree["vl"]:
+        vl["bag_ms"] = draw.choice([1, 1, 1, 2, 4, vl["bag_ms"]])
         bag_ns = vl["bag_ms"] * 10**6
+        if draw.random() < 0.3:
+            vl["size"] = vl["smax"] = GREATEST_FRAME
         vl["period_ns"] = max(1000, int(bag_ns * draw.choice([0.1, 0.3, 0.7, 0.999, 1, 1.001, 3])))
         vl["jitter_ns"] = int(bag_ns * draw.choice([0, 0, 0.01, 0.5, 1]))
         vl["offset_ns"] = draw.choice([0, 0, 1, draw.randrange(tree["until_ns"] + 2)])
