@@ -482,13 +482,13 @@ class Judge:
         nodes, links, outages = (self.sizes[section] for section in ("node", "link", "outage"))
         if nodes + 2 * links > MOST_PROCESSES:
             text = f"has {nodes} nodes and {links} links, which are {nodes + 2 * links} processes, two for each link; "
-            self.add(9, "top", None, None, text + f"there may be {MOST_PROCESSES}")
+            self.add(9, "top", None, None, text + f"there may be {MOST_PROCESSES}: make the network smaller")
         for name, (i, kind, _) in self.node.items():
             count = len(self.beside.get(name, [])) if kind == "switch" else 0
             if count > MOST_PORTS:
-                self.add(9, "node", i, None, f"it has {count} links, and a switch may have {MOST_PORTS}: spread them")
+                self.add(9, "node", i, None, f"it has {count} links, and a switch may have {MOST_PORTS}: take more switches")
         if outages > MOST_OUTAGES:
-            text = f"it is one more than {MOST_OUTAGES} outages, which there may be"
+            text = f"there are {outages} outages, and may be {MOST_OUTAGES}: take out the others"
             self.add(9, "outage", MOST_OUTAGES + 1, None, text)
 
 

@@ -384,6 +384,44 @@ class Explained(unittest.TestCase):
                 first, _, answer = lines[0].partition(" [afdxsim: description: ")
                 self.assertEqual((first, int(answer.split()[0])), (wanted, number))
 
+    def test_what_rows_say_of_each_other(self):
+        vl = "virtual link 120 (vl row 1)"
+        switch = '  { name = "SWB", kind = "switch", port_bytes = 1518, net = "B", latency_ns = 1 },\n]\nlink'
+        more = lambda *rows: ("]\n[[vl]]", "".join(f"  {{ {row}, mbit = 100, propagation_ns = 1 }},\n" for row in rows) + "]\n[[vl]]")
+        outage = lambda ends, times="from_ns = 1, to_ns = 2": ("[[vl]]", f"outage = [{{ {ends}, {times} }}]\n[[vl]]")
+        for changes, number, place, wanted in (
+            ([("]\nlink", "  7,\n]\nlink")], 3, "node 4", "7: node row 4: the row is a whole number, 7, and must be a table"),
+            ([("[[vl]]", "outage = 7\n[[vl]]")], 3, "outage 0", "12: outage: this section is a whole number, and must be a list of tables: each row is written [[outage]]"),
+            ([outage('from = "ADC", to = "SWA"', "from_ns = 5, to_ns = 5")], 4, "outage 1 to_ns", "12: outage ADC>SWA (outage row 1), to_ns is 5, and must be later than from_ns, which is 5"),
+            ([('["ADC", "SWA", "DU"]', "[" + '"ADC", ' * 32 + '"DU"]')], 4, "vl 1 a", f"24: {vl}, a, path 1: it has 33 names, and must have 3 to 32: the source, each switch on the way, and the destination"),
+            ([('a = "ADC"', 'a = "ADD"')], 5, "link 1 a", "9: link ADD-SWA (link row 1), a: ADD is no node; ADC?"),
+            ([outage('from = "ADC", to = "SWB"')], 5, "outage 1 to", "12: outage ADC>SWB (outage row 1), to: SWB is no node; SWA?"),
+            ([("b = []", "b = []\n[[vl]]\n" + BAD.partition("[[vl]]")[2].strip())], 6, "vl 2 id", "27: virtual link 120 (vl row 2), id: the number 120 is there already, in line 13"),
+            ([more('a = "SWA", b = "SWA"')], 7, "link 3 b", "11: link SWA-SWA (link row 3), b: a link joins two nodes, and this one joins SWA to itself"),
+            ([("]\nlink", switch), more('a = "SWA", b = "SWB"')], 7, "link 3 b", "12: link SWA-SWB (link row 3), b: it joins two switches of different networks: SWA is on A, SWB on B"),
+            ([("]\nlink", switch.replace('"B"', '"A"')), more('a = "SWB", b = "ADC"')], 7, "link 3 b", "12: link SWB-ADC (link row 3), b: it is the second link of the end system ADC on network A; the first is in line 10"),
+            ([outage('from = "ADC", to = "DU"')], 7, "outage 1 to", "12: outage ADC>DU (outage row 1), to: there is no link from ADC to DU; ADC is linked with SWA"),
+            ([('[["ADC", "SWA", "DU"]]', "[]")], 8, "vl 1 a", f"24: {vl}, a: there is no path on A and none on B: it needs one for each destination"),
+            ([("]\nlink", switch), more('a = "ADC", b = "SWB"', 'a = "DU", b = "SWB"'), ("b = []", 'b = [["DU", "SWB", "ADC"]]')], 8, "vl 1 b", f"28: {vl}, b: the paths on B begin at DU, and those on A at ADC: a virtual link has one source"),
+        ):
+            with self.subTest(wanted):
+                status, lines = self.told(*changes)
+                self.assertEqual((status, lines[0]), (1, f"{wanted} [afdxsim: description: {number} {explain.NAMES[number]} at {place}]"))
+
+    def test_too_many(self):
+        n1, node = examples()["n1"], '[[node]]\nname = "{}"\nkind = "es"\nport_bytes = 1518\n'
+        link = '[[link]]\na = "SW1"\nb = "{}"\nmbit = 100\npropagation_ns = 1\n'
+        outage = '[[outage]]\nfrom = "ES1"\nto = "SW1"\nfrom_ns = 0\nto_ns = 1\n'
+        names = [f"E{i}" for i in range(4200)]
+        for text, place, wanted in (
+            ("".join(map(node.format, names[:4090])), "top", "1: the description has 4093 nodes and 2 links, which are 4097 processes, two for each link; there may be 4096: make the network smaller"),
+            ("".join(node.format(it) + link.format(it) for it in names[:23]), "node 3", "12: switch SW1 (node row 3): it has 25 links, and a switch may have 24: take more switches"),
+            (outage * 1025, "outage 1025", "5164: outage ES1>SW1 (outage row 1025): there are 1025 outages, and may be 1024: take out the others"),
+        ):
+            with self.subTest(place):
+                status, lines = self.told(text=n1 + text)
+                self.assertEqual((status, lines[0]), (1, f"{wanted} [afdxsim: description: 9 TooMany at {place}]"))
+
     def test_each_rule_of_a_path_is_named(self):
         two = (
             ('name = "DU"', 'name = "ADR",  kind = "es", port_bytes = 16_384 },\n  { name = "DU"'),
