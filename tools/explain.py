@@ -50,7 +50,7 @@ ORDER = ["top", *SECTIONS]
 A_ROW = {"node": "a node", "link": "a link", "outage": "an outage", "vl": "a virtual link"}
 
 # Stands for the value of a line that is no TOML. It is not judged.
-UNREAD = "\ufffd"
+UNREAD = object()
 
 # What the paths of a virtual link on one network have to be.
 RULES = {
@@ -143,7 +143,7 @@ def meant(name, names):
 
 
 def is_name(value):
-    return type(value) is str and value != UNREAD
+    return type(value) is str
 
 
 def is_path(value):
@@ -215,7 +215,7 @@ class Judge:
         for i, row in enumerate(rows, 1):
             if isinstance(row, toml_lines.Table):
                 found.append((i, row))
-            elif row != UNREAD:
+            elif row is not UNREAD:
                 self.add(3, section, i, None, f"the row is {kind_of(row)}, {shown(row)}, and must be a table")
         return found
 
@@ -229,7 +229,7 @@ class Judge:
                 self.add(2, section, i, key.name, f"is missing: {allowed(key)}{hint}")
             return
         value = row[key.name]
-        if value == UNREAD:
+        if value is UNREAD:
             return
         if not self.has_kind(key, value):
             wanted = self.wanted(key, value)
@@ -506,30 +506,47 @@ def rank(finding):
 ROW = re.compile(r"\s*\{.*\}\s*,?\s*(#.*)?")
 
 
-def unread(line, fault):
+def marked(line, fault, mark):
     """What takes the place of a line that is no TOML, so that what is behind it can be read; None where nothing can."""
-    if UNREAD in line:
+    if mark in line:
         return None
     key = re.match(r"\s*([A-Za-z0-9_-]+)[ \t]*=", line)
     if key and not line.rstrip().endswith("["):
-        return "" if "is there already" in str(fault) else f'{key[1]} = "{UNREAD}"'
-    return f'"{UNREAD}",' if ROW.fullmatch(line) else None
+        return "" if "is there already" in str(fault) else f'{key[1]} = "{mark}"'
+    return f'"{mark}",' if ROW.fullmatch(line) else None
 
 
 def syntax_faults(text):
-    """The faults of a text that is no TOML, line by line, and the table that it is, with what could not be read marked;
-    None for the table where what is behind the last fault cannot be read."""
+    """The faults of a text that is no TOML, line by line, and the table that it is, with UNREAD for what could not be
+    read; None for the table where what is behind the last fault cannot be read."""
     found, lines = [], text.split("\n")
+    mark = "unread"
+    while mark in text:
+        mark += "_"
     while len(found) < 100:
         try:
-            return found, toml_lines.read("\n".join(lines))
+            tree = toml_lines.read("\n".join(lines))
         except toml_lines.BadToml as fault:
             found.append(Finding(1, None, fault.line, "", str(fault)))
-            instead = unread(lines[fault.line - 1], fault)
+            instead = marked(lines[fault.line - 1], fault, mark)
             if instead is None:
                 break
             lines[fault.line - 1] = instead
+        else:
+            if found:
+                forget(tree, mark)
+            return found, tree
     return found, None
+
+
+def forget(value, mark):
+    """Puts UNREAD in the place of each text that is the mark."""
+    places = value.items() if isinstance(value, dict) else enumerate(value) if isinstance(value, list) else ()
+    for place, one in list(places):
+        if one == mark:
+            value[place] = UNREAD
+        else:
+            forget(one, mark)
 
 
 def findings_of(path, text):

@@ -26,6 +26,8 @@ status: 0; 2 where a word is wrong, a file cannot be read or written, or the des
 error output then names the file and the line; explain.py tells all that is wrong with a description.
 """
 
+# More offers would not fit into memory, and take some hours.
+MOST_OFFERS = 20_000_000
 BODIES = ["Offer", "Release", "PortFree", "Arrive", "Enqueue", "Carry"]
 
 
@@ -251,6 +253,16 @@ class Simulation:
             yield "dropped,%d,%s,%s,%d,,," % (vl, self.names[place], CAUSES[cause], count)
 
 
+def small_enough(description):
+    """The table that a description is, or a fault where it has more offers than this simulator can take."""
+    until, rows = description.tree["until_ns"], description.rows("vl")
+    count = sum(max(0, (until - row["offset_ns"]) // row["period_ns"] + 1) for row in rows)
+    if count > MOST_OFFERS:
+        line, text = description.line("top", None, "until_ns"), f"{count:,} frames would be offered until the end, and"
+        raise Fault(description.path, line, f"{text} this simulator takes {MOST_OFFERS:,}")
+    return description.tree
+
+
 def main(arguments=None):
     parser = argparse.ArgumentParser(
         description=__doc__, epilog=EXAMPLES, formatter_class=argparse.RawDescriptionHelpFormatter
@@ -262,7 +274,7 @@ def main(arguments=None):
     if words.trace and afdx.is_same_file(words.net, words.trace):
         parser.error(f"NET and --trace name one file, {words.net}")
     try:
-        simulation = Simulation(explain.accepted(words.net).tree)
+        simulation = Simulation(small_enough(explain.accepted(words.net)))
         simulation.run()
         if words.trace:
             afdx.write_whole(words.trace, "".join(line + "\n" for line in simulation.trace()))

@@ -156,6 +156,11 @@ class Words(unittest.TestCase):
             self.assertEqual((status, out), (2, ""))
             self.assertTrue(told.startswith(f"second_opinion.py: {path} {said}"), told)
 
+    def test_more_offers_than_it_takes(self):
+        path = self.file(changed(("until_ns = 2000000", f"until_ns = {10**15}"), (f"period_ns = {10**12}", "period_ns = 1000")))
+        told = f"{path} line 1: {10**12 + 1:,} frames would be offered until the end, and this simulator takes 20,000,000"
+        self.assertEqual(called(path), (2, "", f"second_opinion.py: {told}\n"))
+
     def test_a_trace_that_cannot_be_written(self):
         status, out, told = called(self.file(N1), "--trace", self.folder)
         self.assertEqual((status, out), (2, ""))

@@ -5,12 +5,15 @@ import os
 import sys
 import tempfile
 import unittest
+import zlib
 
 HERE = os.path.dirname(os.path.abspath(__file__))
 sys.path.insert(0, HERE)
 
 import afdx  # noqa: E402
+import benchmark  # noqa: E402
 import explain  # noqa: E402
+import large_network  # noqa: E402
 import threaded_runs  # noqa: E402
 import toml_lines  # noqa: E402
 from second_opinion import Simulation  # noqa: E402
@@ -100,6 +103,13 @@ class ThreadedRuns(unittest.TestCase):
             simulation.run()
             causes |= {what for _, _, _, what, _ in simulation.rows}
         self.assertEqual(causes, {"delivered", *afdx.CAUSES} - {"unknown"})
+
+    def test_large_networks_are_the_same_in_every_edition(self):
+        """What is drawn for new keys moves nothing where they are not asked for."""
+        words, _, known = benchmark.SIZES["small"]
+        pieces = []
+        large_network.write_network(large_network.words_of(words), pieces.append, lambda _: None)
+        self.assertEqual(zlib.crc32("".join(pieces).encode()), known)
 
     def test_the_second_opinion_is_held_against_seq(self):
         status, lines = self.ended("", "--runs", "1", "--second-opinion")
