@@ -225,7 +225,7 @@ class Judge:
         if key.name not in row:
             if key.is_needed(row):
                 near = nearest(key.name, [name for name in row if name not in {it.name for it in KEYS[section]}])
-                hint = f". Is {near} meant, in line {row.lines[near]}?" if near else ""
+                hint = f". Is {near} meant, in line {self.description.line(section, i, near)}?" if near else ""
                 self.add(2, section, i, key.name, f"is missing: {allowed(key)}{hint}")
             return
         value = row[key.name]
@@ -293,7 +293,7 @@ class Judge:
         for name in self.tree:
             if name not in [key.name for key in KEYS["top"]] + SECTIONS:
                 known = [key.name for key in KEYS["top"]] + SECTIONS
-                self.unknown_key("top", None, name, f"is no key of a description{meant(name, known)}", self.tree)
+                self.unknown_key("top", None, name, f"is no key of a description{meant(name, known)}")
         for section in SECTIONS:
             for i, row in self.tables[section]:
                 for name in row:
@@ -303,17 +303,18 @@ class Judge:
         keys = {key.name: key for key in KEYS[section]}
         if name not in keys:
             known = [it for it in keys if it not in row]
-            self.unknown_key(section, i, name, f"is no key of {A_ROW[section]}{meant(name, known)}", row)
+            self.unknown_key(section, i, name, f"is no key of {A_ROW[section]}{meant(name, known)}")
         elif keys[name].needed == "switches" and row.get("kind") not in ("switch", UNREAD):
             if row.get("kind") == "es":
-                self.unknown_key(section, i, name, "is a key of switches: an end system has none", row)
+                self.unknown_key(section, i, name, "is a key of switches: an end system has none")
             elif "kind" in row:
-                self.unknown_key(section, i, name, 'is a key of switches, whose kind is "switch"', row)
+                self.unknown_key(section, i, name, 'is a key of switches, whose kind is "switch"')
             else:
-                self.unknown_key(section, i, name, "is a key of switches, and this row has no kind", row)
+                self.unknown_key(section, i, name, "is a key of switches, and this row has no kind")
 
-    def unknown_key(self, section, i, name, text, row):
-        self.add(5, section, i, None, text, row.lines[name], f", {name}" if section != "top" else f": {name}")
+    def unknown_key(self, section, i, name, text):
+        line = self.description.line(section, i, name)
+        self.add(5, section, i, None, text, line, f", {name}" if section != "top" else f": {name}")
 
     def nodes(self):
         """The nodes by name: the first row of each, and its kind and network where it has them."""

@@ -89,8 +89,16 @@ ALIASES = {
 }
 MORE_COLUMNS = {"vl": ["source", "destinations", "payload", "via"], "link": ["length_m"]}
 # Which columns tell what a table has, the first that fits.
-SORTS = [("vl", {"id"}), ("node", {"name"}), ("outage", {"from", "to"}), ("link", {"a", "b"})]
-SORTS += [("top", {"until_ns"}), ("top", {"seed"})]
+SORTS = [
+    ("vl", {"id", "source"}),
+    ("vl", {"id", "destinations"}),
+    ("node", {"name"}),
+    ("outage", {"from", "to"}),
+    ("link", {"a", "b"}),
+    ("vl", {"id"}),
+    ("top", {"until_ns"}),
+    ("top", {"seed"}),
+]
 NEEDED = {"vl": ["id"], "node": ["name"], "link": ["a", "b"], "outage": ["from", "to", "from_ns", "to_ns"], "top": []}
 WORDS = {"end system": "es", "end_system": "es", "sw": "switch"}
 UNITS = {"ns": 1, "us": 10**3, "ms": 10**6, "s": 10**9}
@@ -206,7 +214,7 @@ class Maker:
         """The value of a cell, or None where the cell is empty or is none."""
         text = line.cells[column]
         time = unit_of(column, section)
-        if time and column != "bag_ms":
+        if time:
             return self.time(line, column, text, time[1])
         if column in ("length_m", "payload") or any(it.name == column and it.kind == "integer" for it in KEYS[section]):
             plain = text.replace("_", "")
@@ -214,7 +222,7 @@ class Maker:
                 return int(plain)
             self.add(line, f"{column} is {text!r}, and no whole number")
             return None
-        if column in ("net",):
+        if column == "net":
             return text.upper()
         if column in ("kind", "priority", "policing"):
             return WORDS.get(text.lower(), text.lower())
@@ -233,11 +241,10 @@ class Maker:
 
     def row_of(self, line, section, usual):
         """The values of the keys of a section that a line has, or else usual ones."""
-        row = {}
+        row, own = {}, [it.name for it in KEYS[section] if it.kind != "paths"]
         for column in line.cells:
-            time = unit_of(column, section)
-            key = time[0] if time and column != "bag_ms" else column
-            if key in [it.name for it in KEYS[section]] and key not in ("a", "b") or section == "link" and key in "ab":
+            key = (unit_of(column, section) or [column])[0]
+            if key in own:
                 value = self.value(line, section, column)
                 if key in row:
                     self.add(line, f"has {key} twice, as {column} too")
@@ -265,7 +272,7 @@ class Maker:
         row = self.row_of(line, "node", {})
         if "kind" not in row:
             row["kind"] = Value("switch" if "net" in row else "es", "since it has a net" if "net" in row else "usual")
-        for key, value in USUAL.get(row["kind"].value, {}).items():
+        for key, value in USUAL.get(row["kind"].value, USUAL["es"]).items():
             row.setdefault(key, Value(value, "usual"))
         return row
 

@@ -204,6 +204,7 @@ class OfTables(Here):
             (good.replace("SWB,B", "SWB,C"), ["line 3: switch SWB, net is \"C\", and must be \"A\" or \"B\""]),
             (good.replace("8,100", "8,100,7"), ["line 12: has 6 cells, and the table has 5 columns"]),
             ("x,y\n1,2\n", ["line 1: names no columns of a table, but x, y: --help has them"]),
+            (good.replace("SWB,B", "SWB,B,hub").replace("name,net", "name,net,kind"), ['line 3: node SWB, kind is "hub", and must be "es" or "switch"', "line 3: node SWB, net is a key of switches, whose kind is \"switch\""]),
             (good + "\nuntil_ns\n1000\n\nuntil_ns\n2000\n", ["line 18: says until_ns again"]),
             (good + "\nuntil_us\n0.0001\n", ["line 15: until_us is 0.0001, which is no whole number of ns"]),
             (good.replace("smax\n", "smax,a\n").replace("8,100", "8,100,ADC SWA ADC"), ["line 12: the path ADC SWA ADC ends at ADC, which destinations does not name"]),
