@@ -202,7 +202,7 @@ class Maker:
             self.put("link", line, self.link(line))
         for line in tables.lines["outage"]:
             self.put("outage", line, self.row_of(line, "outage", {}))
-        self.networks = {net: self.network(net) for net in "AB"}
+        self.networks, self.ways = {net: self.network(net) for net in "AB"}, {}
         for line in tables.lines["vl"]:
             self.put("vl", line, self.virtual_link(line))
 
@@ -369,7 +369,10 @@ class Maker:
         """Shortest paths from the source to each destination that the network reaches."""
         beside, switches = self.networks[net]
         source, wanted = line.cells.get("source"), names_of(line.cells.get("destinations", ""))
-        before = ways_from(source, beside, switches, set(names_of(line.cells.get("via", ""))))
+        via = frozenset(names_of(line.cells.get("via", "")))
+        if (net, source, via) not in self.ways:
+            self.ways[net, source, via] = ways_from(source, beside, switches, via)
+        before = self.ways[net, source, via]
         paths, missed = [], []
         for name in dict.fromkeys(wanted):
             path = [name]
