@@ -102,7 +102,7 @@ module _ {S K N : Type 0} (r : Rules Message S K N) (e : (a b : Message) → r.l
   pub change-messages : (l : Signed Message) (ls : List (Signed Message)) → change_by r l ls ≡ change_by message_rules l ls
   change-messages l ls = λ i. change_between (present-messages ls l.message i) (present-messages (l ∷ ls) l.message i)
 
-  after-messages : (o : Option Message) (m : Message) → is_after r o m ≡ is_after message_rules o m
+  pub after-messages : (o : Option Message) (m : Message) → is_after r o m ≡ is_after message_rules o m
   after-messages None m = refl
   after-messages (Some n) m = e n m
 

@@ -25,7 +25,7 @@ some-of : (o : Option Sign) → (IsSome o → ⊥) → o ≡ None
 some-of None h = refl
 some-of (Some x) h = absurd (h refl)
 
-at-zero : (p n : ℕ) → sign_at p n 0 ≡ None → pos p -ℤ pos n ≡ pos 0
+pub at-zero : (p n : ℕ) → sign_at p n 0 ≡ None → pos p -ℤ pos n ≡ pos 0
 at-zero p n h = go (nat_lt 0 (p - n)) (nat_lt 0 (n - p)) refl refl h
   where
     go : (b c : Bool) → nat_lt 0 (p - n) ≡ b → nat_lt 0 (n - p) ≡ c → cond b (Some Plus) (cond c (Some Minus) None) ≡ None → pos p -ℤ pos n ≡ pos 0

@@ -6,3 +6,5 @@ mod Boxes
 pub mod Agreeing
 pub mod After
 pub mod First
+mod Beginning
+pub mod Following

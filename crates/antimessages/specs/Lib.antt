@@ -3,3 +3,4 @@ pub mod Counting
 pub mod Occurrences
 pub mod Mailing
 pub mod Steps
+pub mod Ordered

@@ -1,6 +1,6 @@
 -- How signed counts are kept: the letters of a message that are counted and not taken back have the ordinals 0, 1 and so on, all with
 -- one sign.
-use Rattle.std.specs.Prelude.{◌≡◌, ℕ, ◌-◌, ℤ, pos, ◌-ℤ◌, cond, nat_lt, List, map, Option, Some, None}
+use Rattle.std.specs.Prelude.{◌≡◌, ℕ, ◌-◌, ℤ, pos, ◌-ℤ◌, ◌≢◌, cond, nat_lt, List, [], ◌∷◌, map, Option, Some, None, ⊤}
 use Rattle.std.specs.Ordering.{nat_cmp, ordering_then}
 use Rattle.std.specs.declared.cmp.Ordering.{Ordering}
 use Rattle.std.specs.declared.ops.Bound.{Bound}
@@ -18,9 +18,13 @@ use Rattle.antimessages.specs.Letters.{message_rules, is_plus}
 abbrev pub occurrence_of : Message → ℕ → Occurrence
 occurrence_of m k = record { message = m; ordinal = k }
 
--- occurrences by message and then by ordinal
+-- occurrences by an order of messages and then by ordinal
+abbrev pub occurrences_by : (Message → Message → Ordering) → Occurrence → Occurrence → Ordering
+occurrences_by order a b = ordering_then (order a.message b.message) (nat_cmp a.ordinal b.ordinal)
+
+-- by the order of messages
 abbrev pub occurrence_cmp : Occurrence → Occurrence → Ordering
-occurrence_cmp a b = ordering_then (message_cmp a.message b.message) (nat_cmp a.ordinal b.ordinal)
+occurrence_cmp = occurrences_by message_cmp
 
 -- the letter that counts
 abbrev pub letter_at : Occurrence × Sign → Signed Message
@@ -47,3 +51,13 @@ sign_at p n k = cond (nat_lt k (p - n)) (Some Plus) (cond (nat_lt k (n - p)) (So
 pub record AreCounted (es : List (Occurrence × Sign)) : Type 0 where
   pub signs : (m : Message) (k : ℕ) → lookup (is_at (occurrence_cmp (occurrence_of m k))) es
       ≡ sign_at (pluses message_rules m (letters_of es)) (minuses message_rules m (letters_of es)) k
+
+-- the first of these letters, if there is one, is of another message than m
+abbrev pub IsNextOther : Message → List (Occurrence × Sign) → Type 0
+IsNextOther m [] = ⊤
+IsNextOther m (e ∷ es) = e.0.message ≢ m
+
+-- the first of these letters is a plus letter of m, and the second, if there is one, is of another message
+abbrev pub BeginsWithOne : Message → List (Occurrence × Sign) → Type 0
+BeginsWithOne m [] = ⊥
+BeginsWithOne m (e ∷ es) = (e.0.message ≡ m) × (e.1 ≡ Plus) × IsNextOther m es

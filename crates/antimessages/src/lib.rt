@@ -4,6 +4,7 @@
 mod ends;
 mod fault;
 mod mail;
+mod next;
 mod occurrence;
 mod occurrences;
 mod outbox;

@@ -1,11 +1,14 @@
 //! The counted letters: for each occurrence its sign.
-ghost use Rattle.std.specs.Prelude.{◌≡◌, ◌+◌, ◌<◌, ◌^◌, pos, ◌∷◌, Option, IfSome, OnOk, OnErr};
+ghost use Rattle.std.specs.Prelude.{◌≡◌, ◌+◌, ◌<◌, ◌^◌, pos, ◌∷◌, false, Option, IsSome, IsTrue, IfSome, IfOk, OnOk, OnErr};
 ghost use Rattle.std.specs.Option.{MatchOption, option_copied, option_map};
 ghost use Rattle.std.specs.List.{find};
+ghost use Rattle.std.specs.Map.{lookup};
+ghost use Rattle.std.specs.BTreeMap.{is_at, insert_entry};
 ghost use Rattle.vlink.specs.declared.message.Message.{Message};
+ghost use Rattle.vlink.specs.declared.message.Sign.TheVariants.{Plus};
 ghost use Rattle.antimessages.specs.Letters.{message_rules, is_plus};
 ghost use Rattle.antimessages.specs.Counting.{signed_count, HaveSameCounts, present_after};
-ghost use Rattle.antimessages.specs.Occurrences.{AreCounted, letters_of, letter_at, occurrence_of, count_with, behind};
+ghost use Rattle.antimessages.specs.Occurrences.{AreCounted, letters_of, letter_at, occurrence_of, occurrence_cmp, count_with, behind, BeginsWithOne};
 
 use crate::fault::OutOfMemory;
 use crate::occurrence::{Occurrence, is_same, occurrence_order};
@@ -33,6 +36,48 @@ pub(crate) fn last_of(signs: &BTreeMap<Occurrence, Sign>, message: &Message) -> 
     } else {
         None
     }
+}
+
+/// Where no letter of the message counts, one of this sign does. The answer is whether none did; where one did, and at a refusal, nothing
+/// changes.
+pub(crate) fn put_first(
+    signs: &mut BTreeMap<Occurrence, Sign>,
+    message: &Message,
+    sign: Sign,
+) -> Result<bool, OutOfMemory>
+    requires { AreCounted signs.old.entries }
+    ensures counted { AreCounted signs.new.entries }
+    ensures none { IfOk result (λ first. IsTrue first → signed_count message_rules message.now (letters_of signs.old.entries) ≡ pos 0) }
+    ensures counts { IfOk result (λ first. IsTrue first →
+        HaveSameCounts message_rules (letters_of signs.new.entries) (letter_at (occurrence_of message.now 0, sign) ∷ letters_of signs.old.entries)) }
+    ensures stays { IfOk result (λ first. first ≡ false → signs.new.entries ≡ signs.old.entries) }
+    ensures unchanged { OnErr result (signs.new.entries ≡ signs.old.entries) }
+{
+    occurrence_order();
+    let first = Occurrence {
+        message: *message,
+        ordinal: 0,
+    };
+    match signs.insert(first, sign)? {
+        None => Ok(true),
+        Some(counted) => {
+            put_back(signs, message, counted);
+            Ok(false)
+        }
+    }
+}
+
+/// The first letter of a message, which is there, gets this sign. It takes no memory.
+fn put_back(signs: &mut BTreeMap<Occurrence, Sign>, message: &Message, sign: Sign)
+    requires { IsSome (lookup (is_at (occurrence_cmp (occurrence_of message.now 0))) signs.old.entries) }
+    ensures { signs.new.entries ≡ insert_entry occurrence_cmp signs.old.entries (occurrence_of message.now 0) sign }
+{
+    occurrence_order();
+    let first = Occurrence {
+        message: *message,
+        ordinal: 0,
+    };
+    let _sign = signs.insert(first, sign);
 }
 
 /// One letter more of this sign counts for the message, of which there are `ordinal` such letters. A refusal changes nothing.
@@ -75,6 +120,44 @@ pub(crate) fn take(
         ordinal,
     };
     let _sign = signs.remove(&last);
+}
+
+/// Where the first letters that count are those of the message, and these are one plus letter, it counts no more. The answer is whether
+/// they are; where they are not, nothing changes.
+pub(crate) fn take_first(signs: &mut BTreeMap<Occurrence, Sign>, message: &Message) -> bool
+    requires { AreCounted signs.old.entries }
+    ensures counted { AreCounted signs.new.entries }
+    ensures counts { IsTrue result →
+        HaveSameCounts message_rules (letters_of signs.old.entries) (letter_at (occurrence_of message.now 0, Plus) ∷ letters_of signs.new.entries) }
+    ensures one { IsTrue result → signed_count message_rules message.now (letters_of signs.old.entries) ≡ pos 1 }
+    ensures unchanged { result ≡ false → signs.new.entries ≡ signs.old.entries }
+{
+    occurrence_order();
+    let _len = signs.len();
+    if !begins_with_one(signs, message) {
+        return false;
+    }
+    let Some(_first) = signs.pop_first() else {
+        return false;
+    };
+    true
+}
+
+/// Whether the first letters that count are those of the message, and these are one plus letter.
+fn begins_with_one(signs: &BTreeMap<Occurrence, Sign>, message: &Message) -> bool
+    ensures { IsTrue result → BeginsWithOne message.now signs.now.entries }
+{
+    let mut entries = signs.iter();
+    let Some((first, Sign::Plus)) = entries.next() else {
+        return false;
+    };
+    if !is_same(&first.message, message) {
+        return false;
+    }
+    match entries.next() {
+        Some((second, _)) => !is_same(&second.message, message),
+        None => true,
+    }
 }
 
 /// The first present message of those that come after `newest`, or of all where none is given.

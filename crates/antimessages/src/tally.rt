@@ -9,7 +9,7 @@ ghost use Rattle.antimessages.specs.Occurrences.{count_with};
 
 use crate::fault::OutOfMemory;
 use crate::occurrence::{Occurrence, occurrence_order};
-use crate::occurrences::{last_of, next_after, put, take};
+use crate::occurrences::{last_of, next_after, put, put_first, take, take_first};
 use std::alloc::Global;
 use std::collections::BTreeMap;
 use std::marker::Model;
@@ -96,6 +96,23 @@ impl Tally {
     {
         occurrence_order();
         let (message, sign) = (&letter.message, letter.sign);
+        if put_first(&mut self.signs, message, sign)? {
+            return Ok(change_at(None, sign));
+        }
+        self.add_further(letter)
+    }
+
+    /// Does what `add` does, by two searches.
+    fn add_further(&mut self, letter: Letter) -> Result<Change, OutOfMemory>
+        ensures count { OnOk result (signed_count message_rules letter.message self.new
+            ≡ signed_count message_rules letter.message self.old +ℤ weight letter.sign) }
+        ensures others { OnOk result ((m : Message) → m ≢ letter.message →
+            signed_count message_rules m self.new ≡ signed_count message_rules m self.old) }
+        ensures change { IfOk result (λ change. change ≡ change_by message_rules (signed letter) self.old) }
+        ensures unchanged { OnErr result (self.new ≡ self.old) }
+    {
+        occurrence_order();
+        let (message, sign) = (&letter.message, letter.sign);
         let last = last_of(&self.signs, message);
         let change = change_at(last, sign);
         match last {
@@ -114,6 +131,20 @@ impl Tally {
     /// A message whose signed count is just 1 is counted once less: its count is 0 then. Where the count is another nothing changes.
     /// The answer tells whether it was 1. It takes no memory.
     pub fn take_one(&mut self, message: &Message) -> bool
+        ensures one { IsTrue result ↔ (signed_count message_rules message.now self.old ≡ pos 1) }
+        ensures count { IsTrue result → signed_count message_rules message.now self.new ≡ pos 0 }
+        ensures others { (m : Message) → m ≢ message.now → signed_count message_rules m self.new ≡ signed_count message_rules m self.old }
+        ensures unchanged { result ≡ false → self.new ≡ self.old }
+    {
+        occurrence_order();
+        if take_first(&mut self.signs, message) {
+            return true;
+        }
+        self.take_one_found(message)
+    }
+
+    /// Does what `take_one` does, by two searches.
+    fn take_one_found(&mut self, message: &Message) -> bool
         ensures one { IsTrue result ↔ (signed_count message_rules message.now self.old ≡ pos 1) }
         ensures count { IsTrue result → signed_count message_rules message.now self.new ≡ pos 0 }
         ensures others { (m : Message) → m ≢ message.now → signed_count message_rules m self.new ≡ signed_count message_rules m self.old }

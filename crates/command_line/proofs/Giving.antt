@@ -9,6 +9,7 @@ use Rattle.clap.specs.Kinds.{check_kinds}
 use Rattle.clap.specs.Simple.{App, Shape, built, entered, label_of, names_of, rows_at, subcommand_of}
 use Rattle.clap.specs.Takes.{is_given}
 use Rattle.clap.specs.Walk.{Row, Text, answers_to, finished, nothing_held, rows_after, walk, walk_from}
+use Rattle.vlink.specs.declared.time.TheConstants.{LATEST_NS}
 use Rattle.command_line.specs.Given.{IsGiven}
 use Rattle.command_line.specs.Program.{program}
 use Rattle.command_line.proofs.Filling.{IsFilled, found_passes, has_first, help_keeps, is_set, is_within, set_keeps, version_keeps}
@@ -18,7 +19,7 @@ use Rattle.command_line.proofs.Walking.{Each, IsNoHelp, Keeps, Stopped, at_level
 abbrev limits_of : Text → Option (ℕ × ℕ)
 limits_of id =
     cond (bytes_eq id (codes "workers")) (Some (1, 64))
-    (cond (bytes_eq id (codes "turn")) (Some (1, 256)) (cond (bytes_eq id (codes "window")) (Some (1, 1000000000000000)) None))
+    (cond (bytes_eq id (codes "turn")) (Some (1, 256)) (cond (bytes_eq id (codes "window")) (Some (1, LATEST_NS)) None))
 
 -- the checks of a command that requires one argument, or two, have no fault
 requires_one : (g x : Bool) → check_kinds false false ((true && not g) || x) ≡ [] → g ≡ true
@@ -46,7 +47,7 @@ gives s each plain known net steps words none =
       steps = λ is. has_first limits_of (codes "STEPS") rows here.0 (steps rows here.1 is);
       workers = is_within limits_of (codes "workers") 1 64 rows refl here.0;
       turn = is_within limits_of (codes "turn") 1 256 rows refl here.0;
-      window = is_within limits_of (codes "window") 1 1000000000000000 rows refl here.0;
+      window = is_within limits_of (codes "window") 1 LATEST_NS rows refl here.0;
     }
 
 abbrev ready : App

@@ -1,6 +1,7 @@
 -- What clap has passed: the command is one of the program's, what it requires is there, and each number is within its limits.
 use Rattle.std.specs.Prelude.{◌≡◌, ◌⊎◌, ℕ, true, List, Option, IfSome, codes, is_some}
 use Rattle.clap.specs.Words.{IsUnsignedIn, Row, Text, first_of, one_of}
+use Rattle.vlink.specs.declared.time.TheConstants.{LATEST_NS}
 
 -- where there is a text, it is a number from 1 to the most
 abbrev pub IsUpTo : ℕ → Option Text → Type 0
@@ -12,4 +13,4 @@ pub record IsGiven (name : Text) (rows : List Row) : Type 0 where
   pub steps : name ≡ codes "replay" → is_some (first_of (codes "STEPS") rows) ≡ true
   pub workers : IsUpTo 64 (one_of (codes "workers") rows)
   pub turn : IsUpTo 256 (one_of (codes "turn") rows)
-  pub window : IsUpTo 1000000000000000 (one_of (codes "window") rows)
+  pub window : IsUpTo LATEST_NS (one_of (codes "window") rows)

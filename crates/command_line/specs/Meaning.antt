@@ -4,6 +4,7 @@ use Rattle.std.specs.Option.{option_map_or}
 use Rattle.std.specs.Str.Parse.{digits_value, without_leading_plus}
 use Rattle.std.specs.String.{string_bytes}
 use Rattle.clap.specs.Words.{Row, Text, first_of, one_of, subcommand_of}
+use Rattle.vlink.specs.declared.time.TheConstants.{LATEST_NS}
 use Rattle.command_line.specs.Program.{program}
 use Rattle.command_line.specs.declared.orders.Check.{Check}
 use Rattle.command_line.specs.declared.orders.Seq.{Seq}
@@ -70,7 +71,7 @@ HasDefaults rows o = Unit {0}
 pub record RunLimits (o : Run) : Type 0 where
   pub workers : (1 ≤ o.workers) × (o.workers ≤ 64)
   pub turn : (1 ≤ o.turn) × (o.turn ≤ 256)
-  pub window : (1 ≤ o.window_ns) × (o.window_ns ≤ 1000000000000000)
+  pub window : (1 ≤ o.window_ns) × (o.window_ns ≤ LATEST_NS)
 
 -- each number of the order lies within its limits
 abbrev pub IsWithinLimits : Order → Type 0

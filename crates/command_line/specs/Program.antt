@@ -3,6 +3,7 @@ use Rattle.std.specs.Prelude.{ℕ, true, Some, codes}
 use Rattle.clap.specs.Words.{App, Rule, Text, new_app, new_rule, with_rule, with_subcommand}
 use Rattle.clap.specs.Simple.{on_top}
 use Rattle.clap.specs.declared.builder.value_parser.ValueParser.TheVariants.{Unsigned}
+use Rattle.vlink.specs.declared.time.TheConstants.{LATEST_NS}
 
 -- a word that has to be there, known by its place
 abbrev pub path_rule : Text → Rule
@@ -33,7 +34,7 @@ run_app =
     (with_rule
     (with_rule (with_rule (new_app (codes "run")) (path_rule (codes "NET"))) (number_rule (codes "workers") 64))
     (number_rule (codes "turn") 256))
-    (number_rule (codes "window") 1000000000000000))
+    (number_rule (codes "window") LATEST_NS))
     (file_rule (codes "journal")))
     (file_rule (codes "trace"))
 

@@ -1,16 +1,16 @@
 //! The order that a command's values make.
 ghost use Rattle.std.specs.Prelude.{◌≡◌, IfOk, true, codes, is_some};
 ghost use Rattle.clap.specs.Words.{first_of, found_of, one_of, rows_of};
+ghost use Rattle.vlink.specs.declared.time.TheConstants.{LATEST_NS};
 ghost use Rattle.command_line.specs.Given.{IsGiven, IsUpTo};
 ghost use Rattle.command_line.specs.Meaning.{HasDefaults, IsWithinLimits, Names, NamesCheck, NamesReplay, NamesRun, NamesSeq, RunDefaults, RunLimits, command_of};
 
 use crate::orders::{Check, Order, Replay, Run, Seq};
-use crate::paces::{
-    MOST_TURN, MOST_WINDOW_NS, MOST_WORKERS, USUAL_TURN, USUAL_WINDOW_NS, USUAL_WORKERS,
-};
+use crate::paces::{MOST_TURN, MOST_WORKERS, USUAL_TURN, USUAL_WINDOW_NS, USUAL_WORKERS};
 use crate::values::{given_text_of, number_of, text_of};
 use clap::ArgMatches;
 use std::alloc::{AllocError, Global};
+use vlink::LATEST_NS;
 
 /// The order of a command with the values that clap passed for it.
 pub(crate) fn order_of(
@@ -54,14 +54,14 @@ fn run_of(alloc: Global, values: &ArgMatches<'_>) -> Result<Run, AllocError>
     requires net { is_some (first_of (codes "NET") (rows_of (found_of values.now))) ≡ true }
     requires workers { IsUpTo 64 (one_of (codes "workers") (rows_of (found_of values.now))) }
     requires turn { IsUpTo 256 (one_of (codes "turn") (rows_of (found_of values.now))) }
-    requires window { IsUpTo 1000000000000000 (one_of (codes "window") (rows_of (found_of values.now))) }
+    requires window { IsUpTo LATEST_NS (one_of (codes "window") (rows_of (found_of values.now))) }
     ensures names { IfOk result (NamesRun (rows_of (found_of values.now))) }
     ensures defaults { IfOk result (RunDefaults (rows_of (found_of values.now))) }
     ensures limits { IfOk result RunLimits }
 {
     let workers = number_of(values, "workers", USUAL_WORKERS, MOST_WORKERS);
     let turn = number_of(values, "turn", USUAL_TURN, MOST_TURN);
-    let window_ns = number_of(values, "window", USUAL_WINDOW_NS, MOST_WINDOW_NS);
+    let window_ns = number_of(values, "window", USUAL_WINDOW_NS, LATEST_NS);
     let net = given_text_of(alloc, values, "NET")?;
     let journal = text_of(alloc, values, "journal")?;
     let trace = text_of(alloc, values, "trace")?;

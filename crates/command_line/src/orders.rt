@@ -38,7 +38,7 @@ pub struct Run {
     pub workers: u8,
     /// The most events that a process handles in one turn, 1 to 256.
     pub turn: u16,
-    /// How far beyond the GVT a process may handle events, in ns: 1 to 1000000000000000.
+    /// How far beyond the GVT a process may handle events, in ns: 1 to `vlink::LATEST_NS`.
     pub window_ns: u64,
     /// The path of the file that is to get the journal, if one is.
     pub journal: Option<String>,

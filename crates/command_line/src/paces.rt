@@ -1,11 +1,13 @@
 //! The numbers that set the pace of a run.
 ghost use Rattle.std.specs.Prelude.{◌≡◌, codes, false};
 ghost use Rattle.clap.specs.Words.{rule_of};
+ghost use Rattle.vlink.specs.declared.time.TheConstants.{LATEST_NS};
 ghost use Rattle.command_line.specs.Program.{number_rule};
 
 use crate::arguments::number;
 use clap::{Arg, value_parser};
 use std::alloc::Global;
+use vlink::LATEST_NS;
 
 /// The greatest number of threads.
 pub(crate) const MOST_WORKERS: u64 = 64;
@@ -15,8 +17,6 @@ pub(crate) const USUAL_WORKERS: u64 = 4;
 pub(crate) const MOST_TURN: u64 = 256;
 /// The number of events in a turn where the words name none.
 pub(crate) const USUAL_TURN: u64 = 16;
-/// The greatest window, in ns.
-pub(crate) const MOST_WINDOW_NS: u64 = 1_000_000_000_000_000;
 /// The window, in ns, where the words name none.
 pub(crate) const USUAL_WINDOW_NS: u64 = 1_000_000;
 
@@ -50,14 +50,14 @@ pub(crate) fn turn<'a>(alloc: Global) -> Arg<'a>
 
 /// `--window NS`.
 pub(crate) fn window<'a>(alloc: Global) -> Arg<'a>
-    ensures rule { rule_of result ≡ number_rule (codes "window") 1000000000000000 }
+    ensures rule { rule_of result ≡ number_rule (codes "window") LATEST_NS }
     ensures local { result.global ≡ false }
 {
     number(
         alloc,
         "window",
         "NS",
-        value_parser!(u64).range(1..=MOST_WINDOW_NS as i64),
+        value_parser!(u64).range(1..=LATEST_NS as i64),
         "How far a process may run ahead of the global virtual time, in ns: 1 to 1000000000000000 [default: 1000000]. It is an upper bound: a process that has to undo much takes less by itself",
     )
 }

@@ -13,5 +13,5 @@ pub use block::Block;
 pub use entry::{Deed, Entry, Past};
 pub use fault::PoolFault;
 pub use moved::Moved;
-pub use table::{CELLS, Entries, PAGES, Page};
+pub use table::{AnyEntry, CELLS, Entries, PAGES, Page};
 pub use tokens::{EntryPlace, Tokens};

@@ -6,6 +6,8 @@ ghost use Rattle.journal.specs.declared.fault.PoolFault.TheVariants.{OutOfMemory
 use crate::entry::Entry;
 use crate::fault::PoolFault;
 use crate::tokens::Tokens;
+use boxcar::slot::{OnceSlot, SlotRule};
+use boxcar::tag::Tag;
 use std::alloc::{AllocError, Global};
 use std::sync::{OnceLock, OnceToken};
 
@@ -15,10 +17,19 @@ pub const PAGES: usize = 8192;
 /// How many cells a page has.
 pub const CELLS: usize = 8192;
 
-/// A page of cells.
+/// What a cell asks of its entry: nothing.
+pub struct AnyEntry;
+
+impl SlotRule<Entry> for AnyEntry {
+    ghost use Rattle.std.specs.Prelude.{⊤};
+
+    ghost holds = { λ _ _. ⊤ };
+}
+
+/// A page of cells. To set a cell is no call of the operating system, as it would be for a `OnceLock`, which wakes whoever waits.
 #[derive(Drop)]
 pub struct Page {
-    pub cells: Vec<OnceLock<Entry>>,
+    pub cells: Vec<OnceSlot<Entry, AnyEntry>>,
     pub ghost full: { length cells.items ≡ 8192 },
 }
 
@@ -27,19 +38,19 @@ impl Page {
         Page::of(cells_of(alloc)?)
     }
 
-    fn of(cells: Vec<OnceLock<Entry>>) -> Result<Page, AllocError>
+    fn of(cells: Vec<OnceSlot<Entry, AnyEntry>>) -> Result<Page, AllocError>
         requires { length cells.items ≡ 8192 }
     {
         Ok(Page { cells })
     }
 }
 
-fn cells_of(alloc: Global) -> Result<Vec<OnceLock<Entry>>, AllocError>
+fn cells_of(alloc: Global) -> Result<Vec<OnceSlot<Entry, AnyEntry>>, AllocError>
     ensures { IfOk result (λ cells. length cells.items ≡ 8192) }
 {
     let mut cells = Vec::with_capacity(alloc, CELLS)?;
     for _ in 0..CELLS {
-        cells.push(OnceLock::new())?;
+        cells.push(OnceSlot::new(&Tag::empty()))?;
     }
     Ok(cells)
 }
@@ -107,8 +118,11 @@ impl Entries {
         let lock = &self.pages[n / CELLS];
         let cells = lock.value(&page);
         let cell = &cells.cells[n % CELLS];
-        match cell.try_set(entry) {
-            Ok(token) => Ok(Tokens { page, cell: token }),
+        match cell.set_written(entry) {
+            Ok(written) => Ok(Tokens {
+                page,
+                cell: written,
+            }),
             Err(entry) => Err(entry),
         }
     }

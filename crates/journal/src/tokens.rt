@@ -3,13 +3,14 @@ ghost use Rattle.std.specs.Prelude.{◌≡◌, ℕ, List};
 
 use crate::entry::Entry;
 use crate::table::Page;
+use boxcar::slot::Written;
 use std::sync::OnceToken;
 
 /// Shows what one cell of the table holds, and that it will hold it as long as there is the table. It has no bytes.
 #[derive(Drop)]
 pub struct Tokens<'a> {
     pub page: OnceToken<'a, Page>,
-    pub cell: OnceToken<'a, Entry>,
+    pub cell: Written<Entry>,
 }
 
 /// The place of an entry in the journal, from 0, and what is there.

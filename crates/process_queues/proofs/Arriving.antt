@@ -1,5 +1,5 @@
 -- A letter that arrives: whether its message turns, and the counts with it.
-use Rattle.std.proofs.Common.{◌≡◌, ◌⊎◌, inl, inr, true, List, [], ◌∷◌, map, drop, slice_get, Some, sym, ap, ◌∙◌, subst}
+use Rattle.std.proofs.Common.{◌≡◌, ◌⊎◌, inl, inr, true, List, [], ◌∷◌, map, drop, slice_get, Option, Some, sym, ap, ◌∙◌, subst}
 use Rattle.std.specs.Prelude.{◌≢◌}
 use Rattle.vlink.specs.declared.message.Message.{Message}
 use Rattle.vlink.specs.declared.message.Letter.{Letter}
@@ -10,6 +10,7 @@ use Rattle.virtual_time.specs.Part.{Part, is_turned}
 use Rattle.antimessages.specs.Letters.{message_rules, signed}
 use Rattle.antimessages.specs.Counting.{signed_count, change_by, is_after}
 use Rattle.antimessages.specs.declared.tally.Change.TheVariants.{Same}
+use Rattle.antimessages.proofs.Agreeing.{after-messages}
 use Rattle.process_queues.specs.Past.{newest_of}
 use Rattle.process_queues.specs.Queues.{Queues, StandsFor, CountsAgree}
 use Rattle.process_queues.proofs.Counting.{OfMessages, counts-cons, not_turned, turned}
@@ -39,3 +40,11 @@ module _ {S K : Type 0} (r : Rules Message S K Note) (R : OfMessages r) (is_valu
   pub counts-with : (tally' : List (Signed Message)) → ((m : Message) → signed_count message_rules m tally' ≡ signed_count message_rules m (signed l ∷ tally)) →
       CountsAgree r (signed l ∷ part.tally) tally'
   counts-with tally' c m = counts-cons r R (signed l) part.tally tally agrees m ∙ sym (c m)
+
+-- a message that a letter turns comes after the newest done event, where no event is undone by that
+pub turned-behind : {S K : Type 0} (r : Rules Message S K Note) (R : OfMessages r) (l : Letter) (tally : List (Signed Message)) (newest o : Option Message) →
+    (change_by message_rules (signed l) tally ≡ Same) ⊎ (is_after r newest l.message ≡ true) → (change_by message_rules (signed l) tally ≡ Same → ⊥) → o ≡ newest →
+    is_after message_rules o l.message ≡ true
+turned-behind r R l tally newest o (inl same) n e = absurd (n same)
+turned-behind r R l tally newest o (inr a) n e =
+    ap (λ x. is_after message_rules x l.message) e ∙ (sym (after-messages r R.less_one newest l.message) ∙ a)

@@ -58,8 +58,11 @@ abbrev pub state_in : {S K : Type 0} → Queues S K → S
 state_in q = q.past.state
 
 -- the message that is handled next: the first present one of those that come after the newest done event
+abbrev pub next_by : {S K : Type 0} → Past S K → List (Signed Message) → Option Message
+next_by past tally = present_after message_rules (newest_of (map (λ e. e.message) past.done)) tally
+
 abbrev pub next_in : {S K : Type 0} → Queues S K → Option Message
-next_in q = present_after message_rules (newest_of (map (λ e. e.message) q.past.done)) q.tally
+next_in q = next_by q.past q.tally
 
 -- these letters come to the back of the tray, one after another
 abbrev pub delivered_all : {S : Type 0} → List (Signed Message) → Part Message S → Part Message S

@@ -38,14 +38,18 @@ impl<R: Actor> Process<R> {
             return Ok(None);
         };
         if self.undoes_nothing(&letter) {
-            self.tally.add(letter)?;
+            let change = self.tally.add(letter)?;
             pop_front(&mut self.tray);
+            self.next = self
+                .tally
+                .next_with(self.next, &letter, change, self.past.newest());
             return Ok(Some(0));
         }
         self.outbox.reserve(self.past.sent())?;
         self.tally.add(letter)?;
         pop_front(&mut self.tray);
         let undone = self.past.roll_back(&letter.message, &mut self.outbox);
+        self.next = self.tally.next_after(self.past.newest());
         Ok(Some(undone))
     }
 
@@ -101,6 +105,7 @@ impl<R: Actor> Process<R> {
             return Err(ProcFault::Exhausted);
         }
         self.past.handle(&message, out, &mut self.outbox)?;
+        self.next = self.tally.next_after(self.past.newest());
         Ok(Some(message))
     }
 

@@ -34,18 +34,20 @@ pub struct Process<R: Actor> {
     /// How many rows each committed event gave.
     pub(crate) committed: Vec<u8>,
     pub(crate) tally: Tally,
+    /// The message that is handled next, if there is one: it is looked for once, and kept until something changes it.
+    pub(crate) next: Option<Message>,
     pub(crate) tray: VecDeque<Letter>,
     pub(crate) outbox: Outbox,
 }
 
 impl<R: Actor> Model for Process<R> {
-    ghost use Rattle.std.specs.Prelude.{◌-◌, length, map, vec_len, vec_capacity};
+    ghost use Rattle.std.specs.Prelude.{◌≡◌, ◌-◌, length, map, vec_len, vec_capacity};
     ghost use Rattle.std.specs.VecDeque.{deque_len, deque_capacity};
     ghost use Rattle.vlink.specs.declared.message.Message.{Message};
     ghost use Rattle.virtual_time.specs.Part.{Part};
     ghost use Rattle.reverse.specs.Rules.{rules_of};
     ghost use Rattle.antimessages.specs.Letters.{signed};
-    ghost use Rattle.process_queues.specs.Queues.{InHand, StandsFor};
+    ghost use Rattle.process_queues.specs.Queues.{InHand, StandsFor, next_by};
 
     ghost Value = { InHand R R.Record };
 
@@ -72,7 +74,7 @@ impl<R: Actor> Model for Process<R> {
           tally = p.tally;
           tray = map signed p.tray.items;
           outbox = p.outbox.letters;
-        }) };
+        }) × (p.next ≡ next_by p.past p.tally) };
 }
 
 impl<R: Actor> Process<R> {
@@ -89,6 +91,7 @@ impl<R: Actor> Process<R> {
             sealed: 0,
             committed: Vec::new(alloc),
             tally: Tally::new(alloc),
+            next: None,
             tray: VecDeque::new(alloc),
             outbox: Outbox::new(alloc),
         })
@@ -194,7 +197,7 @@ impl<R: Actor> Process<R> {
             result ≡ next_of (rules_of R.plain R.counter) part }
     {
         actor_rules::<R>();
-        self.tally.next_after(self.past.newest())
+        self.next
     }
 
     /// A moment that nothing in hand is earlier than, as a post sets it: the least time of the tray's letters and of the present messages

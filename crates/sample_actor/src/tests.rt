@@ -49,11 +49,11 @@ Only what is earlier than GVT is committed, the oldest first, so many at most, a
 +10 arrive run +20 arrive run +30 arrive run commit:50:9 committed oldest count:20 => 0 10 0 20 0 30 3 3 none 0 sum 60 counter 3
 +10 arrive run +20 arrive run +30 arrive run +20 arrive committable:50:9 commit:50:9 committed oldest => 0 10 0 20 0 30 0 1 1 1 20 sum 10 counter 1
 +10 arrive run +20 arrive run +30 arrive run committable:30:9 committable:30:1 committable:10:9 reserve_rows:3 seal seal seal seal => 0 10 0 20 0 30 2 1 0 1 1 1 0 sum 60 counter 3
-+10 arrive run +40 arrive run post horizon commit:15:9 take:1:0 horizon commit:45:9 take:1:0 horizon take:1:0 => 0 10 0 40 15 1 +15.0 45 1 +45.1 1000000000001 none sum 50 counter 2
++10 arrive run +40 arrive run post horizon commit:15:9 take:1:0 horizon commit:45:9 take:1:0 horizon take:1:0 => 0 10 0 40 15 1 +15.0 45 1 +45.1 1000000000000001 none sum 50 counter 2
 The floor of a process, and the least of the floors and of the letters in the mail.
-floor +10 arrive run floor +40 floor arrive floor -50 floor -30 floor => 1000000000001 0 10 1000000000001 40 0 40 40 30 sum 0 counter 0
+floor +10 arrive run floor +40 floor arrive floor -50 floor -30 floor => 1000000000000001 0 10 1000000000000001 40 0 40 40 30 sum 0 counter 0
 set:0:80 set:1:80 set:2:80 send:1:-50 horizon => 50 sum 0 counter 0
-horizon set:1:90 lower:2:70 horizon lower:2:75 horizon set:2:95 horizon => 1000000000001 70 70 90 sum 0 counter 0
+horizon set:1:90 lower:2:70 horizon lower:2:75 horizon set:2:95 horizon => 1000000000000001 70 70 90 sum 0 counter 0
 lower:0:40 send:1:-50 horizon => 40 sum 0 counter 0
 Letters are posted in order, each to its receiver, and taken from any place.
 send:1:+20 send:0:-30 send:1:-10 take:1:2 take:2:0 take:3:0 take:1:1 take:1:0 take:1:0 take:0:0 take:0:0 => none none none -10.0 +20.0 none -30.0 none sum 0 counter 0

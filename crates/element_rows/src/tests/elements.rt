@@ -12,8 +12,8 @@ use std::test::Fail;
 // An element with its fixed numbers, and the events that it is given; then its answers, the state that it comes to, and the states to
 // which undoing the events leads back, one after another, up to the first.
 //
-// A regulator has its BAG in ns, its depth and its sub-virtual links, an account the greatest frame in bytes, BAG and jitter in ns, redundancy management the
-// greatest skew in ns, a port its bytes.
+// A regulator has its BAG in ns, its depth and its sub-virtual links, an account the greatest frame in bytes, BAG and jitter in ns, and
+// behind them `frames` where it counts frames, redundancy management the greatest skew in ns, a port its bytes.
 const ROWS: &str = "\
 regulator 1000000 2 1, offer@0 offer@10 offer@20 offer@30 => Released 0:0:0 Kept, release@1000000 Kept Dropped | (1 Some(0)) (1 Some(0)) (1 Some(0)) (1 Some(0)) (0 None)
 regulator 1000000 2 1, offer@0 offer@10 offer@20 release@999999 release@1000000 release@2000000 => Released 0:0:0 Kept, release@1000000 Kept Nothing Released 1:10:1000000, release@2000000 Released 2:20:2000000 | (3 Some(2000000)) (2 Some(1000000)) (1 Some(0)) (1 Some(0)) (1 Some(0)) (1 Some(0)) (0 None)
@@ -24,7 +24,10 @@ regulator 1000000 2 2, offer@0:0 offer@10:1 offer@20:0 offer@30:0 offer@40:0 rel
 account 100 1000000 0, 100@0 100@999999 100@1000000 => Passed Refused Passed | (0/100000000@1000000) (99999900/100000000@999999) (0/100000000@0) (100000000/100000000@0)
 account 100 1000000 0, 64@0 100@540000 100@0 64@10000000 => Passed Refused Refused Passed | (36000000/100000000@10000000) (90000000/100000000@0) (90000000/100000000@540000) (36000000/100000000@0) (100000000/100000000@0)
 account 100 1000000 0, 64@0 64@140000 64@100 64@40 => Passed Refused Refused Refused | (50000000/100000000@40) (50000000/100000000@100) (50000000/100000000@140000) (36000000/100000000@0) (100000000/100000000@0)
+account 100 1000000 0, 64@0 64@280000 => Passed Passed | (0/100000000@280000) (36000000/100000000@0) (100000000/100000000@0)
+account 100 1000000 0 frames, 64@0 64@640000 64@1000000 => Passed Refused Passed | (0/100000000@1000000) (64000000/100000000@640000) (0/100000000@0) (100000000/100000000@0)
 account 1518 128000000 1000000000, => | (1712304000000/1712304000000@0)
+account 1518 128000000 1000000000, 1518@0 1518@1000000000000001 => Passed Passed | (1518000000000/1712304000000@1000000000000001) (1518000000000/1712304000000@0) (1712304000000/1712304000000@0)
 account 1518 0 0, => none
 account 1518 128000001 0, => none
 account 1518 1000000 1000000001, => none
@@ -78,12 +81,11 @@ fn elements_answer_and_undo_as_the_rows_tell(rt: HostRuntime) -> Result<(), Fail
 
 // What the element that is opened so tells of the script; `none` where its numbers are beyond the limits.
 fn tells(alloc: Global, opening: &str, script: &str) -> Result<String, AllocError> {
-    let (kind, fixed) = opening.split_once(' ').unwrap_or((opening, ""));
-    let fixed = numbers(fixed);
+    let (kind, written) = opening.split_once(' ').unwrap_or((opening, ""));
+    let fixed = numbers(written);
     match kind {
         "regulator" => of_regulator(alloc, fixed, script),
-        "account" => of_account(alloc, Measure::Bytes, fixed, script),
-        "frame_account" => of_account(alloc, Measure::Frames, fixed, script),
+        "account" => of_account(alloc, measure_in(written), fixed, script),
         "integrity" => told_by(alloc, Integrity::default(), script),
         "redundancy" => of_redundancy(alloc, fixed, script),
         _ => of_port(alloc, fixed, script),
@@ -94,6 +96,15 @@ fn of_regulator(alloc: Global, fixed: [u64; 8], script: &str) -> Result<String, 
     let [bag_ns, depth, subs, ..] = fixed;
     let regulator = BagRegulator::new(alloc, long(bag_ns), long(depth), byte(subs))?;
     told_by(alloc, regulator, script)
+}
+
+// What an account counts that is written so.
+fn measure_in(written: &str) -> Measure {
+    if written.ends_with(" frames") {
+        Measure::Frames
+    } else {
+        Measure::Bytes
+    }
 }
 
 fn of_account(

@@ -104,6 +104,8 @@ pub fn text_of(alloc: Global, network: &str) -> Result<String, AllocError> {
         "short" => ("until_ns = 2000000", "until_ns = 6000"),
         "narrow" => ("port_bytes = 65536", "port_bytes = 1518"),
         "shallow" => ("depth = 16", "depth = 1"),
+        "shared" => ("period_ns = 1000000000000", "period_ns = 500000\nsub = 2"),
+        "counted" => ("smax = 64", "smax = 100\npolicing = \"frames\""),
         "outage" => ("[[vl]]", OUTAGE),
         "outage_before" => ("[[vl]]", OUTAGE_BEFORE),
         _ => ("", ""),

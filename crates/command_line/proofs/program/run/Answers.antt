@@ -2,6 +2,7 @@ use Rattle.std.proofs.Common.{◌∙◌, rules, ap, codes}
 use Rattle.std.proofs.lemmas.Result.{IfOk-weaker}
 use Rattle.clap.specs.Words.{App, new_app, with_rule}
 use Rattle.clap.specs.Simple.{app_of_fields}
+use Rattle.vlink.specs.declared.time.TheConstants.{LATEST_NS}
 use Rattle.command_line.specs.Program.{file_rule, number_rule, path_rule}
 use Rattle.command_line.proofs.Adding.{Grows, grows}
 use Rattle.command_line.proofs.program.run.Goals as goal
@@ -11,7 +12,7 @@ returns c =
     let net = path_rule (codes "NET") in
     let workers = number_rule (codes "workers") 64 in
     let turn = number_rule (codes "turn") 256 in
-    let window = number_rule (codes "window") 1000000000000000 in
+    let window = number_rule (codes "window") LATEST_NS in
     let journal = file_rule (codes "journal") in
     let trace = file_rule (codes "trace") in
     let bare : App = new_app (codes "run") in

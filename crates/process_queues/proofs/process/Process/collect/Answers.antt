@@ -16,6 +16,7 @@ invariant_of-self-2 g c =
       delivered_all taken i.1,
       delivered_all-stands (rules_of g.R.Reversible.plain g.R.Actor.counter) g.R.Reversible.is_value i.0 taken i.1 _ _ i.2
           (rw (c.take_letters.ensures.tray, c.reserve.ensures.items) refl),
+      i.3,
     )
 
 pub returns-clause-delivered : goal.returns-clause-delivered

@@ -16,4 +16,5 @@ invariant_of-self-2 g c =
       delivered (signed c.args.letter) i.1,
       delivered-stands (rules_of g.R.Reversible.plain g.R.Actor.counter) g.R.Reversible.is_value i.0 i.1 _ _ i.2 (signed c.args.letter)
           (rw (c.push_back_reserved.ensures.items, c.reserve.ensures.items, map-append signed c.self.inside.tray.items (c.args.letter ∷ [])) refl),
+      i.3,
     )

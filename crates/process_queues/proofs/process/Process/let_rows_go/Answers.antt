@@ -25,4 +25,5 @@ invariant_of-self g c =
       i.1,
       gone-stands (rules_of g.R.Reversible.plain g.R.Actor.counter) g.R.Reversible.is_value i.0 i.1 _ _ i.2 c.min-gone.result (omega arith)
           (rw c.forget_rows.ensures refl),
+      rw c.forget_rows.ensures i.3,
     )

@@ -9,4 +9,5 @@ invariant_of-result g c = (
   c.args.actor,
   opened c.args.actor,
   opened-stands (rules_of g.R.Reversible.plain g.R.Actor.counter) g.R.Reversible.is_value c.args.actor _ (search rules),
+  search rules,
 )

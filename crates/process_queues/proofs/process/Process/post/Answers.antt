@@ -14,4 +14,5 @@ invariant_of-self-2 g c =
       emptied i.1,
       emptied-stands (rules_of g.R.Reversible.plain g.R.Actor.counter) g.R.Reversible.is_value i.0 i.1 _ _ i.2
           (rw (c.in_ok-post.ensures.emptied) refl),
+      i.3,
     )

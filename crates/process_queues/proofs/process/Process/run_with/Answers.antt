@@ -2,6 +2,8 @@ use Rattle.std.proofs.Common.{◌≡◌, None, Some, refl, sym, ap, ◌∙◌, s
 use Rattle.std.specs.Prelude.{IsSome}
 use Rattle.virtual_time.specs.Part.{run_one, handled, next_of}
 use Rattle.reverse.specs.Rules.{rules_of}
+use Rattle.antimessages.specs.Letters.{message_rules}
+use Rattle.antimessages.specs.Counting.{present_after}
 use Rattle.process_queues.specs.Queues.{StandsFor}
 use Rattle.process_queues.proofs.Counting.{of-messages}
 use Rattle.process_queues.proofs.Standing.{ran-stands}
@@ -43,5 +45,9 @@ invariant_of-self g c = rw (c.in_err-handle.ensures.unchanged, c.in_err-handle.e
 pub invariant_of-self-2 : goal.invariant_of-self-2
 invariant_of-self-2 g c =
     let r = rules_of g.R.Reversible.plain g.R.Actor.counter in
-    let i = c.self.invariant in
-    (i.0, run_one r i.1, returns-clause-ran g c i.0 i.1 (subst (λ q. StandsFor r g.R.Reversible.is_value i.0 i.1 q.queues) c.self.view_is i.2))
+    let i = c.self.invariant in (
+      i.0,
+      run_one r i.1,
+      returns-clause-ran g c i.0 i.1 (subst (λ q. StandsFor r g.R.Reversible.is_value i.0 i.1 q.queues) c.self.view_is i.2),
+      c.next_after-self-inside.ensures ∙ ap (λ o. present_after message_rules o c.self.inside.tally) c.newest.ensures,
+    )

@@ -10,6 +10,7 @@ use Rattle.antimessages.specs.Counting.{signed_count}
 use Rattle.process_queues.specs.Past.{IsPastOf}
 use Rattle.process_queues.specs.Queues.{StandsFor}
 use Rattle.process_queues.proofs.Counting.{of-messages, one-left, counts-less}
+use Rattle.process_queues.proofs.Next.{next-kept}
 use Rattle.process_queues.proofs.Reading.{first-done}
 use Rattle.process_queues.proofs.Standing.{sealed-stands}
 use Rattle.process_queues.proofs.Taking.{err-gives}
@@ -67,4 +68,6 @@ pub invariant_of-self-2 : goal.invariant_of-self-2
 invariant_of-self-2 g c =
     let r = rules_of g.R.Reversible.plain g.R.Actor.counter in
     let i = c.self.invariant in
-    (i.0, seal_oldest r i.1, returns-clause-sealed g c i.0 i.1 (subst (λ q. StandsFor r g.R.Reversible.is_value i.0 i.1 q.queues) c.self.view_is i.2))
+    let R = of-messages g.R.Reversible.plain g.R.Actor.counter c.actor_rules.ensures.order c.actor_rules.ensures.undoes in
+    let sealed = returns-clause-sealed g c i.0 i.1 (subst (λ q. StandsFor r g.R.Reversible.is_value i.0 i.1 q.queues) c.self.view_is i.2) in
+    (i.0, seal_oldest r i.1, sealed, i.3 ∙ sym (next-kept r R g.R.Reversible.is_value i.0 i.1 _ _ i.2 sealed))

@@ -1,0 +1,146 @@
+-- The first letter of a message, put where none counts; and the letters at the beginning, where they are one plus letter of a message.
+use Rattle.std.proofs.Common.{◌≡◌, ℕ, zero, suc, ◌-◌, ◌<◌, Bool, true, false, cond, nat_lt, List, [], ◌∷◌, Some, None, Result, Ok, Err, OnOk, pos, refl, sym, ap, ◌∙◌, subst, arith}
+use Rattle.std.specs.Prelude.{OnErr}
+use Rattle.std.specs.List.Sorted.{IsStrictlySortedBy}
+use Rattle.std.specs.Ordering.{nat_cmp, ordering_then, is_eq, match_ordering}
+use Rattle.std.specs.declared.cmp.Ordering.{Ordering}
+use Rattle.std.specs.declared.cmp.Ordering.TheVariants.{Less, Equal, Greater}
+use Rattle.std.specs.Cmp.{IsTotalOrder, tied_itself}
+use Rattle.std.specs.Map.{lookup, keys_of}
+use Rattle.std.specs.BTreeMap.{is_at, insert_entry}
+use Rattle.std.proofs.lemmas.Bool.{lt-ltb, ltb-true}
+use Rattle.std.proofs.lemmas.Int.{ints}
+use Rattle.std.proofs.lemmas.Map.{lookup-none}
+use Rattle.std.proofs.lemmas.Map.Entries.{none_below_head}
+use Rattle.vlink.specs.declared.message.Message.{Message}
+use Rattle.vlink.specs.declared.message.Sign.{Sign}
+use Rattle.vlink.specs.declared.message.Sign.TheVariants.{Plus, Minus}
+use Rattle.vlink.specs.Order.{message_cmp}
+use Rattle.virtual_time.specs.Letters.{pluses, minuses}
+use Rattle.antimessages.specs.declared.occurrence.Occurrence.{Occurrence}
+use Rattle.antimessages.specs.Letters.{message_rules}
+use Rattle.antimessages.specs.Counting.{signed_count}
+use Rattle.antimessages.specs.Occurrences.{occurrence_of, occurrence_cmp, letters_of, count_with, sign_at, AreCounted, BeginsWithOne, IsNextOther}
+use Rattle.antimessages.proofs.Last.{at-zero, at-last}
+use Rattle.antimessages.proofs.Entering.{IsOneMore}
+
+-- where a key has a value, another one and then that one again change nothing
+pub restored : {K X : Type 0} {R : K → K → Ordering} → IsTotalOrder R → (es : List (K × X)) (q : K) (v old : X) → IsStrictlySortedBy R (keys_of es) →
+    lookup (is_at (R q)) es ≡ Some old → insert_entry R (insert_entry R es q v) q old ≡ es
+unfolding IsStrictlySortedBy
+restored T [] q v old up h = absurd (let z : ⊥ = cc in z)
+restored {K} {X} {R} T (e ∷ es) q v old up h = go (R q e.0) refl h (restored T es q v old up.1)
+  where
+    go : (o : Ordering) → R q e.0 ≡ o → cond (is_eq o) (Some e.1) (lookup (is_at (R q)) es) ≡ Some old →
+        (lookup (is_at (R q)) es ≡ Some old → insert_entry R (insert_entry R es q v) q old ≡ es) →
+        insert_entry R (match_ordering o ((q, v) ∷ e ∷ es) ((e.0, v) ∷ es) (e ∷ insert_entry R es q v)) q old ≡ e ∷ es
+    go Less w k ih = absurd (let n = lookup-none (is_at (R q)) (e ∷ es) (none_below_head T q e es up w) in let z : ⊥ = cc in z)
+    go Equal w k ih = let t : old ≡ e.1 = cc in rw w (ap (λ x. (e.0, x) ∷ es) t)
+    go Greater w k ih = rw w (ap (λ z. e ∷ z) (ih k))
+
+pub none-with : (s : Sign) → pos 0 ≡ count_with s 0
+none-with Plus = refl
+none-with Minus = omega (arith, ints)
+
+-- no letter of the message counts where none stands at ordinal 0
+pub none-counts : (m : Message) (es : List (Occurrence × Sign)) → AreCounted es → lookup (is_at (occurrence_cmp (occurrence_of m 0))) es ≡ None →
+    signed_count message_rules m (letters_of es) ≡ pos 0
+none-counts m es st h = at-zero (pluses message_rules m (letters_of es)) (minuses message_rules m (letters_of es)) (sym (st.signs m 0) ∙ h)
+
+-- where a plus stands at an ordinal, one stands at each lesser one
+plus-below : (p n k j : ℕ) → sign_at p n k ≡ Some Plus → j < k → sign_at p n j ≡ Some Plus
+plus-below p n k j h l = go (nat_lt k (p - n)) (nat_lt k (n - p)) refl refl h
+  where
+    go : (b c : Bool) → nat_lt k (p - n) ≡ b → nat_lt k (n - p) ≡ c → cond b (Some Plus) (cond c (Some Minus) None) ≡ Some Plus → sign_at p n j ≡ Some Plus
+    go true c e f x = let a = ltb-true k (p - n) e in rw (lt-ltb j (p - n) (omega arith)) refl
+    go false true e f x = absurd (let z : ⊥ = cc in z)
+    go false false e f x = absurd (let z : ⊥ = cc in z)
+
+module _ (T : IsTotalOrder message_cmp) (U : IsTotalOrder occurrence_cmp) (X : (a b : Message) → message_cmp a b ≡ Equal → a ≡ b) (m : Message) where
+  below : (j k : ℕ) → j < k → occurrence_cmp (occurrence_of m j) (occurrence_of m k) ≡ Less
+  below j k h = rw (tied_itself T m, lt-ltb j k h) refl
+
+  -- a lesser occurrence than the first one is not there
+  not-there : (q : Occurrence) (e : Occurrence × Sign) (es : List (Occurrence × Sign)) → IsStrictlySortedBy occurrence_cmp (keys_of (e ∷ es)) →
+      occurrence_cmp q e.0 ≡ Less → lookup (is_at (occurrence_cmp q)) (e ∷ es) ≡ None
+  not-there q e es up l = lookup-none (is_at (occurrence_cmp q)) (e ∷ es) (none_below_head U q e es up l)
+
+  module _ (k : ℕ) (rest : List (Occurrence × Sign)) (st : AreCounted ((occurrence_of m k, Plus) ∷ rest))
+      (up : IsStrictlySortedBy occurrence_cmp (keys_of ((occurrence_of m k, Plus) ∷ rest))) where
+    abbrev all : List (Occurrence × Sign)
+    all = (occurrence_of m k, Plus) ∷ rest
+
+    sign-here : sign_at (pluses message_rules m (letters_of all)) (minuses message_rules m (letters_of all)) k ≡ Some Plus
+    sign-here = sym (st.signs m k) ∙ rw (tied_itself U (occurrence_of m k)) refl
+
+    -- its first letter has the ordinal 0
+    first-ordinal : k ≡ 0
+    first-ordinal = go k refl
+      where
+        go : (j : ℕ) → k ≡ j → k ≡ 0
+        go zero e = e
+        go (suc j) e = absurd (
+            let a = st.signs m 0 ∙ plus-below _ _ k 0 sign-here (omega arith) in
+            let b = not-there (occurrence_of m 0) (occurrence_of m k, Plus) rest up (below 0 k (omega arith)) in
+            let z : ⊥ = cc in z)
+
+    next-none : k ≡ 0 → IsNextOther m rest → lookup (is_at (occurrence_cmp (occurrence_of m 1))) rest ≡ None
+    unfolding IsStrictlySortedBy
+    next-none z n = go rest up n
+      where
+        go : (es : List (Occurrence × Sign)) → IsStrictlySortedBy occurrence_cmp (keys_of ((occurrence_of m k, Plus) ∷ es)) → IsNextOther m es →
+            lookup (is_at (occurrence_cmp (occurrence_of m 1))) es ≡ None
+        go [] u o = refl
+        go (f ∷ fs) u o = later (message_cmp m f.0.message) refl u.0.0
+          where
+            later : (r : Ordering) → message_cmp m f.0.message ≡ r → ordering_then r (nat_cmp k f.0.ordinal) ≡ Less →
+                lookup (is_at (occurrence_cmp (occurrence_of m 1))) (f ∷ fs) ≡ None
+            later Less w l = not-there (occurrence_of m 1) f fs u.1 (rw w refl)
+            later Equal w l = absurd (o (sym (X m f.0.message w)))
+            later Greater w l = absurd (let z : ⊥ = cc in z)
+
+    one-there : IsNextOther m rest → signed_count message_rules m (letters_of all) ≡ pos 1
+    one-there n =
+        let z = first-ordinal in
+        at-last Plus (pluses message_rules m (letters_of all)) (minuses message_rules m (letters_of all)) 0
+        (subst (λ j. sign_at (pluses message_rules m (letters_of all)) (minuses message_rules m (letters_of all)) j ≡ Some Plus) z sign-here)
+        (sym (st.signs m 1) ∙ (past z ∙ next-none z n))
+      where
+        past : k ≡ 0 → lookup (is_at (occurrence_cmp (occurrence_of m 1))) all ≡ lookup (is_at (occurrence_cmp (occurrence_of m 1))) rest
+        past z = rw (z, tied_itself T m) refl
+
+  is-one : (e : Occurrence × Sign) → e.0.message ≡ m → e.1 ≡ Plus → e ≡ (occurrence_of m e.0.ordinal, Plus)
+  is-one e h k = λ i. (record { message = h i; ordinal = e.0.ordinal }, k i)
+
+  module _ (es : List (Occurrence × Sign)) (st : AreCounted es) (up : IsStrictlySortedBy occurrence_cmp (keys_of es)) (h : BeginsWithOne m es) where
+    -- the count of the message is 1
+    pub begins-one : signed_count message_rules m (letters_of es) ≡ pos 1
+    begins-one = go es st up h
+      where
+        go : (es : List (Occurrence × Sign)) → AreCounted es → IsStrictlySortedBy occurrence_cmp (keys_of es) → BeginsWithOne m es → signed_count message_rules m (letters_of es) ≡ pos 1
+        go [] st up h = absurd h
+        go (e ∷ rest) st up h =
+            let same : e ≡ (occurrence_of m e.0.ordinal, Plus) = is-one e h.0 h.1 in
+            subst (λ x. signed_count message_rules m (letters_of (x ∷ rest)) ≡ pos 1) (sym same)
+            (one-there e.0.ordinal rest (subst (λ x. AreCounted (x ∷ rest)) same st) (subst (λ x. IsStrictlySortedBy occurrence_cmp (keys_of (x ∷ rest))) same up) h.2)
+
+    -- its letter is the first one
+    pub begins-first : (p : Occurrence × Sign) (rest : List (Occurrence × Sign)) → es ≡ p ∷ rest → p ≡ (occurrence_of m 0, Plus)
+    begins-first p rest e = go es st up h e
+      where
+        go : (es : List (Occurrence × Sign)) → AreCounted es → IsStrictlySortedBy occurrence_cmp (keys_of es) → BeginsWithOne m es → es ≡ p ∷ rest → p ≡ (occurrence_of m 0, Plus)
+        go [] st up h e = absurd h
+        go (x ∷ xs) st up h e =
+            let same : x ≡ (occurrence_of m x.0.ordinal, Plus) = is-one x h.0 h.1 in
+            let z = first-ordinal x.0.ordinal xs (subst (λ y. AreCounted (y ∷ xs)) same st) (subst (λ y. IsStrictlySortedBy occurrence_cmp (keys_of (y ∷ xs))) same up) in
+            let here : x ≡ p = cc in
+            sym here ∙ (same ∙ ap (λ k. (occurrence_of m k, Plus)) z)
+
+-- without the first one
+pub first-more : (p : Occurrence × Sign) (es rest : List (Occurrence × Sign)) → es ≡ p ∷ rest → IsOneMore p rest es
+first-more p es rest e = subst (λ xs. IsOneMore p rest xs) (sym e) (record { pluses_are = λ m. refl; minuses_are = λ m. refl })
+
+-- a call that is refused only where something holds that does not hold succeeds
+pub settled : {A E : Type 0} (x : Result A E) (P Q : Type 0) → OnOk x P → OnErr x Q → (Q → ⊥) → P
+settled (Ok a) P Q p q n = p
+settled (Err e) P Q p q n = absurd (n q)

@@ -1,0 +1,124 @@
+-- The first present message after another one, once one letter more is counted.
+use Rattle.std.proofs.Common.{◌≡◌, inl, inr, Bool, true, false, cond, List, ◌∷◌, Option, Some, None, pos, ◌-ℤ◌, refl, sym, ◌∙◌, subst}
+use Rattle.std.proofs.lemmas.Bool.{both_ways, cases_Bool, false_from_ne_true}
+use Rattle.virtual_time.specs.Rules.{Rules, IsOrder}
+use Rattle.virtual_time.specs.Lists.{same, lesser}
+use Rattle.virtual_time.specs.Letters.{Letter as Signed, IsPresent, is_present}
+use Rattle.virtual_time.proofs.Letters.{counts-other}
+use Rattle.virtual_time.proofs.Order.{same_cases, less-asym}
+use Rattle.virtual_time.proofs.Presence.{present-true, present-from}
+use Rattle.antimessages.specs.Counting.{change_by, change_between, is_after, present_after, HaveSameCounts}
+use Rattle.antimessages.specs.declared.tally.Change.TheVariants.{BecamePresent, Same}
+use Rattle.antimessages.proofs.After.{first_after-is, first_after-from, first_after-none}
+use Rattle.antimessages.proofs.Agreeing.{present-same_count}
+
+module _ {M S K N : Type 0} (r : Rules M S K N) (O : IsOrder r) (newest : Option M) where
+  -- where the same messages are present, it is the same
+  after-same : (a b : List (Signed M)) → ((m : M) → is_present r b m ≡ is_present r a m) → present_after r newest a ≡ present_after r newest b
+  after-same a b h = go (present_after r newest b) refl
+    where
+      there : (x : M) → IsPresent r a x → IsPresent r b x
+      there x p = present-true r O b x (h x ∙ present-from r O a x p)
+
+      here : (x : M) → IsPresent r b x → IsPresent r a x
+      here x p = present-true r O a x (sym (h x) ∙ present-from r O b x p)
+
+      none : (o : Option M) → present_after r newest a ≡ o → present_after r newest b ≡ None → o ≡ None
+      none None e n = refl
+      none (Some x) e n = absurd (let f = first_after-is r O newest a x e in first_after-none r O newest b n x (there x f.present) f.after)
+
+      go : (o : Option M) → present_after r newest b ≡ o → present_after r newest a ≡ o
+      go None e = none (present_after r newest a) refl e
+      go (Some x) e =
+          let f = first_after-is r O newest b x e in
+          first_after-from r O newest a x (record { present = here x f.present; after = f.after; first = λ y p k. f.first y (there y p) k })
+
+  -- where one message more is present, it is that one or the one before
+  module _ (m : M) (a b : List (Signed M)) (apart : (x : M) → same r x m ≡ false → is_present r b x ≡ is_present r a x)
+      (was : is_present r a m ≡ false) (now : is_present r b m ≡ true) (behind : is_after r newest m ≡ true) where
+    in-a : (x : M) → IsPresent r b x → same r x m ≡ false → IsPresent r a x
+    in-a x p n = present-true r O a x (sym (apart x n) ∙ present-from r O b x p)
+
+    in-b : (x : M) → IsPresent r a x → IsPresent r b x
+    in-b x p = elim (same_cases r O x m) [
+      | inl e ↦ present-true r O b x (subst (λ z. is_present r b z ≡ true) (sym e) now)
+      | inr n ↦ present-true r O b x (apart x n ∙ present-from r O a x p)
+    ]
+
+    not-itself : (x : M) → x ≡ m → r.less x m ≡ false
+    not-itself x e = subst (λ z. r.less z m ≡ false) (sym e) (O.irreflexive m)
+
+    after-more : present_after r newest b ≡ lesser r m (present_after r newest a)
+    after-more = go (present_after r newest a) refl
+      where
+        go : (o : Option M) → present_after r newest a ≡ o → present_after r newest b ≡ lesser r m o
+        go None e = first_after-from r O newest b m (record {
+          present = present-true r O b m now;
+          after = behind;
+          first = λ x p k. elim (same_cases r O x m) [
+            | inl i ↦ not-itself x i
+            | inr n ↦ absurd (first_after-none r O newest a e x (in-a x p n) k)
+          ];
+        })
+        go (Some y) e = choose (r.less y m) refl
+          where
+            choose : (c : Bool) → r.less y m ≡ c → present_after r newest b ≡ cond c (Some y) (Some m)
+            choose true w =
+                let f = first_after-is r O newest a y e in
+                first_after-from r O newest b y (record {
+                  present = in-b y f.present;
+                  after = f.after;
+                  first = λ x p k. elim (same_cases r O x m) [
+                    | inl i ↦ subst (λ z. r.less z y ≡ false) (sym i) (less-asym r O y m w)
+                    | inr n ↦ f.first x (in-a x p n) k
+                  ];
+                })
+            choose false w =
+                let f = first_after-is r O newest a y e in
+                first_after-from r O newest b m (record {
+                  present = present-true r O b m now;
+                  after = behind;
+                  first = λ x p k. elim (same_cases r O x m) [
+                    | inl i ↦ not-itself x i
+                    | inr n ↦ false_from_ne_true _ (λ t. below x (f.first x (in-a x p n) k) t)
+                  ];
+                })
+              where
+                below : (x : M) → r.less x y ≡ false → r.less x m ≡ true → ⊥
+                below x n t = elim (cases_Bool (r.less m y)) [
+                  | inl l ↦ both_ways _ n (O.transitive x m y t l)
+                  | inr l ↦ both_ways _ n (subst (λ z. r.less x z ≡ true) (O.total m y l w) t)
+                ]
+
+  module _ (l : Signed M) (a b : List (Signed M)) (h : HaveSameCounts r b (l ∷ a)) where
+    -- the other messages are present as before
+    others : (x : M) → same r x l.message ≡ false → is_present r b x ≡ is_present r a x
+    others x n =
+        let c = counts-other r O x l a n in
+        present-same_count r x b a (h x ∙ (λ i. pos (c.0 i) -ℤ pos (c.1 i)))
+
+    here-now : is_present r b l.message ≡ is_present r (l ∷ a) l.message
+    here-now = present-same_count r l.message b (l ∷ a) (h l.message)
+
+    pub next-same : change_by r l a ≡ Same → present_after r newest a ≡ present_after r newest b
+    next-same e = after-same a b (λ x. elim (same_cases r O x l.message) [
+      | inl i ↦ subst (λ z. is_present r b z ≡ is_present r a z) (sym i) (here-now ∙ stays (is_present r a l.message) (is_present r (l ∷ a) l.message) e)
+      | inr n ↦ others x n
+    ])
+      where
+        stays : (c d : Bool) → change_between c d ≡ Same → d ≡ c
+        stays true true e = refl
+        stays true false e = absurd (let z : ⊥ = cc in z)
+        stays false true e = absurd (let z : ⊥ = cc in z)
+        stays false false e = refl
+
+    pub next-more : change_by r l a ≡ BecamePresent → is_after r newest l.message ≡ true → present_after r newest b ≡ lesser r l.message (present_after r newest a)
+    next-more e behind =
+        let t = turned (is_present r a l.message) (is_present r (l ∷ a) l.message) e in
+        after-more l.message a b others t.0 (here-now ∙ t.1) behind
+      where
+        turned : (c d : Bool) → change_between c d ≡ BecamePresent → (c ≡ false) × (d ≡ true)
+        turned true true e = absurd (let z : ⊥ = cc in z)
+        turned true false e = absurd (let z : ⊥ = cc in z)
+        turned false true e = (refl, refl)
+        turned false false e = absurd (let z : ⊥ = cc in z)

@@ -1,0 +1,56 @@
+//! The message that comes next, kept as letters are counted.
+ghost use Rattle.std.specs.Prelude.{◌≡◌, ◌≢◌, ◌∷◌, List, true};
+ghost use Rattle.std.specs.Option.{option_copied};
+ghost use Rattle.vlink.specs.declared.message.Message.{Message};
+ghost use Rattle.virtual_time.specs.Lists.{lesser};
+ghost use Rattle.virtual_time.specs.Letters.{Letter as Signed};
+ghost use Rattle.antimessages.specs.Letters.{message_rules, signed};
+ghost use Rattle.antimessages.specs.Counting.{change_by, is_after, present_after, HaveSameCounts};
+ghost use Rattle.antimessages.specs.declared.tally.Change.TheVariants.{Same};
+
+use crate::occurrence::occurrence_order;
+use crate::tally::{Change, Tally};
+use std::cmp::Ordering;
+use vlink::{Letter, Message, compare, message_order};
+
+impl Tally {
+    /// What `next_after` answers once this letter is counted, where `next` was its answer before: the counts are looked through only where
+    /// the letter took its message away. `change` is what the letter made of its message, which comes after `newest` where that is not `Same`.
+    pub fn next_with(
+        &self,
+        next: Option<Message>,
+        letter: &Letter,
+        change: Change,
+        newest: Option<&Message>,
+    ) -> Option<Message>
+        ensures { (before : List (Signed Message)) → HaveSameCounts message_rules self.now (signed letter.now ∷ before) →
+            change ≡ change_by message_rules (signed letter.now) before →
+            (change ≢ Same → is_after message_rules (option_copied newest.entry) letter.now.message ≡ true) →
+            next ≡ present_after message_rules (option_copied newest.entry) before →
+            result ≡ present_after message_rules (option_copied newest.entry) self.now }
+    {
+        occurrence_order();
+        match change {
+            Change::Same => next,
+            Change::BecamePresent => Some(lesser(&letter.message, next)),
+            Change::BecameAbsent => self.next_after(newest),
+        }
+    }
+}
+
+/// The message, or the other one if that comes first.
+fn lesser(message: &Message, other: Option<Message>) -> Message
+    ensures { Some result ≡ lesser message_rules message.now other }
+{
+    message_order();
+    match other {
+        Some(first) => {
+            if compare(&first, message) == Ordering::Less {
+                first
+            } else {
+                *message
+            }
+        }
+        None => *message,
+    }
+}
