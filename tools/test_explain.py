@@ -89,10 +89,12 @@ OTHER_KINDS = ['"x"', "1", "1.0", "true", "1979-05-27", "[]", "{}", '[["a"]]', "
 
 
 def lines_of_keys(text):
-    """The lines of a description that have a key alone, each with the key."""
+    """The lines of a description that have a key alone, each with the key; of lines that are alike the first three."""
+    seen = collections.Counter()
     for i, line in enumerate(text.split("\n")):
         found = re.match(r"(\w+) = ", line)
-        if found and line.count("[") == line.count("]"):
+        seen[line] += 1
+        if found and line.count("[") == line.count("]") and seen[line] < 4:
             yield i, found[1]
 
 
