@@ -2,10 +2,11 @@
 """Draws small networks, runs each with several seeds and offsets, and holds what happened against the bounds that
 bounds.py works out: no latency may be above its bound, and at no output port may more bytes wait than its bound says.
 
-What is drawn is meant to come near to the bounds: short BAGs, lines of both speeds, both priorities, sub-virtual links,
-rings of switches, accounts that refuse, regulators that overflow, small ports, outages. Of the runs of a network the
-first offers all at once; some are aimed at an output port, so that all frames come there at one moment if nothing delays
-them; others have offsets on few moments, and the rest has them anywhere in the periods.
+What is drawn is meant to come near to the bounds: short BAGs, lines of both speeds that have little time left or none,
+both priorities, sub-virtual links, rings of switches, accounts that refuse, regulators that overflow, small ports,
+outages. Of the runs of a network the first offers all at once; some are aimed at an output port, so that all frames come
+there at one moment if nothing delays them; others have offsets on few moments, and the rest has them anywhere in the
+periods.
 
 What is drawn follows from the number of the network and of the run alone, so a run can be made again. The runs are those
 of second_opinion.py, which also sees what waits.
@@ -48,7 +49,7 @@ class Drawn:
     def __init__(self, number):
         self.number = number
         self.draw = draw = random.Random(number)
-        self.until = draw.randint(3, 9) * MS
+        self.until = draw.randint(3, 12) * MS
         self.switches = draw.randint(1, 5)
         is_ring = draw.random() < 0.5
         # In some rings all goes round one way, so that what a line delays comes back to it.
@@ -60,7 +61,9 @@ class Drawn:
             self.join(self.switches - 1, 0)
         self.homes = [draw.randrange(self.switches) for _ in range(draw.randint(2, 7))]
         self.nodes, self.links = self.nodes_drawn(), self.links_drawn()
-        self.vls = [self.virtual_link(i + 1) for i in range(draw.randint(1, 16))]
+        self.vls = [self.virtual_link(i + 1) for i in range(draw.choice([3, 8, 16, 30]))]
+        if draw.random() < 0.6:
+            self.vls = self.fitting(self.vls)
         self.outages = [self.outage() for _ in range(draw.choice([0, 0, 0, 0, 1, 2]))]
 
     def join(self, one, other):
@@ -81,7 +84,7 @@ class Drawn:
 
     def links_drawn(self):
         draw, rows = self.draw, []
-        slow = draw.choice([0, 0, 0.2, 0.6])
+        slow = draw.choice([0, 0, 0.2, 0.6, 1])
         for net in "AB":
             pairs = [(f"E{i}", f"{net}{home}") for i, home in enumerate(self.homes)]
             pairs += [(f"{net}{i}", f"{net}{j}") for i in self.beside for j in self.beside[i] if i < j]
@@ -108,6 +111,19 @@ class Drawn:
             "offset_ns": 0, "period_ns": period, "jitter_ns": jitter,
             "a": paths("A") if "A" in nets else [], "b": paths("B") if "B" in nets else [],
         }
+
+    def fitting(self, rows):
+        """The virtual links, without those that would give a line more than it can send."""
+        mbit = {(link[a], link[b]): link["mbit"] for link in self.links for a, b in ("ab", "ba")}
+        load, found = {}, []
+        for row in rows:
+            lines = {line for path in row["a"] + row["b"] for line in zip(path, path[1:])}
+            # In bits that a line has to send in 8 ms, which each BAG divides.
+            bits = (row["size"] + afdx.BYTES_BETWEEN_FRAMES) * 8 * (8 // row["bag_ms"])
+            if all(load.get(line, 0) + bits <= mbit[line] * 8000 for line in lines):
+                load |= {line: load.get(line, 0) + bits for line in lines}
+                found.append(row)
+        return found
 
     def paths(self, source, targets):
         """The paths of one tree of shortest ways, for each network."""
@@ -152,15 +168,6 @@ class Drawn:
         if run < 6:
             return [draw.randrange(8) * 50_000 for _ in self.vls]
         return [int(draw.random() * row["period_ns"]) for row in self.vls]
-
-
-def text_of(tree):
-    """A description as text."""
-    lines = [f"until_ns = {tree['until_ns']}", f"seed = {tree['seed']}"]
-    for section in afdx.SECTIONS:
-        for row in tree[section]:
-            lines += [f"[[{section}]]", *(f"{key} = {afdx.written(value)}" for key, value in row.items())]
-    return "\n".join(lines) + "\n"
 
 
 class Watched(second_opinion.Simulation):
@@ -224,7 +231,7 @@ class Count:
 def hold_network(number, runs, keep, count, tell):
     """Makes the runs of a network and holds them against its bounds."""
     drawn = Drawn(number)
-    found = bounds.Bounds(afdx.Network(f"network {number}", text_of(drawn.tree())))
+    found = bounds.Bounds(afdx.Network(f"network {number}", afdx.text_of_tree(drawn.tree())))
     for run in range(runs):
         tree = drawn.tree(run, drawn.offsets(run, found))
         simulation = Watched(tree)
@@ -232,7 +239,7 @@ def hold_network(number, runs, keep, count, tell):
         again = f"bounded_runs.py --networks 1 --first {number} --runs {run + 1} --keep DIR"
         count.hold(found, simulation, lambda text: tell(f"network {number}, run {run}: {text}; again: {again}"))
         if keep:
-            afdx.write_whole(os.path.join(keep, f"network-{number}-run-{run}.toml"), text_of(tree))
+            afdx.write_whole(os.path.join(keep, f"network-{number}-run-{run}.toml"), afdx.text_of_tree(tree))
 
 
 def words_of(arguments=None):

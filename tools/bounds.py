@@ -22,6 +22,7 @@ HERE = os.path.dirname(os.path.abspath(__file__))
 sys.path.insert(0, HERE)
 
 import afdx  # noqa: E402
+import explain  # noqa: E402
 
 EXAMPLES = """
 examples:
@@ -47,7 +48,7 @@ copy of the other can come so late that it is taken for a new frame (skew_max_ns
 
 status:
   0  the bounds are written, also where there are none
-  2  a word is wrong, a file cannot be read or written, or NET is no description: one line on error output says what
+  2  a word is wrong, a file cannot be read or written, or `afdxsim` would refuse NET: one line on error output says why
 """
 
 HEAD = "vl,where,bound_ns,wait_ns,waiting_bytes,port_bytes,why"
@@ -386,8 +387,6 @@ class Bounds:
     def add(self, link):
         """Adds a virtual link to the ports of its paths. A frame that is longer than smax comes to the first switch."""
         hops = {}
-        if PARTS % link.vl.bag_ns:
-            self.net.refuse("vl", link.vl.row, "bag_ms", f"is none of {', '.join(map(str, afdx.BAGS_MS))}")
         for side, paths in link.vl.paths.items():
             for path in paths:
                 way, before = [], None
@@ -398,8 +397,6 @@ class Bounds:
                         port = self.ports.get(line) or self.ports.setdefault(line, Port(self.net, line))
                         hops[line] = Hop(link, port, before)
                         port.hops.append(hops[line])
-                    if hops[line].before is not before:
-                        self.net.refuse("vl", link.vl.row, side.lower(), "has paths that are no tree")
                     before = hops[line]
                     way.append(before)
                 self.ways.setdefault((link.vl.id, path[-1]), {})[side] = way
@@ -485,6 +482,15 @@ def said(number):
     return "none" if number is None else str(number)
 
 
+def accepted(path):
+    """The network of a description that `afdxsim` accepts."""
+    net = afdx.Network(path)
+    fault = min(explain.Judge(net.description).findings, key=explain.rank, default=None)
+    if fault:
+        raise afdx.Fault(path, fault.line, f"{fault.who} {fault.text}")
+    return net
+
+
 def words_of(arguments=None):
     parser = argparse.ArgumentParser(
         description=__doc__, epilog=EXAMPLES, formatter_class=argparse.RawDescriptionHelpFormatter
@@ -497,11 +503,11 @@ def words_of(arguments=None):
 def main(arguments=None):
     words = words_of(arguments)
     try:
-        text = Bounds(afdx.Network(words.net)).text()
+        text = Bounds(accepted(words.net)).text()
         if words.output:
             afdx.write_whole(words.output, text)
         else:
-            sys.stdout.write(text)
+            afdx.write_out(text)
     except afdx.Fault as fault:
         print(f"bounds.py: {fault}", file=sys.stderr)
         return 2
