@@ -192,13 +192,13 @@ def exactly(count):
     return Range(count, count)
 
 
-# Of the frames of a virtual link in one run: how many are offered; those that its regulator let go, each with the moments
-# when it was offered and released; how many still wait there at the end, and how many it refused.
+# Of the frames of a virtual link in one run: how many are offered; those that its regulator let go, each with the
+# moments when it was offered and released; how many still wait there at the end, and how many it refused.
 Sent = namedtuple("Sent", "offered released waiting refused")
 
-# What became of the frames of a virtual link at one of its destinations: `again` were delivered a second time, since their
-# second copy came later than SkewMax; `under_way` has those that wait in the regulator too; `copies` are the second
-# copies that were dropped; `lost` has for each network the copies that were lost on it.
+# What became of the frames of a virtual link at one of its destinations: `again` were delivered a second time, since
+# their second copy came later than SkewMax; `under_way` has those that wait in the regulator too; `copies` are the
+# second copies that were dropped; `lost` has for each network the copies that were lost on it.
 End = namedtuple("End", "offered delivered again under_way missing copies lost")
 
 
@@ -237,8 +237,8 @@ def ways_of(vl, where):
 
 class Way:
     """The way of a virtual link to a destination on one network: how soon after its release a copy may be lost at each
-    place, in ns. That is at a port of its source, when its last bit leaves for a line, when it is whole at a switch or at
-    the destination."""
+    place, in ns. That is at a port of its source, when its last bit leaves for a line, when it is whole at a switch or
+    at the destination."""
 
     def __init__(self, net, vl, path):
         self.net, after = net, 0
@@ -293,8 +293,8 @@ class Journey:
         return total, lost
 
     def surely_under_way_ns(self):
-        """A frame that was released later than so long before the end, in ns, is under way for sure: it cannot have come
-        yet, and on one network it cannot have come to any place where the virtual link loses frames."""
+        """A frame that was released later than so long before the end, in ns, is under way for sure: it cannot have
+        come yet, and on one network it cannot have come to any place where the virtual link loses frames."""
         soonest = {side: way.arrival for side, way in self.ways.items()}
         for loss in self.losses:
             for side in self.sides_of(loss.where, loss.cause):
@@ -374,8 +374,10 @@ class Ends:
         missing = missing.within(gone - under_way)
         under_way = under_way.within(gone - missing)
         if missing.least > missing.most or under_way.least > under_way.most:
-            self.refuse(row.line, f"{counted(released, 'frame')} of virtual link {key[0]} would be sent to {key[1]}, and "
-                        f"the tables have {row.count} delivered, {copies} copies and {total.most} lost")
+            told = f"{counted(released, 'frame')} of virtual link {key[0]} would be sent to {key[1]}"
+            self.refuse(
+                row.line, f"{told}, and the tables have {row.count} delivered, {copies} copies and {total.most} lost"
+            )
         again = again.within(missing + under_way - exactly(released - row.count))
         refused, waiting = (exactly(sum(counts)) for counts in zip(*((sent.refused, sent.waiting) for sent in runs)))
         offered = sum(sent.offered for sent in runs)
@@ -453,8 +455,8 @@ Limits = namedtuple("Limits", "path of")
 
 
 class Bounds(Rows):
-    """The bounds that tools/bounds.py prints: for each destination the greatest latency in ns, and for each line how many
-    bytes may wait before it, each of them None where there is no bound, and why."""
+    """The bounds that tools/bounds.py prints: for each destination the greatest latency in ns, and for each line how
+    many bytes may wait before it, each of them None where there is no bound, and why."""
 
     def __init__(self, path, net):
         super().__init__(path, net)
@@ -483,10 +485,28 @@ class Bounds(Rows):
 
 
 def column(key, kind, name, unit="", hint="", tone=""):
-    """A column of a table of the page: where its values stand, what kind they are of, its name and unit, what more there
-    is to know of it, and where it stands how a cell is marked."""
+    """A column of a table of the page: where its values stand, what kind they are of, its name and unit, what more
+    there is to know of it, and where it stands how a cell is marked."""
     found = {"key": key, "kind": kind, "name": name, "unit": unit, "hint": hint, "tone": tone}
     return {name: value for name, value in found.items() if value}
+
+
+def count_column(key, name, hint="", tone="", unit="frames", kind="count"):
+    return column(key, kind, name, unit, hint, tone)
+
+
+def time_column(key, name, hint="", tone=""):
+    return column(key, "us", name, "µs", hint, tone)
+
+
+def seed_column(hint):
+    return column("seed", "text_number", "seed", "number", hint)
+
+
+VL_COLUMN = column("vl", "vl", "VL", "number")
+DESTINATION_COLUMN = column("where", "text", "destination")
+DELIVERED_COLUMN = count_column("count", "delivered", "", "few")
+COPIES_COLUMN = count_column("copies", "copies", "second copies that were dropped as duplicate, which is ordinary")
 
 
 GOOD, WARN, BAD = 1, 2, 3
@@ -908,7 +928,7 @@ def comparison(given):
         told |= {"lost": lost, "kept": -lost}
         for name, value in told.items():
             found.setdefault(name, []).append(value)
-    return found or {"vl": []}
+    return found or {"vl": [], "change": [], "fall": [], "lost": [], "kept": []}
 
 
 # ---- the tiles ----
@@ -957,7 +977,8 @@ def tiles_of_limits(given, ends):
     told += [f"{below} below the bound"] if below else []
     told += [f"nothing was delivered at {silent}"] if silent else []
     kind = "bad" if broken else "warn" if below or silent else "good"
-    yield tile("limits kept", f"{len(found) - broken - silent:,} of {len(found):,}", ", ".join(told) or "none is broken", kind)
+    kept = f"{len(found) - broken - silent:,} of {len(found):,}"
+    yield tile("limits kept", kept, ", ".join(told) or "none is broken", kind)
 
 
 def tile_of_few(given, ends):
@@ -981,7 +1002,8 @@ def tiles_of_run(given):
     delivered = sum(row.count for row in tables.latencies.values())
     copies = sum(row.count for row in tables.losses.values() if row.cause == "duplicate")
     of_runs = f"runs of {span(net.until_ns)} each" if tables.merged else span(net.until_ns)
-    yield tile("delivered", frames(delivered), f"in {of_runs}; {copies:,} second copies were dropped, which is ordinary")
+    ordinary = f"{copies:,} second copies were dropped, which is ordinary"
+    yield tile("delivered", frames(delivered), f"in {of_runs}; {ordinary}")
     worst = max(tables.latencies.values(), key=lambda row: row.greatest, default=None)
     if worst and worst.count:
         seed = f", seed {worst.seed}" if worst.seed is not None else ""
@@ -1071,8 +1093,8 @@ input.only{width:15em}
 .step::after{content:" →"}
 .step a{color:inherit}
 .wrap{white-space:normal;min-width:30em}
-.bar{display:inline-block;width:70px;height:7px;margin-right:8px;background:linear-gradient(var(--c),var(--c)) left/var(--w)
-  100% no-repeat #eef1f4}
+.bar{display:inline-block;width:70px;height:7px;margin-right:8px;
+  background:linear-gradient(var(--c),var(--c)) left/var(--w) 100% no-repeat #eef1f4}
 .facts{display:flex;flex-wrap:wrap;gap:6px 26px;margin:0}
 .facts dt{color:var(--soft);font-size:12px}
 .facts dd{margin:0}
@@ -1081,7 +1103,8 @@ figure{margin:0}
 figcaption{font-weight:600;font-size:12.5px}
 details{margin-top:14px}
 summary{cursor:pointer;color:var(--a)}
-#one table,#outages,#heat,#copies-of,#lost,#loads,#percentiles,#slower,#faster,#more-lost,#fewer-lost{width:auto;min-width:420px}
+#one table,#outages,#heat,#copies-of,#lost,#loads,#percentiles,#slower,#faster,#more-lost,#fewer-lost{
+  width:auto;min-width:420px}
 td.load{background:linear-gradient(to left,var(--c),var(--c)) no-repeat right bottom/var(--w) 3px}
 .legend{display:flex;flex-wrap:wrap;gap:6px 20px;align-items:center;color:var(--soft);font-size:12px;
   margin:6px 0 10px}
@@ -1180,7 +1203,7 @@ button.all{border:0;padding:0;color:var(--soft);font-size:10px}
 tr,svg,.tile,h2,h3,figure{break-inside:avoid}
 h2,h3{break-after:avoid}
 thead{display:table-header-group}
-.net{min-width:0!important;max-height:118mm}
+.net{min-width:0!important;max-height:128mm}
 #network{break-after:page}
 #one{break-before:page}
 td,th{padding:2px 5px}
@@ -1245,7 +1268,8 @@ const histogram = (i, wide = 504, high = 30) => {
       return [x, row];
     });
     const step = Math.min(8, (high - 10) / Math.max(1, ...heights.values()));
-    bars = rows.map(([x, row]) => `<circle class="frame" cx="${x}" cy="${(high - 5 - step * row).toFixed(1)}" r="4"/>`).join("");
+    const dot = ([x, row]) => `<circle class="frame" cx="${x}" cy="${(high - 5 - step * row).toFixed(1)}" r="4"/>`;
+    bars = rows.map(dot).join("");
   } else {
     const top = Math.max(...found), step = wide / data.bars;
     const bar = (count, j) => count &&
@@ -1254,15 +1278,11 @@ const histogram = (i, wide = 504, high = 30) => {
       : `<path class="bars" d="${found.map(bar).filter(Boolean).join("")}"/>`;
   }
   const marks = data.percents.map(it => `<path class="p${it}" d="M${place(ends["p" + it][i]).toFixed(1)} 0V${high}"/>`);
-  const texts = greatest === least ? `<text x="${wide / 2}" y="${high + 13}" text-anchor="middle">${span(least)}, all</text>`
-    : `<text x="0" y="${high + 13}">${span(least)}</text>` +
-      `<text x="${wide}" y="${high + 13}" text-anchor="end">${span(greatest)}</text>`;
+  const text = (x, anchor, words) => `<text x="${x}" y="${high + 13}" text-anchor="${anchor}">${words}</text>`;
+  const texts = greatest === least ? text(wide / 2, "middle", span(least) + ", all")
+    : text(0, "start", span(least)) + text(wide, "end", span(greatest));
   const words = `viewBox="-5 0 ${wide + 10} ${high + 16}" style="--high:${high}px;width:${wide + 10}px"`;
   return `<svg ${words}><path class="foot" d="M0 ${high}H${wide}"/>${bars}${marks.join("")}${texts}</svg>`;
-};
-const load = (i, grid) => {
-  const line = grid.rows === lines ? i : lines.name.indexOf(grid.rows.name[i]);
-  return `style="--w:${Math.min(100, lines.load[line] / 100)}%;--c:${lines.colour[line]}"`;
 };
 const heat = (count, top) => {
   const part = 0.15 + 0.85 * Math.log(1 + count) / Math.log(1 + top);
@@ -1283,7 +1303,7 @@ const KINDS = {
   ms: {number: true, show: ms},
   bag: {number: true, show: ns => whole(ns / 1e6)},
   percent: {number: true, show: percent},
-  load: {number: true, show: percent, words: (value, i, grid) => load(i, grid), more: "load"},
+  load: {number: true, show: percent, words: (value, i) => `style="${shade(i)}"`, more: "load"},
   heat: {number: true, show: whole, words: (value, i, grid) => value ? heat(value, grid.top) : "", none: true},
   range: {fixed: true, show: (value, i) => range(i), more: "rg"},
   histogram: {fixed: true, show: (value, i) => histogram(i), more: "hg"},
@@ -1315,7 +1335,8 @@ class Grid {
     const asked = `<p class="asked"><button type="button" class="all"></button><label>Only
       <input type="search" class="only" placeholder="number or name"></label></p>`;
     const head = this.columns.map(column => this.head(column)).join("");
-    const widest = this.columns.map(column => `<td class="${this.kind(column)}${column.tone ? " warn" : ""}">${this.widest(column)}`).join("");
+    const wide = column => `<td class="${this.kind(column)}${column.tone ? " warn" : ""}">${this.widest(column)}`;
+    const widest = this.columns.map(wide).join("");
     place.innerHTML = `${folds ? asked : ""}<div class="box"><table id="${this.name}">
       <thead><tr>${head}</tr></thead><tbody class="space" aria-hidden="true"></tbody><tbody></tbody>
       <tbody class="space" aria-hidden="true"></tbody>
@@ -1329,7 +1350,11 @@ class Grid {
     }));
     this.box.addEventListener("scroll", () => this.draw());
     this.button = place.querySelector(".all");
-    this.button?.addEventListener("click", () => { this.isAll = !this.isAll; this.box.scrollTop = 0; this.draw(true); });
+    this.button?.addEventListener("click", () => {
+      this.isAll = !this.isAll;
+      this.box.scrollTop = 0;
+      this.draw(true);
+    });
     place.querySelector(".only")?.addEventListener("input", event => this.filter(event.target.value.trim()));
   }
 
@@ -1360,7 +1385,7 @@ class Grid {
     if (at >= 0) {
       const {key, number} = this.columns[at], values = this.rows[key];
       const keys = number ? values.map(least) : values;
-      const compare = number ? (a, b) => keys[a] - keys[b] || 0 : (a, b) => keys[a] < keys[b] ? -1 : keys[a] > keys[b] ? 1 : 0;
+      const compare = (a, b) => keys[a] < keys[b] ? -1 : keys[a] > keys[b] ? 1 : 0;
       this.numbers.sort((a, b) => (down ? compare(b, a) : compare(a, b)) || this.rank[a] - this.rank[b]);
       this.table.querySelectorAll("th").forEach((th, i) =>
         i === at ? th.setAttribute("aria-sort", down ? "descending" : "ascending") : th.removeAttribute("aria-sort"));
@@ -1447,13 +1472,17 @@ for (const vl of data.vls) {
 }
 const share = (vl, line) => (vl.size + 20) * 8e5 / Math.max(vl.bag_ns, vl.period_ns) / lines.mbit[line];
 const table = (id, columns, rows) => {
-  const heads = columns.map(([name, unit]) => `<th class="${unit === undefined ? "" : "n"}">${name}<small>${unit ?? ""}</small></th>`);
-  const cells = row => row.map((cell, i) => `<td class="${columns[i][1] === undefined ? "" : "n"}">${cell}`).join("");
+  const kind = ([, unit]) => unit === undefined ? "" : "n";
+  const heads = columns.map(it => `<th class="${kind(it)}">${it[0]}<small>${it[1] ?? ""}</small></th>`);
+  const cells = row => row.map((cell, i) => `<td class="${kind(columns[i])}">${cell}`).join("");
   return `<div class="box"><table id="${id}"><thead><tr>${heads.join("")}</tr></thead>
     <tbody>${rows.map(row => "<tr>" + cells(row)).join("")}</tbody></table></div>`;
 };
-const lostAt = (vl, where) => vl.lost.filter(it => it[0] === where).map(it => `${it[2]} ${whole(it[3])}`).join(", ");
-const bar = line => `<i class="bar" style="--w:${Math.min(100, lines.load[line] / 100)}%;--c:${lines.colour[line]}"></i>`;
+// The losses of a virtual link at a place, on one network or on both.
+const lostAt = (vl, where, side = "") => vl.lost.filter(it => it[0] === where && it[1].includes(side))
+  .map(it => `${it[2]} ${whole(it[3])}`).join(", ");
+const shade = line => `--w:${Math.min(100, lines.load[line] / 100)}%;--c:${lines.colour[line]}`;
+const bar = line => `<i class="bar" style="${shade(line)}"></i>`;
 
 const factsOf = vl => [
   ["BAG", span(vl.bag_ns)], ["period", span(vl.period_ns)], ["size", vl.size + " bytes"], ["Smax", vl.smax + " bytes"],
@@ -1473,7 +1502,7 @@ const hops = paths => {
 
 const hopRows = vl => ["A", "B"].flatMap(side => hops(vl.paths[side]).map(([line, hop]) => {
   const [, there] = data.nodes[line];
-  const lost = [lostAt(vl, lines.name[line]), lostAt(vl, there)].filter(Boolean).join("; ");
+  const lost = [lostAt(vl, lines.name[line], side), lostAt(vl, there, side)].filter(Boolean).join("; ");
   const out = lines.outages[line].map(([from, to]) => ` (out ${span(from)} to ${span(to)})`).join("");
   return [side, hop, `<span style="padding-left:${hop - 1}em">${toLine(lines.name[line])}</span>`,
     bar(line) + percent(lines.load[line]), share(vl, line).toFixed(2), whole(usersOf[line].length),
@@ -1482,8 +1511,8 @@ const hopRows = vl => ["A", "B"].flatMap(side => hops(vl.paths[side]).map(([line
 
 const strips = vl => `<div class="strips">${["A", "B"].filter(side => vl.paths[side].length).map(side => {
   const ways = vl.paths[side].slice(0, 12).map(path => {
-    const steps = path.map(line => ` <span class="step">${toLine(lines.name[line], percent(lines.load[line]) + " %")}</span>
-      <b>${esc(data.nodes[line][1])}</b>`);
+    const loadOf = line => toLine(lines.name[line], percent(lines.load[line]) + " %");
+    const steps = path.map(line => ` <span class="step">${loadOf(line)}</span> <b>${esc(data.nodes[line][1])}</b>`);
     return `<li><b>${esc(vl.source)}</b>${steps.join("")}</li>`;
   });
   const more = vl.paths[side].length > 12 ? `<li>and ${vl.paths[side].length - 12} more</li>` : "";
@@ -1491,8 +1520,8 @@ const strips = vl => `<div class="strips">${["A", "B"].filter(side => vl.paths[s
 }).join("")}</div>`;
 
 const endColumns = [
-  ["destination"], ["offered", "frames", "offered"], ["delivered", "frames", "count"], ["under way", "frames", "under_way"],
-  ["missing", "frames", "missing"], ["least", "µs", "least"], ["mean", "µs", "mean"],
+  ["destination"], ["offered", "frames", "offered"], ["delivered", "frames", "count"],
+  ["under way", "frames", "under_way"], ["missing", "frames", "missing"], ["least", "µs", "least"], ["mean", "µs", "mean"],
   ...data.percents.map(it => [it + "th", "µs", "p" + it]), ["greatest", "µs", "greatest"], ["limit", "µs", "limit"],
   ["bound", "µs", "bound"], ["margin", "µs", "margin"], ["copies", "frames", "copies"],
   ["lost on A", "copies", "lostA"], ["lost on B", "copies", "lostB"], ["ten frames take", "ms", "needed"],
@@ -1515,15 +1544,17 @@ const vlPart = vl => {
     .map(path => data.nodes[path.at(-1)][1]))];
   const lost = vl.lost.map(([where, side, cause, count]) =>
     [esc(where), side, cause, whole(count), `<div class="wrap">${esc(concerns(where).join(", "))}</div>`]);
-  const drawn = "histogram" in ends ? own.map(i => `<figure><figcaption>${esc(ends.where[i])}: ${counted(ends.count[i], "frame")}</figcaption>
-    <div class="hg">${histogram(i, 560, 64)}</div></figure>`).join("") : "";
+  const figure = i => `<figure><figcaption>${esc(ends.where[i])}: ${counted(ends.count[i], "frame")}</figcaption>
+    <div class="hg">${histogram(i, 560, 64)}</div></figure>`;
+  const drawn = "histogram" in ends ? own.map(figure).join("") : "";
+  const percentiles = data.percents.map(it => `<span><b class="k p${it}"></b> ${it}th percentile</span>`).join("");
   const facts = factsOf(vl).map(([name, value]) => `<div><dt>${name}</dt><dd>${value}</dd></div>`).join("");
   return `<h3>At each destination</h3>${table("vl-ends", columns, rows)}
     <h3>Hop by hop</h3>${table("vl-hops", [["network"], ["hop", "number"], ["line"], ["load", "%"], ["of this", "%"],
       ["virtual links", "number"], ["lost on it or at its end"]], hopRows(vl))}
     <h3>Copies lost</h3>${lost.length ? table("vl-lost", [["place"], ["network"], ["cause"], ["lost", "frames"],
       ["on the way to"]], lost) : "<p><b>No copy was lost.</b></p>"}
-    ${drawn ? `<h3>Latencies</h3><div class="figures">${drawn}</div>` : ""}
+    ${drawn ? `<h3>Latencies</h3><div class="legend">${percentiles}</div><div class="figures">${drawn}</div>` : ""}
     <h3>What it is</h3><dl class="facts">${facts}</dl>`;
 };
 
@@ -1536,8 +1567,8 @@ const linePart = line => {
     ["size", "bytes"], ["lost on the line"], ["source"], ["destinations"]], rows);
 };
 
-const headOf = (title, words, more) => `<div class="head"><h3>${title}</h3><a class="close" href="#network">All lines</a>
-  <p>${words}</p>${more}</div>`;
+const headOf = (title, words, more) =>
+  `<h3>${title}</h3><a class="close" href="#network">All lines</a><p>${words}</p>${more}`;
 
 const vlHead = vl => {
   const own = endsOf.get(vl.id) ?? [], where = own.map(i => esc(ends.where[i]));
@@ -1550,7 +1581,8 @@ const lineHead = line => {
   const most = lines.waiting && (lines.waiting[line] === null ? "there is no bound on the bytes that wait before it"
     : `at most ${whole(lines.waiting[line])} bytes wait before it`);
   const waiting = most ? `; ${most}, and its port holds ${whole(lines.holds[line])}` : "";
-  const told = `${percent(lines.load[line])} % of ${lines.mbit[line]} Mbit/s by ${counted(usersOf[line].length, "virtual link")}`;
+  const users = counted(usersOf[line].length, "virtual link");
+  const told = `${percent(lines.load[line])} % of ${lines.mbit[line]} Mbit/s by ${users}`;
   return headOf(`Line ${esc(lines.name[line])}`, told + out + waiting, "");
 };
 
@@ -1629,7 +1661,8 @@ const search = () => {
   const rows = found.slice(0, MOST_FOUND).map(vl => {
     const where = (endsOf.get(vl.id) ?? []).map(i => ends.where[i]);
     const more = where.length > 6 ? ` and ${where.length - 6} more` : "";
-    return `<li>${toVl(vl.id, `<b>${vl.id}</b> ${esc(vl.source)} to ${esc(where.slice(0, 6).join(", "))}${more}`)}</li>`;
+    const told = `<b>${vl.id}</b> ${esc(vl.source)} to ${esc(where.slice(0, 6).join(", "))}${more}`;
+    return `<li>${toVl(vl.id, told)}</li>`;
   });
   const head = `<li class="told">${text ? counted(found.length, "virtual link") : ""}${
     found.length > MOST_FOUND ? `, of which the first ${MOST_FOUND}` : ""}</li>`;
@@ -1681,7 +1714,34 @@ def panel(name, title, words, *pieces):
 
 
 def legend(*items):
-    return '<div class="legend">' + "".join(f'<span><b class="k {kind}"></b> {words}</span>' for kind, words in items) + "</div>"
+    keys = "".join(f'<span><b class="k {kind}"></b> {words}</span>' for kind, words in items)
+    return f'<div class="legend">{keys}</div>'
+
+
+FIND = (
+    '<div class="find"><label for="find">Find a virtual link</label><input id="find" type="search" autocomplete="off" '
+    'placeholder="its number, or the name of an end system, a switch or a line"><ul id="found" hidden></ul></div>'
+    '<div id="chosen" hidden></div>'
+)
+
+# What changed between two runs: the name of a table, its title, and the column by which it is sorted.
+CHANGES = [
+    ("slower", "Slower: the greatest latency grew", "change", time_column("change", "slower by")),
+    ("faster", "Faster: the greatest latency fell", "fall", time_column("fall", "faster by")),
+    ("more-lost", "Lost: more frames are missing", "lost", count_column("lost", "more missing")),
+    ("fewer-lost", "Not lost any more: fewer frames are missing", "kept", count_column("kept", "fewer missing")),
+]
+BEFORE_AND_NOW = [
+    time_column("before", "greatest before"),
+    time_column("greatest", "greatest now"),
+    column("percent", "percent", "of before", "%"),
+    time_column("mean_before", "mean before"),
+    time_column("mean", "mean now"),
+]
+
+# What the page tells of a virtual link itself.
+FACTS = ["id", "source", "bag_ns", "period_ns", "offset_ns", "jitter_ns", "size", "smax", "priority", "policing"]
+FACTS += ["policing_ns", "skew_ns", "depth", "sub"]
 
 
 class Page:
@@ -1721,35 +1781,33 @@ class Page:
     # ---- parts ----
 
     def network(self):
-        picture = f'<div class="wide">{Drawing(self.net).svg()}</div>' if self.net.nodes else "<p>The network has no nodes.</p>"
-        find = (
-            '<div class="find"><label for="find">Find a virtual link</label><input id="find" type="search" '
-            'autocomplete="off" placeholder="its number, or the name of an end system, a switch or a line">'
-            '<ul id="found" hidden></ul></div><div id="chosen" hidden></div>'
-        )
-        pieces = [find, picture, legend_of_loads(bool(self.net.outages)), '<div id="one" hidden></div>']
-        if self.net.outages:
-            found = sorted(self.net.outages, key=lambda it: it.from_ns - it.to_ns)
-            columns = [column("line", "line", "line")]
-            columns += [column("from", "ms", "out from", "ms"), column("to", "ms", "to", "ms"), column("for", "ms", "for", "ms")]
-            rows = {"line": [it.line for it in found], "from": [it.from_ns for it in found]}
-            rows |= {"to": [it.to_ns for it in found], "for": [it.to_ns - it.from_ns for it in found]}
-            pieces += ["<h3>Outages</h3>", self.grid("outages", columns, "for", rows)]
+        net = self.net
+        picture = f'<div class="wide">{Drawing(net).svg()}</div>' if net.nodes else "<p>The network has no nodes.</p>"
+        pieces = [FIND, picture, legend_of_loads(bool(net.outages)), '<div id="one" hidden></div>']
+        if net.outages:
+            pieces += ["<h3>Outages</h3>", self.outages()]
         columns = [
             column("name", "line", "line"),
             column("load", "load", "load", "%"),
             column("carries", "percent", "carries", "Mbit/s", "what its virtual links can put on it"),
-            column("mbit", "count", "speed", "Mbit/s"),
-            column("users", "count", "virtual links", "number"),
+            count_column("mbit", "speed", unit="Mbit/s"),
+            count_column("users", "virtual links", unit="number"),
         ]
         if self.given.bounds:
-            columns += [
-                column("waiting", "count", "may wait", "bytes", "bound on the bytes that wait before the line", "waiting_tone"),
-                column("holds", "count", "port holds", "bytes"),
-            ]
-        more = f"<details><summary>Load of each of the {counted(len(self.net.mbit), 'line')}</summary>"
+            hint = "bound on the bytes that wait before the line; amber where its port does not hold them"
+            columns.append(count_column("waiting", "may wait", hint, "waiting_tone", "bytes"))
+            columns.append(count_column("holds", "port holds", unit="bytes"))
+        more = f"<details><summary>Load of each of the {counted(len(net.mbit), 'line')}</summary>"
         pieces += [more, self.grid("loads", columns, "load", "lines"), "</details>"]
         return panel("network", "The network", "", *pieces)
+
+    def outages(self):
+        found = sorted(self.net.outages, key=lambda it: it.from_ns - it.to_ns)
+        columns = [column("line", "line", "line"), column("from", "ms", "out from", "ms")]
+        columns += [column("to", "ms", "to", "ms"), column("for", "ms", "for", "ms")]
+        rows = {"line": [it.line for it in found], "from": [it.from_ns for it in found]}
+        rows |= {"to": [it.to_ns for it in found], "for": [it.to_ns - it.from_ns for it in found]}
+        return self.grid("outages", columns, "for", rows)
 
     def end_to_end(self):
         if not self.given.ends:
@@ -1758,23 +1816,24 @@ class Page:
                 "<code>--first</code> and <code>--offsets</code> where the campaign had them."
             )
             return panel("ends", "End to end", words)
+        wide = {"kind": "range_of_counts"}
         columns = [
-            column("vl", "vl", "VL", "number"),
-            column("where", "text", "destination"),
-            column("offered", "count", "offered", "frames", "offered by the application until the end, drawn anew"),
-            column("count", "count", "delivered", "frames", "", "few"),
-            column("under_way", "range_of_counts", "under way", "frames", "not delivered yet at the end, and may still come"),
-            column("missing", "range_of_counts", "missing", "frames", "lost end to end", "missing_tone"),
+            VL_COLUMN,
+            DESTINATION_COLUMN,
+            count_column("offered", "offered", "offered by the application until the end, drawn anew"),
+            DELIVERED_COLUMN,
+            count_column("under_way", "under way", "not delivered yet at the end, and may still come", **wide),
+            count_column("missing", "missing", "lost end to end", "missing_tone", **wide),
         ]
         if any(found != 0 for found in self.ends["again"]):
-            columns.append(column("again", "range_of_counts", "twice", "frames", "delivered a second time: SkewMax is too small"))
-        columns += [
-            column("lostA", "range_of_counts", "lost on A", "copies", "on the way by network A, or refused at the destination"),
-            column("lostB", "range_of_counts", "lost on B", "copies", "on the way by network B, or refused at the destination"),
-            column("copies", "count", "copies", "frames", "second copies that were dropped as duplicate, which is ordinary"),
-        ]
+            columns.append(count_column("again", "twice", "delivered a second time: SkewMax is too small", **wide))
+        for side in "AB":
+            hint = f"on the way by network {side}, or refused at the destination"
+            columns.append(count_column("lost" + side, "lost on " + side, hint, unit="copies", **wide))
+        columns.append(COPIES_COLUMN)
         if any(self.ends["needed"]):
-            columns.append(column("needed", "ms", "ten frames take", "ms", "how long a run must be to bring ten frames"))
+            hint = "how long a run must be to bring ten frames"
+            columns.append(column("needed", "ms", "ten frames take", "ms", hint))
         words = (
             "What the application offered, and what became of it at each destination. A frame is missing where no copy "
             "of it came and none can come any more; copies that were lost while the other one came are told apart."
@@ -1783,72 +1842,84 @@ class Page:
 
     def by_trouble(self):
         """The destinations, those first that lack most: frames, copies, or enough frames to tell anything."""
-        found = list(self.given.ends.of.values())
-        lost = [sum(it.least for it in end.lost.values()) for end in found]
-        return sorted(range(len(found)), key=lambda i: (-found[i].missing.least, -lost[i], min(FEW, found[i].delivered), i))
+        found = []
+        for i, end in enumerate(self.given.ends.of.values()):
+            lost = sum(count.least for count in end.lost.values())
+            found.append((-end.missing.least, -lost, min(FEW, end.delivered), i))
+        return [i for *_, i in sorted(found)]
 
     def latency(self):
         has_limits, has_bounds = bool(self.given.limits), bool(self.given.bounds)
         columns = [
-            column("vl", "vl", "VL", "number"),
-            column("where", "text", "destination"),
+            VL_COLUMN,
+            DESTINATION_COLUMN,
             column("greatest", "range", "range"),
-            column("least", "us", "least", "µs"),
-            column("mean", "us", "mean", "µs"),
-            column("greatest", "us", "greatest", "µs"),
-            column("spread", "us", "spread", "µs", "greatest less least"),
+            time_column("least", "least"),
+            time_column("mean", "mean"),
+            time_column("greatest", "greatest"),
+            time_column("spread", "spread", "greatest less least"),
         ]
         if has_limits:
-            columns.append(column("limit", "us", "limit", "µs", "", "limit_tone"))
+            columns.append(time_column("limit", "limit", "", "limit_tone"))
         if has_bounds:
-            columns.append(column("bound", "us", "bound", "µs", "a bound of this model, computed outside the proofs"))
+            columns.append(time_column("bound", "bound", "a bound of this model, computed outside the proofs"))
         if has_limits:
-            less = "the bound" if has_bounds else "the greatest"
-            columns.append(column("margin", "us", "margin", "µs", f"the limit less {less}", "limit_tone"))
+            hint = "the limit less " + ("the bound" if has_bounds else "the greatest")
+            columns.append(time_column("margin", "margin", hint, "limit_tone"))
+        closer = "policing_jitter_ns: how much closer than a BAG frames may come to a switch"
         columns += [
             column("bag", "bag", "BAG", "ms"),
-            column("jitter", "us", "jitter", "µs", "jitter_ns: how late the application may offer a frame"),
-            column("policing", "us", "policing jitter", "µs",
-                   "policing_jitter_ns: how much closer than a BAG frames may come to a switch"),
-            column("count", "count", "delivered", "frames", "", "few"),
-            column("copies", "count", "copies", "frames", "second copies that were dropped as duplicate, which is ordinary"),
+            time_column("jitter", "jitter", "jitter_ns: how late the application may offer a frame"),
+            time_column("policing", "policing jitter", closer),
+            DELIVERED_COLUMN,
+            COPIES_COLUMN,
         ]
         if self.tables.merged:
-            columns.append(column("seed", "text_number", "seed", "number", "the seed whose run gave the greatest latency"))
+            columns.append(seed_column("the seed whose run gave the greatest latency"))
         words = (
             "From the offer of the application until the frame is whole at the destination, with the wait in the "
             "regulator. Each step of the axis is ten times the one before."
         )
+        marks = self.marks_of_ranges(has_limits, has_bounds)
+        return panel("latency", "Latencies", words, marks, self.grid("latencies", columns, "greatest"))
+
+    @staticmethod
+    def marks_of_ranges(has_limits, has_bounds):
         marks = [("range", "least to greatest"), ("range late", "the same, where the greatest is above the BAG")]
         marks += [("dot", "mean"), ("bag", "BAG"), ("jit", "jitter of the offers"), ("pol", "policing jitter")]
         if has_limits:
-            below = " below the greatest: red" + ("; below the bound: amber" if has_bounds else "")
-            marks.append(("limit", "limit;" + below))
+            marks.append(("limit", "limit; red below the greatest" + (", amber below the bound" if has_bounds else "")))
         if has_bounds:
             marks.append(("bound", "worst-case bound of this model, computed outside the proofs"))
-        return panel("latency", "Latencies", words, legend(*marks), self.grid("latencies", columns, "greatest"))
+        return legend(*marks)
 
     def distribution(self):
         columns = [
-            column("vl", "vl", "VL", "number"),
-            column("where", "text", "destination"),
+            VL_COLUMN,
+            DESTINATION_COLUMN,
             column("histogram", "histogram", "histogram"),
-            *(column(f"p{it}", "us", f"{it}th", "µs", f"{it} % of the frames took no longer") for it in PERCENTS),
-            column("greatest", "us", "greatest", "µs"),
-            column("count", "count", "delivered", "frames", "", "few"),
+            *(time_column(f"p{it}", f"{it}th", f"{it} % of the frames took no longer") for it in PERCENTS),
+            time_column("greatest", "greatest"),
+            DELIVERED_COLUMN,
         ]
         words = (
-            f"From the trace. Each histogram goes from the least latency of its line to the greatest, in {BARS} steps of "
-            f"the same length; the height of a bar is the share of the frames. Fewer than {ENOUGH_FOR_BARS} frames are "
-            "drawn one by one."
+            f"From the trace. Each histogram goes from the least latency of its line to the greatest, in {BARS} steps "
+            "of the same length; the height of a bar is the share of the frames. Fewer than "
+            f"{ENOUGH_FOR_BARS} frames are drawn one by one."
         )
         marks = legend(*((f"p{percent}", f"{percent}th percentile") for percent in PERCENTS))
-        return panel("distribution", "Distribution of the latencies", words, marks, self.grid("percentiles", columns, "greatest"))
+        grid = self.grid("percentiles", columns, "greatest")
+        return panel("distribution", "Distribution of the latencies", words, marks, grid)
 
     def losses(self):
-        lost = [row for row in self.tables.losses.values() if row.cause != "duplicate"]
+        lost = [row for rows in self.lost.values() for row in rows]
         if not lost:
             return panel("losses", "Copies lost", "", "<p><b>No copy was lost.</b></p>")
+        words = "Frames, or copies of frames, by the place where they were lost and the cause. The darker, the more."
+        each = ["<h3>By virtual link</h3>", self.losses_of_each(sorted(lost, key=lambda row: row.line))]
+        return panel("losses", "Copies lost", words, self.losses_by_place(lost), *each)
+
+    def losses_by_place(self, lost):
         places = {}
         for row in lost:
             places.setdefault(row.where, Counter())[row.cause] += row.count
@@ -1857,25 +1928,19 @@ class Page:
         rows = {cause: [places[where][cause] for where in order] for cause in causes}
         rows |= {"where": order, "together": [places[where].total() for where in order]}
         columns = [column("where", "text", "place")]
-        columns += [column(cause, "heat", cause, "frames") for cause in causes]
-        columns.append(column("together", "count", "together", "frames"))
-        words = "Frames, or copies of frames, by the place where they were lost and the cause. The darker, the more."
-        pieces = [self.grid("heat", columns, "together", rows, what="places")]
-        columns = [
-            column("vl", "vl", "VL", "number"),
-            column("where", "text", "place"),
-            column("net", "text", "network"),
-            column("cause", "text", "cause"),
-            column("count", "count", "lost", "frames"),
-        ]
-        rows = {"vl": [row.vl for row in lost], "where": [row.where for row in lost], "cause": [row.cause for row in lost]}
-        rows |= {"net": [self.side_of(row) for row in lost]}
-        rows |= {"count": [row.count for row in lost]}
+        columns += [count_column(cause, cause, kind="heat") for cause in causes]
+        columns.append(count_column("together", "together"))
+        return self.grid("heat", columns, "together", rows, what="places")
+
+    def losses_of_each(self, lost):
+        columns = [VL_COLUMN, column("where", "text", "place"), column("net", "text", "network")]
+        columns += [column("cause", "text", "cause"), count_column("count", "lost")]
+        rows = {name: [getattr(row, name) for row in lost] for name in ("vl", "where", "cause", "count")}
+        rows["net"] = [self.side_of(row) for row in lost]
         if self.tables.merged:
-            columns.append(column("seed", "text_number", "seed", "number", "the seed whose run lost the most of them"))
+            columns.append(seed_column("the seed whose run lost the most of them"))
             rows["seed"] = [row.seed for row in lost]
-        pieces += ["<h3>By virtual link</h3>", self.grid("lost", columns, "count", rows)]
-        return panel("losses", "Copies lost", words, *pieces)
+        return self.grid("lost", columns, "count", rows)
 
     def over_time(self):
         lost = over_time(self.given.trace)
@@ -1885,7 +1950,8 @@ class Page:
         if self.net.outages:
             words += " Outages are shaded."
         if parts:
-            keys = "".join(f'<span><b class="k" style="background:{colour}"></b> {cause}</span>' for cause, _, colour in parts)
+            key = '<span><b class="k" style="background:{}"></b> {}</span>'
+            keys = "".join(key.format(colour, cause) for cause, _, colour in parts)
             pieces = [f'<div class="legend">{keys}</div>', chart_over_time(self.net, parts, 170, "lost-over-time")]
         else:
             pieces = ["<p><b>No copy was lost.</b></p>"]
@@ -1909,56 +1975,47 @@ class Page:
         if not found:
             return ""
         columns = [
-            column("where", "text", "destination"),
-            column("count", "count", "delivered", "frames", "of virtual links that come by both networks"),
-            column("copies", "count", "second copies", "frames"),
-            column("without", "count", "without one", "frames", "delivered, and no second copy came until the end"),
+            DESTINATION_COLUMN,
+            count_column("count", "delivered", "of virtual links that come by both networks"),
+            count_column("copies", "second copies"),
+            count_column("without", "without one", "delivered, and no second copy came until the end"),
         ]
         names = ("count", "copies", "without")
-        rows = {"where": list(found)} | {name: [sums[i] for sums in found.values()] for i, name in enumerate(names)}
+        rows = {name: [sums[i] for sums in found.values()] for i, name in enumerate(names)} | {"where": list(found)}
         words = (
-            "Where both networks work, each frame comes twice, and its second copy is dropped as <code>duplicate</code>. "
-            "This is ordinary and no loss. A frame without a second copy lost it on one network, or the run ended first."
+            "Where both networks work, each frame comes twice, and its second copy is dropped as "
+            "<code>duplicate</code>. This is ordinary and no loss. A frame without a second copy lost it on one "
+            "network, or the run ended first."
         )
-        return panel("copies", "Second copies", words, self.grid("copies-of", columns, "without", rows, what="destinations"))
+        grid = self.grid("copies-of", columns, "without", rows, what="destinations")
+        return panel("copies", "Second copies", words, grid)
 
     # ---- against another run ----
 
     def against(self):
-        given, rows = self.given, comparison(self.given)
-        both = range(len(rows["vl"]))
-        columns = [column("vl", "vl", "VL", "number"), column("where", "text", "destination")]
-        times = [
-            column("before", "us", "greatest before", "µs"), column("greatest", "us", "greatest now", "µs"),
-            column("percent", "percent", "of before", "%"),
-            column("mean_before", "us", "mean before", "µs"), column("mean", "us", "mean now", "µs"),
-        ]
-        counts = [column("count_before", "count", "delivered before", "frames"), column("count", "count", "delivered now", "frames")]
-        if given.ends and given.other.ends:
-            counts += [
-                column("missing_before", "range_of_counts", "missing before", "frames"),
-                column("missing", "range_of_counts", "missing now", "frames"),
-            ]
+        other = self.given.other.tables
+        rows = self.rows["against"] = comparison(self.given)
         pieces = []
-        for name, title, key, change in (
-            ("slower", "Slower: the greatest latency grew", "change", column("change", "us", "slower by", "µs")),
-            ("faster", "Faster: the greatest latency fell", "fall", column("fall", "us", "faster by", "µs")),
-            ("more-lost", "Lost: more frames are missing", "lost", column("lost", "count", "more missing", "frames")),
-            ("fewer-lost", "Not lost any more: fewer frames are missing", "kept", column("kept", "count", "fewer missing", "frames")),
-        ):
-            only = [i for i in both if (rows[key][i] or 0) > 0]
+        for name, title, key, change in CHANGES:
+            only = [i for i, value in enumerate(rows[key]) if (value or 0) > 0]
             pieces.append(f"<h3>{title} ({len(only):,})</h3>")
             if only:
-                found = columns + [change] + (times + counts if key in ("change", "fall") else counts)
-                pieces.append(self.grid(name, found, key, "against", only))
-        self.rows["against"] = rows
-        words = f"This run against that of <code>{esc(os.path.basename(given.other.tables.path))}</code>, worst first."
-        others = sorted(set(given.other.tables.latencies) ^ set(given.tables.latencies))
-        if others:
-            told = ", ".join(f"virtual link {vl} at {where}" for vl, where in others[:5])
-            more = " and others" if len(others) > 5 else ""
-            words += f" {counted(len(others), 'destination')} of one run alone: {esc(told)}{more}."
+                times = BEFORE_AND_NOW if change["kind"] == "us" else []
+                columns = [VL_COLUMN, DESTINATION_COLUMN, change, *times, *self.counts_of_both()]
+                pieces.append(self.grid(name, columns, key, "against", only))
+        words = f"This run against that of <code>{esc(os.path.basename(other.path))}</code>, worst first."
+        alone = sorted(set(other.latencies) ^ set(self.tables.latencies))
+        if alone:
+            told = ", ".join(f"virtual link {vl} at {where}" for vl, where in alone[:5])
+            more = " and others" if len(alone) > 5 else ""
+            words += f" {counted(len(alone), 'destination')} of one run alone: {esc(told)}{more}."
         return panel("against", "Against another run", words, *pieces)
+
+    def counts_of_both(self):
+        yield from (count_column("count_before", "delivered before"), count_column("count", "delivered now"))
+        if self.given.ends and self.given.other.ends:
+            yield count_column("missing_before", "missing before", kind="range_of_counts")
+            yield count_column("missing", "missing now", kind="range_of_counts")
 
     # ---- what the script needs ----
 
@@ -1989,10 +2046,9 @@ class Page:
                 side: [[self.line_number[line] for line in afdx.lines_of_path(path)] for path in vl.paths[side]]
                 for side in "AB"
             }
-            row = {key: getattr(vl, key) for key in ("id", "source", "size", "smax", "priority", "depth", "sub", "policing")}
-            row |= {key: getattr(vl, key) for key in ("bag_ns", "period_ns", "offset_ns", "jitter_ns", "policing_ns", "skew_ns")}
-            lost = self.lost.get(vl.id, [])
-            found.append(row | {"paths": paths, "lost": [[it.where, self.side_of(it), it.cause, it.count] for it in lost]})
+            row = {key: getattr(vl, key) for key in FACTS}
+            lost = [[it.where, self.side_of(it), it.cause, it.count] for it in self.lost.get(vl.id, ())]
+            found.append(row | {"paths": paths, "lost": lost})
         return found
 
     def axis(self):
@@ -2037,10 +2093,8 @@ class Page:
     def words(self):
         net = self.net
         switches = [counted(len(net.of_kind("switch", side)), "switch", "switches") for side in "AB"]
-        words = (
-            f"{counted(len(net.of_kind('es')), 'end system')}, {switches[0]} on network A and {switches[1]} on network B, "
-            f"{counted(len(net.links), 'link')}, {counted(len(net.vls), 'virtual link')}. "
-        )
+        words = f"{counted(len(net.of_kind('es')), 'end system')}, {switches[0]} on network A and {switches[1]} on "
+        words += f"network B, {counted(len(net.links), 'link')}, {counted(len(net.vls), 'virtual link')}. "
         if self.tables.merged:
             return words + "Several runs, merged: counts are those of all runs together."
         return words + f"One run of {span(net.until_ns)} with the seed {net.seed}."
@@ -2068,7 +2122,8 @@ def words_of(arguments=None):
     add("--against", metavar="FILE", help="the tables of another run, to compare this one with: before and after")
     add("--against-net", metavar="NET", help="the description of the other run (default: NET)")
     add("--seeds", type=afdx.whole(1, 10**9), metavar="N", help="of merged tables: how many seeds the campaign had")
-    add("--first", type=afdx.whole(0, afdx.GREATEST_SEED), metavar="SEED", help="the first of them (default: that of NET)")
+    seed = afdx.whole(0, afdx.GREATEST_SEED)
+    add("--first", type=seed, metavar="SEED", help="the first of them (default: that of NET)")
     add("--offsets", action="store_true", help="of merged tables: the campaign drew offsets")
     add("-o", "--output", metavar="FILE", required=True, help="the page to write (HTML)")
     words = parser.parse_args(arguments)
@@ -2091,7 +2146,9 @@ def given_by(words):
     net = Network(words.net)
     tables = Tables(words.tables, net)
     trace = Trace(words.trace, tables) if words.trace else None
-    limits = Limits(words.limits, {key: it.ns for key, it in afdx.limits_of(words.limits, net).items()}) if words.limits else None
+    limits = None
+    if words.limits:
+        limits = Limits(words.limits, {key: limit.ns for key, limit in afdx.limits_of(words.limits, net).items()})
     bounds = Bounds(words.bounds, net) if words.bounds else None
     other = None
     if words.against:

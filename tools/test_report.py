@@ -524,8 +524,9 @@ class InTheBrowser(unittest.TestCase):
         none = sum(line.split(",")[4] == "0" for line in read(tables).splitlines() if line.startswith("latency"))
         self.assertGreater(none, 100)
         self.assertIn(f"nothing came at {none:,}", few[1])
-        self.assertEqual(page.tiles["lost end to end"][0], "0 frames")
-        self.assertEqual(page.tile_marks["lost end to end"], "warn")
+        # One frame is policed on both networks.
+        self.assertEqual(page.tiles["lost end to end"][0], "1 frame")
+        self.assertEqual(sum(missing for _, _, missing, _ in ends.values()), 1)
         # Each virtual link offers ten frames in ten times its period; so it says how long the run must be.
         longest = max(max(vl["bag_ms"] * 10**6, vl["period_ns"]) * 9 + vl["offset_ns"] for vl in net["vl"])
         needed = int(re.search(r"until_ns = ([\d_]+)", few[1])[1].replace("_", ""))
@@ -860,6 +861,17 @@ class WithoutABrowser(unittest.TestCase):
             ends = page.data["ends"]
             self.assertEqual(ends["offered"], [offered[vl] for vl in ends["vl"]])
             self.assertEqual(page.tiles["lost end to end"][0], "0 frames")
+
+    def test_a_run_that_is_too_short_is_not_good(self):
+        """Nothing is lost, and nothing came: that is told as no good sign."""
+        path, _ = example("cockpit")
+        net = self.file("short.toml", re.sub("until_ns = [0-9_]+", "until_ns = 30_000", read(path)))
+        _, tables, _, _ = simulated(net, self.folder)
+        self.assertEqual(make(net, tables, "-o", self.page), (0, ""))
+        page = Page(read(self.page))
+        self.assertEqual((page.tiles["lost end to end"][0], page.tile_marks["lost end to end"]), ("0 frames", "warn"))
+        self.assertIn("nothing came at 2", page.tiles["fewer than ten frames"][1])
+        self.assertEqual(page.tiles["fewer than ten frames"][0], "at 24 of 24")
 
     def test_tables_of_another_run(self):
         """Tables that cannot be of the offers that a description gives are refused."""
