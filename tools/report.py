@@ -1521,7 +1521,8 @@ const strips = vl => `<div class="strips">${["A", "B"].filter(side => vl.paths[s
 
 const endColumns = [
   ["destination"], ["offered", "frames", "offered"], ["delivered", "frames", "count"],
-  ["under way", "frames", "under_way"], ["missing", "frames", "missing"], ["least", "µs", "least"], ["mean", "µs", "mean"],
+  ["under way", "frames", "under_way"], ["missing", "frames", "missing"], ["least", "µs", "least"],
+  ["mean", "µs", "mean"],
   ...data.percents.map(it => [it + "th", "µs", "p" + it]), ["greatest", "µs", "greatest"], ["limit", "µs", "limit"],
   ["bound", "µs", "bound"], ["margin", "µs", "margin"], ["copies", "frames", "copies"],
   ["lost on A", "copies", "lostA"], ["lost on B", "copies", "lostB"], ["ten frames take", "ms", "needed"],
@@ -1559,7 +1560,7 @@ const vlPart = vl => {
 };
 
 const linePart = line => {
-  const users = usersOf[line].toSorted((a, b) => share(b, line) - share(a, line));
+  const users = [...usersOf[line]].sort((a, b) => share(b, line) - share(a, line));
   const rows = users.map(vl => [toVl(vl.id), share(vl, line).toFixed(2), whole(vl.bag_ns / 1e6), whole(vl.size),
     lostAt(vl, lines.name[line]) || "–", esc(vl.source),
     `<div class="wrap">${esc((endsOf.get(vl.id) ?? []).map(i => ends.where[i]).join(", "))}</div>`]);
