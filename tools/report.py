@@ -352,6 +352,8 @@ class Ends:
             self.refuse(line, f"{told}, and the tables have {loss.count if loss else 0}")
 
     def end(self, journey, runs):
+        """What became of the frames of all runs at one destination: what is known of each count is narrowed by what
+        they add up to."""
         key = journey.vl.id, journey.where
         row, copies = self.tables.latencies[key], self.tables.losses.get((*key, "duplicate"))
         copies = copies.count if copies else 0
@@ -451,6 +453,7 @@ class Rows:
         rows[key], lines[key] = value, i
 
 
+# The greatest latency in ns that each destination may have, of those that have a limit.
 Limits = namedtuple("Limits", "path of")
 
 
@@ -508,8 +511,8 @@ DESTINATION_COLUMN = column("where", "text", "destination")
 DELIVERED_COLUMN = count_column("count", "delivered", "", "few")
 COPIES_COLUMN = count_column("copies", "copies", "second copies that were dropped as duplicate, which is ordinary")
 
-
-GOOD, WARN, BAD = 1, 2, 3
+# How a cell is marked, as the script numbers it.
+WARN, BAD = 1, 2
 
 
 def one_or_range(found):
@@ -1002,8 +1005,8 @@ def tiles_of_run(given):
     delivered = sum(row.count for row in tables.latencies.values())
     copies = sum(row.count for row in tables.losses.values() if row.cause == "duplicate")
     of_runs = f"runs of {span(net.until_ns)} each" if tables.merged else span(net.until_ns)
-    ordinary = f"{copies:,} second copies were dropped, which is ordinary"
-    yield tile("delivered", frames(delivered), f"in {of_runs}; {ordinary}")
+    ordinary = f"; {counted(copies, 'second copy', 'second copies')} dropped, which is ordinary" if copies else ""
+    yield tile("delivered", frames(delivered), f"in {of_runs}{ordinary}")
     worst = max(tables.latencies.values(), key=lambda row: row.greatest, default=None)
     if worst and worst.count:
         seed = f", seed {worst.seed}" if worst.seed is not None else ""
@@ -1281,7 +1284,7 @@ const histogram = (i, wide = 504, high = 30) => {
   const text = (x, anchor, words) => `<text x="${x}" y="${high + 13}" text-anchor="${anchor}">${words}</text>`;
   const texts = greatest === least ? text(wide / 2, "middle", span(least) + ", all")
     : text(0, "start", span(least)) + text(wide, "end", span(greatest));
-  const words = `viewBox="-5 0 ${wide + 10} ${high + 16}" style="--high:${high}px;width:${wide + 10}px"`;
+  const words = `viewBox="-5 0 ${wide + 10} ${high + 16}" style="width:${wide + 10}px"`;
   return `<svg ${words}><path class="foot" d="M0 ${high}H${wide}"/>${bars}${marks.join("")}${texts}</svg>`;
 };
 const heat = (count, top) => {
@@ -1295,7 +1298,6 @@ const KINDS = {
   vl: {number: true, show: value => toVl(value)},
   line: {show: value => toLine(value)},
   text: {show: esc},
-  html: {show: value => value},
   text_number: {number: true, show: String},
   count: {number: true, show: whole},
   range_of_counts: {number: true, show: counts},
@@ -1308,7 +1310,7 @@ const KINDS = {
   range: {fixed: true, show: (value, i) => range(i), more: "rg"},
   histogram: {fixed: true, show: (value, i) => histogram(i), more: "hg"},
 };
-const TONES = ["", "good", "warn", "bad"];
+const TONES = ["", "warn", "bad"];
 const least = value => value === null ? -Infinity : Array.isArray(value) ? value[0] + value[1] / 1e9 : value;
 
 // ---- tables: the ten worst rows, or all, of which those are drawn that are in sight ----
@@ -1435,7 +1437,9 @@ class Grid {
   draw(isNew) {
     const isHigh = this.isAll && this.asked.length > FOLD_ABOVE;
     this.box.classList.toggle("high", isHigh);
-    this.box.tabIndex = isHigh ? 0 : -1;
+    // What scrolls can be reached by keys.
+    if (isHigh) this.box.tabIndex = 0;
+    else this.box.removeAttribute("tabindex");
     const [first, last] = this.window();
     if (!isNew && first === this.first && last === this.last) return;
     [this.first, this.last] = [first, last];

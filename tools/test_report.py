@@ -21,6 +21,7 @@ HERE = os.path.dirname(os.path.abspath(__file__))
 sys.path.insert(0, HERE)
 
 import afdx  # noqa: E402
+import campaign  # noqa: E402
 import report  # noqa: E402
 from second_opinion import Simulation  # noqa: E402
 
@@ -875,6 +876,11 @@ class WithoutABrowser(unittest.TestCase):
             ends = page.data["ends"]
             self.assertEqual(ends["offered"], [offered[vl] for vl in ends["vl"]])
             self.assertEqual(page.tiles["lost end to end"][0], "0 frames")
+
+    def test_drawn_offsets_are_those_of_a_campaign(self):
+        path, _ = example("cockpit")
+        drawn = tomllib.loads(campaign.Network(path, "true").with_seed(7, True))["vl"]
+        self.assertEqual({vl["id"]: vl["offset_ns"] for vl in drawn}, report.drawn_offsets(report.Network(path), 7))
 
     def test_a_run_that_is_too_short_is_not_good(self):
         """Nothing is lost, and nothing came: that is told as no good sign."""
