@@ -281,12 +281,13 @@ class Browser:
         self.command = [self.program, "--headless", "--no-sandbox", "--disable-gpu", "--disable-dev-shm-usage"]
         self.command += ["--user-data-dir=" + os.path.join(self.folder, "profile")]
 
-    def open(self, path, script):
-        """The page as the browser has it once it is loaded and a script has run, with the processor seconds it took."""
+    def open(self, path, script, address=""):
+        """The page as the browser has it once it is loaded, at an address of it, and a script has run, with the processor
+        seconds it took."""
         tried = os.path.join(self.folder, "tried.html")
         with open(tried, "w", encoding="utf-8") as out:
             out.write(read(path) + f'<script>addEventListener("load", () => {{{script}}})</script>')
-        command = [*self.command, "--dump-dom", "file://" + tried]
+        command = [*self.command, "--dump-dom", "file://" + tried + address]
         before = resource.getrusage(resource.RUSAGE_CHILDREN)
         run = subprocess.run(command, capture_output=True, timeout=300, check=True)
         after = resource.getrusage(resource.RUSAGE_CHILDREN)
@@ -644,7 +645,7 @@ class InTheBrowser(unittest.TestCase):
             net = tomllib.load(file)
         vl = next(vl for vl in net["vl"] if vl["id"] == 101)
         lines = {">".join(line) for way in vl["a"] + vl["b"] for line in zip(way, way[1:])}
-        page = self.browser.open(self.page, 'location.hash = "vl-101"; choose();')
+        page = self.browser.open(self.page, "", "#vl-101")
         self.assertEqual(page.lit, lines)
         hops = page.columns("vl-hops")
         self.assertEqual(sorted(row["line"] for row in hops), sorted(lines))
@@ -664,12 +665,17 @@ class InTheBrowser(unittest.TestCase):
             [(row["destination"], row["99th"]) for row in self.in_order(page, 101)],
         )
         line = "SWA1>DU_C"
-        script = f'location.hash = "line-{line}"; choose(); const told = document.documentElement.dataset;'
+        script = "const told = document.documentElement.dataset;"
         for name, text in (("fwc", "FWC"), ("twenty", "20")):
             script += f'find.value = "{text}"; search();'
             script += f'told.{name} = Array.from(list.querySelectorAll("b"), it => it.textContent);'
         script += 'find.value = "nobody"; search(); told.nobody = list.textContent.trim();'
-        page = self.browser.open(self.page, script)
+        # By keys alone: down to the first that is found, and back; and Enter goes there.
+        script += 'const press = (it, key) => it.dispatchEvent(new KeyboardEvent("keydown", {key, bubbles: true}));'
+        script += 'find.value = "FWC"; search(); press(find, "ArrowDown"); told.focus = document.activeElement.hash;'
+        script += 'press(document.activeElement, "ArrowUp"); told.back = document.activeElement.id;'
+        script += 'const was = location.hash; press(find, "Enter"); told.hash = location.hash; location.hash = was;'
+        page = self.browser.open(self.page, script, "#line-SWA1%3EDU_C")
         self.assertEqual(page.lit, {line})
         users = [vl["id"] for vl in net["vl"] if any(line in ">".join(way) for way in vl["a"] + vl["b"])]
         self.assertEqual(sorted(int(row["VL"]) for row in page.columns("line-vls")), users)
@@ -681,6 +687,9 @@ class InTheBrowser(unittest.TestCase):
         twenty = [str(vl["id"]) for vl in net["vl"] if str(vl["id"]).startswith("20")]
         self.assertEqual(page.words["data-twenty"], ",".join(twenty))
         self.assertEqual(page.words["data-nobody"], "0 virtual links")
+        first = f"#vl-{begin[0]}"
+        told = [page.words["data-" + name] for name in ("focus", "back", "hash")]
+        self.assertEqual(told, [first, "find", first])
 
     def test_what_a_virtual_link_is(self):
         """Sub-virtual links and policing are told where a virtual link has them."""
@@ -744,6 +753,25 @@ class InTheBrowser(unittest.TestCase):
                 self.assertEqual({(int(row["VL"]), row["destination"]): kind(row[column]) for row in rows}, found)
                 values = [kind(row[column]) for row in rows]
                 self.assertEqual(values, sorted(values, reverse=True))
+
+    def test_against_a_run_of_another_network(self):
+        """What the networks share is compared, and what one of them has alone is named."""
+        path, tables = example("failing_link")
+        with open(path, "rb") as file:
+            net = tomllib.load(file)
+        other = os.path.join(self.folder, "other.toml")
+        with open(other, "w", encoding="utf-8") as out:
+            out.write(re.sub(r"(?s)\[\[vl\]\]\nid = 3\n.*", "", read(path)))
+        before = simulated(net | {"vl": [vl for vl in net["vl"] if vl["id"] != 3]}, self.folder, "other-")[1]
+        status, said = make(path, tables, "--against", before, "-o", self.page)
+        self.assertEqual(status, 2)
+        self.assertIn("the file ends without the latencies of virtual link 3 at FCC", said)
+        self.made(path, tables, "--against", before, "--against-net", other)
+        page = self.browser.open(self.page, UNFOLD)
+        told = "".join(page.texts)
+        self.assertIn("1 destination of one run alone: virtual link 3 at FCC.", told)
+        self.assertEqual({"slower", "faster", "more-lost", "fewer-lost"} & set(page.tables), set())
+        self.assertIn("Slower: the greatest latency grew (0)", told)
 
     def test_a_printed_page(self):
         """The drawing is on page 1, and the rows that are asked for come behind it."""
