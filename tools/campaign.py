@@ -339,7 +339,8 @@ def words_of(arguments=None):
     add("--offsets", action="store_true", help="draw the offset of each virtual link within its period, for each run")
     add("--limits", metavar="FILE", help="limits of latencies, lines VL,NAME,NS")
     add("--histograms", action="store_true", help="count each latency: DIR/histograms.csv, percentiles in DIR/greatest.csv")
-    add("--dask", metavar="ADDRESS", help="the runs are made by the workers of the Dask cluster with this scheduler")
+    address, says = cluster.address, "the workers of the Dask cluster with this scheduler make the runs: tcp://HOST:PORT"
+    add("--dask", type=address, metavar="ADDRESS", help=says)
     add("--keep", action="store_true", help="keep the description and the tables of each run in DIR too")
     add("--program", default=PROGRAM, metavar="PATH", help="the program (default: crates/afdxsim/out/afdxsim)")
     add("-o", "--output", metavar="DIR", required=True, help="the folder for what comes of it; it is made if need be")

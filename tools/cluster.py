@@ -7,7 +7,9 @@ the same version. Where a worker is lost, the scheduler gives what it had to ano
 Dask is Debian's package python3-distributed, of Debian's own interpreter.
 """
 import importlib.util
+import logging
 import os
+import re
 import subprocess
 import sys
 from collections import deque
@@ -18,8 +20,15 @@ from runs import Failure, Printed, failure_of
 # Debian's packages are for this interpreter.
 DEBIAN = "/usr/bin/python3"
 PACKAGE = "python3-distributed"
-# How long to wait for the scheduler and for a first worker, in s.
-PATIENCE = 30
+# How long to wait for the scheduler, and for a first worker, in s.
+PATIENCE, PATIENCE_FOR_WORKERS = 10, 30
+
+
+def address(text):
+    """The kind of a word of the command line: where a scheduler is."""
+    if not re.fullmatch(r"(tcp|tls)://\S+:[0-9]+", text):
+        raise ValueError
+    return text
 
 
 def is_here():
@@ -79,12 +88,19 @@ class Cluster:
     def __init__(self, address, program, is_traced=False):
         from distributed import Client
 
+        # What they tell of connections that end is no news here.
+        for name in ("distributed", "tornado", "asyncio"):
+            logging.getLogger(name).setLevel(logging.CRITICAL + 1)
         self.program, self.version, self.is_traced = program, version_of(program), is_traced
         try:
             self.client = Client(address, timeout=PATIENCE, set_as_default=False)
-            self.client.wait_for_workers(1, timeout=PATIENCE)
-        except (OSError, ValueError, TimeoutError) as fault:
-            raise Fault(address, None, f"is no scheduler with workers: {fault}") from None
+        except OSError as fault:
+            raise Fault(address, None, f"is no scheduler: {fault}") from None
+        try:
+            self.client.wait_for_workers(1, timeout=PATIENCE_FOR_WORKERS)
+        except TimeoutError:
+            self.client.close()
+            raise Fault(address, None, f"has no worker, and none came in {PATIENCE_FOR_WORKERS} s") from None
 
     def results(self, runs):
         """Yields each run and what it printed, in the order of the runs. The first one in this order that fails ends it.
