@@ -8,6 +8,13 @@ offer of each virtual link, anew and evenly within its period: so frames that ne
 DIR/merged.csv has the tables of all runs together, in the form in which the program prints tables, with one column
 more: the seed that gave the greatest latency of a line, or the most losses. tools/report.py makes a page of it. Counts
 and sums are added and leasts and greatests taken, exactly; so the merged tables do not depend on --jobs.
+DIR/greatest.csv has of the greatest latencies of the runs the least, the mean and the greatest. With --histograms each
+latency is counted (DIR/histograms.csv), and percentiles of the frames of all runs stand in DIR/greatest.csv.
+
+With --each-outage each link and each switch is out in turn, for the whole run or from a moment on. DIR/outages.csv and the
+page DIR/outages.html tell what is then lost end to end, and what becomes late, beside the same runs without it.
+
+With --dask the runs are made by the workers of a Dask cluster, on several machines. What comes of it has the same bytes.
 
 With a file of limits, each run is held against them, and the status is 1 where a run breaks one.
 """
@@ -24,6 +31,7 @@ from math import floor
 
 import afdx
 import cluster
+import each_outage
 import runs
 from afdx import CAUSES, GREATEST_SEED, PROGRAM, TABLES_HEAD, Fault, limits_of, text_of, whole, write_whole
 from runs import Failure
@@ -37,6 +45,15 @@ examples:
   campaign.py net.toml --seeds 1 --first 42 --offsets --keep -o worst
         the run of the seed 42 once more, and its description: worst/seed-42.toml, which afdxsim and report.py can be
         given to look at what happened in it
+  campaign.py net.toml --each-outage -o what_if
+        what is lost and what becomes late without each link and each switch: what_if/outages.html
+  campaign.py net.toml --each-outage 50000000 --seeds 5 --keep -o what_if
+        the same with five seeds, and out from 50 ms on. The description and the tables of each run are kept: report.py
+        compares one with those of outage-0, which is none, by --against
+  dask scheduler --host 10.0.0.1; dask worker tcp://10.0.0.1:8786 --nworkers 4 --nthreads 1
+  campaign.py net.toml --seeds 1000 --dask tcp://10.0.0.1:8786 -o campaign
+        on several machines: the first on one of them, the second on each, with four runs side by side. Each needs
+        python3-distributed, and afdxsim on its PATH, or where AFDXSIM says, or where this machine has it
 
 limits.csv, a line for each destination that has a limit: number of the virtual link, name of the destination, and the
 greatest latency in ns that it may have. Lines that are empty or begin with # are passed over.
@@ -53,6 +70,8 @@ status:
 
 GREATEST_HEAD = "vl,where,runs,least_greatest_ns,mean_greatest_ns,greatest_ns,sum_greatest_ns,seed"
 PERCENTS = [50, 95, 99]
+# Of so many outages a line tells what they do.
+MOST_TOLD = 10
 
 
 # ---- the network ----
@@ -281,16 +300,14 @@ class Campaign:
         return seed
 
     def run(self, maker, keep):
-        """Has the runs made and takes what they print, seed by seed. The first one in this order that fails ends it. With
-        `keep` each leaves its description and its tables in that folder."""
+        """Has the runs made and takes what they print, seed by seed. The first one in this order that fails ends it. `keep`
+        is told the beginning of the name of each one's files, and its texts."""
         progress = Progress(len(self.seeds))
         with contextlib.closing(maker.results(self.runs())) as results:
             try:
                 for run, printed in results:
                     seed = self.take(run, printed)
-                    if keep:
-                        write_whole(os.path.join(keep, f"seed-{seed}.toml"), run.text)
-                        write_whole(os.path.join(keep, f"seed-{seed}.tables.csv"), printed.tables)
+                    keep(f"seed-{seed}", run.text, printed.tables)
                     progress.tell(self.done, self.merged.worst() if progress.shown else None)
             except Failure as failure:
                 self.failure = str(failure)
@@ -332,7 +349,11 @@ def words_of(arguments=None):
     )
     add = parser.add_argument
     add("net", metavar="NET", help="the description (TOML)")
-    add("--seeds", type=whole(1, 10**9), metavar="N", required=True, help="how many seeds, so how many runs")
+    add("--seeds", type=whole(1, 10**9), metavar="N", help="how many seeds, so how many runs (with --each-outage: 1)")
+    add(
+        "--each-outage", type=whole(0, afdx.LATEST_NS), nargs="?", const=0, metavar="NS",
+        help="runs each seed with each link and each switch out in turn, from this moment in ns on (default: 0)",
+    )
     add("--first", type=whole(0, GREATEST_SEED), metavar="SEED", help="the first seed (default: that of NET)")
     jobs = len(os.sched_getaffinity(0)) if hasattr(os, "sched_getaffinity") else os.cpu_count() or 1
     add("--jobs", type=whole(1, 1024), default=jobs, metavar="N", help=f"runs side by side (default here: {jobs})")
@@ -344,7 +365,13 @@ def words_of(arguments=None):
     add("--keep", action="store_true", help="keep the description and the tables of each run in DIR too")
     add("--program", default=PROGRAM, metavar="PATH", help="the program (default: crates/afdxsim/out/afdxsim)")
     add("-o", "--output", metavar="DIR", required=True, help="the folder for what comes of it; it is made if need be")
-    return parser.parse_args(arguments)
+    words = parser.parse_args(arguments)
+    if words.seeds is None and words.each_outage is None:
+        parser.error("how many seeds? --seeds N")
+    if words.histograms and words.each_outage is not None:
+        parser.error("--histograms counts the latencies of runs over seeds, and not with --each-outage")
+    words.seeds = words.seeds or 1
+    return words
 
 
 def prepare(words):
@@ -381,22 +408,60 @@ def write_results(folder, merged, has_counts):
     return path
 
 
+def over_seeds(words, net, limits, seeds):
+    """Runs all seeds, and answers the status."""
+    begin, path = time.monotonic(), None
+    campaign = Campaign(net, limits, seeds, words.offsets)
+    campaign.run(maker_of(words, words.histograms), keeper(words))
+    if campaign.done:
+        path = write_results(words.output, campaign.merged, words.histograms)
+    campaign.tell(path, time.monotonic() - begin)
+    return 1 if campaign.failure or campaign.broken else 0
+
+
+def over_outages(words, net, limits, seeds):
+    """Runs all seeds with each link and each switch out in turn, and answers the status."""
+    begin = time.monotonic()
+    found = each_outage.EachOutage(net, limits, seeds, words.offsets, words.each_outage)
+    found.run(maker_of(words, True), keeper(words), Progress(found.count()), (tables_of, trace_of))
+    if found.failure:
+        print(f"campaign.py: {found.failure}", file=sys.stderr)
+    if not found.courses:
+        print("no run without an outage was made, and nothing is written")
+        return 1
+    table, page = (os.path.join(words.output, name) for name in ("outages.csv", "outages.html"))
+    write_whole(table, found.table())
+    write_whole(page, each_outage.page(found, words.net))
+    summaries = found.summaries()
+    print(f"{table} and {page}: {len(summaries)} outages, {found.done} runs, in {time.monotonic() - begin:.1f} s")
+    for it in summaries[:MOST_TOLD]:
+        print(f"{it.name()}: {it.in_words()}")
+    broken = sum(bool(it.broken) for it in summaries)
+    if limits:
+        print(f"limits: {len(limits)}; outages that break one which is else kept: {broken}")
+    return 1 if found.failure or broken else 0
+
+
+def keeper(words):
+    """What keeps the description and the tables of a run, if they are to be kept."""
+
+    def keep(name, text, tables):
+        if words.keep:
+            write_whole(os.path.join(words.output, f"{name}.toml"), text)
+            write_whole(os.path.join(words.output, f"{name}.tables.csv"), tables)
+
+    return keep
+
+
 def main(arguments=None):
     words = words_of(arguments)
-    begin, path = time.monotonic(), None
     try:
         if words.dask and not cluster.is_here():
             return by_another(sys.argv[1:] if arguments is None else arguments)
-        net, limits, seeds = prepare(words)
-        campaign = Campaign(net, limits, seeds, words.offsets)
-        campaign.run(maker_of(words, words.histograms), words.output if words.keep else None)
-        if campaign.done:
-            path = write_results(words.output, campaign.merged, words.histograms)
+        return (over_seeds if words.each_outage is None else over_outages)(words, *prepare(words))
     except Fault as fault:
         print(f"campaign.py: {fault}", file=sys.stderr)
         return 2
-    campaign.tell(path, time.monotonic() - begin)
-    return 1 if campaign.failure or campaign.broken else 0
 
 
 def by_another(arguments):
