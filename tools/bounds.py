@@ -6,10 +6,11 @@ A bound of this model, computed outside the proofs. It is worked out from the de
 numbers, with the rules of docs/TRAFFIC.md; no proof speaks of it, and it says nothing of real equipment. Tests hold it
 against runs: no latency of a run may be above its bound. Such a case is a defect of one of the two.
 
-A bound holds for all offsets, seeds and lengths of a run, with outages or without. It covers the time from the offer of
-a frame to its whole arrival at the destination, for each frame that is delivered, by whichever network. That is the wait
-in the regulator (wait_ns), and the longest way from the release on. What is used of the offers is their size alone, and
-for wait_ns their period and jitter: from its release on, a virtual link may send a frame in each BAG.
+A bound holds for all offsets, seeds and lengths of a run, with the outages that NET has; other outages need bounds of
+their own. It covers the time from the offer of a frame to its whole arrival at the destination, for each frame that is
+delivered, by whichever network. That is the wait in the regulator (wait_ns), and the longest way from the release on.
+What is used of the offers is their size alone, and for wait_ns their period and jitter: from its release on, a virtual
+link may send a frame in each BAG.
 """
 import argparse
 import heapq
