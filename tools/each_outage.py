@@ -1,6 +1,7 @@
 """What if a link or a switch is out: tools/campaign.py --each-outage. Each is out in turn, and what is lost end to end and
 what becomes late is told beside the same runs without it, as a table and as a page."""
 import contextlib
+import copy
 import html
 from collections import namedtuple
 
@@ -55,12 +56,38 @@ class Course:
         self.element, self.number = element, number
         self.delivered, self.lost, self.greatest = {}, {}, {}
 
-    def take(self, tables, trace, seed, draws_offsets):
-        for key, end in report.Ends(tables, [seed], draws_offsets, trace).of.items():
+    def take(self, tables, ends):
+        for key, end in ends.items():
             row = tables.latencies[key]
             self.delivered[key] = self.delivered.get(key, 0) + row.count
             self.lost[key] = self.lost.get(key, report.exactly(0)) + end.missing
             self.greatest[key] = max(self.greatest.get(key, 0), row.greatest)
+
+
+class Known:
+    """What became of all frames in the run of a seed without an outage, so that it is reckoned anew only for the virtual
+    links of which another run with this seed tells something else."""
+
+    def __init__(self, net, seed, draws_offsets):
+        drawn = report.drawn_offsets(net, seed) if draws_offsets else {}
+        self.net, self.seed = net, seed
+        self.vls = {vl.id: vl._replace(offset_ns=drawn.get(vl.id, vl.offset_ns)) for vl in net.vls.values()}
+        self.rows, self.ends = {}, None
+
+    def ends_of(self, tables, trace):
+        """What became of the frames of a run, by its tables and its trace. The first run is the one without an outage."""
+        rows = {}
+        for row in trace.rows:
+            rows.setdefault(row[2], []).append(row)
+        first = self.ends is None
+        other = [vl for vl in self.vls if first or rows.get(vl) != self.rows.get(vl)]
+        part = copy.copy(tables)
+        part.net = copy.copy(self.net)
+        part.net.vls = {vl: self.vls[vl] for vl in other}
+        found = report.Ends(part, [self.seed], trace=trace).of
+        if first:
+            self.rows, self.ends = rows, found
+        return self.ends | found
 
 
 # What an outage does to a virtual link at a destination: the counts and latencies without it and with it.
@@ -89,6 +116,7 @@ class EachOutage:
         self.elements = elements_of(net)
         used = [element for element in self.elements if any(net.users[line] for line in element.lines)]
         self.courses = [Course(element, number) for number, element in enumerate([None, *used])]
+        self.known = {}
         self.done, self.failure = 0, None
 
     def count(self):
@@ -112,7 +140,9 @@ class EachOutage:
                 for run, printed in results:
                     course, seed = self.courses[self.done // len(self.seeds)], self.seeds[self.done % len(self.seeds)]
                     tables = tables_of(self.net, run, printed.tables)
-                    course.take(tables, trace_of(tables, run, printed.trace), seed, self.draws_offsets)
+                    if seed not in self.known:
+                        self.known[seed] = Known(self.net, seed, self.draws_offsets)
+                    course.take(tables, self.known[seed].ends_of(tables, trace_of(tables, run, printed.trace)))
                     keep(f"outage-{course.number}-seed-{seed}", run.text, printed.tables)
                     self.done += 1
                     progress.tell(self.done, None)

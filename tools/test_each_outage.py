@@ -112,6 +112,18 @@ class EachOutage(Here):
                 self.assertEqual(found, [HEAD, *lines])
                 self.assertIn(f": 6 outages, {7 * len(seeds)} runs, in ", out)
 
+    def test_drawn_offsets(self):
+        """Each run of a seed has the offsets that a campaign draws for it."""
+        self.stand_in()
+        self.assertEqual(self.call(FAILING, "--each-outage", "--offsets", "--first", "3", "--keep")[0], 0)
+        drawn = os.path.join(self.output, "outage-0-seed-3.toml")
+        with open(drawn, "rb") as file, open(FAILING, "rb") as other:
+            offsets, before = ([vl["offset_ns"] for vl in tomllib.load(it)["vl"]] for it in (file, other))
+        self.assertFalse(set(offsets) & set(before))
+        lines = expected(drawn, ELEMENTS, 0, (3,))
+        self.assertGreater(len(lines), 5)
+        self.assertEqual(read(os.path.join(self.output, "outages.csv")).splitlines(), [HEAD, *lines])
+
     def test_by_hand(self):
         """Without the first link nothing of virtual link 2 arrives, which has that network alone: 18 of its 25 frames came
         before. Virtual link 1 has the other network; its frames took 33880 ns at most before, and take as long. What comes
