@@ -10,7 +10,8 @@ destination, and the losses over time; and what was under way at the end is told
 The page is one file. It needs no connection and no other file. On it one looks for a virtual link by its number or by a
 name; its way lights up on the drawing, and an address of its own, as report.html#vl-101, leads there. A click on a line
 tells which virtual links use it (report.html#line-SWA>DU). A table of more than 15 lines shows the ten worst until the
-rest is asked for. A click on the name of a column sorts. Printed, the page has the lines that are asked for.
+rest is asked for. A click on the name of a column sorts. Printed, the page has the lines that are asked for. Of more
+than 20,000 lines of latencies it has the histograms of the worst 20,000.
 """
 import argparse
 import html
@@ -559,9 +560,9 @@ class EndTable:
         """How long a run must be for ten frames, where this one is too short for them."""
         if row.count >= FEW:
             return None
-        soonest = min(Way(self.given.net, vl, path).arrival for path in ways_of(vl, row.where).values())
-        last = vl.offset_ns + vl.jitter_ns + (FEW - 1) * max(vl.period_ns, vl.bag_ns)
-        needed = last + max(row.greatest, soonest)
+        ways = (Way(self.given.net, vl, path) for path in ways_of(vl, row.where).values())
+        latency = row.greatest if row.count else min(way.arrival for way in ways)
+        needed = vl.offset_ns + vl.jitter_ns + (FEW - 1) * max(vl.period_ns, vl.bag_ns) + latency
         return round_up(needed) if needed > self.given.net.until_ns else None
 
     @staticmethod
