@@ -23,6 +23,7 @@ PROGRAM = os.path.normpath(os.path.join(HERE, "..", "crates", "afdxsim", "out", 
 CAUSES = ["queue_full", "port_full", "outage", "unknown", "too_long", "policed", "integrity", "duplicate"]
 TABLES_HEAD = "table,vl,where,cause,count,least_ns,greatest_ns,sum_ns"
 TRACE_HEAD = "time_ns,where,vl,what,value"
+LIMITS_HEAD = "vl,destination,limit_ns"
 NUMBER = re.compile(r"0|[1-9][0-9]*")
 
 GREATEST_SEED = 2**63 - 1
@@ -633,10 +634,10 @@ Limit = namedtuple("Limit", "vl where ns line")
 
 
 def limits_of(path, net):
-    """The limits of a file, by virtual link and destination."""
+    """The limits of a file, by virtual link and destination. The names of the columns may stand above."""
     limits = {}
     for i, line in enumerate(text_of(path).split("\n"), 1):
-        if not line.strip() or line.startswith("#"):
+        if not line.strip() or line.startswith("#") or line == LIMITS_HEAD and not limits:
             continue
         fields = line.split(",")
         if len(fields) != 3:

@@ -8,22 +8,33 @@ offer of each virtual link, anew and evenly within its period: so frames that ne
 DIR/merged.csv has the tables of all runs together, in the form in which the program prints tables, with one column
 more: the seed that gave the greatest latency of a line, or the most losses. tools/report.py makes a page of it. Counts
 and sums are added and leasts and greatests taken, exactly; so the merged tables do not depend on --jobs.
+DIR/greatest.csv has of the greatest latencies of the runs the least, the mean and the greatest. With --histograms each
+latency is counted (DIR/histograms.csv), and percentiles of the frames of all runs stand in DIR/greatest.csv.
+
+With --each-outage each link and each switch is out in turn, for the whole run or from a moment on. DIR/outages.csv and the
+page DIR/outages.html tell what is then lost end to end, and what becomes late, beside the same runs without it.
+
+With --dask the runs are made by the workers of a Dask cluster, on several machines. What comes of it has the same bytes.
 
 With a file of limits, each run is held against them, and the status is 1 where a run breaks one.
 """
 import argparse
-import concurrent.futures
+import contextlib
 import os
 import random
-import re
 import subprocess
 import sys
-import tempfile
-import threading
 import time
+from collections import Counter
+from fractions import Fraction
+from math import floor
 
 import afdx
+import cluster
+import each_outage
+import runs
 from afdx import CAUSES, GREATEST_SEED, PROGRAM, TABLES_HEAD, Fault, limits_of, text_of, whole, write_whole
+from runs import Failure
 
 EXAMPLES = """
 examples:
@@ -34,6 +45,15 @@ examples:
   campaign.py net.toml --seeds 1 --first 42 --offsets --keep -o worst
         the run of the seed 42 once more, and its description: worst/seed-42.toml, which afdxsim and report.py can be
         given to look at what happened in it
+  campaign.py net.toml --each-outage -o what_if
+        what is lost and what becomes late without each link and each switch: what_if/outages.html
+  campaign.py net.toml --each-outage 50000000 --seeds 5 --keep -o what_if
+        the same with five seeds, and out from 50 ms on. The description and the tables of each run are kept: report.py
+        compares one with those of outage-0, which is none, by --against
+  dask scheduler --host 10.0.0.1; dask worker tcp://10.0.0.1:8786 --nworkers 4 --nthreads 1
+  campaign.py net.toml --seeds 1000 --dask tcp://10.0.0.1:8786 -o campaign
+        on several machines: the first on one of them, the second on each, with four runs side by side. Each needs
+        python3-distributed, and afdxsim on its PATH, or where AFDXSIM says, or where this machine has it
 
 limits.csv, a line for each destination that has a limit: number of the virtual link, name of the destination, and the
 greatest latency in ns that it may have. Lines that are empty or begin with # are passed over.
@@ -48,9 +68,10 @@ status:
      the file and the line, and nothing is written
 """
 
-
-class Failure(Exception):
-    """Why a run failed."""
+GREATEST_HEAD = "vl,where,runs,least_greatest_ns,mean_greatest_ns,greatest_ns,sum_greatest_ns,seed"
+PERCENTS = [50, 95, 99]
+# Of so many outages a line tells what they do.
+MOST_TOLD = 10
 
 
 # ---- the network ----
@@ -104,15 +125,48 @@ class Network(afdx.Network):
 # ---- tables ----
 
 
-def tables_of(net, text):
+def tables_of(net, run, text):
     """The tables that a run printed."""
     lines = text.split("\n")
     if lines.pop() or not lines or lines[0] != TABLES_HEAD:
-        raise Failure("what it printed are no whole tables")
+        raise Failure(f"{run.name}: what it printed are no whole tables")
     try:
         return afdx.Tables("what it printed", net, text)
     except Fault as fault:
-        raise Failure(str(fault)) from None
+        raise Failure(f"{run.name}: {fault}") from None
+
+
+def trace_of(tables, run, text):
+    """The trace that a run wrote."""
+    try:
+        return afdx.Trace("what it traced", tables, text)
+    except Fault as fault:
+        raise Failure(f"{run.name}: {fault}") from None
+
+
+class OverSeeds:
+    """What a virtual link at a destination had in the runs together: of those in which a frame was delivered, how many
+    they were, and the least and the sum of their greatest latencies; and how often there was each latency."""
+
+    def __init__(self):
+        self.runs, self.least, self.total, self.counts = 0, 0, 0, Counter()
+
+    def add(self, greatest):
+        self.least = greatest if self.runs == 0 else min(self.least, greatest)
+        self.runs, self.total = self.runs + 1, self.total + greatest
+
+    def mean(self):
+        """The mean of the greatest latencies, to the nearest ns."""
+        return floor(Fraction(self.total, self.runs) + Fraction(1, 2))
+
+    def percentiles(self):
+        """For each of PERCENTS the least latency that so many percent of the frames do not exceed."""
+        ranks, found, passed = [-(-self.counts.total() * percent // 100) for percent in PERCENTS], [], 0
+        for latency in sorted(self.counts):
+            passed += self.counts[latency]
+            while len(found) < len(ranks) and ranks[len(found)] <= passed:
+                found.append(latency)
+        return found
 
 
 class Merged:
@@ -122,15 +176,19 @@ class Merged:
         self.net = net
         # For each virtual link and destination: count, least, greatest, sum, and the seed of the greatest.
         self.latencies = {}
+        self.over_seeds = {}
         # For each virtual link, place and cause: count, the greatest count of one run, and its seed.
         self.losses = {}
 
-    def add(self, seed, tables):
-        """Adds the tables of the run of a later seed."""
+    def add(self, seed, tables, trace=None):
+        """Adds the tables of the run of a later seed, and its latencies one by one where there is a trace."""
         for key, row in tables.latencies.items():
             mine = self.latencies.setdefault(key, [0, 0, 0, 0, None])
+            over = self.over_seeds.setdefault(key, OverSeeds())
             if row.count == 0:
                 continue
+            over.add(row.greatest)
+            over.counts.update(trace.latencies[key] if trace else ())
             if mine[0] == 0 or row.greatest > mine[2]:
                 mine[2], mine[4] = row.greatest, seed
             mine[1] = row.least if mine[0] == 0 else min(mine[1], row.least)
@@ -142,11 +200,37 @@ class Merged:
             if row.count > mine[1]:
                 mine[1], mine[2] = row.count, seed
 
+    def in_order(self, found):
+        """Virtual links and destinations in the order of the tables."""
+        return sorted(found, key=lambda it: (it[0], self.net.process[it[1]]))
+
+    def greatest_text(self, has_counts):
+        """Of the greatest latencies of the runs the least, the mean and the greatest; and the percentiles of all frames,
+        where each is counted."""
+        percents = [f",percent_{percent}_ns" for percent in PERCENTS] if has_counts else []
+        lines = [GREATEST_HEAD + "".join(percents)]
+        for vl, where in self.in_order(self.over_seeds):
+            over, (_, _, greatest, _, seed) = self.over_seeds[vl, where], self.latencies[vl, where]
+            numbers = [over.runs, over.least, over.mean(), greatest, over.total] if over.runs else [0] * 5
+            numbers += [] if seed is None else [seed]
+            numbers += [""] * (len(GREATEST_HEAD.split(",")) - 2 - len(numbers))
+            numbers += (over.percentiles() or [""] * len(PERCENTS)) if has_counts else []
+            lines.append(f"{vl},{where},{','.join(map(str, numbers))}")
+        return "\n".join(lines) + "\n"
+
+    def histograms_text(self):
+        """How often there was each latency."""
+        lines = ["vl,where,latency_ns,count"]
+        for vl, where in self.in_order(self.over_seeds):
+            counts = self.over_seeds[vl, where].counts
+            lines += (f"{vl},{where},{latency},{counts[latency]}" for latency in sorted(counts))
+        return "\n".join(lines) + "\n"
+
     def text(self):
         """The tables in the order in which the program prints tables, with the seed as the last column."""
         process = self.net.process
         lines = [TABLES_HEAD + ",seed"]
-        for vl, where in sorted(self.latencies, key=lambda it: (it[0], process[it[1]])):
+        for vl, where in self.in_order(self.latencies):
             *numbers, seed = self.latencies[vl, where]
             lines.append(f"latency,{vl},{where},,{','.join(map(str, numbers))},{'' if seed is None else seed}")
         for vl, where, cause in sorted(self.losses, key=lambda it: (it[0], process[it[1]], CAUSES.index(it[2]))):
@@ -160,62 +244,7 @@ class Merged:
         return max(rows, key=lambda row: row[0], default=None)
 
 
-# ---- runs ----
-
-
-class Runs:
-    """The runs of a campaign: the program once for each seed."""
-
-    def __init__(self, net, program, drawn, folder, keep):
-        self.net, self.program, self.drawn, self.folder, self.keep = net, program, drawn, folder, keep
-        self.lock, self.going, self.stopped = threading.Lock(), {}, None
-
-    def one(self, seed):
-        """The tables of the run of a seed, or None where the campaign has ended before it."""
-        path = os.path.join(self.folder, f"seed-{seed}.toml")
-        text = self.net.with_seed(seed, self.drawn)
-        with open(path, "w", encoding="utf-8", newline="\n") as out:
-            out.write(text)
-        with self.lock:
-            if self.is_over(seed):
-                return None
-            try:
-                run = subprocess.Popen(
-                    [self.program, "seq", path],
-                    stdin=subprocess.DEVNULL,
-                    stdout=subprocess.PIPE,
-                    stderr=subprocess.PIPE,
-                )
-            except OSError as fault:
-                raise Failure(f"{self.program} cannot be run: {fault.strerror}") from None
-            self.going[seed] = run
-        printed, said = run.communicate()
-        with self.lock:
-            del self.going[seed]
-            if self.is_over(seed):
-                return None
-        os.unlink(path)
-        if run.returncode != 0:
-            said = said.decode("utf-8", "replace").strip().split("\n")[-1]
-            ended = f"status {run.returncode}" if run.returncode > 0 else f"signal {-run.returncode}"
-            raise Failure(f"{said} ({ended})" if said else ended)
-        printed = printed.decode("utf-8", "replace")
-        tables = tables_of(self.net, printed)
-        if self.keep:
-            write_whole(os.path.join(self.keep, f"seed-{seed}.toml"), text)
-            write_whole(os.path.join(self.keep, f"seed-{seed}.tables.csv"), printed)
-        return tables
-
-    def is_over(self, seed):
-        return self.stopped is not None and seed > self.stopped
-
-    def stop_after(self, seed):
-        """Ends the runs of later seeds, and lets those of earlier ones go on."""
-        with self.lock:
-            self.stopped = seed if self.stopped is None else min(seed, self.stopped)
-            for later, run in self.going.items():
-                if later > seed:
-                    run.kill()
+# ---- what came of the runs ----
 
 
 class Progress:
@@ -248,48 +277,44 @@ class Progress:
 class Campaign:
     """What came of the runs so far, in the order of their seeds."""
 
-    def __init__(self, net, limits, seeds):
-        self.net, self.limits, self.seeds = net, limits, seeds
+    def __init__(self, net, limits, seeds, draws_offsets=False):
+        self.net, self.limits, self.seeds, self.draws_offsets = net, limits, seeds, draws_offsets
         self.merged, self.done, self.failure = Merged(net), 0, None
         # For each limit that is broken: in how many runs.
         self.broken = {}
 
-    def take(self, seed, tables):
+    def runs(self):
+        """The runs that are to be made."""
+        return (runs.Run(f"seed {seed}", self.net.with_seed(seed, self.draws_offsets)) for seed in self.seeds)
+
+    def take(self, run, printed):
+        """Takes what a run printed, and answers its seed."""
+        seed = self.seeds[self.done]
+        tables = tables_of(self.net, run, printed.tables)
+        trace = trace_of(tables, run, printed.trace) if printed.trace is not None else None
         for key, limit in self.limits.items():
             if tables.latencies[key].greatest > limit.ns:
                 self.broken[key] = self.broken.get(key, 0) + 1
-        self.merged.add(seed, tables)
+        self.merged.add(seed, tables, trace)
         self.done += 1
+        return seed
 
-    def run(self, runs, jobs):
-        """Makes the runs and takes their tables seed by seed. The first one in this order that fails ends it."""
+    def run(self, maker, keep):
+        """Has the runs made and takes what they print, seed by seed. The first one in this order that fails ends it. `keep`
+        is told the beginning of the name of each one's files, and its texts."""
         progress = Progress(len(self.seeds))
-        with concurrent.futures.ThreadPoolExecutor(jobs) as pool:
-            waiting, rest = {}, iter(self.seeds)
+        with contextlib.closing(maker.results(self.runs())) as results:
             try:
-                for seed in self.seeds:
-                    while len(waiting) < 2 * jobs and (new := next(rest, None)) is not None:
-                        waiting[new] = pool.submit(self.watched, runs, new)
-                    self.take(seed, waiting.pop(seed).result())
+                for run, printed in results:
+                    seed = self.take(run, printed)
+                    keep(f"seed-{seed}", run.text, printed.tables)
                     progress.tell(self.done, self.merged.worst() if progress.shown else None)
-            except (Failure, Fault, OSError) as failure:
-                self.failure = f"seed {seed}: {failure}"
+            except Failure as failure:
+                self.failure = str(failure)
             except KeyboardInterrupt:
-                self.failure = f"interrupted before the run of the seed {seed} was merged"
-                runs.stop_after(self.seeds[0] - 1)
+                self.failure = f"interrupted before the run of the seed {self.seeds[self.done]} was merged"
             finally:
-                for future in waiting.values():
-                    future.cancel()
                 progress.end()
-
-    @staticmethod
-    def watched(runs, seed):
-        """A run; if it fails, those of later seeds need not go on."""
-        try:
-            return runs.one(seed)
-        except BaseException:
-            runs.stop_after(seed)
-            raise
 
     def tell(self, path, took):
         """Says on standard output what came of it."""
@@ -324,16 +349,29 @@ def words_of(arguments=None):
     )
     add = parser.add_argument
     add("net", metavar="NET", help="the description (TOML)")
-    add("--seeds", type=whole(1, 10**9), metavar="N", required=True, help="how many seeds, so how many runs")
+    add("--seeds", type=whole(1, 10**9), metavar="N", help="how many seeds, so how many runs (with --each-outage: 1)")
+    add(
+        "--each-outage", type=whole(0, afdx.LATEST_NS), nargs="?", const=0, metavar="NS",
+        help="runs each seed with each link and each switch out in turn, from this moment in ns on (default: 0)",
+    )
     add("--first", type=whole(0, GREATEST_SEED), metavar="SEED", help="the first seed (default: that of NET)")
     jobs = len(os.sched_getaffinity(0)) if hasattr(os, "sched_getaffinity") else os.cpu_count() or 1
     add("--jobs", type=whole(1, 1024), default=jobs, metavar="N", help=f"runs side by side (default here: {jobs})")
     add("--offsets", action="store_true", help="draw the offset of each virtual link within its period, for each run")
     add("--limits", metavar="FILE", help="limits of latencies, lines VL,NAME,NS")
+    add("--histograms", action="store_true", help="count each latency: DIR/histograms.csv, percentiles in DIR/greatest.csv")
+    address, says = cluster.address, "the workers of the Dask cluster with this scheduler make the runs: tcp://HOST:PORT"
+    add("--dask", type=address, metavar="ADDRESS", help=says)
     add("--keep", action="store_true", help="keep the description and the tables of each run in DIR too")
     add("--program", default=PROGRAM, metavar="PATH", help="the program (default: crates/afdxsim/out/afdxsim)")
     add("-o", "--output", metavar="DIR", required=True, help="the folder for what comes of it; it is made if need be")
-    return parser.parse_args(arguments)
+    words = parser.parse_args(arguments)
+    if words.seeds is None and words.each_outage is None:
+        parser.error("how many seeds? --seeds N")
+    if words.histograms and words.each_outage is not None:
+        parser.error("--histograms counts the latencies of runs over seeds, and not with --each-outage")
+    words.seeds = words.seeds or 1
+    return words
 
 
 def prepare(words):
@@ -353,23 +391,85 @@ def prepare(words):
     return net, limits, range(first, first + words.seeds)
 
 
+def maker_of(words, is_traced):
+    """Who makes the runs: this machine, or a cluster."""
+    if words.dask:
+        return cluster.Cluster(words.dask, words.program, is_traced)
+    return runs.Here(words.program, words.jobs, is_traced)
+
+
+def write_results(folder, merged, has_counts):
+    """Writes what came of the runs, and answers the path of the merged tables."""
+    path = os.path.join(folder, "merged.csv")
+    write_whole(path, merged.text())
+    write_whole(os.path.join(folder, "greatest.csv"), merged.greatest_text(has_counts))
+    if has_counts:
+        write_whole(os.path.join(folder, "histograms.csv"), merged.histograms_text())
+    return path
+
+
+def over_seeds(words, net, limits, seeds):
+    """Runs all seeds, and answers the status."""
+    begin, path = time.monotonic(), None
+    campaign = Campaign(net, limits, seeds, words.offsets)
+    campaign.run(maker_of(words, words.histograms), keeper(words))
+    if campaign.done:
+        path = write_results(words.output, campaign.merged, words.histograms)
+    campaign.tell(path, time.monotonic() - begin)
+    return 1 if campaign.failure or campaign.broken else 0
+
+
+def over_outages(words, net, limits, seeds):
+    """Runs all seeds with each link and each switch out in turn, and answers the status."""
+    begin = time.monotonic()
+    found = each_outage.EachOutage(net, limits, seeds, words.offsets, words.each_outage)
+    found.run(maker_of(words, True), keeper(words), Progress(found.count()), (tables_of, trace_of))
+    if found.failure:
+        print(f"campaign.py: {found.failure}", file=sys.stderr)
+    if not found.courses:
+        print("no run without an outage was made, and nothing is written")
+        return 1
+    table, page = (os.path.join(words.output, name) for name in ("outages.csv", "outages.html"))
+    write_whole(table, found.table())
+    write_whole(page, each_outage.page(found, words.net))
+    summaries = found.summaries()
+    print(f"{table} and {page}: {len(summaries)} outages, {found.done} runs, in {time.monotonic() - begin:.1f} s")
+    for it in summaries[:MOST_TOLD]:
+        print(f"{it.name()}: {it.in_words()}")
+    broken = sum(bool(it.broken) for it in summaries)
+    if limits:
+        print(f"limits: {len(limits)}; outages that break one which is else kept: {broken}")
+    return 1 if found.failure or broken else 0
+
+
+def keeper(words):
+    """What keeps the description and the tables of a run, if they are to be kept."""
+
+    def keep(name, text, tables):
+        if words.keep:
+            write_whole(os.path.join(words.output, f"{name}.toml"), text)
+            write_whole(os.path.join(words.output, f"{name}.tables.csv"), tables)
+
+    return keep
+
+
 def main(arguments=None):
     words = words_of(arguments)
-    begin = time.monotonic()
-    path = os.path.join(words.output, "merged.csv")
     try:
-        net, limits, seeds = prepare(words)
-        campaign = Campaign(net, limits, seeds)
-        with tempfile.TemporaryDirectory() as folder:
-            runs = Runs(net, words.program, words.offsets, folder, words.output if words.keep else None)
-            campaign.run(runs, words.jobs)
-        if campaign.done:
-            write_whole(path, campaign.merged.text())
+        if words.dask and not cluster.is_here():
+            return by_another(sys.argv[1:] if arguments is None else arguments)
+        return (over_seeds if words.each_outage is None else over_outages)(words, *prepare(words))
     except Fault as fault:
         print(f"campaign.py: {fault}", file=sys.stderr)
         return 2
-    campaign.tell(path, time.monotonic() - begin)
-    return 1 if campaign.failure or campaign.broken else 0
+
+
+def by_another(arguments):
+    """The status of this campaign by the interpreter that has Dask."""
+    command = [cluster.interpreter(), os.path.abspath(__file__), *arguments]
+    with contextlib.suppress(KeyboardInterrupt):
+        return subprocess.run(command).returncode
+    return 1
 
 
 if __name__ == "__main__":

@@ -28,6 +28,8 @@ STAND_IN = """#!{python}
 import os, signal, sys, time, tomllib
 sys.path.insert(0, {tools!r})
 from second_opinion import Simulation
+if sys.argv[1] == "--version":
+    sys.exit(print("stand-in 1"))
 with open(sys.argv[2], "rb") as file:
     net = tomllib.load(file)
 seed = net["seed"]
@@ -36,6 +38,9 @@ if sys.argv[1] == "check":
 {lines}
 simulation = Simulation(net)
 simulation.run()
+if sys.argv[3:]:
+    with open(sys.argv[4], "w") as out:
+        print(*simulation.trace(), sep="\\n", file=out)
 print("\\n".join(simulation.tables()))
 """
 
@@ -102,6 +107,10 @@ class Here(unittest.TestCase):
             out.write(text)
         return path
 
+    def stand_in(self, lines=""):
+        self.program = self.file("afdxsim", STAND_IN.format(python=sys.executable, tools=HERE, lines=lines))
+        os.chmod(self.program, 0o755)
+
     def call(self, *words):
         """The status of campaign.py with these words, and what it says on standard output and on error output."""
         out, said = io.StringIO(), io.StringIO()
@@ -129,7 +138,7 @@ class WithTheProgram(Here):
         for jobs in ("1", "4"):
             self.assertEqual(self.call(COCKPIT, "--seeds", "5", "--jobs", jobs)[0], 0)
             self.assertEqual(read(self.merged), expected)
-            self.assertEqual(os.listdir(self.output), ["merged.csv"])
+            self.assertEqual(sorted(os.listdir(self.output)), ["greatest.csv", "merged.csv"])
         net = report.Network(COCKPIT)
         self.assertTrue(report.Tables(self.merged, net).merged)
 
@@ -173,10 +182,6 @@ class WithTheProgram(Here):
 
 
 class WithAStandIn(Here):
-    def stand_in(self, lines=""):
-        self.program = self.file("afdxsim", STAND_IN.format(python=sys.executable, tools=HERE, lines=lines))
-        os.chmod(self.program, 0o755)
-
     def test_limits(self):
         self.stand_in()
         runs = [(seed, rows_of(COCKPIT, seed)) for seed in range(7, 11)]
@@ -256,12 +261,28 @@ class WithAStandIn(Here):
         self.assertEqual(read(self.merged), "earlier")
 
     def test_an_interrupt(self):
-        """What was merged before it is kept."""
-        began = os.path.join(self.folder, "began")
+        """What was merged before it is kept. Where the tests were started without interrupts, as in the background of a
+        shell, the campaign of the test has them all the same."""
+        for number, outside in enumerate((signal.default_int_handler, signal.SIG_IGN)):
+            with self.subTest(outside):
+                self.interrupt(os.path.join(self.folder, f"began-{number}"), outside)
+
+    def interrupt(self, began, outside):
+        """Interrupts a campaign once a run has begun that writes a file."""
         self.stand_in(f"if seed == 44:\n    open({began!r}, 'w').close()\n    time.sleep(100)")
         command = [sys.executable, os.path.join(HERE, "campaign.py"), N1, "--seeds", "9", "--jobs", "1"]
         command += ["--program", self.program, "-o", self.output]
-        run = subprocess.Popen(command, stdout=subprocess.PIPE, stderr=subprocess.PIPE, text=True)
+        before = signal.signal(signal.SIGINT, outside)
+        try:
+            run = subprocess.Popen(
+                command,
+                stdout=subprocess.PIPE,
+                stderr=subprocess.PIPE,
+                text=True,
+                preexec_fn=lambda: signal.signal(signal.SIGINT, signal.SIG_DFL),
+            )
+        finally:
+            signal.signal(signal.SIGINT, before)
         begin = time.monotonic()
         while not os.path.exists(began) and time.monotonic() < begin + 30:
             time.sleep(0.05)
@@ -272,6 +293,44 @@ class WithAStandIn(Here):
         self.assertEqual(said, "campaign.py: interrupted before the run of the seed 44 was merged\n")
         self.assertIn("2 runs merged, seeds 42 to 43, in", out)
         self.assertIn("latency,1,ES2,,2,27720,27720,55440,42\n", read(self.merged))
+
+    def test_greatest_latencies_over_seeds_and_percentiles(self):
+        """From the notes of the plain simulator: of each run's greatest latency the least, the mean and the greatest; and
+        each latency of all runs, with the nearest rank of each percentage. A run that delivers nothing there is none."""
+        self.stand_in()
+        runs = [(seed, rows_of(COCKPIT, seed)) for seed in range(7, 12)]
+        lines, counts = [], ["vl,where,latency_ns,count"]
+        for vl, where in runs[0][1][1]:
+            found = [(seed, [v[3] for v in rows if v[:3] == (vl, where, "delivered")]) for seed, (rows, _, _) in runs]
+            greatest = {seed: max(values) for seed, values in found if values}
+            values = sorted(value for _, each in found for value in each)
+            total, number = sum(greatest.values()), len(greatest)
+            worst = max(greatest, key=lambda seed: (greatest[seed], -seed))
+            ranks = [next(v for i, v in enumerate(values, 1) if i * 100 >= percent * len(values)) for percent in (50, 95, 99)]
+            numbers = [number, min(greatest.values()), (2 * total + number) // (2 * number), greatest[worst], total, worst]
+            lines.append(",".join(map(str, [vl, where, *numbers, *ranks])))
+            counts += [f"{vl},{where},{value},{values.count(value)}" for value in sorted(set(values))]
+        head = "vl,where,runs,least_greatest_ns,mean_greatest_ns,greatest_ns,sum_greatest_ns,seed"
+        for jobs in ("1", "3"):
+            self.assertEqual(self.call(COCKPIT, "--seeds", "5", "--jobs", jobs, "--histograms")[0], 0)
+            told = read(os.path.join(self.output, "greatest.csv")).splitlines()
+            self.assertEqual(told, [head + ",percent_50_ns,percent_95_ns,percent_99_ns", *lines])
+            self.assertEqual(read(os.path.join(self.output, "histograms.csv")).splitlines(), counts)
+        self.assertEqual(read(self.merged), merged_by_hand(runs))
+        # Without --histograms no latency is counted by itself.
+        self.output = os.path.join(self.folder, "plain")
+        self.assertEqual(self.call(COCKPIT, "--seeds", "5")[0], 0)
+        self.assertEqual(sorted(os.listdir(self.output)), ["greatest.csv", "merged.csv"])
+        told = read(os.path.join(self.output, "greatest.csv")).splitlines()
+        self.assertEqual(told, [head, *(line.rsplit(",", 3)[0] for line in lines)])
+
+    def test_a_destination_without_frames_over_seeds(self):
+        self.stand_in()
+        net = self.file("net.toml", read(N1).replace("offset_ns = 0", "offset_ns = 2000001"))
+        self.assertEqual(self.call(net, "--seeds", "2", "--histograms")[0], 0)
+        told = read(os.path.join(self.output, "greatest.csv")).splitlines()
+        self.assertEqual(told[1:], ["1,ES2,0,0,0,0,0,,,,"])
+        self.assertEqual(read(os.path.join(self.output, "histograms.csv")), "vl,where,latency_ns,count\n")
 
     def test_jobs_are_side_by_side(self):
         """As many as asked, and no more: each run tells by a file when it begins and ends."""

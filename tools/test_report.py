@@ -1,7 +1,9 @@
 """Tests of report.py. Those that read a page back need headless Chromium, as Debian's package `chromium` has it."""
 import contextlib
 import io
+import json
 import os
+import random
 import re
 import resource
 import shutil
@@ -10,6 +12,8 @@ import sys
 import tempfile
 import tomllib
 import unittest
+import zlib
+from collections import Counter
 from fractions import Fraction
 from html.parser import HTMLParser
 
@@ -17,11 +21,12 @@ HERE = os.path.dirname(os.path.abspath(__file__))
 sys.path.insert(0, HERE)
 
 import afdx  # noqa: E402
+import campaign  # noqa: E402
 import report  # noqa: E402
 from second_opinion import Simulation  # noqa: E402
 
 EXAMPLES = os.path.join(HERE, "..", "examples")
-NAMES = ["cockpit", "saturated_port", "failing_link", "n1", "n2", "n3"]
+LARGE = ["--end-systems", "123", "--virtual-links", "984", "--until", "20000000"]
 
 
 def example(name):
@@ -34,19 +39,133 @@ def read(path):
         return file.read()
 
 
-def simulated(net, folder):
-    """The notes of a network's run by the plain simulator, as (time, where, vl, what, value), and the paths of its
-    tables and its trace, which are written to the folder."""
-    with open(net, "rb") as file:
-        simulation = Simulation(tomllib.load(file))
+class Followed(Simulation):
+    """The plain simulator, which follows each frame: when it was released, where it was delivered, and which of its
+    copies were lost where. A frame is known by its virtual link, and when it was offered and released."""
+
+    def __init__(self, net):
+        self.released, self.came, self.died, self.line = {}, Counter(), [], None
+        super().__init__(net)
+
+    def release(self, t, vl, q, frame):
+        out = super().release(t, vl, q, frame)
+        self.released.setdefault(vl, []).append((out[3], out[4]))
+        return out
+
+    def put(self, t, p, q, frame, high):
+        self.line = self.names[self.out[p, q]]
+        super().put(t, p, q, frame, high)
+        self.line = None
+
+    def lose(self, time, place, frame, cause):
+        side = frame[5] if len(frame) > 5 else None
+        self.died.append((frame[0], (frame[3], frame[4]), side, self.line or self.names[place], cause))
+        super().lose(time, place, frame, cause)
+
+    def note(self, time, place, vl, what, value):
+        if what == "delivered":
+            self.came[vl, self.names[place], time - value] += 1
+        super().note(time, place, vl, what, value)
+
+    def ends(self, net):
+        """For each virtual link and destination what was offered, is under way, is missing, by the frames alone; and
+        how many copies were lost on each network."""
+        found = {}
+        for vl in net.vls.values():
+            refused = sum(frame[0] == vl.id and frame[4] == "queue_full" for frame in self.died)
+            released, offered = self.released.get(vl.id, []), len(net.offers(vl))
+            for where in vl.sinks:
+                paths = {side: path for side in "AB" for path in vl.paths[side] if path[-1] == where}
+                dead = {side: set() for side in paths}
+                for number, frame, side, place, cause in self.died:
+                    lost = paths.get(side) if number == vl.id and cause not in ("queue_full", "duplicate") else None
+                    if lost and (place in lost or place in report.afdx.lines_of_path(lost)):
+                        dead[side].add(frame)
+                came = [self.came[vl.id, where, moment] > 0 for moment, _ in released]
+                last = max((i for i, did in enumerate(came) if did), default=-1)
+                missing = sum(
+                    not did and (i < last or all(frame in found for found in dead.values()))
+                    for i, (did, frame) in enumerate(zip(came, released))
+                )
+                under_way = released and len(released) - sum(came) - missing or 0
+                waiting = offered - refused - len(released)
+                lost = {side: len(frames) for side, frames in dead.items()}
+                found[vl.id, where] = (offered, under_way + waiting, missing + refused, lost)
+        return found
+
+
+def simulated(net, folder, name=""):
+    """A network's run by the plain simulator: its notes as (time, where, vl, what, value), and the paths of its tables
+    and its trace, which are written to the folder. The network is a path, or what it has as a dictionary."""
+    if type(net) is not dict:
+        with open(net, "rb") as file:
+            net = tomllib.load(file)
+    simulation = Followed(net)
     simulation.run()
     rows = [(time, simulation.names[place], *rest) for time, place, *rest in simulation.rows]
-    tables, trace = os.path.join(folder, "tables.csv"), os.path.join(folder, "trace.csv")
-    for path, lines in ((tables, simulation.tables()), (trace, (",".join(map(str, row)) for row in rows))):
+    tables, trace = os.path.join(folder, name + "tables.csv"), os.path.join(folder, name + "trace.csv")
+    for path, lines in ((tables, simulation.tables()), (trace, simulation.trace())):
         with open(path, "w", encoding="ascii") as out:
-            out.write("time_ns,where,vl,what,value\n" if path == trace else "")
             out.writelines(line + "\n" for line in lines)
-    return rows, tables, trace
+    return rows, tables, trace, simulation
+
+
+def large_network(path, *words, outages=""):
+    """Writes a description by tools/large_network.py, with further rows."""
+    command = [sys.executable, os.path.join(HERE, "large_network.py"), *words]
+    made = subprocess.run(command, stdout=subprocess.PIPE, stderr=subprocess.DEVNULL, text=True, check=True).stdout
+    with open(path, "w", encoding="utf-8") as out:
+        out.write(made.replace("[[vl]]", outages + "[[vl]]", 1))
+    return path
+
+
+OUTAGE = '[[outage]]\nfrom = "{}"\nto = "{}"\nfrom_ns = {}\nto_ns = {}\n'
+
+
+def trial(path):
+    """A network of 30 virtual links on both networks, with one outage on A, of a line that many of them use."""
+    words = ["--end-systems", "16", "--switches", "2", "--virtual-links", "30", "--until", "300000000", "--seed", "3"]
+    return large_network(path, *words, outages=OUTAGE.format("A1", "A2", 50_000_000, 150_000_000))
+
+
+def drawn_network(seed):
+    """The text of a small network in which much goes wrong: outages, small ports, slow lines, too many offers, short
+    skews, sub-virtual links."""
+    draw = random.Random(seed)
+    nodes = [f'{{ name = "E{i}", kind = "es", port_bytes = {draw.choice([1518, 4000])} }}' for i in range(5)]
+    links = []
+    for side in draw.choice(["A", "AB", "AB"]):
+        for i in "12":
+            net = f'net = "{side}", latency_ns = {draw.choice([1000, 16000])}'
+            nodes.append(f'{{ name = "{side}{i}", kind = "switch", port_bytes = {draw.choice([1518, 9000])}, {net} }}')
+        links += [(f"{side}1", f"{side}2")] + [(f"E{i}", f"{side}{i % 2 + 1}") for i in range(5)]
+    sides = sorted({name[0] for pair in links for name in pair} - {"E"})
+    text = [f"until_ns = {draw.choice([2, 5, 9]) * 10**6}", f"seed = {seed}", "node = [", ",\n".join(nodes), "]"]
+    for a, b in links:
+        mbit, propagation = draw.choice([10, 100, 100]), draw.choice([50, 100, 20_000])
+        text.append(f'[[link]]\na = "{a}"\nb = "{b}"\nmbit = {mbit}\npropagation_ns = {propagation}')
+    for a, b in draw.sample(links, draw.choice([0, 1, 3])):
+        begin = draw.randrange(10**7)
+        text.append(OUTAGE.format(*draw.sample([a, b], 2), begin, begin + draw.randrange(1, 10**6)))
+    for number in range(draw.choice([2, 6])):
+        source, *sinks = draw.sample(range(5), draw.choice([2, 2, 4]))
+        paths = {side: [way(side, source, sink) for sink in sinks if draw.random() < 0.9] for side in sides}
+        paths = paths if any(paths.values()) else {side: [way(side, source, sink) for sink in sinks] for side in sides}
+        bag = draw.choice([1, 1, 2])
+        text.append(
+            f"[[vl]]\nid = {number}\nbag_ms = {bag}\nsmax = 700\npriority = \"{draw.choice(['high', 'low'])}\"\n"
+            f"policing_jitter_ns = {draw.choice([0, 500_000])}\nskew_max_ns = {draw.choice([0, 40_000, 900_000])}\n"
+            f"depth = {draw.choice([1, 3])}\nsub = {draw.choice([1, 1, 3])}\nsize = {draw.choice([64, 600, 700])}\n"
+            f"offset_ns = {draw.choice([0, 40_000])}\nperiod_ns = {draw.choice([100_000, bag * 10**6])}\n"
+            f"jitter_ns = {draw.choice([0, 1, 300_000])}\n" + "".join(
+                f"{side.lower()} = {json.dumps(paths.get(side, []))}\n" for side in "AB")
+        )
+    return "\n".join(text) + "\n"
+
+
+def way(side, source, sink):
+    switches = [f"{side}{source % 2 + 1}", f"{side}{sink % 2 + 1}"]
+    return [f"E{source}", *dict.fromkeys(switches), f"E{sink}"]
 
 
 def make(*words):
@@ -58,41 +177,56 @@ def make(*words):
 
 
 class Page(HTMLParser):
-    """What a page has: the rows of each table as texts, the tiles, the lines of the drawing, and all elements."""
+    """What a page has in the browser: the rows of each table as texts and as marks of their cells, the tiles and their
+    marks, the lines of the drawing and those that are lit, and all elements."""
 
     def __init__(self, text):
         super().__init__()
-        self.tables, self.heads, self.tiles, self.loads, self.labels = {}, {}, {}, {}, {}
-        self.words, self.elements, self.texts = {}, [], []
-        self.table, self.cell, self.tile, self.line, self.open = None, None, None, None, []
+        self.tables, self.heads, self.marks = {}, {}, {}
+        self.tiles, self.tile_marks, self.loads, self.labels, self.lit = {}, {}, {}, {}, set()
+        self.words, self.elements, self.texts, self.data = {}, [], [], None
+        self.table, self.cell, self.tile, self.line, self.open, self.hidden = None, None, None, None, [], None
         self.feed(text)
 
     def handle_starttag(self, tag, found):
         found = dict(found)
         self.elements.append((tag, found))
-        self.open.append(tag)
+        if tag not in ("meta", "link", "input", "br"):
+            self.open.append(tag)
+        if self.hidden is None and found.get("aria-hidden") == "true":
+            self.hidden = len(self.open)
+        if self.hidden is not None:
+            return
+        kind = (found.get("class") or "").split()
         if tag == "html":
             self.words = found
         elif tag == "table":
             self.table = found["id"]
-            self.tables[self.table], self.heads[self.table] = [], []
+            self.tables[self.table], self.heads[self.table], self.marks[self.table] = [], [], []
         elif tag == "tr" and self.table:
             self.tables[self.table].append([])
+            self.marks[self.table].append([])
         elif tag in ("td", "th"):
             self.tables[self.table][-1].append("")
+            self.marks[self.table][-1].append(next((it for it in kind if it in ("good", "warn", "bad")), ""))
             self.cell = tag
             if tag == "th":
-                self.heads[self.table].append([found.get("class") == "n", ""])
+                self.heads[self.table].append(["n" in kind, ""])
+        elif tag == "span" and self.cell and set(kind) & {"warn", "bad"}:
+            self.marks[self.table][-1][-1] = kind[0]
         elif "data-name" in found:
             self.tile = found["data-name"]
-            self.tiles[self.tile] = []
+            self.tiles[self.tile], self.tile_marks[self.tile] = [], " ".join(kind[1:])
         elif "data-line" in found:
             self.line = found["data-line"]
             self.loads[self.line], self.labels[self.line] = found["data-load"], []
+            self.lit |= {self.line} if "on" in kind else set()
 
     def handle_endtag(self, tag):
         while self.open and self.open.pop() != tag:
             pass
+        if self.hidden is not None and len(self.open) < self.hidden:
+            self.hidden = None
         if tag in ("td", "th", "tr", "table"):
             self.cell = None
         if tag == "table":
@@ -102,7 +236,9 @@ class Page(HTMLParser):
 
     def handle_data(self, text):
         inside = self.open[-1] if self.open else ""
-        if inside in ("script", "style"):
+        if inside == "script" and text.startswith("{"):
+            self.data = json.loads(text)
+        if inside in ("script", "style") or self.hidden is not None:
             return
         self.texts.append(text)
         if self.cell:
@@ -119,8 +255,19 @@ class Page(HTMLParser):
         """The rows of a table, without its head."""
         return [[cell.strip() for cell in row] for row in self.tables[table][1:]]
 
+    def columns(self, table):
+        """The rows of a table by the names of its columns; where two have one name, the last of them."""
+        names = [name.removesuffix(unit) for name, (_, unit) in zip(self.tables[table][0], self.heads[table])]
+        return [dict(zip(names, row)) for row in self.rows(table)]
 
-UNFOLD = 'document.querySelectorAll(".fold>label").forEach(label => label.click());'
+    def marked(self, table):
+        """The same for the marks of the cells."""
+        names = [name.removesuffix(unit) for name, (_, unit) in zip(self.tables[table][0], self.heads[table])]
+        return [dict(zip(names, row)) for row in self.marks[table][1:]]
+
+
+# All rows are asked for, and drawn as for a printer.
+UNFOLD = 'document.querySelectorAll("button.all").forEach(it => it.click()); dispatchEvent(new Event("beforeprint"));'
 
 
 class Browser:
@@ -131,20 +278,35 @@ class Browser:
         if not self.program:
             raise AssertionError("there is no Chromium: apt-get update && apt-get install -y chromium")
         self.folder = folder
+        self.command = [self.program, "--headless", "--no-sandbox", "--disable-gpu", "--disable-dev-shm-usage"]
+        self.command += ["--user-data-dir=" + os.path.join(self.folder, "profile")]
 
-    def open(self, path, script):
-        """The page as the browser has it once it is loaded and a script has run, with the processor seconds it took."""
+    def open(self, path, script, address=""):
+        """The page as the browser has it once it is loaded, at an address of it, and a script has run, with the processor
+        seconds it took."""
         tried = os.path.join(self.folder, "tried.html")
         with open(tried, "w", encoding="utf-8") as out:
             out.write(read(path) + f'<script>addEventListener("load", () => {{{script}}})</script>')
-        command = [self.program, "--headless", "--no-sandbox", "--disable-gpu", "--disable-dev-shm-usage"]
-        command += ["--user-data-dir=" + os.path.join(self.folder, "profile"), "--dump-dom", "file://" + tried]
+        command = [*self.command, "--dump-dom", "file://" + tried + address]
         before = resource.getrusage(resource.RUSAGE_CHILDREN)
         run = subprocess.run(command, capture_output=True, timeout=300, check=True)
         after = resource.getrusage(resource.RUSAGE_CHILDREN)
         page = Page(run.stdout.decode("utf-8"))
         page.seconds = after.ru_utime - before.ru_utime + after.ru_stime - before.ru_stime
         return page
+
+    def printed(self, path, script):
+        """What is drawn on each sheet, if the page is printed once a script has run."""
+        tried, sheets = os.path.join(self.folder, "tried.html"), os.path.join(self.folder, "sheets.pdf")
+        with open(tried, "w", encoding="utf-8") as out:
+            out.write(read(path) + f'<script>addEventListener("load", () => {{{script}}})</script>')
+        command = [*self.command, "--print-to-pdf=" + sheets, "file://" + tried]
+        subprocess.run(command, capture_output=True, timeout=300, check=True)
+        with open(sheets, "rb") as file:
+            objects = dict(re.findall(rb"\n(\d+) 0 obj\s(.*?)\sendobj", file.read(), re.DOTALL))
+        found = [it for it in objects.values() if re.search(rb"/Type /Page\b(?!s)", it)]
+        found = [objects[re.search(rb"/Contents (\d+) 0 R", it)[1]] for it in found]
+        return [zlib.decompress(it.partition(b"stream")[2].lstrip(b"\r\n")) for it in found]
 
 
 def ns_of(text):
@@ -186,8 +348,9 @@ class InTheBrowser(unittest.TestCase):
     def made(self, net, tables, *words):
         self.assertEqual(make(net, tables, *words, "-o", self.page), (0, ""))
 
-    def compare(self, page, net, tables, rows):
-        """Compares a page, all of whose tables are unfolded, with the description, the tables and a run's notes."""
+    def compare(self, page, net, tables, rows, ends):
+        """Compares a page, all of whose tables are unfolded, with the description, the tables, a run's notes, and what
+        became of its frames."""
         latencies, losses = {}, {}
         for line in read(tables).splitlines()[1:]:
             table, vl, where, cause, count, *numbers = line.split(",")
@@ -197,7 +360,7 @@ class InTheBrowser(unittest.TestCase):
                 losses[int(vl), where, cause] = int(count)
         self.compare_latencies(page, net, latencies, losses)
         lost = {key: count for key, count in losses.items() if key[2] != "duplicate"}
-        found = {(int(row[0]), row[1], row[2]): number_of(row[3]) for row in page.rows("lost")} if lost else {}
+        found = {(int(row[0]), row[1], row[3]): number_of(row[4]) for row in page.rows("lost")} if lost else {}
         self.assertEqual(found, lost)
         if lost:
             causes = [name.removesuffix("frames") for name in page.tables["heat"][0][1:-1]]
@@ -208,14 +371,34 @@ class InTheBrowser(unittest.TestCase):
             for (_, where, cause), count in lost.items():
                 by_place[where, cause] = by_place.get((where, cause), 0) + count
             self.assertEqual(found, by_place)
-        self.assertEqual(page.tiles["lost"][0].split()[0], f"{sum(lost.values()):,}")
+        self.assertEqual(page.tiles["copies lost"][0].split()[0], f"{sum(lost.values()):,}")
         self.assertEqual(page.tiles["delivered"][0].split()[0], f"{sum(row[0] for row in latencies.values()):,}")
         value, unit = page.tiles["greatest latency"][0].split()
         worst = Fraction(value.replace(",", "")) * {"ns": 1, "µs": 10**3, "ms": 10**6, "s": 10**9}[unit]
         self.assertEqual(worst, max(row[2] for row in latencies.values()))
         self.compare_loads(page, net)
-        if rows:
-            self.compare_trace(page, rows)
+        self.compare_ends(page, ends, latencies)
+        self.compare_trace(page, rows)
+
+    def compare_ends(self, page, ends, latencies):
+        """What became of the frames, where the page leaves nothing open."""
+        for row, marks in zip(page.columns("end-to-end"), page.marked("end-to-end")):
+            offered, under_way, missing, lost = ends[int(row["VL"]), row["destination"]]
+            told = [number_of(row[name]) for name in ("offered", "under way", "missing")]
+            self.assertEqual(told, [offered, under_way, missing])
+            self.assertEqual({side: number_of(row["lost on " + side]) for side in lost}, lost)
+            self.assertEqual([row["lost on " + side] for side in "AB" if side not in lost], ["–"] * (2 - len(lost)))
+            self.assertEqual(marks["missing"], "bad" if missing else "")
+            self.assertEqual(marks["delivered"], "warn" if number_of(row["delivered"]) < 10 else "")
+        self.assertEqual(len(page.rows("end-to-end")), len(ends))
+        missing = sum(missing for _, _, missing, _ in ends.values())
+        self.assertEqual(page.tiles["lost end to end"][0].split()[0], f"{missing:,}")
+        few = sum(row[0] < 10 for row in latencies.values())
+        self.assertEqual("fewer than ten frames" in page.tiles, few > 0)
+        if few:
+            self.assertEqual(page.tiles["fewer than ten frames"][0], f"at {few:,} of {len(latencies):,}")
+            none = sum(row[0] == 0 for row in latencies.values())
+            self.assertEqual(f"nothing came at {none:,}" in page.tiles["fewer than ten frames"][1], none > 0)
 
     def compare_latencies(self, page, net, latencies, losses):
         vls = {vl["id"]: vl for vl in net["vl"]}
@@ -263,16 +446,16 @@ class InTheBrowser(unittest.TestCase):
         self.assertEqual(drawn, {"lost": lost, "copies": copies})
 
     def test_each_example(self):
-        for name in NAMES:
+        for name in sorted(name.removesuffix(".toml") for name in os.listdir(EXAMPLES) if name.endswith(".toml")):
             with self.subTest(name):
                 path, tables = example(name)
-                rows, made, trace = simulated(path, self.folder)
+                rows, made, trace, run = simulated(path, self.folder)
                 self.assertEqual(read(made), read(tables))
                 self.made(path, tables, "--trace", trace)
                 with open(path, "rb") as file:
                     net = tomllib.load(file)
                 page = self.browser.open(self.page, UNFOLD)
-                self.compare(page, net, tables, rows)
+                self.compare(page, net, tables, rows, run.ends(report.Network(path)))
                 self.each_number_has_its_unit(page)
 
     def each_number_has_its_unit(self, page):
@@ -283,55 +466,337 @@ class InTheBrowser(unittest.TestCase):
         for texts in page.labels.values():
             self.assertTrue(all(text.endswith(" %") for text in texts))
         units = r"-?[\d,.]+ (%|ns|µs|ms|s|frames?)"
-        for value in (page.tiles[name][0] for name in page.tiles if name != "outages"):
+        for value in (page.tiles[name][0] for name in page.tiles if name not in ("outages", "fewer than ten frames")):
             self.assertRegex(value, f"^{units}$")
 
     def test_a_network_of_123_end_systems(self):
-        path = os.path.join(self.folder, "large.toml")
-        words = ["--end-systems", "123", "--virtual-links", "984", "--until", "20000000"]
-        with open(path, "wb") as out:
-            command = [sys.executable, os.path.join(HERE, "large_network.py"), *words]
-            subprocess.run(command, stdout=out, stderr=subprocess.DEVNULL, check=True)
-        rows, tables, trace = simulated(path, self.folder)
-        self.made(path, tables, "--trace", trace)
+        """It opens within three seconds, shows ten rows, and all of them within half a second; so long takes a sort."""
+        path = large_network(os.path.join(self.folder, "large.toml"), *LARGE)
+        rows, tables, trace, run = simulated(path, self.folder)
+        net = report.Network(path)
+        limits, bounds = self.limits_and_bounds(net, tables)
+        self.made(path, tables, "--trace", trace, "--limits", limits, "--bounds", bounds)
         told = """
-            const told = document.documentElement.dataset;
-            const rows = Array.from(document.querySelectorAll("#latencies tbody tr"));
-            told.shown = rows.filter(row => row.offsetHeight > 0).length;
+            const told = document.documentElement.dataset, place = document.getElementById("grid-latencies");
+            const body = () => place.querySelectorAll("tbody")[1], box = place.querySelector(".box");
+            const shown = () => Array.from(body().rows).filter(row => row.offsetHeight > 0).length;
+            told.shown = shown();
+            const acts = [place.querySelector(".all"), ...place.querySelectorAll("th button")];
+            acts.forEach(it => { it.click(); document.body.offsetHeight; });
+            told.acts = acts.length;
+            told.drawn = shown();
+            // Far below, other rows are drawn; and no column has moved.
+            const wide = () => Array.from(place.querySelectorAll("th"), it => it.getBoundingClientRect().width).join();
+            const before = wide(), first = body().rows[0].textContent;
+            box.scrollTop = 100000;
+            box.dispatchEvent(new Event("scroll"));
+            told.moved = first !== body().rows[0].textContent;
+            told.still = before === wide();
+            told.below = shown();
+            told.high = box.scrollHeight / body().rows[1].offsetHeight;
         """
-        page = self.browser.open(self.page, told)
-        self.assertEqual(page.words["data-shown"], "10")
-        # It opens within two seconds. A busy machine makes clocks useless, so what counts is processor time: that of all
-        # processes of the browser, less what they need for a page with nothing on it.
+        worked = self.browser.open(self.page, told)
+        count, words = len(net.destinations), worked.words
+        self.assertEqual(words["data-shown"], "10")
+        self.assertLess(max(int(words["data-drawn"]), int(words["data-below"])), 150)
+        self.assertEqual([words["data-moved"], words["data-still"]], ["true", "true"])
+        self.assertAlmostEqual(float(words["data-high"]), count, delta=count / 20)
+        # A busy machine makes clocks useless, so what counts is processor time: that of all processes of the browser,
+        # less what they need for a page with nothing on it, or for the same page alone.
         with open(os.path.join(self.folder, "empty.html"), "w", encoding="utf-8") as out:
             out.write("<!DOCTYPE html><title>empty</title>")
-        empty = self.browser.open(out.name, "")
-        self.assertLess(page.seconds - empty.seconds, 2)
+        page, empty = self.browser.open(self.page, ""), self.browser.open(out.name, "")
+        self.assertLess(page.seconds - empty.seconds, 3)
+        self.assertLess((worked.seconds - page.seconds) / int(words["data-acts"]), 0.5)
         with open(path, "rb") as file:
-            net = tomllib.load(file)
-        page = self.browser.open(self.page, UNFOLD + told)
-        self.assertEqual(int(page.words["data-shown"]), len(page.rows("latencies")))
-        self.compare(page, net, tables, rows)
+            found = tomllib.load(file)
+        page = self.browser.open(self.page, UNFOLD)
+        self.assertEqual(len(page.rows("latencies")), count)
+        self.compare_large(page, found, tables, rows, run.ends(net))
+
+    def compare_large(self, page, net, tables, rows, ends):
+        """A run of 20 ms brings nothing to many destinations, and that is not told as good."""
+        few = page.tiles["fewer than ten frames"]
+        none = sum(line.split(",")[4] == "0" for line in read(tables).splitlines() if line.startswith("latency"))
+        self.assertGreater(none, 100)
+        self.assertIn(f"nothing came at {none:,}", few[1])
+        # One frame is policed on both networks.
+        self.assertEqual(page.tiles["lost end to end"][0], "1 frame")
+        self.assertEqual(sum(missing for _, _, missing, _ in ends.values()), 1)
+        # Each virtual link offers ten frames in ten times its period; so it says how long the run must be.
+        longest = max(max(vl["bag_ms"] * 10**6, vl["period_ns"]) * 9 + vl["offset_ns"] for vl in net["vl"])
+        needed = int(re.search(r"until_ns = ([\d_]+)", few[1])[1].replace("_", ""))
+        self.assertLess(longest, needed)
+        self.assertLess(needed, longest * 1.2)
+        self.compare_loads(page, net)
+        self.compare_trace(page, rows)
+        for row in page.columns("end-to-end"):
+            told = [number_of(row[name]) for name in ("offered", "under way", "missing")]
+            self.assertEqual(told, list(ends[int(row["VL"]), row["destination"]][:3]))
+
+    def limits_and_bounds(self, net, tables):
+        """A limit and a bound for each destination that has got something: some limits are below the bound."""
+        limits, bounds = os.path.join(self.folder, "limits.csv"), os.path.join(self.folder, "bounds.csv")
+        found = report.Tables(tables, net).latencies
+        with open(limits, "w", encoding="ascii") as out:
+            out.write("vl,destination,limit_ns\n")
+            out.writelines(f"{vl},{where},{5 * row.greatest}\n" for (vl, where), row in found.items() if row.count)
+        with open(bounds, "w", encoding="ascii") as out:
+            out.write(report.BOUNDS_HEAD + "\n")
+            out.writelines(f"{vl},{where},{(vl % 9 + 1) * 10**6},0,,,\n" for vl, where in found)
+        return limits, bounds
 
     def test_a_click_sorts(self):
         """Also a table that is folded: then the first ten of the whole are shown."""
         path, tables = example("cockpit")
         self.made(path, tables)
-        click = 'document.querySelectorAll("#latencies th")[%d].querySelector("div").click();'
-        shown = """document.querySelectorAll("#latencies tbody tr").forEach(
-            row => { if (row.offsetHeight > 0) row.cells[1].textContent += " is shown" });"""
-        for script, at, kind, down in (
-            (click % 4, 4, ns_of, True),
-            (click % 4 * 2, 4, ns_of, False),
-            (click % 1, 1, lambda name: name.removesuffix(" is shown"), False),
-            (click % 10, 10, number_of, True),
-        ):
+        # The range has no button.
+        clicks = [([3], 4, ns_of, True), ([3, 3], 4, ns_of, False), ([1], 1, str, False), ([9], 10, number_of, True)]
+        script = """
+            const grid = grids.find(it => it.name === "latencies"), told = [];
+            const texts = at => Array.from(grid.body.rows, row => row.cells[at].textContent);
+            for (const [buttons, at] of %s) {
+              for (const it of buttons) grid.table.querySelectorAll("th button")[it].click();
+              const few = texts(at);
+              grid.button.click();
+              told.push([few, texts(at)]);
+              grid.button.click();
+              grid.sortBy(0, false);
+            }
+            document.documentElement.dataset.told = JSON.stringify(told);
+        """
+        page = self.browser.open(self.page, script % json.dumps([it[:2] for it in clicks]))
+        for (buttons, at, kind, down), texts in zip(clicks, json.loads(page.words["data-told"])):
             with self.subTest(column=at, down=down):
-                page = self.browser.open(self.page, script + shown)
-                values = [kind(row[at]) for row in page.rows("latencies")]
-                self.assertEqual(values, sorted(values, reverse=down))
-                is_shown = [row[1].endswith(" is shown") for row in page.rows("latencies")]
-                self.assertEqual(is_shown, [True] * 10 + [False] * 14)
+                few, whole = ([kind(text) for text in found] for found in texts)
+                self.assertEqual(whole, sorted(whole, reverse=down))
+                self.assertEqual((len(whole), few), (24, whole[:10]))
+
+    def test_the_network_of_a_trial(self):
+        """Thirty virtual links on both networks, and an outage on A: copies are lost, and no frame is."""
+        path = trial(os.path.join(self.folder, "trial.toml"))
+        rows, tables, trace, run = simulated(path, self.folder)
+        net = report.Network(path)
+        ends = run.ends(net)
+        self.assertEqual(sum(missing for _, _, missing, _ in ends.values()), 0)
+        lost = sum(what not in ("delivered", "duplicate") for _, _, _, what, _ in rows)
+        self.assertGreater(lost, 100)
+        for words in ([], ["--trace", trace]):
+            self.made(path, tables, *words)
+            page = Page(read(self.page))
+            self.assertEqual(page.tiles["lost end to end"][0], "0 frames")
+            self.assertEqual(page.tiles["copies lost"][0], f"{lost} frames")
+            names = ("vl", "where", "offered", "under_way", "missing", "lostA", "lostB")
+            told = zip(*(page.data["ends"][name] for name in names))
+            self.assertEqual({row[:2]: row[2:] for row in told}, {
+                key: (*counts, dead.get("A"), dead.get("B")) for key, (*counts, dead) in ends.items()
+            })
+        page = self.browser.open(self.page, UNFOLD)
+        for row in page.columns("end-to-end"):
+            offered, under_way, missing, dead = ends[int(row["VL"]), row["destination"]]
+            told = [number_of(row[name]) for name in ("offered", "under way", "missing")]
+            self.assertEqual(told, [offered, under_way, missing])
+            self.assertEqual([number_of(row["lost on " + side]) for side in dead], list(dead.values()))
+
+    def test_limits_bounds_and_margins(self):
+        path, tables = example("cockpit")
+        greatest = {key: row.greatest for key, row in report.Tables(tables, report.Network(path)).latencies.items()}
+        limits, bounds = os.path.join(self.folder, "limits.csv"), os.path.join(self.folder, "bounds.csv")
+        given = {(101, "FMC1"): 140170, (101, "DU_R"): 169759, (102, "DU_L"): 300000, (201, "DU_R"): 10**9}
+        with open(limits, "w", encoding="ascii") as out:
+            out.writelines(f"{vl},{where},{ns}\n" for (vl, where), ns in given.items())
+        found = dict.fromkeys(greatest, 10**8) | {(101, "FMC1"): 140170, (102, "DU_L"): 300001, (201, "DU_R"): None}
+        with open(bounds, "w", encoding="ascii") as out:
+            out.write(report.BOUNDS_HEAD + "\n")
+            out.writelines(f"{vl},{where},{'none' if ns is None else ns},0,,,\n" for (vl, where), ns in found.items())
+            out.write(",FMC1>SWA1,,,16385,16384,\n,SWA1>FMC1,,,5000,65536,\n")
+        told = {
+            (101, "FMC1"): ("140.170", "140.170", "0.000", ""),
+            (101, "DU_R"): ("169.759", "100,000.000", "-99,830.241", "bad"),
+            (102, "DU_L"): ("300.000", "300.001", "-0.001", "warn"),
+            (201, "DU_R"): ("1,000,000.000", "–", "–", "warn"),
+        }
+        self.made(path, tables, "--limits", limits, "--bounds", bounds)
+        page = self.browser.open(self.page, UNFOLD + 'location.hash = "vl-101"; choose();')
+        for row, marks in zip(page.columns("latencies"), page.marked("latencies")):
+            key = int(row["VL"]), row["destination"]
+            limit, bound, margin, mark = told.get(key, ("–", "100,000.000", "–", ""))
+            self.assertEqual((row["limit"], row["bound"], row["margin"]), (limit, bound, margin))
+            self.assertEqual((marks["limit"], marks["margin"]), (mark, mark))
+        drawn = Counter(found.get("class") for tag, found in page.elements if tag == "rect")
+        self.assertEqual((drawn["limit"], drawn["bound"]), (len(given), len(greatest) - 1))
+        self.assertEqual(page.tiles["limits kept"], ["3 of 4", "1 broken, 2 below the bound"])
+        self.assertEqual(page.tile_marks["limits kept"], "bad")
+        own = {row["destination"]: (row["limit"], row["margin"]) for row in page.columns("vl-ends")}
+        self.assertEqual((own["FMC1"], own["DU_R"]), (("140.170", "0.000"), ("169.759", "-99,830.241")))
+        waiting = {row["line"]: (row["may wait"], row["port holds"]) for row in page.columns("loads")}
+        self.assertEqual(waiting["FMC1>SWA1"], ("16,385", "16,384"))
+        marks = {row[0]: mark["may wait"] for row, mark in zip(page.rows("loads"), page.marked("loads"))}
+        self.assertEqual((marks["FMC1>SWA1"], marks["SWA1>FMC1"]), ("warn", ""))
+        self.assertIn("computed outside the proofs", "".join(page.texts))
+
+    def test_limits_alone(self):
+        """Without bounds the margin is to the greatest latency; where nothing came no limit is kept."""
+        path, tables = example("n3")
+        net = report.Network(path)
+        key, row = next(iter(report.Tables(tables, net).latencies.items()))
+        limits = os.path.join(self.folder, "limits.csv")
+        with open(limits, "w", encoding="ascii") as out:
+            out.write(f"# one\n\n{key[0]},{key[1]},{row.greatest + 5}\n")
+        self.made(path, tables, "--limits", limits)
+        page = self.browser.open(self.page, UNFOLD)
+        margins = {(int(it["VL"]), it["destination"]): it["margin"] for it in page.columns("latencies")}
+        self.assertEqual(margins, {other: "–" for other in margins} | {key: "0.005"})
+        self.assertEqual(page.tiles["limits kept"], ["1 of 1", "none is broken"])
+
+    def test_one_virtual_link(self):
+        """Its way is lit, hop by hop with loads; which virtual links use a line; and the search."""
+        path, tables = example("cockpit")
+        rows, _, trace, _ = simulated(path, self.folder)
+        self.made(path, tables, "--trace", trace)
+        with open(path, "rb") as file:
+            net = tomllib.load(file)
+        vl = next(vl for vl in net["vl"] if vl["id"] == 101)
+        lines = {">".join(line) for way in vl["a"] + vl["b"] for line in zip(way, way[1:])}
+        page = self.browser.open(self.page, "", "#vl-101")
+        self.assertEqual(page.lit, lines)
+        told = [self.fact(page, name) for name in ("policing", "depth", "sub-virtual links")]
+        self.assertEqual(told, ["by bytes, jitter 500 µs", f"{vl['depth']} frames", None])
+        hops = page.columns("vl-hops")
+        self.assertEqual(sorted(row["line"] for row in hops), sorted(lines))
+        loads = loads_of(net)
+        for row in hops:
+            line = row["line"]
+            users = [vl for vl in net["vl"] if any(line in ">".join(way) for way in vl["a"] + vl["b"])]
+            paths = [way for way in vl["a"] + vl["b"] if line in ">".join(way)]
+            hop = paths[0].index(line.split(">")[0]) + 1
+            self.assertEqual((row["network"], row["hop"]), ("A" if paths[0] in vl["a"] else "B", str(hop)))
+            self.assertEqual(row["load"], f"{(loads[line] * 100 + Fraction(1, 2)).__floor__() / 100:.2f}")
+            self.assertEqual(int(row["virtual links"]), len(users))
+            own = Fraction((vl["size"] + 20) * 8 * 100, max(vl["bag_ms"] * 10**6, vl["period_ns"])) * 10
+            self.assertLess(abs(Fraction(row["of this"]) - own), Fraction(6, 1000))
+        self.assertEqual(
+            [(row["destination"], row["99th"]) for row in page.columns("vl-ends")],
+            [(row["destination"], row["99th"]) for row in self.in_order(page, 101)],
+        )
+        line = "SWA1>DU_C"
+        script = "const told = document.documentElement.dataset;"
+        for name, text in (("fwc", "FWC"), ("twenty", "20")):
+            script += f'find.value = "{text}"; search();'
+            script += f'told.{name} = Array.from(list.querySelectorAll("b"), it => it.textContent);'
+        script += 'find.value = "nobody"; search(); told.nobody = list.textContent.trim();'
+        # By keys alone: down to the first that is found, and back; and Enter goes there.
+        script += 'const press = (it, key) => it.dispatchEvent(new KeyboardEvent("keydown", {key, bubbles: true}));'
+        script += 'find.value = "FWC"; search(); press(find, "ArrowDown"); told.focus = document.activeElement.hash;'
+        script += 'press(document.activeElement, "ArrowUp"); told.back = document.activeElement.id;'
+        script += 'const was = location.hash; press(find, "Enter"); told.hash = location.hash; location.hash = was;'
+        page = self.browser.open(self.page, script, "#line-SWA1%3EDU_C")
+        self.assertEqual(page.lit, {line})
+        users = [vl["id"] for vl in net["vl"] if any(line in ">".join(way) for way in vl["a"] + vl["b"])]
+        self.assertEqual(sorted(int(row["VL"]) for row in page.columns("line-vls")), users)
+        shares = [Fraction(row["takes"]) for row in page.columns("line-vls")]
+        self.assertEqual(shares, sorted(shares, reverse=True))
+        begin = [vl["id"] for vl in net["vl"] if (vl["a"] + vl["b"])[0][0] == "FWC"]
+        end = [vl["id"] for vl in net["vl"] if any(way[-1] == "FWC" for way in vl["a"] + vl["b"])]
+        self.assertEqual(page.words["data-fwc"], ",".join(map(str, begin + end)))
+        twenty = [str(vl["id"]) for vl in net["vl"] if str(vl["id"]).startswith("20")]
+        self.assertEqual(page.words["data-twenty"], ",".join(twenty))
+        self.assertEqual(page.words["data-nobody"], "0 virtual links")
+        first = f"#vl-{begin[0]}"
+        told = [page.words["data-" + name] for name in ("focus", "back", "hash")]
+        self.assertEqual(told, [first, "find", first])
+
+    def test_what_a_virtual_link_is(self):
+        """Sub-virtual links and policing are told where a virtual link has them."""
+        path, tables = example("n1")
+        net = os.path.join(self.folder, "keys.toml")
+        with open(net, "w", encoding="utf-8") as out:
+            out.write(read(path) + 'sub = 3\npolicing = "frames"\n')
+        self.made(net, tables)
+        page = self.browser.open(self.page, "", "#vl-1")
+        self.assertEqual(self.fact(page, "policing"), "by frames, jitter 0 ns")
+        self.assertEqual(self.fact(page, "sub-virtual links"), "3")
+
+    @staticmethod
+    def fact(page, name):
+        """What stands behind a name."""
+        texts = [text for text in page.texts if text.strip()]
+        return dict(zip(texts, texts[1:])).get(name)
+
+    @staticmethod
+    def in_order(page, vl):
+        """What the data of a page has of the percentiles of a virtual link."""
+        ends = page.data["ends"]
+        for i, number in enumerate(ends["vl"]):
+            if number == vl:
+                greatest = ends["p99"][i]
+                yield {"destination": ends["where"][i], "99th": f"{greatest // 1000:,}.{greatest % 1000:03d}"}
+
+    def test_few_frames_are_drawn_one_by_one(self):
+        path, tables = example("failing_link")
+        rows, _, trace, _ = simulated(path, self.folder)
+        self.made(path, tables, "--trace", trace)
+        page = self.browser.open(self.page, UNFOLD)
+        drawn = sum(tag == "circle" and found.get("class") == "frame" for tag, found in page.elements)
+        self.assertEqual(drawn, sum(what == "delivered" for _, _, _, what, _ in rows))
+        self.assertNotIn("bars", {found.get("class") for tag, found in page.elements if tag == "path"})
+
+    def test_against_another_run(self):
+        """With an outage and without: what became slower, faster, lost, and by how much."""
+        path, tables = example("failing_link")
+        with open(path, "rb") as file:
+            net = tomllib.load(file)
+        sound = simulated(net | {"outage": []}, self.folder, "sound-")[1]
+        before, after = (report.Tables(it, report.Network(path)).latencies for it in (sound, tables))
+        change = {key: after[key].greatest - before[key].greatest for key in after}
+        fewer = {key: before[key].count - after[key].count for key in after}
+        for words, change, fewer in (
+            ((tables, sound), change, fewer),
+            ((sound, tables), {key: -it for key, it in change.items()}, {key: -it for key, it in fewer.items()}),
+        ):
+            self.made(path, words[0], "--against", words[1])
+            page = self.browser.open(self.page, UNFOLD)
+            for name, column, found, kind in (
+                ("slower", "slower by", change, ns_of),
+                ("faster", "faster by", {key: -it for key, it in change.items()}, ns_of),
+                ("more-lost", "more missing", fewer, number_of),
+                ("fewer-lost", "fewer missing", {key: -it for key, it in fewer.items()}, number_of),
+            ):
+                found = {key: it for key, it in found.items() if it > 0}
+                rows = page.columns(name) if found else []
+                self.assertEqual(name in page.tables, bool(found))
+                self.assertEqual({(int(row["VL"]), row["destination"]): kind(row[column]) for row in rows}, found)
+                values = [kind(row[column]) for row in rows]
+                self.assertEqual(values, sorted(values, reverse=True))
+
+    def test_against_a_run_of_another_network(self):
+        """What the networks share is compared, and what one of them has alone is named."""
+        path, tables = example("failing_link")
+        with open(path, "rb") as file:
+            net = tomllib.load(file)
+        other = os.path.join(self.folder, "other.toml")
+        with open(other, "w", encoding="utf-8") as out:
+            out.write(re.sub(r"(?s)\[\[vl\]\]\nid = 3\n.*", "", read(path)))
+        before = simulated(net | {"vl": [vl for vl in net["vl"] if vl["id"] != 3]}, self.folder, "other-")[1]
+        status, said = make(path, tables, "--against", before, "-o", self.page)
+        self.assertEqual(status, 2)
+        self.assertIn("the file ends without the latencies of virtual link 3 at FCC", said)
+        self.made(path, tables, "--against", before, "--against-net", other)
+        page = self.browser.open(self.page, UNFOLD)
+        told = "".join(page.texts)
+        self.assertIn("1 destination of one run alone: virtual link 3 at FCC.", told)
+        self.assertEqual({"slower", "faster", "more-lost", "fewer-lost"} & set(page.tables), set())
+        self.assertIn("Slower: the greatest latency grew (0)", told)
+
+    def test_a_printed_page(self):
+        """The drawing is on page 1, and the rows that are asked for come behind it."""
+        path, tables = example("cockpit")
+        self.made(path, tables)
+        short, whole = self.browser.printed(self.page, ""), self.browser.printed(self.page, UNFOLD)
+        strokes = [len(re.findall(rb"(?<![\w/])S(?!\w)", content)) for content in short]
+        self.assertGreaterEqual(strokes[0], len(report.Network(path).mbit))
+        self.assertLess(max(strokes[1:]), strokes[0])
+        self.assertGreater(len(whole), len(short))
 
     def test_names_are_escaped(self):
         name = "<img src=x onerror=document.title=1>&'\""
@@ -343,8 +808,9 @@ class InTheBrowser(unittest.TestCase):
                 quoted = name.replace('"', '\\"') if source == path else name
                 out.write(read(source).replace("ES2", quoted))
         self.made(net, tables)
-        page = self.browser.open(self.page, UNFOLD)
+        page = self.browser.open(self.page, UNFOLD + 'location.hash = "vl-1"; choose(); find.value = "img"; search();')
         self.assertEqual([row[1] for row in page.rows("latencies")], [name])
+        self.assertEqual([row[0] for row in page.rows("vl-ends")], [name])
         self.assertNotIn("img", {tag for tag, _ in page.elements})
         self.assertIn("SW1>" + name, page.loads)
         self.assertIn("<b>net&.toml", page.texts)
@@ -382,7 +848,6 @@ class WithoutABrowser(unittest.TestCase):
         self.assertEqual(report.percentile([7], 50), 7)
 
     def test_numbers_as_text(self):
-        self.assertEqual([report.us(ns) for ns in (0, 999, 14787657)], ["0.000", "0.999", "14,787.657"])
         self.assertEqual(
             [report.span(ns) for ns in (0, 999, 1000, 123456789, 10**9, 10**12 - 1)],
             ["0 ns", "999 ns", "1 µs", "123.456789 ms", "1 s", "999.999999999 s"],
@@ -390,6 +855,122 @@ class WithoutABrowser(unittest.TestCase):
         self.assertEqual(
             [report.two_places(Fraction(it)) for it in ("0.005", "0.0049", "128.54")], ["0.01", "0.00", "128.54"]
         )
+
+    def test_ends_of_drawn_networks(self):
+        """What is said of each destination holds of the frames that a run followed; with the trace little is open."""
+        open_counts, kinds = {True: 0, False: 0}, Counter()
+        for seed in range(60):
+            text = drawn_network(seed)
+            net = report.Network(self.file("net.toml", text))
+            _, tables, trace, run = simulated(tomllib.loads(text), self.folder)
+            tables = report.Tables(tables, net)
+            for trace in (None, report.Trace(trace, tables)):
+                found = report.Ends(tables, [seed], trace=trace).of
+                for key, (offered, under_way, missing, lost) in run.ends(net).items():
+                    with self.subTest(seed=seed, key=key, trace=bool(trace)):
+                        end = found[key]
+                        self.assertEqual(end.offered, offered)
+                        told = [(end.missing, missing), (end.under_way, under_way)]
+                        told += [(end.lost[side], count) for side, count in lost.items()]
+                        for (least, most), count in told:
+                            self.assertLessEqual(least, count)
+                            self.assertLessEqual(count, most)
+                        again = sum(max(0, run.came[(*key, moment)] - 1) for moment, _ in run.released.get(key[0], []))
+                        self.assertLessEqual(end.again.least, again)
+                        self.assertLessEqual(again, end.again.most)
+                        open_counts[bool(trace)] += end.missing.least < end.missing.most
+                        kinds["all"] += 1
+                        kinds.update(name for name, count in (("missing", missing), ("under way", under_way)) if count)
+                        kinds["again"] += again > 0
+        self.assertLess(open_counts[True], open_counts[False])
+        self.assertLess(open_counts[True], kinds["all"] / 10)
+        self.assertGreater(min(kinds.values()), 10)
+
+    def test_ends_of_merged_tables(self):
+        """Those of several seeds, with drawn offsets too, once it is told which seeds they are."""
+        path, _ = example("cockpit")
+        with open(path, "rb") as file:
+            net = tomllib.load(file)
+        for words, draws in (([], False), (["--offsets"], True)):
+            merged, offered, missing = {}, Counter(), Counter()
+            for seed in range(11, 14):
+                draw = random.Random(seed).random
+                vls = [vl | {"offset_ns": int(draw() * vl["period_ns"])} if draws else vl for vl in net["vl"]]
+                _, tables, _, run = simulated(net | {"seed": seed, "vl": vls}, self.folder)
+                for line in read(tables).splitlines()[1:]:
+                    *key, count, least, greatest, total = line.split(",")
+                    row = merged.setdefault(tuple(key), [0, 10**18, 0, 0])
+                    row[0] += int(count)
+                    if least and int(count):
+                        row[1:] = [min(row[1], int(least)), max(row[2], int(greatest)), row[3] + int(total)]
+                for vl in run.vls:
+                    number = len(run.released.get(vl, [])) + sum(map(len, run.regulators[vl]["waiting"]))
+                    offered[vl] += number + sum(it[0] == vl and it[4] == "queue_full" for it in run.died)
+            lines = [report.afdx.TABLES_HEAD + ",seed"]
+            for key, (count, *times) in merged.items():
+                times = ["", "", ""] if key[0] == "dropped" else times if count else [0, 0, 0]
+                lines.append(",".join(map(str, (*key, count, *times, 11 if count else ""))))
+            tables = self.file("merged.csv", "\n".join(lines) + "\n")
+            self.assertEqual(make(path, tables, "-o", self.page), (0, ""))
+            self.assertEqual(Page(read(self.page)).tiles["lost end to end"][0], "not known")
+            words = ["--seeds", "3", "--first", "11", *words]
+            self.assertEqual(make(path, tables, *words, "-o", self.page), (0, ""))
+            page = Page(read(self.page))
+            ends = page.data["ends"]
+            self.assertEqual(ends["offered"], [offered[vl] for vl in ends["vl"]])
+            self.assertEqual(page.tiles["lost end to end"][0], "0 frames")
+
+    def test_drawn_offsets_are_those_of_a_campaign(self):
+        path, _ = example("cockpit")
+        drawn = tomllib.loads(campaign.Network(path, "true").with_seed(7, True))["vl"]
+        self.assertEqual({vl["id"]: vl["offset_ns"] for vl in drawn}, report.drawn_offsets(report.Network(path), 7))
+
+    def test_a_run_that_is_too_short_is_not_good(self):
+        """Nothing is lost, and nothing came: that is told as no good sign."""
+        path, _ = example("cockpit")
+        net = self.file("short.toml", re.sub("until_ns = [0-9_]+", "until_ns = 30_000", read(path)))
+        _, tables, _, _ = simulated(net, self.folder)
+        self.assertEqual(make(net, tables, "-o", self.page), (0, ""))
+        page = Page(read(self.page))
+        self.assertEqual((page.tiles["lost end to end"][0], page.tile_marks["lost end to end"]), ("0 frames", "warn"))
+        self.assertIn("nothing came at 2", page.tiles["fewer than ten frames"][1])
+        self.assertEqual(page.tiles["fewer than ten frames"][0], "at 24 of 24")
+
+    def test_tables_of_another_run(self):
+        """Tables that cannot be of the offers that a description gives are refused."""
+        path, tables = example("n2")
+        text = read(tables)
+        more = text.replace("latency,1,ES2,,1,27720,27720,27720", "latency,1,ES2,,3,27720,27720,83160")
+        self.assertNotEqual(text, more)
+        bad = self.file("bad.csv", more)
+        status, said = make(path, bad, "-o", self.page)
+        self.assertEqual(status, 2)
+        self.assertIn(f"report.py: {bad} line 2: 1 frame of virtual link 1 would be sent to ES2, and the tables", said)
+        bad = self.file("bad.csv", text + "dropped,1,ES1,queue_full,2,,,\n")
+        told = "0 frames of virtual link 1 would be lost as queue_full, and the tables have 2"
+        other = f"; so they are tables of another run than that of {path}"
+        line = len(text.splitlines()) + 1
+        self.assertEqual(make(path, bad, "-o", self.page), (2, f"report.py: {bad} line {line}: {told}{other}\n"))
+
+    def test_bad_limits_and_bounds(self):
+        path, tables = example("n1")
+        head = report.BOUNDS_HEAD
+        for word, text, said in (
+            ("--limits", "1,ES2\n", "line 1: has 2 fields in place of 3: VL,NAME,NS"),
+            ("--limits", "1,ES2,x\n", "line 1: the limit is 'x', and no whole number"),
+            ("--limits", "1,ES1,5\n", f"line 1: 'ES1' is no destination of virtual link 1 in {path}"),
+            ("--limits", "vl,destination,limit_ns\n1,ES2,5\n1,ES2,6\n", "line 3: says again what line 2 says"),
+            ("--bounds", "vl\n", "line 1: the columns are not those of bounds: " + head),
+            ("--bounds", head + "\n", f"line 1: the file ends without the bound of virtual link 1 at ES2"),
+            ("--bounds", head + "\n1,ES2,5\n", "line 2: has 3 fields in place of 7"),
+            ("--bounds", head + "\n1,ES2,many,0,,,\n", "line 2: bound_ns is 'many', and no whole number"),
+            ("--bounds", head + "\n1,ES3,5,0,,,\n", f"line 2: 'ES3' is no destination of virtual link 1 in {path}"),
+            ("--bounds", head + "\n,ES2>ES1,,,0,0,\n", f"line 2: 'ES2>ES1' is no line in {path}"),
+            ("--bounds", head + "\n1,ES2,5,0,,,\n1,ES2,5,0,,,\n", "line 3: says again what line 2 says"),
+        ):
+            with self.subTest(said):
+                bad = self.file("bad.csv", text)
+                self.assertEqual(make(path, tables, word, bad, "-o", self.page), (2, f"report.py: {bad} {said}\n"))
 
     def test_the_page_stands_alone(self):
         path, tables = example("failing_link")
@@ -401,11 +982,10 @@ class WithoutABrowser(unittest.TestCase):
     def test_outages_are_drawn_and_told(self):
         path, tables = example("failing_link")
         make(path, tables, "-o", self.page)
-        page = Page(read(self.page))
-        self.assertEqual(
-            page.rows("outages"),
-            [["FCC>SWA", "20.000000", "40.000000", "20.000000"], ["FCC>SWA", "60.000000", "61.000000", "1.000000"]],
-        )
+        (outages,) = (grid["rows"] for grid in Page(read(self.page)).data["grids"] if grid["name"] == "outages")
+        moments = {"from": [20, 60], "to": [40, 61], "for": [20, 1]}
+        told = {name: [ms * 10**6 for ms in found] for name, found in moments.items()}
+        self.assertEqual(outages, told | {"line": ["FCC>SWA"] * 2})
         drawing = re.search(r'<svg id="drawing".*?</svg>', read(self.page))[0]
         marked = [
             re.search('data-line="(.*?)"', part)[1]
@@ -419,12 +999,11 @@ class WithoutABrowser(unittest.TestCase):
         lines = read(tables).splitlines()
         merged = "\n".join([lines[0] + ",seed"] + [f"{line},{40 + i}" for i, line in enumerate(lines[1:])]) + "\n"
         self.assertEqual(make(path, self.file("merged.csv", merged), "-o", self.page), (0, ""))
-        page = Page(read(self.page))
-        self.assertEqual(
-            [(row[0], row[1], row[12]) for row in page.rows("latencies")],
-            [("2", "ACT", "41"), ("1", "ACT", "40"), ("3", "FCC", "42")],
-        )
-        self.assertEqual([row[4] for row in page.rows("lost")], ["45", "47", "43", "46"])
+        data = Page(read(self.page)).data
+        told = list(zip(*(data["ends"][name] for name in ("vl", "where", "seed"))))
+        self.assertEqual(told, [(1, "ACT", 40), (2, "ACT", 41), (3, "FCC", 42)])
+        (lost,) = (grid["rows"] for grid in data["grids"] if grid["name"] == "lost")
+        self.assertEqual(lost["seed"], [43, 45, 46, 47])
 
     def test_switches_that_share_no_end_systems_are_drawn_too(self):
         """Each line of a network is drawn once, whatever its wiring."""
@@ -494,7 +1073,7 @@ class WithoutABrowser(unittest.TestCase):
 
     def test_bad_traces(self):
         path, tables = example("failing_link")
-        _, _, trace = simulated(path, self.folder)
+        _, _, trace, _ = simulated(path, self.folder)
         good = read(trace)
         lines = good.splitlines(True)
         count, other = len(lines), f"so it is the trace of another run than {tables}"
@@ -594,7 +1173,9 @@ class WithoutABrowser(unittest.TestCase):
             [sys.executable, os.path.join(HERE, "report.py"), "--help"], capture_output=True, text=True
         )
         self.assertEqual((run.returncode, run.stderr), (0, ""))
-        for word in ("--trace", "-o", "examples:", "status:", "percentile"):
+        words = ("--trace", "--limits", "--bounds", "--against", "--seeds", "-o", "examples:", "status:", "percentile")
+        words += ("vl,destination,limit_ns", "a bound of this model, computed outside the proofs")
+        for word in words:
             self.assertIn(word, run.stdout)
         run = subprocess.run([sys.executable, os.path.join(HERE, "report.py"), "one"], capture_output=True)
         self.assertEqual(run.returncode, 2)

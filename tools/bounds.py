@@ -1,0 +1,519 @@
+#!/usr/bin/env python3
+"""Computes worst-case bounds of a network as CSV: of the latency of each virtual link at each destination, and of the
+bytes that wait at each output port.
+
+A bound of this model, computed outside the proofs. It is worked out from the description by network calculus, in whole
+numbers, with the rules of docs/TRAFFIC.md; no proof speaks of it, and it says nothing of real equipment. Tests hold it
+against runs: no latency of a run may be above its bound. Such a case is a defect of one of the two.
+
+A bound holds for all offsets, seeds and lengths of a run, with the outages that NET has; other outages need bounds of
+their own. It covers the time from the offer of a frame to its whole arrival at the destination, for each frame that is
+delivered, by whichever network. That is the wait in the regulator (wait_ns), and the longest way from the release on.
+What is used of the offers is their size alone, and for wait_ns their period and jitter: from its release on, a virtual
+link may send a frame in each BAG.
+"""
+import argparse
+import heapq
+import os
+import sys
+from bisect import bisect_left
+from collections import namedtuple
+
+HERE = os.path.dirname(os.path.abspath(__file__))
+sys.path.insert(0, HERE)
+
+import afdx  # noqa: E402
+import explain  # noqa: E402
+
+EXAMPLES = """
+examples:
+  bounds.py net.toml > bounds.csv
+        all bounds of a network; report.py --bounds bounds.csv shows them beside the latencies of a run
+
+columns:
+  vl,where     a virtual link and a destination; or no virtual link, and the line before which an output port is
+  bound_ns     the greatest latency that a frame may have there, in ns, or none
+  wait_ns      how much of it is the wait in the regulator, in ns
+  waiting_bytes  the greatest sum of the sizes of the frames that wait at the output port, in bytes, or none
+  port_bytes   how many may wait there, in bytes. Where this is less, frames may be lost
+  why          why there is no bound
+
+There is no bound (none)
+  where a line of the way may be given more than it can send: the frames that come to it are allowed more by their BAGs.
+    A line that is only given too much at low priority has bounds for high priority;
+  where bursts grow round a circle of lines, each of which delays what the next one is given;
+  where a virtual link has no frame that arrives: its frames are longer than its smax.
+
+A virtual link with both networks has the lesser of the two bounds only where no copy can be lost on that network and no
+copy of the other can come so late that it is taken for a new frame (skew_max_ns); else the greater.
+
+status:
+  0  the bounds are written, also where there are none
+  2  a word is wrong, a file cannot be read or written, or `afdxsim` would refuse NET: one line on error output says why
+"""
+
+HEAD = "vl,where,bound_ns,wait_ns,waiting_bytes,port_bytes,why"
+
+# Each BAG divides the longest one. So in units of a byte by this many parts a rate is whole, and a line's speed too.
+PARTS = 128 * 10**6
+
+# How many bytes of a frame's time on the line are behind its last bit.
+GAP_BYTES = 12
+
+# What a receiver can tell apart: a number up to 126 steps behind is one that was delivered before.
+MOST_STEPS = 126
+
+# How often a port is looked at before the bursts that come to it are said to grow without end.
+MOST_ROUNDS = 1000
+
+
+# ---- what can come ----
+
+# The frames that can come in any time of t ns, in parts of a byte: `at + slope * t` where t is at most `last`, and later
+# the next piece. A list of pieces is concave: slopes fall.
+Piece = namedtuple("Piece", "last at slope")
+
+# Frames that come to a port by one line, or straight from a regulator (then `speed` is None): the greatest of them, all
+# that can come at once or None where it is not known, and how much comes in each ns, in parts of a byte.
+Group = namedtuple("Group", "speed greatest burst rate")
+
+
+def curve(groups):
+    """What can come by all groups together. What comes by a line in t ns, from one last bit to another, is at most one
+    frame and what the line sends in t ns."""
+    at, slope, knees = 0, 0, []
+    for group in groups:
+        if group.speed is None:
+            at, slope = at + group.burst, slope + group.rate
+            continue
+        at, slope = at + group.greatest, slope + group.speed
+        if group.burst is not None and group.rate < group.speed:
+            more, less = group.burst - group.greatest, group.speed - group.rate
+            knees.append((more // less, more, less))
+    pieces = []
+    for last, more, less in sorted(knees):
+        pieces.append(Piece(last, at, slope))
+        at, slope = at + more, slope - less
+    return pieces + [Piece(None, at, slope)]
+
+
+def peak(pieces, speed, first=0):
+    """The greatest excess, over all whole t from `first` on, of what can come over what a port has sent that sends
+    `speed` in each ns. None where it has no end."""
+    if pieces[-1].slope > speed:
+        return None
+    found, begin = 0, first
+    for last, at, slope in pieces:
+        if last is not None and last < begin:
+            continue
+        found = max(found, at + (slope - speed) * begin)
+        if slope <= speed:
+            break
+        found, begin = max(found, at + (slope - speed) * last), last + 1
+    return found
+
+
+class BehindHigh:
+    """Low frames at a port where high frames go first.
+
+    Let the port be idle until 0, and a low frame come at t. It has started at x at the latest, where x is the first
+    moment at which the port could have sent all low frames before it, which came until t, and all high frames that came
+    until x. The least of the pieces of `high` decides, so x is the least of what they give. x - t is concave in t: it
+    rises as long as what comes, high at x and low at t, is more than the port sends."""
+
+    def __init__(self, high, low, speed):
+        self.low, self.speed = low, speed
+        self.lasts = [piece.last for piece in low[:-1]]
+        self.high = [piece for piece in high if piece.slope < speed]
+        # How much the low frames ahead may be at most so that a piece of `high` decides.
+        self.ends = [
+            (speed - here.slope) * (there.at - here.at) // (here.slope - there.slope) - here.at
+            for here, there in zip(self.high, self.high[1:])
+        ]
+
+    def waits(self, frame, t):
+        """x - t in whole ns, for a frame of so many parts of a byte."""
+        piece = self.low[bisect_left(self.lasts, t)]
+        ahead = piece.at + piece.slope * t - frame
+        piece = self.high[bisect_left(self.ends, ahead)]
+        return (ahead + piece.at) // (self.speed - piece.slope) - t
+
+    def longest(self, frame):
+        """The greatest x - t. It is at a moment where a piece of either ends, or next to it."""
+
+        def falls(place):
+            piece = self.low[place]
+            high = self.high[bisect_left(self.ends, piece.at + piece.slope * piece.last - frame)]
+            return piece.slope + high.slope <= self.speed
+
+        place = bisect_left(range(len(self.lasts)), True, key=falls)
+        piece = self.low[place]
+        begin = self.lasts[place - 1] if place else 0
+        moments = {begin, begin + 1}
+        turn = bisect_left(self.high, True, key=lambda high: piece.slope + high.slope <= self.speed)
+        if turn:
+            meets = (self.ends[turn - 1] + frame - piece.at) // piece.slope
+            moments.update((meets, meets + 1, meets + 2))
+        if piece.last is not None:
+            moments = {t for t in moments if t < piece.last} | {piece.last}
+        return max(self.waits(frame, t) for t in moments if t >= begin)
+
+
+# ---- ports ----
+
+
+class Hop:
+    """A virtual link at an output port.
+
+    `spread` is by how much its frames may come there closer than a BAG, in ns; `delay` the longest time from the
+    arrival of a frame there to its last bit on the line, in ns. None: not known to have an end."""
+
+    def __init__(self, link, port, before):
+        self.link, self.port, self.before, self.after = link, port, before, []
+        # From the start of a frame to its last bit: the least delay.
+        self.least = (link.size + 8) * port.byte_ns
+        self.came = self.spread = self.delay = 0
+        if before is not None:
+            before.after.append(self)
+
+    def take(self):
+        """Takes over what the hop before says. Answers whether it is something new."""
+        before, old = self.before, self.spread
+        known = before.spread is not None and before.delay is not None
+        self.came = before.spread + before.delay - before.least if known else None
+        self.spread = self.link.let_through(self.came)
+        return self.spread != old
+
+    def earliest(self):
+        """How long after its release a frame comes here if nothing delays it, in ns."""
+        return 0 if self.before is None else self.before.earliest() + self.before.least + self.before.port.far_ns
+
+    def burst(self):
+        """What can come at once, in parts of a byte, or None."""
+        return None if self.spread is None else self.link.amount * PARTS + self.link.rate * self.spread
+
+
+class Link:
+    """What the bounds need of a virtual link: its frames on the line, in bytes, and what it sends in each ns in parts of
+    a byte."""
+
+    def __init__(self, vl):
+        self.vl, self.size = vl, vl.size
+        self.amount = vl.size + afdx.BYTES_BETWEEN_FRAMES
+        self.rate = self.amount * (PARTS // vl.bag_ns)
+        self.is_high = vl.priority == "high"
+        self.wait = longest_wait(vl)
+
+    def let_through(self, spread):
+        """The spread behind an account. It lets through what is in keeping with the jitter that it allows, where each
+        frame takes what one BAG gives."""
+        if self.vl.policing == "bytes" and self.size < self.vl.smax:
+            return spread
+        return self.vl.policing_ns if spread is None else min(spread, self.vl.policing_ns)
+
+    def is_never_refused(self, spread):
+        """Whether an account passes all its frames, which come with this spread."""
+        if spread is None:
+            return False
+        size = self.vl.smax if self.vl.policing == "frames" else self.size
+        return size * (self.vl.bag_ns + spread) <= self.vl.smax * (self.vl.bag_ns + self.vl.policing_ns)
+
+
+def longest_wait(vl):
+    """The longest wait in a regulator of a frame that it takes, in ns.
+
+    n + 1 offers need n periods less the jitter, and n BAGs to leave. Where there are more offers than BAGs, or where
+    several frames may wait and sub-virtual links take turns, each frame that is ahead of it in its own list may have a
+    turn of all the others before it."""
+    bag, period, jitter = vl.bag_ns, vl.period_ns, vl.jitter_ns
+    full = vl.depth * vl.sub * bag
+    if period < bag:
+        return full
+    waiting = -(-jitter // period)
+    if waiting > 1 and vl.sub > 1:
+        return min(full, waiting * vl.sub * bag)
+    at_once = jitter // period
+    return min(full, max(at_once * bag, (at_once + 1) * bag - ((at_once + 1) * period - jitter)))
+
+
+class Port:
+    """An output port and the line behind it. `delay` of a hop is set by `look`."""
+
+    def __init__(self, net, line):
+        self.line = line
+        here, there = line.split(">")
+        self.node = net.nodes[here]
+        self.byte_ns = 8000 // net.mbit[line]
+        self.speed = PARTS // self.byte_ns
+        # From the last bit of a frame to the output ports of the node at the far end.
+        self.far_ns = net.propagation_ns[line] + net.nodes[there].latency_ns
+        self.has_outage = any(outage.line == line for outage in net.outages)
+        self.hops, self.rounds, self.why = [], 0, None
+
+    def prepare(self):
+        """Sorts its hops by priority and by the line by which they come. At an end system all are low."""
+        groups = {}
+        for hop in self.hops:
+            high = hop.link.is_high and self.node.kind == "switch"
+            groups.setdefault((high, hop.before and hop.before.port), []).append(hop)
+        self.groups = {high: [(up, hops) for (is_high, up), hops in groups.items() if is_high == high] for high in (True, False)}
+        # The sizes of a group do not change.
+        self.greatest = {(high, up): max(hop.link.amount for hop in hops) for (high, up), hops in groups.items()}
+        self.rates = {(high, up): sum(hop.link.rate for hop in hops) for (high, up), hops in groups.items()}
+
+    def come(self, high):
+        """What can come of a priority, as groups."""
+        found = []
+        for up, hops in self.groups[high]:
+            bursts = [hop.burst() for hop in hops]
+            burst = None if None in bursts else sum(bursts)
+            speed = up.speed if up else None
+            found.append(Group(speed, self.greatest[high, up] * PARTS, burst, self.rates[high, up]))
+        return found
+
+    def look(self):
+        """Works out the delays of all hops anew from what can come. Moments are whole, so what is less than 1 ns goes."""
+        self.rounds += 1
+        high, low = curve(self.come(True)), curve(self.come(False))
+        if self.groups[True]:
+            blocking = max((most for (is_high, _), most in self.greatest.items() if not is_high), default=0)
+            longest = self.longest_first(high, blocking)
+            self.set_delays(True, lambda hop: longest)
+            starts = self.longest_behind(high, low)
+            self.set_delays(False, lambda hop: starts and starts[hop.link.amount] + hop.least)
+        else:
+            longest = self.longest_first(low, 0)
+            self.set_delays(False, lambda hop: longest)
+
+    def longest_first(self, pieces, blocking):
+        """The longest delay of frames that go first, in ns, where one frame of `blocking` bytes may be on the line."""
+        excess = peak(pieces, self.speed)
+        return None if excess is None else (excess + blocking * PARTS) // self.speed - GAP_BYTES * self.byte_ns
+
+    def longest_behind(self, high, low):
+        """For each size of low frames how long they may wait for their start, in ns, where high frames go first."""
+        if high[-1].slope + low[-1].slope > self.speed:
+            return None
+        behind = BehindHigh(high, low, self.speed)
+        amounts = {hop.link.amount for _, hops in self.groups[False] for hop in hops}
+        return {amount: behind.longest(amount * PARTS) for amount in amounts}
+
+    def set_delays(self, high, delay):
+        """Sets the delays of a priority. One that is longer than any run, or does not come to rest, has no end."""
+        for _, hops in self.groups[high]:
+            for hop in hops:
+                found = None if self.rounds > MOST_ROUNDS else delay(hop)
+                hop.delay = None if found is None or found > afdx.LATEST_NS else found
+
+    def is_given_too_much(self):
+        """Whether more may come, of those that have no bound and those that go before them, than it can send."""
+        is_low = any(hop.delay is None for _, hops in self.groups[False] for hop in hops)
+        groups = self.come(True) + (self.come(False) if is_low else [])
+        rates = [group.rate if group.speed is None else min(group.rate, group.speed) for group in groups]
+        return sum(rates) > self.speed
+
+    def waiting(self):
+        """The greatest sum of the sizes of the frames that wait, in bytes, or None. The port has then been sending since
+        a frame came that found it idle, and a frame that has been started does not wait."""
+        joined = {}
+        for high in (True, False):
+            for (up, _), group in zip(self.groups[high], self.come(high)):
+                joined.setdefault(up, []).append(group)
+        groups = []
+        for parts in joined.values():
+            bursts = [group.burst for group in parts]
+            burst = None if None in bursts else sum(bursts)
+            greatest = max(group.greatest for group in parts)
+            groups.append(Group(parts[0].speed, greatest, burst, sum(group.rate for group in parts)))
+        least = min(hop.link.amount for hop in self.hops)
+        excess = peak(curve(groups), self.speed, least * self.byte_ns)
+        return None if excess is None else frames_of(excess // PARTS, least, max(self.greatest.values()))
+
+
+def frames_of(amount, least, greatest):
+    """The greatest sum of the sizes of frames that take together at most `amount` bytes of a line's time, and each from
+    `least` to `greatest`."""
+    if amount < least:
+        return 0
+    whole = amount // greatest
+    rest = amount - whole * greatest - afdx.BYTES_BETWEEN_FRAMES
+    return whole * (greatest - afdx.BYTES_BETWEEN_FRAMES) + max(0, rest)
+
+
+# ---- the network ----
+
+
+class Way:
+    """The way of a virtual link on one network to one destination."""
+
+    def __init__(self, hops):
+        link = hops[0].link
+        far = sum(hop.port.far_ns for hop in hops)
+        self.least = far + sum(hop.least for hop in hops)
+        delays = [hop.delay for hop in hops]
+        self.longest = None if None in delays else far + sum(delays)
+        self.why = next((hop.port.why for hop in hops if hop.delay is None), "")
+        # Whether each frame arrives.
+        self.is_sure = all(
+            not hop.port.has_outage
+            and hop.port.most is not None
+            and hop.port.most <= hop.port.node.port_bytes
+            and (hop.before is None or link.is_never_refused(hop.came))
+            for hop in hops
+        )
+
+
+class Bounds:
+    """The bounds of a network: `latencies` has for each virtual link and destination the bound from the offer on in ns,
+    or None and why; `ports` the ports by line."""
+
+    def __init__(self, net):
+        self.net, self.ports, self.ways = net, {}, {}
+        self.links = {vl.id: Link(vl) for vl in net.vls.values()}
+        for link in self.links.values():
+            self.add(link)
+        for port in self.ports.values():
+            port.prepare()
+        self.settle()
+        for port in self.in_order():
+            port.most = port.waiting()
+            if port.most is None or any(hop.delay is None for hop in port.hops):
+                port.why = self.why(port)
+        self.latencies = {key: self.latency(*key) for key in sorted(net.destinations, key=self.order)}
+
+    def order(self, key):
+        vl, where = key
+        return vl, self.net.process[where]
+
+    def add(self, link):
+        """Adds a virtual link to the ports of its paths. A frame that is longer than smax comes to the first switch."""
+        hops = {}
+        for side, paths in link.vl.paths.items():
+            for path in paths:
+                way, before = [], None
+                for line in afdx.lines_of_path(path):
+                    if before is not None and link.size > link.vl.smax:
+                        break
+                    if line not in hops:
+                        port = self.ports.get(line) or self.ports.setdefault(line, Port(self.net, line))
+                        hops[line] = Hop(link, port, before)
+                        port.hops.append(hops[line])
+                    before = hops[line]
+                    way.append(before)
+                self.ways.setdefault((link.vl.id, path[-1]), {})[side] = way
+
+    def settle(self):
+        """Looks at each port until no spread changes. It begins with none, and each look makes delays and spreads longer
+        or leaves them: the least that fits is found. It bounds, as what comes to a port by a moment depends only on what
+        left others earlier than that. Ports are looked at in the order of the ways as far as there is one."""
+        order = {port: place for place, port in enumerate(self.in_order())}
+        ports = sorted(order, key=order.get)
+        due = list(range(len(ports)))
+        waiting = set(due)
+        while due:
+            place = heapq.heappop(due)
+            waiting.discard(place)
+            port = ports[place]
+            port.look()
+            for hop in port.hops:
+                for later in hop.after:
+                    if later.take() and order[later.port] not in waiting:
+                        waiting.add(order[later.port])
+                        heapq.heappush(due, order[later.port])
+
+    def in_order(self):
+        """The ports, each before those to which its frames go on, where there is no circle."""
+        following = {port: {later.port for hop in port.hops for later in hop.after} for port in self.ports.values()}
+        found, seen = [], set()
+        for port in self.ports.values():
+            stack = [(port, iter(following[port]))] if port not in seen else []
+            seen.add(port)
+            while stack:
+                here, rest = stack[-1]
+                there = next((it for it in rest if it not in seen), None)
+                if there is None:
+                    found.append(here)
+                    stack.pop()
+                else:
+                    seen.add(there)
+                    stack.append((there, iter(following[there])))
+        return found[::-1]
+
+    def why(self, port):
+        """Why hops of a port have no bound: too much may come; or a port before it, which is asked first, has none."""
+        if port.is_given_too_much():
+            return f"{port.line} may be given more than it can send"
+        before = [hop.before.port.why for hop in port.hops if hop.spread is None and hop.before.port.why]
+        return before[0] if before else f"bursts grow round a circle of lines by {port.line}"
+
+    def latency(self, vl, where):
+        """The bound from the offer on in ns, or None, and then why."""
+        link = self.links[vl]
+        if link.size > link.vl.smax:
+            return None, "no frame arrives: size is above smax"
+        ways = [Way(hops) for hops in self.ways[vl, where].values()]
+        whys = [way.why for way in ways if way.longest is None]
+        found = [] if whys else [max(way.longest for way in ways)]
+        if len(ways) == 2:
+            for way, other in (ways, ways[::-1]):
+                if way.longest is not None and way.is_sure and self.is_known_as_copy(link.vl, way, other):
+                    found.append(way.longest)
+        return (min(found) + link.wait, "") if found else (None, whys[0])
+
+    @staticmethod
+    def is_known_as_copy(vl, way, other):
+        """Whether a frame by the other way, whose copy came by this way before, is always known as a copy."""
+        if other.longest is None:
+            return False
+        earliest = min(way.least, other.least)
+        return other.longest - way.least <= vl.skew_ns and other.longest - earliest <= MOST_STEPS * vl.bag_ns
+
+    def text(self):
+        lines = [HEAD]
+        for (vl, where), (bound, why) in self.latencies.items():
+            lines.append(f"{vl},{where},{said(bound)},{self.links[vl].wait},,,{why}")
+        for line in sorted(self.ports, key=self.net.process.get):
+            port = self.ports[line]
+            why = port.why if port.most is None else ""
+            lines.append(f",{line},,,{said(port.most)},{port.node.port_bytes},{why}")
+        return "\n".join(lines) + "\n"
+
+
+def said(number):
+    return "none" if number is None else str(number)
+
+
+def accepted(path):
+    """The network of a description that `afdxsim` accepts."""
+    net = afdx.Network(path)
+    fault = min(explain.Judge(net.description).findings, key=explain.rank, default=None)
+    if fault:
+        raise afdx.Fault(path, fault.line, f"{fault.who} {fault.text}")
+    return net
+
+
+def words_of(arguments=None):
+    parser = argparse.ArgumentParser(
+        description=__doc__, epilog=EXAMPLES, formatter_class=argparse.RawDescriptionHelpFormatter
+    )
+    parser.add_argument("net", metavar="NET", help="the description (TOML)")
+    parser.add_argument("-o", "--output", metavar="FILE", help="the file for the bounds (default: standard output)")
+    return parser.parse_args(arguments)
+
+
+def main(arguments=None):
+    words = words_of(arguments)
+    try:
+        text = Bounds(accepted(words.net)).text()
+        if words.output:
+            afdx.write_whole(words.output, text)
+        else:
+            afdx.write_out(text)
+    except afdx.Fault as fault:
+        print(f"bounds.py: {fault}", file=sys.stderr)
+        return 2
+    return 0
+
+
+if __name__ == "__main__":
+    sys.exit(main())

@@ -1,0 +1,310 @@
+"""What if a link or a switch is out: tools/campaign.py --each-outage. Each is out in turn, and what is lost end to end and
+what becomes late is told beside the same runs without it, as a table and as a page."""
+import contextlib
+import copy
+import html
+from collections import namedtuple
+
+import afdx
+import report
+import runs
+from runs import Failure
+
+TABLE_HEAD = (
+    "out,vl,where,delivered_before,delivered,lost_before_least,lost_before_most,lost_least,lost_most,"
+    "greatest_before_ns,greatest_ns"
+)
+# So many destinations of an outage are on the page; all are in the table.
+MOST_ON_THE_PAGE = 30
+
+
+# What is out: a link or a switch, with the lines that go with it.
+Element = namedtuple("Element", "kind names lines")
+
+
+def name_of(element):
+    return " ".join((element.kind, *element.names))
+
+
+def elements_of(net):
+    """Each link, and then each switch with all its lines, in the order of the description."""
+    found = []
+    for link in net.links:
+        found.append(Element("link", (link.a, link.b), (f"{link.a}>{link.b}", f"{link.b}>{link.a}")))
+    for node in net.nodes.values():
+        if node.kind == "switch":
+            lines = tuple(line for line in net.mbit if node.name in line.split(">"))
+            found.append(Element("switch", (node.name,), lines))
+    return found
+
+
+def outages_text(element, from_ns, until_ns):
+    """The rows of the outages of an element, from a moment to the end of the run."""
+    lines = []
+    for line in element.lines:
+        here, there = line.split(">")
+        lines += ["[[outage]]", f'from = "{here}"', f'to = "{there}"', f"from_ns = {from_ns}"]
+        lines.append(f"to_ns = {min(until_ns + 1, afdx.LATEST_NS)}")
+    return "".join(line + "\n" for line in lines)
+
+
+class Course:
+    """What came of the runs with one element out, or with none: for each virtual link and destination how many frames
+    were delivered, how many are lost end to end, from the least that is known to the most, and the greatest latency."""
+
+    def __init__(self, element, number):
+        self.element, self.number = element, number
+        self.delivered, self.lost, self.greatest = {}, {}, {}
+
+    def take(self, tables, ends):
+        for key, end in ends.items():
+            row = tables.latencies[key]
+            self.delivered[key] = self.delivered.get(key, 0) + row.count
+            self.lost[key] = self.lost.get(key, report.exactly(0)) + end.missing
+            self.greatest[key] = max(self.greatest.get(key, 0), row.greatest)
+
+
+class Known:
+    """What became of all frames in the run of a seed without an outage, so that it is reckoned anew only for the virtual
+    links of which another run with this seed tells something else."""
+
+    def __init__(self, net, seed, draws_offsets):
+        drawn = report.drawn_offsets(net, seed) if draws_offsets else {}
+        self.net, self.seed = net, seed
+        self.vls = {vl.id: vl._replace(offset_ns=drawn.get(vl.id, vl.offset_ns)) for vl in net.vls.values()}
+        self.rows, self.ends = {}, None
+
+    def ends_of(self, tables, trace):
+        """What became of the frames of a run, by its tables and its trace. The first run is the one without an outage."""
+        rows = {}
+        for row in trace.rows:
+            rows.setdefault(row[2], []).append(row)
+        first = self.ends is None
+        other = [vl for vl in self.vls if first or rows.get(vl) != self.rows.get(vl)]
+        part = copy.copy(tables)
+        part.net = copy.copy(self.net)
+        part.net.vls = {vl: self.vls[vl] for vl in other}
+        found = report.Ends(part, [self.seed], trace=trace).of
+        if first:
+            self.rows, self.ends = rows, found
+        return self.ends | found
+
+
+# What an outage does to a virtual link at a destination: the counts and latencies without it and with it.
+Change = namedtuple("Change", "vl where delivered_before delivered lost_before lost greatest_before greatest")
+
+
+def more_lost(change):
+    """How many frames more are lost, at the least and at the most."""
+    return report.Range(
+        max(0, change.lost.least - change.lost_before.most), max(0, change.lost.most - change.lost_before.least)
+    )
+
+
+def later(change):
+    """By how much the greatest latency grows, in ns."""
+    return max(0, change.greatest - change.greatest_before)
+
+
+class EachOutage:
+    """The runs with each element out, for each of the seeds, and first those without an outage of their own.
+
+    An element that no virtual link passes changes nothing, and is not run."""
+
+    def __init__(self, net, limits, seeds, draws_offsets, from_ns):
+        self.net, self.limits, self.seeds, self.draws_offsets, self.from_ns = net, limits, seeds, draws_offsets, from_ns
+        self.elements = elements_of(net)
+        used = [element for element in self.elements if any(net.users[line] for line in element.lines)]
+        self.courses = [Course(element, number) for number, element in enumerate([None, *used])]
+        self.known = {}
+        self.done, self.failure = 0, None
+
+    def count(self):
+        return len(self.courses) * len(self.seeds)
+
+    def runs(self):
+        for course in self.courses:
+            for seed in self.seeds:
+                text, name = self.net.with_seed(seed, self.draws_offsets), f"seed {seed}"
+                if course.element:
+                    name = f"{name} without {name_of(course.element)}"
+                    text += outages_text(course.element, self.from_ns, self.net.until_ns)
+                yield runs.Run(name, text)
+
+    def run(self, maker, keep, progress, readers):
+        """Has the runs made. `keep` is told the beginning of the name of each one's files, and its texts; `readers` are
+        what reads the tables and the trace of a run."""
+        tables_of, trace_of = readers
+        with contextlib.closing(maker.results(self.runs())) as results:
+            try:
+                for run, printed in results:
+                    course, seed = self.courses[self.done // len(self.seeds)], self.seeds[self.done % len(self.seeds)]
+                    tables = tables_of(self.net, run, printed.tables)
+                    if seed not in self.known:
+                        self.known[seed] = Known(self.net, seed, self.draws_offsets)
+                    course.take(tables, self.known[seed].ends_of(tables, trace_of(tables, run, printed.trace)))
+                    keep(f"outage-{course.number}-seed-{seed}", run.text, printed.tables)
+                    self.done += 1
+                    progress.tell(self.done, None)
+            except (Failure, afdx.Fault) as failure:
+                self.failure = str(failure)
+            except KeyboardInterrupt:
+                self.failure = f"interrupted before run {self.done + 1} of {self.count()} was taken"
+            finally:
+                progress.end()
+        # What was not run for all seeds cannot be compared.
+        del self.courses[self.done // len(self.seeds) :]
+
+    def changes(self, course):
+        """What an outage makes lost or late, in the order of the tables."""
+        before, found = self.courses[0], []
+        for vl, where in sorted(course.lost, key=lambda it: (it[0], self.net.process[it[1]])):
+            key = vl, where
+            counts = before.delivered[key], course.delivered[key], before.lost[key], course.lost[key]
+            change = Change(vl, where, *counts, before.greatest[key], course.greatest[key])
+            if more_lost(change).most or later(change):
+                found.append(change)
+        return found
+
+    def broken(self, course):
+        """The limits that are broken in an outage and not without it."""
+        before = self.courses[0].greatest
+        return [limit for key, limit in self.limits.items() if course.greatest[key] > limit.ns >= before[key]]
+
+    def summaries(self):
+        """Each outage with what it does, the worst first."""
+        found = [Summary(course, self.changes(course), self.broken(course)) for course in self.courses[1:]]
+        return sorted(found, key=lambda it: (-it.lost().least, -it.lost().most, -it.latest(), it.course.number))
+
+    def table(self):
+        lines = [TABLE_HEAD]
+        for course in self.courses[1:]:
+            for it in self.changes(course):
+                numbers = it.delivered_before, it.delivered, *it.lost_before, *it.lost, it.greatest_before, it.greatest
+                lines.append(f"{name_of(course.element)},{it.vl},{it.where},{','.join(map(str, numbers))}")
+        return "\n".join(lines) + "\n"
+
+
+class Summary(namedtuple("Summary", "course changes broken")):
+    """What an outage does."""
+
+    def name(self):
+        return name_of(self.course.element)
+
+    def lost(self):
+        """How many frames more are lost end to end at all destinations together."""
+        return sum(map(more_lost, self.changes), report.exactly(0))
+
+    def losing(self):
+        """At how many destinations more frames are lost, surely and at the most."""
+        ranges = [more_lost(change) for change in self.changes]
+        return report.Range(sum(it.least > 0 for it in ranges), sum(it.most > 0 for it in ranges))
+
+    def late(self):
+        return [change for change in self.changes if later(change)]
+
+    def latest(self):
+        return max(map(later, self.changes), default=0)
+
+    def in_words(self):
+        text = f"{said(self.lost())} frames more lost end to end at {said(self.losing())} destinations, {len(self.late())} later"
+        if self.late():
+            worst = max(self.late(), key=later)
+            text += f", most virtual link {worst.vl} at {worst.where} from {worst.greatest_before} to {worst.greatest} ns"
+        return text
+
+
+def said(count):
+    """A count that may be known only from the least to the most."""
+    return f"{count.least:,}" if count.least == count.most else f"{count.least:,} to {count.most:,}"
+
+
+# ---- the page ----
+
+STYLE = """
+body { font: 15px/1.45 system-ui, sans-serif; margin: 2rem auto; max-width: 72rem; padding: 0 1rem; color: #1f2937; }
+h1 { font-size: 1.5rem; margin: 0 0 .3rem; }
+.tiles { display: flex; flex-wrap: wrap; gap: .8rem; margin: 1rem 0; }
+.tile { border: 1px solid #d1d5db; border-radius: .5rem; padding: .6rem 1rem; min-width: 9rem; }
+.tile b { display: block; font-size: 1.4rem; }
+.bad b { color: #b42318; } .good b { color: #17703c; }
+table { border-collapse: collapse; width: 100%; }
+th, td { text-align: right; padding: .3rem .6rem; border-bottom: 1px solid #e5e7eb; vertical-align: top; }
+th:first-child, td:first-child, td.left { text-align: left; }
+thead th { border-bottom: 2px solid #9ca3af; }
+.lost { color: #b42318; font-weight: 600; } .late { color: #9a5b00; }
+details table { margin: .5rem 0 1rem; font-size: .93em; } summary { cursor: pointer; }
+footer { margin-top: 2rem; color: #6b7280; font-size: .9em; }
+"""
+
+
+def row(cells, tag="td"):
+    return "<tr>" + "".join(f"<{tag}{kind}>{text}</{tag}>" for kind, text in cells) + "</tr>"
+
+
+def plain(*texts):
+    return [("", html.escape(str(text))) for text in texts]
+
+
+def tile(name, value, kind=""):
+    return f'<div class="tile {kind}"><b>{html.escape(str(value))}</b>{html.escape(name)}</div>'
+
+
+def changes_table(changes):
+    """The destinations of an outage, the worst first."""
+    worst = sorted(changes, key=lambda it: (-more_lost(it).least, -more_lost(it).most, -later(it), it.vl))
+    heads = plain("virtual link", "destination", "delivered before", "delivered", "lost before", "lost", "greatest before", "greatest")
+    rows = []
+    for it in worst[:MOST_ON_THE_PAGE]:
+        cells = plain(it.vl, it.where, f"{it.delivered_before:,}", f"{it.delivered:,}", said(it.lost_before), said(it.lost))
+        cells += plain(f"{it.greatest_before:,} ns", f"{it.greatest:,} ns" if it.greatest else "nothing came")
+        if more_lost(it).most:
+            cells[5] = ' class="lost"', cells[5][1]
+        if later(it):
+            cells[7] = ' class="late"', cells[7][1]
+        rows.append(row(cells))
+    rest = len(changes) - len(rows)
+    more = f"<p>{rest:,} more are in outages.csv.</p>" if rest else ""
+    return f"<table><thead>{row(heads, 'th')}</thead><tbody>{''.join(rows)}</tbody></table>{more}"
+
+
+def summary_row(it, has_limits):
+    name = html.escape(it.name())
+    first = f"<details><summary>{name}</summary>{changes_table(it.changes)}</details>" if it.changes else name
+    latest = max(it.late(), key=later, default=None)
+    cells = [("", first), *plain(said(it.lost()), said(it.losing()), f"{len(it.late()):,}", f"{it.latest():,} ns" if latest else "")]
+    if it.lost().most:
+        cells[1] = ' class="lost"', cells[1][1]
+    if latest:
+        cells[3] = ' class="late"', cells[3][1]
+    return row(cells + (plain(f"{len(it.broken):,}") if has_limits else []))
+
+
+def page(found, path):
+    """The page of all outages."""
+    summaries = found.summaries()
+    losing = sum(it.lost().most > 0 for it in summaries)
+    late = sum(bool(it.late()) for it in summaries)
+    links, switches = (sum(it.course.element.kind == kind for it in summaries) for kind in ("link", "switch"))
+    unused = len(found.elements) - (len(found.courses) - 1) if not found.failure else None
+    tiles = [tile("links and switches out in turn", f"{links} and {switches}")]
+    tiles.append(tile("outages that cost frames end to end", losing, "bad" if losing else "good"))
+    tiles.append(tile("outages that make frames later", late))
+    heads = plain("out", "frames more lost end to end", "destinations that lose", "destinations later", "latest by")
+    if found.limits:
+        tiles.append(tile("outages that break a limit", sum(bool(it.broken) for it in summaries)))
+        heads += plain("limits broken")
+    when = "the whole run" if found.from_ns == 0 else f"from {found.from_ns:,} ns to the end of the run"
+    seeds = f"{len(found.seeds)} seeds from {found.seeds[0]} on" if len(found.seeds) > 1 else f"the seed {found.seeds[0]}"
+    words = f"Each link and each switch of {path} was out in turn, {when}, with {seeds}, and is told beside the same runs without it."
+    words += f" {unused} more are passed by no virtual link, so they change nothing." if unused else ""
+    words += f" The runs ended early: {found.failure}." if found.failure else ""
+    body = "".join(summary_row(it, bool(found.limits)) for it in summaries)
+    return (
+        f'<!DOCTYPE html><html lang="en"><head><meta charset="utf-8"><title>Outages of {html.escape(path)}</title>'
+        f"<style>{STYLE}</style></head><body><main><h1>What if a link or a switch is out</h1><p>{html.escape(words)}</p>"
+        f'<div class="tiles">{"".join(tiles)}</div><table id="outages"><thead>{row(heads, "th")}</thead><tbody>{body}</tbody>'
+        "</table><footer>A frame is lost end to end where it is delivered by neither network. Of a frame whose copies may "
+        "be lost or under way at the end, both are told: from the least to the most. Later means that the greatest latency "
+        "grows. It tells what happened in these runs, and is no bound on what can happen.</footer></main></body></html>\n"
+    )

@@ -1,0 +1,110 @@
+"""Runs of the program, several side by side on this machine. tools/cluster.py makes them on several machines."""
+import concurrent.futures
+import os
+import subprocess
+import tempfile
+import threading
+from collections import deque, namedtuple
+
+# A run that is to be made: what it is called, and its description.
+Run = namedtuple("Run", "name text")
+
+# What a run printed: its tables and, where it was asked for, its trace, as texts.
+Printed = namedtuple("Printed", "tables trace")
+
+
+class Failure(Exception):
+    """Why a run failed, with its name."""
+
+
+def failure_of(status, said):
+    """What the program said at last, and how it ended."""
+    said = said.decode("utf-8", "replace").strip().split("\n")[-1]
+    ended = f"status {status}" if status > 0 else f"signal {-status}"
+    return f"{said} ({ended})" if said else ended
+
+
+class Here:
+    """Makes runs on this machine, at most `jobs` side by side."""
+
+    def __init__(self, program, jobs, is_traced=False):
+        self.program, self.jobs, self.is_traced = program, jobs, is_traced
+        self.lock, self.going, self.last = threading.Lock(), {}, None
+
+    def results(self, runs):
+        """Yields each run and what it printed, in the order of the runs. The first one in this order that fails ends it,
+        and those behind it. So does the end of the generator."""
+        rest, waiting, self.last = enumerate(runs), deque(), None
+        with tempfile.TemporaryDirectory() as folder, concurrent.futures.ThreadPoolExecutor(self.jobs) as pool:
+            try:
+                while True:
+                    while len(waiting) < 2 * self.jobs and (new := next(rest, None)):
+                        waiting.append((new[1], pool.submit(self.watched, folder, *new)))
+                    if not waiting:
+                        return
+                    run, future = waiting.popleft()
+                    yield run, future.result()
+            except (Failure, OSError) as failure:
+                raise Failure(f"{run.name}: {failure}") from None
+            finally:
+                self.stop_after(-1)
+                for _, future in waiting:
+                    future.cancel()
+
+    def watched(self, folder, number, run):
+        """A run; if it fails, those behind it need not go on."""
+        try:
+            return self.one(folder, number, run)
+        except BaseException:
+            self.stop_after(number)
+            raise
+
+    def one(self, folder, number, run):
+        """What a run printed, or None where all has ended before it."""
+        path = os.path.join(folder, f"{number}.toml")
+        words = [self.program, "seq", path]
+        traced = os.path.join(folder, f"{number}.csv")
+        if self.is_traced:
+            words += ["--trace", traced]
+        with open(path, "w", encoding="utf-8", newline="\n") as out:
+            out.write(run.text)
+        with self.lock:
+            if self.is_over(number):
+                return None
+            self.going[number] = started = self.started(words)
+        printed, said = started.communicate()
+        with self.lock:
+            del self.going[number]
+            if self.is_over(number):
+                return None
+        os.unlink(path)
+        if started.returncode != 0:
+            raise Failure(failure_of(started.returncode, said))
+        return Printed(printed.decode("utf-8", "replace"), taken_from(traced) if self.is_traced else None)
+
+    @staticmethod
+    def started(words):
+        pipe = subprocess.PIPE
+        try:
+            return subprocess.Popen(words, stdin=subprocess.DEVNULL, stdout=pipe, stderr=pipe)
+        except OSError as fault:
+            raise Failure(f"{words[0]} cannot be run: {fault.strerror}") from None
+
+    def is_over(self, number):
+        return self.last is not None and number > self.last
+
+    def stop_after(self, number):
+        """Ends the runs behind a number, and lets those before it go on."""
+        with self.lock:
+            self.last = number if self.last is None else min(number, self.last)
+            for later, started in self.going.items():
+                if later > number:
+                    started.kill()
+
+
+def taken_from(path):
+    """The text of a file, which is gone then."""
+    with open(path, encoding="utf-8", errors="replace", newline="") as file:
+        text = file.read()
+    os.unlink(path)
+    return text

@@ -1,0 +1,427 @@
+"""Tests of bounds.py: small networks whose bounds are worked out here by hand, step by step, the examples, and drawn
+networks whose runs are held against the bounds (bounded_runs.py; more of them by hand)."""
+import contextlib
+import glob
+import io
+import os
+import resource
+import subprocess
+import sys
+import tempfile
+import unittest
+from fractions import Fraction
+from math import floor
+from unittest import mock
+
+HERE = os.path.dirname(os.path.abspath(__file__))
+sys.path.insert(0, HERE)
+
+import afdx  # noqa: E402
+import bounded_runs  # noqa: E402
+import bounds  # noqa: E402
+
+EXAMPLES = os.path.join(HERE, "..", "examples")
+MS = 10**6
+# The links of most networks here: 100 Mbit/s, so 80 ns a byte. From the last bit on such a link to the output ports of
+# the switch behind it, and to the end system behind it.
+BYTE, TO_SWITCH, TO_END = 80, 100 + 16000, 100
+
+
+def busy(size):
+    """How long a port is busy with a frame."""
+    return (size + 20) * BYTE
+
+
+def last_bit(size):
+    """From the start of a frame to its last bit."""
+    return (size + 8) * BYTE
+
+
+def virtual_link(number, a, b=(), **changes):
+    """A virtual link of 64 bytes, BAG 1 ms, offered once a BAG."""
+    row = {"id": number, "bag_ms": 1, "smax": 64, "priority": "low", "policing_jitter_ns": 500_000, "skew_max_ns": MS}
+    row |= {"depth": 16, "size": 64, "offset_ns": 0, "period_ns": MS, "jitter_ns": 0, "a": a, "b": list(b)}
+    if "size" in changes:
+        row["smax"] = changes["size"]
+    return row | changes
+
+
+def network(vls, mbit=(), outages=(), port_bytes=65536):
+    """A network of the nodes that the paths of virtual links name: end systems E.., switches A.. and B.."""
+    pairs = {tuple(sorted(pair)): None for vl in vls for path in (*vl["a"], *vl["b"]) for pair in zip(path, path[1:])}
+    nodes = []
+    for name in sorted({name for pair in pairs for name in pair}):
+        row = {"name": name, "kind": "es" if name[0] == "E" else "switch", "port_bytes": port_bytes}
+        nodes.append(row if name[0] == "E" else row | {"net": name[0], "latency_ns": 16000})
+    speed = dict(mbit)
+    links = [{"a": a, "b": b, "mbit": speed.get((a, b), 100), "propagation_ns": 100} for a, b in pairs]
+    tree = {"until_ns": 10 * MS, "seed": 1, "node": nodes, "link": links, "outage": list(outages), "vl": vls}
+    return bounds.Bounds(afdx.Network("net.toml", afdx.text_of_tree(tree)))
+
+
+def way(*names):
+    return [list(names)]
+
+
+class ByHand(unittest.TestCase):
+    def test_a_frame_alone(self):
+        found = network([virtual_link(1, way("E1", "A", "E2"))])
+        self.assertEqual(found.latencies, {(1, "E2"): (5760 + 100 + 16000 + 5760 + 100, "")})
+        self.assertEqual({line: port.most for line, port in found.ports.items()}, {"E1>A": 0, "A>E2": 0})
+
+    def test_frames_that_are_released_together(self):
+        """Twenty at one end system: the last one waits for nineteen. At the switch they come one after another: each when
+        the port is just free again, so one may wait there for no time."""
+        found = network([virtual_link(i, way("E1", "A", "E2")) for i in range(1, 21)])
+        for i in range(1, 21):
+            bound = 19 * busy(64) + last_bit(64) + TO_SWITCH + last_bit(64) + TO_END
+            self.assertEqual(found.latencies[i, "E2"], (bound, ""))
+        self.assertEqual({line: port.most for line, port in found.ports.items()}, {"E1>A": 19 * 64, "A>E2": 64})
+
+    def test_frames_that_meet_at_a_switch(self):
+        """Of 64 and of 100 bytes, by two lines. Each may wait for the other."""
+        found = network([virtual_link(1, way("E1", "A", "E3")), virtual_link(2, way("E2", "A", "E3"), size=100)])
+        first = last_bit(64) + TO_SWITCH + busy(100) + last_bit(64) + TO_END
+        second = last_bit(100) + TO_SWITCH + busy(64) + last_bit(100) + TO_END
+        self.assertEqual((first, second), (37320, 40200))
+        self.assertEqual(found.latencies, {(1, "E3"): (first, ""), (2, "E3"): (second, "")})
+        self.assertEqual(found.ports["A>E3"].most, 100)
+
+    def test_priorities(self):
+        """High ones of 64 and of 100 bytes, a low one of 1518. A high frame may find the low one on the line, and waits
+        for the other high one. The low one waits for both, and for what of them comes in the meantime."""
+        high = {"priority": "high"}
+        found = network(
+            [virtual_link(1, way("E1", "A", "E4"), **high), virtual_link(2, way("E2", "A", "E4"), size=100, **high)]
+            + [virtual_link(3, way("E3", "A", "E4"), size=1518)]
+        )
+        first = last_bit(64) + TO_SWITCH + busy(1518) + busy(100) + last_bit(64) + TO_END
+        second = last_bit(100) + TO_SWITCH + busy(1518) + busy(64) + last_bit(100) + TO_END
+        # In x ns there come busy(64) + busy(100) of high frames at once, and so much in each ms.
+        both = busy(64) + busy(100)
+        x = Fraction(both) / (1 - Fraction(both, MS))
+        third = last_bit(1518) + TO_SWITCH + floor(x) + last_bit(1518) + TO_END
+        self.assertEqual((first, second, third), (160360, 163240, 276950))
+        self.assertEqual(found.latencies, {(1, "E4"): (first, ""), (2, "E4"): (second, ""), (3, "E4"): (third, "")})
+
+    def test_an_end_system_has_one_priority(self):
+        found = network(
+            [virtual_link(1, way("E1", "A", "E2"), priority="high"), virtual_link(2, way("E1", "A", "E3"), size=1518)]
+        )
+        bound = busy(1518) + last_bit(64) + TO_SWITCH + last_bit(64) + TO_END
+        self.assertEqual(found.latencies[1, "E2"], (bound, ""))
+
+    def test_frames_of_one_line_come_one_after_another(self):
+        """1 and 2 come by one line, 3 by another, all of 64 bytes."""
+        found = network([virtual_link(i, way("E2" if i == 3 else "E1", "A", "E3")) for i in (1, 2, 3)])
+        # At E1 one waits for the other, so they come to the switch up to busy(64) later than they may.
+        spread = busy(64)
+        # In t ns the line brings at most one frame and what it sends in t ns, and at most what two virtual links have:
+        # two frames at once, and two in each ms. From the moment t on the second is less.
+        rate = Fraction(2 * busy(64), MS)
+        t = (busy(64) + rate * spread) / (1 - rate)
+        self.assertEqual(floor(t), 6903)
+        # At t the port has had busy(64) + t from the one line and the third from the other, and has sent t.
+        longest = busy(64) + t + busy(64) * (1 + t / MS) - t
+        delay = floor(longest) - 12 * BYTE
+        self.assertEqual(delay, 12526)
+        first = busy(64) + last_bit(64) + TO_SWITCH + delay + TO_END
+        third = last_bit(64) + TO_SWITCH + delay + TO_END
+        self.assertEqual([found.latencies[i, "E3"] for i in (1, 2, 3)], [(first, ""), (first, ""), (third, "")])
+
+    def test_a_slow_line_brings_less(self):
+        """As above, but the first line has 10 Mbit/s: a byte takes ten times the time, so it brings one frame in 67,200
+        ns, and the others do not have to wait for a second one. t is later, and the excess at 0 counts."""
+        found = network([virtual_link(i, way("E2" if i == 3 else "E1", "A", "E3")) for i in (1, 2, 3)], {("A", "E1"): 10})
+        delay = 2 * busy(64) - 12 * BYTE
+        self.assertEqual(found.latencies[3, "E3"], (last_bit(64) + TO_SWITCH + delay + TO_END, ""))
+        first = 10 * (busy(64) + last_bit(64)) + TO_SWITCH + delay + TO_END
+        self.assertEqual(found.latencies[1, "E3"], (first, ""))
+
+    def test_a_low_frame_waits_longest_later(self):
+        """Low ones of 1000 bytes, 1 and 2 by one line and 3 by another, and a high one of 64."""
+        big = {"size": 1000}
+        found = network(
+            [virtual_link(i, way("E2" if i == 3 else "E1", "A", "E4"), **big) for i in (1, 2, 3)]
+            + [virtual_link(4, way("E3", "A", "E4"), priority="high")]
+        )
+        spread, frame, high = busy(1000), busy(1000), busy(64)
+        rate = Fraction(2 * frame, MS)
+        # The moment until which the line decides what 1 and 2 bring; moments are whole.
+        t = floor((frame + rate * spread) / (1 - rate))
+        self.assertEqual(t, 113428)
+
+        def wait(t, both):
+            """For a low frame that comes at t: until x there are all low ones before it, and the high ones until x."""
+            ahead = both + frame * (1 + Fraction(t, MS)) - frame
+            return floor((ahead + high) / (1 - Fraction(high, MS))) - t
+
+        waits = [wait(0, frame), wait(t, frame + t), wait(t + 10, 2 * frame + rate * (spread + t + 10))]
+        self.assertEqual(waits, [88917, 99003, 98996])
+        delay = 99003 + last_bit(1000)
+        third = last_bit(1000) + TO_SWITCH + delay + TO_END
+        self.assertEqual(found.latencies[3, "E4"], (third, ""))
+        self.assertEqual(found.latencies[1, "E4"], (busy(1000) + third, ""))
+
+    def test_an_account_cuts_what_is_late(self):
+        """1 and 2 of 1000 bytes wait for each other, and at the second switch for 3. The jitter that the account allows
+        them is less than the time by which they may be late."""
+        def of(jitter, **changes):
+            rows = [virtual_link(i, way("E1", "A", "E3"), size=1000, policing_jitter_ns=jitter, **changes) for i in (1, 2)]
+            return network([*rows, virtual_link(3, way("E2", "A", "E3"), size=1000)])
+
+        frame, rate = busy(1000), Fraction(2 * busy(1000), MS)
+        for jitter, changes, spread in (
+            (10**5, {}, frame),
+            (frame, {}, frame),
+            (5000, {}, 5000),
+            (0, {"policing": "frames"}, 0),
+            (0, {"policing": "frames", "smax": 1500}, 0),
+            # What passes is counted in bytes of greater frames: the account does not tell how many come.
+            (0, {"smax": 1500}, frame),
+        ):
+            with self.subTest(jitter=jitter, **changes):
+                t = (frame + rate * spread) / (1 - rate)
+                delay = floor(frame + frame * (1 + Fraction(floor(t), MS))) - 12 * BYTE
+                bound = last_bit(1000) + TO_SWITCH + delay + TO_END
+                self.assertEqual(of(jitter, **changes).latencies[3, "E3"], (bound, ""))
+
+    def test_waits_in_the_regulator(self):
+        for bag, period, jitter, depth, sub, wait in (
+            (1, MS, 0, 16, 1, 0),
+            # An offer that is late by 200 us, and the next one that is not.
+            (1, MS, 200_000, 16, 1, 200_000),
+            # The period has room for the jitter.
+            (1, 3 * MS, 2 * MS, 16, 1, 0),
+            (1, 3 * MS, 2 * MS + 1, 16, 1, 1),
+            # Two at once; three at once, and the fourth half a ms later.
+            (1, MS, MS, 16, 1, MS),
+            (1, MS, 2_500_000, 16, 1, 2_500_000),
+            (2, 4 * MS, 9 * MS, 16, 1, 4 * MS),
+            # No more than the depth may wait.
+            (1, MS, 2_500_000, 2, 1, 2 * MS),
+            # More is offered than a BAG has room for: the list is full in the end.
+            (1, MS // 2, 0, 3, 1, 3 * MS),
+            (1, MS // 2, 0, 1, 1, MS),
+            # Sub-virtual links change nothing where one frame waits at most.
+            (1, MS, 200_000, 16, 2, 200_000),
+            (1, MS, MS, 16, 4, MS),
+            # Two wait, each for a turn of both; or the lists are full.
+            (1, MS, 2 * MS, 16, 2, 4 * MS),
+            (1, MS, 2 * MS, 1, 2, 2 * MS),
+            (1, MS // 4, 0, 2, 4, 8 * MS),
+        ):
+            with self.subTest(bag=bag, period=period, jitter=jitter, depth=depth, sub=sub):
+                changes = {"bag_ms": bag, "period_ns": period, "jitter_ns": jitter, "depth": depth, "sub": sub}
+                found = network([virtual_link(1, way("E1", "A", "E2"), **changes)])
+                self.assertEqual(found.latencies[1, "E2"], (27720 + wait, ""))
+                self.assertIn(f"1,E2,{27720 + wait},{wait},,,\n", found.text())
+
+    def test_both_networks(self):
+        """The lesser bound of two where each frame arrives by the faster network and the copy is known; else the greater.
+        By A the frame waits for another one at its source, by B each line is ten times slower."""
+        lesser = busy(64) + last_bit(64) + TO_SWITCH + last_bit(64) + TO_END
+        greater = 10 * last_bit(64) + TO_SWITCH + 10 * last_bit(64) + TO_END
+        self.assertEqual((lesser, greater), (34440, 131400))
+        # The earliest by A: nothing waits. The latest by B is so much later.
+        apart = greater - 27720
+        outage = {"from": "E1", "to": "A", "from_ns": 0, "to_ns": 1}
+        elsewhere = {"from": "A", "to": "E1", "from_ns": 0, "to_ns": 1}
+        for bound, changes, outages in (
+            (lesser, {}, ()),
+            (lesser, {}, [elsewhere]),
+            (greater, {}, [outage]),
+            (lesser, {"skew_max_ns": apart}, ()),
+            (greater, {"skew_max_ns": apart - 1}, ()),
+            # The first switch may get a frame late by busy(64), and the next one not.
+            (lesser, {"policing_jitter_ns": busy(64)}, ()),
+            (greater, {"policing_jitter_ns": busy(64) - 1}, ()),
+            (lesser, {"policing_jitter_ns": 0, "smax": 128}, ()),
+            (greater, {"policing_jitter_ns": 0, "smax": 128, "policing": "frames"}, ()),
+        ):
+            with self.subTest(changes=changes, outages=outages):
+                vls = [virtual_link(1, way("E1", "A", "E2"), way("E1", "B", "E2"), **changes)]
+                found = network([*vls, virtual_link(2, way("E1", "A", "E2"))], {("B", "E1"): 10, ("B", "E2"): 10}, outages)
+                self.assertEqual(found.latencies[1, "E2"], (bound, ""))
+
+    def test_a_port_that_may_be_full(self):
+        """At a port of 1518 bytes 23 frames of 64 bytes may wait, and not 24. By B, ten times slower, each frame waits for
+        one of 1518, at the source and then at the switch, where it is whole when the long one has just begun to leave."""
+        for others, by in ((23, "A"), (24, "B")):
+            vls = [virtual_link(1, way("E1", "A", "E2"), way("E1", "B", "E2"), skew_max_ns=10**9)]
+            vls += [virtual_link(i + 3, way("E1", "A", "E2")) for i in range(others)]
+            vls.append(virtual_link(2, (), way("E1", "B", "E2"), size=1518, bag_ms=2))
+            found = network(vls, {("B", "E1"): 10, ("B", "E2"): 10}, port_bytes=1518)
+            self.assertEqual(found.ports["E1>A"].most, others * 64)
+            bound = others * busy(64) + 2 * last_bit(64) + TO_SWITCH + TO_END
+            if by == "B":
+                source, switch = busy(1518) + last_bit(64), busy(1518) - busy(64) + last_bit(64)
+                bound = 10 * (source + switch) + TO_SWITCH + TO_END
+            self.assertEqual(found.latencies[1, "E2"], (bound, ""))
+
+    def test_there_is_no_bound(self):
+        """A line of 10 Mbit/s that is given two frames of 1000 bytes in each ms, of 1.6 ms together."""
+        slow, size = {("A", "E3"): 10}, {"size": 1000}
+        too_much = "A>E3 may be given more than it can send"
+        vls = [virtual_link(i, way(f"E{i}", "A", "E3"), **size) for i in (1, 2)]
+        found = network(vls, slow)
+        self.assertEqual(found.latencies, {(1, "E3"): (None, too_much), (2, "E3"): (None, too_much)})
+        self.assertIn(f"1,E3,none,0,,,{too_much}\n", found.text())
+        self.assertIn(f",A>E3,,,none,65536,{too_much}\n", found.text())
+        # A high one goes first, and waits for one low frame at most.
+        found = network([*vls, virtual_link(3, way("E4", "A", "E3"), priority="high")], slow)
+        self.assertEqual(found.latencies[1, "E3"], (None, too_much))
+        high = last_bit(64) + TO_SWITCH + 10 * (busy(1000) + last_bit(64)) + TO_END
+        self.assertEqual(found.latencies[3, "E3"], (high, ""))
+        # Exactly as much as the line can send: 1230 bytes with the gap take a whole BAG.
+        found = network([virtual_link(1, way("E1", "A", "E3"), size=1230)], slow)
+        self.assertEqual(found.latencies[1, "E3"], (last_bit(1230) + TO_SWITCH + 10 * last_bit(1230) + TO_END, ""))
+        self.assertIsNone(network([virtual_link(1, way("E1", "A", "E3"), size=1231)], slow).latencies[1, "E3"][0])
+        # Frames above smax come to the first switch and no further. Others wait for them at the source.
+        vls = [virtual_link(1, way("E1", "A", "E2"), size=1000, smax=999), virtual_link(2, way("E1", "A", "E2"))]
+        found = network(vls)
+        self.assertEqual(found.latencies[1, "E2"], (None, "no frame arrives: size is above smax"))
+        bound = busy(1000) + last_bit(64) + TO_SWITCH + last_bit(64) + TO_END
+        self.assertEqual(found.latencies[2, "E2"], (bound, ""))
+
+    def test_behind_a_line_without_a_bound(self):
+        """The line to the second switch is given too much. A third end system's frames meet there what comes of it: the
+        line brings one frame after another, and at most what the accounts let through."""
+        vls = [virtual_link(i, way(f"E{i}", "A", "AA", "E3"), size=1230) for i in (1, 2)]
+        vls.append(virtual_link(3, way("E4", "AA", "E3")))
+        found = network(vls, {("A", "AA"): 10})
+        self.assertEqual(found.latencies[1, "E3"], (None, "A>AA may be given more than it can send"))
+        # One frame of 1230 bytes at once, and no second one before the next 64 bytes are gone.
+        bound = last_bit(64) + TO_SWITCH + busy(1230) + last_bit(64) + TO_END
+        self.assertEqual(found.latencies[3, "E3"], (bound, ""))
+
+    def test_bursts_that_grow_round_a_circle(self):
+        """Eight switches in a circle, each with an end system that sends seven switches on: 86 percent of each line.
+        What is late makes others late, without end. With six lines on the way and less load there are bounds."""
+        for far, size, is_bound in ((7, 1500, False), (6, 1000, True)):
+            vls = []
+            for i in range(8):
+                names = [f"A{(i + k) % 8}" for k in range(far + 1)]
+                vls.append(virtual_link(i, way(f"E{i}", *names, f"E{(i + far) % 8}"), size=size, smax=size + 1))
+            found = network(vls)
+            for bound, why in found.latencies.values():
+                self.assertEqual(bound is not None, is_bound)
+                self.assertRegex(why, r"^$" if is_bound else r"^bursts grow round a circle of lines by A[0-7]>A[0-7]$")
+
+
+class OfExamples(unittest.TestCase):
+    def test_no_latency_of_an_example_is_above_its_bound(self):
+        paths = sorted(glob.glob(os.path.join(EXAMPLES, "*.toml")))
+        self.assertGreater(len(paths), 5)
+        for path in paths:
+            net = afdx.Network(path)
+            found = bounds.Bounds(net)
+            for row in afdx.Tables(path.replace(".toml", ".tables.csv"), net).latencies.values():
+                with self.subTest(path, vl=row.vl, where=row.where):
+                    bound, why = found.latencies[row.vl, row.where]
+                    self.assertEqual(bound is None, why != "")
+                    if bound is not None:
+                        self.assertLessEqual(row.greatest, bound)
+
+    def test_the_smallest_are_reached(self):
+        """Where frames meet in the worst way, the bound is what happens."""
+        for name in ("n1", "n2", "n3"):
+            net = afdx.Network(os.path.join(EXAMPLES, name + ".toml"))
+            last = max(afdx.Tables(net.path.replace(".toml", ".tables.csv"), net).latencies.values(), key=lambda row: row.greatest)
+            self.assertEqual(bounds.Bounds(net).latencies[last.vl, last.where], (last.greatest, ""))
+
+
+class OfRuns(unittest.TestCase):
+    def call(self, *words):
+        said = io.StringIO()
+        with contextlib.redirect_stdout(said):
+            status = bounded_runs.main(list(words))
+        return status, said.getvalue()
+
+    def test_drawn_networks(self):
+        status, said = self.call("--networks", "60")
+        self.assertEqual(status, 0, said)
+        self.assertRegex(said, r"^60 networks, 600 runs: \d{5} latencies and \d{5} ports held against bounds, 0 above; ")
+
+    def test_what_is_above_its_bound_is_told_and_can_be_run_again(self):
+        """With all bounds a hundredth lower, some latency is above its bound. The words that are told run it again."""
+        honest = bounds.Bounds.latency
+
+        def lower(self, vl, where):
+            bound, why = honest(self, vl, where)
+            return bound and bound * 99 // 100, why
+
+        with tempfile.TemporaryDirectory() as folder, mock.patch.object(bounds.Bounds, "latency", lower):
+            status, said = self.call("--networks", "10")
+            self.assertEqual(status, 1)
+            first, *again = said.splitlines()[0].split("; again: bounded_runs.py ")
+            self.assertRegex(first, r"^network \d+, run \d+: virtual link \d+ at E\d took \d+ ns, and its bound is \d+ ns$")
+            words = again[0].replace("DIR", folder).split()
+            status, said = self.call(*words)
+            self.assertEqual(status, 1)
+            self.assertIn(first, said)
+            number, run = words[words.index("--first") + 1], int(words[words.index("--runs") + 1]) - 1
+            self.assertIn(f"network-{number}-run-{run}.toml", os.listdir(folder))
+
+
+class Command(unittest.TestCase):
+    def call(self, *words):
+        command = [sys.executable, os.path.join(HERE, "bounds.py"), *words]
+        run = subprocess.run(command, capture_output=True, text=True)
+        return run.returncode, run.stdout, run.stderr
+
+    def test_it_writes_csv(self):
+        path = os.path.join(EXAMPLES, "n1.toml")
+        text = "vl,where,bound_ns,wait_ns,waiting_bytes,port_bytes,why\n1,ES2,27720,0,,,\n"
+        text += ",ES1>SW1,,,0,4096,\n,SW1>ES2,,,0,65536,\n"
+        self.assertEqual(self.call(path), (0, text, ""))
+        with tempfile.TemporaryDirectory() as folder:
+            out = os.path.join(folder, "bounds.csv")
+            self.assertEqual(self.call(path, "-o", out), (0, "", ""))
+            with open(out, encoding="utf-8") as file:
+                self.assertEqual(file.read(), text)
+
+    def test_what_is_no_description(self):
+        with open(os.path.join(EXAMPLES, "n1.toml"), encoding="utf-8") as file:
+            text = file.read()
+        with tempfile.TemporaryDirectory() as folder:
+            path = os.path.join(folder, "net.toml")
+            for old, new, said in (
+                ("bag_ms = 1", "bag_ms = 3", "line 32: virtual link 1 (vl row 1), bag_ms is 3, and must be 1, 2, 4,"),
+                ('["ES1", "SW1", "ES2"]', '["ES1", "SW1", "ES1"]', "line 42: virtual link 1 (vl row 1), a, "),
+                ("bag_ms = 1", "bag_ms = ", "line 32: is no TOML"),
+                ("size = 64", "", "line 30: vl 1 size is missing"),
+            ):
+                with open(path, "w", encoding="utf-8") as out:
+                    out.write(text.replace(old, new))
+                status, out, told = self.call(path)
+                self.assertEqual((status, out), (2, ""))
+                self.assertTrue(told.startswith(f"bounds.py: {path} {said}"), told)
+            status, _, told = self.call(os.path.join(folder, "none"))
+            self.assertEqual((status, told.count("\n")), (2, 1))
+
+    def test_984_virtual_links(self):
+        """It takes a second or so of a processor that does nothing else, and may take three beside other work."""
+        with tempfile.TemporaryDirectory() as folder:
+            path = os.path.join(folder, "net.toml")
+            words = [sys.executable, os.path.join(HERE, "large_network.py"), "--virtual-links", "984"]
+            with open(path, "w", encoding="utf-8") as out:
+                subprocess.run(words, stdout=out, stderr=subprocess.DEVNULL, check=True)
+            before = resource.getrusage(resource.RUSAGE_CHILDREN).ru_utime
+            status, said, _ = self.call(path)
+            self.assertLess(resource.getrusage(resource.RUSAGE_CHILDREN).ru_utime - before, 3)
+            self.assertEqual(status, 0)
+            latencies = [line for line in said.splitlines()[1:] if line[0] != ","]
+            self.assertGreater(len(latencies), 5000)
+            self.assertNotIn("none", said)
+
+    def test_help_says_what_it_is(self):
+        status, said, _ = self.call("--help")
+        self.assertEqual(status, 0)
+        self.assertIn("A bound of this model, computed outside the proofs.", said)
+        for word in ("columns:", "There is no bound", "wait_ns", "status:"):
+            self.assertIn(word, said)
+
+
+if __name__ == "__main__":
+    unittest.main()
