@@ -1,4 +1,3 @@
 pub mod Running
 pub mod Load
 pub mod Recording
-pub mod Left

@@ -1,20 +1,14 @@
 //! A message that was sent and waits in a heap. The greatest element of a heap comes out first: so the earlier message is the greater one.
-ghost use Rattle.std.specs.Prelude.{◌≡◌, ◌∷◌, drop, OnOk, IfErr, IsPermutation};
+ghost use Rattle.std.specs.Prelude.{◌≡◌};
 ghost use Rattle.std.proofs.Common.{◌∙◌};
 ghost use Rattle.std.specs.Cmp.{back_po, back_total};
-ghost use Rattle.std.specs.BinaryHeap.{IsHeap, KeepsHeap, heap_items};
 ghost use Rattle.vlink.specs.declared.message.Message.{Message};
 ghost use Rattle.vlink.specs.contracts.message.MessagePartialEq.TheImpl.Laws as message_eq;
 ghost use Rattle.vlink.specs.contracts.message.MessageEq.TheImpl.Laws as message_equiv;
 ghost use Rattle.vlink.specs.contracts.message.MessagePartialOrd.TheImpl.Laws as message_partial;
 ghost use Rattle.vlink.specs.contracts.message.MessageOrd.TheImpl.Laws as message_total;
-ghost use Rattle.actor_run.specs.declared.fault.SimFault.TheVariants.{OutOfMemory};
-ghost use Rattle.actor_run.specs.Left.{left_in};
 
-use crate::fault::SimFault;
 use std::cmp::Ordering;
-use std::collections::BinaryHeap;
-use std::collections::binary_heap::PeekMut;
 use std::marker::Model;
 use vlink::{Message, compare};
 
@@ -88,51 +82,5 @@ impl Ord for Sent {
     #[inline(always)]
     fn cmp(&self, other: &Self) -> Ordering {
         compare(&other.message, &self.message)
-    }
-}
-
-/// Puts a message into the heap: in the place of the top, where that is out.
-#[inline(always)]
-pub(crate) fn put(
-    sent: &mut BinaryHeap<Sent>,
-    top_is_out: bool,
-    message: &Message,
-) -> Result<(), SimFault>
-    ensures more { OnOk result (IsPermutation (message.now ∷ left_in top_is_out (heap_items sent.old)) (heap_items sent.new)) }
-    ensures ordered { KeepsHeap (λ x y. ⟦<Message as Ord>⟧.cmp y x) (heap_items sent.old) (heap_items sent.new) }
-    ensures memory { IfErr result (λ fault. fault ≡ OutOfMemory) }
-{
-    if top_is_out {
-        return replace_top(sent, message);
-    }
-    sent.push(Sent::new(message))?;
-    Ok(())
-}
-
-/// Puts a message into the heap, in the place of the top where there is one.
-#[inline(always)]
-fn replace_top(sent: &mut BinaryHeap<Sent>, message: &Message) -> Result<(), SimFault>
-    ensures more { OnOk result (IsPermutation (message.now ∷ drop 1 (heap_items sent.old)) (heap_items sent.new)) }
-    ensures ordered { KeepsHeap (λ x y. ⟦<Message as Ord>⟧.cmp y x) (heap_items sent.old) (heap_items sent.new) }
-    ensures memory { IfErr result (λ fault. fault ≡ OutOfMemory) }
-{
-    if let Some(mut top) = sent.peek_mut() {
-        *top = Sent::new(message);
-        return Ok(());
-    }
-    sent.push(Sent::new(message))?;
-    Ok(())
-}
-
-/// Takes the top out of the heap, where it is out and nothing has taken its place.
-#[inline(always)]
-pub(crate) fn settle(sent: &mut BinaryHeap<Sent>, top_is_out: bool)
-    ensures left { IsPermutation (left_in top_is_out (heap_items sent.old)) (heap_items sent.new) }
-    ensures ordered { KeepsHeap (λ x y. ⟦<Message as Ord>⟧.cmp y x) (heap_items sent.old) (heap_items sent.new) }
-{
-    if top_is_out {
-        if let Some(top) = sent.peek_mut() {
-            let _top = PeekMut::pop(top);
-        }
     }
 }
