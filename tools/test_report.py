@@ -281,15 +281,23 @@ class Browser:
         self.command = [self.program, "--headless", "--no-sandbox", "--disable-gpu", "--disable-dev-shm-usage"]
         self.command += ["--user-data-dir=" + os.path.join(self.folder, "profile")]
 
+    def run(self, *words):
+        """Runs the browser. On a machine that has no time for it it may hang as it begins, so it is tried thrice."""
+        for seconds in (100, 100, 300):
+            try:
+                return subprocess.run([*self.command, *words], capture_output=True, timeout=seconds, check=True)
+            except subprocess.TimeoutExpired as fault:
+                late = fault
+        raise late
+
     def open(self, path, script, address=""):
         """The page as the browser has it once it is loaded, at an address of it, and a script has run, with the processor
         seconds it took."""
         tried = os.path.join(self.folder, "tried.html")
         with open(tried, "w", encoding="utf-8") as out:
             out.write(read(path) + f'<script>addEventListener("load", () => {{{script}}})</script>')
-        command = [*self.command, "--dump-dom", "file://" + tried + address]
         before = resource.getrusage(resource.RUSAGE_CHILDREN)
-        run = subprocess.run(command, capture_output=True, timeout=300, check=True)
+        run = self.run("--dump-dom", "file://" + tried + address)
         after = resource.getrusage(resource.RUSAGE_CHILDREN)
         page = Page(run.stdout.decode("utf-8"))
         page.seconds = after.ru_utime - before.ru_utime + after.ru_stime - before.ru_stime
@@ -300,8 +308,7 @@ class Browser:
         tried, sheets = os.path.join(self.folder, "tried.html"), os.path.join(self.folder, "sheets.pdf")
         with open(tried, "w", encoding="utf-8") as out:
             out.write(read(path) + f'<script>addEventListener("load", () => {{{script}}})</script>')
-        command = [*self.command, "--print-to-pdf=" + sheets, "file://" + tried]
-        subprocess.run(command, capture_output=True, timeout=300, check=True)
+        self.run("--print-to-pdf=" + sheets, "file://" + tried)
         with open(sheets, "rb") as file:
             objects = dict(re.findall(rb"\n(\d+) 0 obj\s(.*?)\sendobj", file.read(), re.DOTALL))
         found = [it for it in objects.values() if re.search(rb"/Type /Page\b(?!s)", it)]
