@@ -7,6 +7,7 @@ use denote.Param.SendFields.{declared_send, declared_sync}
 use Rattle.std.proofs.Crossing.{crosses}
 use Rattle.std.proofs.option.Option.TheSendSync as option
 use Rattle.std.proofs.sync.OnceLock.TheSendSync as once
+use Rattle.boxcar.proofs.slot.OnceSlot.TheSendSync as slot
 use Rattle.vlink.specs.declared.message.Message.{Message}
 use Rattle.vlink.proofs.time.Time.TheSendSync as time
 use Rattle.reverse.specs.declared.actor.Actor.{Ghosts as ActorGhosts}
@@ -59,10 +60,10 @@ entry-sync : IsSync Entry.the_row
 entry-sync = declared_sync Entry.the_type (past-sync, (deed-sync, (search sendable, tt)))
 
 page-send : IsSend Page.the_row
-page-send = search (entry-send, once.the_send, declared_send, sendable, crosses) depth 20
+page-send = search (entry-send, slot.the_send, declared_send, sendable, crosses) depth 20
 
 page-sync : IsSync Page.the_row
-page-sync = search (entry-send, entry-sync, once.the_sync, declared_sync, sendable, crosses) depth 20
+page-sync = search (entry-send, entry-sync, slot.the_sync, declared_sync, sendable, crosses) depth 20
 
 entries-sync : IsSync Entries.the_row
 entries-sync = search (page-send, page-sync, once.the_sync, declared_sync, sendable, crosses) depth 20
@@ -80,7 +81,7 @@ exchange-send a R J K g h k = view_send _ _ _ _ _ (declared_send (ExchangeIn.the
 
 -- ---- the locks
 locked-send : (a : NamedLft) (J : RattleType) (g : NetworkGhosts J.Denot) → IsSend (Locked.the_row a J g)
-locked-send a J g = declared_send (Locked.the_type a J g) (held-send _ _ (Of.the_row J) _ _ node_reversible.ghosts _ node.the_send node_record.the_send, (search sendable, (search sendable, tt)))
+locked-send a J g = declared_send (Locked.the_type a J g) (held-send _ _ (Of.the_row J) _ _ node_reversible.ghosts _ node.the_send node_record.the_send, (search sendable, tt))
 
 pub locks-sync : (a : NamedLft) (J : RattleType) (g : NetworkGhosts J.Denot) → IsSync (Locks.the_row a J g)
 locks-sync a J g = declared_sync (Locks.the_type a J g)

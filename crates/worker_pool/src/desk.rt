@@ -6,10 +6,10 @@ ghost use Rattle.netdesc.specs.Faults.{process_count};
 ghost use Rattle.worker_pool.specs.Parts.{IsPartOfRun};
 ghost use Rattle.worker_pool.specs.Written.{IsPlaceFault};
 
-use crate::calls::Call;
 use crate::locks::Locked;
 use crate::network_run::NetworkRun;
 use crate::parts::next_part;
+use crate::rounds::schedule::Call;
 use crate::run_batch::RunBatch;
 use crate::run_gather::RunGather;
 use crossbeam_channel::{SendError, Sender};
@@ -142,12 +142,14 @@ impl<J: NetworkRun> TraceLock<J> {
         unreachable!()
     }
 
-    /// A process that gave its parts is called once GVT is `BEHIND` intervals further, though it may have nothing else to do: the parts of the
-    /// others wait for its own.
-    pub(crate) fn call<'a>(&self, locked: &Locked<'a, J>) -> Call {
+    /// A process that gave its parts, and had its turn up to this limit, in ns, is called `BEHIND` intervals further on, though it may have nothing
+    /// else to do: the parts of the others wait for its own.
+    pub(crate) fn call<'a>(&self, locked: &Locked<'a, J>, limit_ns: u64) -> Call {
+        let given_ns = cut(self.until, u64::from(locked.given)).ns();
+        let behind_ns = cut(self.until, BEHIND).ns();
         Call {
             process: locked.held.number(),
-            due_ns: cut(self.until, u64::from(locked.given) + BEHIND).ns(),
+            moment_ns: given_ns.max(limit_ns).saturating_add(behind_ns),
         }
     }
 

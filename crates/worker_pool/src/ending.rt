@@ -9,12 +9,12 @@ use crate::desk::TraceLock;
 use crate::locks::{Locked, Locks};
 use crate::network_run::{NetworkRun, Of};
 use crate::pace::Pace;
-use crate::turn::lent_turn;
+use crate::rounds::batch::{ExchangeLock, give_block, take_letters, work_to};
 use exchange::{Exchange, Gate, Held, publish};
 use journal::PoolFault;
 use nodes::Node;
 use std::alloc::{AllocError, Global};
-use std::sync::{Mutex, Wait};
+use std::sync::Wait;
 use vlink::Time;
 
 /// The exchange and all processes of a run, out of their locks, and the lock of its trace, if one is written.
@@ -44,7 +44,7 @@ impl<'a, J: NetworkRun> Unlocked<'a, J> {
     pub(crate) fn of(
         alloc: Global,
         locks: Locks<'a, J>,
-        exchange: Mutex<Exchange<'a, Node, Of<J>>>,
+        exchange: ExchangeLock<'a, J>,
     ) -> Result<Self, AllocError> {
         let Locks { locks, trace, .. } = locks;
         let mut lockeds = Vec::with_capacity(alloc, locks.len())?;
@@ -52,7 +52,7 @@ impl<'a, J: NetworkRun> Unlocked<'a, J> {
             lockeds.push(lock.into_inner())?;
         }
         Ok(Unlocked {
-            exchange: exchange.into_inner(),
+            exchange: exchange.into_inner().into_inner(),
             lockeds,
             trace,
         })
@@ -91,7 +91,9 @@ impl<'a, J: NetworkRun> Unlocked<'a, J> {
         gate: &G,
     ) -> Result<(), PoolFault> {
         for locked in self.lockeds.iter_mut() {
-            lent_turn(locked, &mut self.exchange, pace, gate)?;
+            take_letters(locked, &mut self.exchange)?;
+            work_to(locked, u64::MAX, pace, gate)?;
+            give_block(locked, &mut self.exchange)?;
             if let Some(trace) = &self.trace {
                 trace.give_parts(rt, locked)?;
             }

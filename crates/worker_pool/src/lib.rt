@@ -2,28 +2,23 @@
 //! exchange of `exchange`, and the names of both, so that a user has one door.
 #![tactic(auto)]
 
-mod calls;
 mod counted;
 mod desk;
-mod due;
 mod ending;
-mod hint;
 mod lawful_rows;
 mod locks;
 mod network_run;
 mod opening;
 mod pace;
 mod parts;
-mod picking;
 mod results;
+mod rounds;
 mod run_batch;
 mod run_gather;
 mod run_writer;
 mod running;
 mod trace_run;
 mod tracing;
-mod turn;
-mod worker;
 mod workers;
 mod writing;
 

@@ -6,7 +6,6 @@ ghost use Rattle.journal.specs.declared.fault.PoolFault.TheVariants.{OutOfMemory
 
 use crate::desk::TraceLock;
 use crate::network_run::{NetworkRun, Of};
-use crate::pace::Pace;
 use exchange::Held;
 use journal::PoolFault;
 use netdesc::Network;
@@ -15,12 +14,10 @@ use std::alloc::{AllocError, Global};
 use std::sync::Mutex;
 use vlink::Time;
 
-/// What one lock keeps: a process in hand; its lead: how far it runs ahead of the GVT that it saw, in ns; and of how many intervals of the
-/// trace its parts were given.
+/// What one lock keeps: a process in hand, and of how many intervals of the trace its parts were given.
 #[derive(Drop)]
 pub(crate) struct Locked<'a, J: NetworkRun> {
     pub held: Held<'a, Node, Of<J>>,
-    pub lead_ns: u64,
     pub given: u16,
 }
 
@@ -34,13 +31,11 @@ pub(crate) struct Locks<'a, J: NetworkRun> {
     pub ghost few: { length locks.items ≤ greatest_processes },
 }
 
-/// A lock for each process of the network, in order, beside that of the trace. The lead of each begins at the window. It is refused for memory
-/// alone.
+/// A lock for each process of the network, in order, beside that of the trace. It is refused for memory alone.
 pub(crate) fn locks_of<'a, J: NetworkRun>(
     alloc: Global,
     network: &Network,
     helds: Vec<Held<'a, Node, Of<J>>>,
-    pace: &Pace,
     trace: Option<TraceLock<J>>,
 ) -> Result<Locks<'a, J>, PoolFault>
     requires network { network.now ≡ J.plan }
@@ -48,7 +43,7 @@ pub(crate) fn locks_of<'a, J: NetworkRun>(
     ensures memory { IfErr result (λ fault. fault ≡ OutOfMemory) }
 {
     network.process_count();
-    let locks = mutexes_of(alloc, helds, pace.window_ns)?;
+    let locks = mutexes_of(alloc, helds)?;
     Ok(Locks {
         locks,
         until: network.until(),
@@ -56,21 +51,16 @@ pub(crate) fn locks_of<'a, J: NetworkRun>(
     })
 }
 
-/// A lock for each of these, in order, with this lead in ns.
+/// A lock for each of these, in order.
 fn mutexes_of<'a, J: NetworkRun>(
     alloc: Global,
     helds: Vec<Held<'a, Node, Of<J>>>,
-    lead_ns: u64,
 ) -> Result<Vec<Mutex<Locked<'a, J>>>, AllocError>
     ensures { IfOk result (λ locks. length locks.items ≡ length helds.entry.items) }
 {
     let mut locks = Vec::with_capacity(alloc, helds.len())?;
     for held in helds {
-        locks.push(Mutex::new(Locked {
-            held,
-            lead_ns,
-            given: 0,
-        }))?;
+        locks.push(Mutex::new(Locked { held, given: 0 }))?;
     }
     Ok(locks)
 }

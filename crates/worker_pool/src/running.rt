@@ -19,6 +19,7 @@ use crate::locks::locks_of;
 use crate::network_run::NetworkRun;
 use crate::opening::open_network;
 use crate::pace::Pace;
+use crate::rounds::apart::Apart;
 use crate::workers::start_all;
 use exchange::{Gate, Pairs};
 use journal::{Entries, PoolFault};
@@ -63,9 +64,9 @@ pub(crate) fn run_to_end<'a, J: NetworkRun + Send + Sync, G: Gate + Sync, T: Thr
 {
     let (exchange, helds) = open_network::<J>(alloc, network, table, pairs, MOST_STEPS)?;
     let keeps_rows = trace.is_none();
-    let locks = locks_of(alloc, network, helds, pace, trace)?;
-    let exchange = Mutex::new(exchange);
-    start_all(rt, alloc, &locks, &exchange, pace, gate)?;
+    let locks = locks_of(alloc, network, helds, trace)?;
+    let exchange = Mutex::new(Apart::new(exchange));
+    start_all(rt, alloc, network, &locks, &exchange, pace, gate)?;
     let mut unlocked = Unlocked::of(alloc, locks, exchange)?;
     unlocked.end(rt, network.until(), keeps_rows, pace, gate)?;
     Ok(unlocked)

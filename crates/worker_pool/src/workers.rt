@@ -3,16 +3,18 @@ ghost use Rattle.std.specs.Prelude.{◌≡◌, ◌≤◌, ◌⊎◌, IfErr};
 ghost use Rattle.journal.specs.Faults.{fault_number};
 
 use crate::locks::Locks;
-use crate::network_run::{NetworkRun, Of};
+use crate::network_run::NetworkRun;
 use crate::pace::Pace;
-use crate::picking::{Notices, Picker, pickers};
-use crate::worker::Worker;
-use exchange::{Exchange, Gate};
+use crate::rounds::batch::ExchangeLock;
+use crate::rounds::picker::Picker;
+use crate::rounds::schedule::{Schedule, schedule_of};
+use crate::rounds::worker::Worker;
+use exchange::Gate;
 use journal::PoolFault;
-use nodes::Node;
+use netdesc::Network;
 use std::alloc::Global;
+use std::sync::Wait;
 use std::sync::atomic::{AtomicBool, Ordering};
-use std::sync::{Mutex, Wait};
 use std::thread;
 use std::thread::Threads;
 
@@ -23,16 +25,20 @@ use std::thread::Threads;
 pub(crate) fn start_all<'a, J: NetworkRun + Send + Sync, G: Gate + Sync, T: Threads + Wait + Sync>(
     rt: &T,
     alloc: Global,
+    network: &Network,
     locks: &Locks<'a, J>,
-    exchange: &Mutex<Exchange<'a, Node, Of<J>>>,
+    exchange: &ExchangeLock<'a, J>,
     pace: &Pace,
     gate: &G,
-) -> Result<(), PoolFault> {
+) -> Result<(), PoolFault>
+    requires { network.now ≡ J.plan }
+{
     if locks.locks.is_empty() {
         return Ok(());
     }
-    let (pickers, notices) = pickers(alloc, pace.workers, locks.locks.len())?;
-    let notices = &notices;
+    let workers = usize::from(pace.workers);
+    let (pickers, schedule) = schedule_of(alloc, network, workers, lists_of(rt, workers))?;
+    let schedule = &schedule;
     let stop = AtomicBool::new(false);
     let stop = &stop;
     thread::scope(thread::scope_env(), rt, |scope| {
@@ -44,7 +50,7 @@ pub(crate) fn start_all<'a, J: NetworkRun + Send + Sync, G: Gate + Sync, T: Thre
                 break;
             }
             match scope.spawn(move || work(
-                rt, picker, notices, locks, exchange, pace, gate, stop,
+                rt, alloc, picker, schedule, locks, exchange, pace, gate, stop,
             )) {
                 Ok(handle) => handles.push_reserved(handle),
                 Err(_) => {
@@ -60,13 +66,22 @@ pub(crate) fn start_all<'a, J: NetworkRun + Send + Sync, G: Gate + Sync, T: Thre
     })
 }
 
+/// Among how many of so many workers the processes are dealt: one for each processor at most.
+fn lists_of<T: Threads>(rt: &T, workers: usize) -> usize {
+    match thread::available_parallelism(rt) {
+        Ok(processors) => workers.min(processors.get()),
+        Err(_) => workers,
+    }
+}
+
 /// A worker gives turns until the run is over or a refusal ends it. One of its own ends the others at their next turn.
 fn work<'s, 'a, J: NetworkRun, G: Gate, T: Wait>(
     rt: &'s T,
+    alloc: Global,
     picker: Picker<J>,
-    notices: &'s Notices<J>,
+    schedule: &'s Schedule<J>,
     locks: &'s Locks<'a, J>,
-    exchange: &'s Mutex<Exchange<'a, Node, Of<J>>>,
+    exchange: &'s ExchangeLock<'a, J>,
     pace: &'s Pace,
     gate: &'s G,
     stop: &'s AtomicBool,
@@ -74,17 +89,23 @@ fn work<'s, 'a, J: NetworkRun, G: Gate, T: Wait>(
     let mut worker = Worker {
         rt,
         picker,
-        notices,
+        calls: Vec::new(alloc),
+        rounds: 0,
+        looks: 0,
+        schedule,
         locks,
         exchange,
         pace,
         gate,
         stop,
     };
-    match worker.turns() {
+    let mut batch = Vec::new(alloc);
+    let outcome = match worker.turns(&mut batch) {
         Err(fault) => refused(stop, fault),
         Ok(()) => Ok(()),
-    }
+    };
+    schedule.end();
+    outcome
 }
 
 /// Sets the flag that ends all workers, and answers the fault.

@@ -1,0 +1,122 @@
+//! The turns of several processes that a worker holds at once.
+use super::apart::Apart;
+use super::schedule::Call;
+use super::{PAUSES_OF_TRY, TRIES};
+use crate::locks::Locked;
+use crate::network_run::{NetworkRun, Of};
+use crate::pace::Pace;
+use exchange::{Exchange, Gate, collect, post, work};
+use journal::PoolFault;
+use nodes::Node;
+use std::alloc::AllocError;
+use std::hint;
+use std::sync::{Mutex, MutexGuard, Wait};
+use vlink::Time;
+
+/// The processes that a worker holds, each by its lock, which it took without waiting for it.
+pub(crate) type Batch<'s, 'a, J> = Vec<MutexGuard<'s, Locked<'a, J>>>;
+
+/// The lock of the exchange.
+pub(crate) type ExchangeLock<'a, J> = Mutex<Apart<Exchange<'a, Node, Of<J>>>>;
+
+/// All letters in the mail of each process come to its tray, in one section of the exchange.
+pub(crate) fn collect_for<'s, 'a, J: NetworkRun, T: Wait>(
+    rt: &T,
+    batch: &mut Batch<'s, 'a, J>,
+    lock: &ExchangeLock<'a, J>,
+) -> Result<(), PoolFault> {
+    let mut exchange = locked_soon(rt, lock);
+    for locked in batch.iter_mut() {
+        take_letters(&mut *locked, &mut exchange.value)?;
+    }
+    Ok(())
+}
+
+/// What each process did goes to the journal, and its letters to the mail, in one section of the exchange.
+pub(crate) fn post_for<'s, 'a, J: NetworkRun, T: Wait>(
+    rt: &T,
+    batch: &mut Batch<'s, 'a, J>,
+    lock: &ExchangeLock<'a, J>,
+) -> Result<(), PoolFault> {
+    let mut exchange = locked_soon(rt, lock);
+    for locked in batch.iter_mut() {
+        give_block(&mut *locked, &mut exchange.value)?;
+    }
+    Ok(())
+}
+
+/// The value of a lock that others have for some microseconds at most: a thread that slept would lose more, so it tries for a while.
+fn locked_soon<'b, V, T: Wait>(rt: &T, lock: &'b Mutex<V>) -> MutexGuard<'b, V> {
+    for _ in 0..TRIES {
+        if let Some(guard) = lock.try_lock() {
+            return guard;
+        }
+        for _ in 0..PAUSES_OF_TRY {
+            hint::spin_loop();
+        }
+    }
+    lock.lock(rt)
+}
+
+/// All letters in the mail of the process come to its tray. A process with a block, which a refusal left, takes none before that is posted.
+pub(crate) fn take_letters<'a, J: NetworkRun>(
+    locked: &mut Locked<'a, J>,
+    exchange: &mut Exchange<'a, Node, Of<J>>,
+) -> Result<(), PoolFault> {
+    if locked.held.pending() == 0 {
+        let _letters = collect(&mut locked.held, exchange, u32::MAX)?;
+    }
+    Ok(())
+}
+
+/// What the process did goes to the journal, and its letters to the mail.
+pub(crate) fn give_block<'a, J: NetworkRun>(
+    locked: &mut Locked<'a, J>,
+    exchange: &mut Exchange<'a, Node, Of<J>>,
+) -> Result<(), PoolFault> {
+    post(&mut locked.held, exchange)
+}
+
+/// The process works on its events before the limit, in ns, no further ahead of the GVT that it saw than the window.
+pub(crate) fn work_to<'a, J: NetworkRun, G: Gate>(
+    locked: &mut Locked<'a, J>,
+    limit_ns: u64,
+    pace: &Pace,
+    gate: &G,
+) -> Result<(), PoolFault> {
+    let seen_ns = locked.held.share().seen.ns();
+    let ahead_ns = limit_ns.saturating_sub(seen_ns).min(pace.window_ns);
+    let _moves = work(&mut locked.held, u32::from(pace.turn), ahead_ns, gate)?;
+    Ok(())
+}
+
+/// Lists whom a process calls that has worked and has not yet posted: the receiver of each of its letters, and itself where it has a message
+/// to handle.
+pub(crate) fn list_calls<'a, J: NetworkRun>(
+    calls: &mut Vec<Call>,
+    locked: &Locked<'a, J>,
+) -> Result<(), AllocError> {
+    for letter in locked.held.outbox() {
+        add_call(
+            calls,
+            call_for(letter.message.receiver, letter.message.time),
+        )?;
+    }
+    if let Some(message) = locked.held.next() {
+        add_call(calls, call_for(locked.held.number(), message.time))?;
+    }
+    Ok(())
+}
+
+fn call_for(process: u16, moment: Time) -> Call {
+    Call {
+        process,
+        moment_ns: moment.ns(),
+    }
+}
+
+/// Lists one call more.
+pub(crate) fn add_call(calls: &mut Vec<Call>, call: Call) -> Result<(), AllocError> {
+    calls.push(call)?;
+    Ok(())
+}
