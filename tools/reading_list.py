@@ -15,6 +15,7 @@ few. What the libraries of the kit define is named at the end, and not followed.
 tools/test_reading_list.py holds the document against the lists.
 """
 import argparse
+import functools
 import os
 import re
 import sys
@@ -88,6 +89,8 @@ class Tree:
         with open(os.path.join(top, "crates.txt"), encoding="utf-8") as file:
             self.order = [line.split(":")[0] for line in file if line.strip()]
         self.known, self.texts = {}, {}
+        self.code = functools.cache(self.code)
+        self.type_home = functools.cache(self.type_home)
 
     def text(self, crate, path):
         if (crate, path) not in self.texts:
