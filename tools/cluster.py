@@ -21,7 +21,7 @@ from runs import Failure, Printed, failure_of
 DEBIAN = "/usr/bin/python3"
 PACKAGE = "python3-distributed"
 # How long to wait for the scheduler, and for a first worker, in s.
-PATIENCE, PATIENCE_FOR_WORKERS = 10, 30
+PATIENCE, PATIENCE_FOR_WORKERS = 30, 120
 
 
 def address(text):
