@@ -291,8 +291,8 @@ class Browser:
         raise late
 
     def open(self, path, script, address=""):
-        """The page as the browser has it once it is loaded, at an address of it, and a script has run, with the processor
-        seconds it took."""
+        """The page as the browser has it once it is loaded, at an address of it, and a script has run, with the
+        processor seconds it took."""
         tried = os.path.join(self.folder, "tried.html")
         with open(tried, "w", encoding="utf-8") as out:
             out.write(read(path) + f'<script>addEventListener("load", () => {{{script}}})</script>')
