@@ -143,13 +143,18 @@ impl<J: NetworkRun> TraceLock<J> {
     }
 
     /// A process that gave its parts, and had its turn up to this limit, in ns, is called `BEHIND` intervals further on, though it may have nothing
-    /// else to do: the parts of the others wait for its own.
+    /// else to do: the parts of the others wait for its own. Behind the end of the run it is not called: the end of the run takes what is left.
     pub(crate) fn call<'a>(&self, locked: &Locked<'a, J>, limit_ns: u64) -> Call {
         let given_ns = cut(self.until, u64::from(locked.given)).ns();
         let behind_ns = cut(self.until, BEHIND).ns();
+        let moment_ns = given_ns.max(limit_ns).saturating_add(behind_ns);
         Call {
             process: locked.held.number(),
-            moment_ns: given_ns.max(limit_ns).saturating_add(behind_ns),
+            moment_ns: if moment_ns <= self.until.ns() {
+                moment_ns
+            } else {
+                u64::MAX
+            },
         }
     }
 
