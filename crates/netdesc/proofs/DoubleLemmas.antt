@@ -3,6 +3,7 @@ use Rattle.std.proofs.Common.{◌≡◌, ℕ, ◌+◌, ◌<◌, Bool, true, fals
 use Rattle.std.specs.List.{list_any}
 use Rattle.std.specs.Ordering.{nat_cmp}
 use Rattle.std.specs.BTreeSet.{BTreeSet, contains, Updates}
+use Rattle.std.specs.HashSet as hash
 use Rattle.std.proofs.lemmas.List.{take_more, take-append-drop}
 use Rattle.std.proofs.lemmas.List.Folds.{list_any-append}
 use Rattle.netdesc.specs.Trees.{has_double}
@@ -46,13 +47,17 @@ has_double-front (x ∷ xs) ys h =
 pub has_double-taken : (xs : List ℕ) (i : ℕ) → has_double (take i xs) ≡ true → has_double xs ≡ true
 has_double-taken xs i h = ap has_double (sym (take-append-drop i xs)) ∙ has_double-front (take i xs) (drop i xs) h
 
+or-of : (b c : Bool) → cond b true c ≡ (c || b)
+or-of true true = refl
+or-of true false = refl
+or-of false true = refl
+or-of false false = refl
+
 -- a set with one number more
 pub contains-put : (old new : BTreeSet ℕ) (n : ℕ) → Updates nat_cmp old new n true → (m : ℕ) → contains nat_cmp new m ≡ (contains nat_cmp old m || (n == m))
 contains-put old new n put m =
     put.0 m ∙ ap (λ b. cond b true (contains nat_cmp old m)) (is_eq-nat_cmp n m) ∙ or-of (n == m) (contains nat_cmp old m)
-  where
-    or-of : (b c : Bool) → cond b true c ≡ (c || b)
-    or-of true true = refl
-    or-of true false = refl
-    or-of false true = refl
-    or-of false false = refl
+
+pub hash_contains-put : {S : Type 0} (old new : hash.HashSet ℕ S) (n : ℕ) → hash.Updates (λ x y. x == y) old new n true
+    → (m : ℕ) → hash.contains (λ x y. x == y) new m ≡ (hash.contains (λ x y. x == y) old m || (n == m))
+hash_contains-put old new n put m = put.0 m ∙ or-of (n == m) (hash.contains (λ x y. x == y) old m)

@@ -1,20 +1,13 @@
 -- A map from two nodes to the link that joins them, one link after another.
 use Rattle.std.proofs.Common.{◌≡◌, ℕ, Bool, true, false, cond, ◌==◌, ◌&&◌, ◌||◌, List, [], ◌∷◌, ◌++◌, length, Option, Some, None, is_some, refl, ap, sym, ◌∙◌, arith}
-use Rattle.std.specs.Ordering.{nat_cmp, ordering_then, is_eq}
-use Rattle.std.specs.declared.cmp.Ordering.{Ordering}
-use Rattle.std.specs.declared.cmp.Ordering.TheVariants.{Less, Equal, Greater}
-use Rattle.std.specs.BTreeMap.{BTreeMap, get, UpdatesBy}
+use Rattle.std.specs.Ordering.{nat_cmp, is_eq}
+use Rattle.std.specs.HashMap.{HashMap, get, UpdatesBy}
 use Rattle.std.proofs.lemmas.Bool.{false≢true}
 use Rattle.std.proofs.lemmas.Bool.Decides.{nat_tests}
 use Rattle.netdesc.specs.declared.wiring.Link.{Link}
 use Rattle.netdesc.specs.Wiring.{goes, joins, link_between}
-use Rattle.netdesc.specs.Code.Finding.{pair_cmp, AreJoined}
+use Rattle.netdesc.specs.Code.Finding.{is_same_pair, AreJoined}
 use Rattle.netdesc.proofs.PlaceLemmas.{or_else, or_else-none, place_by-push, place_by-same, none_of}
-
-is_eq-then : (o p : Ordering) → is_eq (ordering_then o p) ≡ (is_eq o && is_eq p)
-is_eq-then Less p = refl
-is_eq-then Equal p = refl
-is_eq-then Greater p = refl
 
 pub is_eq-nat_cmp : (a b : ℕ) → is_eq (nat_cmp a b) ≡ (a == b)
 is_eq-nat_cmp a b = grind (arith, nat_tests)
@@ -24,10 +17,6 @@ or-cond true true = refl
 or-cond true false = refl
 or-cond false true = refl
 or-cond false false = refl
-
--- pairs are equal where both numbers are
-pub is_eq-pair : (a b x y : ℕ) → is_eq (pair_cmp (a, b) (x, y)) ≡ ((a == x) && (b == y))
-is_eq-pair a b x y = is_eq-then (nat_cmp a x) (nat_cmp b y) ∙ rw (is_eq-nat_cmp a x, is_eq-nat_cmp b y) refl
 
 -- equal numbers, tested from either side
 pub ==-flip : (a b : ℕ) → (a == b) ≡ (b == a)
@@ -53,19 +42,18 @@ pub link_between-flip : (links : List Link) (x y : ℕ) → link_between links x
 link_between-flip links x y = place_by-same (joins x y) (joins y x) links (λ l. ||-flip (goes x y l) (goes y x l))
 
 -- a link more, which joins nodes that none joins so far
-pub AreJoined-put : (old mid new : BTreeMap (ℕ × ℕ) ℕ) (links : List Link) (l : Link) (i : ℕ) → AreJoined old links
-    → is_some (get pair_cmp old (l.a, l.b)) ≡ false
-    → UpdatesBy pair_cmp (pair_cmp (l.b, l.a)) old mid (Some i) → UpdatesBy pair_cmp (pair_cmp (l.a, l.b)) mid new (Some i)
+pub AreJoined-put : {S : Type 0} (old mid new : HashMap (ℕ × ℕ) ℕ S) (links : List Link) (l : Link) (i : ℕ) → AreJoined old links
+    → is_some (get is_same_pair old (l.a, l.b)) ≡ false
+    → UpdatesBy is_same_pair (is_same_pair (l.b, l.a)) old mid (Some i) → UpdatesBy is_same_pair (is_same_pair (l.a, l.b)) mid new (Some i)
     → i ≡ length links → AreJoined new (links ++ l ∷ [])
 AreJoined-put old mid new links l i are absent back there at_end = λ x y.
     there.0 (x, y)
-    ∙ ap (λ b. cond b (Some i) (get pair_cmp mid (x, y))) (is_eq-pair l.a l.b x y)
-    ∙ ap (λ o. cond (goes x y l) (Some i) o) (back.0 (x, y) ∙ ap (λ b. cond b (Some i) (get pair_cmp old (x, y))) (is_eq-pair l.b l.a x y ∙ &&-flip (l.b == x) (l.a == y)) ∙ ap (λ o. cond (goes y x l) (Some i) o) (are x y))
+    ∙ ap (λ o. cond (goes x y l) (Some i) o) (back.0 (x, y) ∙ ap (λ b. cond b (Some i) (get is_same_pair old (x, y))) (&&-flip (l.b == x) (l.a == y)) ∙ ap (λ o. cond (goes y x l) (Some i) o) (are x y))
     ∙ found x y (goes x y l) (goes y x l) refl refl
     ∙ sym (place_by-push (joins x y) links l)
   where
     fresh : link_between links l.a l.b ≡ None
-    fresh = sym (are l.a l.b) ∙ none_of (get pair_cmp old (l.a, l.b)) absent
+    fresh = sym (are l.a l.b) ∙ none_of (get is_same_pair old (l.a, l.b)) absent
 
     found : (x y : ℕ) (one two : Bool) → goes x y l ≡ one → goes y x l ≡ two
         → cond one (Some i) (cond two (Some i) (link_between links x y)) ≡ or_else (link_between links x y) (cond (one || two) (Some (length links)) None)
@@ -80,7 +68,7 @@ AreJoined-put old mid new links l i are absent back there at_end = λ x y.
     found x y false false e f = sym (or_else-none (link_between links x y))
 
 -- a link between nodes that one joins already leaves the map as it is
-pub AreJoined-kept : (places : BTreeMap (ℕ × ℕ) ℕ) (links : List Link) (l : Link) → AreJoined places links → is_some (get pair_cmp places (l.a, l.b)) ≡ true → AreJoined places (links ++ l ∷ [])
+pub AreJoined-kept : {S : Type 0} (places : HashMap (ℕ × ℕ) ℕ S) (links : List Link) (l : Link) → AreJoined places links → is_some (get is_same_pair places (l.a, l.b)) ≡ true → AreJoined places (links ++ l ∷ [])
 AreJoined-kept places links l are there = λ x y. are x y ∙ kept x y (goes x y l) (goes y x l) refl refl (link_between links x y) refl ∙ sym (place_by-push (joins x y) links l)
   where
     gone : (o : Option ℕ) → o ≡ None → is_some o ≡ true → ⊥
@@ -90,10 +78,10 @@ AreJoined-kept places links l are there = λ x y. are x y ∙ kept x y (goes x y
     kept x y one two e f (Some n) found = refl
     kept x y true two e f None found =
         let same = goes-true x y l e in
-        absurd (gone (get pair_cmp places (l.a, l.b)) (are l.a l.b ∙ ap (λ n. link_between links n l.b) same.0 ∙ ap (λ n. link_between links x n) same.1 ∙ found) there)
+        absurd (gone (get is_same_pair places (l.a, l.b)) (are l.a l.b ∙ ap (λ n. link_between links n l.b) same.0 ∙ ap (λ n. link_between links x n) same.1 ∙ found) there)
     kept x y false true e f None found =
         let same = goes-true y x l f in
-        absurd (gone (get pair_cmp places (l.a, l.b)) (are l.a l.b ∙ ap (λ n. link_between links n l.b) same.0 ∙ ap (λ n. link_between links y n) same.1 ∙ link_between-flip links y x ∙ found) there)
+        absurd (gone (get is_same_pair places (l.a, l.b)) (are l.a l.b ∙ ap (λ n. link_between links n l.b) same.0 ∙ ap (λ n. link_between links y n) same.1 ∙ link_between-flip links y x ∙ found) there)
     kept x y false false e f None found = refl
 
 -- a link joins its own nodes

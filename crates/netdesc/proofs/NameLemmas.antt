@@ -1,15 +1,13 @@
 -- A map from names to numbers, one name after another.
 use Rattle.std.proofs.Common.{◌≡◌, ℕ, zero, suc, ◌+◌, ◌<◌, Bool, true, false, cond, List, [], ◌∷◌, ◌++◌, length, take, get_or, map, Option, Some, None, is_some, IfSome, unwrap_or, refl, ap, sym, ◌∙◌, arith, inl, inr}
 use Rattle.std.specs.Str.{bytes_eq}
-use Rattle.std.specs.Cmp.Lexicographic.{slice_cmp}
-use Rattle.std.specs.Ordering.{nat_cmp}
-use Rattle.std.specs.BTreeMap.{BTreeMap, get_by, UpdatesBy}
+use Rattle.std.specs.HashMap.{HashMap, get_by, UpdatesBy}
 use denote.Ref.{Bor}
 use Rattle.std.proofs.lemmas.Bool.{cases_Bool, false≢true}
 use Rattle.std.specs.Bool.{Decides, one_answer}
 use Rattle.std.proofs.lemmas.Slice.Eq.{bytes_eq-Decides}
 use Rattle.std.proofs.lemmas.List.{take_more, map-append, length-map, length-take-le}
-use Rattle.std.proofs.lemmas.Map.Text.{btree_map_updates_str}
+use Rattle.std.proofs.lemmas.Map.Text.{hash_map_updates_str}
 use Rattle.network_rows.specs.declared.rows.NodeRow.{NodeRow}
 use Rattle.netdesc.specs.Plan.{node_plan}
 use Rattle.netdesc.specs.Names.{names_of, place_among, number_of}
@@ -24,8 +22,8 @@ bytes_eq-flip x y = one_answer (bytes_eq x y) (bytes_eq y x) (bytes_eq-Decides x
     flipped d = (λ t. sym (d.0 t), λ e. d.1 (sym e))
 
 -- a name that is there already leaves the map as it is
-pub AreNumbers-kept : (numbers : BTreeMap (Bor (List ℕ)) ℕ) (names : List (List ℕ)) (x : List ℕ) → AreNumbers numbers names
-    → is_some (get_by (λ k. slice_cmp nat_cmp x k.now) numbers) ≡ true → AreNumbers numbers (names ++ x ∷ [])
+pub AreNumbers-kept : {S : Type 0} (numbers : HashMap (Bor (List ℕ)) ℕ S) (names : List (List ℕ)) (x : List ℕ) → AreNumbers numbers names
+    → is_some (get_by (λ k. bytes_eq x k.now) numbers) ≡ true → AreNumbers numbers (names ++ x ∷ [])
 AreNumbers-kept numbers names x are there = λ q. are q ∙ kept q (place_among names q) refl ∙ sym (place_by-push (bytes_eq q) names x)
   where
     kept : (q : List ℕ) (p : Option ℕ) → place_among names q ≡ p → p ≡ or_else p (cond (bytes_eq q x) (Some (length names)) None)
@@ -38,17 +36,17 @@ AreNumbers-kept numbers names x are there = λ q. are q ∙ kept q (place_among 
     kept q (Some n) e = refl
 
 -- a new name is put in at its place
-pub AreNumbers-put : (old new : BTreeMap (Bor (List ℕ)) ℕ) (names : List (List ℕ)) (x : List ℕ) (n : ℕ) → AreNumbers old names
-    → is_some (get_by (λ k. slice_cmp nat_cmp x k.now) old) ≡ false
-    → UpdatesBy (λ x y. slice_cmp nat_cmp x.now y.now) (λ k. slice_cmp nat_cmp x k.now) old new (Some n) → n ≡ length names → AreNumbers new (names ++ x ∷ [])
+pub AreNumbers-put : {S : Type 0} (old new : HashMap (Bor (List ℕ)) ℕ S) (names : List (List ℕ)) (x : List ℕ) (n : ℕ) → AreNumbers old names
+    → is_some (get_by (λ k. bytes_eq x k.now) old) ≡ false
+    → UpdatesBy (λ x y. bytes_eq x.now y.now) (λ k. bytes_eq x k.now) old new (Some n) → n ≡ length names → AreNumbers new (names ++ x ∷ [])
 AreNumbers-put old new names x n are absent put at_end = λ q.
-    btree_map_updates_str x old new (Some n) put q ∙ found q ∙ sym (place_by-push (bytes_eq q) names x)
+    hash_map_updates_str x old new (Some n) put q ∙ found q ∙ sym (place_by-push (bytes_eq q) names x)
   where
     absent_of : (p : Option ℕ) → is_some p ≡ false → p ≡ None
     absent_of None e = refl
     absent_of (Some m) e = absurd (false≢true (sym e))
 
-    found : (q : List ℕ) → cond (bytes_eq x q) (Some n) (get_by (λ k. slice_cmp nat_cmp q k.now) old) ≡ or_else (place_among names q) (cond (bytes_eq q x) (Some (length names)) None)
+    found : (q : List ℕ) → cond (bytes_eq x q) (Some n) (get_by (λ k. bytes_eq q k.now) old) ≡ or_else (place_among names q) (cond (bytes_eq q x) (Some (length names)) None)
     found q = elim (cases_Bool (bytes_eq x q)) [
       | inl t ↦ (let same : x ≡ q = (bytes_eq-Decides x q).0 t in
           let none : place_among names q ≡ None = ap (place_among names) (sym same) ∙ absent_of (place_among names x) (ap is_some (sym (are x)) ∙ absent) in

@@ -1,8 +1,7 @@
 -- A map from nodes to where they are reached from, one hop after another.
 use Rattle.std.proofs.Common.{◌≡◌, ℕ, ◌<◌, Bool, true, false, cond, ◌==◌, List, [], ◌∷◌, ◌++◌, length, take, get_or, Option, Some, None, refl, ap, sym, ◌∙◌, subst, arith, inl, inr}
 use Rattle.std.specs.List.{list_any, Contains}
-use Rattle.std.specs.Ordering.{nat_cmp}
-use Rattle.std.specs.BTreeMap.{BTreeMap, get, UpdatesBy}
+use Rattle.std.specs.HashMap.{HashMap, get, UpdatesBy}
 use Rattle.std.proofs.lemmas.Bool.{cases_Bool}
 use Rattle.std.proofs.lemmas.Bool.Decides.{nat_tests}
 use Rattle.std.proofs.lemmas.List.{take-append-drop}
@@ -11,7 +10,6 @@ use Rattle.std.proofs.lemmas.List.Folds.{list_any_none, list_any-from_Any}
 use Rattle.netdesc.specs.declared.wiring.Hop.{Hop}
 use Rattle.netdesc.specs.Trees.{is_other_way, has_other_way}
 use Rattle.netdesc.specs.Code.Finding.{AreWaysBy, AreWays}
-use Rattle.netdesc.proofs.JoinLemmas.{is_eq-nat_cmp}
 
 -- a test that one element passes
 pub list_any-contains : {X : Type 0} (p : X → Bool) (xs : List X) (x : X) → Contains xs x → p x ≡ true → list_any p xs ≡ true
@@ -55,9 +53,9 @@ AreWays-more old new hops t are absent at = (first, second)
       | inr apart ↦ (let before : old to ≡ Some from = sym (at to ∙ rw apart refl) ∙ found in Contains-append_left hops (t ∷ []) _ (are.1 to from before))
     ]
 
-pub AreWays-put : (old new : BTreeMap ℕ ℕ) (hops : List Hop) (t : Hop) → AreWays old hops → get nat_cmp old t.to ≡ None → UpdatesBy nat_cmp (nat_cmp t.to) old new (Some t.from) → AreWays new (hops ++ t ∷ [])
-AreWays-put old new hops t are absent put =
-    AreWays-more (get nat_cmp old) (get nat_cmp new) hops t are absent (λ to. put.0 to ∙ ap (λ b. cond b (Some t.from) (get nat_cmp old to)) (is_eq-nat_cmp t.to to))
+pub AreWays-put : {S : Type 0} (old new : HashMap ℕ ℕ S) (hops : List Hop) (t : Hop) → AreWays old hops → get (λ x y. x == y) old t.to ≡ None
+    → UpdatesBy (λ x y. x == y) (λ k. t.to == k) old new (Some t.from) → AreWays new (hops ++ t ∷ [])
+AreWays-put old new hops t are absent put = AreWays-more (get (λ x y. x == y) old) (get (λ x y. x == y) new) hops t are absent (λ to. put.0 to)
 
 -- a hop that leads to a node from another one than it was reached from
 pub other-way : (ways : ℕ → Option ℕ) (hops : List Hop) (t : Hop) (from : ℕ) → AreWaysBy ways hops → ways t.to ≡ Some from → (from == t.from) ≡ false

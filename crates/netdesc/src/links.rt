@@ -1,21 +1,21 @@
 //! Links by the nodes that they join.
 ghost use Rattle.std.specs.Prelude.{◌≡◌, ℕ, ◌+◌, ◌^◌, ◌<◌, ◌==◌, if◌then◌else◌, Some, is_some, slice_index, vec_len, count_by, OnOk, IfOk, IfErr};
 ghost use Rattle.network_rows.specs.declared.fault.DescFault.TheVariants.{OutOfMemory};
-ghost use Rattle.std.specs.BTreeMap.{Updates};
+ghost use Rattle.std.specs.HashMap.{Updates};
 ghost use Rattle.netdesc.specs.Wiring.{link_between, is_linked};
 ghost use Rattle.netdesc.specs.Faults.{touches};
-ghost use Rattle.netdesc.specs.Code.Finding.{AreJoined, pair_cmp};
+ghost use Rattle.netdesc.specs.Code.Finding.{AreJoined, is_same_pair};
 
 use crate::wiring::Link;
 use network_rows::DescFault;
 use std::alloc::Global;
-use std::collections::BTreeMap;
+use std::collections::HashMap;
 
 /// Links, with the place of the link for each two nodes that one joins.
 #[derive(Drop)]
 pub struct Joined<'a> {
     pub links: &'a [Link],
-    places: BTreeMap<(usize, usize), usize>,
+    places: HashMap<(usize, usize), usize>,
     ghost placed: { AreJoined places links.now },
 }
 
@@ -25,7 +25,7 @@ impl<'a> Joined<'a> {
         ensures links { IfOk result (λ joined. joined.links.now ≡ links.now) }
         ensures memory { IfErr result (λ fault. fault ≡ OutOfMemory) }
     {
-        let mut places = BTreeMap::new(alloc);
+        let mut places = HashMap::new(alloc);
         for (i, link) in links.iter().enumerate() {
             if !places.contains_key(&(link.a, link.b)) {
                 put(&mut places, link.b, link.a, i)?;
@@ -46,12 +46,12 @@ impl<'a> Joined<'a> {
 
 /// Puts the place of the link from `x` to `y` into the map.
 fn put(
-    places: &mut BTreeMap<(usize, usize), usize>,
+    places: &mut HashMap<(usize, usize), usize>,
     x: usize,
     y: usize,
     place: usize,
 ) -> Result<(), DescFault>
-    ensures updates { OnOk result (Updates pair_cmp places.old places.new (x, y) (Some place)) }
+    ensures updates { OnOk result (Updates is_same_pair places.old places.new (x, y) (Some place)) }
     ensures memory { IfErr result (λ fault. fault ≡ OutOfMemory) }
 {
     places.insert((x, y), place)?;

@@ -5,13 +5,13 @@ ghost use Rattle.netdesc.specs.Code.Finding.{AreNumbers};
 
 use network_rows::NodeRow;
 use std::alloc::{AllocError, Global};
-use std::collections::BTreeMap;
+use std::collections::HashMap;
 
 /// Nodes, with the number of each name.
 #[derive(Drop)]
 pub struct Names<'a> {
     pub nodes: &'a [NodeRow],
-    numbers: BTreeMap<&'a str, usize>,
+    numbers: HashMap<&'a str, usize>,
     ghost numbered: { AreNumbers numbers (names_of nodes.now) },
 }
 
@@ -20,7 +20,7 @@ impl<'a> Names<'a> {
     pub fn new(alloc: Global, nodes: &'a [NodeRow]) -> Result<Self, AllocError>
         ensures { IfOk result (λ names. names.nodes.now ≡ nodes.now) }
     {
-        let mut numbers = BTreeMap::new(alloc);
+        let mut numbers = HashMap::new(alloc);
         for (i, node) in nodes.iter().enumerate() {
             let name = node.name.as_str();
             if !numbers.contains_key(name) {

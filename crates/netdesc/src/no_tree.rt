@@ -18,7 +18,7 @@ use crate::routes::{push_all, push_ends};
 use crate::wiring::{Hop, is_end_system, is_switch_of};
 use network_rows::{DescFault, Key, NodeRow, Section};
 use std::alloc::Global;
-use std::collections::{BTreeMap, BTreeSet};
+use std::collections::{HashMap, HashSet};
 use vlink::Net;
 
 /// There is a node, and it is an end system.
@@ -90,11 +90,11 @@ pub fn has_double(numbers: &[usize]) -> bool
     false
 }
 
-/// A number is there twice. For any number of them: each is sought in a set of those before it.
-fn has_repeat(alloc: Global, numbers: &[usize]) -> Result<bool, DescFault>
+/// A number is there twice. For any number of them: each is sought in `seen`, a set of those before it.
+fn has_repeat(seen: &mut HashSet<usize>, numbers: &[usize]) -> Result<bool, DescFault>
     ensures { Tests result (has_double numbers.now) }
 {
-    let mut seen = BTreeSet::new(alloc);
+    seen.clear();
     for n in numbers {
         if !seen.insert(*n)? {
             return Ok(true);
@@ -136,7 +136,7 @@ fn begin_apart(paths: &[Vec<usize>]) -> bool
 }
 
 /// The hop leads to a node that was reached from another one; else it joins the ways that were found.
-fn is_other_way(ways: &mut BTreeMap<usize, usize>, hop: Hop) -> Result<bool, DescFault>
+fn is_other_way(ways: &mut HashMap<usize, usize>, hop: Hop) -> Result<bool, DescFault>
     ensures other { (hops : List Hop) → AreWays ways.old hops → IfOk result (λ other. MatchBool other
         ((s : Hop) × Contains hops s × (is_other_way s hop ≡ true)) (AreWays ways.new (hops ++ hop ∷ []))) }
     ensures memory { IfErr result (λ fault. fault ≡ OutOfMemory) }
@@ -150,22 +150,33 @@ fn is_other_way(ways: &mut BTreeMap<usize, usize>, hop: Hop) -> Result<bool, Des
     }
 }
 
-/// Two of these hops lead to one node from different ones.
-pub fn has_other_way(alloc: Global, hops: &[Hop]) -> Result<bool, DescFault>
+/// Two of these hops lead to one node from different ones. `ways` is filled with where each node is reached from.
+fn has_other_way(ways: &mut HashMap<usize, usize>, hops: &[Hop]) -> Result<bool, DescFault>
     ensures { Tests result (has_other_way hops.now) }
 {
-    let mut ways = BTreeMap::new(alloc);
+    ways.clear();
     for hop in hops {
-        if is_other_way(&mut ways, *hop)? {
+        if is_other_way(ways, *hop)? {
             return Ok(true);
         }
     }
     Ok(false)
 }
 
+/// Room for what is found out of the paths of one virtual link after another.
+#[derive(Drop)]
+struct Room {
+    /// Where the paths end.
+    ends: Vec<usize>,
+    seen: HashSet<usize>,
+    hops: Vec<Hop>,
+    /// From which node each one is reached.
+    ways: HashMap<usize, usize>,
+}
+
 /// The paths of one network are no tree.
 fn is_no_tree(
-    alloc: Global,
+    room: &mut Room,
     nodes: &[NodeRow],
     net: Net,
     paths: &[Vec<usize>],
@@ -175,39 +186,38 @@ fn is_no_tree(
     if has_bad_path(nodes, net, paths) {
         return Ok(true);
     }
-    let mut ends = Vec::new(alloc);
-    push_ends(&mut ends, paths)?;
-    if has_repeat(alloc, &ends)? {
+    room.ends.clear();
+    push_ends(&mut room.ends, paths)?;
+    if has_repeat(&mut room.seen, room.ends.as_slice())? {
         return Ok(true);
     }
-    let mut hops = Vec::new(alloc);
-    push_all(&mut hops, paths)?;
-    has_other_way(alloc, &hops)
+    room.hops.clear();
+    push_all(&mut room.hops, paths)?;
+    has_other_way(&mut room.ways, room.hops.as_slice())
 }
 
 /// The paths of each virtual link are trees from one source.
 #[derive(Drop)]
 struct Vls<'a> {
-    alloc: Global,
     nodes: &'a [NodeRow],
 }
 
 impl<'a> Review for Vls<'a> {
     type Row = Routed;
 
-    type Seen = ();
+    type Seen = Room;
 
     ghost faults = { λ s. no_tree_at_vl (map node_plan s.nodes.now) };
 
     ghost saw = { λ _ _ _. ⊤ };
 
-    fn review(&self, _seen: &mut (), i: usize, vl: &Routed) -> Result<(), DescFault> {
+    fn review(&self, room: &mut Room, i: usize, vl: &Routed) -> Result<(), DescFault> {
         let has_none = vl.a().is_empty() && vl.b().is_empty();
-        if has_none || is_no_tree(self.alloc, self.nodes, Net::A, vl.a())? {
+        if has_none || is_no_tree(room, self.nodes, Net::A, vl.a())? {
             return Err(DescFault::NotATree(key_at(Section::Vl, i, Key::A)));
         }
         let begin_apart = differ(source_among(vl.a()), source_among(vl.b()));
-        if is_no_tree(self.alloc, self.nodes, Net::B, vl.b())? || begin_apart {
+        if is_no_tree(room, self.nodes, Net::B, vl.b())? || begin_apart {
             return Err(DescFault::NotATree(key_at(Section::Vl, i, Key::B)));
         }
         Ok(())
@@ -218,5 +228,11 @@ impl<'a> Review for Vls<'a> {
 pub fn check_no_tree(alloc: Global, nodes: &[NodeRow], vls: &[Routed]) -> Result<(), DescFault>
     ensures { Finds result (each (no_tree_at_vl (map node_plan nodes.now)) vls.now) }
 {
-    check_each(&Vls { alloc, nodes }, &mut (), vls)
+    let mut room = Room {
+        ends: Vec::new(alloc),
+        seen: HashSet::new(alloc),
+        hops: Vec::new(alloc),
+        ways: HashMap::new(alloc),
+    };
+    check_each(&Vls { nodes }, &mut room, vls)
 }

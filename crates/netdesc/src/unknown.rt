@@ -46,7 +46,7 @@ fn node_at(names: &Names, name: &str, place: Place) -> Result<usize, DescFault>
 fn path_at(alloc: Global, names: &Names, path: &Path, place: Place) -> Result<Vec<usize>, DescFault>
     ensures { Gives items_of result (when (list_any (is_unknown (names_of names.now.nodes.now)) path.now) (UnknownName place)) (path_numbers (names_of names.now.nodes.now) path.now) }
 {
-    let mut numbers = Vec::new(alloc);
+    let mut numbers = Vec::with_capacity(alloc, path.len())?;
     for k in 0..path.len() {
         numbers.push(node_at(names, path.name(k), place)?)?;
     }
@@ -62,7 +62,7 @@ fn paths_at(
 ) -> Result<Vec<Vec<usize>>, DescFault>
     ensures { Gives lists_of result (when (has_unknown (names_of names.now.nodes.now) paths.now) (UnknownName place)) (paths_numbers (names_of names.now.nodes.now) paths.now) }
 {
-    let mut numbered = Vec::new(alloc);
+    let mut numbered = Vec::with_capacity(alloc, paths.len())?;
     for k in 0..paths.len() {
         numbered.push(path_at(alloc, names, &paths.path(k), place)?)?;
     }

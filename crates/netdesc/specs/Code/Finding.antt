@@ -1,12 +1,11 @@
 -- What checks answer, and what maps of numbers hold.
-use Rattle.std.specs.Prelude.{ℕ, ◌≡◌, List, [], Option, Some, Result, Ok, Err, Contains}
-use Rattle.std.specs.Cmp.Lexicographic.{slice_cmp}
-use Rattle.std.specs.Ordering.{nat_cmp, ordering_then}
-use Rattle.std.specs.declared.cmp.Ordering.{Ordering}
+use Rattle.std.specs.Prelude.{ℕ, ◌≡◌, ◌==◌, ◌&&◌, Bool, List, [], Option, Some, Result, Ok, Err, Contains}
+use Rattle.std.specs.Str.{bytes_eq}
+use Rattle.std.specs.Ordering.{nat_cmp}
 use Rattle.std.specs.List.{list_any}
 use Rattle.std.specs.BTreeSet.{BTreeSet, contains}
+use Rattle.std.specs.HashMap.{HashMap, get_by, get}
 use Rattle.vlink.specs.declared.frame.Net.{Net}
-use Rattle.std.specs.BTreeMap.{BTreeMap, get_by, get}
 use denote.Ref.{Bor}
 use Rattle.network_rows.specs.declared.fault.DescFault.{DescFault}
 use Rattle.netdesc.specs.declared.wiring.Link.{Link}
@@ -22,16 +21,16 @@ Finds (Ok x) faults = faults ≡ []
 Finds (Err fault) faults = Tells fault faults
 
 -- the map has the number of each name
-abbrev pub AreNumbers : BTreeMap (Bor (List ℕ)) ℕ → List (List ℕ) → Type 0
-AreNumbers numbers names = (name : List ℕ) → get_by (λ k. slice_cmp nat_cmp name k.now) numbers ≡ place_among names name
+abbrev pub AreNumbers : {S : Type 0} → HashMap (Bor (List ℕ)) ℕ S → List (List ℕ) → Type 0
+AreNumbers numbers names = (name : List ℕ) → get_by (λ k. bytes_eq name k.now) numbers ≡ place_among names name
 
--- pairs of numbers, by the first and then by the second
-abbrev pub pair_cmp : ℕ × ℕ → ℕ × ℕ → Ordering
-pair_cmp p q = ordering_then (nat_cmp p.0 q.0) (nat_cmp p.1 q.1)
+-- both numbers of two pairs are equal
+abbrev pub is_same_pair : ℕ × ℕ → ℕ × ℕ → Bool
+is_same_pair p q = (p.0 == q.0) && (p.1 == q.1)
 
 -- the map has the place of the link for each two nodes
-abbrev pub AreJoined : BTreeMap (ℕ × ℕ) ℕ → List Link → Type 0
-AreJoined places links = (x y : ℕ) → get pair_cmp places (x, y) ≡ link_between links x y
+abbrev pub AreJoined : {S : Type 0} → HashMap (ℕ × ℕ) ℕ S → List Link → Type 0
+AreJoined places links = (x y : ℕ) → get is_same_pair places (x, y) ≡ link_between links x y
 
 -- the set has the nodes that one of these links leads from to a switch of the network
 abbrev pub AreAttached : List NodePlan → Net → BTreeSet ℕ → List Link → Type 0
@@ -43,5 +42,5 @@ AreWaysBy from_of hops = ((s : Hop) → Contains hops s → from_of s.to ≡ Som
     × ((to from : ℕ) → from_of to ≡ Some from → Contains hops (record { from = from; to = to }))
 
 -- the map has them
-abbrev pub AreWays : BTreeMap ℕ ℕ → List Hop → Type 0
-AreWays ways hops = AreWaysBy (get nat_cmp ways) hops
+abbrev pub AreWays : {S : Type 0} → HashMap ℕ ℕ S → List Hop → Type 0
+AreWays ways hops = AreWaysBy (get (λ x y. x == y) ways) hops

@@ -1,7 +1,6 @@
-use Rattle.std.proofs.Common.{◌≡◌, ◌<◌, length, take, sym, subst, arith}
+use Rattle.std.proofs.Common.{◌≡◌, ◌<◌, ◌==◌, length, take, sym, subst, arith}
 use Rattle.std.proofs.lemmas.List.{take_more, take_all}
-use Rattle.std.specs.Ordering.{nat_cmp}
-use Rattle.std.specs.BTreeMap.{get}
+use Rattle.std.specs.HashMap.{get}
 use Rattle.netdesc.specs.Code.Finding.{AreWays}
 use Rattle.netdesc.proofs.WayLemmas.{no-other-way, other-way-at, no_hop}
 use Rattle.netdesc.proofs.no_tree.has_other_way.Goals as goal
@@ -26,4 +25,4 @@ pub returns : goal.returns
 returns c =
     let hops = c.args.hops.now in
     let all : take c.loop-hop.hop-index hops ≡ hops = take_all c.loop-hop.hop-index hops (omega arith) in
-    sym (no-other-way (get nat_cmp c.loop-hop.ways) hops (subst (AreWays c.loop-hop.ways) all c.loop-hop.invariant))
+    sym (no-other-way (get (λ x y. x == y) c.loop-hop.ways) hops (subst (AreWays c.loop-hop.ways) all c.loop-hop.invariant))

@@ -1,12 +1,11 @@
 use Rattle.std.proofs.Common.{◌≡◌, ℕ, ◌==◌, false, take}
 use Rattle.std.specs.List.{list_any}
-use Rattle.std.specs.Ordering.{nat_cmp}
-use Rattle.std.specs.BTreeSet.{contains}
+use Rattle.std.specs.HashSet.{contains}
 use Rattle.netdesc.specs.Trees.{has_double}
 use Rattle.netdesc.proofs.no_tree.has_repeat.Given as goal
 
 abbrev pub invariant-loop-n : goal.invariant-loop-n
 invariant-loop-n l = record {
   apart : has_double (take l.n-index l.numbers) ≡ false;
-  had : (m : ℕ) → contains nat_cmp l.seen m ≡ list_any (λ n. n == m) (take l.n-index l.numbers);
+  had : (m : ℕ) → contains (λ x y. x == y) l.seen m ≡ list_any (λ n. n == m) (take l.n-index l.numbers);
 }

@@ -1,6 +1,5 @@
 use Rattle.std.proofs.Common.{◌≡◌, ◌==◌, Some, ap, sym, ◌∙◌, arith, inl, inr}
-use Rattle.std.specs.Ordering.{nat_cmp}
-use Rattle.std.specs.BTreeMap.{get}
+use Rattle.std.specs.HashMap.{get}
 use Rattle.std.proofs.lemmas.Bool.{cases_Bool}
 use Rattle.std.proofs.lemmas.Bool.Decides.{nat_tests}
 use Rattle.netdesc.proofs.WayLemmas.{AreWays-kept, AreWays-put, other-way}
@@ -10,10 +9,10 @@ pub returns-in-Some-clause-other : goal.returns-in-Some-clause-other
 returns-in-Some-clause-other c = λ hops are.
     let from = c.in-Some.from.now in
     let hop = c.args.hop in
-    let found : get nat_cmp c.args.ways.now hop.to ≡ Some from = sym c.in-Some.ensures.value in
+    let found : get (λ x y. x == y) c.args.ways.now hop.to ≡ Some from = sym c.in-Some.ensures.value in
     elim (cases_Bool (from == hop.from)) [
-      | inl same ↦ (let equal : from ≡ hop.from = grind (arith, nat_tests) in rw same (AreWays-kept (get nat_cmp c.args.ways.now) hops hop are (found ∙ ap Some equal)))
-      | inr apart ↦ rw apart (other-way (get nat_cmp c.args.ways.now) hops hop from are found apart)
+      | inl same ↦ (let equal : from ≡ hop.from = grind (arith, nat_tests) in rw same (AreWays-kept (get (λ x y. x == y) c.args.ways.now) hops hop are (found ∙ ap Some equal)))
+      | inr apart ↦ rw apart (other-way (get (λ x y. x == y) c.args.ways.now) hops hop from are found apart)
     ]
 
 pub returns-in_ok-insert-in-None-clause-other : goal.returns-in_ok-insert-in-None-clause-other

@@ -12,6 +12,6 @@ returns-in_err-path_at c =
     let paths = c.args.paths.now in
     let unknown = list_any (is_unknown (names_of c.args.names.now.nodes.now)) in
     let lt : c.loop-k.k < length paths = omega arith in
-    let p = err_from_is_err_and c.from_residual.result c.from_residual.ensures.1 in
+    let p = err_from_is_err_and c.from_residual-in_err-path_at.result c.from_residual-in_err-path_at.ensures.1 in
     rw (p.1, p.2) (Tells-any unknown paths c.loop-k.k [] _ (UnknownName c.args.place) lt
     (rw c.path.ensures at c.in_err-path_at.ensures))

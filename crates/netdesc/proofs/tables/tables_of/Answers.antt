@@ -1,0 +1,28 @@
+use Rattle.std.proofs.Common.{◌≡◌, ◌<◌, length, map, ap, ◌∙◌, arith}
+use Rattle.std.proofs.lemmas.List.{length-map}
+use Rattle.netdesc.specs.Rows.{each}
+use Rattle.netdesc.specs.Plan.{node_plan}
+use Rattle.netdesc.specs.Lines.{directions, line_name}
+use Rattle.netdesc.proofs.tables.tables_of.Goals as goal
+
+pub returns-clause-tables : goal.returns-clause-tables
+returns-clause-tables c = λ until seed.
+    let nodes = map node_plan c.args.nodes.now in
+    let same = length-map c.args.nodes.now node_plan in
+    let links = c.in_ok-joined.ensures.links ∙ c.as_slice.ensures.value in
+    let lines : c.in_ok-lines.lines.items ≡ each (directions nodes) c.args.numbered.now.links.items =
+    c.in_ok-lines.ensures.lines ∙ ap (each (directions nodes)) links in
+    let count : c.len.result ≡ length (each (directions nodes) c.args.numbered.now.links.items) = omega (arith, c.len.ensures, c.in_ok-lines.lines.ok.0, ap length lines) in
+    record {
+      lines = lines;
+      line_names = c.in_ok-line_names.ensures.names ∙ ap (map (line_name nodes)) (c.as_slice-2.ensures.value ∙ lines);
+      losses = λ k h. rw (links, c.as_slice-3.ensures.value) at (c.in_ok-losses.ensures.outages k (omega (arith, count, h)));
+      losses_len = c.in_ok-losses.ensures.len ∙ count;
+      departures = λ node h. rw (links, c.as_slice-4.ensures.value, lines, c.as_slice-5.ensures.value) at (c.in_ok-meetings.ensures.departures node (omega (arith, same, h)));
+      departures_len = omega (arith, same, c.in_ok-meetings.ensures.departures_len);
+      arrivals = λ node h. rw (links, c.as_slice-4.ensures.value, lines, c.as_slice-5.ensures.value) at (c.in_ok-meetings.ensures.arrivals node (omega (arith, same, h)));
+      arrivals_len = omega (arith, same, c.in_ok-meetings.ensures.arrivals_len);
+      destinations = rw c.as_slice-6.ensures.value at c.in_ok-destinations.ensures.destinations;
+      places = λ id. rw c.as_slice-7.ensures.value at (c.in_ok-places.ensures.places id);
+      few = omega (arith, same, c.requires.few);
+    }
