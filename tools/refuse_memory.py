@@ -131,7 +131,7 @@ TESTS = (
 )
 
 # How a test ends that makes nothing of a refusal.
-NOTHING_MADE = re.compile(r"error: (?:AllocError|OutOfMemory)\n")
+NOTHING_MADE = re.compile(r"error: (?:AllocError|OutOfMemory)\nthe test failed: its result gives status 1\n")
 
 # How a run ended: its status, both streams, the files that are there, and how many requests it made (None where it was
 # killed).

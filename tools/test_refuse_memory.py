@@ -97,7 +97,7 @@ class Judged(unittest.TestCase):
     def test_a_test_passes_or_not(self):
         passed = Ended(0, "test result: ok\n", "commit was refused memory\n", {}, 5)
         failed = passed._replace(status=1, output="test result: FAILED\n")
-        ended = failed._replace(errors="error: AllocError\n")
+        ended = failed._replace(errors="error: AllocError\nthe test failed: its result gives status 1\n")
         for test in TESTS:
             for found, is_right in ((passed, True), (failed, False), (ended, test.may_end)):
                 with self.subTest(test=test.name, found=found):

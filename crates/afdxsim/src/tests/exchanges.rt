@@ -18,6 +18,7 @@ n1 => 3 => collect:0:8 work:0:16:1 post:0 steps pending:0 fits:0 => 1 2 full 1 2
 n1 => 4 => collect:0:8 work:0:16:1 post:0 post:0 steps pending:0 publish => 1 2 ok ok 4 0 full
 n1 => 100 => collect:0:8 other:fits:0 other:collect:0:8 other:steps other:gvt other:mail:0 other:pending:0 other:fits:0 => 1 yes torn 0 0 1 0 yes
 n1 => 100 => collect:0:0 collect:0:8 collect:0:8 mail:0 collect:1:8 fits:7 pending:7 steps step:0 step:1 => 0 1 0 0 0 none none 1 T:0:0 none
+n1 => offset_ns = 0 -> offset_ns = 1000 => 100 => publish publish steps step:0 => 1000 1000 1 G
 n1 => 100 => collect:0:8 work:0:16:1 post:0 publish collect:0:8 publish => 1 2 ok 5760 1 5760
 n1 => 100 => collect:0:8 work:0:16:1 post:0 publish collect:0:8 work:0:16:960 post:0 steps step:0 step:1 step:2 step:3 step:4 step:5 step:6 step:7 step:8 step:9 => 1 2 ok 5760 1 2 ok 9 T:0:0 A:0 R:0 P:0 G T:0:0 A:0 C:0 P:0 none
 n1 => 100 => collect:0:8 work:0:16:1 post:0 publish collect:0:8 work:0:16:961 pending:0 post:0 steps step:5 step:6 step:7 step:8 step:9 step:10 => 1 2 ok 5760 1 3 3 ok 10 T:0:0 A:0 R:0 C:0 P:0 none
