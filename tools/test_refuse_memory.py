@@ -1,43 +1,135 @@
-"""Tests of refuse_memory.py. They need the tests of `sample_actor`, at crates/sample_actor/out/sample_actor_tests, where
-`rt ci` leaves them."""
+"""Tests of refuse_memory.py, and what it is for: that each request for memory may be refused. They need the built programs,
+at crates/NAME/out, where `rt ci` leaves them."""
 import contextlib
 import io
 import os
-import re
 import sys
+import tempfile
 import unittest
 
 HERE = os.path.dirname(os.path.abspath(__file__))
 sys.path.insert(0, HERE)
 
 import refuse_memory  # noqa: E402
+from refuse_memory import COMMANDS, TABLES, TESTS, TRACE, Ended  # noqa: E402
 
-PROGRAM = os.path.join(refuse_memory.CRATE, "out", "sample_actor_tests")
+CHECK, SEQ, TRACED, REPLAY, RUN, RUN_FILES = COMMANDS
+MEMORY, WORKER = "afdxsim: out of memory\n", "afdxsim: cannot start a worker\n"
 
 
 class Refused(unittest.TestCase):
-    def setUp(self):
-        if not os.path.isfile(PROGRAM):
-            self.fail(f"there is no program at {os.path.normpath(PROGRAM)}: `rt ci` at the top builds it")
+    """Each request of the commands and of the tests."""
 
-    def ended(self, test):
-        """What is said where each request of this test is refused in turn, and the status."""
+    def setUp(self):
+        folder = tempfile.TemporaryDirectory()
+        self.addCleanup(folder.cleanup)
+        self.folder = folder.name
+        self.library = refuse_memory.prepare(self.folder)
+
+    def goes_well(self, refuse, program, what):
+        if not os.path.isfile(program):
+            self.fail(f"there is no program at {program}: `rt ci` at the top builds it")
         said = io.StringIO()
         with contextlib.redirect_stdout(said):
-            status = refuse_memory.refuse_all(PROGRAM, test)
-        return said.getvalue(), status
+            went_well = refuse(program, what, self.folder, self.library)
+        sys.stderr.write(said.getvalue())
+        self.assertTrue(went_well, said.getvalue())
 
-    def test_scripts_tell_what_their_lines_say_whatever_is_refused(self):
-        said, status = self.ended(refuse_memory.TEST)
-        self.assertEqual(status, 0, said)
-        last = re.search(r"^(\d+) requests refused in turn, (\d+) of them of an arrival; 0 runs failed\n\Z", said)
-        # Each of the six lines with an arrival that may be refused is refused by one of the two processes at least, and
-        # those that take back many messages by both.
-        self.assertGreaterEqual(int(last[2]), 8, said)
+    def test_commands_are_done_or_want_memory(self):
+        for command in COMMANDS:
+            with self.subTest(command.words):
+                self.goes_well(refuse_memory.refuse_command, refuse_memory.PROGRAM, command)
 
-    def test_a_run_that_fails_is_told(self):
-        said, status = self.ended("tests::no_such_test")
-        self.assertEqual(status, 1, said)
+    def test_refused_calls_answer_as_ever_when_they_are_made_again(self):
+        for test in TESTS:
+            with self.subTest(test.name):
+                program = refuse_memory.program_of(test.crate, test.crate + "_tests")
+                self.goes_well(refuse_memory.refuse_test, program, test)
+
+
+class Judged(unittest.TestCase):
+    """What is right, and what is told of what is wrong."""
+
+    def fault(self, command, status, output="", errors="", files=None, requests=9, is_replayed=True):
+        found = Ended(status, output, errors, files or {}, requests)
+        return refuse_memory.fault_of_command(command, found, lambda journal: is_replayed)
+
+    def test_what_a_command_may_come_to(self):
+        for command, status, output, errors, files in (
+            (CHECK, 0, CHECK.output, "", {}),
+            (CHECK, 5, "", MEMORY, {}),
+            (SEQ, 5, TABLES, MEMORY, {}),
+            (TRACED, 0, TABLES, "", {"trace.csv": TRACE}),
+            (TRACED, 5, "", MEMORY, {}),
+            (TRACED, 5, "", MEMORY, {"trace.csv": TRACE[:7]}),
+            (REPLAY, 0, TABLES, REPLAY.errors, {}),
+            (RUN, 4, "", WORKER, {}),
+            (RUN_FILES, 0, TABLES, "", {"journal.txt": "G\n", "trace.csv": TRACE}),
+            (RUN_FILES, 5, "", MEMORY, {"journal.txt": "T 0 0\nA 0\nG\nT 12 ", "trace.csv": ""}),
+        ):
+            with self.subTest(words=command.words, status=status, files=files):
+                self.assertIsNone(self.fault(command, status, output, errors, files))
+
+    def test_what_a_command_may_not_come_to(self):
+        for command, status, output, errors, files in (
+            (CHECK, 0, "", "", {}),
+            (CHECK, 3, "", "afdxsim: description: 1 Syntax\n", {}),
+            (CHECK, 1, "", "Error: Kind(OutOfMemory)\n", {}),
+            (CHECK, 5, "", "", {}),
+            (CHECK, 4, "", WORKER, {}),
+            (CHECK, 5, CHECK.output[:3], MEMORY, {}),
+            (SEQ, 0, TABLES, MEMORY, {}),
+            (TRACED, 0, TABLES, "", {}),
+            (TRACED, 0, TABLES, "", {"trace.csv": TRACE[:-1]}),
+            (TRACED, 4, "", "afdxsim: cannot write trace.csv\n", {}),
+            (TRACED, 5, "", MEMORY, {"trace.csv": TRACE[1:]}),
+            (REPLAY, 5, "", REPLAY.errors + MEMORY, {}),
+            (RUN, -6, "", "", {}),
+            (RUN_FILES, 5, "", MEMORY, {"journal.txt": "T 0 0\nX 1\n"}),
+            (RUN_FILES, 5, "", MEMORY, {"journal.txt": "T 0 0\n\n"}),
+        ):
+            with self.subTest(words=command.words, status=status, output=output, errors=errors, files=files):
+                self.assertIsNotNone(self.fault(command, status, output, errors, files))
+        whole = {"journal.txt": "G\n", "trace.csv": TRACE}
+        self.assertIsNotNone(self.fault(RUN_FILES, 0, TABLES, "", whole, is_replayed=False))
+        self.assertIsNotNone(self.fault(RUN, 5, "", MEMORY, requests=None))
+
+    def test_a_test_passes_or_not(self):
+        passed = Ended(0, "test result: ok\n", "commit was refused memory\n", {}, 5)
+        failed = passed._replace(status=1, output="test result: FAILED\n")
+        ended = failed._replace(errors="error: AllocError\nthe test failed: its result gives status 1\n")
+        for test in TESTS:
+            for found, is_right in ((passed, True), (failed, False), (ended, test.may_end)):
+                with self.subTest(test=test.name, found=found):
+                    self.assertEqual(refuse_memory.fault_of_test(test, found) is None, is_right)
+        told = passed.errors + "+10@1 was refused memory\n-5 was refused memory\n"
+        self.assertEqual(refuse_memory.calls_in(told), {"commit": 1, "deliver": 2})
+
+    def test_runs_end_once_no_request_is_refused(self):
+        """Of seven requests six are refused in turn, since one run makes fewer; the third run is wrong."""
+
+        def run(place):
+            requests = 6 if place == 7 else 7
+            status = 0 if place > requests else 5
+            return Ended(status, "", "post was refused memory\n" if place == 3 else "", {}, requests)
+
+        def fault_of(found):
+            return "wrong" if found.errors else None
+
+        refused, statuses, calls, faults = refuse_memory.refuse_each(run, fault_of)
+        self.assertEqual((refused, statuses, calls), (6, {5: 6}, {"post": 1}))
+        self.assertEqual(faults, ["request 3: wrong"])
+
+    def test_a_program_that_is_not_there_is_told(self):
+        said = io.StringIO()
+        with contextlib.redirect_stderr(said):
+            program, refuse_memory.PROGRAM = refuse_memory.PROGRAM, os.path.join(self.id(), "none")
+            try:
+                status = refuse_memory.main(["--only", "check"])
+            finally:
+                refuse_memory.PROGRAM = program
+        self.assertEqual(status, 2)
+        self.assertIn("none", said.getvalue())
 
 
 if __name__ == "__main__":

@@ -7,12 +7,16 @@ use super::changes::changed;
 use super::host::{MemoryHost, Page, says, status_of};
 use super::networks::network;
 use keys::{KINDS, LIMITS, LIMITS_OF_LINKS, LIMITS_OF_VIRTUAL_LINKS, MISSING, SYNTAX};
+use netdesc::{DescFault, read};
 use order::{KEYS, NUMBERS, SECTIONS};
 use rules::{ACCEPTED, DOUBLE, LINKS, SIZES, TREES, UNKNOWN};
+use seqsim::run;
 use std::alloc::{AllocError, Global};
+use std::process::Abort;
 use std::sync::Wait;
 use std::test::Fail;
 use std::thread::Threads;
+use trace_tables::{OutFault, write_csv};
 
 /// Each row tells the line of `check`, or the fault.
 const ROWS: [&str; 15] = [
@@ -277,7 +281,37 @@ fn want_of_memory_is_no_other_answer(rt: HostRuntime) {
             Err(_) => untried = untried.saturating_add(1),
         }
     }
+    if !is_read_and_written(&rt, rt.alloc()) {
+        untried = untried.saturating_add(1);
+    }
     assert!(rt; untried < 2);
+}
+
+// `read` gives the network, and `write_csv` writes its tables; or it wants memory, and nothing went out. The answer is whether both were
+// tried, or the first one was refused. `tools/refuse_memory.py` counts the lines.
+fn is_read_and_written(rt: &(impl Abort + Eprint), alloc: Global) -> bool {
+    let network = match read(alloc, ONE_SWITCH) {
+        Ok(network) => network,
+        Err(fault) => {
+            assert!(rt; fault == DescFault::OutOfMemory);
+            let _ = eprintln!(rt; "read was refused memory");
+            return true;
+        }
+    };
+    let Ok(finished) = run(alloc, &network) else {
+        return false;
+    };
+    let Ok(mut page) = Page::with_room(alloc, 128) else {
+        return false;
+    };
+    let written = write_csv(alloc, &network, &finished.tables, &mut page);
+    if written == Err(OutFault::OutOfMemory) {
+        assert!(rt; page.holds(""));
+        let _ = eprintln!(rt; "write_csv was refused memory");
+        return true;
+    }
+    assert!(rt; written == Ok(()) && page.holds(TABLES));
+    true
 }
 
 // The command tells this of the description, or that memory was wanting. The pages have their room before the program begins.

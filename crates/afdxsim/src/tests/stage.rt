@@ -21,6 +21,8 @@ pub struct Stage<'a, J: NetworkRun> {
     pub exchange: Exchange<'a, Node, Of<J>>,
     pub helds: Vec<Held<'a, Node, Of<J>>>,
     pub gate: Counted,
+    /// Which calls were refused memory, a line each.
+    pub refused: String,
 }
 
 /// Counts what it is told of, as long as the counts of a process come in turn.
@@ -107,6 +109,7 @@ impl<'a, J: NetworkRun> Stage<'a, J> {
         let before = self.seen(word);
         let mut answer = self.act(word)?;
         if answer_is_memory(&answer) && self.seen(word) == before {
+            self.note_refused(word.name)?;
             answer = self.act(word)?;
         }
         match answer {
@@ -115,13 +118,20 @@ impl<'a, J: NetworkRun> Stage<'a, J> {
         }
     }
 
-    // What a refused call leaves as it was: the count of steps, GVT, and the block and the share of its process.
-    fn seen(&self, word: Word<'_>) -> (u64, Time, Option<(u64, Mark)>) {
+    fn note_refused(&mut self, call: &str) -> Result<(), Fail> {
+        self.refused.push_str(call)?;
+        self.refused.push_str(" was refused memory\n")?;
+        Ok(())
+    }
+
+    // What a refused call leaves as it was: the count of steps, GVT, and the mail, the block and the share of its process.
+    fn seen(&self, word: Word<'_>) -> (u64, Time, u64, Option<(u64, Mark)>) {
         let held = match self.helds.get(word.first as usize) {
             Some(held) => Some((held.pending(), held.share())),
             None => None,
         };
-        (self.exchange.steps(), self.exchange.gvt(), held)
+        let mail = self.letters(word);
+        (self.exchange.steps(), self.exchange.gvt(), mail, held)
     }
 
     fn act(&mut self, word: Word<'_>) -> Result<Result<Answer, PoolFault>, Fail> {
@@ -150,6 +160,7 @@ impl<'a, J: NetworkRun> Stage<'a, J> {
         let left = held.pending().saturating_sub(before);
         if count == Err(PoolFault::OutOfMemory) {
             count = work(held, turn, word.third, &self.gate);
+            self.note_refused(word.name)?;
             return Ok(count.map(|count| Answer::Number(count.saturating_add(left))));
         }
         Ok(count.map(|count| Answer::Number(count)))

@@ -28,7 +28,11 @@ pub(crate) struct Stage {
 
 // What the words of the script tell, one after another, and the sum and the counter of the actor once all is undone. A process and the second
 // one tell the same, and after each word the same can be seen of them.
-pub(crate) fn play(rt: &impl Abort, alloc: Global, script: &str) -> Result<String, Fail> {
+pub(crate) fn play(
+    rt: &(impl Abort + Eprint),
+    alloc: Global,
+    script: &str,
+) -> Result<String, Fail> {
     let mut first = opened(rt, alloc, Body::over_map(alloc, actor(rt, 0))?)?;
     let mut second = opened(rt, alloc, Body::over_list(alloc, actor(rt, 0))?)?;
     for word in script.split_whitespace() {
@@ -47,7 +51,7 @@ pub(crate) fn play(rt: &impl Abort, alloc: Global, script: &str) -> Result<Strin
 
 // The same of one process alone.
 pub(crate) fn play_alone(
-    rt: &impl Abort,
+    rt: &(impl Abort + Eprint),
     alloc: Global,
     body: Body,
     script: &str,
@@ -91,21 +95,40 @@ fn ended(rt: &impl Abort, stage: Stage) -> Result<String, Fail> {
 }
 
 // Does what one word says. A word that is refused leaves the process as it was; where that was for want of memory, it is done again.
-fn play_word(rt: &impl Abort, alloc: Global, stage: &mut Stage, word: &str) -> Result<(), Fail> {
+fn play_word(
+    rt: &(impl Abort + Eprint),
+    alloc: Global,
+    stage: &mut Stage,
+    word: &str,
+) -> Result<(), Fail> {
     let before = asking::seen(&stage.body);
     let Err(fault) = act(rt, alloc, stage, word) else {
         return Ok(());
     };
     assert!(rt; asking::seen(&stage.body) == before, "{word} was refused");
     match fault {
-        ProcFault::OutOfMemory => act(rt, alloc, stage, word)?,
+        ProcFault::OutOfMemory => {
+            tell_refused(rt, word);
+            act(rt, alloc, stage, word)?
+        }
         ProcFault::Exhausted => stage.told.push_str("exhausted ")?,
     }
     Ok(())
 }
 
+// Tells that this word was refused memory, for `tools/refuse_memory.py`, which counts them.
+fn tell_refused(rt: &impl Eprint, word: &str) {
+    let (call, _) = word.split_once(':').unwrap_or((word, ""));
+    let _ = eprintln!(rt; "{call} was refused memory");
+}
+
 // A letter, a word without an answer, or one that tells of letters or messages.
-fn act(rt: &impl Abort, alloc: Global, stage: &mut Stage, word: &str) -> Result<(), ProcFault> {
+fn act(
+    rt: &(impl Abort + Eprint),
+    alloc: Global,
+    stage: &mut Stage,
+    word: &str,
+) -> Result<(), ProcFault> {
     let (call, rest) = word.split_once(':').unwrap_or((word, ""));
     match call {
         "counter" => stage.body.begin(alloc, actor(rt, number(rt, rest))),
@@ -142,11 +165,12 @@ fn tell_answer(
 }
 
 // A letter arrives, or it is told that memory was refused for it, and then all is as it was.
-fn try_arrive(rt: &impl Abort, stage: &mut Stage) -> Result<(), ProcFault> {
+fn try_arrive(rt: &(impl Abort + Eprint), stage: &mut Stage) -> Result<(), ProcFault> {
     let before = asking::seen(&stage.body);
     match tell_answer(rt, stage, "arrive", "") {
         Err(ProcFault::OutOfMemory) => {
             assert!(rt; asking::seen(&stage.body) == before);
+            tell_refused(rt, "arrive?");
             Ok(stage.told.push_str("refused ")?)
         }
         answer => answer,
