@@ -1,6 +1,6 @@
 -- A command that was done, or whose fault was told, has ended.
-use Rattle.std.proofs.Common.{◌≡◌, ◌∙◌, ◌⊎◌, ℕ, inl, inr, List, [], ◌∷◌, Option, Some, Result, Ok, Err, refl, sym, subst, arith}
-use Rattle.std.specs.Prelude.{◌≢◌, OnOk, OnErr, IfOk, IfErr, option_map, codes, string_bytes}
+use Rattle.std.proofs.Common.{◌≡◌, ◌∙◌, ◌⊎◌, ℕ, inl, inr, Bool, List, [], ◌∷◌, Option, Some, None, Result, Ok, Err, refl, sym, subst, arith}
+use Rattle.std.specs.Prelude.{◌≢◌, OnOk, OnErr, IfOk, IfErr, IsErrAnd, option_map, codes, string_bytes}
 use Rattle.clap.specs.Words.{IsAmong, Text, first_of}
 use Rattle.clap.specs.declared.error.kind.ErrorKind.{ErrorKind}
 use Rattle.clap.specs.declared.error.kind.ErrorKind.TheVariants as kind
@@ -15,13 +15,14 @@ use Rattle.command_line.specs.declared.orders.Order.TheVariants as ordered
 use Rattle.afdxsim.specs.declared.fault.Fault.{Fault}
 use Rattle.afdxsim.specs.declared.fault.Fault.TheVariants.{CannotWrite, OutOfMemory}
 use Rattle.afdxsim.specs.Checking.{check_text}
-use Rattle.afdxsim.specs.Telling.{TellsOne}
+use Rattle.afdxsim.specs.Telling.{Telling, TellsOne}
 use Rattle.afdxsim.specs.Ending.{Ends, IsFaultOfOutput, Told, Took}
 use Rattle.afdxsim.specs.Files.{ShowsTables}
-use Rattle.afdxsim.specs.Performing.{EndsCheck, EndsRun, EndsSeq, EndsReplay, found_in}
+use Rattle.afdxsim.specs.Naming.{AreApart, EndsApart}
+use Rattle.afdxsim.specs.Performing.{Begins, EndsCheck, EndsRun, EndsSeq, EndsReplay, found_in}
 use Rattle.afdxsim.specs.Reading.{GivesNetwork, IsFaultOfNet}
 use Rattle.afdxsim.specs.Replaying.{GivesTexts, IsFaultOfSteps}
-use Rattle.afdxsim.specs.Sequencing.{IsFaultOfRun, IsFaultOfSeq, IsFaultOfTrace, IsTablesText}
+use Rattle.afdxsim.specs.Sequencing.{IsFaultOfRun, IsFaultOfSeq, IsTablesText}
 use Rattle.afdxsim.specs.Workers.{IsFaultOfFiles, IsFaultOfPool, IsFaultOfRunBy}
 
 -- what follows from what holds of an answer that is good, and of a fault
@@ -41,6 +42,10 @@ pub ok_both : {T F : Type 0} {P Q R : T → Type 0} (r : Result T F) → IfOk r 
 ok_both (Ok x) p q f = f x p q
 ok_both (Err e) p q f = tt
 
+pub same_err : {T : Type 0} (P : Fault → Type 0) (r : Result T Fault) (fault : Fault) → IsErrAnd r (λ x. x ≡ fault) → P fault → IfErr r P
+same_err P (Ok x) fault same p = tt
+same_err P (Err x) fault same p = subst P (sym same) p
+
 on_err : {T F P : Type 0} (r : Result T F) → P → OnErr r P
 on_err (Ok x) p = tt
 on_err (Err e) p = p
@@ -54,6 +59,15 @@ same_second x y v w xs ys is = cc
 
 some_same : (x y : Text) → Some x ≡ Some y → x ≡ y
 some_same x y is = cc
+
+-- what holds of a path and of options holds of those that are the same
+pub moved : (R : List ℕ → Option (List ℕ) → Type 0) (path net : List ℕ) (given trace : Option (List ℕ)) → path ≡ net → given ≡ trace → R path given → R net trace
+moved R path net given trace at is holds = subst (λ (n : List ℕ). R n trace) at (subst (λ (t : Option (List ℕ)). R path t) is holds)
+
+pub all_moved : (R : List ℕ → Option (List ℕ) → Option (List ℕ) → Type 0) (path net : List ℕ) (kept journal given trace : Option (List ℕ)) →
+    path ≡ net → kept ≡ journal → given ≡ trace → R path kept given → R net journal trace
+all_moved R path net kept journal given trace at same is holds =
+    moved (λ n t. R n journal t) path net given trace at is (subst (λ (j : Option (List ℕ)). R path j given) same holds)
 
 -- the host was h₀ before and h₁ after the command; then a fault was told, and it is h₂
 module _ {H O E : Type 0} (r : Result (Unit {0}) Fault) (status : ℕ) (took : O → Option (List ℕ)) (failed : O → ℕ)
@@ -87,29 +101,40 @@ module _ {H O E : Type 0} (r : Result (Unit {0}) Fault) (status : ℕ) (took : O
       (λ o fault. IsFaultOfNet (gives path) path fault ⊎ IsFaultOfOutput failed (output h₀) o fault)
       (on_both r done left (λ d l. (d, l, quiet))) met kept (on_err r quiet) zero told same)
 
-  pub ended_seq : (gives : List ℕ → Option (List ℕ) → Type 0) (path net : List ℕ) (given trace : Option (List ℕ)) (Left : Option (List ℕ) → H → Plan → Type 0) →
-      path ≡ net → given ≡ trace → OnOk r (ShowsTables (gives path) took (output h₀) (output h₁) (Left given h₁)) →
-      IfErr r (IsFaultOfSeq (gives path) path given (IsFaultOfOutput failed (output h₀) (output h₁))) →
+  pub ended_seq : (tells : List ℕ → List ℕ → Bool → Type 0) (NothingElse : Type 0) (gives : List ℕ → Option (List ℕ) → Type 0) (path net : List ℕ) (given trace : Option (List ℕ))
+      (IsOfTrace : Plan → List ℕ → Fault → Type 0) (Left : Option (List ℕ) → H → Plan → Type 0) →
+      path ≡ net → given ≡ trace → AreApart tells path None given → OnOk r (ShowsTables (gives path) took (output h₀) (output h₁) (Left given h₁)) →
+      IfErr r (IsFaultOfSeq (gives path) path given IsOfTrace (IsFaultOfOutput failed (output h₀) (output h₁))) →
       IfErr r (λ fault. fault ≢ CannotWrite → output h₁ ≡ output h₀) → errors h₁ ≡ errors h₀ →
       OnOk r ((status ≡ 0) × (h₂ ≡ h₁)) → IfErr r (λ fault. TellsOne fault (Told said unsaid (errors h₁) (errors h₂) status)) → output h₂ ≡ output h₁ →
-      EndsSeq (gives net) net trace (Left trace h₂) took failed (output h₀) (output h₂) said unsaid (errors h₀) (errors h₂) status
-  ended_seq gives path net given trace Left at same_trace done met kept quiet zero told same =
-      subst (λ (n : List ℕ). EndsSeq (gives n) n trace (Left trace h₂) took failed (output h₀) (output h₂) said unsaid (errors h₀) (errors h₂) status) at
-      (subst (λ (t : Option (List ℕ)). EndsSeq (gives path) path t (Left t h₂) took failed (output h₀) (output h₂) said unsaid (errors h₀) (errors h₂) status) same_trace
-      (ended (λ h. ShowsTables (gives path) took (output h₀) (output h) (Left given h) × (errors h ≡ errors h₀))
-      (λ o fault. IsFaultOfSeq (gives path) path given (IsFaultOfOutput failed (output h₀) o) fault)
-      (ok_then r done (λ d. (d, quiet))) met kept (on_err r quiet) zero told same))
+      EndsApart tells net None trace NothingElse (Told said unsaid (errors h₀) (errors h₂) status)
+      (EndsSeq (gives net) net trace IsOfTrace (Left trace h₂) took failed (output h₀) (output h₂) said unsaid (errors h₀) (errors h₂) status)
+  ended_seq tells NothingElse gives path net given trace IsOfTrace Left at same_trace apart done met kept quiet zero told same =
+      moved (λ n t. EndsApart tells n None t NothingElse (Told said unsaid (errors h₀) (errors h₂) status)
+      (EndsSeq (gives n) n t IsOfTrace (Left t h₂) took failed (output h₀) (output h₂) said unsaid (errors h₀) (errors h₂) status)) path net given trace at same_trace
+      (inr (
+        apart,
+        ended (λ h. ShowsTables (gives path) took (output h₀) (output h) (Left given h) × (errors h ≡ errors h₀))
+            (λ o fault. IsFaultOfSeq (gives path) path given IsOfTrace (IsFaultOfOutput failed (output h₀) o) fault)
+            (ok_then r done (λ d. (d, quiet))) met kept (on_err r quiet) zero told same,
+      ))
 
-  pub ended_run : (gives : Option (List ℕ) → Type 0) (net : List ℕ) (journal trace : Option (List ℕ)) (Left : H → Plan → Type 0) →
+  pub ended_run : (tells : List ℕ → List ℕ → Bool → Type 0) (NothingElse : Type 0) (gives : Option (List ℕ) → Type 0) (path net : List ℕ) (listed journal given trace : Option (List ℕ))
+      (IsOfJournal IsOfTrace : Plan → List ℕ → Fault → Type 0) (Left : H → Plan → Type 0) →
+      path ≡ net → listed ≡ journal → given ≡ trace → AreApart tells path listed given →
       OnOk r (ShowsTables gives took (output h₀) (output h₁) (Left h₁)) →
-      IfErr r (IsFaultOfRunBy gives net journal trace (IsFaultOfOutput failed (output h₀) (output h₁))) →
+      IfErr r (IsFaultOfRunBy gives net journal trace IsOfJournal IsOfTrace (IsFaultOfOutput failed (output h₀) (output h₁))) →
       IfErr r (λ fault. fault ≢ CannotWrite → output h₁ ≡ output h₀) → errors h₁ ≡ errors h₀ →
       OnOk r ((status ≡ 0) × (h₂ ≡ h₁)) → IfErr r (λ fault. TellsOne fault (Told said unsaid (errors h₁) (errors h₂) status)) → output h₂ ≡ output h₁ →
-      EndsRun gives net journal trace (Left h₂) took failed (output h₀) (output h₂) said unsaid (errors h₀) (errors h₂) status
-  ended_run gives net journal trace Left done met kept quiet zero told same =
-      ended (λ h. ShowsTables gives took (output h₀) (output h) (Left h) × (errors h ≡ errors h₀))
-      (λ o fault. IsFaultOfRunBy gives net journal trace (IsFaultOfOutput failed (output h₀) o) fault)
-      (ok_then r done (λ d. (d, quiet))) met kept (on_err r quiet) zero told same
+      EndsApart tells net journal trace NothingElse (Told said unsaid (errors h₀) (errors h₂) status)
+      (EndsRun gives net journal trace IsOfJournal IsOfTrace (Left h₂) took failed (output h₀) (output h₂) said unsaid (errors h₀) (errors h₂) status)
+  ended_run tells NothingElse gives path net listed journal given trace IsOfJournal IsOfTrace Left at same_journal same_trace apart done met kept quiet zero told same =
+      inr (
+        all_moved (AreApart tells) path net listed journal given trace at same_journal same_trace apart,
+        ended (λ h. ShowsTables gives took (output h₀) (output h) (Left h) × (errors h ≡ errors h₀))
+            (λ o fault. IsFaultOfRunBy gives net journal trace IsOfJournal IsOfTrace (IsFaultOfOutput failed (output h₀) o) fault)
+            (ok_then r done (λ d. (d, quiet))) met kept (on_err r quiet) zero told same,
+      )
 
   pub ended_replay : (gives : List ℕ → Option (List ℕ) → Type 0) (path net read steps : List ℕ) (Left : H → Type 0) → path ≡ net → read ≡ steps →
       OnOk r ((tables : List ℕ) × (line : List ℕ) × GivesTexts (gives path) (gives read) tables line × Took took (output h₀) (output h₁) tables ×
@@ -127,19 +152,19 @@ module _ {H O E : Type 0} (r : Result (Unit {0}) Fault) (status : ℕ) (took : O
       (on_both r done left (λ d l. (d, l))) met kept quiet zero told same))
 
 -- why a run with a trace, or without one, was no success is why `seq` was none
-pub fault_with_trace : {O : Type 0} (failed : O → ℕ) (gives : Option (List ℕ) → Type 0) (net path : List ℕ) (trace : Option (List ℕ)) (plan : Plan) (fault : Fault) (o o' p p' : O) →
-    GivesNetwork gives plan → trace ≡ Some path → p ≡ o → p' ≡ o' →
-    IsFaultOfRun plan fault ⊎ (IsFaultOfTrace path fault ⊎ IsFaultOfOutput failed p p' fault) → IsFaultOfSeq gives net trace (IsFaultOfOutput failed o o') fault
-fault_with_trace failed gives net path trace plan fault o o' p p' given is before after (inl run) = inr (inl (plan, given, run))
-fault_with_trace failed gives net path trace plan fault o o' p p' given is before after (inr (inl written)) = inr (inr (inl (path, is, written)))
-fault_with_trace failed gives net path trace plan fault o o' p p' given is before after (inr (inr shown)) =
+pub fault_with_trace : {O : Type 0} (failed : O → ℕ) (gives : Option (List ℕ) → Type 0) (net path : List ℕ) (trace : Option (List ℕ)) (IsOfTrace : Plan → List ℕ → Fault → Type 0)
+    (plan : Plan) (fault : Fault) (o o' p p' : O) → GivesNetwork gives plan → trace ≡ Some path → p ≡ o → p' ≡ o' →
+    IsFaultOfRun plan fault ⊎ (IsOfTrace plan path fault ⊎ IsFaultOfOutput failed p p' fault) → IsFaultOfSeq gives net trace IsOfTrace (IsFaultOfOutput failed o o') fault
+fault_with_trace failed gives net path trace IsOfTrace plan fault o o' p p' given is before after (inl run) = inr (inl (plan, given, run))
+fault_with_trace failed gives net path trace IsOfTrace plan fault o o' p p' given is before after (inr (inl written)) = inr (inr (inl (plan, path, given, is, written)))
+fault_with_trace failed gives net path trace IsOfTrace plan fault o o' p p' given is before after (inr (inr shown)) =
     inr (inr (inr (subst (λ x. IsFaultOfOutput failed x o' fault) before (subst (λ x. IsFaultOfOutput failed p x fault) after shown))))
 
-pub fault_without_trace : {O : Type 0} (failed : O → ℕ) (gives : Option (List ℕ) → Type 0) (net : List ℕ) (trace : Option (List ℕ)) (plan : Plan) (fault : Fault) (o o' p p' : O) →
-    GivesNetwork gives plan → p ≡ o → p' ≡ o' →
-    IsFaultOfRun plan fault ⊎ IsFaultOfOutput failed p p' fault → IsFaultOfSeq gives net trace (IsFaultOfOutput failed o o') fault
-fault_without_trace failed gives net trace plan fault o o' p p' given before after (inl run) = inr (inl (plan, given, run))
-fault_without_trace failed gives net trace plan fault o o' p p' given before after (inr shown) =
+pub fault_without_trace : {O : Type 0} (failed : O → ℕ) (gives : Option (List ℕ) → Type 0) (net : List ℕ) (trace : Option (List ℕ)) (IsOfTrace : Plan → List ℕ → Fault → Type 0)
+    (plan : Plan) (fault : Fault) (o o' p p' : O) → GivesNetwork gives plan → p ≡ o → p' ≡ o' →
+    IsFaultOfRun plan fault ⊎ IsFaultOfOutput failed p p' fault → IsFaultOfSeq gives net trace IsOfTrace (IsFaultOfOutput failed o o') fault
+fault_without_trace failed gives net trace IsOfTrace plan fault o o' p p' given before after (inl run) = inr (inl (plan, given, run))
+fault_without_trace failed gives net trace IsOfTrace plan fault o o' p p' given before after (inr shown) =
     inr (inr (inr (subst (λ x. IsFaultOfOutput failed x o' fault) before (subst (λ x. IsFaultOfOutput failed p x fault) after shown))))
 
 -- what goes out of a run is that of the network that was read; standard output was p when its tables were to go out
@@ -149,13 +174,13 @@ module _ {O : Type 0} (r : Result (Unit {0}) Fault) (gives : Option (List ℕ) �
   ran_to_tables took Left done left = on_both r done left (λ t l. (plan, t.0, given, t.1, subst (λ x. Took took x o' t.0) before t.2, l))
 
   -- why such a run was no success is why `run` was none
-  pub fault_with_files : (failed : O → ℕ) (net : List ℕ) (journal trace : Option (List ℕ)) →
-      IfErr r (λ fault. IsFaultOfPool fault ⊎ (IsFaultOfFiles journal trace fault ⊎ IsFaultOfOutput failed p o' fault)) →
-      IfErr r (IsFaultOfRunBy gives net journal trace (IsFaultOfOutput failed o o'))
-  fault_with_files failed net journal trace met = err_then r met (λ fault is. elim is [
-    | inl run ↦ inr (inl (plan, given, run))
-    | inr (inl written) ↦ inr (inr (inl written))
-    | inr (inr shown) ↦ inr (inr (inr (subst (λ x. IsFaultOfOutput failed x o' fault) before shown)))
+  pub fault_with_files : (failed : O → ℕ) (net : List ℕ) (journal trace : Option (List ℕ)) (IsOfJournal IsOfTrace : Plan → List ℕ → Fault → Type 0) →
+      IfErr r (λ fault. IsFaultOfPool fault ⊎ (IsFaultOfFiles journal trace (IsOfJournal plan) (IsOfTrace plan) fault ⊎ IsFaultOfOutput failed p o' fault)) →
+      IfErr r (IsFaultOfRunBy gives net journal trace IsOfJournal IsOfTrace (IsFaultOfOutput failed o o'))
+  fault_with_files failed net journal trace IsOfJournal IsOfTrace met = err_then r met (λ fault is. elim is [
+    | inl run ↦ inr (inl (plan, given, inl run))
+    | inr (inl written) ↦ inr (inl (plan, given, inr written))
+    | inr (inr shown) ↦ inr (inr (subst (λ x. IsFaultOfOutput failed x o' fault) before shown))
   ])
 
   pub kept_from_there : IfErr r (λ fault. fault ≢ CannotWrite → o' ≡ p) → IfErr r (λ fault. fault ≢ CannotWrite → o' ≡ o)
@@ -174,76 +199,52 @@ of_run order x P is holds o named = let same : x ≡ o = cc in subst P same hold
 pub of_replay : (order : Order) (x : Replay) (P : Replay → Type 0) → order ≡ ordered.Replay x → P x → (o : Replay) → order ≡ ordered.Replay o → P o
 of_replay order x P is holds o named = let same : x ≡ o = cc in subst P same holds
 
--- the order of words that name a command
-module _ {O E : Type 0} (words : List Text) (status : ℕ) (gives : List ℕ → Option (List ℕ) → Type 0) (net : List ℕ)
-    (took : O → Option (List ℕ)) (failed : O → ℕ) (o o' : O) (said : E → Option (List ℕ)) (unsaid : E → ℕ) (e e' : E) where
-  pub check_words : (Left : Type 0) (order : Order) → command_in words ≡ Some (command_of order) → Names (rows_in words) order →
-      ((c : Check) → order ≡ ordered.Check c → EndsCheck (gives (string_bytes c.net)) (string_bytes c.net) Left took failed o o' said unsaid e e' status) →
-      command_in words ≡ Some (codes "check") → first_of (codes "NET") (rows_in words) ≡ Some net →
-      EndsCheck (gives net) net Left took failed o o' said unsaid e e' status
-  check_words Left (ordered.Check c) is names ends named given =
-      subst (λ (n : List ℕ). EndsCheck (gives n) n Left took failed o o' said unsaid e e' status) (some_same (string_bytes c.net) net (sym names.net ∙ given)) (ends c refl)
-  check_words Left (ordered.Seq c) is names ends named given = absurd (let bad : 115 ≡ 99 = same_first 115 99 _ _ (sym is ∙ named) in omega arith)
-  check_words Left (ordered.Run c) is names ends named given = absurd (let bad : 114 ≡ 99 = same_first 114 99 _ _ (sym is ∙ named) in omega arith)
-  check_words Left (ordered.Replay c) is names ends named given = absurd (let bad : 114 ≡ 99 = same_first 114 99 _ _ (sym is ∙ named) in omega arith)
+-- what holds of the order of words that name a command holds of what they name
+pub check_words : (words : List Text) (net : List ℕ) (P : List ℕ → Type 0) (order : Order) → command_in words ≡ Some (command_of order) → Names (rows_in words) order →
+    ((c : Check) → order ≡ ordered.Check c → P (string_bytes c.net)) →
+    command_in words ≡ Some (codes "check") → first_of (codes "NET") (rows_in words) ≡ Some net → P net
+check_words words net P (ordered.Check c) is names ends named given = subst P (some_same (string_bytes c.net) net (sym names.net ∙ given)) (ends c refl)
+check_words words net P (ordered.Seq c) is names ends named given = absurd (let bad : 115 ≡ 99 = same_first 115 99 _ _ (sym is ∙ named) in omega arith)
+check_words words net P (ordered.Run c) is names ends named given = absurd (let bad : 114 ≡ 99 = same_first 114 99 _ _ (sym is ∙ named) in omega arith)
+check_words words net P (ordered.Replay c) is names ends named given = absurd (let bad : 114 ≡ 99 = same_first 114 99 _ _ (sym is ∙ named) in omega arith)
 
-  pub seq_words : (Left : Option (List ℕ) → Plan → Type 0) (order : Order) → command_in words ≡ Some (command_of order) → Names (rows_in words) order →
-      ((c : Seq) → order ≡ ordered.Seq c → EndsSeq (gives (string_bytes c.net)) (string_bytes c.net) (option_map string_bytes c.trace) (Left (option_map string_bytes c.trace)) took failed o o' said unsaid e e' status) →
-      command_in words ≡ Some (codes "seq") → first_of (codes "NET") (rows_in words) ≡ Some net →
-      EndsSeq (gives net) net (first_of (codes "trace") (rows_in words)) (Left (first_of (codes "trace") (rows_in words))) took failed o o' said unsaid e e' status
-  seq_words Left (ordered.Seq c) is names ends named given =
-      subst (λ (n : List ℕ). EndsSeq (gives n) n (first_of (codes "trace") (rows_in words)) (Left (first_of (codes "trace") (rows_in words))) took failed o o' said unsaid e e' status) (some_same (string_bytes c.net) net (sym names.net ∙ given))
-      (subst (λ (t : Option (List ℕ)). EndsSeq (gives (string_bytes c.net)) (string_bytes c.net) t (Left t) took failed o o' said unsaid e e' status) (sym names.trace) (ends c refl))
-  seq_words Left (ordered.Check c) is names ends named given = absurd (let bad : 99 ≡ 115 = same_first 99 115 _ _ (sym is ∙ named) in omega arith)
-  seq_words Left (ordered.Run c) is names ends named given = absurd (let bad : 114 ≡ 115 = same_first 114 115 _ _ (sym is ∙ named) in omega arith)
-  seq_words Left (ordered.Replay c) is names ends named given = absurd (let bad : 114 ≡ 115 = same_first 114 115 _ _ (sym is ∙ named) in omega arith)
+pub seq_words : (words : List Text) (net : List ℕ) (P : List ℕ → Option (List ℕ) → Type 0) (order : Order) → command_in words ≡ Some (command_of order) → Names (rows_in words) order →
+    ((c : Seq) → order ≡ ordered.Seq c → P (string_bytes c.net) (option_map string_bytes c.trace)) →
+    command_in words ≡ Some (codes "seq") → first_of (codes "NET") (rows_in words) ≡ Some net → P net (first_of (codes "trace") (rows_in words))
+seq_words words net P (ordered.Seq c) is names ends named given =
+    moved P (string_bytes c.net) net (option_map string_bytes c.trace) (first_of (codes "trace") (rows_in words))
+    (some_same (string_bytes c.net) net (sym names.net ∙ given)) (sym names.trace) (ends c refl)
+seq_words words net P (ordered.Check c) is names ends named given = absurd (let bad : 99 ≡ 115 = same_first 99 115 _ _ (sym is ∙ named) in omega arith)
+seq_words words net P (ordered.Run c) is names ends named given = absurd (let bad : 114 ≡ 115 = same_first 114 115 _ _ (sym is ∙ named) in omega arith)
+seq_words words net P (ordered.Replay c) is names ends named given = absurd (let bad : 114 ≡ 115 = same_first 114 115 _ _ (sym is ∙ named) in omega arith)
 
-  pub run_words : (Left : Option (List ℕ) → Option (List ℕ) → Plan → Type 0) (order : Order) → command_in words ≡ Some (command_of order) → Names (rows_in words) order →
-      ((c : Run) → order ≡ ordered.Run c → EndsRun (gives (string_bytes c.net)) (string_bytes c.net) (option_map string_bytes c.journal) (option_map string_bytes c.trace)
-      (Left (option_map string_bytes c.journal) (option_map string_bytes c.trace)) took failed o o' said unsaid e e' status) →
-      command_in words ≡ Some (codes "run") → first_of (codes "NET") (rows_in words) ≡ Some net →
-      EndsRun (gives net) net (first_of (codes "journal") (rows_in words)) (first_of (codes "trace") (rows_in words))
-      (Left (first_of (codes "journal") (rows_in words)) (first_of (codes "trace") (rows_in words))) took failed o o' said unsaid e e' status
-  run_words Left (ordered.Run c) is names ends named given =
-      subst (λ (n : List ℕ). EndsRun (gives n) n (first_of (codes "journal") (rows_in words)) (first_of (codes "trace") (rows_in words)) (Left (first_of (codes "journal") (rows_in words)) (first_of (codes "trace") (rows_in words))) took failed o o' said unsaid e e' status) (some_same (string_bytes c.net) net (sym names.net ∙ given))
-      (subst (λ (j : Option (List ℕ)). EndsRun (gives (string_bytes c.net)) (string_bytes c.net) j (first_of (codes "trace") (rows_in words)) (Left j (first_of (codes "trace") (rows_in words))) took failed o o' said unsaid e e' status) (sym names.journal)
-      (subst (λ (t : Option (List ℕ)). EndsRun (gives (string_bytes c.net)) (string_bytes c.net) (option_map string_bytes c.journal) t (Left (option_map string_bytes c.journal) t) took failed o o' said unsaid e e' status) (sym names.trace) (ends c refl)))
-  run_words Left (ordered.Check c) is names ends named given = absurd (let bad : 99 ≡ 114 = same_first 99 114 _ _ (sym is ∙ named) in omega arith)
-  run_words Left (ordered.Seq c) is names ends named given = absurd (let bad : 115 ≡ 114 = same_first 115 114 _ _ (sym is ∙ named) in omega arith)
-  run_words Left (ordered.Replay c) is names ends named given = absurd (let bad : 101 ≡ 117 = same_second 114 114 101 117 _ _ (sym is ∙ named) in omega arith)
+pub run_words : (words : List Text) (net : List ℕ) (P : List ℕ → Option (List ℕ) → Option (List ℕ) → Type 0) (order : Order) → command_in words ≡ Some (command_of order) → Names (rows_in words) order →
+    ((c : Run) → order ≡ ordered.Run c → P (string_bytes c.net) (option_map string_bytes c.journal) (option_map string_bytes c.trace)) →
+    command_in words ≡ Some (codes "run") → first_of (codes "NET") (rows_in words) ≡ Some net →
+    P net (first_of (codes "journal") (rows_in words)) (first_of (codes "trace") (rows_in words))
+run_words words net P (ordered.Run c) is names ends named given =
+    all_moved P (string_bytes c.net) net (option_map string_bytes c.journal) (first_of (codes "journal") (rows_in words))
+    (option_map string_bytes c.trace) (first_of (codes "trace") (rows_in words))
+    (some_same (string_bytes c.net) net (sym names.net ∙ given)) (sym names.journal) (sym names.trace) (ends c refl)
+run_words words net P (ordered.Check c) is names ends named given = absurd (let bad : 99 ≡ 114 = same_first 99 114 _ _ (sym is ∙ named) in omega arith)
+run_words words net P (ordered.Seq c) is names ends named given = absurd (let bad : 115 ≡ 114 = same_first 115 114 _ _ (sym is ∙ named) in omega arith)
+run_words words net P (ordered.Replay c) is names ends named given = absurd (let bad : 101 ≡ 117 = same_second 114 114 101 117 _ _ (sym is ∙ named) in omega arith)
 
-  pub replay_words : (Left : Type 0) (order : Order) (steps : List ℕ) → command_in words ≡ Some (command_of order) → Names (rows_in words) order →
-      ((c : Replay) → order ≡ ordered.Replay c → EndsReplay gives (string_bytes c.net) (string_bytes c.steps) Left took failed o o' said unsaid e e' status) →
-      command_in words ≡ Some (codes "replay") → first_of (codes "NET") (rows_in words) ≡ Some net → first_of (codes "STEPS") (rows_in words) ≡ Some steps →
-      EndsReplay gives net steps Left took failed o o' said unsaid e e' status
-  replay_words Left (ordered.Replay c) steps is names ends named given read =
-      subst (λ (n : List ℕ). EndsReplay gives n steps Left took failed o o' said unsaid e e' status) (some_same (string_bytes c.net) net (sym names.net ∙ given))
-      (subst (λ (s : List ℕ). EndsReplay gives (string_bytes c.net) s Left took failed o o' said unsaid e e' status) (some_same (string_bytes c.steps) steps (sym names.steps ∙ read)) (ends c refl))
-  replay_words Left (ordered.Check c) steps is names ends named given read = absurd (let bad : 99 ≡ 114 = same_first 99 114 _ _ (sym is ∙ named) in omega arith)
-  replay_words Left (ordered.Seq c) steps is names ends named given read = absurd (let bad : 115 ≡ 114 = same_first 115 114 _ _ (sym is ∙ named) in omega arith)
-  replay_words Left (ordered.Run c) steps is names ends named given read = absurd (let bad : 117 ≡ 101 = same_second 114 114 117 101 _ _ (sym is ∙ named) in omega arith)
+pub replay_words : (words : List Text) (net steps : List ℕ) (P : List ℕ → List ℕ → Type 0) (order : Order) → command_in words ≡ Some (command_of order) → Names (rows_in words) order →
+    ((c : Replay) → order ≡ ordered.Replay c → P (string_bytes c.net) (string_bytes c.steps)) →
+    command_in words ≡ Some (codes "replay") → first_of (codes "NET") (rows_in words) ≡ Some net → first_of (codes "STEPS") (rows_in words) ≡ Some steps → P net steps
+replay_words words net steps P (ordered.Replay c) is names ends named given read =
+    subst (λ (n : List ℕ). P n steps) (some_same (string_bytes c.net) net (sym names.net ∙ given))
+    (subst (λ (s : List ℕ). P (string_bytes c.net) s) (some_same (string_bytes c.steps) steps (sym names.steps ∙ read)) (ends c refl))
+replay_words words net steps P (ordered.Check c) is names ends named given read = absurd (let bad : 99 ≡ 114 = same_first 99 114 _ _ (sym is ∙ named) in omega arith)
+replay_words words net steps P (ordered.Seq c) is names ends named given read = absurd (let bad : 115 ≡ 114 = same_first 115 114 _ _ (sym is ∙ named) in omega arith)
+replay_words words net steps P (ordered.Run c) is names ends named given read = absurd (let bad : 117 ≡ 101 = same_second 114 114 117 101 _ _ (sym is ∙ named) in omega arith)
 
-  -- words that are accepted, where memory was refused before they were an order
-  memory : (k : ErrorKind) → found_in words ≡ [] → (k ≡ kind.OutOfMemory) ⊎ IsAmong k (found_in words) → k ≡ kind.OutOfMemory
-  memory k none (inl is) = is
-  memory k none (inr among) = absurd (subst (IsAmong k) none among)
+-- words that are accepted, where memory was refused before they were an order
+memory : (words : List Text) (k : ErrorKind) → found_in words ≡ [] → (k ≡ kind.OutOfMemory) ⊎ IsAmong k (found_in words) → k ≡ kind.OutOfMemory
+memory words k none (inl is) = is
+memory words k none (inr among) = absurd (subst (IsAmong k) none among)
 
-  pub check_memory : (Left : Type 0) (k : ErrorKind) → found_in words ≡ [] → (k ≡ kind.OutOfMemory) ⊎ IsAmong k (found_in words) →
-      (k ≡ kind.OutOfMemory → TellsOne OutOfMemory (Told said unsaid e e' status)) → (k ≡ kind.OutOfMemory → o' ≡ o) →
-      EndsCheck (gives net) net Left took failed o o' said unsaid e e' status
-  check_memory Left k none has told same = let is = memory k none has in inr (OutOfMemory, (inl (inl tt), λ other. same is), told is)
-
-  pub seq_memory : (Left : Plan → Type 0) (k : ErrorKind) (trace : Option (List ℕ)) → found_in words ≡ [] → (k ≡ kind.OutOfMemory) ⊎ IsAmong k (found_in words) →
-      (k ≡ kind.OutOfMemory → TellsOne OutOfMemory (Told said unsaid e e' status)) → (k ≡ kind.OutOfMemory → o' ≡ o) →
-      EndsSeq (gives net) net trace Left took failed o o' said unsaid e e' status
-  seq_memory Left k trace none has told same = let is = memory k none has in inr (OutOfMemory, (inl (inl tt), λ other. same is), told is)
-
-  pub run_memory : (Left : Plan → Type 0) (k : ErrorKind) (journal trace : Option (List ℕ)) → found_in words ≡ [] → (k ≡ kind.OutOfMemory) ⊎ IsAmong k (found_in words) →
-      (k ≡ kind.OutOfMemory → TellsOne OutOfMemory (Told said unsaid e e' status)) → (k ≡ kind.OutOfMemory → o' ≡ o) →
-      EndsRun (gives net) net journal trace Left took failed o o' said unsaid e e' status
-  run_memory Left k journal trace none has told same = let is = memory k none has in inr (OutOfMemory, (inl (inl tt), λ other. same is), told is)
-
-  pub replay_memory : (Left : Type 0) (k : ErrorKind) (steps : List ℕ) → found_in words ≡ [] → (k ≡ kind.OutOfMemory) ⊎ IsAmong k (found_in words) →
-      (k ≡ kind.OutOfMemory → TellsOne OutOfMemory (Told said unsaid e e' status)) → (k ≡ kind.OutOfMemory → o' ≡ o) →
-      EndsReplay gives net steps Left took failed o o' said unsaid e e' status
-  replay_memory Left k steps none has told same = let is = memory k none has in inr (OutOfMemory, (inl (inl (inl tt)), λ other. same is), told is)
+pub never_begun : (words : List Text) (k : ErrorKind) (NothingElse : Type 0) (IsTold : Telling → Type 0) (Ended : Type 0) → found_in words ≡ [] →
+    (k ≡ kind.OutOfMemory) ⊎ IsAmong k (found_in words) → (k ≡ kind.OutOfMemory → NothingElse) → (k ≡ kind.OutOfMemory → TellsOne OutOfMemory IsTold) → Begins NothingElse IsTold Ended
+never_begun words k NothingElse IsTold Ended none has alone told = let is = memory words k none has in inl (alone is, told is)

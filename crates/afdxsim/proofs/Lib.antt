@@ -1,6 +1,7 @@
 pub mod Accounts
 pub mod Running
 pub mod Statuses
+pub mod Unwritten
 pub mod Ended
 pub mod Leaving
 pub mod Holding

@@ -20,15 +20,27 @@ among-asks kind (k ∷ ks) (inr later) asks = inr (among-asks kind ks later asks
 pub same_kind : (words : List Text) (kind k : ErrorKind) → k ≡ kind → (kind ≡ OutOfMemory) ⊎ IsAmong kind (found_in words) → (k ≡ OutOfMemory) ⊎ IsAmong k (found_in words)
 same_kind words kind k is has = subst (λ x. (x ≡ OutOfMemory) ⊎ IsAmong x (found_in words)) (sym is) has
 
+-- the answer to words that are accepted
+pub obeyed : (words : List Text) (Twice : Type 0) (status : ℕ) → found_in words ≡ [] → (status ≡ 2 → Twice) → AnswersWords words Twice status
+obeyed words Twice status none twice =
+    record { bad_words = λ two. inr (none, twice two); mistaken = λ some no. absurd (some none); done = λ zero. inl none; asked = λ some no. absurd (some none) }
+
+-- a status that is not that of bad words
+pub not_two : (status : ℕ) → (status ≡ 0) ⊎ (status ≡ 3) ⊎ (status ≡ 4) ⊎ (status ≡ 5) → status ≡ 2 → ⊥
+not_two status (inl is) two = omega (arith, is, two)
+not_two status (inr (inl is)) two = omega (arith, is, two)
+not_two status (inr (inr (inl is))) two = omega (arith, is, two)
+not_two status (inr (inr (inr is))) two = omega (arith, is, two)
+
 -- the answer to an error
-pub answered : (words : List Text) (kind : ErrorKind) (status : ℕ) → (kind ≡ OutOfMemory) ⊎ IsAmong kind (found_in words) →
+pub answered : (words : List Text) (Twice : Type 0) (kind : ErrorKind) (status : ℕ) → (kind ≡ OutOfMemory) ⊎ IsAmong kind (found_in words) →
     (status ≡ 0) ⊎ (status ≡ 2) ⊎ (status ≡ 4) ⊎ (status ≡ 5) → (kind ≡ OutOfMemory → status ≡ 5) →
-    (status ≡ 0 → AsksFor kind) → (status ≡ 4 → AsksFor kind) → (status ≡ 2 → ¬ (AsksFor kind)) → AnswersWords words status
-answered words kind status has known memory only_done only_shown only_mistake =
+    (status ≡ 0 → AsksFor kind) → (status ≡ 4 → AsksFor kind) → (status ≡ 2 → ¬ (AsksFor kind)) → AnswersWords words Twice status
+answered words Twice kind status has known memory only_done only_shown only_mistake =
     record {
       bad_words = λ two. elim has [
         | inl e ↦ absurd (let five = memory e in omega arith)
-        | inr among ↦ among-mistakes kind (found_in words) among (only_mistake two)
+        | inr among ↦ inl (among-mistakes kind (found_in words) among (only_mistake two))
       ];
       mistaken = λ some none. elim has [
         | inl e ↦ inr (memory e)

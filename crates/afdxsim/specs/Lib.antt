@@ -5,6 +5,7 @@ pub mod Checking
 pub mod Sequencing
 pub mod Workers
 pub mod Files
+pub mod Naming
 pub mod Reading
 pub mod Replaying
 pub mod Performing

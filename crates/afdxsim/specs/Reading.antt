@@ -20,7 +20,8 @@ TellsOf bytes Exhausted = ⊥
 TellsOf bytes Spawn = ⊥
 TellsOf bytes Torn = ⊥
 
--- why the file with this path was not read, where this is what a read of it may give
+-- why the file with this path was not read, where this is what a read of it may give: it may give none; or it may give some, and a growth was
+-- refused
 abbrev pub IsFaultOfFile : (Option (List ℕ) → Type 0) → List ℕ → Fault → Type 0
 IsFaultOfFile gives path (Description fault) = ⊥
 IsFaultOfFile gives path (JournalLine n) = ⊥
@@ -29,7 +30,7 @@ IsFaultOfFile gives path (CannotRead at) = (at.now ≡ path) × gives None
 IsFaultOfFile gives path (CannotWriteFile at) = ⊥
 IsFaultOfFile gives path CannotWrite = ⊥
 IsFaultOfFile gives path Layout = ⊥
-IsFaultOfFile gives path OutOfMemory = Unit
+IsFaultOfFile gives path OutOfMemory = (bytes : List ℕ) × gives (Some bytes)
 IsFaultOfFile gives path Exhausted = ⊥
 IsFaultOfFile gives path Spawn = ⊥
 IsFaultOfFile gives path Torn = ⊥

@@ -1,5 +1,5 @@
 -- What the program writes of a one-thread run, and why it gives one up.
-use Rattle.std.specs.Prelude.{◌≡◌, ◌⊎◌, ℕ, List, Option, Some}
+use Rattle.std.specs.Prelude.{◌≡◌, ◌⊎◌, ℕ, Bool, true, false, List, Option, Some}
 use Rattle.vlink.specs.declared.note.Row.{Row as Noted}
 use Rattle.netdesc.specs.Plan.{Plan}
 use Rattle.nodes.specs.rules.Simulation.{simulation_of}
@@ -41,25 +41,26 @@ IsFaultOfRun plan Exhausted = (n : ℕ) × IsExhaustedAt (simulation_of plan) n
 IsFaultOfRun plan Spawn = ⊥
 IsFaultOfRun plan Torn = ⊥
 
--- why a trace is not in the file with this path: the file was not made or not written, its rows were not laid out, or a growth was refused
-abbrev pub IsFaultOfTrace : List ℕ → Fault → Type 0
-IsFaultOfTrace path (Description fault) = ⊥
-IsFaultOfTrace path (JournalLine n) = ⊥
-IsFaultOfTrace path JournalFull = ⊥
-IsFaultOfTrace path (CannotRead at) = ⊥
-IsFaultOfTrace path (CannotWriteFile at) = at.now ≡ path
-IsFaultOfTrace path CannotWrite = ⊥
-IsFaultOfTrace path Layout = Unit
-IsFaultOfTrace path OutOfMemory = Unit
-IsFaultOfTrace path Exhausted = ⊥
-IsFaultOfTrace path Spawn = ⊥
-IsFaultOfTrace path Torn = ⊥
+-- why a trace is not in the file with this path, where makes tells what a make of it may come to: it may be that it is not made; or it may be
+-- that it is, and it was not written, its rows were not laid out, or a growth was refused
+abbrev pub IsFaultOfTrace : (Bool → Type 0) → Type 0 → List ℕ → Fault → Type 0
+IsFaultOfTrace makes Unwritten path (Description fault) = ⊥
+IsFaultOfTrace makes Unwritten path (JournalLine n) = ⊥
+IsFaultOfTrace makes Unwritten path JournalFull = ⊥
+IsFaultOfTrace makes Unwritten path (CannotRead at) = ⊥
+IsFaultOfTrace makes Unwritten path (CannotWriteFile at) = (at.now ≡ path) × (makes false ⊎ (makes true × Unwritten))
+IsFaultOfTrace makes Unwritten path CannotWrite = ⊥
+IsFaultOfTrace makes Unwritten path Layout = makes true
+IsFaultOfTrace makes Unwritten path OutOfMemory = makes true
+IsFaultOfTrace makes Unwritten path Exhausted = ⊥
+IsFaultOfTrace makes Unwritten path Spawn = ⊥
+IsFaultOfTrace makes Unwritten path Torn = ⊥
 
 -- why `seq` ended early, of a network in the file with this path and a trace for the file with that path, if there is one: there was no
 -- network, its run was given up, the trace was not written, or the tables were not
-abbrev pub IsFaultOfSeq : (Option (List ℕ) → Type 0) → List ℕ → Option (List ℕ) → (Fault → Type 0) → Fault → Type 0
-IsFaultOfSeq gives net trace IsOfOutput fault =
+abbrev pub IsFaultOfSeq : (Option (List ℕ) → Type 0) → List ℕ → Option (List ℕ) → (Plan → List ℕ → Fault → Type 0) → (Fault → Type 0) → Fault → Type 0
+IsFaultOfSeq gives net trace IsOfTrace IsOfOutput fault =
     IsFaultOfNet gives net fault
     ⊎ (((plan : Plan) × GivesNetwork gives plan × IsFaultOfRun plan fault)
-    ⊎ (((path : List ℕ) × (trace ≡ Some path) × IsFaultOfTrace path fault)
+    ⊎ (((plan : Plan) × (path : List ℕ) × GivesNetwork gives plan × (trace ≡ Some path) × IsOfTrace plan path fault)
     ⊎ IsOfOutput fault))

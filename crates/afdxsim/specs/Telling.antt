@@ -86,6 +86,14 @@ pub record Telling : Type 0 where
 abbrev pub telling_of : Fault → Telling
 telling_of fault = record { line = told (fault_text fault); status = status_of fault }
 
+-- what is told where the words name the file with this path twice
+abbrev pub telling_of_twice : List ℕ → Telling
+telling_of_twice path = record { line = told (codes "named twice: " ++ path); status = 2 }
+
+-- what is told where a word after the program's name is not UTF-8
+abbrev pub telling_of_no_text : Telling
+telling_of_no_text = record { line = told (codes "a word is not UTF-8"); status = 2 }
+
 -- what is told is that of one fault: of this one, or of want of memory, which its line itself may meet
 abbrev pub TellsOne : Fault → (Telling → Type 0) → Type 0
 TellsOne fault IsTold = IsTold (telling_of fault) ⊎ IsTold (telling_of OutOfMemory)

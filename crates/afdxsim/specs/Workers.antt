@@ -43,38 +43,41 @@ fault_of_pool pool.Torn = Torn
 abbrev pub IsFaultOfPool : Fault → Type 0
 IsFaultOfPool fault = (why : PoolFault) × (fault ≡ fault_of_pool why)
 
--- why a run by workers did not write its trace, as a fault of the program, where the file has this path
+-- why a run by workers did not write its trace, as a fault of the program, where the file has this path. Parts that are missing or come twice
+-- are no fault of the file
 abbrev pub fault_of_trace : Bor (List ℕ) → TraceFault → Fault
 fault_of_trace path (Part part.OutOfMemory) = OutOfMemory
-fault_of_trace path (Part why) = CannotWriteFile path
+fault_of_trace path (Part why) = Torn
 fault_of_trace path (Out out.OutOfMemory) = OutOfMemory
-fault_of_trace path (Out why) = CannotWriteFile path
+fault_of_trace path (Out out.Device) = CannotWriteFile path
+fault_of_trace path (Out out.Layout) = Layout
 
--- why a file of a run by workers is not whole, where it has this path: it was not made or not written, or a growth was refused
-abbrev pub IsFaultOfRunFile : List ℕ → Fault → Type 0
-IsFaultOfRunFile path (Description fault) = ⊥
-IsFaultOfRunFile path (JournalLine n) = ⊥
-IsFaultOfRunFile path JournalFull = ⊥
-IsFaultOfRunFile path (CannotRead at) = ⊥
-IsFaultOfRunFile path (CannotWriteFile at) = at.now ≡ path
-IsFaultOfRunFile path CannotWrite = ⊥
-IsFaultOfRunFile path Layout = ⊥
-IsFaultOfRunFile path OutOfMemory = Unit
-IsFaultOfRunFile path Exhausted = ⊥
-IsFaultOfRunFile path Spawn = ⊥
-IsFaultOfRunFile path Torn = ⊥
+-- why a journal is not in the file with this path, where makes tells what a make of it may come to: it may be that it is not made; or it may be
+-- that it is, and it was not written, or a growth was refused
+abbrev pub IsFaultOfJournalFile : (Bool → Type 0) → Type 0 → List ℕ → Fault → Type 0
+IsFaultOfJournalFile makes Unwritten path (Description fault) = ⊥
+IsFaultOfJournalFile makes Unwritten path (JournalLine n) = ⊥
+IsFaultOfJournalFile makes Unwritten path JournalFull = ⊥
+IsFaultOfJournalFile makes Unwritten path (CannotRead at) = ⊥
+IsFaultOfJournalFile makes Unwritten path (CannotWriteFile at) = (at.now ≡ path) × (makes false ⊎ (makes true × Unwritten))
+IsFaultOfJournalFile makes Unwritten path CannotWrite = ⊥
+IsFaultOfJournalFile makes Unwritten path Layout = ⊥
+IsFaultOfJournalFile makes Unwritten path OutOfMemory = makes true
+IsFaultOfJournalFile makes Unwritten path Exhausted = ⊥
+IsFaultOfJournalFile makes Unwritten path Spawn = ⊥
+IsFaultOfJournalFile makes Unwritten path Torn = ⊥
 
 -- why the files of a run by workers are not whole, a journal with this path and a trace with that one, where there are such
-abbrev pub IsFaultOfFiles : Option (List ℕ) → Option (List ℕ) → Fault → Type 0
-IsFaultOfFiles journal trace fault =
-    ((path : List ℕ) × (trace ≡ Some path) × IsFaultOfRunFile path fault)
-    ⊎ ((path : List ℕ) × (journal ≡ Some path) × IsFaultOfRunFile path fault)
+abbrev pub IsFaultOfFiles : Option (List ℕ) → Option (List ℕ) → (List ℕ → Fault → Type 0) → (List ℕ → Fault → Type 0) → Fault → Type 0
+IsFaultOfFiles journal trace IsOfJournal IsOfTrace fault =
+    ((path : List ℕ) × (trace ≡ Some path) × IsOfTrace path fault)
+    ⊎ ((path : List ℕ) × (journal ≡ Some path) × IsOfJournal path fault)
 
 -- why `run` ended early, of a network in the file with this path: there was no network, its run was given up, its trace was not made or not
 -- written, its journal was not, or the tables were not written
-abbrev pub IsFaultOfRunBy : (Option (List ℕ) → Type 0) → List ℕ → Option (List ℕ) → Option (List ℕ) → (Fault → Type 0) → Fault → Type 0
-IsFaultOfRunBy gives net journal trace IsOfOutput fault =
+abbrev pub IsFaultOfRunBy : (Option (List ℕ) → Type 0) → List ℕ → Option (List ℕ) → Option (List ℕ) →
+    (Plan → List ℕ → Fault → Type 0) → (Plan → List ℕ → Fault → Type 0) → (Fault → Type 0) → Fault → Type 0
+IsFaultOfRunBy gives net journal trace IsOfJournal IsOfTrace IsOfOutput fault =
     IsFaultOfNet gives net fault
-    ⊎ (((plan : Plan) × GivesNetwork gives plan × IsFaultOfPool fault)
-    ⊎ (IsFaultOfFiles journal trace fault
-    ⊎ IsOfOutput fault))
+    ⊎ (((plan : Plan) × GivesNetwork gives plan × (IsFaultOfPool fault ⊎ IsFaultOfFiles journal trace (IsOfJournal plan) (IsOfTrace plan) fault))
+    ⊎ IsOfOutput fault)

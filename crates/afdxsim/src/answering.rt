@@ -1,26 +1,39 @@
-//! What is answered where words are no order: help, or why they are refused.
+//! What is answered where words are no order that can be done: help, or why they are refused.
 ghost use Rattle.std.specs.Prelude.{◌≡◌, ◌≢◌, ◌⊎◌, ◌+◌, IfSome};
 ghost use Rattle.clap.specs.declared.error.kind.ErrorKind.TheVariants as Kind;
 ghost use Rattle.afdxsim.specs.declared.fault.Fault.TheVariants.{CannotWrite, OutOfMemory};
-ghost use Rattle.afdxsim.specs.Telling.{TellsOne};
+ghost use Rattle.afdxsim.specs.Telling.{TellsOne, telling_of};
 ghost use Rattle.afdxsim.specs.Ending.{Took, Told};
+ghost use Rattle.afdxsim.specs.Files.{TellsAlone};
+ghost use Rattle.afdxsim.specs.Naming.{TellsTwice};
 ghost use Rattle.afdxsim.specs.Words.{AsksFor};
 
 use crate::fault::{BAD_WORDS, DONE, Fault};
 use crate::host::Host;
-use crate::telling::{say, tell};
+use crate::telling;
+use crate::telling::{say, tell, tell_twice};
 use clap::error::ErrorKind;
 use std::alloc::Global;
 use std::fmt::Display;
 use trace_tables::write_all;
 
 /// Tells of want of memory.
-fn tell_memory<H: Host>(alloc: Global, host: &mut H) -> u8
+fn tell_memory<H: Host>(host: &mut H) -> u8
     ensures value { result ≡ 5 }
-    ensures told { TellsOne OutOfMemory (Told H.Errors.taken H.Errors.failures (H.errors host.old) (H.errors host.new) result) }
+    ensures told { Told H.Errors.taken H.Errors.failures (H.errors host.old) (H.errors host.new) result (telling_of OutOfMemory) }
+    ensures alone { TellsAlone H.with_errors host.old host.new }
     ensures output { H.output host.new ≡ H.output host.old }
 {
-    tell(alloc, &Fault::OutOfMemory, host.errors())
+    telling::tell_memory(host.errors())
+}
+
+/// Tells of a file that the words name twice, or of want of memory, where the line wants that. Nothing else is done.
+pub fn refuse_twice<H: Host>(alloc: Global, path: &str, host: &mut H) -> u8
+    ensures status { (result ≡ 2) ⊎ (result ≡ 5) }
+    ensures told { TellsTwice path.now (Told H.Errors.taken H.Errors.failures (H.errors host.old) (H.errors host.new) result) }
+    ensures alone { TellsAlone H.with_errors host.old host.new }
+{
+    tell_twice(alloc, path, host.errors())
 }
 
 /// Writes a text on standard output.
@@ -46,7 +59,7 @@ fn give_help<M: Display, H: Host>(alloc: Global, help: &M, host: &mut H) -> u8
 {
     match help.to_string(alloc) {
         Ok(text) => show(alloc, text.as_str(), host),
-        Err(_) => tell_memory(alloc, host),
+        Err(_) => tell_memory(host),
     }
 }
 
@@ -63,7 +76,7 @@ fn refuse<M: Display, H: Host>(alloc: Global, why: &M, host: &mut H) -> u8
             say(text.as_str(), host.errors());
             BAD_WORDS
         }
-        Err(_) => tell_memory(alloc, host),
+        Err(_) => tell_memory(host),
     }
 }
 
@@ -73,7 +86,7 @@ pub fn answer<M: Display, H: Host>(alloc: Global, kind: ErrorKind, message: &M, 
     ensures status { (result ≡ 0) ⊎ (result ≡ 2) ⊎ (result ≡ 4) ⊎ (result ≡ 5) }
     ensures memory { kind ≡ Kind.OutOfMemory → result ≡ 5 }
     ensures told { result ≡ 5 → TellsOne OutOfMemory (Told H.Errors.taken H.Errors.failures (H.errors host.old) (H.errors host.new) result) }
-    ensures output { kind ≡ Kind.OutOfMemory → H.output host.new ≡ H.output host.old }
+    ensures alone { kind ≡ Kind.OutOfMemory → TellsAlone H.with_errors host.old host.new }
     ensures only_done { result ≡ 0 → AsksFor kind }
     ensures only_shown { result ≡ 4 → AsksFor kind }
     ensures only_mistake { result ≡ 2 → ¬ (AsksFor kind) }
@@ -84,7 +97,7 @@ pub fn answer<M: Display, H: Host>(alloc: Global, kind: ErrorKind, message: &M, 
         IfSome (M.output message.now) (Took H.Errors.taken (H.errors host.old) (H.errors host.new)) }
 {
     match kind {
-        ErrorKind::OutOfMemory => tell_memory(alloc, host),
+        ErrorKind::OutOfMemory => tell_memory(host),
         ErrorKind::DisplayHelp | ErrorKind::DisplayVersion => give_help(alloc, message, host),
         _ => refuse(alloc, message, host),
     }

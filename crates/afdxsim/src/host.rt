@@ -1,17 +1,17 @@
 //! What the program reaches outside itself.
-ghost use Rattle.std.specs.Prelude.{◌≡◌, ℕ, [], List, Option, IfOk, IfErr, IfSome, OnOk};
+ghost use Rattle.std.specs.Prelude.{◌≡◌, ℕ, [], Bool, true, false, List, Option, IfOk, IfErr, IfSome, OnOk};
 ghost use Rattle.std.specs.Borrow.{sem, Lends};
-ghost use Rattle.afdxsim.specs.declared.host.ReadFault.TheVariants.{Device};
+ghost use Rattle.afdxsim.specs.declared.host.FileFault.TheVariants.{Device, OutOfMemory};
 
 use std::alloc::Global;
 use thiserror::Error;
-use trace_tables::{Sink, SinkFault};
+use trace_tables::Sink;
 
-/// Why a file was not read.
+/// Why a file was not read, or not made.
 #[derive(Clone, Copy, Debug, PartialEq, Eq, Error)]
-pub enum ReadFault {
-    /// The file is not there, or it cannot be read.
-    #[error("cannot read")]
+pub enum FileFault {
+    /// The file is not there, or it cannot be read; or it cannot be made.
+    #[error("cannot open")]
     Device,
     /// A growth was refused.
     #[error("out of memory")]
@@ -33,6 +33,12 @@ pub trait Host {
     /// just what the file holds.
     ghost gives: { Self → List ℕ → Option (List ℕ) → Type 0 };
 
+    /// What a make of a file with this path may come to: it is made, or it is not. A host that knows its files allows just what is so.
+    ghost makes: { Self → List ℕ → Bool → Type 0 };
+
+    /// What may be told of two paths: that they name one file, or that they do not. A host that knows its files allows just what is so.
+    ghost tells: { Self → List ℕ → List ℕ → Bool → Type 0 };
+
     /// Standard output.
     ghost output: { Self → Self.Output };
 
@@ -51,16 +57,26 @@ pub trait Host {
     /// The host once the file with this path was given back, as it is.
     ghost closed: { Self → List ℕ → Self.File → Self };
 
-    /// The bytes of the file with this path. `Device` comes where it cannot be read, and `OutOfMemory` only where a growth was refused.
-    fn read(&mut self, alloc: Global, path: &str) -> Result<Vec<u8>, ReadFault>
+    /// Whether two paths name one file, as far as the host can tell. Nothing is made or written.
+    fn is_one_file(&self, first: &str, second: &str) -> bool
+        ensures { tells self.now first.now second.now result };
+
+    /// The bytes of the file with this path. `Device` comes where it cannot be read, and `OutOfMemory` only where it can be read and a growth
+    /// was refused.
+    fn read(&mut self, alloc: Global, path: &str) -> Result<Vec<u8>, FileFault>
         ensures bytes { IfOk result (λ bytes. gives self.old path.now (Some bytes.items)) }
         ensures absent { IfErr result (λ fault. fault ≡ Device → gives self.old path.now None) }
+        ensures memory { IfErr result (λ fault. fault ≡ OutOfMemory → (bytes : List ℕ) × gives self.old path.now (Some bytes)) }
         ensures host { self.new ≡ self.old };
 
-    /// A new, empty file with this path, in the place of one that was there. It fails where the file cannot be made.
-    fn make(&mut self, path: &str) -> Result<Self::File, SinkFault>
+    /// A new, empty file with this path, in the place of one that was there. `Device` comes where it cannot be made, and `OutOfMemory` only
+    /// where it can be made and a growth was refused.
+    fn make(&mut self, path: &str) -> Result<Self::File, FileFault>
         ensures empty { IfOk result (λ file. IfSome (Self.File.taken file) (λ bytes. bytes ≡ [])) }
         ensures host { OnOk result (self.new ≡ made self.old path.now) }
+        ensures made { OnOk result (makes self.old path.now true) }
+        ensures refused { IfErr result (λ fault. fault ≡ Device → makes self.old path.now false) }
+        ensures memory { IfErr result (λ fault. fault ≡ OutOfMemory → makes self.old path.now true) }
         ensures output { output self.new ≡ output self.old }
         ensures errors { errors self.new ≡ errors self.old };
 
@@ -77,6 +93,9 @@ pub trait Host {
     fn errors(&mut self) -> &mut Self::Errors
         ensures* writes_back { sem 𝓛 (Lends Self.row Self.Errors.row self.entry result (with_errors self.old)) }
         ensures value { result.now ≡ errors self.old };
+
+    /// Equal paths name one file.
+    ghost equal_paths: { (host : Self) → (path : List ℕ) → (is_one : Bool) → tells host path path is_one → is_one ≡ true };
 
     /// What is written on standard output stands there.
     ghost output_stays: { (host : Self) → (out : Self.Output) → output (with_output host out) ≡ out };

@@ -4,7 +4,7 @@ ghost use Rattle.netdesc.specs.Description.{HasNoFault, Describes};
 ghost use Rattle.afdxsim.specs.Reading.{GivesNetwork, IsFaultOfFile, IsFaultOfNet, TellsOf};
 
 use crate::fault::Fault;
-use crate::host::{Host, ReadFault};
+use crate::host::{FileFault, Host};
 use netdesc::{DescFault, Network, read};
 use std::alloc::Global;
 use std::str;
@@ -41,8 +41,8 @@ pub fn bytes_of<'a, H: Host>(
 {
     match host.read(alloc, path) {
         Ok(bytes) => Ok(bytes),
-        Err(ReadFault::Device) => Err(Fault::CannotRead(path)),
-        Err(ReadFault::OutOfMemory) => Err(Fault::OutOfMemory),
+        Err(FileFault::Device) => Err(Fault::CannotRead(path)),
+        Err(FileFault::OutOfMemory) => Err(Fault::OutOfMemory),
     }
 }
 

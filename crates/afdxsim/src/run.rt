@@ -1,17 +1,17 @@
 //! `run NET [--workers N] [--turn N] [--window NS] [--journal FILE] [--trace FILE]`: the run of a network by workers.
-ghost use Rattle.std.specs.Prelude.{◌≡◌, ◌≢◌, ◌⊎◌, ℕ, List, IfErr, IfOk, OnOk, option_map, is_some, string_bytes};
+ghost use Rattle.std.specs.Prelude.{◌≡◌, ◌≢◌, ◌⊎◌, ℕ, true, List, IfErr, IfOk, OnOk, option_map, is_some, string_bytes};
 ghost use Rattle.journal_text.specs.Text.{steps_text};
 ghost use Rattle.trace_tables.specs.Text.{tables_text};
 ghost use Rattle.worker_pool.specs.Paces.{IsPace};
 ghost use Rattle.command_line.specs.Meaning.{RunLimits};
 ghost use Rattle.afdxsim.specs.declared.fault.Fault.TheVariants.{CannotWrite};
 ghost use Rattle.afdxsim.specs.Ending.{Took, IsFaultOfOutput};
-ghost use Rattle.afdxsim.specs.Files.{LeavesRun, ShowsTables, WritesAsked, WritesFile};
+ghost use Rattle.afdxsim.specs.Files.{IsFaultOfKeptFile, IsFaultOfTraceFile, LeavesRun, ShowsTables, TookSome, WritesAsked, WritesFile, WritesSome};
 ghost use Rattle.afdxsim.specs.Sequencing.{IsTablesText, IsTraceText};
-ghost use Rattle.afdxsim.specs.Workers.{IsFaultOfPool, IsFaultOfRunFile, IsFaultOfFiles, IsFaultOfRunBy, IsJournalAsked};
+ghost use Rattle.afdxsim.specs.Workers.{IsFaultOfPool, IsFaultOfJournalFile, IsFaultOfFiles, IsFaultOfRunBy, IsJournalAsked};
 
 use crate::fault::Fault;
-use crate::host::Host;
+use crate::host::{FileFault, Host};
 use crate::reading::network_of;
 use crate::seq::show_tables;
 use crate::steps::write_steps;
@@ -26,6 +26,7 @@ use vlink::Step;
 use worker_pool::{Pace, Summary};
 
 /// Makes the file with this path, and simulates the network by workers, which write the trace into it.
+#[tactic(auto, using(crate::proofs::Unwritten::run_took))]
 fn simulate_with_trace<'a, H: Host, T: Threads + Wait + Sync>(
     rt: &T,
     alloc: Global,
@@ -39,7 +40,8 @@ fn simulate_with_trace<'a, H: Host, T: Threads + Wait + Sync>(
     ensures text { IfOk result (λ found. IsTablesText network.now (tables_text network.now found.tables)) }
     ensures journal { IfOk result (λ found. IsJournalAsked network.now with_steps found.journal.items) }
     ensures trace { OnOk result (WritesFile H.made H.closed H.File.taken path.entry.now (IsTraceText network.now) host.old host.new) }
-    ensures fault { IfErr result (λ fault. IsFaultOfPool fault ⊎ IsFaultOfRunFile path.entry.now fault) }
+    ensures fault { IfErr result (λ fault. IsFaultOfPool fault ⊎
+        IsFaultOfTraceFile H.makes H.File.taken H.File.failures host.old network.now path.entry.now fault) }
     ensures output { H.output host.new ≡ H.output host.old }
     ensures errors { H.errors host.new ≡ H.errors host.old }
 {
@@ -49,7 +51,8 @@ fn simulate_with_trace<'a, H: Host, T: Threads + Wait + Sync>(
             host.close(path, file);
             Ok(found)
         }
-        Err(_) => Err(Fault::CannotWriteFile(path)),
+        Err(FileFault::Device) => Err(Fault::CannotWriteFile(path)),
+        Err(FileFault::OutOfMemory) => Err(Fault::OutOfMemory),
     }
 }
 
@@ -66,7 +69,8 @@ fn simulate<'a, H: Host, T: Threads + Wait + Sync>(
     ensures journal { IfOk result (λ found. IsJournalAsked network.now (is_some order.entry.now.journal) found.journal.items) }
     ensures trace { OnOk result (WritesAsked H.made H.closed H.File.taken (option_map string_bytes order.entry.now.trace) (IsTraceText network.now) host.old host.new) }
     ensures fault { IfErr result (λ fault. IsFaultOfPool fault ⊎
-        IsFaultOfFiles (option_map string_bytes order.entry.now.journal) (option_map string_bytes order.entry.now.trace) fault) }
+        ((path : List ℕ) × (option_map string_bytes order.entry.now.trace ≡ Some path) ×
+        IsFaultOfTraceFile H.makes H.File.taken H.File.failures host.old network.now path fault)) }
     ensures output { H.output host.new ≡ H.output host.old }
     ensures errors { H.errors host.new ≡ H.errors host.old }
 {
@@ -94,7 +98,8 @@ fn write_steps_of<'a, F: Sink>(
     file: &mut F,
 ) -> Result<(), Fault<'a>>
     ensures text { OnOk result (Took F.taken file.old file.new (steps_text steps.now)) }
-    ensures fault { IfErr result (IsFaultOfRunFile path.entry.now) }
+    ensures fault { IfErr result (IsFaultOfJournalFile (λ made. made ≡ true)
+        (TookSome F.taken F.failures file.old file.new (steps_text steps.now)) path.entry.now) }
 {
     match write_steps(alloc, steps, file) {
         Ok(()) => Ok(()),
@@ -104,6 +109,7 @@ fn write_steps_of<'a, F: Sink>(
 }
 
 /// Makes the file with this path and writes the steps of a run into it.
+#[tactic(auto, using(crate::proofs::Unwritten::journal_took))]
 fn keep_steps<'a, H: Host>(
     alloc: Global,
     steps: &[Step],
@@ -111,7 +117,8 @@ fn keep_steps<'a, H: Host>(
     host: &mut H,
 ) -> Result<(), Fault<'a>>
     ensures file { OnOk result (WritesFile H.made H.closed H.File.taken path.entry.now (λ text. text ≡ steps_text steps.now) host.old host.new) }
-    ensures fault { IfErr result (IsFaultOfRunFile path.entry.now) }
+    ensures fault { IfErr result (IsFaultOfJournalFile (H.makes host.old path.entry.now)
+        (WritesSome H.File.taken H.File.failures (λ text. text ≡ steps_text steps.now)) path.entry.now) }
     ensures output { H.output host.new ≡ H.output host.old }
     ensures errors { H.errors host.new ≡ H.errors host.old }
 {
@@ -121,7 +128,8 @@ fn keep_steps<'a, H: Host>(
             host.close(path, file);
             Ok(())
         }
-        Err(_) => Err(Fault::CannotWriteFile(path)),
+        Err(FileFault::Device) => Err(Fault::CannotWriteFile(path)),
+        Err(FileFault::OutOfMemory) => Err(Fault::OutOfMemory),
     }
 }
 
@@ -133,7 +141,8 @@ fn keep_journal<'a, H: Host>(
     host: &mut H,
 ) -> Result<(), Fault<'a>>
     ensures file { OnOk result (WritesAsked H.made H.closed H.File.taken (option_map string_bytes order.entry.now.journal) (λ text. text ≡ steps_text steps.now) host.old host.new) }
-    ensures fault { IfErr result (IsFaultOfFiles (option_map string_bytes order.entry.now.journal) (option_map string_bytes order.entry.now.trace)) }
+    ensures fault { IfErr result (λ fault. (path : List ℕ) × (option_map string_bytes order.entry.now.journal ≡ Some path) ×
+        IsFaultOfJournalFile (H.makes host.old path) (WritesSome H.File.taken H.File.failures (λ text. text ≡ steps_text steps.now)) path fault) }
     ensures output { H.output host.new ≡ H.output host.old }
     ensures errors { H.errors host.new ≡ H.errors host.old }
 {
@@ -145,6 +154,7 @@ fn keep_journal<'a, H: Host>(
 
 /// Simulates the network by workers, which write the trace on the way, if one is ordered. Then the journal goes into its file, if one is
 /// ordered, and then the tables to standard output.
+#[tactic(auto, using(crate::proofs::Unwritten::kept_of))]
 fn run_network<'a, H: Host, T: Threads + Wait + Sync>(
     rt: &T,
     alloc: Global,
@@ -157,7 +167,9 @@ fn run_network<'a, H: Host, T: Threads + Wait + Sync>(
     ensures left { OnOk result (LeavesRun H.made H.closed H.File.taken H.with_output
         (option_map string_bytes order.entry.now.journal) (option_map string_bytes order.entry.now.trace) host.old host.new network.now) }
     ensures fault { IfErr result (λ fault. IsFaultOfPool fault ⊎
-        (IsFaultOfFiles (option_map string_bytes order.entry.now.journal) (option_map string_bytes order.entry.now.trace) fault ⊎
+        (IsFaultOfFiles (option_map string_bytes order.entry.now.journal) (option_map string_bytes order.entry.now.trace)
+        (IsFaultOfKeptFile H.makes H.made H.closed H.File.taken H.File.failures (option_map string_bytes order.entry.now.trace) host.old network.now)
+        (IsFaultOfTraceFile H.makes H.File.taken H.File.failures host.old network.now) fault ⊎
         IsFaultOfOutput H.Output.failures (H.output host.old) (H.output host.new) fault)) }
     ensures kept { IfErr result (λ fault. fault ≢ CannotWrite → H.output host.new ≡ H.output host.old) }
     ensures errors { H.errors host.new ≡ H.errors host.old }
@@ -182,6 +194,8 @@ pub fn run_ordered<'a, H: Host, T: Threads + Wait + Sync>(
         (option_map string_bytes order.entry.now.journal) (option_map string_bytes order.entry.now.trace) host.old host.new)) }
     ensures fault { IfErr result (IsFaultOfRunBy (H.gives host.old (string_bytes order.entry.now.net)) (string_bytes order.entry.now.net)
         (option_map string_bytes order.entry.now.journal) (option_map string_bytes order.entry.now.trace)
+        (IsFaultOfKeptFile H.makes H.made H.closed H.File.taken H.File.failures (option_map string_bytes order.entry.now.trace) host.old)
+        (IsFaultOfTraceFile H.makes H.File.taken H.File.failures host.old)
         (IsFaultOfOutput H.Output.failures (H.output host.old) (H.output host.new))) }
     ensures kept { IfErr result (λ fault. fault ≢ CannotWrite → H.output host.new ≡ H.output host.old) }
     ensures errors { H.errors host.new ≡ H.errors host.old }

@@ -1,14 +1,14 @@
 //! `seq NET [--trace FILE]`: the one-thread run of a network.
-ghost use Rattle.std.specs.Prelude.{◌≡◌, ◌≢◌, ◌⊎◌, ℕ, List, IfErr, IfOk, OnOk, option_map};
+ghost use Rattle.std.specs.Prelude.{◌≡◌, ◌≢◌, ◌⊎◌, ℕ, true, List, IfErr, IfOk, OnOk, option_map};
 ghost use Rattle.seqsim.specs.Networks.{AreRowsOf};
 ghost use Rattle.trace_tables.specs.Text.{tables_text, trace_text};
 ghost use Rattle.afdxsim.specs.declared.fault.Fault.TheVariants.{CannotWrite};
 ghost use Rattle.afdxsim.specs.Ending.{Took, IsFaultOfOutput};
-ghost use Rattle.afdxsim.specs.Files.{LeavesSeq, ShowsAlone, ShowsTables, WritesFile};
+ghost use Rattle.afdxsim.specs.Files.{IsFaultOfTraceFile, LeavesSeq, ShowsAlone, ShowsTables, TookSome, WritesFile, WritesSome};
 ghost use Rattle.afdxsim.specs.Sequencing.{IsTablesText, IsFaultOfRun, IsFaultOfSeq, IsFaultOfTrace};
 
 use crate::fault::Fault;
-use crate::host::Host;
+use crate::host::{FileFault, Host};
 use crate::reading::network_of;
 use netdesc::Network;
 use seqsim::{Finished, run, run_tables};
@@ -44,7 +44,8 @@ fn write_trace_of<'a, F: Sink>(
     file: &mut F,
 ) -> Result<(), Fault<'a>>
     ensures text { OnOk result (Took F.taken file.old file.new (trace_text network.now rows.now)) }
-    ensures fault { IfErr result (IsFaultOfTrace path.entry.now) }
+    ensures fault { IfErr result (IsFaultOfTrace (λ made. made ≡ true)
+        (TookSome F.taken F.failures file.old file.new (trace_text network.now rows.now)) path.entry.now) }
 {
     match write_trace(alloc, network, rows, file) {
         Ok(()) => Ok(()),
@@ -55,6 +56,7 @@ fn write_trace_of<'a, F: Sink>(
 }
 
 /// Makes the file with this path and writes the trace of a run into it.
+#[tactic(auto, using(crate::proofs::Unwritten::trace_took))]
 fn keep_trace<'a, H: Host>(
     alloc: Global,
     network: &Network,
@@ -63,7 +65,8 @@ fn keep_trace<'a, H: Host>(
     host: &mut H,
 ) -> Result<(), Fault<'a>>
     ensures file { OnOk result (WritesFile H.made H.closed H.File.taken path.entry.now (λ text. text ≡ trace_text network.now rows.now) host.old host.new) }
-    ensures fault { IfErr result (IsFaultOfTrace path.entry.now) }
+    ensures fault { IfErr result (IsFaultOfTrace (H.makes host.old path.entry.now)
+        (WritesSome H.File.taken H.File.failures (λ text. text ≡ trace_text network.now rows.now)) path.entry.now) }
     ensures output { H.output host.new ≡ H.output host.old }
     ensures errors { H.errors host.new ≡ H.errors host.old }
 {
@@ -73,7 +76,8 @@ fn keep_trace<'a, H: Host>(
             host.close(path, file);
             Ok(())
         }
-        Err(_) => Err(Fault::CannotWriteFile(path)),
+        Err(FileFault::Device) => Err(Fault::CannotWriteFile(path)),
+        Err(FileFault::OutOfMemory) => Err(Fault::OutOfMemory),
     }
 }
 
@@ -122,7 +126,9 @@ fn run_to_trace<'a, H: Host>(
 ) -> Result<(), Fault<'a>>
     ensures text { OnOk result ((text : List ℕ) × IsTablesText network.now text × Took H.Output.taken (H.output host.old) (H.output host.new) text) }
     ensures left { OnOk result (LeavesSeq H.made H.closed H.File.taken H.with_output (Some path.entry.now) host.old host.new network.now) }
-    ensures fault { IfErr result (λ fault. IsFaultOfRun network.now fault ⊎ (IsFaultOfTrace path.entry.now fault ⊎ IsFaultOfOutput H.Output.failures (H.output host.old) (H.output host.new) fault)) }
+    ensures fault { IfErr result (λ fault. IsFaultOfRun network.now fault ⊎
+        (IsFaultOfTraceFile H.makes H.File.taken H.File.failures host.old network.now path.entry.now fault ⊎
+        IsFaultOfOutput H.Output.failures (H.output host.old) (H.output host.new) fault)) }
     ensures kept { IfErr result (λ fault. fault ≢ CannotWrite → H.output host.new ≡ H.output host.old) }
     ensures errors { H.errors host.new ≡ H.errors host.old }
 {
@@ -142,7 +148,7 @@ pub fn seq<'a, H: Host>(
     ensures shown { OnOk result (ShowsTables (H.gives host.old net.entry.now) H.Output.taken (H.output host.old) (H.output host.new)
         (LeavesSeq H.made H.closed H.File.taken H.with_output (option_map (λ path. path.now) trace.entry) host.old host.new)) }
     ensures fault { IfErr result (IsFaultOfSeq (H.gives host.old net.entry.now) net.entry.now (option_map (λ path. path.now) trace.entry)
-        (IsFaultOfOutput H.Output.failures (H.output host.old) (H.output host.new))) }
+        (IsFaultOfTraceFile H.makes H.File.taken H.File.failures host.old) (IsFaultOfOutput H.Output.failures (H.output host.old) (H.output host.new))) }
     ensures kept { IfErr result (λ fault. fault ≢ CannotWrite → H.output host.new ≡ H.output host.old) }
     ensures errors { H.errors host.new ≡ H.errors host.old }
 {

@@ -1,11 +1,13 @@
 //! The real host: the files and the standard streams of the system.
 ghost use Rattle.std.specs.Prelude.{◌≡◌, ◌≤◌, length, IfSome};
 
-use crate::host::{Host, ReadFault};
+use crate::host::{FileFault, Host};
 use std::alloc::Global;
 use std::fs;
 use std::fs::File;
-use std::io::{ErrorKind, Stderr, Stdout, Write};
+use std::io::{Error, ErrorKind, Stderr, Stdout, Write};
+use std::os::unix::fs::MetadataExt;
+use std::path::Path;
 use trace_tables::{Sink, SinkFault};
 
 /// A file or a stream of the system. No clause tells what it took.
@@ -78,8 +80,53 @@ impl System {
     }
 }
 
+/// Why the system did not read or make a file.
+fn fault_of(error: &Error) -> FileFault {
+    match error.kind() {
+        ErrorKind::OutOfMemory => FileFault::OutOfMemory,
+        _ => FileFault::Device,
+    }
+}
+
+/// A file that is there: its device, and its number on it.
+type Place = (u64, u64);
+
+impl System {
+    /// The file that this path names, where one is there.
+    fn place_of(&self, path: Path<'_>) -> Option<Place> {
+        let found = fs::metadata(&self.runtime, path).ok()?;
+        Some((found.dev(), found.ino()))
+    }
+
+    /// The folder that this path names a file in, where it is there, and the name in it.
+    fn entry_of<'a>(&self, path: Path<'a>) -> Option<(Place, &'a str)> {
+        let folder = path.parent()?;
+        let name = path.file_name()?;
+        let here = Path::new("");
+        let folder = if folder == here {
+            Path::new(".")
+        } else {
+            folder
+        };
+        Some((self.place_of(folder)?, name))
+    }
+
+    /// Both paths name one file that is there, or one name of one folder where none is yet.
+    fn is_same(&self, first: &str, second: &str) -> bool {
+        let (first, second) = (Path::new(first), Path::new(second));
+        match (self.place_of(first), self.place_of(second)) {
+            (Some(one), Some(other)) => one == other,
+            (None, None) => match (self.entry_of(first), self.entry_of(second)) {
+                (Some(one), Some(other)) => one == other,
+                _ => false,
+            },
+            _ => false,
+        }
+    }
+}
+
 impl Host for System {
-    ghost use Rattle.std.proofs.Common.{refl};
+    ghost use Rattle.std.proofs.Common.{refl, true, ◌≡◌};
 
     type File = Device<File>;
 
@@ -89,6 +136,11 @@ impl Host for System {
 
     // What a file of the system holds is for the system to tell: a read may give any bytes, or none.
     ghost gives = { λ _ _ _. Unit };
+
+    ghost makes = { λ _ _ _. Unit };
+
+    // Nor what its paths name, but that equal ones name one file.
+    ghost tells = { λ _ first second is_one. first ≡ second → is_one ≡ true };
 
     ghost output = { λ system. system.output };
 
@@ -102,6 +154,8 @@ impl Host for System {
     ghost made = { λ system _. system };
 
     ghost closed = { λ system _ _. system };
+
+    ghost equal_paths = { λ system path is_one told. told refl };
 
     ghost output_stays = { λ system out. refl };
 
@@ -119,21 +173,24 @@ impl Host for System {
 
     ghost errors_at_closed = { λ system path file. refl };
 
-    fn read(&mut self, alloc: Global, path: &str) -> Result<Vec<u8>, ReadFault> {
+    fn is_one_file(&self, first: &str, second: &str) -> bool {
+        first == second || self.is_same(first, second)
+    }
+
+    fn read(&mut self, alloc: Global, path: &str) -> Result<Vec<u8>, FileFault> {
         match fs::read(&self.runtime, path) {
             Ok(bytes) => Ok(bytes),
-            Err(error) if error.kind() == ErrorKind::OutOfMemory => Err(ReadFault::OutOfMemory),
-            Err(_) => Err(ReadFault::Device),
+            Err(error) => Err(fault_of(&error)),
         }
     }
 
-    fn make(&mut self, path: &str) -> Result<Device<File>, SinkFault> {
+    fn make(&mut self, path: &str) -> Result<Device<File>, FileFault> {
         match fs::create(&self.runtime, path) {
             Ok(writer) => Ok(Device {
                 writer,
                 failures: 0,
             }),
-            Err(_) => Err(SinkFault),
+            Err(error) => Err(fault_of(&error)),
         }
     }
 

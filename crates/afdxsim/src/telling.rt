@@ -1,11 +1,12 @@
 //! What the program says of a fault, on one line of error output.
 ghost use Rattle.std.specs.Prelude.{◌≡◌, ◌⊎◌, ◌++◌, [], codes, decimal, OnOk, IfOk, string_bytes};
 ghost use Rattle.std.specs.Option.{option_map_or};
-ghost use Rattle.afdxsim.specs.Telling.{place_text, place_of, fault_name, description_text, fault_text, told, TellsOne};
+ghost use Rattle.afdxsim.specs.Telling.{place_text, place_of, fault_name, description_text, fault_text, told, telling_of, telling_of_no_text, telling_of_twice, TellsOne};
 ghost use Rattle.afdxsim.specs.Ending.{Took, Told};
+ghost use Rattle.afdxsim.specs.Naming.{TellsTwice};
 ghost use Rattle.afdxsim.specs.declared.fault.Fault.TheVariants.{OutOfMemory};
 
-use crate::fault::Fault;
+use crate::fault::{BAD_WORDS, Fault};
 use netdesc::{DescFault, Place};
 use std::alloc::{AllocError, Global};
 use trace_tables::{Sink, write_all};
@@ -123,6 +124,46 @@ pub fn say<E: Sink>(line: &str, errors: &mut E)
     let _said = write_all(errors, line.as_bytes());
 }
 
+/// The line that tells of a file that the words name twice.
+fn twice_line(alloc: Global, path: &str) -> Result<String, AllocError>
+    ensures { IfOk result (λ line. string_bytes line ≡ (telling_of_twice path.now).line) }
+{
+    let mut line = String::from_str(alloc, "afdxsim: ")?;
+    push_both(&mut line, "named twice: ", path)?;
+    line.push_str("\n")?;
+    Ok(line)
+}
+
+/// Tells of want of memory. It takes none.
+pub fn tell_memory<E: Sink>(errors: &mut E) -> u8
+    ensures { Told E.taken E.failures errors.old errors.new result (telling_of OutOfMemory) }
+{
+    say(want_of_memory(), errors);
+    Fault::OutOfMemory.status()
+}
+
+/// Tells of a file that the words name twice, or of want of memory, where the line wants that.
+pub fn tell_twice<E: Sink>(alloc: Global, path: &str, errors: &mut E) -> u8
+    ensures told { TellsTwice path.now (Told E.taken E.failures errors.old errors.new result) }
+    ensures known { (result ≡ 2) ⊎ (result ≡ 5) }
+{
+    match twice_line(alloc, path) {
+        Ok(line) => {
+            say(line.as_str(), errors);
+            BAD_WORDS
+        }
+        Err(_) => tell_memory(errors),
+    }
+}
+
+/// Tells of a word that is not UTF-8. It takes no memory.
+pub fn tell_no_text<E: Sink>(errors: &mut E) -> u8
+    ensures { Told E.taken E.failures errors.old errors.new result telling_of_no_text }
+{
+    say("afdxsim: a word is not UTF-8\n", errors);
+    BAD_WORDS
+}
+
 /// Tells a fault on error output, by one line, and gives the status that the program ends with. Where the line itself wants memory it
 /// tells of that in place of the fault. Where error output fails, nothing more is said.
 pub fn tell<E: Sink>(alloc: Global, fault: &Fault<'_>, errors: &mut E) -> u8
@@ -134,9 +175,6 @@ pub fn tell<E: Sink>(alloc: Global, fault: &Fault<'_>, errors: &mut E) -> u8
             say(line.as_str(), errors);
             fault.status()
         }
-        Err(_) => {
-            say(want_of_memory(), errors);
-            Fault::OutOfMemory.status()
-        }
+        Err(_) => tell_memory(errors),
     }
 }

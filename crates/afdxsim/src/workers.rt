@@ -1,14 +1,17 @@
 //! A run by workers: its tables, and what else is asked for.
-ghost use Rattle.std.specs.Prelude.{◌≡◌, ◌⊎◌, List, IfErr, IfOk, OnOk};
+ghost use Rattle.std.specs.Prelude.{◌≡◌, ◌⊎◌, ◌+◌, ℕ, true, List, IfErr, IfOk, OnOk};
 ghost use Rattle.vlink.specs.declared.note.Row.{Row as Noted};
+ghost use Rattle.trace_tables.specs.declared.fault.OutFault.TheVariants.{Device};
+ghost use Rattle.trace_tables.specs.declared.trace_fault.TraceFault.TheVariants.{Out};
 ghost use Rattle.trace_tables.specs.Sinking.{IsBeginning};
 ghost use Rattle.trace_tables.specs.Text.{tables_text, trace_text};
 ghost use Rattle.seqsim.specs.Networks.{AreRowsOf};
 ghost use Rattle.worker_pool.specs.Paces.{IsPace};
 ghost use Rattle.command_line.specs.Meaning.{RunLimits};
 ghost use Rattle.afdxsim.specs.Ending.{Took};
-ghost use Rattle.afdxsim.specs.Sequencing.{IsTablesText};
-ghost use Rattle.afdxsim.specs.Workers.{fault_of_trace, IsFaultOfPool, IsFaultOfRunFile, IsJournalAsked};
+ghost use Rattle.afdxsim.specs.Files.{TookSome};
+ghost use Rattle.afdxsim.specs.Sequencing.{IsFaultOfTrace, IsTablesText, IsTraceText};
+ghost use Rattle.afdxsim.specs.Workers.{fault_of_trace, IsFaultOfPool, IsJournalAsked};
 
 use crate::fault::Fault;
 use command_line::Run;
@@ -89,6 +92,7 @@ fn traced<F: Sink + Drop + Send, T: Threads + Wait + Sync>(
         Took F.taken file found.sink (trace_text network.now rows))) }
     ensures beginning { IfOk result (λ found. (rows : List Noted) → AreRowsOf network.now rows →
         IsBeginning (F.taken file) (F.taken found.sink) (trace_text network.now rows)) }
+    ensures device { IfOk result (λ found. IfErr found.written (λ why. why ≡ Out Device → F.failures found.sink ≡ F.failures file + 1)) }
     ensures fault { IfErr result IsFaultOfPool }
 {
     if with_steps {
@@ -115,8 +119,10 @@ fn fault_of_trace<'a>(path: &'a str, why: TraceFault) -> Fault<'a>
 {
     match why {
         TraceFault::Part(PartFault::OutOfMemory) => Fault::OutOfMemory,
+        TraceFault::Part(_) => Fault::Torn,
         TraceFault::Out(OutFault::OutOfMemory) => Fault::OutOfMemory,
-        _ => Fault::CannotWriteFile(path),
+        TraceFault::Out(OutFault::Device) => Fault::CannotWriteFile(path),
+        TraceFault::Out(OutFault::Layout) => Fault::Layout,
     }
 }
 
@@ -136,7 +142,8 @@ pub fn found_with_trace<'a, F: Sink + Drop + Send, T: Threads + Wait + Sync>(
     ensures journal { IfOk result (λ found. IsJournalAsked network.now with_steps found.0.journal.items) }
     ensures trace { IfOk result (λ found. (rows : List Noted) → AreRowsOf network.now rows →
         Took F.taken file found.1 (trace_text network.now rows)) }
-    ensures fault { IfErr result (λ fault. IsFaultOfPool fault ⊎ IsFaultOfRunFile path.entry.now fault) }
+    ensures fault { IfErr result (λ fault. IsFaultOfPool fault ⊎ IsFaultOfTrace (λ made. made ≡ true)
+        ((full : F) × (text : List ℕ) × IsTraceText network.now text × TookSome F.taken F.failures file full text) path.entry.now fault) }
 {
     let Traced {
         outcome,

@@ -17,7 +17,7 @@ const NET: &str = "The network's description, a TOML file";
 const TRACE: &str = "Writes each delivery and each drop to this file, as CSV";
 
 const EXAMPLES: &str =
-    "Examples:\n  afdxsim check examples/n1.toml\n  afdxsim seq examples/n1.toml --trace t.csv\n  afdxsim run examples/n1.toml --workers 8 --journal steps.txt\n  afdxsim replay examples/n1.toml steps.txt";
+    "Examples:\n  afdxsim check examples/n1.toml\n  afdxsim seq examples/n1.toml --trace t.csv\n  afdxsim run examples/n1.toml --workers 8 --journal steps.txt\n  afdxsim replay examples/n1.toml steps.txt\n\nA refused description is told by its first fault; tools/explain.py tells all of them at once, each with its line.";
 
 /// The program with its four commands.
 pub(crate) fn program<'a>(alloc: Global) -> Result<Command<'a>, AllocError>
@@ -42,7 +42,9 @@ fn check<'a>(alloc: Global) -> Result<Command<'a>, AllocError>
 {
     Command::new(alloc, "check")
         .about("Reads a description, and counts its processes, virtual links and offered frames")
-        .after_help("Example: afdxsim check examples/n1.toml")
+        .after_help(
+            "Example: afdxsim check examples/n1.toml\n\nIt tells the first fault; tools/explain.py tells all of them at once, each with its line.",
+        )
         .arg(path(alloc, "NET", NET))
 }
 

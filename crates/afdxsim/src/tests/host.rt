@@ -1,5 +1,5 @@
 //! A host in memory.
-use crate::host::{Host, ReadFault};
+use crate::host::{FileFault, Host};
 use crate::perform;
 use std::alloc::{AllocError, Global};
 use std::mem;
@@ -138,12 +138,13 @@ impl MemoryHost {
         })
     }
 
-    // The bytes of the file with this path, if it is there.
-    fn file(&self, path: &str) -> Option<&[u8]> {
-        match (path, &self.steps) {
-            ("net.toml", _) => Some(self.bytes.as_slice()),
-            ("steps.txt", Some(steps)) => Some(steps.as_slice()),
-            _ => None,
+    // The bytes of the file with this path, if it is there. There is no memory for `huge`.
+    fn file(&self, path: &str) -> Result<&[u8], FileFault> {
+        match (plain(path), &self.steps) {
+            ("net.toml", _) => Ok(self.bytes.as_slice()),
+            ("steps.txt", Some(steps)) => Ok(steps.as_slice()),
+            ("huge", _) => Err(FileFault::OutOfMemory),
+            _ => Err(FileFault::Device),
         }
     }
 
@@ -157,14 +158,20 @@ impl MemoryHost {
         taken(self.alloc, &self.journal)
     }
 
-    // The bytes of the file with this path, where it can be made.
-    fn made(&self, path: &str) -> Option<&Arc<Mutex<Vec<u8>>>> {
-        match path {
-            "trace.csv" => Some(&self.trace),
-            "journal.txt" => Some(&self.journal),
-            _ => None,
+    // The bytes of the file with this path, where it can be made. There is no memory for `huge`.
+    fn made(&self, path: &str) -> Result<&Arc<Mutex<Vec<u8>>>, FileFault> {
+        match plain(path) {
+            "trace.csv" => Ok(&self.trace),
+            "journal.txt" => Ok(&self.journal),
+            "huge" => Err(FileFault::OutOfMemory),
+            _ => Err(FileFault::Device),
         }
     }
+}
+
+// The name of the file that this path names.
+fn plain(path: &str) -> &str {
+    path.strip_prefix("./").unwrap_or(path)
 }
 
 // All bytes, of which none stay.
@@ -177,7 +184,7 @@ fn taken(alloc: Global, bytes: &Mutex<Vec<u8>>) -> Vec<u8> {
 }
 
 impl Host for MemoryHost {
-    ghost use Rattle.std.proofs.Common.{refl};
+    ghost use Rattle.std.proofs.Common.{refl, true, ◌≡◌};
 
     type File = Leaf;
 
@@ -186,6 +193,10 @@ impl Host for MemoryHost {
     type Errors = Page;
 
     ghost gives = { λ _ _ _. Unit };
+
+    ghost makes = { λ _ _ _. Unit };
+
+    ghost tells = { λ _ first second is_one. first ≡ second → is_one ≡ true };
 
     ghost output = { λ host. host.output };
 
@@ -198,6 +209,8 @@ impl Host for MemoryHost {
     ghost made = { λ host _. host };
 
     ghost closed = { λ host _ _. host };
+
+    ghost equal_paths = { λ host path is_one told. told refl };
 
     ghost output_stays = { λ host out. refl };
 
@@ -215,26 +228,24 @@ impl Host for MemoryHost {
 
     ghost errors_at_closed = { λ host path file. refl };
 
-    fn read(&mut self, alloc: Global, path: &str) -> Result<Vec<u8>, ReadFault> {
-        let Some(bytes) = self.file(path) else {
-            return Err(ReadFault::Device);
-        };
-        match Vec::from_slice(alloc, bytes) {
+    fn is_one_file(&self, first: &str, second: &str) -> bool {
+        first == second || plain(first) == plain(second)
+    }
+
+    fn read(&mut self, alloc: Global, path: &str) -> Result<Vec<u8>, FileFault> {
+        match Vec::from_slice(alloc, self.file(path)?) {
             Ok(bytes) => Ok(bytes),
-            Err(_) => Err(ReadFault::OutOfMemory),
+            Err(_) => Err(FileFault::OutOfMemory),
         }
     }
 
-    fn make(&mut self, path: &str) -> Result<Leaf, SinkFault> {
-        let Some(bytes) = self.made(path) else {
-            return Err(SinkFault);
-        };
-        match bytes.clone() {
+    fn make(&mut self, path: &str) -> Result<Leaf, FileFault> {
+        match self.made(path)?.clone() {
             Ok(bytes) => Ok(Leaf {
                 page: self.file.like(self.alloc),
                 bytes,
             }),
-            Err(_) => Err(SinkFault),
+            Err(_) => Err(FileFault::OutOfMemory),
         }
     }
 

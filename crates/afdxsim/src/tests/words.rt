@@ -32,6 +32,20 @@ endless => run net.toml --journal journal.txt --trace trace.csv => 5 => afdxsim:
 n1 => run net.toml --journal t.txt => 4 => afdxsim: cannot write t.txt;
 n1 => run net.toml --trace t.csv => 4 => afdxsim: cannot write t.csv;
 n1 => run no.toml => 4 => afdxsim: cannot read no.toml;
+n1 => seq net.toml --trace net.toml => 2 => afdxsim: named twice: net.toml;
+n1 => seq net.toml --trace ./net.toml => 2 => afdxsim: named twice: ./net.toml;
+n1 => seq x --trace x => 2 => afdxsim: named twice: x;
+empty => seq net.toml --trace net.toml => 2 => afdxsim: named twice: net.toml;
+n1 => run net.toml --trace trace.csv --journal trace.csv => 2 => afdxsim: named twice: trace.csv;
+n1 => run net.toml --trace ./trace.csv --journal trace.csv => 2 => afdxsim: named twice: trace.csv;
+n1 => run net.toml --journal net.toml => 2 => afdxsim: named twice: net.toml;
+n1 => run ./net.toml --journal journal.txt --trace net.toml => 2 => afdxsim: named twice: net.toml;
+n1 => replay x x => 4 => afdxsim: cannot read x;
+n1 => check huge => 5 => afdxsim: out of memory;
+n1 => replay net.toml huge => 5 => afdxsim: out of memory;
+n1 => seq net.toml --trace huge => 5 => afdxsim: out of memory;
+n1 => run net.toml --trace huge => 5 => afdxsim: out of memory;
+n1 => run net.toml --journal huge => 5 => afdxsim: out of memory;
 n1 => replay net.toml steps.txt => 4 => afdxsim: cannot read steps.txt;
 n1 => replay no.toml steps.txt => 4 => afdxsim: cannot read no.toml;
 empty => replay net.toml steps.txt => 3 => afdxsim: description: 2 Missing at top until_ns;
@@ -61,13 +75,13 @@ n1 => replay x y z => 2 => error: unexpected argument 'z' found
 n1 => check x --trace t => 2 => error: unexpected argument '--trace' found
 n1 => seq x --journal j => 2 => error: unexpected argument '--journal' found
 n1 => run x --speed 9 => 2 => error: unexpected argument '--speed' found
-n1 => --help => 0 => Usage: afdxsim | ;  check  | ;  seq  | ;  run  | ;  replay  | afdxsim seq examples/n1.toml --trace t.csv
+n1 => --help => 0 => Usage: afdxsim | ;  check  | ;  seq  | ;  run  | ;  replay  | afdxsim seq examples/n1.toml --trace t.csv | tools/explain.py
 n1 => -h => 0 => Usage: afdxsim | ;  check  | ;  seq  | ;  run  | ;  replay  | afdxsim seq examples/n1.toml --trace t.csv
 n1 => help => 0 => Usage: afdxsim | ;  check  | ;  seq  | ;  run  | ;  replay  | afdxsim seq examples/n1.toml --trace t.csv
 n1 => --version => 0 => afdxsim 0.1.0;
 n1 => -V => 0 => afdxsim 0.1.0;
 n1 => check --version => 2 => error: unexpected argument '--version' found
-n1 => check --help => 0 => Usage: afdxsim check <NET>
+n1 => check --help => 0 => Usage: afdxsim check <NET> | tools/explain.py
 n1 => seq --help => 0 => Usage: afdxsim seq [OPTIONS] <NET> | --trace <FILE>
 n1 => run --help => 0 => Usage: afdxsim run [OPTIONS] <NET> | --workers <N> | [default: 4] | --turn <N> | [default: 16] | --window <NS> | 1 to 1000000000000000 [default: 1000000] | --journal <FILE> | --trace <FILE>
 n1 => replay --help => 0 => Usage: afdxsim replay <NET> <STEPS>

@@ -1,8 +1,8 @@
-use Rattle.std.proofs.Common.{sym, ap, subst, option_map, Bor, List, ℕ}
+use Rattle.std.proofs.Common.{◌⊎◌, sym, ap, subst, option_map, Bor, List, ℕ}
 use Rattle.std.specs.Prelude.{IfErr, OnOk}
 use Rattle.afdxsim.specs.Ending.{Took, IsFaultOfOutput}
-use Rattle.afdxsim.specs.Files.{LeavesSeq, ShowsTables}
-use Rattle.afdxsim.specs.Sequencing.{IsFaultOfSeq}
+use Rattle.afdxsim.specs.Files.{IsFaultOfTraceFile, LeavesSeq, ShowsTables}
+use Rattle.afdxsim.specs.Sequencing.{IsFaultOfRun, IsFaultOfSeq}
 use Rattle.afdxsim.proofs.Ended.{ok_then, err_then, ran_to_tables, fault_with_trace, fault_without_trace}
 use Rattle.afdxsim.proofs.Leaving.{left_with_trace, left_without_trace}
 use Rattle.afdxsim.proofs.seq.seq.Goals.{in-Some, in-None}
@@ -43,14 +43,17 @@ returns-clause-fault g c =
     let output = g.H.Host.output in
     let gives = g.H.Host.gives c.args.host.now c.args.net.now in
     let trace = option_map (λ (path : Bor (List ℕ)). path.now) c.args.trace in
-    let met = IsFaultOfSeq gives c.args.net.now trace (IsFaultOfOutput failures (output c.args.host.now) (output c.match-trace.host)) in
+    let IsOfTrace = IsFaultOfTraceFile g.H.Host.makes g.H.File.Sink.taken g.H.File.Sink.failures in
+    let plan = c.in_ok-network.network in
+    let met = IsFaultOfSeq gives c.args.net.now trace (IsOfTrace c.args.host.now) (IsFaultOfOutput failures (output c.args.host.now) (output c.match-trace.host)) in
     elim c.match-trace.branch [
       | in-Some w ↦ subst (λ r. IfErr r met) (sym w.shown-is) (err_then w.run_to_trace-shown.result w.run_to_trace-shown.ensures.fault (λ fault is.
-          fault_with_trace failures gives c.args.net.now w.in-Some.path.now trace c.in_ok-network.network fault
+          fault_with_trace failures gives c.args.net.now w.in-Some.path.now trace (IsOfTrace c.args.host.now) plan fault
           (output c.args.host.now) (output c.match-trace.host) (output c.network_of.new.host) (output w.run_to_trace-shown.new.host)
-          c.in_ok-network.ensures.network (ap (option_map (λ (path : Bor (List ℕ)). path.now)) w.in-Some.is) (ap output c.network_of.ensures.host) (ap output (sym w.host-is)) is))
+          c.in_ok-network.ensures.network (ap (option_map (λ (path : Bor (List ℕ)). path.now)) w.in-Some.is) (ap output c.network_of.ensures.host) (ap output (sym w.host-is))
+          (subst (λ host. IsFaultOfRun plan fault ⊎ (IsOfTrace host plan w.in-Some.path.now fault ⊎ IsFaultOfOutput failures (output c.network_of.new.host) (output w.run_to_trace-shown.new.host) fault)) c.network_of.ensures.host is)))
       | in-None w ↦ subst (λ r. IfErr r met) (sym w.shown-is) (err_then w.run_to_tables-shown.result w.run_to_tables-shown.ensures.fault (λ fault is.
-          fault_without_trace failures gives c.args.net.now trace c.in_ok-network.network fault
+          fault_without_trace failures gives c.args.net.now trace (IsOfTrace c.args.host.now) plan fault
           (output c.args.host.now) (output c.match-trace.host) (output c.network_of.new.host) (output w.run_to_tables-shown.new.host)
           c.in_ok-network.ensures.network (ap output c.network_of.ensures.host) (ap output (sym w.host-is)) is))
     ]

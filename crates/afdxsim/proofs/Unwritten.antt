@@ -1,0 +1,139 @@
+-- Why a file is not whole, told of the one that was made.
+use Rattle.std.proofs.Common.{◌≡◌, ◌⊎◌, inl, inr, ℕ, ◌+◌, Bool, true, false, List, [], Option, Some, None, Result, Err, refl, sym, subst, option_map}
+use Rattle.std.specs.Prelude.{IfErr, IfSome, is_some}
+use Rattle.vlink.specs.declared.note.Row.{Row as Noted}
+use Rattle.vlink.specs.declared.step.Step.{Step as Noting}
+use Rattle.netdesc.specs.Plan.{Plan}
+use Rattle.seqsim.specs.Networks.{AreRowsOf}
+use Rattle.trace_tables.specs.Sinking.{IsBeginning}
+use Rattle.trace_tables.specs.Text.{trace_text}
+use Rattle.trace_tables.specs.declared.trace_fault.TraceFault.{TraceFault}
+use Rattle.trace_tables.specs.declared.trace_fault.TraceFault.TheVariants.{Part, Out}
+use Rattle.trace_tables.specs.declared.fault.OutFault.TheVariants as out
+use Rattle.trace_tables.specs.declared.part_fault.PartFault.TheVariants as part
+use Rattle.journal.specs.declared.fault.PoolFault.TheVariants as pool
+use Rattle.std.specs.Borrow.{Bor}
+use Rattle.journal_text.specs.Text.{steps_text}
+use Rattle.afdxsim.specs.declared.fault.Fault.{Fault}
+use Rattle.afdxsim.specs.declared.fault.Fault.TheVariants.{Description, JournalLine, JournalFull, CannotRead, CannotWriteFile, CannotWrite, Layout, OutOfMemory, Exhausted, Spawn, Torn}
+use Rattle.afdxsim.specs.Files.{IsFaultOfKeptFile, IsFaultOfTraceFile, TookSome, WritesAsked, WritesSome}
+use Rattle.afdxsim.specs.Sequencing.{IsFaultOfTrace, IsTablesText, IsTraceText}
+use Rattle.afdxsim.specs.Workers.{fault_of_trace, IsFaultOfJournalFile, IsFaultOfPool, IsJournalAsked, IsJournalOf, IsJournalText}
+
+-- what holds of a file in hand holds of the path that it was made with
+module _ (makes : Bool → Type 0) (U V : Type 0) (path : List ℕ) where
+  unwritten : (made : Bool → Type 0) → (made false → makes false) → (made true → makes true) → (U → V) → made false ⊎ (made true × U) → makes false ⊎ (makes true × V)
+  unwritten made lacks has f (inl h) = inl (lacks h)
+  unwritten made lacks has f (inr h) = inr (has h.0, f h.1)
+
+  pub trace_of : (made : Bool → Type 0) → (made false → makes false) → (made true → makes true) → (U → V) → (fault : Fault) → IsFaultOfTrace made U path fault → IsFaultOfTrace makes V path fault
+  trace_of made lacks has f (Description fault) is = is
+  trace_of made lacks has f (JournalLine n) is = is
+  trace_of made lacks has f JournalFull is = is
+  trace_of made lacks has f (CannotRead at) is = is
+  trace_of made lacks has f (CannotWriteFile at) is = (is.0, unwritten made lacks has f is.1)
+  trace_of made lacks has f CannotWrite is = is
+  trace_of made lacks has f Layout is = has is
+  trace_of made lacks has f OutOfMemory is = has is
+  trace_of made lacks has f Exhausted is = is
+  trace_of made lacks has f Spawn is = is
+  trace_of made lacks has f Torn is = is
+
+  pub journal_of : (made : Bool → Type 0) → (made false → makes false) → (made true → makes true) → (U → V) → (fault : Fault) → IsFaultOfJournalFile made U path fault → IsFaultOfJournalFile makes V path fault
+  journal_of made lacks has f (Description fault) is = is
+  journal_of made lacks has f (JournalLine n) is = is
+  journal_of made lacks has f JournalFull is = is
+  journal_of made lacks has f (CannotRead at) is = is
+  journal_of made lacks has f (CannotWriteFile at) is = (is.0, unwritten made lacks has f is.1)
+  journal_of made lacks has f CannotWrite is = is
+  journal_of made lacks has f Layout is = is
+  journal_of made lacks has f OutOfMemory is = has is
+  journal_of made lacks has f Exhausted is = is
+  journal_of made lacks has f Spawn is = is
+  journal_of made lacks has f Torn is = is
+
+-- that of a file that was just made
+pub trace_made : (makes : Bool → Type 0) (U V : Type 0) (path : List ℕ) (fault : Fault) → makes true → (U → V) → IsFaultOfTrace (λ made. made ≡ true) U path fault → IsFaultOfTrace makes V path fault
+trace_made makes U V path fault there f is = trace_of makes U V path (λ made. made ≡ true) (λ is. absurd (let bad : false ≡ true = is in cc)) (λ _. there) f fault is
+
+pub journal_made : (makes : Bool → Type 0) (U V : Type 0) (path : List ℕ) (fault : Fault) → makes true → (U → V) → IsFaultOfJournalFile (λ made. made ≡ true) U path fault → IsFaultOfJournalFile makes V path fault
+journal_made makes U V path fault there f is = journal_of makes U V path (λ made. made ≡ true) (λ is. absurd (let bad : false ≡ true = is in cc)) (λ _. there) f fault is
+
+-- a file that was made, and took some of a text
+pub trace_took : {File : Type 0} (makes : Bool → Type 0) (taken : File → Option (List ℕ)) (failures : File → ℕ) (empty file : File) (text path : List ℕ) (fault : Fault) →
+    makes true → IfSome (taken empty) (λ bytes. bytes ≡ []) → IsFaultOfTrace (λ made. made ≡ true) (TookSome taken failures empty file text) path fault →
+    IsFaultOfTrace makes (WritesSome taken failures (λ t. t ≡ text)) path fault
+trace_took makes taken failures empty file text path fault there none is =
+    trace_made makes (TookSome taken failures empty file text) (WritesSome taken failures (λ t. t ≡ text)) path fault there (λ took. (empty, file, text, none, refl, took)) is
+
+pub journal_took : {File : Type 0} (makes : Bool → Type 0) (taken : File → Option (List ℕ)) (failures : File → ℕ) (empty file : File) (text path : List ℕ) (fault : Fault) →
+    makes true → IfSome (taken empty) (λ bytes. bytes ≡ []) → IsFaultOfJournalFile (λ made. made ≡ true) (TookSome taken failures empty file text) path fault →
+    IsFaultOfJournalFile makes (WritesSome taken failures (λ t. t ≡ text)) path fault
+journal_took makes taken failures empty file text path fault there none is =
+    journal_made makes (TookSome taken failures empty file text) (WritesSome taken failures (λ t. t ≡ text)) path fault there (λ took. (empty, file, text, none, refl, took)) is
+
+-- a file that was made, and took some of a trace of the network
+pub run_took : {Host File : Type 0} (makes : Host → List ℕ → Bool → Type 0) (taken : File → Option (List ℕ)) (failures : File → ℕ) (host : Host) (empty : File) (plan : Plan) (path : List ℕ) (fault : Fault) →
+    makes host path true → IfSome (taken empty) (λ bytes. bytes ≡ []) →
+    IsFaultOfTrace (λ made. made ≡ true) ((full : File) × (text : List ℕ) × IsTraceText plan text × TookSome taken failures empty full text) path fault →
+    IsFaultOfTraceFile makes taken failures host plan path fault
+run_took {File = File} makes taken failures host empty plan path fault there none is =
+    trace_made (makes host path) ((full : File) × (text : List ℕ) × IsTraceText plan text × TookSome taken failures empty full text) (WritesSome taken failures (IsTraceText plan)) path fault there
+    (λ some. (empty, some.0, some.1, none, some.2, some.3)) is
+
+pub at_err : {T : Type 0} (P : TraceFault → Type 0) (r : Result T TraceFault) (why : TraceFault) → r ≡ Err why → IfErr r P → P why
+at_err P r why is holds = subst (λ x. IfErr x P) is holds
+
+-- why a run did not write its trace, by how its writing went
+pub run_fault : {File : Type 0} (taken : File → Option (List ℕ)) (failures : File → ℕ) (plan : Plan) (path : Bor (List ℕ)) (file full : File) (tables : List ℕ) (why : TraceFault) (fault : Fault) →
+    fault ≡ fault_of_trace path why → IsTablesText plan tables →
+    ((rows : List Noted) → AreRowsOf plan rows → IsBeginning (taken file) (taken full) (trace_text plan rows)) →
+    (why ≡ Out out.Device → failures full ≡ failures file + 1) →
+    IsFaultOfPool fault ⊎ IsFaultOfTrace (λ made. made ≡ true) ((full : File) × (text : List ℕ) × IsTraceText plan text × TookSome taken failures file full text) path.now fault
+run_fault {File = File} taken failures plan path file full tables why fault named run begins failed = subst Told (sym named) (of why failed)
+  where
+    Told : Fault → Type 0
+    Told f = IsFaultOfPool f ⊎ IsFaultOfTrace (λ made. made ≡ true) ((full : File) × (text : List ℕ) × IsTraceText plan text × TookSome taken failures file full text) path.now f
+
+    of : (w : TraceFault) → (w ≡ Out out.Device → failures full ≡ failures file + 1) → Told (fault_of_trace path w)
+    of (Part part.Gap) f = inl (pool.Torn, refl)
+    of (Part part.Double) f = inl (pool.Torn, refl)
+    of (Part part.Stranger) f = inl (pool.Torn, refl)
+    of (Part part.OutOfMemory) f = inl (pool.OutOfMemory, refl)
+    of (Out out.OutOfMemory) f = inl (pool.OutOfMemory, refl)
+    of (Out out.Layout) f = inr refl
+    of (Out out.Device) f = inr (refl, inr (refl, (full, trace_text plan run.0, (run.0, run.1, refl), (begins run.0 run.1, f refl))))
+
+-- texts of another kind
+pub some_of : {File : Type 0} (taken : File → Option (List ℕ)) (failures : File → ℕ) (P Q : List ℕ → Type 0) → ((text : List ℕ) → P text → Q text) →
+    WritesSome taken failures P → WritesSome taken failures Q
+some_of taken failures P Q f some = (some.0, some.1, some.2, some.3, f some.2 some.4, some.5)
+
+-- the trace of a run, of its rows
+pub rows_took : {Host File : Type 0} (makes : Host → List ℕ → Bool → Type 0) (taken : File → Option (List ℕ)) (failures : File → ℕ) (host : Host) (plan : Plan) (rows : List Noted) (path : List ℕ) (fault : Fault) →
+    AreRowsOf plan rows → IsFaultOfTrace (makes host path) (WritesSome taken failures (λ text. text ≡ trace_text plan rows)) path fault →
+    IsFaultOfTraceFile makes taken failures host plan path fault
+rows_took makes taken failures host plan rows path fault are is =
+    trace_of (makes host path) (WritesSome taken failures (λ text. text ≡ trace_text plan rows)) (WritesSome taken failures (IsTraceText plan)) path (makes host path) (λ h. h) (λ h. h)
+    (some_of taken failures (λ text. text ≡ trace_text plan rows) (IsTraceText plan) (λ text same. (rows, are, same))) fault is
+
+-- the steps that were asked for are the journal of the run
+asked : (plan : Plan) (steps : List Noting) (is_some : Bool) → is_some ≡ true → IsJournalAsked plan is_some steps → IsJournalOf plan steps
+asked plan steps true is h = h
+asked plan steps false is h = absurd (let bad : false ≡ true = is in cc)
+
+pub kept_of : {Host File S : Type 0} (makes : Host → List ℕ → Bool → Type 0) (made : Host → List ℕ → Host) (closed : Host → List ℕ → File → Host)
+    (taken : File → Option (List ℕ)) (failures : File → ℕ) (bytes : S → List ℕ) (trace : Option (List ℕ)) (journal : Option S) (old traced : Host) (plan : Plan) (steps : List Noting) (path : List ℕ) (fault : Fault) →
+    WritesAsked made closed taken trace (IsTraceText plan) old traced → IsJournalAsked plan (is_some journal) steps → option_map bytes journal ≡ Some path →
+    IsFaultOfJournalFile (makes traced path) (WritesSome taken failures (λ text. text ≡ steps_text steps)) path fault →
+    IsFaultOfKeptFile makes made closed taken failures trace old plan path fault
+kept_of {S = S} makes made closed taken failures bytes trace journal old traced plan steps path fault wrote is there was = (
+  traced,
+  wrote,
+  journal_of (makes traced path) (WritesSome taken failures (λ text. text ≡ steps_text steps)) (WritesSome taken failures (IsJournalText plan)) path (makes traced path) (λ h. h) (λ h. h)
+      (some_of taken failures (λ text. text ≡ steps_text steps) (IsJournalText plan) (λ text same. (steps, asked plan steps (is_some journal) (some_there journal there) is, same))) fault was,
+)
+  where
+    some_there : (o : Option S) → option_map bytes o ≡ Some path → is_some o ≡ true
+    some_there (Some x) is = refl
+    some_there None is = absurd (let bad : None ≡ Some path = is in cc)
