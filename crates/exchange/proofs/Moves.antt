@@ -1,5 +1,7 @@
 -- What a process does alone, one step after another.
-use Rattle.std.proofs.Common.{◌≡◌, ℕ, zero, suc, ◌+◌, ◌<◌, inl, inr, Bool, true, false, ◌&&◌, cond, nat_lt, List, [], ◌∷◌, ◌++◌, map, length, replicate, Option, Some, refl, sym, ap, ◌∙◌, subst, arith, append_assoc, append-nil, eq-eqb}
+use Rattle.std.proofs.Common.{◌≡◌, ℕ, zero, suc, ◌+◌, ◌<◌, ◌≤◌, inl, inr, Bool, true, false, ◌&&◌, cond, nat_lt, List, [], ◌∷◌, ◌++◌, map, length, replicate, slice_get, Option, Some, None, refl, sym, ap, ◌∙◌, subst, arith, append_assoc, append-nil, eq-eqb}
+use Rattle.std.specs.Prelude.{◌≢◌}
+use Rattle.std.specs.Option.{option_map}
 use Rattle.std.proofs.lemmas.Bool.{lt-ltb, le-ltb, cases_lt, false≢true, and_parts}
 use Rattle.std.proofs.lemmas.List.{replicate_more}
 use Rattle.vlink.specs.declared.message.Message.{Message}
@@ -118,3 +120,25 @@ module _ {S K : Type 0} (f : Simulation Message S K Note) where
             (filter-none f.rules L.order (λ y. nat_lt (f.rules.time y) g) ms
             (λ y j. le-ltb (f.rules.time y) g (let a = less-time f.rules L.order m y (up.0 y j) in omega arith))))
       ]
+
+  -- the oldest done event tells whether any is earlier than g
+  pub none-oldest : (g : ℕ) (ms : List Message) → option_map f.rules.time (slice_get ms 0) ≡ None → earlier f.rules g ms ≡ []
+  none-oldest g [] e = refl
+  none-oldest g (m ∷ ms) e = cc
+
+  pub early-oldest : (g t : ℕ) (ms : List Message) → option_map f.rules.time (slice_get ms 0) ≡ Some t → t < g → earlier f.rules g ms ≢ []
+  early-oldest g t [] e early none = cc
+  early-oldest g t (m ∷ ms) e early none =
+      let same : f.rules.time m ≡ t = cc in
+      let first = lt-ltb (f.rules.time m) g (subst (λ z. z < g) (sym same) early) in
+      let some : m ∷ earlier f.rules g ms ≡ [] = rw first at none in
+      cc
+
+  pub late-oldest : (g t : ℕ) (part : Part Message S) → option_map f.rules.time (slice_get part.done 0) ≡ Some t → g ≤ t → is_ready f.rules g part ≡ false
+  late-oldest g t part e late = go part.done e
+    where
+      go : (ms : List Message) → option_map f.rules.time (slice_get ms 0) ≡ Some t → (is_early_event f.rules g ms && can_seal f.rules part ms) ≡ false
+      go [] e = refl
+      go (m ∷ ms) e =
+          let same : f.rules.time m ≡ t = cc in
+          ap (λ b. b && can_seal f.rules part (m ∷ ms)) (le-ltb (f.rules.time m) g (subst (λ z. g ≤ z) (sym same) late))

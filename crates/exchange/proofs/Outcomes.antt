@@ -1,6 +1,6 @@
--- What a call gives that is known to succeed.
-use Rattle.std.proofs.Common.{◌≡◌, false, Result, Ok, Err}
-use Rattle.std.specs.Result.{IsOk, OnOk, is_err}
+-- What a call gives that is known to succeed, and what is said of one that is refused.
+use Rattle.std.proofs.Common.{◌≡◌, false, Result, Ok, Err, OnErr, sym, subst}
+use Rattle.std.specs.Result.{IsOk, OnOk, IfErr, IsErrAnd, is_err}
 
 pub when-ok : {T E P : Type 0} (r : Result T E) → IsOk r → OnOk r P → P
 when-ok (Ok v) i h = h
@@ -9,3 +9,13 @@ when-ok (Err e) i h = absurd (cc)
 pub when-no-err : {T E P : Type 0} (r : Result T E) → is_err r ≡ false → OnOk r P → P
 when-no-err (Ok v) e h = h
 when-no-err (Err d) e h = absurd (cc)
+
+-- what holds at all holds where a call is refused
+pub on-err : {T E P : Type 0} (r : Result T E) → P → OnErr r P
+on-err (Ok v) p = tt
+on-err (Err e) p = p
+
+-- what holds of the fault of a call holds where it is passed on
+pub if-err : {T E : Type 0} (P : E → Type 0) (e : E) (r : Result T E) → IsErrAnd r (λ z. z ≡ e) → P e → IfErr r P
+if-err P e (Ok v) was p = tt
+if-err P e (Err z) was p = subst P (sym was) p

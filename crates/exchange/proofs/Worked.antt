@@ -1,5 +1,5 @@
 -- What a process does at one go: arrivals, then runs, then commits.
-use Rattle.std.proofs.Common.{◌≡◌, ℕ, ◌+◌, ◌-◌, ◌≤◌, ◌⊎◌, inl, inr, [], ◌++◌, length, replicate, Result, Ok, Err, OnErr, ap, ◌∙◌, subst, arith, length-append}
+use Rattle.std.proofs.Common.{◌≡◌, ℕ, ◌+◌, ◌-◌, ◌≤◌, ◌⊎◌, inl, inr, [], ◌++◌, length, replicate, ap, ◌∙◌, subst, arith, length-append}
 use Rattle.std.proofs.lemmas.List.{length-replicate}
 use Rattle.vlink.specs.declared.message.Message.{Message}
 use Rattle.vlink.specs.declared.note.Note.{Note}
@@ -7,13 +7,8 @@ use Rattle.virtual_time.specs.Lists.{earlier}
 use Rattle.virtual_time.specs.Simulation.{Simulation}
 use Rattle.virtual_time.specs.Journal.{Arrived, Ran, Sealed}
 use Rattle.exchange.specs.Views.{InShare}
-use Rattle.exchange.specs.Effects.{moved_by, turn, RanEarly, IsIdleBefore, Works, WorksSome}
+use Rattle.exchange.specs.Effects.{moved_by, turn, all_arrived, Runs, RanEarly, IsIdleBefore, Works}
 use Rattle.exchange.proofs.Moves.{moved-none, moved-chain}
-
--- of a refusal
-pub on-err : {T E : Type 0} {P : Type 0} (result : Result T E) → P → OnErr result P
-on-err (Ok x) p = tt
-on-err (Err e) p = p
 
 turn-length : (a r c : ℕ) → length (turn a r c) ≡ a + r + c
 turn-length a r c =
@@ -28,8 +23,10 @@ module _ {S K : Type 0} (f : Simulation Message S K Note) (a r c : ℕ) (h h1 h2
       (ap (moved_by f (replicate c Sealed)) (ran ∙ (ap (moved_by f (replicate r Ran)) arrived ∙ moved-chain f (replicate a Arrived) (replicate r Ran) h)) ∙
       moved-chain f (replicate a Arrived ++ replicate r Ran) (replicate c Sealed) h)
 
-  pub works-some : h1 ≡ moved_by f (replicate a Arrived) h → h2 ≡ moved_by f (replicate r Ran) h1 → h3 ≡ moved_by f (replicate c Sealed) h2 → WorksSome f h h3
-  works-some arrived ran sealed = record { arrivals = a; runs = r; commits = c; did = moved-turn arrived ran sealed }
+-- all arrive, then messages are handled
+pub ran-after : {S K : Type 0} (f : Simulation Message S K Note) (most window : ℕ) (h h1 h2 : InShare S) → h1 ≡ all_arrived f h → Runs f most (h1.share.seen + window) h1 h2 →
+    Runs f most (h.share.seen + window) (all_arrived f h) h2
+ran-after f most window h h1 h2 arrived ran = subst (λ (z : InShare _). Runs f most (z.share.seen + window) z h2) arrived ran
 
 module _ {S K : Type 0} (f : Simulation Message S K Note) (most window : ℕ) (h h1 h2 h3 : InShare S) (r c : ℕ) where
   pub works : h1 ≡ moved_by f (replicate (length h.part.tray) Arrived) h → h2 ≡ moved_by f (replicate r Ran) h1 → h3 ≡ moved_by f (replicate c Sealed) h2 →

@@ -1,7 +1,8 @@
 -- What each call does to an Exchange and to a Held.
-use Rattle.std.specs.Prelude.{◌≡◌, ℕ, zero, suc, ◌+◌, ◌<◌, ◌≤◌, ◌==◌, ◌⊎◌, Bool, true, false, List, [], ◌∷◌, ◌++◌, map, take, length, replicate, set, Option, Some, None, ⊤, MatchOption}
+use Rattle.std.specs.Prelude.{◌≡◌, ◌≢◌, ◌↔◌, ℕ, zero, suc, ◌+◌, ◌<◌, ◌≤◌, ◌==◌, ◌⊎◌, Bool, true, false, List, [], ◌∷◌, ◌++◌, map, take, length, replicate, set, Option, Some, None, ⊤, MatchOption}
 use Rattle.vlink.specs.declared.message.Message.{Message}
 use Rattle.vlink.specs.declared.note.Note.{Note}
+use Rattle.vlink.specs.Numbering.{greatest_number}
 use Rattle.virtual_time.specs.Lists.{earlier}
 use Rattle.virtual_time.specs.Letters.{Letter}
 use Rattle.virtual_time.specs.Part.{Part, emptied, next_of, run_one}
@@ -9,6 +10,8 @@ use Rattle.virtual_time.specs.Simulation.{Simulation}
 use Rattle.virtual_time.specs.World.{gvt_over}
 use Rattle.virtual_time.specs.Own.{local}
 use Rattle.virtual_time.specs.Journal.{Move, Arrived, Ran, Sealed, Deed, Took, Posted, Published, Entry, act_by, acts_of, reach}
+use Rattle.journal.specs.declared.fault.PoolFault.{PoolFault}
+use Rattle.journal.specs.declared.fault.PoolFault.TheVariants.{OutOfMemory, Exhausted}
 use Rattle.exchange.specs.declared.mark.Mark.{Mark}
 use Rattle.exchange.specs.Views.{Ledger, InShare}
 
@@ -77,6 +80,10 @@ module _ {S K : Type 0} (f : Simulation Message S K Note) where
   publishes true x y = y ≡ x
   publishes false x y = y ≡ record { entries = x.entries ++ told 0 None Published ∷ []; books = x.books; limit = x.limit }
 
+  -- GVT is not what floors and mail tell
+  abbrev pub IsHeldBack : Ledger → Type 0
+  IsHeldBack x = gvt_over f f.processes (reach f x.entries) ≢ (reach f x.entries).gvt
+
   abbrev pub Publishes : Ledger → Ledger → ℕ → Type 0
   Publishes x y t =
       (t ≡ gvt_over f f.processes (reach f x.entries))
@@ -85,6 +92,14 @@ module _ {S K : Type 0} (f : Simulation Message S K Note) where
   -- the process did these steps, and they joined the block
   abbrev pub moved_by : List Move → InShare S → InShare S
   moved_by ms h = record h { part = local f.rules (f.opening h.number) (map act_by ms) h.part; block = h.block ++ ms }
+
+  -- a message that is earlier than the limit is handled next
+  abbrev pub IsDueBefore : ℕ → Part Message S → Type 0
+  IsDueBefore limit part = (m : Message) × (next_of f.rules part ≡ Some m) × (f.rules.time m < limit)
+
+  -- its actor has not enough numbers left for all that one event can send
+  abbrev pub WantsNumbers : Part Message S → Type 0
+  WantsNumbers part = greatest_number < f.rules.counter part.state + 24
 
   -- each of so many runs handles a message that is earlier than the limit
   abbrev pub RanEarly : ℕ → ℕ → Part Message S → Type 0
@@ -107,9 +122,45 @@ module _ {S K : Type 0} (f : Simulation Message S K Note) where
     pub idle : (runs ≡ most) ⊎ IsIdleBefore (h.share.seen + window) (moved_by (turn (length h.part.tray) runs 0) h).part
     pub committed_below : earlier f.rules h.share.seen k.part.done ≡ []
 
-  -- some of that was done, and the block tells what
-  pub record WorksSome (h k : InShare S) : Type 0 where
-    pub arrivals : ℕ
+  -- messages that are earlier than the limit are handled, so many at most, as long as there are any
+  pub record Runs (most limit : ℕ) (h k : InShare S) : Type 0 where
     pub runs : ℕ
+    pub did : k ≡ moved_by (replicate runs Ran) h
+    pub within : runs ≤ most
+    pub early : RanEarly limit runs h.part
+    pub idle : (runs ≡ most) ⊎ IsIdleBefore limit k.part
+
+  -- refused as a letter of the tray was to arrive: only some letters arrived
+  pub record StopsAtArrival (h k : InShare S) (fault : PoolFault) : Type 0 where
+    pub arrivals : ℕ
+    pub did : k ≡ moved_by (replicate arrivals Arrived) h
+    pub left : arrivals < length h.part.tray
+    pub memory : fault ≡ OutOfMemory
+
+  -- refused as a message was to be handled: fewer were handled than can be, each of them earlier than the limit, as the next one is.
+  -- That numbers are wanting is told exactly where they are
+  pub record StopsAtRun (most limit : ℕ) (h k : InShare S) (fault : PoolFault) : Type 0 where
+    pub runs : ℕ
+    pub did : k ≡ moved_by (replicate runs Ran) h
+    pub within : runs < most
+    pub early : RanEarly limit runs h.part
+    pub due : IsDueBefore limit k.part
+    pub numbers : (fault ≡ Exhausted) ↔ WantsNumbers k.part
+
+  -- refused as an event was to be committed: there is one that is earlier than the GVT seen
+  pub record StopsAtCommit (h k : InShare S) (fault : PoolFault) : Type 0 where
     pub commits : ℕ
-    pub did : k ≡ moved_by (turn arrivals runs commits) h
+    pub did : k ≡ moved_by (replicate commits Sealed) h
+    pub left : earlier f.rules h.share.seen k.part.done ≢ []
+    pub memory : fault ≡ OutOfMemory
+
+  -- all letters of the tray arrive
+  abbrev pub all_arrived : InShare S → InShare S
+  all_arrived h = moved_by (replicate (length h.part.tray) Arrived) h
+
+  -- a refusal comes at a step of `Works` that was to be done, and all before it were done: an arrival, a run, or a commit
+  abbrev pub WorksSome : ℕ → ℕ → InShare S → InShare S → PoolFault → Type 0
+  WorksSome most window h k fault =
+      StopsAtArrival h k fault ⊎
+      (StopsAtRun most (h.share.seen + window) (all_arrived h) k fault ⊎
+      ((ran : InShare S) × Runs most (h.share.seen + window) (all_arrived h) ran × StopsAtCommit ran k fault))

@@ -2,4 +2,3 @@
 pub mod Views
 pub mod Keeps
 pub mod Effects
-pub mod Faults

@@ -26,8 +26,8 @@ use std::snapshot::Snapshot;
 /// The first letters of the mail of a process, `most` or all where there are fewer, go to its tray, with one entry in the journal
 /// where there are any. Share and book note the GVT of the exchange. The answer is how many letters were taken.
 ///
-/// Any refusal leaves both as they were. `JournalFull`: the steps would pass the limit, which is looked at before any growth. `Torn`: the
-/// entry's cell was set already.
+/// Any refusal leaves both as they were. `JournalFull`: exactly where the steps would pass the limit, which is looked at before any growth.
+/// `Torn`: the entry's cell was set already, which is seen after all growths.
 pub fn collect<'a, R: Actor, J: ActorRun<R>>(
     held: &mut Held<'a, R, J>,
     exchange: &mut Exchange<'a, R, J>,
@@ -38,6 +38,8 @@ pub fn collect<'a, R: Actor, J: ActorRun<R>>(
     ensures unchanged { OnErr result ((exchange.new ≡ exchange.old) × (held.new ≡ held.old)) }
     ensures full { result ≡ Err JournalFull → exchange.old.limit < length (steps exchange.old.entries)
         + min most (length ((reach (simulation_of (rules_of R.plain R.counter) J.setting) exchange.old.entries).mail held.old.number)) }
+    ensures limited { exchange.old.limit < length (steps exchange.old.entries)
+        + min most (length ((reach (simulation_of (rules_of R.plain R.counter) J.setting) exchange.old.entries).mail held.old.number)) → result ≡ Err JournalFull }
     ensures faults { IfErr result (λ fault. (fault ≡ OutOfMemory) ⊎ ((fault ≡ JournalFull) ⊎ (fault ≡ Torn))) }
 {
     actor_laws::<R>();

@@ -27,8 +27,6 @@ pub struct Held<'a, R: Actor, J: ActorRun<R>> {
     pub(crate) number: u16,
     /// How many messages it handled, those that were handled again included.
     pub(crate) runs: u64,
-    /// How many events its arrivals undid.
-    pub(crate) undone: u64,
     pub(crate) block: Block,
     pub(crate) last: Option<EntryPlace<'a>>,
     pub(crate) seen: Time,
@@ -82,12 +80,6 @@ impl<'a, R: Actor, J: ActorRun<R>> Held<'a, R, J> {
         ensures { result ≡ length self.now.block }
     {
         self.block.len() as u64
-    }
-
-    /// How many events letters that came too late have undone in it so far. The count stops at its greatest value. No contract speaks of it: it
-    /// tells a caller whether the process ran too far ahead.
-    pub fn undone(&self) -> u64 {
-        self.undone
     }
 
     /// Its share.

@@ -4,7 +4,6 @@
 
 mod collecting;
 mod exchange;
-mod fault;
 mod fits;
 mod gate;
 mod held;

@@ -127,7 +127,6 @@ impl<'a, R: Actor, J: ActorRun<R>> Held<'a, R, J> {
                 process,
                 number,
                 runs: 0,
-                undone: 0,
                 block: Block::new(),
                 last: None,
                 seen: Time::default(),

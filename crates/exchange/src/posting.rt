@@ -19,15 +19,18 @@ use std::mem;
 /// The block of a process goes to the journal as one entry, its outbox goes to the mail, and its floor is what it has left. With
 /// an empty block nothing changes.
 ///
-/// Any refusal leaves both as they were. `JournalFull`: the steps would pass the limit, which is looked at before any growth. `Torn`: the
-/// entry's cell was set already.
+/// Any refusal leaves both as they were. `JournalFull`: exactly where the steps would pass the limit, which is looked at before any growth.
+/// `Torn`: the entry's cell was set already, which is seen after all growths.
 pub fn post<'a, R: Actor, J: ActorRun<R>>(
     held: &mut Held<'a, R, J>,
     exchange: &mut Exchange<'a, R, J>,
 ) -> Result<(), PoolFault>
     ensures ok { OnOk result (Posts (simulation_of (rules_of R.plain R.counter) J.setting) exchange.old held.old exchange.new held.new) }
     ensures unchanged { OnErr result ((exchange.new ≡ exchange.old) × (held.new ≡ held.old)) }
-    ensures full { result ≡ Err JournalFull → exchange.old.limit < length (steps exchange.old.entries) + length held.old.block + 1 }
+    ensures full { result ≡ Err JournalFull →
+        (0 < length held.old.block) × (exchange.old.limit < length (steps exchange.old.entries) + length held.old.block + 1) }
+    ensures limited { 0 < length held.old.block → exchange.old.limit < length (steps exchange.old.entries) + length held.old.block + 1 →
+        result ≡ Err JournalFull }
     ensures faults { IfErr result (λ fault. (fault ≡ OutOfMemory) ⊎ ((fault ≡ JournalFull) ⊎ (fault ≡ Torn))) }
 {
     actor_laws::<R>();

@@ -4,7 +4,7 @@ ghost use Rattle.virtual_time.specs.Journal.{steps};
 ghost use Rattle.reverse.specs.Rules.{rules_of};
 ghost use Rattle.reverse.specs.Setting.{simulation_of};
 ghost use Rattle.journal.specs.declared.fault.PoolFault.TheVariants.{OutOfMemory, JournalFull, Torn};
-ghost use Rattle.exchange.specs.Effects.{Publishes};
+ghost use Rattle.exchange.specs.Effects.{Publishes, IsHeldBack};
 
 use crate::exchange::Exchange;
 use crate::run_of::ActorRun;
@@ -16,14 +16,15 @@ use vlink::{Note, Time};
 /// Sets GVT to the least of all floors and of the times of all letters in the mail, with an entry in the journal; where that is the GVT of
 /// before, there is no entry. The answer is GVT, in ns.
 ///
-/// Any refusal leaves the exchange as it was. `JournalFull`: the steps would pass the limit, which is looked at before any growth. `Torn`:
-/// the entry's cell was set already.
+/// Any refusal leaves the exchange as it was. `JournalFull`: exactly where the steps would pass the limit, which is looked at before any
+/// growth. `Torn`: the entry's cell was set already, which is seen after all growths.
 pub fn publish<'a, R: Actor, J: ActorRun<R>>(
     exchange: &mut Exchange<'a, R, J>,
 ) -> Result<Time, PoolFault>
     ensures ok { IfOk result (λ gvt. Publishes (simulation_of (rules_of R.plain R.counter) J.setting) exchange.old exchange.new gvt) }
     ensures unchanged { OnErr result (exchange.new ≡ exchange.old) }
-    ensures full { result ≡ Err JournalFull → exchange.old.limit ≤ length (steps exchange.old.entries) }
+    ensures full { result ≡ Err JournalFull → IsHeldBack (simulation_of (rules_of R.plain R.counter) J.setting) exchange.old × (exchange.old.limit ≤ length (steps exchange.old.entries)) }
+    ensures limited { IsHeldBack (simulation_of (rules_of R.plain R.counter) J.setting) exchange.old → exchange.old.limit ≤ length (steps exchange.old.entries) → result ≡ Err JournalFull }
     ensures faults { IfErr result (λ fault. (fault ≡ OutOfMemory) ⊎ ((fault ≡ JournalFull) ⊎ (fault ≡ Torn))) }
 {
     actor_laws::<R>();

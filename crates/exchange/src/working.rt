@@ -1,5 +1,5 @@
 //! What a process does alone.
-ghost use Rattle.std.specs.Prelude.{◌≡◌, ◌<◌, ◌≤◌, ◌+◌, ◌⊎◌, ◌↔◌, ℕ, true, false, [], ◌∷◌, length, replicate, OnOk, IfOk, OnErr, IfErr, Err, Some, IsSome, IsTrue};
+ghost use Rattle.std.specs.Prelude.{◌≡◌, ◌≢◌, ◌<◌, ◌≤◌, ◌+◌, ◌⊎◌, ◌↔◌, ℕ, true, false, [], ◌∷◌, length, replicate, OnOk, IfOk, OnErr, IfErr, Err, Some, IsSome, IsTrue};
 ghost use Rattle.vlink.specs.declared.message.Message.{Message};
 ghost use Rattle.vlink.specs.Numbering.{greatest_number};
 ghost use Rattle.virtual_time.specs.Lists.{earlier};
@@ -8,9 +8,8 @@ ghost use Rattle.virtual_time.specs.Journal.{Arrived, Ran, Sealed};
 ghost use Rattle.reverse.specs.Rules.{rules_of};
 ghost use Rattle.reverse.specs.Setting.{simulation_of};
 ghost use Rattle.journal.specs.declared.fault.PoolFault.TheVariants.{OutOfMemory, Exhausted};
-ghost use Rattle.exchange.specs.Effects.{Works, WorksSome, RanEarly, IsIdleBefore, moved_by};
+ghost use Rattle.exchange.specs.Effects.{Works, WorksSome, Runs, StopsAtArrival, StopsAtRun, StopsAtCommit, IsDueBefore, IsIdleBefore, WantsNumbers, moved_by};
 
-use crate::fault::pool_fault;
 use crate::gate::Gate;
 use crate::held::Held;
 use crate::run_of::ActorRun;
@@ -23,8 +22,9 @@ use vlink::Time;
 /// as there are any; then all done events below the GVT seen are committed. Each step joins the block. The answer is how many did. The gate
 /// is told of each message that is handled.
 ///
-/// After a refusal the block holds just the steps that were done. `Exhausted`: the actor whose next message is to be handled has too few
-/// numbers left.
+/// A refusal comes at the first step that could not be done, and the block holds just those before it: letters that arrived, then messages
+/// that were handled, then events that were committed. `Exhausted` comes exactly where a message is to be handled and its actor has too few
+/// numbers left, `OutOfMemory` only where a growth was refused for a step that is to be done.
 pub fn work<'a, R: Actor, J: ActorRun<R>, G: Gate>(
     held: &mut Held<'a, R, J>,
     turn: u32,
@@ -32,7 +32,7 @@ pub fn work<'a, R: Actor, J: ActorRun<R>, G: Gate>(
     gate: &G,
 ) -> Result<u64, PoolFault>
     ensures ok { IfOk result (λ count. Works (simulation_of (rules_of R.plain R.counter) J.setting) turn window held.old held.new count) }
-    ensures some { OnErr result (WorksSome (simulation_of (rules_of R.plain R.counter) J.setting) held.old held.new) }
+    ensures some { IfErr result (λ fault. WorksSome (simulation_of (rules_of R.plain R.counter) J.setting) turn window held.old held.new fault) }
     ensures exhausted { result ≡ Err Exhausted → IsSome (next_of (rules_of R.plain R.counter) held.new.part)
         × (greatest_number < R.counter held.new.part.state + 24) }
     ensures faults { IfErr result (λ fault. (fault ≡ OutOfMemory) ⊎ (fault ≡ Exhausted)) }
@@ -48,8 +48,7 @@ impl<'a, R: Actor, J: ActorRun<R>> Held<'a, R, J> {
     /// All letters of the tray arrive.
     fn arrive_all(&mut self) -> Result<(), PoolFault>
         ensures arrived { OnOk result (self.new ≡ moved_by (simulation_of (rules_of R.plain R.counter) J.setting) (replicate (length self.old.part.tray) Arrived) self.old) }
-        ensures some { OnErr result ((arrivals : ℕ) × (self.new ≡ moved_by (simulation_of (rules_of R.plain R.counter) J.setting) (replicate arrivals Arrived) self.old)) }
-        ensures memory { IfErr result (λ fault. fault ≡ OutOfMemory) }
+        ensures some { IfErr result (λ fault. StopsAtArrival (simulation_of (rules_of R.plain R.counter) J.setting) self.old self.new fault) }
     {
         let letters = self.tray_len();
         for arrived in 0..letters {
@@ -76,10 +75,7 @@ impl<'a, R: Actor, J: ActorRun<R>> Held<'a, R, J> {
         actor_laws::<R>();
         self.block.push(self.alloc, Moved::Arrived)?;
         match self.process.arrive() {
-            Ok(undone) => {
-                self.undone = self.undone.saturating_add(undone.unwrap_or(0));
-                Ok(())
-            }
+            Ok(_undone) => Ok(()),
             Err(_fault) => {
                 self.block.pop();
                 Err(PoolFault::OutOfMemory)
@@ -89,13 +85,8 @@ impl<'a, R: Actor, J: ActorRun<R>> Held<'a, R, J> {
 
     /// Messages that are earlier than the GVT seen and `window`, in ns, are handled, `turn` at most, as long as there are any.
     fn run_early<G: Gate>(&mut self, turn: u32, window: u64, gate: &G) -> Result<(), PoolFault>
-        ensures ran { OnOk result ((runs : ℕ) × (self.new ≡ moved_by (simulation_of (rules_of R.plain R.counter) J.setting) (replicate runs Ran) self.old)
-            × (runs ≤ turn)
-            × RanEarly (simulation_of (rules_of R.plain R.counter) J.setting) (self.old.share.seen + window) runs self.old.part
-            × ((runs ≡ turn) ⊎ IsIdleBefore (simulation_of (rules_of R.plain R.counter) J.setting) (self.old.share.seen + window) self.new.part)) }
-        ensures some { OnErr result ((runs : ℕ) × (self.new ≡ moved_by (simulation_of (rules_of R.plain R.counter) J.setting) (replicate runs Ran) self.old)) }
-        ensures exhausted { result ≡ Err Exhausted → IsSome (next_of (rules_of R.plain R.counter) self.new.part)
-            × (greatest_number < R.counter self.new.part.state + 24) }
+        ensures ran { OnOk result (Runs (simulation_of (rules_of R.plain R.counter) J.setting) turn (self.old.share.seen + window) self.old self.new) }
+        ensures some { IfErr result (λ fault. StopsAtRun (simulation_of (rules_of R.plain R.counter) J.setting) turn (self.old.share.seen + window) self.old self.new fault) }
         ensures faults { IfErr result (λ fault. (fault ≡ OutOfMemory) ⊎ (fault ≡ Exhausted)) }
     {
         for run in 0..turn {
@@ -109,12 +100,12 @@ impl<'a, R: Actor, J: ActorRun<R>> Held<'a, R, J> {
     /// The next message is handled, if there is one that is earlier than the GVT seen and `window`, in ns. The answer is whether there was.
     fn run_next<G: Gate>(&mut self, window: u64, gate: &G) -> Result<bool, PoolFault>
         ensures ran { IfOk result (λ ran. ran ≡ true → self.new ≡ moved_by (simulation_of (rules_of R.plain R.counter) J.setting) (Ran ∷ []) self.old) }
-        ensures early { IfOk result (λ ran. ran ≡ true → (m : Message) × (next_of (rules_of R.plain R.counter) self.old.part ≡ Some m) × (m.time < self.old.share.seen + window)) }
+        ensures early { IfOk result (λ ran. ran ≡ true → IsDueBefore (simulation_of (rules_of R.plain R.counter) J.setting) (self.old.share.seen + window) self.old.part) }
         ensures idle { IfOk result (λ ran. ran ≡ false → IsIdleBefore (simulation_of (rules_of R.plain R.counter) J.setting) (self.old.share.seen + window) self.old.part) }
         ensures stays { IfOk result (λ ran. ran ≡ false → self.new ≡ self.old) }
         ensures unchanged { OnErr result (self.new ≡ self.old) }
-        ensures exhausted { result ≡ Err Exhausted → IsSome (next_of (rules_of R.plain R.counter) self.old.part)
-            × (greatest_number < R.counter self.old.part.state + 24) }
+        ensures due { OnErr result (IsDueBefore (simulation_of (rules_of R.plain R.counter) J.setting) (self.old.share.seen + window) self.old.part) }
+        ensures numbers { IfErr result (λ fault. (fault ≡ Exhausted) ↔ WantsNumbers (simulation_of (rules_of R.plain R.counter) J.setting) self.old.part) }
         ensures faults { IfErr result (λ fault. (fault ≡ OutOfMemory) ⊎ (fault ≡ Exhausted)) }
     {
         actor_laws::<R>();
@@ -124,6 +115,9 @@ impl<'a, R: Actor, J: ActorRun<R>> Held<'a, R, J> {
         if !is_within(message.time, self.seen, window) {
             return Ok(false);
         }
+        if !self.process.has_numbers() {
+            return Err(PoolFault::Exhausted);
+        }
         self.block.push(self.alloc, Moved::Ran)?;
         gate.before(self.number, self.runs);
         match self.process.run_with(&mut self.out) {
@@ -132,9 +126,9 @@ impl<'a, R: Actor, J: ActorRun<R>> Held<'a, R, J> {
                 self.runs = self.runs.saturating_add(1);
                 Ok(true)
             }
-            Err(fault) => {
+            Err(_fault) => {
                 self.block.pop();
-                Err(pool_fault(fault))
+                Err(PoolFault::OutOfMemory)
             }
         }
     }
@@ -143,8 +137,7 @@ impl<'a, R: Actor, J: ActorRun<R>> Held<'a, R, J> {
     fn commit_all(&mut self) -> Result<(), PoolFault>
         ensures committed { OnOk result ((commits : ℕ) × (self.new ≡ moved_by (simulation_of (rules_of R.plain R.counter) J.setting) (replicate commits Sealed) self.old)
             × (earlier (rules_of R.plain R.counter) self.old.share.seen self.new.part.done ≡ [])) }
-        ensures some { OnErr result ((commits : ℕ) × (self.new ≡ moved_by (simulation_of (rules_of R.plain R.counter) J.setting) (replicate commits Sealed) self.old)) }
-        ensures memory { IfErr result (λ fault. fault ≡ OutOfMemory) }
+        ensures some { IfErr result (λ fault. StopsAtCommit (simulation_of (rules_of R.plain R.counter) J.setting) self.old self.new fault) }
     {
         loop {
             if !self.commit_one()? {
@@ -160,9 +153,16 @@ impl<'a, R: Actor, J: ActorRun<R>> Held<'a, R, J> {
         ensures none { IfOk result (λ done. done ≡ false → earlier (rules_of R.plain R.counter) self.old.share.seen self.old.part.done ≡ []) }
         ensures stays { IfOk result (λ done. done ≡ false → self.new ≡ self.old) }
         ensures unchanged { OnErr result (self.new ≡ self.old) }
+        ensures left { OnErr result (earlier (rules_of R.plain R.counter) self.old.share.seen self.old.part.done ≢ []) }
         ensures memory { IfErr result (λ fault. fault ≡ OutOfMemory) }
     {
         actor_laws::<R>();
+        let Some(oldest) = self.process.oldest() else {
+            return Ok(false);
+        };
+        if self.seen.ns() <= oldest.ns() {
+            return Ok(false);
+        }
         self.block.push(self.alloc, Moved::Sealed)?;
         match commit_oldest(&mut self.process, self.seen) {
             Ok(true) => Ok(true),

@@ -9,3 +9,4 @@ pub mod Rolls
 pub mod Standing
 pub mod Taking
 pub mod Places
+pub mod Since

@@ -1,8 +1,9 @@
 -- What a process has done and not committed, and when that is the past of given events.
-use Rattle.std.specs.Prelude.{◌≡◌, ◌-◌, List, [], ◌∷◌, ◌++◌, length, map, Option, slice_get, ⊤}
+use Rattle.std.specs.Prelude.{◌≡◌, ℕ, ◌+◌, ◌-◌, if◌then◌else◌, List, [], ◌∷◌, ◌++◌, length, map, Option, slice_get, ⊤}
 use Rattle.vlink.specs.declared.message.Message.{Message}
 use Rattle.vlink.specs.declared.note.Note.{Note}
 use Rattle.vlink.specs.declared.note.Row.{Row as Noted}
+use Rattle.reverse.specs.Rules.{is_before}
 use Rattle.virtual_time.specs.Rules.{Rules, Row, reached, sent, rowed}
 use Rattle.virtual_time.specs.Lists.{IsAscending}
 use Rattle.virtual_time.specs.Part.{Part}
@@ -26,6 +27,11 @@ seen_row row = record { message = row.message; place = row.place; note = row.not
 -- the rows that the event of a message gives
 abbrev pub rows_by : Message → List Note → Rows
 rows_by m notes = map (λ n. record { message = m; place = m.receiver; note = n }) notes
+
+-- how many messages these events sent, the newest event first, up to the first one that comes before this message
+abbrev pub sent_since : {K : Type 0} → Message → List (Event K) → ℕ
+sent_since m [] = 0
+sent_since m (e ∷ es) = if is_before e.message m then 0 else (e.sent + sent_since m es)
 
 -- the last of these
 abbrev pub newest_of : {M : Type 0} → List M → Option M

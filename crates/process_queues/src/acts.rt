@@ -45,7 +45,7 @@ impl<R: Actor> Process<R> {
                 .next_with(self.next, &letter, change, self.past.newest());
             return Ok(Some(0));
         }
-        self.outbox.reserve(self.past.sent())?;
+        self.outbox.reserve(self.past.sent_since(&letter.message))?;
         self.tally.add(letter)?;
         pop_front(&mut self.tray);
         let undone = self.past.roll_back(&letter.message, &mut self.outbox);

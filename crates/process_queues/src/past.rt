@@ -113,13 +113,6 @@ impl<R: Actor> Past<R> {
         self.done.len()
     }
 
-    /// How many messages the done events sent.
-    pub(crate) fn sent(&self) -> usize
-        ensures { result ≡ length self.now.sends }
-    {
-        self.sends.len()
-    }
-
     /// The message of the newest done event, if there is one.
     pub(crate) fn newest(&self) -> Option<&Message>
         ensures { option_copied result ≡ newest_of (map (λ e. e.message) self.now.done) }

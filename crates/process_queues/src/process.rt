@@ -3,6 +3,7 @@ ghost use Rattle.std.specs.Prelude.{◌≡◌, ◌≢◌, ◌+◌, ◌<◌, ◌�
 ghost use Rattle.std.specs.Option.{option_map};
 ghost use Rattle.std.specs.VecDeque.{deque_len, deque_capacity};
 ghost use Rattle.vlink.specs.declared.message.Message.{Message};
+ghost use Rattle.vlink.specs.Numbering.{greatest_number};
 ghost use Rattle.virtual_time.specs.Letters.{lowest};
 ghost use Rattle.virtual_time.specs.Part.{Part, opened, delivered, next_of, floor_of};
 ghost use Rattle.reverse.specs.Rules.{rules_of};
@@ -199,6 +200,13 @@ impl<R: Actor> Process<R> {
     {
         actor_rules::<R>();
         self.next
+    }
+
+    /// Whether its actor has enough numbers left for what one event can send. Where it has not, `run` is refused for that.
+    pub fn has_numbers(&self) -> bool
+        ensures { IsTrue result ↔ (R.counter (state_in self.now.queues) + 24 ≤ greatest_number) }
+    {
+        self.past.actor().has_numbers()
     }
 
     /// A moment that nothing in hand is earlier than, as a post sets it: the least time of the tray's letters and of the present messages

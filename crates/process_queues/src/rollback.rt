@@ -6,8 +6,10 @@ ghost use Rattle.virtual_time.specs.Rules.{reached};
 ghost use Rattle.virtual_time.specs.Letters.{minus_of};
 ghost use Rattle.virtual_time.specs.Part.{Part, rolled_back};
 ghost use Rattle.reverse.specs.Rules.{rules_of};
-ghost use Rattle.process_queues.specs.Past.{Rows, IsPastOf, LastDone, BelongsTo};
+ghost use Rattle.process_queues.specs.Past.{Rows, IsPastOf, LastDone, BelongsTo, sent_since};
+ghost use Rattle.process_queues.specs.declared.past.Event.{Event};
 
+use crate::order::is_before;
 use crate::past::Past;
 use antimessages::Outbox;
 use reverse::{Actor, actor_rules};
@@ -15,11 +17,29 @@ use std::collections::VecDeque;
 use vlink::{Letter, Message, Sign};
 
 impl<R: Actor> Past<R> {
+    /// How many messages the done events sent that do not come before the message: so many antimessages their undoing gives.
+    pub(crate) fn sent_since(&self, message: &Message) -> usize
+        requires { (opening : R) × (there : Rows) × (part : Part Message R) × BelongsTo (rules_of R.plain R.counter) R.is_value opening there part self.now }
+        ensures { result ≡ sent_since message.now (reverse self.now.done) }
+    {
+        let events = self.done.len();
+        let _all = self.sends.len();
+        let mut sent = 0;
+        for undone in 0..events {
+            let event = &self.done[events - 1 - undone];
+            if is_before(&event.message, message) {
+                return sent;
+            }
+            sent += usize::from(event.sent);
+        }
+        sent
+    }
+
     /// Every done event that does not come before the message is undone, the newest first; what it sent goes to the outbox as
-    /// antimessages, the last sent first. The outbox has room for all that was sent. The answer is how many events were undone.
+    /// antimessages, the last sent first. The outbox has room for them. The answer is how many events were undone.
     pub(crate) fn roll_back(&mut self, message: &Message, outbox: &mut Outbox) -> u64
         requires some { (opening : R) × (there : Rows) × (part : Part Message R) × BelongsTo (rules_of R.plain R.counter) R.is_value opening there part self.old }
-        requires room { length self.old.sends ≤ outbox.old.room }
+        requires room { sent_since message.now (reverse self.old.done) ≤ outbox.old.room }
         ensures rolled { (opening : R) (there : Rows) (part : Part Message R) → BelongsTo (rules_of R.plain R.counter) R.is_value opening there part self.old →
             BelongsTo (rules_of R.plain R.counter) R.is_value opening there (rolled_back (rules_of R.plain R.counter) opening message.now part) self.new }
         ensures posted { (opening : R) (there : Rows) (part : Part Message R) → BelongsTo (rules_of R.plain R.counter) R.is_value opening there part self.old →
@@ -52,17 +72,18 @@ impl<R: Actor> Past<R> {
     }
 
     /// The newest event, which there is, is undone by its record; what it sent goes to the outbox as antimessages, the last sent first.
-    /// The outbox has room for all that was sent.
+    /// The outbox has room for it.
     pub(crate) fn undo_newest(&mut self, outbox: &mut Outbox)
         requires some { LastDone (rules_of R.plain R.counter) R.is_value self.old }
-        requires room { length self.old.sends ≤ outbox.old.room }
+        requires room { (front : List (Event R.Record)) (event : Event R.Record) → self.old.done ≡ front ++ event ∷ [] → event.sent ≤ outbox.old.room }
         ensures undone { (start : R) (ms : List Message) (e : Message) (earlier : Rows) →
             IsPastOf (rules_of R.plain R.counter) R.is_value start (ms ++ e ∷ []) earlier self.old →
             IsPastOf (rules_of R.plain R.counter) R.is_value start ms earlier self.new }
         ensures sent { (start : R) (ms : List Message) (e : Message) (earlier : Rows) →
             IsPastOf (rules_of R.plain R.counter) R.is_value start (ms ++ e ∷ []) earlier self.old →
             outbox.new.letters ≡ outbox.old.letters ++ map minus_of (reverse ((rules_of R.plain R.counter).sends (reached (rules_of R.plain R.counter) start ms) e)) }
-        ensures room { length self.new.sends ≤ outbox.new.room }
+        ensures room { (front : List (Event R.Record)) (event : Event R.Record) → self.old.done ≡ front ++ event ∷ [] →
+            (self.new.done ≡ front) × (outbox.old.room ≤ outbox.new.room + event.sent) }
         ensures fewer { length self.new.done + 1 ≡ length self.old.done }
     {
         actor_rules::<R>();

@@ -1,12 +1,12 @@
 //! The run of a network.
-ghost use Rattle.std.specs.Prelude.{◌≡◌, ℕ, Err, IfOk};
+ghost use Rattle.std.specs.Prelude.{◌≡◌, ℕ, Err, OnOk, IfOk};
 ghost use Rattle.reverse.specs.Setting.{AreInStates};
 ghost use Rattle.netdesc.specs.Faults.{process_count};
 ghost use Rattle.nodes.specs.rules.Opening.{opening};
 ghost use Rattle.nodes.specs.rules.Simulation.{simulation_of};
 ghost use Rattle.trace_tables.specs.Tables.{tables_of};
 ghost use Rattle.actor_run.specs.declared.fault.SimFault.TheVariants.{Exhausted};
-ghost use Rattle.actor_run.specs.Running.{IsExhaustedAt};
+ghost use Rattle.actor_run.specs.Running.{IsExhaustedAt, HasNumbersFrom};
 ghost use Rattle.seqsim.specs.Networks.{AreRowsOf};
 
 use crate::networks::network_laws;
@@ -40,11 +40,12 @@ pub fn nodes_of(alloc: Global, network: &Network) -> Result<Vec<Node>, AllocErro
 /// one-thread run of the law of virtual time, and after it nothing waits.
 ///
 /// `OutOfMemory` comes only where a growth was refused, and `Exhausted` only where the process whose turn it is has not enough numbers
-/// left for what one event can send.
+/// left for what one event can send. Where that happens anywhere in the run, there is no answer but a fault.
 pub fn run(alloc: Global, network: &Network) -> Result<Finished, SimFault>
     ensures whole { IfOk result (λ finished. AreRowsOf network.now finished.rows.items) }
     ensures tables { IfOk result (λ finished. finished.tables ≡ tables_of network.now finished.rows.items) }
     ensures exhausted { result ≡ Err Exhausted → (n : ℕ) × IsExhaustedAt (simulation_of network.now) n }
+    ensures numbers { OnOk result (HasNumbersFrom (simulation_of network.now) 0) }
 {
     network_laws(network);
     let offers = offers(alloc, network)?;

@@ -1,10 +1,10 @@
 //! The tables of the run of a network, where its rows are not asked for.
-ghost use Rattle.std.specs.Prelude.{◌≡◌, ℕ, [], List, Err, IfOk};
+ghost use Rattle.std.specs.Prelude.{◌≡◌, ℕ, [], List, Err, OnOk, IfOk};
 ghost use Rattle.vlink.specs.declared.note.Row.{Row as Noted};
 ghost use Rattle.nodes.specs.rules.Simulation.{simulation_of};
 ghost use Rattle.trace_tables.specs.Tables.{tables_of};
 ghost use Rattle.actor_run.specs.declared.fault.SimFault.TheVariants.{Exhausted};
-ghost use Rattle.actor_run.specs.Running.{StandsAt, IsExhaustedAt};
+ghost use Rattle.actor_run.specs.Running.{StandsAt, IsExhaustedAt, HasNumbersFrom};
 ghost use Rattle.seqsim.specs.Networks.{AreRowsOf};
 
 use crate::counted::Counted;
@@ -27,6 +27,7 @@ fn count_all_turns(
     requires { StandsAt (simulation_of network.now) 0 nodes.old waiting.old [] }
     ensures whole { IfOk result (λ tables. (rows : List Noted) × AreRowsOf network.now rows × (tables ≡ tables_of network.now rows)) }
     ensures exhausted { result ≡ Err Exhausted → (n : ℕ) × IsExhaustedAt (simulation_of network.now) n }
+    ensures numbers { OnOk result (HasNumbersFrom (simulation_of network.now) 0) }
 {
     network_laws(network);
     let mut counted = Counted::none(alloc, network)?;
@@ -38,11 +39,12 @@ fn count_all_turns(
 /// no row of it is kept. The tables are those of the rows of the one-thread run of the law of virtual time, and after it nothing waits.
 ///
 /// `OutOfMemory` comes only where a growth was refused, and `Exhausted` only where the process whose turn it is has not enough numbers
-/// left for what one event can send.
+/// left for what one event can send. Where that happens anywhere in the run, there is no answer but a fault.
 pub fn run_tables(alloc: Global, network: &Network) -> Result<Tables, SimFault>
     ensures whole { IfOk result (λ tables. (rows : List Noted) × AreRowsOf network.now rows × (tables ≡ tables_of network.now rows)) }
     ensures each { IfOk result (λ tables. (rows : List Noted) → AreRowsOf network.now rows → tables ≡ tables_of network.now rows) }
     ensures exhausted { result ≡ Err Exhausted → (n : ℕ) × IsExhaustedAt (simulation_of network.now) n }
+    ensures numbers { OnOk result (HasNumbersFrom (simulation_of network.now) 0) }
 {
     network_laws(network);
     let offers = offers(alloc, network)?;

@@ -16,7 +16,8 @@ pub enum OutFault {
     /// A growth was refused. Nothing went out.
     #[error("out of memory")]
     OutOfMemory,
-    /// The library that lays out rows failed, though no growth was refused. Nothing went out.
+    /// The writer of rows over a text in memory was refused, and its error is not want of memory. Nothing went out. Nothing is known that
+    /// brings it about.
     #[error("cannot lay out rows")]
     Layout,
 }

@@ -28,3 +28,15 @@ pub fn row_fault(error: &Error) -> OutFault
         _ => OutFault::Layout,
     }
 }
+
+impl From<Error> for OutFault {
+    ghost use Rattle.std.specs.Prelude.{◌≡◌};
+    ghost use Rattle.csv.specs.Reading.{error_kind as kind_of_row};
+    ghost use Rattle.trace_tables.specs.Layout.{row_fault};
+
+    ghost from_gives = { λ error fault. fault ≡ row_fault (kind_of_row error) };
+
+    fn from(error: Error) -> Self {
+        row_fault(&error)
+    }
+}

@@ -1,4 +1,5 @@
 use Rattle.std.proofs.Common.{◌==◌, map, refl, sym, ap, ◌∙◌, arith}
+use Rattle.std.proofs.lemmas.Bool.{eq-eqb, eqb-true, false≢true}
 use Rattle.reverse.specs.Rules.{rules_of}
 use Rattle.reverse.specs.Setting.{simulation_of}
 use Rattle.book_share.specs.declared.Book.{Book}
@@ -35,3 +36,17 @@ returns-in-Ok-clause-ok g c =
     let gvt = c.horizon-gvt.ensures ∙ gvt-told k c.gvt_law.ensures (λ m. refl) in
     let longer = ap entries_of wrote.journal ∙ entries-are (entry-fresh k.same wrote.at wrote.value refl refl refl refl tt) in
     rw (sym c.exchange.view_is) (gvt, publishes-more f _ _ _ (ap (λ z. c.horizon-gvt.result == z) (sym k.gvt_is) ∙ (sym c.eq.ensures ∙ c.if-eq.false)) (λ i. record { entries = longer i; books = map (λ (b : Book Mark). b.value) c.exchange.inside.books.items; limit = c.exchange.inside.limit }))
+
+pub returns-then-eq-clause-limited : goal.returns-then-eq-clause-limited
+returns-then-eq-clause-limited g c =
+    let k = c.exchange.invariant.2 in
+    let gvt = c.horizon-gvt.ensures ∙ gvt-told k c.gvt_law.ensures (λ m. refl) in
+    let same = eqb-true _ _ (sym c.eq.ensures ∙ c.if-eq.true) in
+    rw (sym c.exchange.view_is) (λ back over. absurd (back (sym gvt ∙ (same ∙ k.gvt_is))))
+
+pub returns-then-exchange-clause-full : goal.returns-then-exchange-clause-full
+returns-then-exchange-clause-full g c =
+    let k = c.exchange.invariant.2 in
+    let gvt = c.horizon-gvt.ensures ∙ gvt-told k c.gvt_law.ensures (λ m. refl) in
+    let other = sym c.eq.ensures ∙ c.if-eq.false in
+    rw (sym c.exchange.view_is) (λ full. (λ same. false≢true (sym other ∙ eq-eqb _ _ (gvt ∙ (same ∙ sym k.gvt_is))), omega arith))

@@ -27,3 +27,8 @@ returns-clause-whole c =
     let (n, ended, rows, states) = c.in_ok-rows.ensures.whole (setting_of c.args.network.now)
     (opened c.args.network.now _ _ _ _ c.deref_mut.ensures.value c.deref.ensures.value c.in_ok-nodes.ensures c.in_ok-offers.ensures) c.network_laws.ensures in
     (n, ended, rows)
+
+pub returns-clause-numbers : goal.returns-clause-numbers
+returns-clause-numbers c =
+    c.in_ok-rows.ensures.numbers (setting_of c.args.network.now)
+    (opened c.args.network.now _ _ _ _ c.deref_mut.ensures.value c.deref.ensures.value c.in_ok-nodes.ensures c.in_ok-offers.ensures) c.network_laws.ensures

@@ -29,3 +29,7 @@ returns-clause-whole c =
       c.in_ok-into_tables.ensures rows taken
           ∙ ap (λ plan. tables_of plan rows) (c.in_ok-take_all_turns.ensures.purpose ∙ c.in_ok-counted.ensures.network),
     )
+
+pub returns-clause-numbers : goal.returns-clause-numbers
+returns-clause-numbers c =
+    c.in_ok-take_all_turns.ensures.numbers [] c.in_ok-counted.ensures.none (setting_of c.args.network.now) c.network_laws.ensures 0 c.requires

@@ -1,4 +1,4 @@
-use Rattle.std.proofs.Common.{◌≡◌, true, false, sym, ◌∙◌, subst, map}
+use Rattle.std.proofs.Common.{◌≡◌, ◌<◌, ◌≤◌, arith, true, false, sym, ◌∙◌, subst, map}
 use Rattle.virtual_time.specs.Own.{local}
 use Rattle.virtual_time.specs.Journal.{Sealed, act_by, after_own}
 use Rattle.reverse.specs.Rules.{rules_of}
@@ -8,7 +8,8 @@ use Rattle.fossil.specs.Committed.{is_ready}
 use Rattle.exchange.specs.Views.{InShare}
 use Rattle.exchange.specs.Keeps.{own_of}
 use Rattle.exchange.proofs.Holding.{holds-moved}
-use Rattle.exchange.proofs.Moves.{in_hand, moved-view, commit-takes, ready-moves, ready-commits, none-early}
+use Rattle.exchange.proofs.Moves.{in_hand, moved-view, commit-takes, ready-moves, ready-commits, none-early, none-oldest, early-oldest, late-oldest}
+use Rattle.exchange.proofs.Outcomes.{on-err}
 use Rattle.exchange.proofs.held.Held.commit_one.Goals as goal
 
 pub invariant_of-self-in-Ok-true : goal.invariant_of-self-in-Ok-true
@@ -56,3 +57,39 @@ returns-in-Ok-false-clause-none g c = λ no.
     let part = local r (x.opening p) (map act_by c.self.inside.block) (after_own f p (own_of c.self.inside.last)) in
     let not_ready : is_ready r seen part ≡ false = sym (c.in-Ok-false.ensures.answer _ _ h.stands) ∙ c.in-Ok-false.field-0-test in
     rw (sym c.self.view_is) (none-early f (c.actor_laws.ensures x h.laid) p seen part h.safe not_ready)
+
+pub returns-in_default-clause-none : goal.returns-in_default-clause-none
+returns-in_default-clause-none g c = λ no.
+    let h = c.self.invariant.0 in
+    let r = rules_of g.R.Reversible.plain g.R.Actor.counter in
+    let x = g.J.ActorRun.setting in
+    let f = simulation_of r x in
+    let p = c.self.inside.number in
+    let seen = c.self.inside.seen in
+    let part = local r (x.opening p) (map act_by c.self.inside.block) (after_own f p (own_of c.self.inside.last)) in
+    rw (sym c.self.view_is) (none-oldest f seen part.done (sym (c.oldest.ensures _ _ h.stands) ∙ c.in_default.is))
+
+pub returns-then-ns-clause-none : goal.returns-then-ns-clause-none
+returns-then-ns-clause-none g c = λ no.
+    let h = c.self.invariant.0 in
+    let r = rules_of g.R.Reversible.plain g.R.Actor.counter in
+    let x = g.J.ActorRun.setting in
+    let f = simulation_of r x in
+    let p = c.self.inside.number in
+    let seen = c.self.inside.seen in
+    let part = local r (x.opening p) (map act_by c.self.inside.block) (after_own f p (own_of c.self.inside.last)) in
+    let late : seen ≤ c.in-Some.oldest = omega arith in
+    rw (sym c.self.view_is) (none-early f (c.actor_laws.ensures x h.laid) p seen part h.safe (late-oldest f seen c.in-Some.oldest part (sym (c.in-Some.ensures _ _ h.stands)) late))
+
+pub returns-in_err-push-clause-left : goal.returns-in_err-push-clause-left
+returns-in_err-push-clause-left g c =
+    let h = c.self.invariant.0 in
+    let r = rules_of g.R.Reversible.plain g.R.Actor.counter in
+    let x = g.J.ActorRun.setting in
+    let f = simulation_of r x in
+    let p = c.self.inside.number in
+    let seen = c.self.inside.seen in
+    let part = local r (x.opening p) (map act_by c.self.inside.block) (after_own f p (own_of c.self.inside.last)) in
+    let early : c.in-Some.oldest < seen = omega arith in
+    on-err c.from_residual.result
+    (rw (sym c.self.view_is) (early-oldest f seen c.in-Some.oldest part.done (sym (c.in-Some.ensures _ _ h.stands)) early))

@@ -1,8 +1,10 @@
-use Rattle.std.proofs.Common.{refl, sym, ap, ◌∙◌, subst, arith}
+use Rattle.std.proofs.Common.{reverse, refl, sym, ap, ◌∙◌, subst, arith}
 use Rattle.virtual_time.specs.Part.{rolled_back}
 use Rattle.reverse.specs.Rules.{rules_of}
-use Rattle.process_queues.specs.Past.{BelongsTo}
+use Rattle.process_queues.specs.Past.{BelongsTo, sent_since}
 use Rattle.process_queues.proofs.Rolls.{rolls-none, rolls-more, rolls-end, is-late, late-last}
+use Rattle.process_queues.proofs.Since.{since-last}
+use Rattle.process_queues.proofs.Taking.{split-last}
 use Rattle.process_queues.proofs.past.Past.roll_back.Goals as goal
 
 pub loop-self-init : goal.loop-self-init
@@ -37,7 +39,14 @@ loop-self-preserved g c =
           c.loop-self.self c.undo_newest.new.self c.loop-self.outbox.letters c.undo_newest.new.outbox.letters h l
           (c.undo_newest.ensures.undone _ l.front l.event _ l.past_of) (c.undo_newest.ensures.sent _ l.front l.event _ l.past_of);
       some = c.loop-self.invariant.some;
-      room = c.undo_newest.ensures.room;
+      room =
+          let fewer = c.undo_newest.ensures.fewer in
+          let last = split-last c.loop-self.self.done (omega arith) in
+          let k = c.undo_newest.ensures.room last.0 last.1 last.2 in
+          let s = since-last g.R.Reversible.plain g.R.Actor.counter c.args.message.now c.loop-self.self.done last.0 last.1 last.2 (sym c.is_before.ensures ∙ c.loop-self-test.true) in
+          let n = ap (λ ds. sent_since c.args.message.now (reverse ds)) k.0 in
+          let i = c.loop-self.invariant.room in
+          omega (arith, k.1);
       fewer = let f = c.undo_newest.ensures.fewer in let i = c.loop-self.invariant.fewer in omega arith;
     }
 
@@ -59,3 +68,9 @@ returns-clause-posted g c opening there part b o =
     let e = rolls-end r c.actor_rules.ensures.order v opening there c.args.message.now (record part { outbox = c.args.outbox.now.letters }) c.loop-self.self c.loop-self.outbox.letters h
     (sym c.is_before.ensures ∙ c.loop-self-test.false) in
     h.outbox ∙ (ap (λ p. p.outbox) e ∙ ap (λ ls. (rolled_back r opening c.args.message.now (record part { outbox = ls })).outbox) o)
+
+pub undo_newest-requires-clause-room : goal.undo_newest-requires-clause-room
+undo_newest-requires-clause-room g c front event d =
+    let s = since-last g.R.Reversible.plain g.R.Actor.counter c.args.message.now c.loop-self.self.done front event d (sym c.is_before.ensures ∙ c.loop-self-test.true) in
+    let i = c.loop-self.invariant.room in
+    omega arith

@@ -1,8 +1,8 @@
-use Rattle.std.proofs.Common.{◌≤◌, length}
+use Rattle.std.proofs.Common.{◌≤◌, length, reverse}
 use Rattle.vlink.specs.declared.message.Message.{Message}
 use Rattle.virtual_time.specs.Part.{Part}
 use Rattle.reverse.specs.Rules.{rules_of}
-use Rattle.process_queues.specs.Past.{Rows, BelongsTo}
+use Rattle.process_queues.specs.Past.{Rows, BelongsTo, sent_since}
 use Rattle.process_queues.proofs.Rolls.{Rolls}
 use Rattle.process_queues.proofs.past.Past.roll_back.Given as goal
 
@@ -11,7 +11,7 @@ invariant-loop-self g l = record {
   rolls : (opening : _) (there : Rows) (part : Part Message _) → BelongsTo (rules_of g.R.Reversible.plain g.R.Actor.counter) g.R.Reversible.is_value opening there part l.initial.self →
       Rolls (rules_of g.R.Reversible.plain g.R.Actor.counter) g.R.Reversible.is_value opening there l.message (record part { outbox = l.initial.outbox.letters }) l.self l.outbox.letters;
   some : (opening : _) × (there : Rows) × (part : Part Message _) × BelongsTo (rules_of g.R.Reversible.plain g.R.Actor.counter) g.R.Reversible.is_value opening there part l.initial.self;
-  room : length l.self.sends ≤ l.outbox.room;
+  room : sent_since l.message (reverse l.self.done) ≤ l.outbox.room;
   fewer : length l.self.done ≤ length l.initial.self.done;
 }
 

@@ -1,9 +1,10 @@
-use Rattle.std.proofs.Common.{◌≡◌, [], ◌∷◌, ◌++◌, map, length, take, drop, reverse, refl, sym, ap, ◌∙◌, subst, arith, vec_len}
+use Rattle.std.proofs.Common.{◌≡◌, [], ◌∷◌, ◌++◌, map, take, drop, reverse, refl, sym, ap, ◌∙◌, subst, arith, vec_len}
 use Rattle.std.proofs.lemmas.List.{take-map, length-map}
 use Rattle.virtual_time.specs.Letters.{minus_of}
 use Rattle.reverse.specs.Rules.{rules_of}
 use Rattle.process_queues.specs.Past.{IsPastOf, seen_row}
 use Rattle.process_queues.proofs.Pasts.{came-last, gives-last, past-less, some-done}
+use Rattle.process_queues.proofs.Taking.{snoc-parts}
 use Rattle.process_queues.proofs.past.Past.undo_newest.Goals as goal
 
 pub undo-requires : goal.undo-requires
@@ -31,13 +32,8 @@ take_back-requires-clause-enough g c =
 
 pub take_back-requires-clause-room : goal.take_back-requires-clause-room
 take_back-requires-clause-room g c =
-    let r = rules_of g.R.Reversible.plain g.R.Actor.counter in
-    let v = g.R.Reversible.is_value in
-    let i = c.requires.some in
-    let l = came-last r v i.0 i.1 i.3 i.2 _ c.pop_back.new.self.items c.in-Some.event c.in-Some.ensures.items (subst (IsPastOf r v i.0 (i.1 ++ i.2 ∷ []) i.3) (sym c.self.view_is) i.4) in
-    let b = (gives-last r v i.0 i.1 i.3 i.2 _ c.pop_back.new.self.items c.in-Some.event l).sent in
     let n : c.from.result ≡ c.in-Some.event.sent = c.from.ensures in
-    let s = ap (λ p. length p.sends) c.self.view_is in
+    let room = c.requires.room c.pop_back.new.self.items c.in-Some.event (sym (ap (λ p. p.done) c.self.view_is) ∙ c.in-Some.ensures.items) in
     omega arith
 
 pub overflow_sub-rows : goal.overflow_sub-rows
@@ -98,3 +94,10 @@ returns-in_default-clause-fewer g c =
     let n = some-done r v i.0 i.1 i.3 i.2 _ (subst (IsPastOf r v i.0 (i.1 ++ i.2 ∷ []) i.3) (sym c.self.view_is) i.4) in
     let z = c.in_default.ensures.cases in
     absurd (omega arith)
+
+pub returns-in-Some-clause-room : goal.returns-in-Some-clause-room
+returns-in-Some-clause-room g c front event d =
+    let n : c.from.result ≡ c.in-Some.event.sent = c.from.ensures in
+    let both = snoc-parts c.pop_back.new.self.items front c.in-Some.event event (sym c.in-Some.ensures.items ∙ (ap (λ p. p.done) c.self.view_is ∙ d)) in
+    let same : c.in-Some.event.sent ≡ event.sent = ap (λ x. x.sent) both.1 in
+    (both.0, omega (arith, same, c.take_back.ensures.room))

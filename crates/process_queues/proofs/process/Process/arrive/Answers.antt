@@ -72,6 +72,12 @@ returns-then-undoes_nothing-clause-answer g c opening part h =
           (stays-put r R v opening part _ h l _ refl (c.if-undoes_nothing.ensures.nothing refl))),
     )
 
+pub sent_since-requires : goal.sent_since-requires
+sent_since-requires g c =
+    let r = rules_of g.R.Reversible.plain g.R.Actor.counter in
+    let i = c.self.invariant in
+    (i.0, drop c.self.inside.left (rowed r i.0 (i.1).committed), i.1, i.2.past)
+
 pub roll_back-undone-requires-clause-some : goal.roll_back-undone-requires-clause-some
 roll_back-undone-requires-clause-some g c =
     let r = rules_of g.R.Reversible.plain g.R.Actor.counter in

@@ -1,0 +1,81 @@
+-- What the newest events sent, up to one that comes before a message.
+use Rattle.std.proofs.Common.{◌≡◌, ℕ, zero, suc, ◌+◌, ◌≤◌, ◌<◌, Bool, true, false, cond, List, [], ◌∷◌, ◌++◌, length, map, take, reverse, slice_index_or, Some, refl, sym, ap, ◌∙◌, arith}
+use Rattle.std.proofs.lemmas.List.{length-append, map-append, reverse-append}
+use Rattle.vlink.specs.declared.message.Message.{Message}
+use Rattle.vlink.specs.declared.note.Note.{Note}
+use Rattle.virtual_time.specs.Rules.{Rules, sent}
+use Rattle.reverse.specs.declared.sends.Sends.{Sends}
+use Rattle.reverse.specs.Plain.{Plain}
+use Rattle.reverse.specs.Rules.{is_before, rules_of}
+use Rattle.antimessages.specs.Counting.{is_after}
+use Rattle.process_queues.specs.declared.past.Event.{Event}
+use Rattle.process_queues.specs.Past.{Past, Rows, IsPastOf, events_of, newest_of, sent_since}
+use Rattle.process_queues.proofs.Newest.{newest-more}
+
+-- all that these events sent
+abbrev sent_by : {K : Type 0} → List (Event K) → ℕ
+sent_by [] = 0
+sent_by (e ∷ es) = e.sent + sent_by es
+
+since-few : {K : Type 0} (m : Message) (es : List (Event K)) → sent_since m es ≤ sent_by es
+since-few m [] = omega arith
+since-few m (e ∷ es) = go (is_before e.message m) (since-few m es)
+  where
+    go : (b : Bool) → sent_since m es ≤ sent_by es → cond b 0 (e.sent + sent_since m es) ≤ e.sent + sent_by es
+    go true k = omega arith
+    go false k = omega arith
+
+by-append : {K : Type 0} (xs ys : List (Event K)) → sent_by (xs ++ ys) ≡ sent_by xs + sent_by ys
+by-append [] ys = omega arith
+by-append (x ∷ xs) ys = let k = by-append xs ys in omega arith
+
+by-reverse : {K : Type 0} (xs : List (Event K)) → sent_by (reverse xs) ≡ sent_by xs
+by-reverse [] = refl
+by-reverse (x ∷ xs) =
+    let a = ap sent_by (reverse-append (x ∷ []) xs) ∙ by-append (reverse xs) (x ∷ []) in
+    let k = by-reverse xs in
+    omega arith
+
+by-past : {S K : Type 0} (r : Rules Message S K Note) (s : S) (ms : List Message) → sent_by (events_of r s ms) ≡ length (sent r s ms)
+by-past r s [] = refl
+by-past r s (m ∷ ms) =
+    let k = by-past r (r.after s m) ms in
+    let a = length-append (r.sends s m) (sent r (r.after s m) ms) in
+    omega arith
+
+-- they are not more than all that was sent
+pub since-all : {S K : Type 0} (r : Rules Message S K Note) (is_value : S → Message → Type 0) (start : S) (ms : List Message) (earlier : Rows) (past : Past S K) →
+    IsPastOf r is_value start ms earlier past → (m : Message) → sent_since m (reverse past.done) ≤ length past.sends
+since-all r is_value start ms earlier past h m =
+    let a = since-few m (reverse past.done) in
+    let b = by-reverse past.done in
+    let c = ap sent_by h.done ∙ by-past r start ms in
+    let d = ap length h.sends in
+    omega arith
+
+-- the newest of these, and those before it
+take-more : {A : Type 0} (xs : List A) (k : ℕ) (x : A) → k < length xs → x ≡ slice_index_or xs k x → take (suc k) xs ≡ take k xs ++ x ∷ []
+take-more [] k x h e = absurd (omega arith)
+take-more (y ∷ ys) zero x h e = ap (λ z. z ∷ []) (sym e)
+take-more (y ∷ ys) (suc k) x h e = ap (λ z. y ∷ z) (take-more ys k x (omega arith) e)
+
+since-snoc : {K : Type 0} (m : Message) (xs : List (Event K)) (e : Event K) → sent_since m (reverse (xs ++ e ∷ [])) ≡ cond (is_before e.message m) 0 (e.sent + sent_since m (reverse xs))
+since-snoc m xs e = ap (sent_since m) (reverse-append xs (e ∷ []))
+
+pub since-next : {K : Type 0} (m : Message) (xs : List (Event K)) (n k : ℕ) (e : Event K) → n ≡ suc k → k < length xs → e ≡ slice_index_or xs k e →
+    sent_since m (reverse (take n xs)) ≡ cond (is_before e.message m) 0 (e.sent + sent_since m (reverse (take k xs)))
+since-next m xs n k e next h at =
+    ap (λ i. sent_since m (reverse (take i xs))) next ∙ (ap (λ z. sent_since m (reverse z)) (take-more xs k e h at) ∙ since-snoc m (take k xs) e)
+
+newest-snoc : {M : Type 0} (ds : List M) (d : M) → newest_of (ds ++ d ∷ []) ≡ Some d
+newest-snoc [] d = refl
+newest-snoc (x ∷ []) d = newest-more x d []
+newest-snoc (x ∷ (y ∷ ys)) d = newest-more x y (ys ++ d ∷ []) ∙ newest-snoc (y ∷ ys) d
+
+-- where the message does not come after the newest event, that one counts
+pub since-last : {S K : Type 0} (plain : Plain S Message Sends K) (counter : S → ℕ) (m : Message) (done front : List (Event K)) (e : Event K) → done ≡ front ++ e ∷ [] →
+    is_after (rules_of plain counter) (newest_of (map (λ (x : Event K). x.message) done)) m ≡ false → sent_since m (reverse done) ≡ e.sent + sent_since m (reverse front)
+since-last plain counter m done front e d a =
+    let newest = ap (λ ds. newest_of (map (λ (x : Event _). x.message) ds)) d ∙ (ap newest_of (map-append (λ (x : Event _). x.message) front (e ∷ [])) ∙ newest-snoc (map (λ (x : Event _). x.message) front) e.message) in
+    let late : is_before e.message m ≡ false = sym (ap (λ o. is_after (rules_of plain counter) o m) newest) ∙ a in
+    ap (λ ds. sent_since m (reverse ds)) d ∙ (since-snoc m front e ∙ ap (λ b. cond b 0 (e.sent + sent_since m (reverse front))) late)
