@@ -31,9 +31,8 @@ BEGINNINGS = {
     "replay": [("timewarp", "journal", "replay"), ("afdxsim", "replay", "replay")],
     "run": [
         ("worker_pool", "running", "run"),
-        ("worker_pool", "running", "run_tables"),
+        ("worker_pool", "summary", "run_summary"),
         ("worker_pool", "tracing", "run_traced"),
-        ("worker_pool", "tracing", "run_tables_traced"),
         ("afdxsim", "run", "run_ordered"),
     ],
 }

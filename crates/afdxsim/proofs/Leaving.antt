@@ -8,7 +8,8 @@ use Rattle.journal_text.specs.Text.{steps_text}
 use Rattle.afdxsim.specs.declared.fault.Fault.{Fault}
 use Rattle.afdxsim.specs.Ending.{Took}
 use Rattle.afdxsim.specs.Files.{LeavesSeq, ShowsAlone, WritesAsked, WritesFile}
-use Rattle.afdxsim.specs.Workers.{IsJournalAsked, IsJournalText}
+use Rattle.worker_pool.specs.Runs.{IsJournalAsked}
+use Rattle.afdxsim.specs.Workers.{IsJournalText}
 use Rattle.afdxsim.proofs.Ended.{ok_then}
 
 if_some : {P Q : List ℕ → Type 0} (o : Option (List ℕ)) → IfSome o P → ((bytes : List ℕ) → P bytes → Q bytes) → IfSome o Q

@@ -1,33 +1,21 @@
 -- Why the program gives up a run by workers, and what it writes of one.
-use Rattle.std.specs.Prelude.{◌≡◌, ◌⊎◌, ℕ, Bool, true, false, List, [], map, Option, Some}
+use Rattle.std.specs.Prelude.{◌≡◌, ◌⊎◌, ℕ, List, Option, Some}
 use Rattle.std.specs.Borrow.{Bor}
 use Rattle.vlink.specs.declared.step.Step.{Step as Noting}
-use Rattle.virtual_time.specs.Safe.{IsFinished}
-use Rattle.antimessages.specs.Steps.{step_of}
 use Rattle.netdesc.specs.Plan.{Plan}
-use Rattle.nodes.specs.rules.Simulation.{simulation_of}
 use Rattle.journal_text.specs.Text.{steps_text}
-use Rattle.seqsim.specs.Committed.{after}
 use Rattle.journal.specs.declared.fault.PoolFault.{PoolFault}
 use Rattle.journal.specs.declared.fault.PoolFault.TheVariants as pool
 use Rattle.trace_tables.specs.declared.fault.OutFault.TheVariants as out
 use Rattle.trace_tables.specs.declared.part_fault.PartFault.TheVariants as part
 use Rattle.trace_tables.specs.declared.trace_fault.TraceFault.{TraceFault}
 use Rattle.trace_tables.specs.declared.trace_fault.TraceFault.TheVariants.{Part, Out}
+use Rattle.worker_pool.specs.Runs.{IsJournalOf}
 use Rattle.afdxsim.specs.declared.fault.Fault.{Fault}
 use Rattle.afdxsim.specs.declared.fault.Fault.TheVariants.{Description, JournalLine, JournalFull, CannotRead, CannotWriteFile, CannotWrite, Layout, OutOfMemory, Exhausted, Spawn, Torn}
 use Rattle.afdxsim.specs.Reading.{GivesNetwork, IsFaultOfNet}
 
--- after these steps the world of the network is finished
-abbrev pub IsJournalOf : Plan → List Noting → Type 0
-IsJournalOf plan steps = IsFinished (simulation_of plan) (after plan (map step_of steps))
-
--- these are the steps of a run by workers, where they are asked for; where they are not, there are none
-abbrev pub IsJournalAsked : Plan → Bool → List Noting → Type 0
-IsJournalAsked plan true steps = IsJournalOf plan steps
-IsJournalAsked plan false steps = steps ≡ []
-
--- this is the text of the steps of such a run
+-- this is the text of the steps of a run by workers
 abbrev pub IsJournalText : Plan → List ℕ → Type 0
 IsJournalText plan text = (steps : List Noting) × IsJournalOf plan steps × (text ≡ steps_text steps)
 

@@ -2,13 +2,12 @@
 ghost use Rattle.std.specs.Prelude.{◌≡◌, ◌≢◌, ◌⊎◌, ℕ, true, List, IfErr, IfOk, OnOk, option_map, is_some, string_bytes};
 ghost use Rattle.journal_text.specs.Text.{steps_text};
 ghost use Rattle.trace_tables.specs.Text.{tables_text};
-ghost use Rattle.worker_pool.specs.Paces.{IsPace};
-ghost use Rattle.command_line.specs.Meaning.{RunLimits};
+ghost use Rattle.worker_pool.specs.Runs.{IsJournalAsked};
 ghost use Rattle.afdxsim.specs.declared.fault.Fault.TheVariants.{CannotWrite};
 ghost use Rattle.afdxsim.specs.Ending.{Took, IsFaultOfOutput};
 ghost use Rattle.afdxsim.specs.Files.{IsFaultOfKeptFile, IsFaultOfTraceFile, LeavesRun, ShowsTables, TookSome, WritesAsked, WritesFile, WritesSome};
 ghost use Rattle.afdxsim.specs.Sequencing.{IsTablesText, IsTraceText};
-ghost use Rattle.afdxsim.specs.Workers.{IsFaultOfPool, IsFaultOfJournalFile, IsFaultOfFiles, IsFaultOfRunBy, IsJournalAsked};
+ghost use Rattle.afdxsim.specs.Workers.{IsFaultOfPool, IsFaultOfJournalFile, IsFaultOfFiles, IsFaultOfRunBy};
 
 use crate::fault::Fault;
 use crate::host::{FileFault, Host};
@@ -36,7 +35,6 @@ fn simulate_with_trace<'a, H: Host, T: Threads + Wait + Sync>(
     path: &'a str,
     host: &mut H,
 ) -> Result<Summary, Fault<'a>>
-    requires { IsPace pace }
     ensures text { IfOk result (λ found. IsTablesText network.now (tables_text network.now found.tables)) }
     ensures journal { IfOk result (λ found. IsJournalAsked network.now with_steps found.journal.items) }
     ensures trace { OnOk result (WritesFile H.made H.closed H.File.taken path.entry.now (IsTraceText network.now) host.old host.new) }
@@ -64,7 +62,6 @@ fn simulate<'a, H: Host, T: Threads + Wait + Sync>(
     order: &'a Run,
     host: &mut H,
 ) -> Result<Summary, Fault<'a>>
-    requires { RunLimits order.now }
     ensures text { IfOk result (λ found. IsTablesText network.now (tables_text network.now found.tables)) }
     ensures journal { IfOk result (λ found. IsJournalAsked network.now (is_some order.entry.now.journal) found.journal.items) }
     ensures trace { OnOk result (WritesAsked H.made H.closed H.File.taken (option_map string_bytes order.entry.now.trace) (IsTraceText network.now) host.old host.new) }
@@ -162,7 +159,6 @@ fn run_network<'a, H: Host, T: Threads + Wait + Sync>(
     order: &'a Run,
     host: &mut H,
 ) -> Result<(), Fault<'a>>
-    requires { RunLimits order.now }
     ensures text { OnOk result ((text : List ℕ) × IsTablesText network.now text × Took H.Output.taken (H.output host.old) (H.output host.new) text) }
     ensures left { OnOk result (LeavesRun H.made H.closed H.File.taken H.with_output
         (option_map string_bytes order.entry.now.journal) (option_map string_bytes order.entry.now.trace) host.old host.new network.now) }
@@ -181,14 +177,13 @@ fn run_network<'a, H: Host, T: Threads + Wait + Sync>(
 
 /// Simulates the network whose description is the file that is ordered, by workers. The trace's file is made before the run, which writes it;
 /// then come the journal's file and the tables on standard output. A fault ends it at once: what was written stays, and nothing that comes
-/// later is made or written. Steps are listed only for a journal, and all rows only for a journal without a trace.
+/// later is made or written. Steps are listed only for a journal, and rows never.
 pub fn run_ordered<'a, H: Host, T: Threads + Wait + Sync>(
     rt: &T,
     alloc: Global,
     order: &'a Run,
     host: &mut H,
 ) -> Result<(), Fault<'a>>
-    requires { RunLimits order.now }
     ensures shown { OnOk result (ShowsTables (H.gives host.old (string_bytes order.entry.now.net)) H.Output.taken (H.output host.old) (H.output host.new)
         (LeavesRun H.made H.closed H.File.taken H.with_output
         (option_map string_bytes order.entry.now.journal) (option_map string_bytes order.entry.now.trace) host.old host.new)) }

@@ -6,12 +6,11 @@ ghost use Rattle.trace_tables.specs.declared.trace_fault.TraceFault.TheVariants.
 ghost use Rattle.trace_tables.specs.Sinking.{IsBeginning};
 ghost use Rattle.trace_tables.specs.Text.{tables_text, trace_text};
 ghost use Rattle.seqsim.specs.Networks.{AreRowsOf};
-ghost use Rattle.worker_pool.specs.Paces.{IsPace};
-ghost use Rattle.command_line.specs.Meaning.{RunLimits};
+ghost use Rattle.worker_pool.specs.Runs.{IsJournalAsked};
 ghost use Rattle.afdxsim.specs.Ending.{Took};
 ghost use Rattle.afdxsim.specs.Files.{TookSome};
 ghost use Rattle.afdxsim.specs.Sequencing.{IsFaultOfTrace, IsTablesText, IsTraceText};
-ghost use Rattle.afdxsim.specs.Workers.{fault_of_trace, IsFaultOfPool, IsJournalAsked};
+ghost use Rattle.afdxsim.specs.Workers.{fault_of_trace, IsFaultOfPool};
 
 use crate::fault::Fault;
 use command_line::Run;
@@ -20,9 +19,7 @@ use std::alloc::Global;
 use std::sync::Wait;
 use std::thread::Threads;
 use trace_tables::{OutFault, PartFault, Sink, TraceFault};
-use worker_pool::{
-    Gate, Outcome, Pace, Summary, Traced, run, run_tables, run_tables_traced, run_traced,
-};
+use worker_pool::{Gate, Pace, Summary, Traced, run_summary, run_traced};
 
 /// A gate that is told of each message and does nothing.
 pub struct Open;
@@ -35,9 +32,7 @@ impl Gate for Open {
 
 /// The pace that is ordered.
 pub fn pace_of(order: &Run) -> Pace
-    requires { RunLimits order.now }
-    ensures value { result ≡ record { workers = order.now.workers; turn = order.now.turn; window_ns = order.now.window_ns } }
-    ensures within { IsPace result }
+    ensures { result ≡ record { workers = order.now.workers; turn = order.now.turn; window_ns = order.now.window_ns } }
 {
     Pace {
         workers: order.workers,
@@ -46,8 +41,7 @@ pub fn pace_of(order: &Run) -> Pace
     }
 }
 
-/// What a run of the network by workers finds: its tables, and its steps where they are asked for. Where they are not, neither steps nor rows
-/// are listed.
+/// What a run of the network by workers finds: its tables, and its steps where they are asked for. No rows are listed.
 #[tactic(auto, using(crate::proofs::Running::tables_made, crate::proofs::Running::workers_gave_up))]
 pub fn found_by_workers<T: Threads + Wait + Sync>(
     rt: &T,
@@ -56,23 +50,11 @@ pub fn found_by_workers<T: Threads + Wait + Sync>(
     pace: Pace,
     with_steps: bool,
 ) -> Result<Summary, Fault<'static>>
-    requires { IsPace pace }
     ensures text { IfOk result (λ found. IsTablesText network.now (tables_text network.now found.tables)) }
     ensures journal { IfOk result (λ found. IsJournalAsked network.now with_steps found.journal.items) }
     ensures fault { IfErr result IsFaultOfPool }
 {
-    if with_steps {
-        let Outcome {
-            tables,
-            journal,
-            ..
-        } = run(rt, alloc, network, pace, &Open)?;
-        return Ok(Summary { tables, journal });
-    }
-    Ok(Summary {
-        tables: run_tables(rt, alloc, network, pace, &Open)?,
-        journal: Vec::new(alloc),
-    })
+    Ok(run_summary(rt, alloc, network, pace, with_steps, &Open)?)
 }
 
 /// That run, where it writes its trace into this file. What the file has taken is at any end a beginning of the trace of the one-thread run.
@@ -84,8 +66,7 @@ fn traced<F: Sink + Drop + Send, T: Threads + Wait + Sync>(
     pace: Pace,
     with_steps: bool,
     file: F,
-) -> Result<Traced<Summary, F>, Fault<'static>>
-    requires { IsPace pace }
+) -> Result<Traced<F>, Fault<'static>>
     ensures text { IfOk result (λ found. IsTablesText network.now (tables_text network.now found.outcome.tables)) }
     ensures journal { IfOk result (λ found. IsJournalAsked network.now with_steps found.outcome.journal.items) }
     ensures trace { IfOk result (λ found. OnOk found.written ((rows : List Noted) → AreRowsOf network.now rows →
@@ -95,22 +76,7 @@ fn traced<F: Sink + Drop + Send, T: Threads + Wait + Sync>(
     ensures device { IfOk result (λ found. IfErr found.written (λ why. why ≡ Out Device → F.failures found.sink ≡ F.failures file + 1)) }
     ensures fault { IfErr result IsFaultOfPool }
 {
-    if with_steps {
-        return Ok(run_traced(rt, alloc, network, pace, &Open, file)?);
-    }
-    let Traced {
-        outcome,
-        written,
-        sink,
-    } = run_tables_traced(rt, alloc, network, pace, &Open, file)?;
-    Ok(Traced {
-        outcome: Summary {
-            tables: outcome,
-            journal: Vec::new(alloc),
-        },
-        written,
-        sink,
-    })
+    Ok(run_traced(rt, alloc, network, pace, with_steps, &Open, file)?)
 }
 
 /// Why a trace was not written into the file with this path, as a fault of the program.
@@ -137,7 +103,6 @@ pub fn found_with_trace<'a, F: Sink + Drop + Send, T: Threads + Wait + Sync>(
     path: &'a str,
     file: F,
 ) -> Result<(Summary, F), Fault<'a>>
-    requires { IsPace pace }
     ensures text { IfOk result (λ found. IsTablesText network.now (tables_text network.now found.0.tables)) }
     ensures journal { IfOk result (λ found. IsJournalAsked network.now with_steps found.0.journal.items) }
     ensures trace { IfOk result (λ found. (rows : List Noted) → AreRowsOf network.now rows →

@@ -31,13 +31,13 @@ use Rattle.exchange.specs.contracts.exchange.Exchange.TheInside as ExchangeIn
 use Rattle.exchange.specs.contracts.held.Held as Held
 use Rattle.exchange.specs.contracts.held.Held.TheInside as HeldIn
 use Rattle.exchange.proofs.mark.Mark.TheSendSync as mark
-use Rattle.nodes.specs.contracts.node.NodeReversible.TheImpl as node_reversible
 use Rattle.nodes.proofs.node.Node.TheSendSync as node
 use Rattle.nodes.proofs.node.NodeRecord.TheSendSync as node_record
 use Rattle.worker_pool.specs.declared.network_run.NetworkRun.{Ghosts as NetworkGhosts}
 use Rattle.worker_pool.specs.contracts.network_run.Of as Of
-use Rattle.worker_pool.specs.contracts.locks.Locked as Locked
 use Rattle.worker_pool.specs.contracts.locks.Locks as Locks
+use Rattle.worker_pool.specs.contracts.shared.Shared as Shared
+use Rattle.worker_pool.specs.contracts.shared.Shared.TheInside as SharedIn
 use Rattle.worker_pool.proofs.desk.TraceLock.TheSendSync as trace
 
 -- ---- the table of entries
@@ -74,15 +74,17 @@ held-send : (a : NamedLft) (R J K : RattleType) (g : ActorGhosts R.Denot K.Denot
 held-send a R J K g h k s t = view_send _ _ _ _ _ (declared_send (HeldIn.the_type a R J K g h k)
     (search (entries-sync, process.the_send, block.the_send, place.the_send, option.the_send, time.the_send, outbound.the_send, sendable, crosses) depth 20))
 
-pub exchange-send : (a : NamedLft) (R J K : RattleType) (g : ActorGhosts R.Denot K.Denot) (h : ReversibleGhosts R.Denot Message Sends K.Denot) (k : RunGhosts J.Denot R.Denot K.Denot)
+exchange-send : (a : NamedLft) (R J K : RattleType) (g : ActorGhosts R.Denot K.Denot) (h : ReversibleGhosts R.Denot Message Sends K.Denot) (k : RunGhosts J.Denot R.Denot K.Denot)
     → IsSend (Exchange.the_row a R J K g h k)
 exchange-send a R J K g h k = view_send _ _ _ _ _ (declared_send (ExchangeIn.the_type a R J K g h k)
     (search (entries-sync, mail.the_send, floors.the_send, time.the_send, tokens.the_send, mark.the_send, sendable, crosses) depth 20))
 
 -- ---- the locks
-locked-send : (a : NamedLft) (J : RattleType) (g : NetworkGhosts J.Denot) → IsSend (Locked.the_row a J g)
-locked-send a J g = declared_send (Locked.the_type a J g) (held-send _ _ (Of.the_row J) _ _ node_reversible.ghosts _ node.the_send node_record.the_send, (search sendable, tt))
+pub shared-send : (a : NamedLft) (J : RattleType) (g : NetworkGhosts J.Denot) → IsSend (Shared.the_row a J g)
+shared-send a J g = view_send _ _ _ _ _ (declared_send (SharedIn.the_type a J g) (search (exchange-send, crosses) depth 10, tt))
 
 pub locks-sync : (a : NamedLft) (J : RattleType) (g : NetworkGhosts J.Denot) → IsSync (Locks.the_row a J g)
-locks-sync a J g = declared_sync (Locks.the_type a J g)
-    (search (locked-send, crosses) depth 10, (time.the_sync, (search (trace.the_sync, option.the_sync, sendable, crosses) depth 10, tt)))
+locks-sync a J g = declared_sync (Locks.the_type a J g) (
+  search (held-send, node.the_send, node_record.the_send, sendable, crosses) depth 10,
+  (time.the_sync, (search (trace.the_sync, option.the_sync, sendable, crosses) depth 10, tt)),
+)

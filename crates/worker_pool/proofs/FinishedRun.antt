@@ -209,10 +209,6 @@ module _ (plan : Plan) (start : Option (List ℕ)) (failures : ℕ) (H : HasLawf
         go false true headed broken e = F.no_failure headed ∙ (T.failures_are ∙ ap (λ b. cond b (failures + 1) failures) broken)
         go false false headed broken e = absurd (told-other old broken (told old taken failed fault F headed ∙ ap Some e))
 
-    finish-other : (res : Result X TraceFault) → Finishes old res taken failed → IfErr res (λ fault. fault ≢ Out Device → failed ≡ failures)
-    finish-other (Ok x) F = tt
-    finish-other (Err fault) F = λ other. F.kept_failures other ∙ unfailed (failed-before old taken failed (Err fault) F (λ e. other (same-fault fault (Out Device) e)))
-
 -- the same of a trace of which no more is kept than that there are such facts
 module _ (plan : Plan) (start : Option (List ℕ)) (failures : ℕ) (splits : Splits) (old : WrittenTrace)
     (lawful : ∥ HasLawfulRows plan ∥₁) (T : ∥ IsTraceOfRun plan start failures old ∥₁)
@@ -229,6 +225,3 @@ module _ (plan : Plan) (start : Option (List ℕ)) (failures : ℕ) (splits : Sp
 
   pub finished-device : IfErr res (λ fault. fault ≡ Out Device → failed ≡ failures + 1)
   finished-device = from-both lawful T (hlevel props) (λ h t. finish-device plan start failures h splits old t taken failed res F)
-
-  pub finished-other : IfErr res (λ fault. fault ≢ Out Device → failed ≡ failures)
-  finished-other = from-both lawful T (hlevel props) (λ h t. finish-other plan start failures h splits old t taken failed res F)

@@ -1,5 +1,5 @@
 -- The rows that a process has for good in an interval are those of the one-thread run.
-use Rattle.std.proofs.Common.{◌≡◌, ◌↔◌, ℕ, ◌+◌, ◌≤◌, ◌==◌, Bool, true, false, ◌&&◌, cond, nat_le, nat_lt, List, [], ◌∷◌, map, filter, refl, sym, ap, ◌∙◌, subst}
+use Rattle.std.proofs.Common.{◌≡◌, ◌↔◌, ℕ, ◌+◌, ◌/◌, ◌≤◌, ◌==◌, Bool, true, false, ◌&&◌, cond, max, nat_le, nat_lt, List, [], ◌∷◌, map, filter, refl, sym, ap, ◌∙◌, subst, arith, mul-div_cancel}
 use Rattle.vlink.specs.declared.message.Message.{Message}
 use Rattle.vlink.specs.declared.note.Note.{Note}
 use Rattle.vlink.specs.declared.note.Row.{Row as Noted}
@@ -12,8 +12,9 @@ use Rattle.nodes.specs.rules.Simulation.{simulation_of}
 use Rattle.exchange.specs.Views.{InShare}
 use Rattle.actor_run.specs.Running.{seen_row}
 use Rattle.trace_tables.specs.Counting.{rows_at as noted_at}
-use Rattle.trace_tables.specs.Intervals.{cut, HasInterval, rows_within}
+use Rattle.trace_tables.specs.Intervals.{interval_width, cut, HasInterval, rows_within}
 use Rattle.trace_tables.specs.Parts.{PartRows, part_of}
+use Rattle.trace_tables.proofs.IntervalLemmas.{cut-inside, cut-rises}
 use Rattle.seqsim.specs.Networks.{AreRowsOf}
 use Rattle.seqsim.proofs.SeenRows.{unseen, back}
 use Rattle.worker_pool.specs.Parts.{IsIntervalSealed, IsPartOfRun}
@@ -72,37 +73,59 @@ pub part-by-name : (plan : Plan) (p k : ℕ) (part : PartRows) → IsPartOfRun p
 part-by-name plan p k part is rows r =
     is rows r ∙ ap (λ (n : ℕ). part_of 0 n k plan.until rows) (sym (ap (λ (z : PartRows). z.process) (is rows r)))
 
--- numbers, places and moments that a call was given, and what they are
-module _ (plan : Plan) (k until from to i : ℕ) (ends : until ≡ plan.until) (nth : i ≡ k) (first : from ≡ cut until i) (last : to ≡ cut until (i + 1)) where
+-- an interval is known by its beginning
+pub begins-one : (until moment k : ℕ) → HasInterval until k → moment ≡ cut until k → moment / interval_width until ≡ k
+begins-one until moment k inside at =
+    ap (λ m. m / interval_width until) (at ∙ cut-inside until k inside) ∙ mul-div_cancel k (omega arith)
+
+module _ (plan : Plan) (share : InShare NodeState) where
+  -- so where the next one is not for good, none is
+  pub none-sealed : (k : ℕ) → HasInterval plan.until k → share.gone ≡ cut plan.until k → (IsIntervalSealed plan k share → ⊥) →
+      (j : ℕ) → IsIntervalSealed plan j share → ⊥
+  none-sealed k inside at none j S =
+      none (subst (λ i. IsIntervalSealed plan i share)
+      (sym (begins-one plan.until share.gone j S.inside S.next) ∙ begins-one plan.until share.gone k inside at) S)
+
+  -- what leaves with a part is later than what left before
+  pub gone-with : (until k to end : ℕ) (new : InShare NodeState) → share.gone ≡ cut until k → to ≡ end → end ≡ cut until (k + 1) →
+      new ≡ record share { gone = max share.gone to } → new ≡ record share { gone = end }
+  gone-with until k to end new at same ends is =
+      subst (λ moment. new ≡ record share { gone = moment }) (let up = cut-rises until k in omega arith) is
+
+-- moments that a call was given, and what they are
+module _ (plan : Plan) (k until from to : ℕ) (ends : until ≡ plan.until) (first : from ≡ cut until k) (last : to ≡ cut until (k + 1)) where
   pub at-beginning : from ≡ cut plan.until k
-  at-beginning = first ∙ (ap (λ z. cut z i) ends ∙ ap (cut plan.until) nth)
+  at-beginning = first ∙ ap (λ z. cut z k) ends
 
   pub at-end : to ≡ cut plan.until (k + 1)
-  at-end = last ∙ (ap (λ z. cut z (i + 1)) ends ∙ ap (λ z. cut plan.until (z + 1)) nth)
+  at-end = last ∙ ap (λ z. cut z (k + 1)) ends
 
   pub part-at : (p n : ℕ) → n ≡ p → (rows : List Noted) → AreAsInRun plan p from to rows →
-      (part : PartRows) → part ≡ part_of 0 n i until rows → IsPartOfRun plan p k part
+      (part : PartRows) → part ≡ part_of 0 n k until rows → IsPartOfRun plan p k part
   part-at p n here rows seen part is =
       part-of-run plan p k rows
       (subst (λ z. AreAsInRun plan p z (cut plan.until (k + 1)) rows) at-beginning
       (subst (λ z. AreAsInRun plan p from z rows) at-end seen))
-      part (is ∙ (ap (λ z. part_of 0 z i until rows) here ∙ (ap (λ z. part_of 0 p z until rows) nth ∙ ap (λ z. part_of 0 p k z rows) ends)))
+      part (is ∙ (ap (λ z. part_of 0 z k until rows) here ∙ ap (λ z. part_of 0 p k z rows) ends))
 
-  same-interval : HasInterval until i ≡ HasInterval plan.until k
-  same-interval = ap (λ z. HasInterval z i) ends ∙ ap (HasInterval plan.until) nth
+  same-interval : HasInterval until k ≡ HasInterval plan.until k
+  same-interval = ap (λ z. HasInterval z k) ends
 
-  module _ (share : InShare NodeState) where
+  module _ (share : InShare NodeState) (next : share.gone ≡ cut until k) where
+    pub next-at : share.gone ≡ cut plan.until k
+    next-at = next ∙ ap (λ z. cut z k) ends
+
     abbrev is_for_good : Type 0
     is_for_good = (to ≤ share.share.seen) × (earlier (simulation_of plan).rules to share.part.done ≡ [])
 
-    -- there is a part just where there is such an interval, if it is for good and its rows are there
-    pub some-at : is_for_good → share.gone ≤ from → (A : Type 0) → A ↔ HasInterval until i → A ↔ IsIntervalSealed plan k share
-    some-at good there A is = (
+    -- there is a part just where there is such an interval, if it is for good
+    pub some-at : is_for_good → (A : Type 0) → A ↔ HasInterval until k → A ↔ IsIntervalSealed plan k share
+    some-at good A is = (
       λ a. record {
         inside = subst (λ (T : Type 0). T) same-interval (is.0 a);
+        next = next-at;
         seen = subst (λ z. z ≤ share.share.seen) at-end good.0;
         none_done = subst (λ z. earlier (simulation_of plan).rules z share.part.done ≡ []) at-end good.1;
-        there = subst (λ z. share.gone ≤ z) at-beginning there;
       },
       λ s. is.1 (subst (λ (T : Type 0). T) (sym same-interval) s.inside),
     )

@@ -1,9 +1,8 @@
 -- What holds of each element of a list, told place by place.
-use Rattle.std.proofs.Common.{◌≡◌, ℕ, zero, suc, ◌+◌, ◌<◌, ◌≤◌, inl, inr, List, [], ◌∷◌, map, length, get_or, slice_get, refl, sym, ap, ◌∙◌, subst, arith}
+use Rattle.std.proofs.Common.{◌≡◌, ℕ, zero, suc, ◌+◌, ◌<◌, ◌≤◌, inl, inr, List, [], ◌∷◌, length, get_or, slice_get, refl, sym, ap, ◌∙◌, subst, arith}
 use Rattle.std.specs.Prelude.{Some}
-use Rattle.std.specs.Option.{option_map}
 use Rattle.std.proofs.lemmas.Bool.{cases_eq}
-use Rattle.std.proofs.lemmas.Option.{same_Some, slice_get-map, slice_get_read, slice_get_within}
+use Rattle.std.proofs.lemmas.Option.{same_Some, slice_get_read, slice_get_within}
 
 -- in the first n places each element is as said of its place
 abbrev pub AreBelow : {X : Type 0} → (ℕ → X → Type 0) → List X → ℕ → Type 0
@@ -27,6 +26,6 @@ some-at [] p i = absurd (omega arith)
 some-at (x ∷ xs) zero i = (x, refl)
 some-at (x ∷ xs) (suc p) i = some-at xs p (omega arith)
 
--- what was read there, seen in another way
-pub seen-at : {X Y : Type 0} (see : X → Y) (xs : List X) (n : ℕ) (x : X) → n < length xs → x ≡ get_or xs n x → slice_get (map see xs) n ≡ Some (see x)
-seen-at see xs n x i e = slice_get-map see xs n ∙ ap (option_map see) (slice_get_read xs (length xs) n x refl i e)
+-- what was read there
+pub read-at : {X : Type 0} (xs : List X) (n : ℕ) (x : X) → n < length xs → x ≡ get_or xs n x → slice_get xs n ≡ Some x
+read-at xs n x i e = slice_get_read xs (length xs) n x refl i e

@@ -1,5 +1,4 @@
 pub mod Counts
-pub mod Paces
 pub mod Parts
 pub mod Runs
 pub mod Traces

@@ -10,14 +10,22 @@ use Rattle.trace_tables.specs.Intervals.{cut, HasInterval}
 use Rattle.trace_tables.specs.Parts.{PartRows, part_of}
 use Rattle.seqsim.specs.Networks.{AreRowsOf}
 
--- interval k is for good at a process, and its rows are there: there is such an interval, its end is not later than the GVT that the process
--- saw, no done event of the process is earlier, and no row from its beginning on has left
+-- interval k is the next one at a process, and it is for good: there is such an interval, the rows before it have left and no others, its end
+-- is not later than the GVT that the process saw, and no done event of the process is earlier
 pub record IsIntervalSealed (plan : Plan) (k : ℕ) (share : InShare NodeState) : Type 0 where
   pub inside : HasInterval plan.until k
+  pub next : share.gone ≡ cut plan.until k
   pub seen : cut plan.until (k + 1) ≤ share.share.seen
   pub none_done : earlier (simulation_of plan).rules (cut plan.until (k + 1)) share.part.done ≡ []
-  pub there : share.gone ≤ cut plan.until k
 
--- the part has just the rows that the one-thread run of the network has of the process and of interval k
+-- the part has just the rows that the one-thread run has of the process and of interval k
 abbrev pub IsPartOfRun : Plan → ℕ → ℕ → PartRows → Type 0
 IsPartOfRun plan process k part = (rows : List Noted) → AreRowsOf plan rows → part ≡ part_of 0 process k plan.until rows
+
+-- the part is that of the next interval of the process
+pub record IsNextPart (plan : Plan) (share : InShare NodeState) (part : PartRows) : Type 0 where
+  pub interval : ℕ
+  pub sealed : IsIntervalSealed plan interval share
+  pub from : part.from ≡ cut plan.until interval
+  pub to : part.to ≡ cut plan.until (interval + 1)
+  pub rows : IsPartOfRun plan share.number interval part

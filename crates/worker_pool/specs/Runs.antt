@@ -1,17 +1,24 @@
 -- A run that nobody picked, and a run that is ended.
-use Rattle.std.specs.Prelude.{◌≡◌, ◌≤◌, ℕ, List, [], length, slice_get, Some}
+use Rattle.std.specs.Prelude.{◌≡◌, ◌≤◌, ℕ, Bool, true, false, List, [], map, length, slice_get, Some}
+use Rattle.vlink.specs.declared.step.Step.{Step as Noting}
 use Rattle.vlink.specs.declared.message.Message.{Message}
 use Rattle.virtual_time.specs.Journal.{Entry, reach}
 use Rattle.virtual_time.specs.Safe.{IsFinished}
+use Rattle.antimessages.specs.Steps.{step_of}
 use Rattle.netdesc.specs.Plan.{Plan}
 use Rattle.netdesc.specs.Faults.{process_count}
 use Rattle.nodes.specs.rules.Node.{NodeState}
 use Rattle.nodes.specs.rules.Simulation.{simulation_of}
 use Rattle.exchange.specs.Views.{InShare}
+use Rattle.seqsim.specs.Committed.{after}
 
 -- a network of nothing
 abbrev pub empty_plan : Plan
 empty_plan = record { until = 0; seed = 0; nodes = []; links = []; outages = []; vls = [] }
+
+-- so many steps the journal of a run can have: 2 to the power of 26
+abbrev pub most_steps : ℕ
+most_steps = 67108864
 
 -- the process in hand at place p is number p, and is what it is in the world that the journal reaches
 abbrev pub IsOfWorld : Plan → List (Entry Message) → ℕ → InShare NodeState → Type 0
@@ -26,3 +33,12 @@ pub record IsEnded (plan : Plan) (entries : List (Entry Message)) (shares : List
 -- the rows that have left the processes are of moments before this one
 abbrev pub HaveGoneBy : ℕ → List (InShare NodeState) → Type 0
 HaveGoneBy moment shares = (p : ℕ) (share : InShare NodeState) → slice_get shares p ≡ Some share → share.gone ≤ moment
+
+-- after these steps the world of the network is finished
+abbrev pub IsJournalOf : Plan → List Noting → Type 0
+IsJournalOf plan steps = IsFinished (simulation_of plan) (after plan (map step_of steps))
+
+-- these are the steps of a run, where they are asked for; where they are not, there are none
+abbrev pub IsJournalAsked : Plan → Bool → List Noting → Type 0
+IsJournalAsked plan true steps = IsJournalOf plan steps
+IsJournalAsked plan false steps = steps ≡ []

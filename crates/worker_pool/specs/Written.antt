@@ -20,6 +20,11 @@ IsPlaceFault fault = (fault ≢ Stranger) × (fault ≢ OutOfMemory)
 abbrev pub IsFaultOfTrace : TraceFault → Type 0
 IsFaultOfTrace fault = (fault ≢ Part Stranger) × (fault ≢ Part OutOfMemory)
 
+-- of faults that come one after another the first
+abbrev pub first_of : Option PartFault → PartFault → Option PartFault
+first_of None fault = Some fault
+first_of (Some first) fault = Some first
+
 -- how the writing of a trace went: the fault of a batch; where there is none, that of a part; where there is none either, how the end went
 abbrev pub outcome_of : Result ⊤ TraceFault → Option PartFault → Result ⊤ TraceFault → Result ⊤ TraceFault
 outcome_of (Err fault) part end = Err fault

@@ -1,40 +1,47 @@
 //! The desk of a trace: where the parts of a run are gathered, and from where its batches go to the writer's thread.
-ghost use Rattle.std.specs.Prelude.{◌≡◌, ◌<◌, ℕ, IfSome};
+ghost use Rattle.std.specs.Prelude.{◌≡◌, ◌≢◌, ◌<◌, ◌⊎◌, ℕ, None, Some, Ok, Err, IsOk, OnOk, IfOk, IfErr, IfSome, IfNone, OnErr};
 ghost use Rattle.vlink.specs.declared.time.TheConstants.{GREATEST_NS};
 ghost use Rattle.std.proofs.Props.{props};
 ghost use Rattle.netdesc.specs.Faults.{process_count};
+ghost use Rattle.trace_tables.specs.declared.part_fault.PartFault.{PartFault};
+ghost use Rattle.trace_tables.specs.declared.part_fault.PartFault.TheVariants.{OutOfMemory};
+ghost use Rattle.trace_tables.specs.Gathering.{no_parts, part_fault, Waits, Gives};
+ghost use Rattle.trace_tables.specs.Parts.{BatchRows};
 ghost use Rattle.worker_pool.specs.Parts.{IsPartOfRun};
-ghost use Rattle.worker_pool.specs.Written.{IsPlaceFault};
+ghost use Rattle.worker_pool.specs.Traces.{HasLawfulRows, IsGatheringOfRun};
+ghost use Rattle.worker_pool.specs.Written.{IsPlaceFault, first_of};
 
+use crate::lawful_rows::lawful_rows;
 use crate::locks::Locked;
 use crate::network_run::NetworkRun;
 use crate::parts::next_part;
 use crate::rounds::schedule::Call;
 use crate::run_batch::RunBatch;
-use crate::run_gather::RunGather;
 use crossbeam_channel::{SendError, Sender};
 use journal::PoolFault;
 use netdesc::Network;
 use std::alloc::{AllocError, Global};
 use std::sync::{Mutex, Wait};
-use trace_tables::{Part, PartFault, cut};
+use trace_tables::{Gather, Part, PartFault, batches_in_order, cut, parts_of_rows};
 use vlink::Time;
 
 /// So many intervals a process without a turn stays behind GVT with its parts.
 const BEHIND: u64 = 16;
 
 /// What the lock of the trace keeps: the parts that wait for those of other processes, the end of the channel to the writer's thread, and
-/// the first fault of a part's place.
+/// the first fault of a part's place. By its type the parts have the rows that the one-thread run of the network has.
 #[derive(Drop)]
 pub(crate) struct Desk<J: NetworkRun> {
-    gather: RunGather<J>,
+    gather: Gather,
     batches: Sender<RunBatch<J>>,
     pub fault: Option<PartFault>,
+    ghost of_run: { ∥ IsGatheringOfRun J.plan gather ∥₁ },
+    ghost lawful: { ∥ HasLawfulRows J.plan ∥₁ },
     pub ghost known: { IfSome fault IsPlaceFault } by { Prim.hlevel props },
 }
 
 impl<J: NetworkRun> Desk<J> {
-    /// No part is there yet. It is refused for memory alone.
+    /// No part is there yet, of any process of the network. It is refused for memory alone.
     fn new(
         alloc: Global,
         network: &Network,
@@ -42,21 +49,28 @@ impl<J: NetworkRun> Desk<J> {
     ) -> Result<Self, AllocError>
         requires { network.now ≡ J.plan }
     {
+        lawful_rows(network);
+        parts_of_rows();
+        let gather = Gather::new(alloc, 0, network.process_count() as u16, network.until())?;
         Ok(Desk {
-            gather: RunGather::new(alloc, network)?,
+            gather,
             batches,
             fault: None,
         })
     }
 
-    /// Takes a part. Where it was the last one of its interval, the batch is sent. Of faults that are not want of memory the first is kept,
-    /// and the run goes on.
+    /// Takes a part. Where it was the last one of its interval, the batch is sent. Want of memory for the part ends the run; of other faults the
+    /// first is kept, and the run goes on.
     fn take<T: Wait>(&mut self, rt: &T, part: Part) -> Result<(), PoolFault>
         requires run { part.run ≡ 0 }
         requires process { part.process < process_count J.plan }
         requires of_run { (k : ℕ) × IsPartOfRun J.plan part.process k part }
+        ensures taken { part_fault self.old.gather part ≡ None → OnOk result
+            (Waits self.old.gather part self.new.gather ⊎ ((batch : BatchRows) × Gives self.old.gather part batch self.new.gather)) }
+        ensures refused { (fault : PartFault) → part_fault self.old.gather part ≡ Some fault → IsOk result × (self.new.fault ≡ first_of self.old.fault fault) }
+        ensures kept { part_fault self.old.gather part ≡ None → self.new.fault ≡ self.old.fault }
     {
-        match self.gather.take(part) {
+        match self.gathered(part) {
             Ok(None) => Ok(()),
             Ok(Some(batch)) => self.send(rt, batch),
             Err(PartFault::OutOfMemory) => Err(PoolFault::OutOfMemory),
@@ -64,6 +78,27 @@ impl<J: NetworkRun> Desk<J> {
                 self.keep(fault);
                 Ok(())
             }
+        }
+    }
+
+    /// Takes the next part of a process, which is one of the run. Once the parts of all processes for an interval are there, the batch of the
+    /// interval is given. Its refusals are those of `Gather::take`, and change nothing.
+    fn gathered(&mut self, part: Part) -> Result<Option<RunBatch<J>>, PartFault>
+        requires run { part.run ≡ 0 }
+        requires process { part.process < process_count J.plan }
+        requires of_run { (k : ℕ) × IsPartOfRun J.plan part.process k part }
+        ensures refused { (fault : PartFault) → part_fault self.old.gather part ≡ Some fault → result ≡ Err fault }
+        ensures place { IfErr result (λ fault. fault ≢ OutOfMemory → IsPlaceFault fault) }
+        ensures memory { part_fault self.old.gather part ≡ None → IfErr result (λ fault. fault ≡ OutOfMemory) }
+        ensures waits { IfOk result (λ given. IfNone given (Waits self.old.gather part self.new.gather)) }
+        ensures gives { IfOk result (λ given. IfSome given (λ batch. Gives self.old.gather part batch.batch self.new.gather)) }
+        ensures fault { self.new.fault ≡ self.old.fault }
+    {
+        parts_of_rows();
+        batches_in_order();
+        match self.gather.take(part)? {
+            Some(batch) => Ok(Some(RunBatch::new(batch))),
+            None => Ok(None),
         }
     }
 
@@ -78,6 +113,8 @@ impl<J: NetworkRun> Desk<J> {
     /// Keeps the fault, if it is the first.
     fn keep(&mut self, fault: PartFault)
         requires { IsPlaceFault fault }
+        ensures first { self.new.fault ≡ first_of self.old.fault fault }
+        ensures gather { self.new.gather ≡ self.old.gather }
     {
         if self.fault.is_none() {
             self.fault = Some(fault);
@@ -109,21 +146,18 @@ impl<J: NetworkRun> TraceLock<J> {
         Ok(TraceLock { alloc, until, desk })
     }
 
-    /// The next part that a process can give goes to the desk, and its rows leave the process. The answer is whether there was one.
+    /// The next part that a process can give goes to the desk. The answer is whether there was one.
     fn give_part<'a, T: Wait>(
         &self,
         rt: &T,
         locked: &mut Locked<'a, J>,
     ) -> Result<bool, PoolFault> {
-        let Some(part) = next_part(self.alloc, &locked.held, &mut locked.given, self.until)? else {
+        // The process is one of the network.
+        let _process = locked.number();
+        let Some(part) = next_part(self.alloc, locked, self.until)? else {
             return Ok(false);
         };
-        // The process is one of the network.
-        let _process = locked.held.number();
         self.desk.lock(rt).take(rt, part)?;
-        locked
-            .held
-            .let_rows_go(cut(self.until, u64::from(locked.given)));
         Ok(true)
     }
 
@@ -145,11 +179,10 @@ impl<J: NetworkRun> TraceLock<J> {
     /// A process that gave its parts, and had its turn up to this limit, in ns, is called `BEHIND` intervals further on, though it may have nothing
     /// else to do: the parts of the others wait for its own. Behind the end of the run it is not called: the end of the run takes what is left.
     pub(crate) fn call<'a>(&self, locked: &Locked<'a, J>, limit_ns: u64) -> Call {
-        let given_ns = cut(self.until, u64::from(locked.given)).ns();
         let behind_ns = cut(self.until, BEHIND).ns();
-        let moment_ns = given_ns.max(limit_ns).saturating_add(behind_ns);
+        let moment_ns = locked.gone().ns().max(limit_ns).saturating_add(behind_ns);
         Call {
-            process: locked.held.number(),
+            process: locked.number(),
             moment_ns: if moment_ns <= self.until.ns() {
                 moment_ns
             } else {

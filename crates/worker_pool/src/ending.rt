@@ -1,5 +1,5 @@
 //! The end of a run: one thread has all in hand, and gives turns until everything is committed.
-ghost use Rattle.std.specs.Prelude.{◌≡◌, ◌<◌, ℕ, true, [], length, map, slice_get, Some, IsTrue, OnOk};
+ghost use Rattle.std.specs.Prelude.{◌≡◌, ◌<◌, ℕ, true, [], length, slice_get, Some, IsTrue, OnOk};
 ghost use Rattle.netdesc.specs.Faults.{process_count};
 ghost use Rattle.nodes.specs.rules.Node.{NodeState};
 ghost use Rattle.exchange.specs.Views.{InShare};
@@ -9,8 +9,9 @@ use crate::desk::TraceLock;
 use crate::locks::{Locked, Locks};
 use crate::network_run::{NetworkRun, Of};
 use crate::pace::Pace;
-use crate::rounds::batch::{ExchangeLock, give_block, take_letters, work_to};
-use exchange::{Exchange, Gate, Held, publish};
+use crate::rounds::batch::{ExchangeLock, work_to};
+use crate::shared::Shared;
+use exchange::{Exchange, Gate};
 use journal::PoolFault;
 use nodes::Node;
 use std::alloc::{AllocError, Global};
@@ -20,15 +21,15 @@ use vlink::Time;
 /// The exchange and all processes of a run, out of their locks, and the lock of its trace, if one is written.
 #[derive(Drop)]
 pub(crate) struct Unlocked<'a, J: NetworkRun> {
-    pub exchange: Exchange<'a, Node, Of<J>>,
-    pub lockeds: Vec<Locked<'a, J>>,
+    pub exchange: Shared<'a, J>,
+    pub helds: Vec<Locked<'a, J>>,
     pub trace: Option<TraceLock<J>>,
 }
 
 /// Whether this process is number `place`, and has no step that is not in the journal: then it is the one of the journal.
 fn is_of_world<'a, J: NetworkRun>(
     exchange: &Exchange<'a, Node, Of<J>>,
-    held: &Held<'a, Node, Of<J>>,
+    held: &Locked<'a, J>,
     place: usize,
 ) -> bool
     ensures { result ≡ true → IsOfWorld J.plan exchange.now.entries place held.now }
@@ -47,13 +48,13 @@ impl<'a, J: NetworkRun> Unlocked<'a, J> {
         exchange: ExchangeLock<'a, J>,
     ) -> Result<Self, AllocError> {
         let Locks { locks, trace, .. } = locks;
-        let mut lockeds = Vec::with_capacity(alloc, locks.len())?;
+        let mut helds = Vec::with_capacity(alloc, locks.len())?;
         for lock in locks {
-            lockeds.push(lock.into_inner())?;
+            helds.push(lock.into_inner())?;
         }
         Ok(Unlocked {
             exchange: exchange.into_inner().into_inner(),
-            lockeds,
+            helds,
             trace,
         })
     }
@@ -70,11 +71,11 @@ impl<'a, J: NetworkRun> Unlocked<'a, J> {
         gate: &G,
     ) -> Result<(), PoolFault>
         requires { until ≡ J.plan.until }
-        ensures ended { OnOk result (IsEnded J.plan self.new.exchange.entries (map (λ l. l.held) self.new.lockeds.items)) }
-        ensures kept { OnOk result (IsTrue keeps_rows → HaveGoneBy 0 (map (λ l. l.held) self.new.lockeds.items)) }
+        ensures ended { OnOk result (IsEnded J.plan self.new.exchange.entries self.new.helds.items) }
+        ensures kept { OnOk result (IsTrue keeps_rows → HaveGoneBy 0 self.new.helds.items) }
     {
         for _ in rt.forever() {
-            let _gvt = publish(&mut self.exchange)?;
+            let _gvt = self.exchange.set_gvt()?;
             self.take_turns(rt, pace, gate)?;
             if self.is_ended(until) && (!keeps_rows || self.have_gone_by(Time::default())) {
                 return Ok(());
@@ -90,12 +91,12 @@ impl<'a, J: NetworkRun> Unlocked<'a, J> {
         pace: &Pace,
         gate: &G,
     ) -> Result<(), PoolFault> {
-        for locked in self.lockeds.iter_mut() {
-            take_letters(locked, &mut self.exchange)?;
-            work_to(locked, u64::MAX, pace, gate)?;
-            give_block(locked, &mut self.exchange)?;
+        for held in self.helds.iter_mut() {
+            self.exchange.take_letters(held)?;
+            work_to(held, u64::MAX, pace, gate)?;
+            self.exchange.give_block(held)?;
             if let Some(trace) = &self.trace {
-                trace.give_parts(rt, locked)?;
+                trace.give_parts(rt, held)?;
             }
         }
         Ok(())
@@ -104,9 +105,9 @@ impl<'a, J: NetworkRun> Unlocked<'a, J> {
     /// Whether GVT is past the end, all processes are there, each in its place and without a block, and each has committed all that it has done.
     fn is_ended(&self, until: Time) -> bool
         requires { until ≡ J.plan.until }
-        ensures { result ≡ true → IsEnded J.plan self.now.exchange.entries (map (λ l. l.held) self.now.lockeds.items) }
+        ensures { result ≡ true → IsEnded J.plan self.now.exchange.entries self.now.helds.items }
     {
-        if self.exchange.gvt().ns() != until.ns() + 1 || !self.are_of_world() {
+        if self.exchange.lent().gvt().ns() != until.ns() + 1 || !self.are_of_world() {
             return false;
         }
         self.all_committed()
@@ -114,11 +115,11 @@ impl<'a, J: NetworkRun> Unlocked<'a, J> {
 
     /// Whether all rows that have left the processes are of moments before this one, in ns; none has where it is 0.
     pub(crate) fn have_gone_by(&self, moment: Time) -> bool
-        ensures { result ≡ true → HaveGoneBy moment (map (λ l. l.held) self.now.lockeds.items) }
+        ensures { result ≡ true → HaveGoneBy moment self.now.helds.items }
     {
-        for place in 0..self.lockeds.len() {
-            let locked = &self.lockeds[place];
-            if locked.held.gone().ns() > moment.ns() {
+        for place in 0..self.helds.len() {
+            let held = &self.helds[place];
+            if held.gone().ns() > moment.ns() {
                 return false;
             }
         }
@@ -127,16 +128,16 @@ impl<'a, J: NetworkRun> Unlocked<'a, J> {
 
     /// Whether all processes of the network are there, each in its place and without a block.
     fn are_of_world(&self) -> bool
-        ensures count { result ≡ true → length self.now.lockeds.items ≡ process_count J.plan }
-        ensures each { result ≡ true → (p : ℕ) (share : InShare NodeState) → slice_get (map (λ l. l.held) self.now.lockeds.items) p ≡ Some share →
+        ensures count { result ≡ true → length self.now.helds.items ≡ process_count J.plan }
+        ensures each { result ≡ true → (p : ℕ) (share : InShare NodeState) → slice_get self.now.helds.items p ≡ Some share →
             IsOfWorld J.plan self.now.exchange.entries p share }
     {
-        if self.lockeds.len() != usize::from(self.exchange.processes()) {
+        if self.helds.len() != usize::from(self.exchange.processes()) {
             return false;
         }
-        for place in 0..self.lockeds.len() {
-            let locked = &self.lockeds[place];
-            if !is_of_world(&self.exchange, &locked.held, place) {
+        for place in 0..self.helds.len() {
+            let held = &self.helds[place];
+            if !is_of_world(self.exchange.lent(), held, place) {
                 return false;
             }
         }
@@ -145,12 +146,12 @@ impl<'a, J: NetworkRun> Unlocked<'a, J> {
 
     /// Whether no process has a done event that is not committed.
     fn all_committed(&self) -> bool
-        ensures { result ≡ true → (p : ℕ) (share : InShare NodeState) → slice_get (map (λ l. l.held) self.now.lockeds.items) p ≡ Some share →
+        ensures { result ≡ true → (p : ℕ) (share : InShare NodeState) → slice_get self.now.helds.items p ≡ Some share →
             share.part.done ≡ [] }
     {
-        for place in 0..self.lockeds.len() {
-            let locked = &self.lockeds[place];
-            if !locked.held.all_committed() {
+        for place in 0..self.helds.len() {
+            let held = &self.helds[place];
+            if !held.all_committed() {
                 return false;
             }
         }

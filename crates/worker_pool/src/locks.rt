@@ -14,12 +14,8 @@ use std::alloc::{AllocError, Global};
 use std::sync::Mutex;
 use vlink::Time;
 
-/// What one lock keeps: a process in hand, and of how many intervals of the trace its parts were given.
-#[derive(Drop)]
-pub(crate) struct Locked<'a, J: NetworkRun> {
-    pub held: Held<'a, Node, Of<J>>,
-    pub given: u16,
-}
+/// What one lock keeps: a process in hand.
+pub(crate) type Locked<'a, J> = Held<'a, Node, Of<J>>;
 
 /// A lock for each process of the run, the end time of the run, and the lock of its trace, if one is written.
 #[derive(Drop)]
@@ -35,7 +31,7 @@ pub(crate) struct Locks<'a, J: NetworkRun> {
 pub(crate) fn locks_of<'a, J: NetworkRun>(
     alloc: Global,
     network: &Network,
-    helds: Vec<Held<'a, Node, Of<J>>>,
+    helds: Vec<Locked<'a, J>>,
     trace: Option<TraceLock<J>>,
 ) -> Result<Locks<'a, J>, PoolFault>
     requires network { network.now ≡ J.plan }
@@ -54,13 +50,13 @@ pub(crate) fn locks_of<'a, J: NetworkRun>(
 /// A lock for each of these, in order.
 fn mutexes_of<'a, J: NetworkRun>(
     alloc: Global,
-    helds: Vec<Held<'a, Node, Of<J>>>,
+    helds: Vec<Locked<'a, J>>,
 ) -> Result<Vec<Mutex<Locked<'a, J>>>, AllocError>
     ensures { IfOk result (λ locks. length locks.items ≡ length helds.entry.items) }
 {
     let mut locks = Vec::with_capacity(alloc, helds.len())?;
     for held in helds {
-        locks.push(Mutex::new(Locked { held, given: 0 }))?;
+        locks.push(Mutex::new(held))?;
     }
     Ok(locks)
 }

@@ -1,10 +1,24 @@
 //! How fast a run by workers goes.
 
-/// How many workers there are, 1 to 64; how many messages a process handles in one turn at most, 1 to 256; and how far a process runs ahead of
-/// the GVT that it saw at most, in ns, 1 to `vlink::LATEST_NS`.
+/// How many workers there are; how many messages a process handles in one turn at most; and how far a process runs ahead of the GVT that it saw
+/// at most, in ns.
+///
+/// Any numbers serve, and what a run finds is the same for all of them. Without workers the caller's thread gives all turns, and a turn or a
+/// window of 0 counts as one of 1.
 #[derive(Clone, Copy, Debug, PartialEq, Eq)]
 pub struct Pace {
     pub workers: u8,
     pub turn: u16,
     pub window_ns: u64,
+}
+
+impl Pace {
+    /// The same pace with a turn and a window of 1 at least: with 0 no message would ever be handled.
+    pub(crate) fn that_goes(self) -> Self {
+        Pace {
+            workers: self.workers,
+            turn: self.turn.max(1),
+            window_ns: self.window_ns.max(1),
+        }
+    }
 }

@@ -1,65 +1,88 @@
 //! The parts of the trace that a process gives while the run goes on.
-ghost use Rattle.std.specs.Prelude.{◌≡◌, ◌+◌, ◌<◌, ◌↔◌, IsSome, MatchOption, IfSome, IfOk, IfErr, OnErr};
+ghost use Rattle.std.specs.Prelude.{◌≡◌, ◌+◌, ◌<◌, ◌↔◌, ℕ, IsSome, MatchOption, IfSome, IfNone, IfOk, IfErr, OnErr};
+ghost use Rattle.vlink.specs.declared.time.TheConstants.{GREATEST_NS};
 ghost use Rattle.journal.specs.declared.fault.PoolFault.TheVariants.{OutOfMemory};
-ghost use Rattle.worker_pool.specs.Parts.{IsIntervalSealed, IsPartOfRun};
+ghost use Rattle.trace_tables.specs.Intervals.{cut, HasInterval};
+ghost use Rattle.worker_pool.specs.Parts.{IsIntervalSealed, IsNextPart, IsPartOfRun};
 
 use crate::network_run::{NetworkRun, Of};
 use exchange::Held;
 use journal::PoolFault;
 use nodes::Node;
 use std::alloc::{AllocError, Global};
-use trace_tables::{Part, cut};
+use trace_tables::{Part, cut, width};
 use vlink::{GREATEST_NS, Time};
 
-/// The part of the trace of the next interval that a process gives, as a part of run 0: number `given`, from 0. `until` is the end time of the
-/// network, in ns. None: events of the interval can still come or be undone, as far as the process saw, rows of it may have left the process,
-/// or all intervals were given.
+/// The next part of the trace that a process gives, as a part of run 0: that of the interval which begins where its last part ended. Its rows
+/// leave the process. `until` is the end time of the network, in ns. None: events of the interval can still come or be undone, as far as the
+/// process saw, or there is no such interval.
 ///
-/// It is refused for memory alone, and then the interval is still to be given.
+/// It is refused for memory alone, and then nothing changes.
 ///
-/// - `own`: a part that is given is one of run 0 and of the process.
-/// - `part`: the part has just the rows of the process and of the interval that the one-thread run of the network has.
+/// - `own`: a part is one of run 0 and of the process.
+/// - `part`: it has just the rows of the process and of the interval that the one-thread run of the network has.
 /// - `some`: when there is one.
-/// - `given`: a part that is given is counted.
+/// - `given`: the next one begins where this one ends.
 pub fn next_part<'a, J: NetworkRun>(
     alloc: Global,
-    held: &Held<'a, Node, Of<J>>,
-    given: &mut u16,
+    held: &mut Held<'a, Node, Of<J>>,
     until: Time,
 ) -> Result<Option<Part>, PoolFault>
     requires until { until ≡ J.plan.until }
     requires end { until < GREATEST_NS }
-    ensures own { IfOk result (λ part. IfSome part (λ p. (p.run ≡ 0) × (p.process ≡ held.now.number))) }
-    ensures part { IfOk result (λ part. IfSome part (IsPartOfRun J.plan held.now.number given.old)) }
-    ensures some { IfOk result (λ part. IsSome part ↔ IsIntervalSealed J.plan given.old held.now) }
-    ensures given { IfOk result (λ part. MatchOption part (given.new ≡ given.old) (λ p. given.new ≡ given.old + 1)) }
-    ensures refused { OnErr result (given.new ≡ given.old) }
+    ensures own { IfOk result (λ part. IfSome part (λ p. (p.run ≡ 0) × (p.process ≡ held.old.number))) }
+    ensures part { IfOk result (λ part. IfSome part (IsNextPart J.plan held.old)) }
+    ensures some { IfOk result (λ part. IsSome part ↔ ((k : ℕ) × IsIntervalSealed J.plan k held.old)) }
+    ensures given { IfOk result (λ part. MatchOption part (held.new ≡ held.old) (λ p. held.new ≡ record held.old { gone = p.to })) }
+    ensures refused { OnErr result (held.new ≡ held.old) }
     ensures memory { IfErr result (λ fault. fault ≡ OutOfMemory) }
 {
-    let part = sealed_part(held, alloc, *given, until)?;
-    if part.is_some() {
-        *given += 1;
-    }
-    Ok(part)
+    let Some(k) = interval_at(until, held.gone()) else {
+        return Ok(None);
+    };
+    let Some(part) = sealed_part(alloc, held, k, until)? else {
+        return Ok(None);
+    };
+    held.let_rows_go(part.to());
+    Ok(Some(part))
 }
 
-/// The part of interval `k`, as a part of run 0, if the interval is for good at the process and its rows are there.
+/// The number of the interval that begins at this moment, in ns, if one does.
+fn interval_at(until: Time, moment: Time) -> Option<u64>
+    requires { until < GREATEST_NS }
+    ensures some { IfSome result (λ k. HasInterval until k × (moment ≡ cut until k)) }
+    ensures none { IfNone result ((k : ℕ) → HasInterval until k → moment ≡ cut until k → ⊥) }
+    ensures few { IfSome result (λ k. k < 1024) }
+{
+    let k = moment.ns() / width(until).ns();
+    if until.ns() < moment.ns() {
+        return None;
+    }
+    if cut(until, k).ns() != moment.ns() {
+        return None;
+    }
+    Some(k)
+}
+
+/// The part of interval `k`, as a part of run 0, if the interval is for good at the process, whose rows are there from its beginning on.
 fn sealed_part<'a, J: NetworkRun>(
-    held: &Held<'a, Node, Of<J>>,
     alloc: Global,
-    k: u16,
+    held: &Held<'a, Node, Of<J>>,
+    k: u64,
     until: Time,
 ) -> Result<Option<Part>, AllocError>
     requires until { until ≡ J.plan.until }
     requires end { until < GREATEST_NS }
+    requires few { k < 1024 }
+    requires there { held.now.gone ≡ cut until k }
     ensures own { IfOk result (λ part. IfSome part (λ p. (p.run ≡ 0) × (p.process ≡ held.now.number))) }
+    ensures ends { IfOk result (λ part. IfSome part (λ p. (p.from ≡ cut until k) × (p.to ≡ cut until (k + 1)))) }
     ensures part { IfOk result (λ part. IfSome part (IsPartOfRun J.plan held.now.number k)) }
     ensures some { IfOk result (λ part. IsSome part ↔ IsIntervalSealed J.plan k held.now) }
 {
-    let k = u64::from(k);
     let from = cut(until, k);
     let to = cut(until, k + 1);
-    if held.gone().ns() > from.ns() || !held.is_sealed_before(to) {
+    if !held.is_sealed_before(to) {
         return Ok(None);
     }
     let rows = held.rows_between(from, to);

@@ -1,11 +1,11 @@
 //! What an ended run has found.
-ghost use Rattle.std.specs.Prelude.{◌≡◌, List, map, IfOk};
+ghost use Rattle.std.specs.Prelude.{◌≡◌, List, IfOk};
 ghost use Rattle.vlink.specs.declared.note.Row.{Row as Noted};
 ghost use Rattle.virtual_time.specs.Journal.{steps};
 ghost use Rattle.trace_tables.specs.Tables.{tables_of};
 ghost use Rattle.seqsim.specs.Committed.{AreCommittedRows};
 ghost use Rattle.seqsim.specs.Networks.{AreRowsOf};
-ghost use Rattle.worker_pool.specs.Runs.{IsEnded, HaveGoneBy};
+ghost use Rattle.worker_pool.specs.Runs.{IsEnded, IsJournalOf, HaveGoneBy};
 
 use crate::counted::Counted;
 use crate::ending::Unlocked;
@@ -18,21 +18,29 @@ use seqsim::{network_laws, rows_by_process};
 use std::alloc::Global;
 use trace_tables::{Tables, batches_in_order, put_in_message_order, tables_by_place};
 use virtual_time::headline;
-use vlink::{Message, Note, Row, Time};
+use vlink::{Message, Note, Row, Step, Time};
 
 impl<'a, J: NetworkRun> Unlocked<'a, J> {
+    /// The steps of the run, in their order. It is refused for memory alone.
+    pub(crate) fn steps(&self, alloc: Global) -> Result<Vec<Step>, PoolFault>
+        requires { IsEnded J.plan self.now.exchange.entries self.now.helds.items }
+        ensures { IfOk result (λ steps. IsJournalOf J.plan steps.items) }
+    {
+        self.exchange.inner.step_list(alloc)
+    }
+
     /// The rows of all committed events, process by process. It is refused for memory alone.
     fn gathered_rows(&self, alloc: Global, network: &Network) -> Result<Vec<Row>, PoolFault>
         requires network { network.now ≡ J.plan }
-        requires ended { IsEnded J.plan self.now.exchange.entries (map (λ l. l.held) self.now.lockeds.items) }
-        requires kept { HaveGoneBy 0 (map (λ l. l.held) self.now.lockeds.items) }
+        requires ended { IsEnded J.plan self.now.exchange.entries self.now.helds.items }
+        requires kept { HaveGoneBy 0 self.now.helds.items }
         ensures { IfOk result (λ rows. AreCommittedRows J.plan (steps self.now.exchange.entries) rows.items) }
     {
         network_laws(network);
         let mut rows = Vec::new(alloc);
-        for process in 0..self.lockeds.len() {
-            let locked = &self.lockeds[process];
-            rows.extend_from_slice(locked.held.sealed())?;
+        for process in 0..self.helds.len() {
+            let held = &self.helds[process];
+            rows.extend_from_slice(held.sealed())?;
         }
         Ok(rows)
     }
@@ -40,8 +48,8 @@ impl<'a, J: NetworkRun> Unlocked<'a, J> {
     /// The rows of all events, in message order. It is refused for memory alone.
     pub(crate) fn rows(&self, alloc: Global, network: &Network) -> Result<Vec<Row>, PoolFault>
         requires network { network.now ≡ J.plan }
-        requires ended { IsEnded J.plan self.now.exchange.entries (map (λ l. l.held) self.now.lockeds.items) }
-        requires kept { HaveGoneBy 0 (map (λ l. l.held) self.now.lockeds.items) }
+        requires ended { IsEnded J.plan self.now.exchange.entries self.now.helds.items }
+        requires kept { HaveGoneBy 0 self.now.helds.items }
         ensures { IfOk result (λ rows. AreRowsOf J.plan rows.items) }
     {
         rows_by_process(network);
@@ -55,8 +63,8 @@ impl<'a, J: NetworkRun> Unlocked<'a, J> {
     /// `OutOfMemory`: memory is refused, or was while rows were counted.
     pub(crate) fn tables(&self, network: &Network, counted: Counted<J>) -> Result<Tables, PoolFault>
         requires network { network.now ≡ J.plan }
-        requires ended { IsEnded J.plan self.now.exchange.entries (map (λ l. l.held) self.now.lockeds.items) }
-        requires counted { HaveGoneBy counted.end (map (λ l. l.held) self.now.lockeds.items) }
+        requires ended { IsEnded J.plan self.now.exchange.entries self.now.helds.items }
+        requires counted { HaveGoneBy counted.end self.now.helds.items }
         ensures whole { IfOk result (λ tables. (rows : List Noted) × AreRowsOf J.plan rows × (tables ≡ tables_of J.plan rows)) }
         ensures each { IfOk result (λ tables. (rows : List Noted) → AreRowsOf J.plan rows → tables ≡ tables_of J.plan rows) }
     {
@@ -70,9 +78,9 @@ impl<'a, J: NetworkRun> Unlocked<'a, J> {
             return Err(PoolFault::OutOfMemory);
         };
         let behind = Time::known(network.until().ns() + 1);
-        for process in 0..self.lockeds.len() {
-            let locked = &self.lockeds[process];
-            tables.count(network, locked.held.rows_between(end, behind))?;
+        for process in 0..self.helds.len() {
+            let held = &self.helds[process];
+            tables.count(network, held.rows_between(end, behind))?;
         }
         Ok(tables.tables(network)?)
     }

@@ -1,25 +1,20 @@
 //! The run of a network by workers.
-ghost use Rattle.std.specs.Prelude.{◌≡◌, List, length, map, IsNone, IfOk};
-ghost use Rattle.vlink.specs.declared.note.Row.{Row as Noted};
-ghost use Rattle.virtual_time.specs.Safe.{IsFinished};
-ghost use Rattle.antimessages.specs.Steps.{step_of};
+ghost use Rattle.std.specs.Prelude.{◌≡◌, length, IsNone, IfOk, IfSome};
 ghost use Rattle.netdesc.specs.Faults.{process_count};
-ghost use Rattle.nodes.specs.rules.Simulation.{simulation_of};
 ghost use Rattle.journal.specs.Names.{names};
 ghost use Rattle.trace_tables.specs.Tables.{tables_of};
-ghost use Rattle.seqsim.specs.Committed.{after};
 ghost use Rattle.seqsim.specs.Networks.{AreRowsOf};
-ghost use Rattle.worker_pool.specs.Paces.{IsPace};
-ghost use Rattle.worker_pool.specs.Runs.{IsEnded, HaveGoneBy};
+ghost use Rattle.worker_pool.specs.Runs.{IsEnded, IsJournalOf, HaveGoneBy};
+ghost use Rattle.worker_pool.specs.Written.{IsPlaceFault};
 
-use crate::counted::Counted;
-use crate::desk::TraceLock;
+use crate::desk::{TraceLock, closed};
 use crate::ending::Unlocked;
 use crate::locks::locks_of;
 use crate::network_run::NetworkRun;
 use crate::opening::open_network;
 use crate::pace::Pace;
 use crate::rounds::apart::Apart;
+use crate::shared::{MOST_STEPS, Shared};
 use crate::workers::start_all;
 use exchange::{Gate, Pairs};
 use journal::{Entries, PoolFault};
@@ -28,11 +23,8 @@ use std::alloc::Global;
 use std::marker::Brand;
 use std::sync::{Mutex, Wait};
 use std::thread::Threads;
-use trace_tables::Tables;
+use trace_tables::{PartFault, Tables};
 use vlink::{Row, Step};
-
-/// So many steps a journal can have.
-const MOST_STEPS: u64 = 67_108_864;
 
 /// What a run has found: a row for each frame that was delivered or dropped, in message order, and their tables; and the steps that were
 /// done, in their order.
@@ -43,8 +35,8 @@ pub struct Outcome {
     pub journal: Vec<Step>,
 }
 
-/// Runs a network by workers, over this table, until it is ended. The parts of the trace go to its lock, if there is one; without one no row
-/// leaves a process.
+/// Runs a network by workers, over this table, until it is ended. The parts of the trace go to its lock, if there is one, and no batch is sent
+/// once the run is ended; without one no row leaves a process. Beside the run is the first fault of a part that is not want of memory.
 pub(crate) fn run_to_end<'a, J: NetworkRun + Send + Sync, G: Gate + Sync, T: Threads + Wait + Sync>(
     rt: &T,
     alloc: Global,
@@ -54,22 +46,24 @@ pub(crate) fn run_to_end<'a, J: NetworkRun + Send + Sync, G: Gate + Sync, T: Thr
     pace: &Pace,
     gate: &G,
     trace: Option<TraceLock<J>>,
-) -> Result<Unlocked<'a, J>, PoolFault>
+) -> Result<(Unlocked<'a, J>, Option<PartFault>), PoolFault>
     requires network { network.now ≡ J.plan }
     requires table { names table.now.pages.items ≡ J.pages }
     requires names { pairs ≡ J.names }
     requires each_name { length J.names ≡ process_count network.now }
-    ensures ended { IfOk result (λ run. IsEnded J.plan run.exchange.entries (map (λ l. l.held) run.lockeds.items)) }
-    ensures kept { IfOk result (λ run. IsNone trace → HaveGoneBy 0 (map (λ l. l.held) run.lockeds.items)) }
+    ensures ended { IfOk result (λ r. IsEnded J.plan r.0.exchange.entries r.0.helds.items) }
+    ensures kept { IfOk result (λ r. IsNone trace → HaveGoneBy 0 r.0.helds.items) }
+    ensures fault { IfOk result (λ r. IfSome r.1 IsPlaceFault) }
 {
     let (exchange, helds) = open_network::<J>(alloc, network, table, pairs, MOST_STEPS)?;
     let keeps_rows = trace.is_none();
     let locks = locks_of(alloc, network, helds, trace)?;
-    let exchange = Mutex::new(Apart::new(exchange));
+    let exchange = Mutex::new(Apart::new(Shared { inner: exchange }));
     start_all(rt, alloc, network, &locks, &exchange, pace, gate)?;
     let mut unlocked = Unlocked::of(alloc, locks, exchange)?;
     unlocked.end(rt, network.until(), keeps_rows, pace, gate)?;
-    Ok(unlocked)
+    let fault = closed(unlocked.trace.take());
+    Ok((unlocked, fault))
 }
 
 fn run_named<J: NetworkRun + Send + Sync, G: Gate + Sync, T: Threads + Wait + Sync>(
@@ -85,14 +79,14 @@ fn run_named<J: NetworkRun + Send + Sync, G: Gate + Sync, T: Threads + Wait + Sy
     requires table { names table.now.pages.items ≡ J.pages }
     requires names { pairs ≡ J.names }
     requires each_name { length J.names ≡ process_count network.now }
-    ensures rows { IfOk result (λ o. AreRowsOf network.now o.rows.items) }
-    ensures tables { IfOk result (λ o. o.tables ≡ tables_of network.now o.rows.items) }
-    ensures finished { IfOk result (λ o. IsFinished (simulation_of network.now) (after network.now (map step_of o.journal.items))) }
+    ensures rows { IfOk result (λ o. AreRowsOf J.plan o.rows.items) }
+    ensures tables { IfOk result (λ o. o.tables ≡ tables_of J.plan o.rows.items) }
+    ensures finished { IfOk result (λ o. IsJournalOf J.plan o.journal.items) }
 {
-    let ended = run_to_end::<J, G, T>(rt, alloc, network, table, pairs, pace, gate, None)?;
+    let (ended, _none) = run_to_end::<J, G, T>(rt, alloc, network, table, pairs, pace, gate, None)?;
     let rows = ended.rows(alloc, network)?;
     let tables = Tables::of(alloc, network, &rows)?;
-    let journal = ended.exchange.step_list(alloc)?;
+    let journal = ended.steps(alloc)?;
     Ok(Outcome {
         tables,
         rows,
@@ -100,35 +94,15 @@ fn run_named<J: NetworkRun + Send + Sync, G: Gate + Sync, T: Threads + Wait + Sy
     })
 }
 
-fn tables_named<J: NetworkRun + Send + Sync, G: Gate + Sync, T: Threads + Wait + Sync>(
-    rt: &T,
-    alloc: Global,
-    network: &Network,
-    table: &Entries,
-    pairs: Pairs,
-    pace: &Pace,
-    gate: &G,
-) -> Result<Tables, PoolFault>
-    requires network { network.now ≡ J.plan }
-    requires table { names table.now.pages.items ≡ J.pages }
-    requires names { pairs ≡ J.names }
-    requires each_name { length J.names ≡ process_count network.now }
-    ensures whole { IfOk result (λ tables. (rows : List Noted) × AreRowsOf network.now rows × (tables ≡ tables_of network.now rows)) }
-    ensures each { IfOk result (λ tables. (rows : List Noted) → AreRowsOf network.now rows → tables ≡ tables_of network.now rows) }
-{
-    let ended = run_to_end::<J, G, T>(rt, alloc, network, table, pairs, pace, gate, None)?;
-    let counted = Counted::none(alloc, network)?;
-    ended.tables(network, counted)
-}
-
 /// Simulates a network by workers that run ahead and roll back, as the pace says. The gate is told of each message that is handled.
 ///
 /// Rows and tables are those of the one-thread run, as `seqsim::run` has them, whatever the threads did, and the world after the journal's
 /// steps is finished. Nothing is said of how long the run waits for its threads, or that it ends.
 ///
-/// `OutOfMemory` comes only where a growth was refused, and `Exhausted` only where a process had not enough numbers left for what one event
-/// can send. `JournalFull`: the run takes more than 2^26 steps. `Spawn`: a worker cannot be started. `Torn`: a cell of the table, which is made
-/// here, was set already. Of several the one with the least number is answered.
+/// `OutOfMemory`: a growth was refused. `Exhausted`: a process had not enough numbers left for what its next message can send. `JournalFull`: the
+/// run takes more than 2^26 steps. `Spawn`: a worker cannot be started. `Torn`: a cell of the table, which is made here, was set already. One
+/// worker's refusal ends the others at their next turn; of the faults of several the one with the least number is answered. Of a run that is
+/// refused nothing is left.
 pub fn run<G: Gate + Sync, T: Threads + Wait + Sync>(
     rt: &T,
     alloc: Global,
@@ -136,30 +110,11 @@ pub fn run<G: Gate + Sync, T: Threads + Wait + Sync>(
     pace: Pace,
     gate: &G,
 ) -> Result<Outcome, PoolFault>
-    requires { IsPace pace }
     ensures rows { IfOk result (λ o. AreRowsOf network.now o.rows.items) }
     ensures tables { IfOk result (λ o. o.tables ≡ tables_of network.now o.rows.items) }
-    ensures finished { IfOk result (λ o. IsFinished (simulation_of network.now) (after network.now (map step_of o.journal.items))) }
+    ensures finished { IfOk result (λ o. IsJournalOf network.now o.journal.items) }
 {
     let table = Entries::new(alloc)?;
     let pairs = Pairs::new(alloc, network.process_count())?;
-    run_named::<Brand, G, T>(rt, alloc, network, &table, pairs, &pace, gate)
-}
-
-/// Simulates a network by workers, as `run` does, where only the tables are asked for: neither rows nor the list of steps are made. Its
-/// refusals are those of `run`.
-pub fn run_tables<G: Gate + Sync, T: Threads + Wait + Sync>(
-    rt: &T,
-    alloc: Global,
-    network: &Network,
-    pace: Pace,
-    gate: &G,
-) -> Result<Tables, PoolFault>
-    requires { IsPace pace }
-    ensures whole { IfOk result (λ tables. (rows : List Noted) × AreRowsOf network.now rows × (tables ≡ tables_of network.now rows)) }
-    ensures each { IfOk result (λ tables. (rows : List Noted) → AreRowsOf network.now rows → tables ≡ tables_of network.now rows) }
-{
-    let table = Entries::new(alloc)?;
-    let pairs = Pairs::new(alloc, network.process_count())?;
-    tables_named::<Brand, G, T>(rt, alloc, network, &table, pairs, &pace, gate)
+    run_named::<Brand, G, T>(rt, alloc, network, &table, pairs, &pace.that_goes(), gate)
 }

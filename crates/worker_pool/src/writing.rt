@@ -1,52 +1,83 @@
-//! The writer's thread of a trace.
-ghost use Rattle.std.specs.Prelude.{◌≡◌, true, Err, IfErr, IfSome};
+//! The trace of a run, as far as it is written, and the writer's thread.
+ghost use Rattle.std.specs.Prelude.{◌≡◌, true, false, Some, Err, OnOk, OnErr, IfErr, IfSome};
+ghost use Rattle.std.specs.Io.KnownBytes.{append_known};
 ghost use Rattle.std.proofs.Props.{props};
 ghost use Rattle.trace_tables.specs.declared.fault.OutFault.TheVariants.{Device};
+ghost use Rattle.trace_tables.specs.declared.trace_fault.TraceFault.{TraceFault};
 ghost use Rattle.trace_tables.specs.declared.trace_fault.TraceFault.TheVariants.{Out};
+ghost use Rattle.trace_tables.specs.WrittenTrace.{next_text, batch_fault};
 ghost use Rattle.worker_pool.specs.Counts.{AreCountedBefore};
+ghost use Rattle.worker_pool.specs.Traces.{HasLawfulRows, IsTraceOfRun};
 ghost use Rattle.worker_pool.specs.Written.{outcome_of, IsPlaceFault, IsFaultOfTrace, IsWritten};
 
 use crate::counted::Counted;
+use crate::lawful_rows::lawful_rows;
 use crate::network_run::NetworkRun;
 use crate::run_batch::RunBatch;
-use crate::run_writer::RunWriter;
 use crate::trace_run::TraceRun;
 use crossbeam_channel::Receiver;
 use netdesc::Network;
+use std::alloc::Global;
+use std::marker::PhantomData;
 use std::sync::Wait;
-use trace_tables::{PartFault, Sink, TraceFault};
+use trace_tables::{PartFault, Sink, TraceFault, TraceWriter, batches_in_order};
 
-/// The trace of a run, as far as it is written, and the first fault of a batch.
+/// The trace of a run, as far as it is written, and the first fault of a batch. By its type the sink took a beginning of the text that the rows
+/// of the one-thread run have.
 #[derive(Drop)]
 pub(crate) struct Writing<'a, J: NetworkRun, K: TraceRun, S: Sink> {
-    writer: RunWriter<'a, J, K, S>,
+    writer: TraceWriter<'a, S>,
     outcome: Result<(), TraceFault>,
-    ghost broken: { outcome ≡ Err (Out Device) → writer.writer.broken ≡ true },
+    of: PhantomData<(J, K)>,
+    ghost of_run: { ∥ IsTraceOfRun J.plan K.taken K.failures writer ∥₁ },
+    ghost lawful: { ∥ HasLawfulRows J.plan ∥₁ },
+    ghost broken: { outcome ≡ Err (Out Device) → writer.broken ≡ true },
     ghost known: { IfErr outcome IsFaultOfTrace } by { Prim.hlevel props },
 }
 
 impl<'a, J: NetworkRun, K: TraceRun, S: Sink> Writing<'a, J, K, S> {
-    /// No batch came yet.
-    pub(crate) fn new(writer: RunWriter<'a, J, K, S>) -> Self {
+    /// No batch came yet, and nothing is written.
+    pub(crate) fn new(alloc: Global, network: &'a Network, sink: S) -> Self
+        requires network { network.now ≡ J.plan }
+        requires taken { S.taken sink ≡ K.taken }
+        requires failures { S.failures sink ≡ K.failures }
+    {
+        lawful_rows(network);
         Writing {
-            writer,
+            writer: TraceWriter::new(alloc, network, sink),
             outcome: Ok(()),
+            of: PhantomData,
         }
     }
 
-    /// Writes a batch. After a fault it is dropped.
-    fn take(&mut self, batch: RunBatch<J>) {
+    /// Writes the lines of a batch of the run, as `TraceWriter::take` does. Where it is refused, that is the outcome, and what comes behind it is
+    /// dropped.
+    ///
+    /// - `first`: after a fault nothing changes.
+    /// - `refused`, `written`: as long as there is none, a batch is written, or its fault is kept.
+    fn take(&mut self, batch: RunBatch<J>)
+        ensures first { OnErr self.old.outcome ((self.new.outcome ≡ self.old.outcome) × (self.new.writer ≡ self.old.writer)) }
+        ensures refused { OnOk self.old.outcome ((fault : TraceFault) → batch_fault self.old.writer batch.batch ≡ Some fault → self.new.outcome ≡ Err fault) }
+        ensures written { OnOk self.old.outcome (OnOk self.new.outcome (self.new.writer ≡ record self.old.writer {
+          taken = append_known self.old.writer.taken (next_text self.old.writer.plan self.old.writer.begun batch.batch.rows);
+          begun = true;
+          end = batch.batch.to;
+        })) }
+    {
+        batches_in_order();
         if self.outcome.is_ok() {
+            let RunBatch { batch, .. } = batch;
             self.outcome = self.writer.take(batch);
         }
     }
 
     /// Ends the trace, and gives the sink back. The outcome is the first fault of a batch; where there was none, that of a part; where there
-    /// was none either, the outcome of the end.
+    /// was none either, that of `TraceWriter::finish`.
     pub(crate) fn finish(self, gathering: Option<PartFault>) -> (Result<(), TraceFault>, S)
         requires { IfSome gathering IsPlaceFault }
         ensures { IsWritten J.plan K.taken K.failures result.0 (S.taken result.1) (S.failures result.1) }
     {
+        batches_in_order();
         let Writing {
             writer,
             outcome,

@@ -15,7 +15,7 @@ use worker_pool::{Entries, NetworkRun, Pairs, open_network};
 /// (`stage.rt` says how). What begins with `other` is done at a second exchange of the same network, over the same table.
 const ROWS: &str = "
 n1 => 3 => collect:0:8 work:0:16:1 post:0 steps pending:0 fits:0 => 1 2 full 1 2 yes
-n1 => 4 => collect:0:8 work:0:16:1 post:0 post:0 steps pending:0 publish => 1 2 ok ok 4 0 full
+n1 => 4 => collect:0:8 work:0:16:1 post:0 post:0 steps pending:0 publish collect:0:8 mail:0 => 1 2 ok ok 4 0 full full 1
 n1 => 100 => collect:0:8 other:fits:0 other:collect:0:8 other:steps other:gvt other:mail:0 other:pending:0 other:fits:0 => 1 yes torn 0 0 1 0 yes
 n1 => 100 => collect:0:0 collect:0:8 collect:0:8 mail:0 collect:1:8 fits:7 pending:7 steps step:0 step:1 => 0 1 0 0 0 none none 1 T:0:0 none
 n1 => offset_ns = 0 -> offset_ns = 1000 => 100 => publish publish steps step:0 => 1000 1000 1 G

@@ -9,9 +9,11 @@ use std::alloc::Global;
 use std::sync::Wait;
 use std::test::Fail;
 use std::thread::Threads;
-use trace_tables::{Batch, Gather, OutFault, Part, PartFault, TraceFault, width, write_trace};
+use trace_tables::{
+    Batch, Gather, OutFault, Part, PartFault, Sink, SinkFault, TraceFault, width, write_trace,
+};
 use vlink::{GREATEST_NS, Row, Time};
-use worker_pool::{Pace, run_tables_traced};
+use worker_pool::{Pace, run_traced};
 
 /// A script, and what its words tell. `width:9` tells the width of an interval of a trace until 9 ns, `cut:1:14` the part of n1's process 1
 /// for interval 14, and `take:7:1:0` what a gathering of run 7 of two processes until 9 ns answers to the part of that run, that process
@@ -117,8 +119,32 @@ fn tell_fault(fault: PartFault, told: &mut String) -> Result<(), Fail> {
     Ok(())
 }
 
-/// A file that takes one byte a write and fails at write k holds the first k - 1 bytes of the trace of the one-thread run, for each k, and the
-/// run by two workers tells that the device failed. Where the file takes all, it holds all.
+/// A page that fails at one write, and takes what comes after it.
+#[derive(Drop)]
+struct FailsOnce {
+    page: Page,
+}
+
+impl Sink for FailsOnce {
+    ghost use Rattle.std.specs.Prelude.{None};
+
+    ghost taken = { λ _. None };
+
+    ghost failures = { λ sink. sink.page.failures };
+
+    fn write(&mut self, bytes: &[u8]) -> Result<usize, SinkFault> {
+        match self.page.write(bytes) {
+            Ok(taken) => Ok(taken),
+            Err(fault) => {
+                self.page.writes = u64::MAX;
+                Err(fault)
+            }
+        }
+    }
+}
+
+/// A file that takes one byte a write and fails at write k alone holds the first k - 1 bytes of the trace of the one-thread run, for each k, and
+/// the run by two workers tells that the device failed. Where the file takes all, it holds all.
 pub fn is_cut_at_each_write<T: Threads + Wait + Sync>(
     rt: &T,
     alloc: Global,
@@ -143,7 +169,7 @@ fn trace_of(alloc: Global, network: &Network) -> Result<Vec<u8>, Fail> {
     Ok(page.bytes)
 }
 
-// A file that takes so many bytes, one a write, holds these of the trace, and the answer is as it must be.
+// A file that takes so many bytes, one a write, and then fails once holds these of the trace, and the answer is as it must be.
 fn is_cut<T: Threads + Wait + Sync>(
     rt: &T,
     alloc: Global,
@@ -159,13 +185,13 @@ fn is_cut<T: Threads + Wait + Sync>(
         turn: 16,
         window_ns: 1_000_000,
     };
-    let found = run_tables_traced(rt, alloc, network, pace, &Open, page)?;
+    let found = run_traced(rt, alloc, network, pace, false, &Open, FailsOnce { page })?;
     let wanted = if taken < trace.len() {
         Err(TraceFault::Out(OutFault::Device))
     } else {
         Ok(())
     };
-    Ok(found.written == wanted && is_front(found.sink.bytes.as_slice(), trace, taken))
+    Ok(found.written == wanted && is_front(found.sink.page.bytes.as_slice(), trace, taken))
 }
 
 // These are so many bytes, the first ones of the whole.

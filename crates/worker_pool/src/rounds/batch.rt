@@ -3,11 +3,11 @@ use super::apart::Apart;
 use super::schedule::Call;
 use super::{PAUSES_OF_TRY, TRIES};
 use crate::locks::Locked;
-use crate::network_run::{NetworkRun, Of};
+use crate::network_run::NetworkRun;
 use crate::pace::Pace;
-use exchange::{Exchange, Gate, collect, post, work};
+use crate::shared::Shared;
+use exchange::{Gate, work};
 use journal::PoolFault;
-use nodes::Node;
 use std::alloc::AllocError;
 use std::hint;
 use std::sync::{Mutex, MutexGuard, Wait};
@@ -17,7 +17,7 @@ use vlink::Time;
 pub(crate) type Batch<'s, 'a, J> = Vec<MutexGuard<'s, Locked<'a, J>>>;
 
 /// The lock of the exchange.
-pub(crate) type ExchangeLock<'a, J> = Mutex<Apart<Exchange<'a, Node, Of<J>>>>;
+pub(crate) type ExchangeLock<'a, J> = Mutex<Apart<Shared<'a, J>>>;
 
 /// All letters in the mail of each process come to its tray, in one section of the exchange.
 pub(crate) fn collect_for<'s, 'a, J: NetworkRun, T: Wait>(
@@ -27,7 +27,7 @@ pub(crate) fn collect_for<'s, 'a, J: NetworkRun, T: Wait>(
 ) -> Result<(), PoolFault> {
     let mut exchange = locked_soon(rt, lock);
     for locked in batch.iter_mut() {
-        take_letters(&mut *locked, &mut exchange.value)?;
+        exchange.value.take_letters(&mut *locked)?;
     }
     Ok(())
 }
@@ -40,7 +40,7 @@ pub(crate) fn post_for<'s, 'a, J: NetworkRun, T: Wait>(
 ) -> Result<(), PoolFault> {
     let mut exchange = locked_soon(rt, lock);
     for locked in batch.iter_mut() {
-        give_block(&mut *locked, &mut exchange.value)?;
+        exchange.value.give_block(&mut *locked)?;
     }
     Ok(())
 }
@@ -58,25 +58,6 @@ fn locked_soon<'b, V, T: Wait>(rt: &T, lock: &'b Mutex<V>) -> MutexGuard<'b, V> 
     lock.lock(rt)
 }
 
-/// All letters in the mail of the process come to its tray. A process with a block, which a refusal left, takes none before that is posted.
-pub(crate) fn take_letters<'a, J: NetworkRun>(
-    locked: &mut Locked<'a, J>,
-    exchange: &mut Exchange<'a, Node, Of<J>>,
-) -> Result<(), PoolFault> {
-    if locked.held.pending() == 0 {
-        let _letters = collect(&mut locked.held, exchange, u32::MAX)?;
-    }
-    Ok(())
-}
-
-/// What the process did goes to the journal, and its letters to the mail.
-pub(crate) fn give_block<'a, J: NetworkRun>(
-    locked: &mut Locked<'a, J>,
-    exchange: &mut Exchange<'a, Node, Of<J>>,
-) -> Result<(), PoolFault> {
-    post(&mut locked.held, exchange)
-}
-
 /// The process works on its events before the limit, in ns, no further ahead of the GVT that it saw than the window.
 pub(crate) fn work_to<'a, J: NetworkRun, G: Gate>(
     locked: &mut Locked<'a, J>,
@@ -84,9 +65,9 @@ pub(crate) fn work_to<'a, J: NetworkRun, G: Gate>(
     pace: &Pace,
     gate: &G,
 ) -> Result<(), PoolFault> {
-    let seen_ns = locked.held.share().seen.ns();
+    let seen_ns = locked.share().seen.ns();
     let ahead_ns = limit_ns.saturating_sub(seen_ns).min(pace.window_ns);
-    let _moves = work(&mut locked.held, u32::from(pace.turn), ahead_ns, gate)?;
+    let _moves = work(locked, u32::from(pace.turn), ahead_ns, gate)?;
     Ok(())
 }
 
@@ -96,14 +77,14 @@ pub(crate) fn list_calls<'a, J: NetworkRun>(
     calls: &mut Vec<Call>,
     locked: &Locked<'a, J>,
 ) -> Result<(), AllocError> {
-    for letter in locked.held.outbox() {
+    for letter in locked.outbox() {
         add_call(
             calls,
             call_for(letter.message.receiver, letter.message.time),
         )?;
     }
-    if let Some(message) = locked.held.next() {
-        add_call(calls, call_for(locked.held.number(), message.time))?;
+    if let Some(message) = locked.next() {
+        add_call(calls, call_for(locked.number(), message.time))?;
     }
     Ok(())
 }

@@ -10,7 +10,7 @@ use super::{
 use crate::locks::{Locked, Locks};
 use crate::network_run::NetworkRun;
 use crate::pace::Pace;
-use exchange::{Gate, publish};
+use exchange::Gate;
 use journal::PoolFault;
 use std::alloc::AllocError;
 use std::sync::Wait;
@@ -258,7 +258,7 @@ impl<'s, 'a, J: NetworkRun, G: Gate, T: Wait> Worker<'s, 'a, J, G, T> {
         }
         match self.exchange.try_lock() {
             Some(mut exchange) => {
-                let gvt = publish(&mut exchange.value)?;
+                let gvt = exchange.value.set_gvt()?;
                 self.schedule.set_gvt(gvt.ns());
             }
             None => self.schedule.turned(),

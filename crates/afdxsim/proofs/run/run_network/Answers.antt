@@ -1,6 +1,6 @@
 use Rattle.std.proofs.Common.{refl, sym, subst, string_bytes}
 use Rattle.std.specs.Prelude.{is_some}
-use Rattle.afdxsim.specs.Workers.{IsJournalAsked}
+use Rattle.worker_pool.specs.Runs.{IsJournalAsked}
 use Rattle.afdxsim.proofs.Ended.{ok_then}
 use Rattle.afdxsim.proofs.Leaving.{journal_written}
 use Rattle.afdxsim.proofs.run.run_network.Goals as goal

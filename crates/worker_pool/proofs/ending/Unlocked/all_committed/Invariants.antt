@@ -1,7 +1,6 @@
-use Rattle.std.proofs.Common.{map}
 use Rattle.worker_pool.proofs.Ended.{HasCommitted}
 use Rattle.worker_pool.proofs.Places.{AreBelow}
 use Rattle.worker_pool.proofs.ending.Unlocked.all_committed.Given as goal
 
 abbrev pub invariant-loop-place : goal.invariant-loop-place
-invariant-loop-place g l = AreBelow HasCommitted (map (λ x. x.held) l.self.lockeds.items) l.place
+invariant-loop-place g l = AreBelow HasCommitted l.self.helds.items l.place

@@ -1,7 +1,6 @@
-use Rattle.std.proofs.Common.{map}
 use Rattle.worker_pool.specs.Runs.{IsOfWorld}
 use Rattle.worker_pool.proofs.Places.{AreBelow}
 use Rattle.worker_pool.proofs.ending.Unlocked.are_of_world.Given as goal
 
 abbrev pub invariant-loop-place : goal.invariant-loop-place
-invariant-loop-place g l = AreBelow (IsOfWorld g.J.NetworkRun.plan l.self.exchange.entries) (map (λ x. x.held) l.self.lockeds.items) l.place
+invariant-loop-place g l = AreBelow (IsOfWorld g.J.NetworkRun.plan l.self.exchange.entries) l.self.helds.items l.place

@@ -1,12 +1,11 @@
 use Rattle.std.proofs.Common.{sym, subst, arith}
-use Rattle.std.proofs.lemmas.List.{length-map}
 use Rattle.virtual_time.specs.Journal.{steps}
 use Rattle.virtual_time.specs.Simulation.{Laws}
 use Rattle.nodes.specs.rules.Simulation.{simulation_of}
 use Rattle.seqsim.specs.Committed.{after}
 use Rattle.seqsim.proofs.CommittedRows.{rows-none}
 use Rattle.worker_pool.proofs.Ended.{AreCommittedBelow, rows-next, rows-complete}
-use Rattle.worker_pool.proofs.Places.{seen-at}
+use Rattle.worker_pool.proofs.Places.{read-at}
 use Rattle.worker_pool.proofs.ending.Unlocked.gathered_rows.Goals as goal
 
 pub loop-process-init : goal.loop-process-init
@@ -19,14 +18,14 @@ pub loop-process-preserved : goal.loop-process-preserved
 loop-process-preserved g c =
     let plan = g.J.NetworkRun.plan in
     let L = subst (λ z. Laws (simulation_of z)) c.requires.network c.network_laws.ensures in
-    let locked = c.index-locked.result.now in
-    let at = seen-at (λ x. x.held) c.args.self.now.lockeds.items c.loop-process.process locked (omega arith) c.index-locked.ensures in
-    rows-next plan c.args.self.now.exchange.entries _ c.requires.ended L c.loop-process.process locked.held at
-    c.loop-process.rows.items c.sealed.result.now _ c.in_ok-extend_from_slice.ensures.items (c.sealed.ensures (let low = c.requires.kept c.loop-process.process locked.held at in omega arith)) c.loop-process.invariant
+    let held = c.index-held.result.now in
+    let at = read-at c.args.self.now.helds.items c.loop-process.process held (omega arith) c.index-held.ensures in
+    rows-next plan c.args.self.now.exchange.entries _ c.requires.ended L c.loop-process.process held at
+    c.loop-process.rows.items c.sealed.result.now _ c.in_ok-extend_from_slice.ensures.items (c.sealed.ensures (let low = c.requires.kept c.loop-process.process held at in omega arith)) c.loop-process.invariant
 
 pub returns : goal.returns
 returns g c =
     let plan = g.J.NetworkRun.plan in
     let L = subst (λ z. Laws (simulation_of z)) c.requires.network c.network_laws.ensures in
     rows-complete plan c.args.self.now.exchange.entries _ c.requires.ended L c.loop-process.process
-    (omega (arith, length-map c.args.self.now.lockeds.items (λ x. x.held))) c.loop-process.rows.items c.loop-process.invariant
+    (omega arith) c.loop-process.rows.items c.loop-process.invariant

@@ -1,7 +1,6 @@
-use Rattle.std.proofs.Common.{map}
 use Rattle.worker_pool.proofs.Ended.{HasGoneBy}
 use Rattle.worker_pool.proofs.Places.{AreBelow}
 use Rattle.worker_pool.proofs.ending.Unlocked.have_gone_by.Given as goal
 
 abbrev pub invariant-loop-place : goal.invariant-loop-place
-invariant-loop-place g l = AreBelow (HasGoneBy l.moment) (map (λ x. x.held) l.self.lockeds.items) l.place
+invariant-loop-place g l = AreBelow (HasGoneBy l.moment) l.self.helds.items l.place

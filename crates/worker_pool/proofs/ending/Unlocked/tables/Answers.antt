@@ -1,6 +1,5 @@
 use Rattle.std.proofs.Common.{◌≡◌, ◌∙◌, ℕ, ◌+◌, refl, sym, ap, subst, arith}
 use Rattle.std.specs.Prelude.{Option, IfSome}
-use Rattle.std.proofs.lemmas.List.{length-map}
 use Rattle.virtual_time.specs.Journal.{steps}
 use Rattle.virtual_time.specs.Simulation.{Laws}
 use Rattle.netdesc.specs.Plan.{Plan}
@@ -12,7 +11,7 @@ use Rattle.worker_pool.specs.Traces.{HasLawfulRows}
 use Rattle.worker_pool.proofs.CountedRun.{counts-in, none-of-processes, one-of-processes, all-of-processes}
 use Rattle.worker_pool.proofs.Ended.{some-rows, as-in-run}
 use Rattle.worker_pool.proofs.PartRows.{AreAsInRun}
-use Rattle.worker_pool.proofs.Places.{seen-at}
+use Rattle.worker_pool.proofs.Places.{read-at}
 use Rattle.worker_pool.proofs.ending.Unlocked.tables.Goals as goal
 
 pub loop-process-init : goal.loop-process-init
@@ -28,9 +27,9 @@ loop-process-init g c =
 
 pub rows_between-requires : goal.rows_between-requires
 rows_between-requires g c =
-    let locked = c.index-locked.result.now in
-    let at = seen-at (λ x. x.held) c.args.self.now.lockeds.items c.loop-process.process locked (omega arith) c.index-locked.ensures in
-    c.requires.counted c.loop-process.process locked.held at
+    let held = c.index-held.result.now in
+    let at = read-at c.args.self.now.helds.items c.loop-process.process held (omega arith) c.index-held.ensures in
+    c.requires.counted c.loop-process.process held at
 
 pub count-requires : goal.count-requires
 count-requires g c =
@@ -42,16 +41,16 @@ loop-process-preserved g c =
     let entries = c.args.self.now.exchange.entries in
     let end = c.args.counted.end in
     let n = c.loop-process.process in
-    let locked = c.index-locked.result.now in
+    let held = c.index-held.result.now in
     let rows = c.rows_between.result.now in
     let L = subst (λ z. Laws (simulation_of z)) c.requires.network c.network_laws.ensures in
     let W = c.headline.ensures.whole (simulation_of plan) L (steps entries) c.requires.ended.finished in
-    let at = seen-at (λ x. x.held) c.args.self.now.lockeds.items n locked (omega arith) c.index-locked.ensures in
+    let at = read-at c.args.self.now.helds.items n held (omega arith) c.index-held.ensures in
     let behind : c.known-behind.result ≡ plan.until + 1 = (let until = ap (λ (p : Plan). p.until) c.requires.network in omega arith) in
     one-of-processes plan end (subst HasLawfulRows c.requires.network c.lawful_rows.ensures) c.batches_in_order.ensures.beginning n
     c.loop-process.tables c.count.new.self c.loop-process.invariant rows
     (subst (λ (to : ℕ). AreAsInRun plan n end to rows) behind
-    (as-in-run plan entries _ c.requires.ended L W n locked.held at end c.known-behind.result rows c.rows_between.ensures.rows))
+    (as-in-run plan entries _ c.requires.ended L W n held at end c.known-behind.result rows c.rows_between.ensures.rows))
     (counts-in plan c.args.network.now c.requires.network rows rows refl c.loop-process.tables c.count.new.self c.in_ok-count.ensures)
 
 pub tables-requires : goal.tables-requires
@@ -66,7 +65,7 @@ returns g c =
     let W = c.headline.ensures.whole (simulation_of plan) L (steps entries) c.requires.ended.finished in
     let some = some-rows plan entries _ c.requires.ended L W in
     let each = all-of-processes plan c.args.counted.end (subst HasLawfulRows c.requires.network c.lawful_rows.ensures) (c.tables_by_place.ensures.by_place plan)
-    c.loop-process.process (let all = c.requires.ended.count in omega (arith, length-map c.args.self.now.lockeds.items (λ x. x.held)))
+    c.loop-process.process (let all = c.requires.ended.count in omega arith)
     c.loop-process.tables c.loop-process.invariant c.in_ok-tables.field-0
     (λ rows so_far. c.in_ok-tables.ensures rows (subst (λ p. IsSoFar p c.loop-process.tables rows) (sym c.requires.network) so_far)
     ∙ ap (λ (p : Plan). tables_of p rows) c.requires.network) in

@@ -3,7 +3,7 @@ use denote.Param.Send.{IsSend, IsSync, param_send, sendable}
 use Rattle.std.proofs.Common.{rules}
 use Rattle.std.proofs.Crossing.{crosses}
 use Rattle.std.proofs.sync.atomic.AtomicBool.TheSendSync as flag
-use Rattle.worker_pool.proofs.Crossing.{exchange-send, locks-sync}
+use Rattle.worker_pool.proofs.Crossing.{shared-send, locks-sync}
 use Rattle.worker_pool.proofs.pace.Pace.TheSendSync as pace
 use Rattle.worker_pool.proofs.rounds.apart.Apart.TheSendSync as apart
 use Rattle.worker_pool.proofs.rounds.picker.Picker.TheSendSync as picker
@@ -16,7 +16,7 @@ use Rattle.worker_pool.proofs.workers.fn.start_all.scope.Lts.{arg-7-1}
 -- their bounds
 captures-send : (g : Over) (κs : Lfts 13) → IsSync g.row.T → IsSync g.row.G
     → IsSend (arg-7-1 g.row.J g.row.G g.row.T g.J.laws g.G.laws g.T.laws g.J.NetworkRun g.J.NetworkRun-dict g.G.Gate g.G.Gate-dict g.T.Threads g.T.Threads-dict g.T.Wait g.T.Wait-dict κs)
-captures-send g κs runtime gate = search (locks-sync, exchange-send, apart.the_send, picker.the_send, schedule.the_sync, pace.the_sync, flag.the_sync, sendable, crosses) depth 20
+captures-send g κs runtime gate = search (locks-sync, shared-send, apart.the_send, picker.the_send, schedule.the_sync, pace.the_sync, flag.the_sync, sendable, crosses) depth 20
 
 pub spawn-requires-send-F : goal.spawn-requires-send-F
 spawn-requires-send-F g c = λ κs ls.

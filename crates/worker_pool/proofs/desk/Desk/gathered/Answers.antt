@@ -13,7 +13,7 @@ use Rattle.trace_tables.specs.Parts.{BatchRows}
 use Rattle.worker_pool.proofs.GatheredRun.{none-of, own-rows, part-gathered, given-batch}
 use Rattle.worker_pool.specs.Written.{IsPlaceFault}
 use Rattle.worker_pool.proofs.Written.{part-told}
-use Rattle.worker_pool.proofs.run_gather.RunGather.take.Goals as goal
+use Rattle.worker_pool.proofs.desk.Desk.gathered.Goals as goal
 
 pub invariant_of-self : goal.invariant_of-self
 invariant_of-self g c =
@@ -27,6 +27,7 @@ invariant_of-self g c =
           (λ none waits rows r. law.waits c.args.self.now.gather c.take.new.self c.args.part (λ p. rows_at p rows) (G.rows_are rows r) none (own rows r) waits)
           (λ none batch gives rows r. law.gives c.args.self.now.gather c.take.new.self c.args.part batch (λ p. rows_at p rows) (G.rows_are rows r) none (own rows r) gives));
       lawful = c.args.self.now.lawful;
+      known = c.args.self.now.known;
     }
 
 pub new-requires : goal.new-requires

@@ -4,7 +4,7 @@ use Rattle.netdesc.specs.Faults.{process_count}
 use Rattle.trace_tables.specs.Counting.{rows_at}
 use Rattle.worker_pool.specs.Traces.{HasLawfulRows}
 use Rattle.worker_pool.proofs.GatheredRun.{none-gathered}
-use Rattle.worker_pool.proofs.run_gather.RunGather.new.Goals as goal
+use Rattle.worker_pool.proofs.desk.Desk.new.Goals as goal
 
 pub invariant_of-result : goal.invariant_of-result
 invariant_of-result g c =
@@ -13,4 +13,5 @@ invariant_of-result g c =
       of_run = ∣ none-gathered plan _ _ (c.process_count.ensures.value ∙ ap process_count c.requires) (c.until.ensures.value ∙ ap (λ (p : Plan). p.until) c.requires)
           (λ rows r. c.parts_of_rows.ensures.none _ _ _ (λ p. rows_at p rows)) c.in_ok-gather.gather c.in_ok-gather.ensures ∣₁;
       lawful = ∣ subst HasLawfulRows c.requires c.lawful_rows.ensures ∣₁;
+      known = tt;
     }

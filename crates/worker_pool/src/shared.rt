@@ -1,0 +1,81 @@
+//! The exchange that all workers of a run share.
+ghost use Rattle.std.specs.Prelude.{◌≡◌, ◌+◌, ◌<◌, ◌≤◌, length, Err};
+ghost use Rattle.virtual_time.specs.Journal.{steps, reach};
+ghost use Rattle.netdesc.specs.Faults.{process_count};
+ghost use Rattle.nodes.specs.rules.Simulation.{simulation_of};
+ghost use Rattle.journal.specs.declared.fault.PoolFault.TheVariants.{JournalFull};
+ghost use Rattle.worker_pool.specs.Runs.{most_steps};
+
+use crate::locks::Locked;
+use crate::network_run::{NetworkRun, Of};
+use exchange::{Exchange, collect, post, publish};
+use journal::PoolFault;
+use nodes::Node;
+use std::marker::Model;
+use vlink::Time;
+
+/// So many steps the journal of a run can have.
+pub(crate) const MOST_STEPS: u64 = 67_108_864;
+
+/// The exchange of a run, whose journal can have `MOST_STEPS` steps.
+///
+/// Clauses see it as the exchange.
+#[derive(Drop)]
+pub(crate) struct Shared<'a, J: NetworkRun> {
+    pub inner: Exchange<'a, Node, Of<J>>,
+}
+
+impl<'a, J: NetworkRun> Model for Shared<'a, J> {
+    ghost use Rattle.std.specs.Prelude.{◌≡◌};
+    ghost use Rattle.exchange.specs.Views.{Ledger};
+    ghost use Rattle.worker_pool.specs.Runs.{most_steps};
+
+    ghost Value = { Ledger };
+
+    ghost view = { λ s. s.inner };
+
+    ghost invariant = { λ s. s.inner.limit ≡ most_steps };
+}
+
+impl<'a, J: NetworkRun> Shared<'a, J> {
+    /// How many processes there are.
+    pub(crate) fn processes(&self) -> u16
+        ensures { result ≡ process_count J.plan }
+    {
+        self.inner.processes()
+    }
+
+    /// The exchange.
+    pub(crate) fn lent(&self) -> &Exchange<'a, Node, Of<J>>
+        ensures { result.now ≡ self.now }
+    {
+        &self.inner
+    }
+
+    /// All letters in the mail of the process come to its tray. A process with a block, which a refusal left, takes none before that is posted.
+    /// `JournalFull`: the steps would pass the most that a run can have.
+    pub(crate) fn take_letters(&mut self, locked: &mut Locked<'a, J>) -> Result<(), PoolFault>
+        ensures full { result ≡ Err JournalFull → most_steps < length (steps self.old.entries)
+            + length ((reach (simulation_of J.plan) self.old.entries).mail locked.old.number) }
+    {
+        if locked.pending() != 0 {
+            return Ok(());
+        }
+        let _letters = collect(locked, &mut self.inner, u32::MAX)?;
+        Ok(())
+    }
+
+    /// What the process did goes to the journal, and its letters to the mail. `JournalFull`: the steps would pass the most that a run can have.
+    pub(crate) fn give_block(&mut self, locked: &mut Locked<'a, J>) -> Result<(), PoolFault>
+        ensures full { result ≡ Err JournalFull → most_steps < length (steps self.old.entries) + length locked.old.block + 1 }
+    {
+        post(locked, &mut self.inner)
+    }
+
+    /// Sets GVT. The answer is GVT, in ns. `JournalFull`: there are as many steps as a run can have.
+    pub(crate) fn set_gvt(&mut self) -> Result<Time, PoolFault>
+        ensures full { result ≡ Err JournalFull → most_steps ≤ length (steps self.old.entries) }
+    {
+        publish(&mut self.inner)
+    }
+}

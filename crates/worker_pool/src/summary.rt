@@ -1,0 +1,115 @@
+//! What is asked of a run beside its trace: its tables, and its steps where they are wanted. No row is listed for it.
+ghost use Rattle.std.specs.Prelude.{◌≡◌, List, length, IfOk};
+ghost use Rattle.vlink.specs.declared.note.Row.{Row as Noted};
+ghost use Rattle.netdesc.specs.Faults.{process_count};
+ghost use Rattle.journal.specs.Names.{names};
+ghost use Rattle.trace_tables.specs.Tables.{tables_of};
+ghost use Rattle.seqsim.specs.Networks.{AreRowsOf};
+ghost use Rattle.worker_pool.specs.Runs.{IsEnded, IsJournalAsked, HaveGoneBy};
+
+use crate::counted::Counted;
+use crate::ending::Unlocked;
+use crate::network_run::NetworkRun;
+use crate::pace::Pace;
+use crate::running::run_to_end;
+use exchange::{Gate, Pairs};
+use journal::{Entries, PoolFault};
+use netdesc::Network;
+use std::alloc::Global;
+use std::marker::Brand;
+use std::sync::Wait;
+use std::thread::Threads;
+use trace_tables::Tables;
+use vlink::Step;
+
+/// What a run has found: the tables of its rows; and the steps that were done, in their order, or none where they were not asked for.
+#[derive(Drop)]
+pub struct Summary {
+    pub tables: Tables,
+    pub journal: Vec<Step>,
+}
+
+impl<'a, J: NetworkRun> Unlocked<'a, J> {
+    /// The tables of an ended run, of which so much is counted, and its steps where they are asked for.
+    pub(crate) fn summary(
+        &self,
+        alloc: Global,
+        network: &Network,
+        counted: Counted<J>,
+        with_steps: bool,
+    ) -> Result<Summary, PoolFault>
+        requires network { network.now ≡ J.plan }
+        requires ended { IsEnded J.plan self.now.exchange.entries self.now.helds.items }
+        requires counted { HaveGoneBy counted.end self.now.helds.items }
+        ensures tables { IfOk result (λ s. (rows : List Noted) × AreRowsOf J.plan rows × (s.tables ≡ tables_of J.plan rows)) }
+        ensures each { IfOk result (λ s. (rows : List Noted) → AreRowsOf J.plan rows → s.tables ≡ tables_of J.plan rows) }
+        ensures journal { IfOk result (λ s. IsJournalAsked J.plan with_steps s.journal.items) }
+    {
+        let tables = self.tables(network, counted)?;
+        let journal = self.steps_asked(alloc, with_steps)?;
+        Ok(Summary { tables, journal })
+    }
+
+    /// The steps of an ended run, or none where they are not asked for.
+    fn steps_asked(&self, alloc: Global, with_steps: bool) -> Result<Vec<Step>, PoolFault>
+        requires { IsEnded J.plan self.now.exchange.entries self.now.helds.items }
+        ensures { IfOk result (λ steps. IsJournalAsked J.plan with_steps steps.items) }
+    {
+        if with_steps {
+            self.steps(alloc)
+        } else {
+            Ok(Vec::new(alloc))
+        }
+    }
+}
+
+fn summary_named<J: NetworkRun + Send + Sync, G: Gate + Sync, T: Threads + Wait + Sync>(
+    rt: &T,
+    alloc: Global,
+    network: &Network,
+    table: &Entries,
+    pairs: Pairs,
+    pace: &Pace,
+    with_steps: bool,
+    gate: &G,
+) -> Result<Summary, PoolFault>
+    requires network { network.now ≡ J.plan }
+    requires table { names table.now.pages.items ≡ J.pages }
+    requires names { pairs ≡ J.names }
+    requires each_name { length J.names ≡ process_count network.now }
+    ensures tables { IfOk result (λ s. (rows : List Noted) × AreRowsOf J.plan rows × (s.tables ≡ tables_of J.plan rows)) }
+    ensures each { IfOk result (λ s. (rows : List Noted) → AreRowsOf J.plan rows → s.tables ≡ tables_of J.plan rows) }
+    ensures journal { IfOk result (λ s. IsJournalAsked J.plan with_steps s.journal.items) }
+{
+    let (ended, _none) = run_to_end::<J, G, T>(rt, alloc, network, table, pairs, pace, gate, None)?;
+    let counted = Counted::none(alloc, network)?;
+    ended.summary(alloc, network, counted, with_steps)
+}
+
+/// Simulates a network by workers, as `run` does, and lists no rows; the steps that were done are listed where they are asked for. Its refusals
+/// are those of `run`.
+pub fn run_summary<G: Gate + Sync, T: Threads + Wait + Sync>(
+    rt: &T,
+    alloc: Global,
+    network: &Network,
+    pace: Pace,
+    with_steps: bool,
+    gate: &G,
+) -> Result<Summary, PoolFault>
+    ensures tables { IfOk result (λ s. (rows : List Noted) × AreRowsOf network.now rows × (s.tables ≡ tables_of network.now rows)) }
+    ensures each { IfOk result (λ s. (rows : List Noted) → AreRowsOf network.now rows → s.tables ≡ tables_of network.now rows) }
+    ensures journal { IfOk result (λ s. IsJournalAsked network.now with_steps s.journal.items) }
+{
+    let table = Entries::new(alloc)?;
+    let pairs = Pairs::new(alloc, network.process_count())?;
+    summary_named::<Brand, G, T>(
+        rt,
+        alloc,
+        network,
+        &table,
+        pairs,
+        &pace.that_goes(),
+        with_steps,
+        gate,
+    )
+}
