@@ -30,7 +30,7 @@ pub(crate) fn workers<'a>(alloc: Global) -> Arg<'a>
         "workers",
         "N",
         value_parser!(u64).range(1..=MOST_WORKERS as i64),
-        "How many threads simulate: 1 to 64 [default: 4]",
+        "How many threads simulate: 1 to 64 [default: 4]. More than one pays where many events fall within some 16 us of simulated time; more than there are cores never does",
     )
 }
 
@@ -58,6 +58,6 @@ pub(crate) fn window<'a>(alloc: Global) -> Arg<'a>
         "window",
         "NS",
         value_parser!(u64).range(1..=LATEST_NS as i64),
-        "How far a process may run ahead of the global virtual time, in ns: 1 to 1000000000000000 [default: 1000000]. It is an upper bound: a process that has to undo much takes less by itself",
+        "How far a process may run ahead of the global virtual time, in ns: 1 to 1000000000000000 [default: 1000000]. It is an upper bound: workers keep processes within some 16 us of each other by themselves",
     )
 }
