@@ -23,8 +23,8 @@ long __write(int file, const void *bytes, unsigned long count) { return write(fi
 """
 
 # The words, a row each, then the status and what is told on error output; where the status is 0, the tables are on standard
-# output, else nothing is. `folder` is a folder, and no file is `absent`. Nobody can make a file in /proc, and /dev/full
-# takes nothing.
+# output, else nothing is. `folder` is a folder, `link.toml` a link to n1.toml, and no file is `absent`. Nobody can make a
+# file in /proc, and /dev/full takes nothing.
 ROWS = """
 seq n1.toml --trace trace.csv => 0
 run n1.toml --workers 2 --trace trace.csv --journal journal.txt => 0
@@ -48,6 +48,12 @@ run n1.toml --workers 2 --trace /dev/full --journal journal.txt => 4 afdxsim: ca
 run n1.toml --workers 2 --journal folder => 4 afdxsim: cannot write folder
 run n1.toml --workers 2 --journal /dev/full => 4 afdxsim: cannot write /dev/full
 run n1.toml --workers 2 --trace trace.csv --journal /proc/journal.txt => 4 afdxsim: cannot write /proc/journal.txt
+seq n1.toml --trace n1.toml => 2 afdxsim: named twice: n1.toml
+seq n1.toml --trace folder/../n1.toml => 2 afdxsim: named twice: folder/../n1.toml
+seq n1.toml --trace link.toml => 2 afdxsim: named twice: link.toml
+seq absent --trace ./absent => 2 afdxsim: named twice: ./absent
+run link.toml --workers 2 --journal n1.toml => 2 afdxsim: named twice: n1.toml
+run n1.toml --workers 2 --trace new.csv --journal folder/../new.csv => 2 afdxsim: named twice: folder/../new.csv
 """
 
 # What is printed where standard output takes nothing: the status, the words, and what is told on error output.
@@ -88,6 +94,7 @@ class Devices(unittest.TestCase):
         self.folder = folder.name
         refuse_memory.prepare(self.folder)
         os.mkdir(self.path("folder"))
+        os.symlink("n1.toml", self.path("link.toml"))
 
     def path(self, name):
         return os.path.join(self.folder, name)
@@ -113,7 +120,8 @@ class Devices(unittest.TestCase):
                     # The file behind one that could not be written is not made.
                     is_made = "journal.txt" in words and status == 0
                     self.assertEqual(os.path.exists(self.path("journal.txt")), is_made)
-        # The journal of the run was replayed, and the folder is as it was.
+        # A file that was named twice was not made. The journal of the run was replayed, and the folder is as it was.
+        self.assertFalse(any(os.path.exists(self.path(name)) for name in ("absent", "new.csv")))
         self.assertEqual(os.listdir(self.path("folder")), [])
         self.assertEqual(refuse_memory.text_of(self.path("steps.txt")), STEPS)
 

@@ -18,7 +18,8 @@ use Rattle.afdxsim.specs.declared.fault.Fault.{Fault}
 use Rattle.afdxsim.specs.declared.fault.Fault.TheVariants.{Description, JournalLine, JournalFull, CannotRead, CannotWriteFile, CannotWrite, Layout, OutOfMemory, Exhausted, Spawn, Torn}
 use Rattle.afdxsim.specs.Files.{IsFaultOfKeptFile, IsFaultOfTraceFile, TookSome, WritesAsked, WritesSome}
 use Rattle.afdxsim.specs.Sequencing.{IsFaultOfTrace, IsTablesText, IsTraceText}
-use Rattle.afdxsim.specs.Workers.{fault_of_trace, IsFaultOfJournalFile, IsFaultOfPool, IsJournalAsked, IsJournalOf, IsJournalText}
+use Rattle.worker_pool.specs.Runs.{IsJournalAsked, IsJournalOf}
+use Rattle.afdxsim.specs.Workers.{fault_of_trace, IsFaultOfJournalFile, IsFaultOfPool, IsJournalText}
 
 -- what holds of a file in hand holds of the path that it was made with
 module _ (makes : Bool → Type 0) (U V : Type 0) (path : List ℕ) where
