@@ -1,5 +1,6 @@
 //! Scripts for the test actor, a line each: its words, and behind the arrow what they tell (`player.rt` says how). A word for which memory is
 //! refused is done again: each line holds with ample memory, and where any one request for memory is refused.
+mod alone;
 mod asking;
 mod body;
 mod drawing;
@@ -42,6 +43,7 @@ A message is present where its count is above 0, and is handled once however oft
 reserve_letters:3 +10 +20 +30 tray => 3 sum 0 counter 0
 counter:4611686018427387880 +10 +20 arrive arrive run run next outbox => 0 0 10 exhausted 20@2 +15.4611686018427387880 sum 0 counter 4611686018427387880
 counter:4611686018427387881 run +10 arrive run next tray => none 0 exhausted 10@2 0 sum 0 counter 4611686018427387881
+alone:4611686018427387880 alone:4611686018427387881 => 0 exhausted sum 0 counter 0
 Only what is earlier than GVT is committed, the oldest first, so many at most, and up to a message that came twice.
 +50 arrive run commit:50:9 committed oldest => 0 50 0 0 50 sum 0 counter 0
 +49 arrive run +50 arrive run commit:50:9 committed oldest commit:50:9 seal => 0 49 0 50 1 1 50 0 1 sum 99 counter 2

@@ -2,11 +2,12 @@
 //!
 //! A word stands for the call of that name; behind colons stand its numbers, moments in ns. `+10` and `-10@1` deliver a letter for the
 //! moment 10: its sign, and behind an @ its sender, 2 where none is named. An answer is told as a number, 1 where it is yes, or as `none`.
+//! `alone:7` runs an actor with the counter 7 on one thread.
 //! Letters are told as `+15.0`, with their number, and messages as `10@2`. The end of the run is the last moment that there is.
 ghost use Rattle.std.specs.Prelude.{◌≡◌};
 
 use super::body::Body;
-use super::{asking, mailing};
+use super::{alone, asking, mailing};
 use crate::Summing;
 use antimessages::Mail;
 use gvt::Floors;
@@ -141,6 +142,7 @@ fn act(
         "take" => mailing::take(rt, stage, rest),
         "set" => mailing::set(rt, &mut stage.floors, rest),
         "lower" => mailing::lower(rt, &mut stage.floors, rest),
+        "alone" => alone::tell(rt, alloc, &mut stage.told, number(rt, rest)),
         "next" => asking::tell_next(&stage.body, &mut stage.told),
         "arrive?" => try_arrive(rt, stage),
         _ if word.starts_with('+') || word.starts_with('-') => {

@@ -1,0 +1,47 @@
+//! The test actor alone, in a one-thread run of one message.
+ghost use Rattle.std.specs.Prelude.{◌<◌};
+
+use super::player::moment;
+use crate::Summing;
+use actor_run::{SimFault, run_actors};
+use process_queues::ProcFault;
+use reverse::{actor_laws, actor_rules};
+use std::alloc::Global;
+use std::fmt::Write;
+use std::process::Abort;
+use vlink::{Body, Message, Time};
+
+// Tells how many rows the run of an actor with this counter gives, or why it is given up. It ends at 4 ns, so that nothing is sent.
+pub(crate) fn tell(
+    rt: &impl Abort,
+    alloc: Global,
+    told: &mut String,
+    counter: u64,
+) -> Result<(), ProcFault> {
+    let mut actor = Summing::new(moment(rt, 4));
+    actor.counter = counter;
+    match rows(alloc, actor) {
+        Ok(rows) => Ok(write!(told, "{rows} ")?),
+        Err(SimFault::OutOfMemory) => Err(ProcFault::OutOfMemory),
+        Err(SimFault::Exhausted) => Err(ProcFault::Exhausted),
+    }
+}
+
+// How many rows the run of this actor gives, which is offered one message at 0 ns.
+fn rows(alloc: Global, actor: Summing) -> Result<usize, SimFault>
+    requires { actor.until < 5 }
+{
+    actor_rules::<Summing>();
+    actor_laws::<Summing>();
+    let offer = Message {
+        time: Time::default(),
+        receiver: 0,
+        sender: 1,
+        number: 0,
+        body: Body::PortFree { port: 0 },
+    };
+    let mut actors = Vec::new(alloc);
+    actors.push(actor)?;
+    let rows = run_actors(alloc, &mut actors, &[offer])?;
+    Ok(rows.len())
+}
