@@ -1,5 +1,5 @@
 -- Why the program gives up a run by workers, and what it writes of one.
-use Rattle.std.specs.Prelude.{◌≡◌, ◌⊎◌, ℕ, List, Option, Some}
+use Rattle.std.specs.Prelude.{◌≡◌, ◌⊎◌, ℕ, Bool, true, false, List, Option, Some}
 use Rattle.std.specs.Borrow.{Bor}
 use Rattle.vlink.specs.declared.step.Step.{Step as Noting}
 use Rattle.netdesc.specs.Plan.{Plan}
