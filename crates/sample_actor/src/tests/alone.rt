@@ -23,7 +23,7 @@ pub(crate) fn tell(
     match rows(alloc, actor) {
         Ok(rows) => Ok(write!(told, "{rows} ")?),
         Err(SimFault::OutOfMemory) => Err(ProcFault::OutOfMemory),
-        Err(SimFault::Exhausted) => Err(ProcFault::Exhausted),
+        Err(SimFault::Exhausted) => Ok(told.push_str("exhausted ")?),
     }
 }
 
