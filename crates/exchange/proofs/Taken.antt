@@ -42,8 +42,8 @@ module _ {S K : Type 0} {r : Rules Message S K Note} {number end : S → ℕ} {i
     {is_value : S → Message → Type 0} {table' : List ℕ} {p seen gone : ℕ} {block : List Move} {last : Option EntryPlace} {q : Queues S K}
     (h : Holds r number end is_placed x is_value pages table' p seen gone block last q) (n : ℕ) (within : n ≤ length (letters_for p mail)) (some : 0 < n)
     {t : Tokens} (new : Fresh pages ts (told p (place_in last) (Took (take n (letters_for p mail)))) (own_in p (entries_of ts)) t)
-    (ts' : List Tokens) (more : ts' ≡ ts ++ t ∷ []) (at index : ℕ) (at-is : at ≡ length ts) (index-is : index ≡ p)
-    (books' : List Mark) (told-is : books' ≡ set books index (mark (Some at) gvt)) where
+    (ts' : List Tokens) (more : ts' ≡ ts ++ t ∷ []) (at : ℕ) (at-is : at ≡ length ts)
+    (books' : List Mark) (told-is : books' ≡ set books p (mark (Some at) gvt)) where
   many : length (take n (letters_for p mail)) ≡ n
   many = omega (arith, length-take n (letters_for p mail))
 
@@ -57,7 +57,7 @@ module _ {S K : Type 0} {r : Rules Message S K Note} {number end : S → ℕ} {i
       let xs = take n (letters_for p mail) in
       kept-collected k p h.number_is xs (drop n (letters_for p mail)) (sym (take-append-drop n (letters_for p mail))) (subst (λ m. 0 < m) (sym many) some) new
       mail' boxes left others floors' floor_count until here elsewhere ts' more (count + n) (ap (λ m. count + m) (sym many))
-      books' (told-is ∙ (λ i. set books (index-is i) (mark (Some (at-is i)) gvt)))
+      books' (told-is ∙ (λ i. set books p (mark (Some (at-is i)) gvt)))
 
   module _ (none : block ≡ []) (mine : own_of last ≡ own_in p (entries_of ts)) where
     own : entry_own t.cell.value ≡ own_of last ++ acts_of (Took (take n (letters_for p mail)))
@@ -113,7 +113,7 @@ module _ {S K : Type 0} {r : Rules Message S K Note} {number end : S → ℕ} {i
           collects-some f _ _ _ _ (take most (w.mail p)) xs same (subst (λ m. 0 < m) (sym many) some)
               (λ i. record {
                 entries = (ap entries_of more ∙ entries-are new) i;
-                books = (told-is ∙ (λ j. set books (index-is j) (mark (Some (place j)) (k.gvt_is j)))) i;
+                books = (told-is ∙ (λ j. set books p (mark (Some (place j)) (k.gvt_is j)))) i;
                 limit = limit;
               })
               (share-collected f p (own_of last) (entry_own t.cell.value) block xs (mark (Some at) gvt) (mark (Some (length (entries_of ts))) w.gvt) gone none own (λ i. mark (Some (place i)) (k.gvt_is i))),

@@ -14,10 +14,9 @@ ghost use Rattle.exchange.specs.Effects.{Collects, mark};
 
 use crate::exchange::Exchange;
 use crate::held::Held;
-use crate::mark::Mark;
+use crate::mark::{Mark, tell_both};
 use crate::run_of::ActorRun;
 use antimessages::Mail;
-use book_share::tell;
 use gvt::Floors;
 use journal::{Deed, Entry, EntryPlace, PoolFault};
 use reverse::{Actor, actor_laws};
@@ -66,8 +65,7 @@ pub fn collect<'a, R: Actor, J: ActorRun<R>>(
                 place: Some(place),
                 seen: exchange.gvt,
             };
-            let book = &mut exchange.books[usize::from(held.number)];
-            tell(book, &mut held.share, &mark);
+            tell_both(&mut exchange.books, &mut held.share, held.number, &mark);
             held.last = Some(EntryPlace {
                 number: place,
                 tokens,
@@ -98,8 +96,7 @@ fn see<'a, R: Actor, J: ActorRun<R>>(held: &mut Held<'a, R, J>, exchange: &mut E
         place: held.share().place,
         seen: exchange.gvt,
     };
-    let book = &mut exchange.books[usize::from(held.number)];
-    tell(book, &mut held.share, &mark);
+    tell_both(&mut exchange.books, &mut held.share, held.number, &mark);
     held.seen = exchange.gvt;
 }
 

@@ -9,9 +9,8 @@ ghost use Rattle.exchange.specs.Effects.{Posts};
 
 use crate::exchange::Exchange;
 use crate::held::Held;
-use crate::mark::Mark;
+use crate::mark::{Mark, tell_both};
 use crate::run_of::ActorRun;
-use book_share::tell;
 use journal::{Block, Deed, Entry, EntryPlace, PoolFault};
 use reverse::{Actor, actor_laws};
 use std::mem;
@@ -45,9 +44,8 @@ pub fn post<'a, R: Actor, J: ActorRun<R>>(
     if held.process.reserve_post(&mut exchange.mail).is_err() {
         return Err(PoolFault::OutOfMemory);
     }
-    let past = held.past();
     let entry = Entry {
-        past,
+        past: held.past(),
         deed: Deed::Post(mem::replace(&mut held.block, Block::new())),
         process: held.number,
     };
@@ -61,8 +59,7 @@ pub fn post<'a, R: Actor, J: ActorRun<R>>(
                 place: Some(place),
                 seen: held.seen,
             };
-            let book = &mut exchange.books[usize::from(held.number)];
-            tell(book, &mut held.share, &mark);
+            tell_both(&mut exchange.books, &mut held.share, held.number, &mark);
             held.last = Some(EntryPlace {
                 number: place,
                 tokens,

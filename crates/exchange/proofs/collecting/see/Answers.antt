@@ -7,9 +7,7 @@ use Rattle.process_queues.specs.Queues.{StandsFor}
 use Rattle.book_share.specs.declared.Book.{Book}
 use Rattle.exchange.specs.declared.mark.Mark.{Mark}
 use Rattle.journal.specs.Names.{names}
-use Rattle.exchange.specs.Views.{book_of}
 use Rattle.exchange.specs.Keeps.{AreBooked, entries_of, own_of}
-use Rattle.exchange.proofs.Books.{names-set, values-set}
 use Rattle.exchange.specs.Effects.{mark}
 use Rattle.exchange.proofs.Gone.{gone-stays}
 use Rattle.exchange.proofs.Holding.{holds-at, holds-seen}
@@ -24,15 +22,13 @@ invariant_of-exchange g c =
     let fits = rw (sym c.held.view_is, sym c.exchange.view_is) at c.join.ensures.same in
     let share = rw (sym c.held.view_is) at c.share.ensures in
     let m : Mark = record { place = c.share.result.place; seen = c.exchange.inside.gvt } in
-    let place = ap (λ (z : Mark). z.place) share ∙ ap (λ (z : Mark). z.place) fits in
-    let books = c.exchange.inside.books.items in
-    let told = values-set books c.from.result c.from.result refl c.tell.new.book m c.tell.ensures.book in (
+    let place = ap (λ (z : Mark). z.place) share ∙ ap (λ (z : Mark). z.place) fits in (
       c.exchange.invariant.0,
       c.exchange.invariant.1,
       kept-as k c.exchange.inside.mail refl (λ q. refl) _
-          (subst (λ (bs : List Mark). AreBooked g.J.ActorRun.setting.processes c.exchange.inside.journal.items c.exchange.inside.gvt bs) (sym told)
-          (books-seen k.booked c.from.result (omega arith) m (place ∙ ap (λ q. (book_of (map (λ (b : Book Mark). b.value) books) q).place) (sym c.from.ensures)) (omega arith))),
-      names-set books c.from.result c.from.result refl c.index_mut-book.result.now c.tell.new.book c.index_mut-book.ensures.value c.tell.ensures.name ∙ c.exchange.invariant.3,
+          (subst (λ (bs : List Mark). AreBooked g.J.ActorRun.setting.processes c.exchange.inside.journal.items c.exchange.inside.gvt bs) (sym c.tell_both.ensures.books)
+          (books-seen k.booked p (omega arith) m place (omega arith))),
+      c.tell_both.ensures.names ∙ c.exchange.invariant.3,
     )
 
 pub invariant_of-held : goal.invariant_of-held
@@ -52,18 +48,16 @@ invariant_of-held g c =
           (gone-stays r (x.opening p) (local r (x.opening p) (map act_by c.held.inside.block) base) c.held.inside.process.queues h.stands c.held.inside.gone h.gone_early [] base
           (sym (ap (λ b. local r (x.opening p) (map act_by b) base) none)) c.held.inside.process.queues refl)
           c.held.inside.block none) (names c.held.inside.table.now.pages.items) h.same,
-      record { name = c.tell.ensures.other ∙ c.held.invariant.1.name; value = c.tell.ensures.share ∙ (λ i. record { place = share-place i; seen = c.exchange.inside.gvt }) },
+      record { name = c.tell_both.ensures.name ∙ c.held.invariant.1.name; value = c.tell_both.ensures.share ∙ (λ i. record { place = share-place i; seen = c.exchange.inside.gvt }) },
     )
 
 pub returns-clause-exchange : goal.returns-clause-exchange
 returns-clause-exchange g c =
     let k = c.exchange.invariant.2 in
     let books = c.exchange.inside.books.items in
-    let m : Mark = record { place = c.share.result.place; seen = c.exchange.inside.gvt } in
-    let told = values-set books c.from.result c.from.result refl c.tell.new.book m c.tell.ensures.book in
     let share-place = ap (λ (z : Mark). z.place) (rw (sym c.held.view_is) at c.share.ensures) in
     rw (sym c.held.view_is, sym c.exchange.view_is) (λ i. record {
       entries = entries_of c.exchange.inside.journal.items;
-      books = (told ∙ (λ j. set (map (λ (b : Book Mark). b.value) books) (c.from.ensures j) (mark (share-place j) (k.gvt_is j)))) i;
+      books = (c.tell_both.ensures.books ∙ (λ j. set (map (λ (b : Book Mark). b.value) books) c.held.inside.number (mark (share-place j) (k.gvt_is j)))) i;
       limit = c.exchange.inside.limit;
     })

@@ -12,7 +12,6 @@ use Rattle.journal.specs.declared.tokens.Tokens.{Tokens}
 use Rattle.process_queues.specs.Queues.{Queues}
 use Rattle.book_share.specs.declared.Book.{Book}
 use Rattle.exchange.specs.declared.mark.Mark.{Mark}
-use Rattle.exchange.proofs.Books.{names-set, values-set}
 use Rattle.exchange.specs.Keeps.{place_in, own_of, entries_of}
 use Rattle.exchange.specs.Effects.{told, mark}
 use Rattle.exchange.proofs.Growth.{Fresh, entry-fresh, entries-are}
@@ -51,7 +50,7 @@ invariant_of-held g c =
     let ts = c.exchange.inside.journal.items in
     let block = c.held.inside.block in
     let mine = rw (sym c.held.view_is, sym c.exchange.view_is) at c.join.ensures.own in
-    let before = rw (sym c.held.view_is) at c.past-past.ensures in
+    let before = rw (sym c.held.view_is) at c.past.ensures in
     let wrote = c.in-Ok.ensures in
     let new : Fresh g.J.ActorRun.pages ts (told p (place_in c.held.inside.last) (Posted block)) (own_in p (entries_of ts)) c.in-Ok.tokens =
     entry-fresh k.same wrote.at wrote.value refl before.place (before.own ∙ mine) (ap (λ b. Posted b) c.replace.ensures.value) tt in
@@ -67,7 +66,7 @@ invariant_of-held g c =
           (did (x.opening p) _ h.stands)
           (ap (λ (z : Queues g.row.R.Denot g.row.R-Record.Denot). z.left) queues)
           c.replace.new.dest (c.replace.ensures.after ∙ c.new.ensures),
-      record { name = c.tell.ensures.other ∙ c.held.invariant.1.name; value = c.tell.ensures.share },
+      record { name = c.tell_both.ensures.name ∙ c.held.invariant.1.name; value = c.tell_both.ensures.share },
     )
 
 pub invariant_of-exchange-in-Ok : goal.invariant_of-exchange-in-Ok
@@ -84,7 +83,7 @@ invariant_of-exchange-in-Ok g c =
     let mine = rw (sym c.held.view_is, sym c.exchange.view_is) at c.join.ensures.own in
     let part-is = rw (sym c.held.view_is, sym c.exchange.view_is) at c.join.ensures.part in
     let enabled = rw (sym c.held.view_is, sym c.exchange.view_is) at c.join.ensures.enabled in
-    let before = rw (sym c.held.view_is) at c.past-past.ensures in
+    let before = rw (sym c.held.view_is) at c.past.ensures in
     let wrote = c.in-Ok.ensures in
     let new : Fresh g.J.ActorRun.pages ts (told p (place_in c.held.inside.last) (Posted block)) (own_in p (entries_of ts)) c.in-Ok.tokens =
     entry-fresh k.same wrote.at wrote.value refl before.place (before.own ∙ mine) (ap (λ b. Posted b) c.replace.ensures.value) tt in
@@ -96,7 +95,6 @@ invariant_of-exchange-in-Ok g c =
     let part = local r (x.opening p) (map act_by block) (after_own (simulation_of r x) p (own_of c.held.inside.last)) in
     let stands = did (x.opening p) part h.stands in
     let books = c.exchange.inside.books.items in
-    let told = values-set books c.from.result p c.from.ensures c.tell.new.book (mark (Some c.len-place.result) c.held.inside.seen) c.tell.ensures.book in
     let end = end-told r g.R.Reversible.is_value (x.opening p) (emptied part) c.post-posted.new.self.queues stands L.order g.R.Actor.end (λ s m. g.met.R.Actor.end_stays s m) x.until (k.laid.end_is p h.number_is) in (
       omega arith,
       c.exchange.invariant.1,
@@ -107,8 +105,8 @@ invariant_of-exchange-in-Ok g c =
           c.floor.result (c.floor.ensures (x.opening p) (emptied part) stands ∙ ap (λ n. floor_of r n (emptied part)) end) c.set.ensures.here c.set.ensures.others
           c.write.new.journal.items wrote.journal _ (omega arith)
           c.held.inside.seen (seen-low k p h.number_is (mark (place_in c.held.inside.last) c.held.inside.seen) fits)
-          _ (told ∙ (λ j. set (map (λ (b : Book Mark). b.value) books) p (mark (Some (place j)) c.held.inside.seen))),
-      names-set books c.from.result c.from.result refl c.index_mut-book.result.now c.tell.new.book c.index_mut-book.ensures.value c.tell.ensures.name ∙ c.exchange.invariant.3,
+          _ (c.tell_both.ensures.books ∙ (λ j. set (map (λ (b : Book Mark). b.value) books) p (mark (Some (place j)) c.held.inside.seen))),
+      c.tell_both.ensures.names ∙ c.exchange.invariant.3,
     )
 
 pub invariant_of-exchange-in-Err : goal.invariant_of-exchange-in-Err
@@ -129,7 +127,7 @@ returns-in-Ok-clause-ok g c =
     let block = c.held.inside.block in
     let seen = c.held.inside.seen in
     let mine = rw (sym c.held.view_is, sym c.exchange.view_is) at c.join.ensures.own in
-    let before = rw (sym c.held.view_is) at c.past-past.ensures in
+    let before = rw (sym c.held.view_is) at c.past.ensures in
     let wrote = c.in-Ok.ensures in
     let new : Fresh g.J.ActorRun.pages ts (told p (place_in c.held.inside.last) (Posted block)) (own_in p (entries_of ts)) c.in-Ok.tokens =
     entry-fresh k.same wrote.at wrote.value refl before.place (before.own ∙ mine) (ap (λ b. Posted b) c.replace.ensures.value) tt in
@@ -137,12 +135,11 @@ returns-in-Ok-clause-ok g c =
     let none = c.replace.ensures.after ∙ c.new.ensures in
     let at : c.len-place.result ≡ length (entries_of ts) = c.len-place.ensures ∙ (c.exchange.inside.journal.ok.0 ∙ sym (length-map ts (λ (t : Tokens). seen_entry t.cell.value))) in
     let books = c.exchange.inside.books.items in
-    let told = values-set books c.from.result p c.from.ensures c.tell.new.book (mark (Some c.len-place.result) seen) c.tell.ensures.book in
     let some : 0 < length block = omega arith in
     rw (sym c.held.view_is, sym c.exchange.view_is) (posts-some f _ _ _ _ block some
     (λ i. record {
       entries = (ap entries_of wrote.journal ∙ entries-are new) i;
-      books = (told ∙ (λ j. set (map (λ (b : Book Mark). b.value) books) p (mark (Some (at j)) seen))) i;
+      books = (c.tell_both.ensures.books ∙ (λ j. set (map (λ (b : Book Mark). b.value) books) p (mark (Some (at j)) seen))) i;
       limit = c.exchange.inside.limit;
     })
     (λ i. record {
