@@ -1,7 +1,6 @@
 //! The lines of the tables, cell by cell. A new column begins here.
-ghost use Rattle.std.specs.Prelude.{◌≡◌, ◌≢◌, map, OnOk, IfErr};
+ghost use Rattle.std.specs.Prelude.{map, OnOk};
 ghost use Rattle.std.specs.List.{flat_map};
-ghost use Rattle.trace_tables.specs.declared.fault.OutFault.TheVariants.{Device};
 ghost use Rattle.trace_tables.specs.Destinations.{destination};
 ghost use Rattle.trace_tables.specs.Text.{tables_head, latency_line, destination_line, latency_text, loss_line, drop_line, drop_text};
 ghost use Rattle.trace_tables.specs.Writing.{Adds};
@@ -9,21 +8,19 @@ ghost use Rattle.trace_tables.specs.Writing.{Adds};
 use crate::deliveries::latencies_at;
 use crate::destination::Destination;
 use crate::drops::is_in_network;
-use crate::fault::OutFault;
 use crate::latencies::Latencies;
 use crate::line::push;
 use crate::loss::Loss;
 use crate::naming::{cause_name, place_name};
-use csv::Writer;
+use csv::{Error, Writer};
 use itoa::Buffer;
 use netdesc::Network;
 use std::collections::BTreeMap;
 use vlink::VlId;
 
 /// The first line of the tables.
-pub fn push_head(out: &mut Writer<Vec<u8>>) -> Result<(), OutFault>
-    ensures text { OnOk result (Adds out.old out.new tables_head) }
-    ensures fault { IfErr result (λ fault. fault ≢ Device) }
+pub fn push_head(out: &mut Writer<Vec<u8>>) -> Result<(), Error>
+    ensures { OnOk result (Adds out.old out.new tables_head) }
 {
     push(
         out,
@@ -47,9 +44,8 @@ fn push_latency(
     vl: VlId,
     place: usize,
     counts: &Latencies,
-) -> Result<(), OutFault>
-    ensures text { OnOk result (Adds out.old out.new (latency_line network.now vl.0 place counts.now)) }
-    ensures fault { IfErr result (λ fault. fault ≢ Device) }
+) -> Result<(), Error>
+    ensures { OnOk result (Adds out.old out.new (latency_line network.now vl.0 place counts.now)) }
 {
     let mut number = Buffer::new();
     let mut count = Buffer::new();
@@ -78,9 +74,8 @@ fn push_destinations(
     vl: VlId,
     places: &[usize],
     table: &BTreeMap<Destination, Latencies>,
-) -> Result<(), OutFault>
-    ensures text { OnOk result (Adds out.old out.new (flat_map (destination_line network.now table.now.entries) (map (destination vl) places.now))) }
-    ensures fault { IfErr result (λ fault. fault ≢ Device) }
+) -> Result<(), Error>
+    ensures { OnOk result (Adds out.old out.new (flat_map (destination_line network.now table.now.entries) (map (destination vl) places.now))) }
 {
     for place in places {
         let here = latencies_at(table, Destination { vl, place: *place });
@@ -94,9 +89,8 @@ pub fn push_latencies(
     out: &mut Writer<Vec<u8>>,
     network: &Network,
     table: &BTreeMap<Destination, Latencies>,
-) -> Result<(), OutFault>
-    ensures text { OnOk result (Adds out.old out.new (latency_text network.now table.now.entries)) }
-    ensures fault { IfErr result (λ fault. fault ≢ Device) }
+) -> Result<(), Error>
+    ensures { OnOk result (Adds out.old out.new (latency_text network.now table.now.entries)) }
 {
     for vl in 0..network.vl_count() {
         let id = network.virtual_link(vl).id;
@@ -111,9 +105,8 @@ fn push_loss(
     network: &Network,
     loss: &Loss,
     count: u64,
-) -> Result<(), OutFault>
-    ensures text { OnOk result (Adds out.old out.new (loss_line network.now loss.now count)) }
-    ensures fault { IfErr result (λ fault. fault ≢ Device) }
+) -> Result<(), Error>
+    ensures { OnOk result (Adds out.old out.new (loss_line network.now loss.now count)) }
 {
     let mut number = Buffer::new();
     let mut many = Buffer::new();
@@ -138,9 +131,8 @@ fn push_drop(
     network: &Network,
     loss: &Loss,
     count: u64,
-) -> Result<(), OutFault>
-    ensures text { OnOk result (Adds out.old out.new (drop_line network.now (loss.now, count))) }
-    ensures fault { IfErr result (λ fault. fault ≢ Device) }
+) -> Result<(), Error>
+    ensures { OnOk result (Adds out.old out.new (drop_line network.now (loss.now, count))) }
 {
     if !is_in_network(network, loss.vl, loss.place) || count == 0 {
         return Ok(());
@@ -153,9 +145,8 @@ pub fn push_drops(
     out: &mut Writer<Vec<u8>>,
     network: &Network,
     drops: &BTreeMap<Loss, u64>,
-) -> Result<(), OutFault>
-    ensures text { OnOk result (Adds out.old out.new (drop_text network.now drops.now.entries)) }
-    ensures fault { IfErr result (λ fault. fault ≢ Device) }
+) -> Result<(), Error>
+    ensures { OnOk result (Adds out.old out.new (drop_text network.now drops.now.entries)) }
 {
     for (loss, count) in drops.iter() {
         push_drop(out, network, loss, *count)?;

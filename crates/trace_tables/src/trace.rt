@@ -1,24 +1,21 @@
 //! The text of a trace.
-ghost use Rattle.std.specs.Prelude.{◌≡◌, ◌≢◌, [], ◌∷◌, decimal, OnOk, IfErr};
+ghost use Rattle.std.specs.Prelude.{◌≡◌, [], ◌∷◌, decimal, OnOk};
 ghost use Rattle.std.specs.List.{flat_map};
-ghost use Rattle.trace_tables.specs.declared.fault.OutFault.TheVariants.{Device};
 ghost use Rattle.trace_tables.specs.Tables.{vl_of};
 ghost use Rattle.trace_tables.specs.Text.{line, trace_head, note_fields, trace_line};
 ghost use Rattle.trace_tables.specs.Writing.{Adds};
 
 use crate::drops::is_in_network;
-use crate::fault::OutFault;
 use crate::line::push;
 use crate::naming::{cause_name, place_name};
-use csv::Writer;
+use csv::{Error, Writer};
 use itoa::Buffer;
 use netdesc::Network;
 use vlink::{Note, Row, VlId};
 
 /// The first line of a trace.
-pub fn push_head(out: &mut Writer<Vec<u8>>) -> Result<(), OutFault>
-    ensures text { OnOk result (Adds out.old out.new trace_head) }
-    ensures fault { IfErr result (λ fault. fault ≢ Device) }
+pub fn push_head(out: &mut Writer<Vec<u8>>) -> Result<(), Error>
+    ensures { OnOk result (Adds out.old out.new trace_head) }
 {
     push(
         out,
@@ -40,9 +37,8 @@ fn push_fields(
     vl: VlId,
     what: &str,
     value: u64,
-) -> Result<(), OutFault>
-    ensures text { OnOk result (Adds out.old out.new (line (decimal time ∷ place.now ∷ decimal vl.0 ∷ what.now ∷ decimal value ∷ []))) }
-    ensures fault { IfErr result (λ fault. fault ≢ Device) }
+) -> Result<(), Error>
+    ensures { OnOk result (Adds out.old out.new (line (decimal time ∷ place.now ∷ decimal vl.0 ∷ what.now ∷ decimal value ∷ []))) }
 {
     let mut moment = Buffer::new();
     let mut number = Buffer::new();
@@ -60,9 +56,8 @@ fn push_fields(
 }
 
 /// What a row tells.
-fn push_note(out: &mut Writer<Vec<u8>>, time: u64, place: &str, note: &Note) -> Result<(), OutFault>
-    ensures text { OnOk result (Adds out.old out.new (line (decimal time ∷ place.now ∷ note_fields note.now))) }
-    ensures fault { IfErr result (λ fault. fault ≢ Device) }
+fn push_note(out: &mut Writer<Vec<u8>>, time: u64, place: &str, note: &Note) -> Result<(), Error>
+    ensures { OnOk result (Adds out.old out.new (line (decimal time ∷ place.now ∷ note_fields note.now))) }
 {
     match *note {
         Note::Delivered { vl, latency } => {
@@ -86,9 +81,8 @@ fn vl_of(note: Note) -> VlId
 }
 
 /// A row, if it is one of the network.
-fn push_row(out: &mut Writer<Vec<u8>>, network: &Network, row: &Row) -> Result<(), OutFault>
-    ensures text { OnOk result (Adds out.old out.new (trace_line network.now row.now)) }
-    ensures fault { IfErr result (λ fault. fault ≢ Device) }
+fn push_row(out: &mut Writer<Vec<u8>>, network: &Network, row: &Row) -> Result<(), Error>
+    ensures { OnOk result (Adds out.old out.new (trace_line network.now row.now)) }
 {
     if !is_in_network(network, vl_of(row.note), row.place) {
         return Ok(());
@@ -98,9 +92,8 @@ fn push_row(out: &mut Writer<Vec<u8>>, network: &Network, row: &Row) -> Result<(
 }
 
 /// These rows, in their order.
-pub fn push_rows(out: &mut Writer<Vec<u8>>, network: &Network, rows: &[Row]) -> Result<(), OutFault>
-    ensures text { OnOk result (Adds out.old out.new (flat_map (trace_line network.now) rows.now)) }
-    ensures fault { IfErr result (λ fault. fault ≢ Device) }
+pub fn push_rows(out: &mut Writer<Vec<u8>>, network: &Network, rows: &[Row]) -> Result<(), Error>
+    ensures { OnOk result (Adds out.old out.new (flat_map (trace_line network.now) rows.now)) }
 {
     for row in rows {
         push_row(out, network, row)?;

@@ -23,10 +23,10 @@ loop-place-preserved c =
     ∙ sym (ap (λ ps. flat_map write (map (destination vl) ps)) (take_more places i 0 c.loop-place-test.true)
     ∙ ap (flat_map write) (map-append (destination vl) (take i places) (place ∷ []))
     ∙ flat_map-append write (map (destination vl) (take i places)) (destination vl place ∷ [])))
-    (adds-more c.args.out.now c.loop-place.out c.push_latency.new.out done here c.loop-place.invariant c.in_ok-push_latency.ensures.text)
+    (adds-more c.args.out.now c.loop-place.out c.push_latency.new.out done here c.loop-place.invariant c.in_ok-push_latency.ensures)
 
-pub returns-clause-text : goal.returns-clause-text
-returns-clause-text c =
+pub returns : goal.returns
+returns c =
     adds-same c.args.out.now c.loop-place.out _ _
     (ap (λ places. flat_map (destination_line c.args.network.now c.args.table.now.entries) (map (destination c.args.vl) places)) (take_all c.loop-place.place-index c.args.places.now c.loop-place-test.false))
     c.loop-place.invariant

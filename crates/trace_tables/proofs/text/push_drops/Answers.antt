@@ -14,13 +14,13 @@ loop-loss-preserved c =
     let rest = rest_more deref_pair c.loop-loss.loss-iterator c.next.new.self c.next.result (c.in-Some.loss, c.in-Some.count) c.in-Some.is c.next.ensures.steps in (
       done ++ line,
       (
-        adds-more c.args.out.now c.loop-loss.out c.push_drop.new.out done line c.loop-loss.invariant.1.0 c.in_ok-push_drop.ensures.text,
+        adds-more c.args.out.now c.loop-loss.out c.push_drop.new.out done line c.loop-loss.invariant.1.0 c.in_ok-push_drop.ensures,
         append_assoc done line (drop_text plan c.next.new.self) ∙ ap (λ drops. done ++ drop_text plan drops) (sym rest) ∙ c.loop-loss.invariant.1.1,
       ),
     )
 
-pub returns-clause-text : goal.returns-clause-text
-returns-clause-text c =
+pub returns : goal.returns
+returns c =
     let plan = c.args.network.now in
     let done = c.loop-loss.invariant.0 in
     let rest = rest_all deref_pair c.loop-loss.loss-iterator c.next.new.self c.next.result c.in-None.is c.next.ensures.steps in

@@ -21,10 +21,10 @@ loop-vl-preserved c =
     (sym (flat_map-append write done here)
     ∙ ap (flat_map write) (sym (destinations-more vls i link places c.virtual_link.ensures.value c.destinations.ensures))
     ∙ ap (λ n. flat_map write (destinations_in (take n vls))) (sym (add-one i)))
-    (adds-more c.args.out.now c.loop-vl.out c.push_destinations.new.out (flat_map write done) (flat_map write here) c.loop-vl.invariant c.in_ok-push_destinations.ensures.text)
+    (adds-more c.args.out.now c.loop-vl.out c.push_destinations.new.out (flat_map write done) (flat_map write here) c.loop-vl.invariant c.in_ok-push_destinations.ensures)
 
-pub returns-clause-text : goal.returns-clause-text
-returns-clause-text c =
+pub returns : goal.returns
+returns c =
     adds-same c.args.out.now c.loop-vl.out _ _
     (ap (λ vls. flat_map (destination_line c.args.network.now c.args.table.now.entries) (destinations_in vls)) (take_all c.loop-vl.vl c.args.network.now.vls (omega (arith, c.loop-vl-test.false, c.vl_count-vl-end.ensures.value))))
     c.loop-vl.invariant

@@ -4,8 +4,8 @@ use Rattle.trace_tables.specs.Text.{line, place_name, cause_name}
 use Rattle.trace_tables.specs.Writing.{Adds}
 use Rattle.trace_tables.proofs.text.push_loss.Goals as goal
 
-pub returns-clause-text : goal.returns-clause-text
-returns-clause-text c =
+pub returns : goal.returns
+returns c =
     let loss = c.args.loss.now in
     let h1 = c.as_bytes.ensures.value in
     let h2 : c.as_bytes-2.result.now ≡ decimal loss.vl.0 = c.as_bytes-2.ensures.value ∙ c.format.ensures.text in
@@ -15,4 +15,4 @@ returns-clause-text c =
     let h6 = c.as_bytes-6.ensures.value in let h7 = c.as_bytes-7.ensures.value in let h8 = c.as_bytes-8.ensures.value in
     let e : c.as_bytes.result.now ∷ c.as_bytes-2.result.now ∷ c.as_bytes-3.result.now ∷ c.as_bytes-4.result.now ∷ c.as_bytes-5.result.now ∷ c.as_bytes-6.result.now ∷ c.as_bytes-7.result.now ∷ c.as_bytes-8.result.now ∷ []
     ≡ codes "dropped" ∷ decimal loss.vl.0 ∷ place_name c.args.network.now loss.place ∷ cause_name loss.cause ∷ decimal c.args.count ∷ [] ∷ [] ∷ [] ∷ [] = cc in
-    subst (λ (fields : List (List ℕ)). OnOk c.push.result (Adds c.args.out.now c.push.new.out (line fields))) e c.push.ensures.text
+    subst (λ (fields : List (List ℕ)). OnOk c.push.result (Adds c.args.out.now c.push.new.out (line fields))) e c.push.ensures

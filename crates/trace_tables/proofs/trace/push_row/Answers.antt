@@ -5,8 +5,8 @@ use Rattle.trace_tables.specs.Text.{line, place_name, note_fields}
 use Rattle.trace_tables.specs.Writing.{Adds}
 use Rattle.trace_tables.proofs.trace.push_row.Goals as goal
 
-pub returns-clause-text : goal.returns-clause-text
-returns-clause-text c =
+pub returns : goal.returns
+returns c =
     let plan = c.args.network.now in
     let row = c.args.row.now in
     let known : is_known plan row ≡ true = ap (λ vl. is_in_network plan vl.0 row.place) (sym c.vl_of.ensures) ∙ sym c.is_in_network.ensures ∙ c.if-not-is_in_network.false in
@@ -15,4 +15,4 @@ returns-clause-text c =
     (ap (λ time. line (decimal time ∷ c.place_name-place.result.now ∷ note_fields row.note)) c.ns.ensures.value
     ∙ ap (λ name. line (decimal row.message.time ∷ name ∷ note_fields row.note)) place
     ∙ sym (ap (λ b. cond b (line (decimal row.message.time ∷ place_name plan row.place ∷ note_fields row.note)) []) known))
-    c.push_note.ensures.text
+    c.push_note.ensures

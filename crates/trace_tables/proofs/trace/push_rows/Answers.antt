@@ -13,8 +13,8 @@ loop-row-preserved c =
     let write = trace_line c.args.network.now in
     let row = c.row-item.result in
     adds-same c.args.out.now c.push_row.new.out _ _ (sym (flat_map-more write rows i row c.loop-row-test.true c.row-item.is))
-    (adds-more c.args.out.now c.loop-row.out c.push_row.new.out (flat_map write (take i rows)) (write row) c.loop-row.invariant c.in_ok-push_row.ensures.text)
+    (adds-more c.args.out.now c.loop-row.out c.push_row.new.out (flat_map write (take i rows)) (write row) c.loop-row.invariant c.in_ok-push_row.ensures)
 
-pub returns-clause-text : goal.returns-clause-text
-returns-clause-text c =
+pub returns : goal.returns
+returns c =
     adds-same c.args.out.now c.loop-row.out _ _ (ap (flat_map (trace_line c.args.network.now)) (take_all c.loop-row.row-index c.args.rows.now c.loop-row-test.false)) c.loop-row.invariant

@@ -8,9 +8,9 @@ pub returns-clause-text : goal.returns-clause-text
 returns-clause-text c =
     let plan = c.args.network.now in
     let tables = c.args.tables.now in
-    let latencies = adds-same c.push_head.new.out c.push_latencies.new.out _ _ (ap (latency_text plan) c.latencies.ensures) c.in_ok-push_latencies.ensures.text in
-    let drops = adds-same c.push_latencies.new.out c.push_drops.new.out _ _ (ap (drop_text plan) c.drops.ensures) c.in_ok-push_drops.ensures.text in
-    let all = adds-more c.empty-out.result c.push_head.new.out c.push_drops.new.out tables_head (latency_text plan tables.latencies ++ drop_text plan tables.drops) c.in_ok-push_head.ensures.text
+    let latencies = adds-same c.push_head.new.out c.push_latencies.new.out _ _ (ap (latency_text plan) c.latencies.ensures) c.in_ok-push_latencies.ensures in
+    let drops = adds-same c.push_latencies.new.out c.push_drops.new.out _ _ (ap (drop_text plan) c.drops.ensures) c.in_ok-push_drops.ensures in
+    let all = adds-more c.empty-out.result c.push_head.new.out c.push_drops.new.out tables_head (latency_text plan tables.latencies ++ drop_text plan tables.drops) c.in_ok-push_head.ensures
     (adds-more c.push_head.new.out c.push_latencies.new.out c.push_drops.new.out (latency_text plan tables.latencies) (drop_text plan tables.drops) latencies drops) in
     if-ok (λ bytes. (text : List ℕ) → Holds c.push_drops.new.out text → bytes.items ≡ text) (λ bytes. bytes.items ≡ tables_text plan tables) c.text_of.result
     (λ bytes h. h (tables_text plan tables) (all [] c.empty-out.ensures)) c.text_of.ensures.text

@@ -9,4 +9,4 @@ pub returns-clause-text : goal.returns-clause-text
 returns-clause-text c =
     let lines = flat_map (trace_line c.args.network.now) c.args.rows.now in
     if-ok (λ bytes. (text : List ℕ) → Holds c.push_rows.new.out text → bytes.items ≡ text) (λ bytes. bytes.items ≡ lines) c.text_of.result
-    (λ bytes h. h lines (c.in_ok-push_rows.ensures.text [] c.empty-out.ensures)) c.text_of.ensures.text
+    (λ bytes h. h lines (c.in_ok-push_rows.ensures [] c.empty-out.ensures)) c.text_of.ensures.text
