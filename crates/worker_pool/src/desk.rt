@@ -3,10 +3,10 @@ ghost use Rattle.std.specs.Prelude.{◌≡◌, ◌≢◌, ◌<◌, ◌⊎◌, �
 ghost use Rattle.vlink.specs.declared.time.TheConstants.{GREATEST_NS};
 ghost use Rattle.std.proofs.Props.{props};
 ghost use Rattle.netdesc.specs.Faults.{process_count};
-ghost use Rattle.trace_tables.specs.declared.part_fault.PartFault.{PartFault};
-ghost use Rattle.trace_tables.specs.declared.part_fault.PartFault.TheVariants.{OutOfMemory};
-ghost use Rattle.trace_tables.specs.Gathering.{no_parts, part_fault, Waits, Gives};
-ghost use Rattle.trace_tables.specs.Parts.{BatchRows};
+ghost use Rattle.trace_parts.specs.declared.part_fault.PartFault.{PartFault};
+ghost use Rattle.trace_parts.specs.declared.part_fault.PartFault.TheVariants.{OutOfMemory};
+ghost use Rattle.trace_parts.specs.Gathering.{no_parts, part_fault, Waits, Gives};
+ghost use Rattle.trace_parts.specs.Parts.{BatchRows};
 ghost use Rattle.worker_pool.specs.Parts.{IsPartOfRun};
 ghost use Rattle.worker_pool.specs.Traces.{HasLawfulRows, IsGatheringOfRun};
 ghost use Rattle.worker_pool.specs.Written.{IsPlaceFault, first_of};
