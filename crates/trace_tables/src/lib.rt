@@ -1,4 +1,4 @@
-//! What a run is told by: tables of latencies and of drops, the trace, and their texts.
+//! What a run is told by: tables of latencies and of drops, and their text. The names of the trace too, so that a user has one door.
 #![tactic(auto)]
 
 mod deliveries;

@@ -1,5 +1,5 @@
 -- What a run by workers is told, of what each of them ended with.
-use Rattle.std.specs.Prelude.{◌≤◌, List, Result, Err, ⊤, IsOk, IfErr, OnOk}
+use Rattle.std.specs.Prelude.{ℕ, ◌<◌, ◌≤◌, List, Result, Err, ⊤, IsOk, IfErr, OnOk}
 use Rattle.std.specs.List.{All, Contains}
 use Rattle.journal.specs.declared.fault.PoolFault.{PoolFault}
 use Rattle.journal.specs.Faults.{fault_number}
@@ -13,3 +13,7 @@ pub record IsLeastOf (outcomes : List (Result ⊤ PoolFault)) (told : Result ⊤
   pub one : IfErr told (λ fault. Contains outcomes (Err fault))
   pub least : IfErr told (λ fault. All (HasNoLesser fault) outcomes)
   pub well : OnOk told (All IsOk outcomes)
+
+-- there are workers to be started: some are asked for, and there is a process
+abbrev pub CanWantWorkers : ℕ → ℕ → Type 0
+CanWantWorkers workers processes = (0 < workers) × (0 < processes)

@@ -1,5 +1,8 @@
 //! Threads that give turns to processes.
-ghost use Rattle.std.specs.Prelude.{◌≡◌};
+ghost use Rattle.std.specs.Prelude.{◌≡◌, IfErr};
+ghost use Rattle.netdesc.specs.Faults.{process_count};
+ghost use Rattle.journal.specs.declared.fault.PoolFault.TheVariants.{Spawn};
+ghost use Rattle.worker_pool.specs.Outcomes.{CanWantWorkers};
 
 use crate::locks::Locks;
 use crate::network_run::NetworkRun;
@@ -32,8 +35,9 @@ pub(crate) fn start_all<'a, J: NetworkRun + Send + Sync, G: Gate + Sync, T: Thre
     gate: &G,
 ) -> Result<(), PoolFault>
     requires { network.now ≡ J.plan }
+    ensures spawn { IfErr result (λ fault. fault ≡ Spawn → CanWantWorkers pace.now.workers (process_count J.plan)) }
 {
-    if locks.locks.is_empty() {
+    if locks.locks.is_empty() || pace.workers == 0 {
         return Ok(());
     }
     let workers = usize::from(pace.workers);
