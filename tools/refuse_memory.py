@@ -10,6 +10,10 @@ cannot start a worker`. Standard output is then empty or whole, and a file is no
 two workers the same request comes at another place each time, and so it is with its journal: that is judged by its form and,
 where the run ended well, by `replay`.
 
+A run has two minutes. So those of two workers show too that the fault of one ends the other, which else would look for work
+for ever. Where a trace is written some 80 requests more are refused: for the parts at the desk, their rows, the batches and
+their text, and the channel to the writer's thread.
+
 Tests that are made for it are run so too, and have to pass: the scripts of processes (crate `sample_actor`), those of the
 calls of an exchange, and `read` and `write_csv` alone (crate `afdxsim`). There a call that is refused has to leave all as it
 was, but for `work`, which leaves what was done, and to answer as ever when it is made again. The tests tell which calls were

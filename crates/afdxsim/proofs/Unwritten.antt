@@ -5,12 +5,12 @@ use Rattle.vlink.specs.declared.note.Row.{Row as Noted}
 use Rattle.vlink.specs.declared.step.Step.{Step as Noting}
 use Rattle.netdesc.specs.Plan.{Plan}
 use Rattle.seqsim.specs.Networks.{AreRowsOf}
-use Rattle.trace_tables.specs.Sinking.{IsBeginning}
-use Rattle.trace_tables.specs.Text.{trace_text}
-use Rattle.trace_tables.specs.declared.trace_fault.TraceFault.{TraceFault}
-use Rattle.trace_tables.specs.declared.trace_fault.TraceFault.TheVariants.{Part, Out}
-use Rattle.trace_tables.specs.declared.fault.OutFault.TheVariants as out
-use Rattle.trace_tables.specs.declared.part_fault.PartFault.TheVariants as part
+use Rattle.trace_parts.specs.Sinking.{IsBeginning}
+use Rattle.trace_parts.specs.Text.{trace_text}
+use Rattle.trace_parts.specs.declared.trace_fault.TraceFault.{TraceFault}
+use Rattle.trace_parts.specs.declared.trace_fault.TraceFault.TheVariants.{Part, Out}
+use Rattle.trace_parts.specs.declared.fault.OutFault.TheVariants as out
+use Rattle.trace_parts.specs.declared.part_fault.PartFault.TheVariants as part
 use Rattle.journal.specs.declared.fault.PoolFault.TheVariants as pool
 use Rattle.std.specs.Borrow.{Bor}
 use Rattle.journal_text.specs.Text.{steps_text}

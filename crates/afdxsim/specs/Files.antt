@@ -3,7 +3,7 @@ use Rattle.std.specs.Prelude.{◌≡◌, ℕ, ◌+◌, [], Bool, List, Option, N
 use Rattle.netdesc.specs.Plan.{Plan}
 use Rattle.afdxsim.specs.Ending.{Took}
 use Rattle.afdxsim.specs.Reading.{GivesNetwork}
-use Rattle.trace_tables.specs.Sinking.{IsBeginning}
+use Rattle.trace_parts.specs.Sinking.{IsBeginning}
 use Rattle.afdxsim.specs.declared.fault.Fault.{Fault}
 use Rattle.afdxsim.specs.Sequencing.{IsFaultOfTrace, IsTablesText, IsTraceText}
 use Rattle.afdxsim.specs.Workers.{IsFaultOfJournalFile, IsJournalText}

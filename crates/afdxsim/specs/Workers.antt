@@ -6,10 +6,10 @@ use Rattle.netdesc.specs.Plan.{Plan}
 use Rattle.journal_text.specs.Text.{steps_text}
 use Rattle.journal.specs.declared.fault.PoolFault.{PoolFault}
 use Rattle.journal.specs.declared.fault.PoolFault.TheVariants as pool
-use Rattle.trace_tables.specs.declared.fault.OutFault.TheVariants as out
-use Rattle.trace_tables.specs.declared.part_fault.PartFault.TheVariants as part
-use Rattle.trace_tables.specs.declared.trace_fault.TraceFault.{TraceFault}
-use Rattle.trace_tables.specs.declared.trace_fault.TraceFault.TheVariants.{Part, Out}
+use Rattle.trace_parts.specs.declared.fault.OutFault.TheVariants as out
+use Rattle.trace_parts.specs.declared.part_fault.PartFault.TheVariants as part
+use Rattle.trace_parts.specs.declared.trace_fault.TraceFault.{TraceFault}
+use Rattle.trace_parts.specs.declared.trace_fault.TraceFault.TheVariants.{Part, Out}
 use Rattle.worker_pool.specs.Runs.{IsJournalOf}
 use Rattle.afdxsim.specs.declared.fault.Fault.{Fault}
 use Rattle.afdxsim.specs.declared.fault.Fault.TheVariants.{Description, JournalLine, JournalFull, CannotRead, CannotWriteFile, CannotWrite, Layout, OutOfMemory, Exhausted, Spawn, Torn}

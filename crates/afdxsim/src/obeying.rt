@@ -1,6 +1,5 @@
 //! What an order comes to: it is done, or the fault that it met is told.
 ghost use Rattle.std.specs.Prelude.{◌≡◌, ◌⊎◌, ℕ, List, None, OnOk, IfErr, option_map, string_bytes};
-ghost use Rattle.command_line.specs.Meaning.{IsWithinLimits, RunLimits};
 ghost use Rattle.command_line.specs.declared.orders.Check.{Check as Checked};
 ghost use Rattle.command_line.specs.declared.orders.Seq.{Seq as Sequenced};
 ghost use Rattle.command_line.specs.declared.orders.Run.{Run as Worked};
@@ -106,7 +105,6 @@ fn obey_run<H: Host, T: Threads + Wait + Sync>(
     order: &Run,
     host: &mut H,
 ) -> u8
-    requires { RunLimits order.now }
     ensures status { (result ≡ 0) ⊎ (result ≡ 2) ⊎ (result ≡ 3) ⊎ (result ≡ 4) ⊎ (result ≡ 5) }
     ensures twice { result ≡ 2 → (path : List ℕ) × IsTwice (H.tells host.old) (string_bytes order.now.net)
         (option_map string_bytes order.now.journal) (option_map string_bytes order.now.trace) path }
@@ -139,7 +137,6 @@ pub fn obey<H: Host, T: Threads + Wait + Sync>(
     order: &Order,
     host: &mut H,
 ) -> u8
-    requires { IsWithinLimits order.now }
     ensures status { (result ≡ 0) ⊎ (result ≡ 2) ⊎ (result ≡ 3) ⊎ (result ≡ 4) ⊎ (result ≡ 5) }
     ensures twice { result ≡ 2 → OrdersTwice (H.tells host.old) order.now }
     ensures check { (o : Checked) → order.now ≡ ordered.Check o → EndsCheck (H.gives host.old (string_bytes o.net)) (string_bytes o.net)

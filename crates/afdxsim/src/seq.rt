@@ -1,7 +1,8 @@
 //! `seq NET [--trace FILE]`: the one-thread run of a network.
 ghost use Rattle.std.specs.Prelude.{◌≡◌, ◌≢◌, ◌⊎◌, ℕ, true, List, IfErr, IfOk, OnOk, option_map};
 ghost use Rattle.seqsim.specs.Networks.{AreRowsOf};
-ghost use Rattle.trace_tables.specs.Text.{tables_text, trace_text};
+ghost use Rattle.trace_parts.specs.Text.{trace_text};
+ghost use Rattle.trace_tables.specs.Text.{tables_text};
 ghost use Rattle.afdxsim.specs.declared.fault.Fault.TheVariants.{CannotWrite};
 ghost use Rattle.afdxsim.specs.Ending.{Took, IsFaultOfOutput};
 ghost use Rattle.afdxsim.specs.Files.{IsFaultOfTraceFile, LeavesSeq, ShowsAlone, ShowsTables, TookSome, WritesFile, WritesSome};

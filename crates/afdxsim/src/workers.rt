@@ -1,10 +1,11 @@
 //! A run by workers: its tables, and what else is asked for.
 ghost use Rattle.std.specs.Prelude.{◌≡◌, ◌⊎◌, ◌+◌, ℕ, true, List, IfErr, IfOk, OnOk};
 ghost use Rattle.vlink.specs.declared.note.Row.{Row as Noted};
-ghost use Rattle.trace_tables.specs.declared.fault.OutFault.TheVariants.{Device};
-ghost use Rattle.trace_tables.specs.declared.trace_fault.TraceFault.TheVariants.{Out};
-ghost use Rattle.trace_tables.specs.Sinking.{IsBeginning};
-ghost use Rattle.trace_tables.specs.Text.{tables_text, trace_text};
+ghost use Rattle.trace_parts.specs.declared.fault.OutFault.TheVariants.{Device};
+ghost use Rattle.trace_parts.specs.declared.trace_fault.TraceFault.TheVariants.{Out};
+ghost use Rattle.trace_parts.specs.Sinking.{IsBeginning};
+ghost use Rattle.trace_parts.specs.Text.{trace_text};
+ghost use Rattle.trace_tables.specs.Text.{tables_text};
 ghost use Rattle.seqsim.specs.Networks.{AreRowsOf};
 ghost use Rattle.worker_pool.specs.Runs.{IsJournalAsked};
 ghost use Rattle.afdxsim.specs.Ending.{Took};

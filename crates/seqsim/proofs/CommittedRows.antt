@@ -19,7 +19,7 @@ use Rattle.virtual_time.proofs.OneThread.{right, nothing_outside}
 use Rattle.virtual_time.proofs.Turns.{over-same}
 use Rattle.virtual_time.proofs.Kept.{IsKept, start-kept}
 use Rattle.virtual_time.proofs.KeptRun.{run-kept}
-use Rattle.trace_tables.specs.Counting.{gathered}
+use Rattle.trace_parts.specs.Places.{gathered}
 use Rattle.actor_run.specs.Running.{seen_row}
 
 left-nothing : {M : Type 0} → (xs ys : List M) → xs ++ ys ≡ [] → xs ≡ []

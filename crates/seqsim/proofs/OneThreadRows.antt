@@ -22,7 +22,7 @@ use Rattle.virtual_time.proofs.Least.{least-some}
 use Rattle.virtual_time.proofs.Lists.{times-append, times-one}
 use Rattle.virtual_time.proofs.OneThread.{right}
 use Rattle.actor_run.specs.Running.{seen_row}
-use Rattle.trace_tables.specs.Ordered.{AreInMessageOrder, AreAtReceivers}
+use Rattle.trace_parts.specs.Ordered.{AreInMessageOrder, AreAtReceivers}
 
 -- a row as the law of virtual time sees it
 abbrev Seen : Type 0

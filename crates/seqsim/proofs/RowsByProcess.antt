@@ -11,8 +11,8 @@ use Rattle.virtual_time.specs.Simulation.{Simulation, Laws}
 use Rattle.virtual_time.specs.OneThread.{one, rows_at}
 use Rattle.virtual_time.specs.World.{Step, start, run}
 use Rattle.virtual_time.specs.Safe.{IsWhole}
-use Rattle.trace_tables.specs.Counting.{rows_at as noted_at}
-use Rattle.trace_tables.specs.Ordered.{AreInMessageOrder, AreAtReceivers, rows_of_event}
+use Rattle.trace_parts.specs.Places.{rows_at as noted_at}
+use Rattle.trace_parts.specs.Ordered.{AreInMessageOrder, AreAtReceivers, rows_of_event}
 use Rattle.actor_run.specs.Running.{seen_row}
 use Rattle.seqsim.proofs.CommittedRows.{rows-whole}
 use Rattle.seqsim.proofs.OneThreadRows.{one-here, one-ordered}

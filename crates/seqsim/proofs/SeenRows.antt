@@ -7,7 +7,7 @@ use Rattle.virtual_time.specs.Rules.{Row}
 use Rattle.virtual_time.specs.Simulation.{Simulation}
 use Rattle.virtual_time.specs.OneThread.{rows_at}
 use Rattle.actor_run.specs.Running.{seen_row}
-use Rattle.trace_tables.specs.Counting.{rows_at as noted_at}
+use Rattle.trace_parts.specs.Places.{rows_at as noted_at}
 
 noted : Row Message Note → Noted
 noted row = record { message = row.message; place = row.place; note = row.note }

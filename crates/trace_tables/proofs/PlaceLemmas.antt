@@ -9,11 +9,13 @@ use Rattle.vlink.specs.declared.note.Note.TheVariants.{Delivered, Dropped}
 use Rattle.netdesc.specs.Plan.{Plan}
 use Rattle.trace_tables.specs.declared.destination.Destination.{Destination}
 use Rattle.trace_tables.specs.declared.loss.Loss.{Loss}
-use Rattle.trace_tables.specs.Counting.{is_loss, times_lost, rows_at}
+use Rattle.trace_parts.specs.Places.{rows_at}
+use Rattle.trace_tables.specs.Counting.{is_loss, times_lost}
 use Rattle.trace_tables.specs.Destinations.{destinations_in}
 use Rattle.trace_tables.specs.Latencies.{Counts, counts_of, latency_in, latency_at, latencies_of}
 use Rattle.trace_tables.specs.Losses.{cause_number}
-use Rattle.trace_tables.specs.Tables.{TableLists, is_known, counted_at, latency_table, drop_table, tables_of}
+use Rattle.trace_parts.specs.Known.{is_known}
+use Rattle.trace_tables.specs.Tables.{TableLists, counted_at, latency_table, drop_table, tables_of}
 use Rattle.trace_tables.proofs.DeliveryLemmas.{map-same}
 use Rattle.trace_tables.proofs.DropCountLemmas.{same-drops}
 use Rattle.trace_tables.proofs.ListLemmas.{one_if}

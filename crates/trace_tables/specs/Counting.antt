@@ -1,13 +1,13 @@
--- How often rows tell a loss or a delivery, and the rows of each process.
+-- How often rows tell a loss or a delivery.
 use Rattle.std.specs.Prelude.{ℕ, ◌==◌, ◌&&◌, Bool, false, List}
-use Rattle.std.specs.List.{count_by, filter, flat_map, range_with_len}
+use Rattle.std.specs.List.{count_by}
 use Rattle.vlink.specs.declared.note.Note.{Note}
 use Rattle.vlink.specs.declared.note.Note.TheVariants.{Delivered, Dropped}
 use Rattle.vlink.specs.declared.note.Row.{Row}
 use Rattle.netdesc.specs.Plan.{Plan}
 use Rattle.trace_tables.specs.declared.loss.Loss.{Loss}
 use Rattle.trace_tables.specs.Losses.{cause_number}
-use Rattle.trace_tables.specs.Tables.{is_known}
+use Rattle.trace_parts.specs.Known.{is_known}
 
 -- a note at this process tells this loss: a drop of its virtual link, at its process, for its cause
 abbrev pub is_loss : Loss → ℕ → Note → Bool
@@ -27,11 +27,3 @@ is_delivery vl (Dropped id cause size) = false
 -- how many rows tell a delivery of a virtual link at a process
 abbrev pub times_delivered : ℕ → ℕ → List Row → ℕ
 times_delivered vl place rows = count_by (λ row. (row.place == place) && is_delivery vl row.note) rows
-
--- the rows of a process, in their order
-abbrev pub rows_at : ℕ → List Row → List Row
-rows_at p rows = filter (λ row. row.place == p) rows
-
--- lists of rows one after another, those of the processes from 0 on
-abbrev pub gathered : ℕ → (ℕ → List Row) → List Row
-gathered processes rows_of = flat_map rows_of (range_with_len 0 processes)

@@ -3,14 +3,5 @@ pub mod Destinations
 pub mod Losses
 pub mod Tables
 pub mod Counting
-pub mod Sinking
 pub mod Text
-pub mod Writing
 pub mod SoFar
-pub mod Layout
-pub mod Ordered
-pub mod Intervals
-pub mod Parts
-pub mod Gathering
-pub mod Gathered
-pub mod WrittenTrace

@@ -1,13 +1,9 @@
 -- The tables of a run: latencies by virtual link and destination, and what was dropped.
-use Rattle.std.specs.Prelude.{ℕ, ◌&&◌, Bool, cond, is_some, nat_lt, List, [], map}
+use Rattle.std.specs.Prelude.{ℕ, cond, List, [], map}
 use Rattle.std.specs.List.{flat_map}
-use Rattle.vlink.specs.declared.frame.VlId.{VlId}
-use Rattle.vlink.specs.declared.note.Note.{Note}
-use Rattle.vlink.specs.declared.note.Note.TheVariants.{Delivered, Dropped}
 use Rattle.vlink.specs.declared.note.Row.{Row}
 use Rattle.netdesc.specs.Plan.{Plan, VlPlan}
-use Rattle.netdesc.specs.Faults.{process_count}
-use Rattle.netdesc.specs.Lines.{place_of_vl}
+use Rattle.trace_parts.specs.Known.{is_known}
 use Rattle.trace_tables.specs.declared.destination.Destination.{Destination}
 use Rattle.trace_tables.specs.declared.loss.Loss.{Loss}
 use Rattle.trace_tables.specs.Destinations.{destinations_in}
@@ -17,19 +13,6 @@ use Rattle.trace_tables.specs.Losses.{loss_of, with_losses}
 pub record TableLists : Type 0 where
   pub latencies : List (Destination × Counts)
   pub drops : List (Loss × ℕ)
-
--- the virtual link of a note
-abbrev pub vl_of : Note → VlId
-vl_of (Delivered vl latency) = vl
-vl_of (Dropped vl cause size) = vl
-
--- the network has this virtual link and this process
-abbrev pub is_in_network : Plan → ℕ → ℕ → Bool
-is_in_network plan vl place = is_some (place_of_vl plan.vls vl) && nat_lt place (process_count plan)
-
--- it has those of a row
-abbrev pub is_known : Plan → Row → Bool
-is_known plan row = is_in_network plan (vl_of row.note).0 row.place
 
 -- what rows tell of the latencies at a destination
 abbrev pub counted_at : List Row → Destination → Destination × Counts

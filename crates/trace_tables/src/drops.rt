@@ -1,20 +1,13 @@
 //! How often frames were lost.
 ghost use Rattle.std.specs.Prelude.{◌≡◌, ◌∷◌, ◌-◌, ◌^◌, ◌<◌, [], cond, OnOk};
 ghost use Rattle.trace_tables.specs.Losses.{count_in, with_loss, with_losses};
-ghost use Rattle.trace_tables.specs.Tables.{is_in_network};
+ghost use Rattle.trace_parts.specs.Known.{is_in_network};
 
 use crate::loss::{Loss, loss_order};
 use netdesc::Network;
 use std::alloc::AllocError;
 use std::collections::BTreeMap;
-use vlink::VlId;
-
-/// The network has this virtual link and this process.
-pub fn is_in_network(network: &Network, vl: VlId, place: u16) -> bool
-    ensures { result ≡ is_in_network network.now vl.0 place }
-{
-    network.place_of(vl).is_some() && usize::from(place) < network.process_count()
-}
+use trace_parts::is_in_network;
 
 /// One more of a loss.
 fn add_loss(drops: &mut BTreeMap<Loss, u64>, loss: Loss) -> Result<(), AllocError>

@@ -1,19 +1,16 @@
-//! What the tables say of the rows, and that they, and rows in message order, depend on the rows of each process alone.
+//! What the tables say of the rows, and that they depend on the rows of each process alone.
 ghost use Rattle.std.specs.Prelude.{ℕ, ◌≡◌, ◌<◌, ◌≤◌, [], List, length};
 ghost use Rattle.std.specs.List.{All, Contains};
 ghost use Rattle.std.specs.List.Sorted.{IsStrictlySortedBy};
 ghost use Rattle.std.specs.Map.{keys_of, values_of};
-ghost use Rattle.vlink.specs.declared.message.Message.{Message};
 ghost use Rattle.vlink.specs.declared.note.Row.{Row};
 ghost use Rattle.netdesc.specs.Plan.{Plan};
 ghost use Rattle.trace_tables.specs.declared.loss.Loss.{Loss};
-ghost use Rattle.trace_tables.specs.Counting.{times_lost, times_delivered, rows_at, gathered};
+ghost use Rattle.trace_parts.specs.Places.{rows_at, gathered};
+ghost use Rattle.trace_tables.specs.Counting.{times_lost, times_delivered};
 ghost use Rattle.trace_tables.specs.Latencies.{counts_of, latencies_of};
 ghost use Rattle.trace_tables.specs.Losses.{loss_cmp, count_in};
-ghost use Rattle.trace_tables.specs.Ordered.{AreInMessageOrder, AreAtReceivers, rows_of_event};
 ghost use Rattle.trace_tables.specs.Tables.{drop_table, tables_of};
-
-use vlink::message_order;
 
 /// What a table of drops says of rows.
 ///
@@ -56,20 +53,3 @@ pub fn tables_by_place()
     ensures gathered { (plan : Plan) (rows : List Row) (processes : ℕ) (rows_of : ℕ → List Row) → ((p : ℕ) → p < processes → rows_of p ≡ rows_at p rows)
         → ((p : ℕ) → processes ≤ p → rows_at p rows ≡ []) → tables_of plan (gathered processes rows_of) ≡ tables_of plan rows }
 {}
-
-/// Rows in message order depend on the rows of each process alone, in their order there. So a run whose rows are gathered process by
-/// process, and put in message order, has the very rows of the one-thread run, if each process has the rows that it has there.
-///
-/// - `by_place`: rows in message order that are the same at each process are the same, if each is of the process that received its message.
-/// - `by_event`: so are rows in message order that are the same for each event.
-/// - `events`: in any order, rows that are the same at each process are the same for each event.
-///
-/// A call does nothing: its caller learns what the clauses say.
-pub fn rows_by_place()
-    ensures by_place { (xs ys : List Row) → AreAtReceivers xs → AreInMessageOrder xs → AreInMessageOrder ys → ((p : ℕ) → rows_at p xs ≡ rows_at p ys) → xs ≡ ys }
-    ensures by_event { (xs ys : List Row) → AreInMessageOrder xs → AreInMessageOrder ys →
-        ((m : Message) → rows_of_event m xs ≡ rows_of_event m ys) → xs ≡ ys }
-    ensures events { (xs ys : List Row) → AreAtReceivers xs → ((p : ℕ) → rows_at p xs ≡ rows_at p ys) → (m : Message) → rows_of_event m xs ≡ rows_of_event m ys }
-{
-    message_order();
-}

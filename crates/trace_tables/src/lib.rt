@@ -1,51 +1,26 @@
-//! What a run is told by: tables of latencies and of drops, the trace, and their texts.
+//! What a run is told by: tables of latencies and of drops, and their text. The names of the trace too, so that a user has one door.
 #![tactic(auto)]
 
-mod batch;
 mod deliveries;
 mod destination;
 mod drops;
-mod fault;
-mod gather;
-mod gather_laws;
-mod interval;
-mod interval_laws;
 mod latencies;
 mod laws;
-mod layout;
-mod line;
 mod loss;
-mod naming;
-mod ordering;
-mod part;
-mod part_fault;
-mod queue;
-mod sink;
 mod so_far;
 mod tables;
 mod text;
-mod trace;
-mod trace_fault;
-mod trace_writer;
-mod waiting;
 mod write;
 
-pub use batch::Batch;
 pub use destination::Destination;
-pub use fault::{OutFault, SinkFault};
-pub use gather::Gather;
-pub use gather_laws::parts_of_rows;
-pub use interval::{cut, width};
-pub use interval_laws::batches_in_order;
 pub use latencies::Latencies;
-pub use laws::{drop_counts, latency_counts, rows_by_place, tables_by_place};
+pub use laws::{drop_counts, latency_counts, tables_by_place};
 pub use loss::Loss;
-pub use ordering::put_in_message_order;
-pub use part::Part;
-pub use part_fault::PartFault;
-pub use sink::{Sink, write_all};
 pub use so_far::TablesSoFar;
 pub use tables::Tables;
-pub use trace_fault::TraceFault;
-pub use trace_writer::TraceWriter;
-pub use write::{write_csv, write_trace};
+pub use trace_parts::{
+    Batch, Gather, OutFault, Part, PartFault, Sink, SinkFault, TraceFault, TraceWriter,
+    batches_in_order, cut, parts_of_rows, put_in_message_order, rows_by_place, width, write_all,
+    write_trace,
+};
+pub use write::write_csv;

@@ -10,13 +10,13 @@ use Rattle.std.proofs.lemmas.List.Elements.{filter-append}
 use Rattle.vlink.specs.declared.note.Row.{Row as Noted}
 use Rattle.netdesc.specs.Plan.{Plan}
 use Rattle.netdesc.specs.Faults.{process_count}
-use Rattle.trace_tables.specs.Counting.{rows_at}
-use Rattle.trace_tables.specs.Intervals.{rows_within, rows_before, rows_from}
-use Rattle.trace_tables.specs.Parts.{BatchRows}
+use Rattle.trace_parts.specs.Places.{rows_at}
+use Rattle.trace_parts.specs.Intervals.{rows_within, rows_before, rows_from}
+use Rattle.trace_parts.specs.Parts.{BatchRows}
 use Rattle.trace_tables.specs.SoFar.{SoFarLists, AreInTables, IsSoFar}
 use Rattle.trace_tables.specs.Tables.{TableLists, tables_of}
-use Rattle.trace_tables.proofs.SortedLemmas.{filters-swap}
-use Rattle.trace_tables.proofs.TimeLemmas.{none-before}
+use Rattle.trace_parts.proofs.SortedLemmas.{filters-swap}
+use Rattle.trace_parts.proofs.TimeLemmas.{none-before}
 use Rattle.seqsim.specs.Networks.{AreRowsOf}
 use Rattle.worker_pool.specs.Counts.{AreCountedBefore}
 use Rattle.worker_pool.specs.Traces.{AreLawfulRows, HasLawfulRows, IsBatchOfRun}

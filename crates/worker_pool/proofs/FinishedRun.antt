@@ -11,17 +11,17 @@ use Rattle.std.proofs.lemmas.List.{length-append, length-take-le}
 use Rattle.vlink.specs.declared.note.Row.{Row as Noted}
 use Rattle.netdesc.specs.Plan.{Plan}
 use Rattle.netdesc.specs.Faults.{process_count}
-use Rattle.trace_tables.specs.declared.fault.OutFault.{OutFault}
-use Rattle.trace_tables.specs.declared.fault.OutFault.TheVariants.{Device, OutOfMemory, Layout}
-use Rattle.trace_tables.specs.declared.part_fault.PartFault.TheVariants.{Gap}
-use Rattle.trace_tables.specs.declared.trace_fault.TraceFault.{TraceFault}
-use Rattle.trace_tables.specs.declared.trace_fault.TraceFault.TheVariants.{Part, Out}
-use Rattle.trace_tables.specs.Counting.{rows_at}
-use Rattle.trace_tables.specs.Intervals.{rows_before, rows_from}
-use Rattle.trace_tables.specs.Sinking.{IsBeginning}
-use Rattle.trace_tables.specs.Text.{trace_line, trace_text}
-use Rattle.trace_tables.specs.WrittenTrace.{WrittenTrace, lacks_head, end_fault}
-use Rattle.trace_tables.proofs.TimeLemmas.{all-before}
+use Rattle.trace_parts.specs.declared.fault.OutFault.{OutFault}
+use Rattle.trace_parts.specs.declared.fault.OutFault.TheVariants.{Device, OutOfMemory, Layout}
+use Rattle.trace_parts.specs.declared.part_fault.PartFault.TheVariants.{Gap}
+use Rattle.trace_parts.specs.declared.trace_fault.TraceFault.{TraceFault}
+use Rattle.trace_parts.specs.declared.trace_fault.TraceFault.TheVariants.{Part, Out}
+use Rattle.trace_parts.specs.Places.{rows_at}
+use Rattle.trace_parts.specs.Intervals.{rows_before, rows_from}
+use Rattle.trace_parts.specs.Sinking.{IsBeginning}
+use Rattle.trace_parts.specs.Text.{trace_line, trace_text}
+use Rattle.trace_parts.specs.WrittenTrace.{WrittenTrace, lacks_head, end_fault}
+use Rattle.trace_parts.proofs.TimeLemmas.{all-before}
 use Rattle.seqsim.specs.Networks.{AreRowsOf}
 use Rattle.worker_pool.specs.Traces.{AreLawfulRows, HasLawfulRows, IsTraceOfRun, text_before}
 use Rattle.worker_pool.proofs.GatheredRun.{none-of}

@@ -6,13 +6,13 @@ use Rattle.std.proofs.lemmas.List.{length-map, length-set}
 use Rattle.vlink.specs.declared.note.Row.{Row as Noted}
 use Rattle.netdesc.specs.Plan.{Plan}
 use Rattle.netdesc.specs.Faults.{process_count}
-use Rattle.trace_tables.specs.Counting.{rows_at}
-use Rattle.trace_tables.specs.Gathered.{IsOfRows}
-use Rattle.trace_tables.specs.declared.part_fault.PartFault.{PartFault}
-use Rattle.trace_tables.specs.Gathering.{Gathering, no_parts, part_fault, with_part, Waits, Gives}
-use Rattle.trace_tables.specs.Intervals.{rows_within}
-use Rattle.trace_tables.specs.Parts.{PartRows, BatchRows}
-use Rattle.trace_tables.proofs.IntervalLemmas.{cut-rises}
+use Rattle.trace_parts.specs.Places.{rows_at}
+use Rattle.trace_parts.specs.Gathered.{IsOfRows}
+use Rattle.trace_parts.specs.declared.part_fault.PartFault.{PartFault}
+use Rattle.trace_parts.specs.Gathering.{Gathering, no_parts, part_fault, with_part, Waits, Gives}
+use Rattle.trace_parts.specs.Intervals.{rows_within}
+use Rattle.trace_parts.specs.Parts.{PartRows, BatchRows}
+use Rattle.trace_parts.proofs.IntervalLemmas.{cut-rises}
 use Rattle.seqsim.specs.Networks.{AreRowsOf}
 use Rattle.worker_pool.specs.Parts.{IsPartOfRun}
 use Rattle.worker_pool.specs.Traces.{IsBatchOfRun, IsGatheringOfRun}

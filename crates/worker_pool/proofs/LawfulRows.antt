@@ -20,7 +20,7 @@ use Rattle.nodes.specs.declared.node.NodeRecord.{NodeRecord}
 use Rattle.nodes.specs.rules.Node.{NodeState}
 use Rattle.nodes.specs.rules.Simulation.{simulation_of}
 use Rattle.actor_run.specs.Running.{seen_row}
-use Rattle.trace_tables.specs.Counting.{rows_at as noted_at}
+use Rattle.trace_parts.specs.Places.{rows_at as noted_at}
 use Rattle.seqsim.specs.Networks.{AreRowsOf}
 use Rattle.seqsim.proofs.OneThreadRows.{one-here, one-ordered}
 use Rattle.seqsim.proofs.SeenRows.{unseen, back}

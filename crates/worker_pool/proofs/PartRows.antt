@@ -11,10 +11,10 @@ use Rattle.nodes.specs.rules.Node.{NodeState}
 use Rattle.nodes.specs.rules.Simulation.{simulation_of}
 use Rattle.exchange.specs.Views.{InShare}
 use Rattle.actor_run.specs.Running.{seen_row}
-use Rattle.trace_tables.specs.Counting.{rows_at as noted_at}
-use Rattle.trace_tables.specs.Intervals.{interval_width, cut, HasInterval, rows_within}
-use Rattle.trace_tables.specs.Parts.{PartRows, part_of}
-use Rattle.trace_tables.proofs.IntervalLemmas.{cut-inside, cut-rises}
+use Rattle.trace_parts.specs.Places.{rows_at as noted_at}
+use Rattle.trace_parts.specs.Intervals.{interval_width, cut, HasInterval, rows_within}
+use Rattle.trace_parts.specs.Parts.{PartRows, part_of}
+use Rattle.trace_parts.proofs.IntervalLemmas.{cut-inside, cut-rises}
 use Rattle.seqsim.specs.Networks.{AreRowsOf}
 use Rattle.seqsim.proofs.SeenRows.{unseen, back}
 use Rattle.worker_pool.specs.Parts.{IsIntervalSealed, IsPartOfRun}

@@ -5,17 +5,17 @@ use Rattle.std.specs.Io.KnownBytes.{append_known}
 use Rattle.std.proofs.lemmas.Grind.{common_steps}
 use Rattle.vlink.specs.declared.note.Row.{Row as Noted}
 use Rattle.netdesc.specs.Plan.{Plan}
-use Rattle.trace_tables.specs.declared.fault.OutFault.{OutFault}
-use Rattle.trace_tables.specs.declared.fault.OutFault.TheVariants.{Device}
-use Rattle.trace_tables.specs.declared.part_fault.PartFault.{PartFault}
-use Rattle.trace_tables.specs.declared.part_fault.PartFault.TheVariants.{Gap, Double, Stranger, OutOfMemory}
-use Rattle.trace_tables.specs.declared.trace_fault.TraceFault.{TraceFault}
-use Rattle.trace_tables.specs.declared.trace_fault.TraceFault.TheVariants.{Part, Out}
-use Rattle.trace_tables.specs.Gathering.{Gathering, part_fault}
-use Rattle.trace_tables.specs.Parts.{PartRows, BatchRows}
-use Rattle.trace_tables.specs.Sinking.{IsBeginning}
-use Rattle.trace_tables.specs.Text.{trace_text}
-use Rattle.trace_tables.specs.WrittenTrace.{WrittenTrace, batch_fault, lacks_head, end_fault}
+use Rattle.trace_parts.specs.declared.fault.OutFault.{OutFault}
+use Rattle.trace_parts.specs.declared.fault.OutFault.TheVariants.{Device}
+use Rattle.trace_parts.specs.declared.part_fault.PartFault.{PartFault}
+use Rattle.trace_parts.specs.declared.part_fault.PartFault.TheVariants.{Gap, Double, Stranger, OutOfMemory}
+use Rattle.trace_parts.specs.declared.trace_fault.TraceFault.{TraceFault}
+use Rattle.trace_parts.specs.declared.trace_fault.TraceFault.TheVariants.{Part, Out}
+use Rattle.trace_parts.specs.Gathering.{Gathering, part_fault}
+use Rattle.trace_parts.specs.Parts.{PartRows, BatchRows}
+use Rattle.trace_parts.specs.Sinking.{IsBeginning}
+use Rattle.trace_parts.specs.Text.{trace_text}
+use Rattle.trace_parts.specs.WrittenTrace.{WrittenTrace, batch_fault, lacks_head, end_fault}
 use Rattle.seqsim.specs.Networks.{AreRowsOf}
 use Rattle.worker_pool.specs.Written.{outcome_of, IsPlaceFault, IsFaultOfTrace, IsWritten}
 

@@ -1,4 +1,5 @@
 pub mod Counts
+pub mod Outcomes
 pub mod Parts
 pub mod Runs
 pub mod Traces

@@ -6,8 +6,8 @@ use Rattle.netdesc.specs.Plan.{Plan}
 use Rattle.nodes.specs.rules.Node.{NodeState}
 use Rattle.nodes.specs.rules.Simulation.{simulation_of}
 use Rattle.exchange.specs.Views.{InShare}
-use Rattle.trace_tables.specs.Intervals.{cut, HasInterval}
-use Rattle.trace_tables.specs.Parts.{PartRows, part_of}
+use Rattle.trace_parts.specs.Intervals.{cut, HasInterval}
+use Rattle.trace_parts.specs.Parts.{PartRows, part_of}
 use Rattle.seqsim.specs.Networks.{AreRowsOf}
 
 -- interval k is the next one at a process, and it is for good: there is such an interval, the rows before it have left and no others, its end

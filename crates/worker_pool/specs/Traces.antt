@@ -6,15 +6,15 @@ use Rattle.std.specs.List.{All}
 use Rattle.vlink.specs.declared.note.Row.{Row as Noted}
 use Rattle.netdesc.specs.Plan.{Plan}
 use Rattle.netdesc.specs.Faults.{process_count}
-use Rattle.trace_tables.specs.Counting.{rows_at}
-use Rattle.trace_tables.specs.Gathered.{IsOfRows}
-use Rattle.trace_tables.specs.Gathering.{Gathering}
-use Rattle.trace_tables.specs.Intervals.{rows_within, rows_before}
-use Rattle.trace_tables.specs.Ordered.{AreInMessageOrder, AreAtReceivers}
-use Rattle.trace_tables.specs.Parts.{BatchRows}
-use Rattle.trace_tables.specs.Sinking.{IsBeginning}
-use Rattle.trace_tables.specs.Text.{trace_text}
-use Rattle.trace_tables.specs.WrittenTrace.{WrittenTrace}
+use Rattle.trace_parts.specs.Places.{rows_at}
+use Rattle.trace_parts.specs.Gathered.{IsOfRows}
+use Rattle.trace_parts.specs.Gathering.{Gathering}
+use Rattle.trace_parts.specs.Intervals.{rows_within, rows_before}
+use Rattle.trace_parts.specs.Ordered.{AreInMessageOrder, AreAtReceivers}
+use Rattle.trace_parts.specs.Parts.{BatchRows}
+use Rattle.trace_parts.specs.Sinking.{IsBeginning}
+use Rattle.trace_parts.specs.Text.{trace_text}
+use Rattle.trace_parts.specs.WrittenTrace.{WrittenTrace}
 use Rattle.seqsim.specs.Networks.{AreRowsOf}
 
 -- rows in message order, each of the process that received its message, none of a process that the network lacks, and none later than the

@@ -3,13 +3,13 @@ use Rattle.std.specs.Prelude.{◌≡◌, ◌≢◌, ℕ, ◌+◌, List, Option, 
 use Rattle.std.specs.Io.KnownBytes.{append_known}
 use Rattle.vlink.specs.declared.note.Row.{Row as Noted}
 use Rattle.netdesc.specs.Plan.{Plan}
-use Rattle.trace_tables.specs.declared.fault.OutFault.TheVariants.{Device}
-use Rattle.trace_tables.specs.declared.part_fault.PartFault.{PartFault}
-use Rattle.trace_tables.specs.declared.part_fault.PartFault.TheVariants.{Stranger, OutOfMemory}
-use Rattle.trace_tables.specs.declared.trace_fault.TraceFault.{TraceFault}
-use Rattle.trace_tables.specs.declared.trace_fault.TraceFault.TheVariants.{Part, Out}
-use Rattle.trace_tables.specs.Sinking.{IsBeginning}
-use Rattle.trace_tables.specs.Text.{trace_text}
+use Rattle.trace_parts.specs.declared.fault.OutFault.TheVariants.{Device}
+use Rattle.trace_parts.specs.declared.part_fault.PartFault.{PartFault}
+use Rattle.trace_parts.specs.declared.part_fault.PartFault.TheVariants.{Stranger, OutOfMemory}
+use Rattle.trace_parts.specs.declared.trace_fault.TraceFault.{TraceFault}
+use Rattle.trace_parts.specs.declared.trace_fault.TraceFault.TheVariants.{Part, Out}
+use Rattle.trace_parts.specs.Sinking.{IsBeginning}
+use Rattle.trace_parts.specs.Text.{trace_text}
 use Rattle.seqsim.specs.Networks.{AreRowsOf}
 
 -- a part or a batch is missing, or comes twice

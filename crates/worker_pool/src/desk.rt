@@ -3,10 +3,11 @@ ghost use Rattle.std.specs.Prelude.{◌≡◌, ◌≢◌, ◌<◌, ◌⊎◌, �
 ghost use Rattle.vlink.specs.declared.time.TheConstants.{GREATEST_NS};
 ghost use Rattle.std.proofs.Props.{props};
 ghost use Rattle.netdesc.specs.Faults.{process_count};
-ghost use Rattle.trace_tables.specs.declared.part_fault.PartFault.{PartFault};
-ghost use Rattle.trace_tables.specs.declared.part_fault.PartFault.TheVariants.{OutOfMemory};
-ghost use Rattle.trace_tables.specs.Gathering.{no_parts, part_fault, Waits, Gives};
-ghost use Rattle.trace_tables.specs.Parts.{BatchRows};
+ghost use Rattle.journal.specs.declared.fault.PoolFault.TheVariants as pool;
+ghost use Rattle.trace_parts.specs.declared.part_fault.PartFault.{PartFault};
+ghost use Rattle.trace_parts.specs.declared.part_fault.PartFault.TheVariants.{OutOfMemory};
+ghost use Rattle.trace_parts.specs.Gathering.{no_parts, part_fault, Waits, Gives};
+ghost use Rattle.trace_parts.specs.Parts.{BatchRows};
 ghost use Rattle.worker_pool.specs.Parts.{IsPartOfRun};
 ghost use Rattle.worker_pool.specs.Traces.{HasLawfulRows, IsGatheringOfRun};
 ghost use Rattle.worker_pool.specs.Written.{IsPlaceFault, first_of};
@@ -69,6 +70,7 @@ impl<J: NetworkRun> Desk<J> {
             (Waits self.old.gather part self.new.gather ⊎ ((batch : BatchRows) × Gives self.old.gather part batch self.new.gather)) }
         ensures refused { (fault : PartFault) → part_fault self.old.gather part ≡ Some fault → IsOk result × (self.new.fault ≡ first_of self.old.fault fault) }
         ensures kept { part_fault self.old.gather part ≡ None → self.new.fault ≡ self.old.fault }
+        ensures memory { IfErr result (λ fault. fault ≡ pool.OutOfMemory) }
     {
         match self.gathered(part) {
             Ok(None) => Ok(()),
@@ -103,7 +105,9 @@ impl<J: NetworkRun> Desk<J> {
     }
 
     /// Sends a batch to the writer's thread, which takes batches as long as there is a desk.
-    fn send<T: Wait>(&self, rt: &T, batch: RunBatch<J>) -> Result<(), PoolFault> {
+    fn send<T: Wait>(&self, rt: &T, batch: RunBatch<J>) -> Result<(), PoolFault>
+        ensures memory { IfErr result (λ fault. fault ≡ pool.OutOfMemory) }
+    {
         match self.batches.send(rt, batch) {
             Err(SendError::OutOfMemory(_)) => Err(PoolFault::OutOfMemory),
             Ok(()) | Err(SendError::Disconnected(_)) => Ok(()),
@@ -147,11 +151,9 @@ impl<J: NetworkRun> TraceLock<J> {
     }
 
     /// The next part that a process can give goes to the desk. The answer is whether there was one.
-    fn give_part<'a, T: Wait>(
-        &self,
-        rt: &T,
-        locked: &mut Locked<'a, J>,
-    ) -> Result<bool, PoolFault> {
+    fn give_part<'a, T: Wait>(&self, rt: &T, locked: &mut Locked<'a, J>) -> Result<bool, PoolFault>
+        ensures memory { IfErr result (λ fault. fault ≡ pool.OutOfMemory) }
+    {
         // The process is one of the network.
         let _process = locked.number();
         let Some(part) = next_part(self.alloc, locked, self.until)? else {
@@ -167,7 +169,9 @@ impl<J: NetworkRun> TraceLock<J> {
         &self,
         rt: &T,
         locked: &mut Locked<'a, J>,
-    ) -> Result<(), PoolFault> {
+    ) -> Result<(), PoolFault>
+        ensures memory { IfErr result (λ fault. fault ≡ pool.OutOfMemory) }
+    {
         for _ in rt.forever() {
             if !self.give_part(rt, locked)? {
                 return Ok(());

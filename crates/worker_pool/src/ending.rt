@@ -1,7 +1,8 @@
 //! The end of a run: one thread has all in hand, and gives turns until everything is committed.
-ghost use Rattle.std.specs.Prelude.{◌≡◌, ◌<◌, ℕ, true, [], length, slice_get, Some, IsTrue, OnOk};
+ghost use Rattle.std.specs.Prelude.{◌≡◌, ◌≢◌, ◌<◌, ℕ, true, [], length, slice_get, Some, IsTrue, IfErr, OnOk};
 ghost use Rattle.netdesc.specs.Faults.{process_count};
 ghost use Rattle.nodes.specs.rules.Node.{NodeState};
+ghost use Rattle.journal.specs.declared.fault.PoolFault.TheVariants.{Spawn};
 ghost use Rattle.exchange.specs.Views.{InShare};
 ghost use Rattle.worker_pool.specs.Runs.{IsOfWorld, IsEnded, HaveGoneBy};
 
@@ -73,6 +74,7 @@ impl<'a, J: NetworkRun> Unlocked<'a, J> {
         requires { until ≡ J.plan.until }
         ensures ended { OnOk result (IsEnded J.plan self.new.exchange.entries self.new.helds.items) }
         ensures kept { OnOk result (IsTrue keeps_rows → HaveGoneBy 0 self.new.helds.items) }
+        ensures no_spawn { IfErr result (λ fault. fault ≢ Spawn) }
     {
         for _ in rt.forever() {
             let _gvt = self.exchange.set_gvt()?;
@@ -90,7 +92,9 @@ impl<'a, J: NetworkRun> Unlocked<'a, J> {
         rt: &T,
         pace: &Pace,
         gate: &G,
-    ) -> Result<(), PoolFault> {
+    ) -> Result<(), PoolFault>
+        ensures no_spawn { IfErr result (λ fault. fault ≢ Spawn) }
+    {
         for held in self.helds.iter_mut() {
             self.exchange.take_letters(held)?;
             work_to(held, u64::MAX, pace, gate)?;

@@ -9,6 +9,7 @@ mod lawful_rows;
 mod locks;
 mod network_run;
 mod opening;
+mod outcomes;
 mod pace;
 mod parts;
 mod results;

@@ -1,4 +1,5 @@
 //! How fast a run by workers goes.
+ghost use Rattle.std.specs.Prelude.{◌≡◌};
 
 /// How many workers there are; how many messages a process handles in one turn at most; and how far a process runs ahead of the GVT that it saw
 /// at most, in ns.
@@ -14,7 +15,9 @@ pub struct Pace {
 
 impl Pace {
     /// The same pace with a turn and a window of 1 at least: with 0 no message would ever be handled.
-    pub(crate) fn that_goes(self) -> Self {
+    pub(crate) fn that_goes(self) -> Self
+        ensures { result.workers ≡ self.workers }
+    {
         Pace {
             workers: self.workers,
             turn: self.turn.max(1),

@@ -1,7 +1,8 @@
 //! What an ended run has found.
-ghost use Rattle.std.specs.Prelude.{◌≡◌, List, IfOk};
+ghost use Rattle.std.specs.Prelude.{◌≡◌, List, IfOk, IfErr};
 ghost use Rattle.vlink.specs.declared.note.Row.{Row as Noted};
 ghost use Rattle.virtual_time.specs.Journal.{steps};
+ghost use Rattle.journal.specs.declared.fault.PoolFault.TheVariants.{OutOfMemory};
 ghost use Rattle.trace_tables.specs.Tables.{tables_of};
 ghost use Rattle.seqsim.specs.Committed.{AreCommittedRows};
 ghost use Rattle.seqsim.specs.Networks.{AreRowsOf};
@@ -15,7 +16,7 @@ use journal::PoolFault;
 use netdesc::Network;
 use nodes::{Node, NodeRecord};
 use seqsim::{network_laws, rows_by_process};
-use std::alloc::Global;
+use std::alloc::{AllocError, Global};
 use trace_tables::{Tables, batches_in_order, put_in_message_order, tables_by_place};
 use virtual_time::headline;
 use vlink::{Message, Note, Row, Step, Time};
@@ -24,13 +25,14 @@ impl<'a, J: NetworkRun> Unlocked<'a, J> {
     /// The steps of the run, in their order. It is refused for memory alone.
     pub(crate) fn steps(&self, alloc: Global) -> Result<Vec<Step>, PoolFault>
         requires { IsEnded J.plan self.now.exchange.entries self.now.helds.items }
-        ensures { IfOk result (λ steps. IsJournalOf J.plan steps.items) }
+        ensures journal { IfOk result (λ steps. IsJournalOf J.plan steps.items) }
+        ensures memory { IfErr result (λ fault. fault ≡ OutOfMemory) }
     {
         self.exchange.inner.step_list(alloc)
     }
 
     /// The rows of all committed events, process by process. It is refused for memory alone.
-    fn gathered_rows(&self, alloc: Global, network: &Network) -> Result<Vec<Row>, PoolFault>
+    fn gathered_rows(&self, alloc: Global, network: &Network) -> Result<Vec<Row>, AllocError>
         requires network { network.now ≡ J.plan }
         requires ended { IsEnded J.plan self.now.exchange.entries self.now.helds.items }
         requires kept { HaveGoneBy 0 self.now.helds.items }
@@ -46,7 +48,7 @@ impl<'a, J: NetworkRun> Unlocked<'a, J> {
     }
 
     /// The rows of all events, in message order. It is refused for memory alone.
-    pub(crate) fn rows(&self, alloc: Global, network: &Network) -> Result<Vec<Row>, PoolFault>
+    pub(crate) fn rows(&self, alloc: Global, network: &Network) -> Result<Vec<Row>, AllocError>
         requires network { network.now ≡ J.plan }
         requires ended { IsEnded J.plan self.now.exchange.entries self.now.helds.items }
         requires kept { HaveGoneBy 0 self.now.helds.items }
@@ -60,8 +62,12 @@ impl<'a, J: NetworkRun> Unlocked<'a, J> {
 
     /// The tables of the run: those of the rows that were counted, and of the rows that each process has from there on. No row of it is kept.
     ///
-    /// `OutOfMemory`: memory is refused, or was while rows were counted.
-    pub(crate) fn tables(&self, network: &Network, counted: Counted<J>) -> Result<Tables, PoolFault>
+    /// It fails only where memory is refused, or was while rows were counted.
+    pub(crate) fn tables(
+        &self,
+        network: &Network,
+        counted: Counted<J>,
+    ) -> Result<Tables, AllocError>
         requires network { network.now ≡ J.plan }
         requires ended { IsEnded J.plan self.now.exchange.entries self.now.helds.items }
         requires counted { HaveGoneBy counted.end self.now.helds.items }
@@ -75,7 +81,7 @@ impl<'a, J: NetworkRun> Unlocked<'a, J> {
         tables_by_place();
         let Counted { tables, end, .. } = counted;
         let Some(mut tables) = tables else {
-            return Err(PoolFault::OutOfMemory);
+            return Err(AllocError);
         };
         let behind = Time::known(network.until().ns() + 1);
         for process in 0..self.helds.len() {

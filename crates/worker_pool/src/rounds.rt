@@ -31,10 +31,8 @@ const LOOKS_PER_GVT: u64 = 8;
 /// After so many looks in vain a worker looks at all processes, and not at hints alone.
 const LOOKS_BEFORE_ALL: u64 = 4;
 
-/// After so many looks in vain a worker rests for a while; one without a list after so many.
+/// After so many looks in vain a worker rests for a while; one without a list after each.
 const LOOKS_BEFORE_REST: u64 = 4_096;
-
-const LOOKS_OF_STANDBY: u64 = 16;
 
 /// How long a worker rests, in microseconds, unless the run ends.
 const REST_US: u64 = 5_000;

@@ -1,9 +1,9 @@
 //! The exchange that all workers of a run share.
-ghost use Rattle.std.specs.Prelude.{◌≡◌, ◌+◌, ◌<◌, ◌≤◌, length, Err};
+ghost use Rattle.std.specs.Prelude.{◌≡◌, ◌≢◌, ◌+◌, ◌<◌, ◌≤◌, length, IfErr, Err};
 ghost use Rattle.virtual_time.specs.Journal.{steps, reach};
 ghost use Rattle.netdesc.specs.Faults.{process_count};
 ghost use Rattle.nodes.specs.rules.Simulation.{simulation_of};
-ghost use Rattle.journal.specs.declared.fault.PoolFault.TheVariants.{JournalFull};
+ghost use Rattle.journal.specs.declared.fault.PoolFault.TheVariants.{JournalFull, Spawn};
 ghost use Rattle.worker_pool.specs.Runs.{most_steps};
 
 use crate::locks::Locked;
@@ -57,6 +57,7 @@ impl<'a, J: NetworkRun> Shared<'a, J> {
     pub(crate) fn take_letters(&mut self, locked: &mut Locked<'a, J>) -> Result<(), PoolFault>
         ensures full { result ≡ Err JournalFull → most_steps < length (steps self.old.entries)
             + length ((reach (simulation_of J.plan) self.old.entries).mail locked.old.number) }
+        ensures no_spawn { IfErr result (λ fault. fault ≢ Spawn) }
     {
         if locked.pending() != 0 {
             return Ok(());
@@ -68,6 +69,7 @@ impl<'a, J: NetworkRun> Shared<'a, J> {
     /// What the process did goes to the journal, and its letters to the mail. `JournalFull`: the steps would pass the most that a run can have.
     pub(crate) fn give_block(&mut self, locked: &mut Locked<'a, J>) -> Result<(), PoolFault>
         ensures full { result ≡ Err JournalFull → most_steps < length (steps self.old.entries) + length locked.old.block + 1 }
+        ensures no_spawn { IfErr result (λ fault. fault ≢ Spawn) }
     {
         post(locked, &mut self.inner)
     }
@@ -75,6 +77,7 @@ impl<'a, J: NetworkRun> Shared<'a, J> {
     /// Sets GVT. The answer is GVT, in ns. `JournalFull`: there are as many steps as a run can have.
     pub(crate) fn set_gvt(&mut self) -> Result<Time, PoolFault>
         ensures full { result ≡ Err JournalFull → most_steps ≤ length (steps self.old.entries) }
+        ensures no_spawn { IfErr result (λ fault. fault ≢ Spawn) }
     {
         publish(&mut self.inner)
     }

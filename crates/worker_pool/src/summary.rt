@@ -1,10 +1,12 @@
 //! What is asked of a run beside its trace: its tables, and its steps where they are wanted. No row is listed for it.
-ghost use Rattle.std.specs.Prelude.{◌≡◌, List, length, IfOk};
+ghost use Rattle.std.specs.Prelude.{◌≡◌, List, length, IfOk, IfErr};
 ghost use Rattle.vlink.specs.declared.note.Row.{Row as Noted};
 ghost use Rattle.netdesc.specs.Faults.{process_count};
+ghost use Rattle.journal.specs.declared.fault.PoolFault.TheVariants.{OutOfMemory, Spawn};
 ghost use Rattle.journal.specs.Names.{names};
 ghost use Rattle.trace_tables.specs.Tables.{tables_of};
 ghost use Rattle.seqsim.specs.Networks.{AreRowsOf};
+ghost use Rattle.worker_pool.specs.Outcomes.{CanWantWorkers};
 ghost use Rattle.worker_pool.specs.Runs.{IsEnded, IsJournalAsked, HaveGoneBy};
 
 use crate::counted::Counted;
@@ -44,6 +46,7 @@ impl<'a, J: NetworkRun> Unlocked<'a, J> {
         ensures tables { IfOk result (λ s. (rows : List Noted) × AreRowsOf J.plan rows × (s.tables ≡ tables_of J.plan rows)) }
         ensures each { IfOk result (λ s. (rows : List Noted) → AreRowsOf J.plan rows → s.tables ≡ tables_of J.plan rows) }
         ensures journal { IfOk result (λ s. IsJournalAsked J.plan with_steps s.journal.items) }
+        ensures memory { IfErr result (λ fault. fault ≡ OutOfMemory) }
     {
         let tables = self.tables(network, counted)?;
         let journal = self.steps_asked(alloc, with_steps)?;
@@ -53,7 +56,8 @@ impl<'a, J: NetworkRun> Unlocked<'a, J> {
     /// The steps of an ended run, or none where they are not asked for.
     fn steps_asked(&self, alloc: Global, with_steps: bool) -> Result<Vec<Step>, PoolFault>
         requires { IsEnded J.plan self.now.exchange.entries self.now.helds.items }
-        ensures { IfOk result (λ steps. IsJournalAsked J.plan with_steps steps.items) }
+        ensures asked { IfOk result (λ steps. IsJournalAsked J.plan with_steps steps.items) }
+        ensures memory { IfErr result (λ fault. fault ≡ OutOfMemory) }
     {
         if with_steps {
             self.steps(alloc)
@@ -80,6 +84,7 @@ fn summary_named<J: NetworkRun + Send + Sync, G: Gate + Sync, T: Threads + Wait 
     ensures tables { IfOk result (λ s. (rows : List Noted) × AreRowsOf J.plan rows × (s.tables ≡ tables_of J.plan rows)) }
     ensures each { IfOk result (λ s. (rows : List Noted) → AreRowsOf J.plan rows → s.tables ≡ tables_of J.plan rows) }
     ensures journal { IfOk result (λ s. IsJournalAsked J.plan with_steps s.journal.items) }
+    ensures spawn { IfErr result (λ fault. fault ≡ Spawn → CanWantWorkers pace.now.workers (process_count network.now)) }
 {
     let (ended, _none) = run_to_end::<J, G, T>(rt, alloc, network, table, pairs, pace, gate, None)?;
     let counted = Counted::none(alloc, network)?;
@@ -99,6 +104,7 @@ pub fn run_summary<G: Gate + Sync, T: Threads + Wait + Sync>(
     ensures tables { IfOk result (λ s. (rows : List Noted) × AreRowsOf network.now rows × (s.tables ≡ tables_of network.now rows)) }
     ensures each { IfOk result (λ s. (rows : List Noted) → AreRowsOf network.now rows → s.tables ≡ tables_of network.now rows) }
     ensures journal { IfOk result (λ s. IsJournalAsked network.now with_steps s.journal.items) }
+    ensures spawn { IfErr result (λ fault. fault ≡ Spawn → CanWantWorkers pace.workers (process_count network.now)) }
 {
     let table = Entries::new(alloc)?;
     let pairs = Pairs::new(alloc, network.process_count())?;

@@ -1,9 +1,12 @@
 //! Threads that give turns to processes.
-ghost use Rattle.std.specs.Prelude.{◌≡◌, ◌≤◌, ◌⊎◌, IfErr};
-ghost use Rattle.journal.specs.Faults.{fault_number};
+ghost use Rattle.std.specs.Prelude.{◌≡◌, IfErr};
+ghost use Rattle.netdesc.specs.Faults.{process_count};
+ghost use Rattle.journal.specs.declared.fault.PoolFault.TheVariants.{Spawn};
+ghost use Rattle.worker_pool.specs.Outcomes.{CanWantWorkers};
 
 use crate::locks::Locks;
 use crate::network_run::NetworkRun;
+use crate::outcomes::{add_outcome, least_fault};
 use crate::pace::Pace;
 use crate::rounds::batch::ExchangeLock;
 use crate::rounds::picker::Picker;
@@ -20,8 +23,8 @@ use std::thread::Threads;
 
 /// Starts as many workers as the pace says, and joins all of them. Where there is no process, none is started.
 ///
-/// A refusal to one worker ends the others at their next turn. Of several the one with the least number is answered. `Spawn`: a worker
-/// cannot be started.
+/// A refusal to one worker ends the others at their next turn. All of them are joined, and the answer is the least fault of what they ended
+/// with, and of the start. `Spawn`: a worker cannot be started.
 pub(crate) fn start_all<'a, J: NetworkRun + Send + Sync, G: Gate + Sync, T: Threads + Wait + Sync>(
     rt: &T,
     alloc: Global,
@@ -32,8 +35,9 @@ pub(crate) fn start_all<'a, J: NetworkRun + Send + Sync, G: Gate + Sync, T: Thre
     gate: &G,
 ) -> Result<(), PoolFault>
     requires { network.now ≡ J.plan }
+    ensures spawn { IfErr result (λ fault. fault ≡ Spawn → CanWantWorkers pace.now.workers (process_count J.plan)) }
 {
-    if locks.locks.is_empty() {
+    if locks.locks.is_empty() || pace.workers == 0 {
         return Ok(());
     }
     let workers = usize::from(pace.workers);
@@ -41,12 +45,13 @@ pub(crate) fn start_all<'a, J: NetworkRun + Send + Sync, G: Gate + Sync, T: Thre
     let schedule = &schedule;
     let stop = AtomicBool::new(false);
     let stop = &stop;
-    thread::scope(thread::scope_env(), rt, |scope| {
+    thread::scope(thread::scope_env(), rt, |scope| -> Result<(), PoolFault> {
+        let mut outcomes = Vec::with_capacity(alloc, workers + 1)?;
         let mut handles = Vec::new(alloc);
-        let mut outcome = Ok(());
+        let mut start = Ok(());
         for picker in pickers {
             if handles.reserve(1).is_err() {
-                outcome = refused(stop, PoolFault::OutOfMemory);
+                start = refused(stop, PoolFault::OutOfMemory);
                 break;
             }
             match scope.spawn(move || work(
@@ -54,15 +59,16 @@ pub(crate) fn start_all<'a, J: NetworkRun + Send + Sync, G: Gate + Sync, T: Thre
             )) {
                 Ok(handle) => handles.push_reserved(handle),
                 Err(_) => {
-                    outcome = refused(stop, PoolFault::Spawn);
+                    start = refused(stop, PoolFault::Spawn);
                     break;
                 }
             }
         }
+        add_outcome(&mut outcomes, start)?;
         for handle in handles {
-            outcome = first_fault(outcome, handle.join(rt));
+            add_outcome(&mut outcomes, handle.join(rt))?;
         }
-        outcome
+        least_fault(outcomes.as_slice())
     })
 }
 
@@ -112,21 +118,4 @@ fn work<'s, 'a, J: NetworkRun, G: Gate, T: Wait>(
 fn refused(stop: &AtomicBool, fault: PoolFault) -> Result<(), PoolFault> {
     stop.store(true, Ordering::SeqCst);
     Err(fault)
-}
-
-/// Of two outcomes the fault with the lesser number, where there is one.
-fn first_fault(one: Result<(), PoolFault>, other: Result<(), PoolFault>) -> Result<(), PoolFault>
-    ensures either { (result ≡ one) ⊎ (result ≡ other) }
-    ensures least { IfErr one (λ fault. IfErr result (λ told. fault_number told ≤ fault_number fault)) }
-    ensures least_other { IfErr other (λ fault. IfErr result (λ told. fault_number told ≤ fault_number fault)) }
-{
-    match (one, other) {
-        (Err(first), Err(second)) => Err(if first.number() <= second.number() {
-            first
-        } else {
-            second
-        }),
-        (Err(first), Ok(())) => Err(first),
-        (Ok(()), outcome) => outcome,
-    }
 }

@@ -2,10 +2,10 @@
 ghost use Rattle.std.specs.Prelude.{◌≡◌, true, false, Some, Err, OnOk, OnErr, IfErr, IfSome};
 ghost use Rattle.std.specs.Io.KnownBytes.{append_known};
 ghost use Rattle.std.proofs.Props.{props};
-ghost use Rattle.trace_tables.specs.declared.fault.OutFault.TheVariants.{Device};
-ghost use Rattle.trace_tables.specs.declared.trace_fault.TraceFault.{TraceFault};
-ghost use Rattle.trace_tables.specs.declared.trace_fault.TraceFault.TheVariants.{Out};
-ghost use Rattle.trace_tables.specs.WrittenTrace.{next_text, batch_fault};
+ghost use Rattle.trace_parts.specs.declared.fault.OutFault.TheVariants.{Device};
+ghost use Rattle.trace_parts.specs.declared.trace_fault.TraceFault.{TraceFault};
+ghost use Rattle.trace_parts.specs.declared.trace_fault.TraceFault.TheVariants.{Out};
+ghost use Rattle.trace_parts.specs.WrittenTrace.{next_text, batch_fault};
 ghost use Rattle.worker_pool.specs.Counts.{AreCountedBefore};
 ghost use Rattle.worker_pool.specs.Traces.{HasLawfulRows, IsTraceOfRun};
 ghost use Rattle.worker_pool.specs.Written.{outcome_of, IsPlaceFault, IsFaultOfTrace, IsWritten};

@@ -1,4 +1,7 @@
 //! The turns of several processes that a worker holds at once.
+ghost use Rattle.std.specs.Prelude.{◌≢◌, IfErr};
+ghost use Rattle.journal.specs.declared.fault.PoolFault.TheVariants.{Spawn};
+
 use super::apart::Apart;
 use super::schedule::Call;
 use super::{PAUSES_OF_TRY, TRIES};
@@ -64,7 +67,9 @@ pub(crate) fn work_to<'a, J: NetworkRun, G: Gate>(
     limit_ns: u64,
     pace: &Pace,
     gate: &G,
-) -> Result<(), PoolFault> {
+) -> Result<(), PoolFault>
+    ensures no_spawn { IfErr result (λ fault. fault ≢ Spawn) }
+{
     let seen_ns = locked.share().seen.ns();
     let ahead_ns = limit_ns.saturating_sub(seen_ns).min(pace.window_ns);
     let _moves = work(locked, u32::from(pace.turn), ahead_ns, gate)?;

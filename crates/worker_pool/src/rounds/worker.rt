@@ -4,8 +4,8 @@ use super::hint::Hint;
 use super::picker::Picker;
 use super::schedule::{Call, Schedule};
 use super::{
-    HELD, LOOKS_BEFORE_ALL, LOOKS_BEFORE_REST, LOOKS_OF_STANDBY, LOOKS_PER_GVT, PAUSES, REST_US,
-    ROUNDS_PER_GVT, STOLEN,
+    HELD, LOOKS_BEFORE_ALL, LOOKS_BEFORE_REST, LOOKS_PER_GVT, PAUSES, REST_US, ROUNDS_PER_GVT,
+    STOLEN,
 };
 use crate::locks::{Locked, Locks};
 use crate::network_run::NetworkRun;
@@ -228,14 +228,9 @@ impl<'s, 'a, J: NetworkRun, G: Gate, T: Wait> Worker<'s, 'a, J, G, T> {
         Ok(())
     }
 
-    /// Lets other threads run, and rests where it has looked in vain for long.
+    /// Lets other threads run, and rests where it has looked in vain for long, or has no list.
     fn pause(&self) {
-        let most = if self.picker.has_list() {
-            LOOKS_BEFORE_REST
-        } else {
-            LOOKS_OF_STANDBY
-        };
-        if self.looks >= most {
+        if self.looks >= LOOKS_BEFORE_REST || !self.picker.has_list() {
             self.schedule.rest(self.rt, REST_US);
             return;
         }

@@ -1,6 +1,6 @@
 use Rattle.std.proofs.Common.{◌≡◌}
 use Rattle.journal_text.specs.Text.{step_line}
-use Rattle.trace_tables.specs.declared.fault.OutFault.TheVariants.{Device}
+use Rattle.trace_parts.specs.declared.fault.OutFault.TheVariants.{Device}
 use Rattle.afdxsim.proofs.Holding.{part-out}
 use Rattle.afdxsim.proofs.steps.write_steps.Goals as goal
 

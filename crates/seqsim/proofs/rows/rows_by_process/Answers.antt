@@ -1,6 +1,6 @@
 use Rattle.std.proofs.Common.{refl, arith}
 use Rattle.nodes.specs.rules.Simulation.{simulation_of}
-use Rattle.trace_tables.specs.Counting.{gathered}
+use Rattle.trace_parts.specs.Places.{gathered}
 use Rattle.seqsim.proofs.CommittedRows.{rows-gathered, rows-all}
 use Rattle.seqsim.proofs.OneThreadRows.{one-ordered}
 use Rattle.seqsim.proofs.RowsByProcess.{ordered-rows, ordered-committed}

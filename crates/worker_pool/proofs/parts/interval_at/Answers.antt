@@ -1,6 +1,6 @@
 use Rattle.std.proofs.Common.{◌/◌, ◌∙◌, sym, ap, arith}
-use Rattle.trace_tables.specs.Intervals.{cut}
-use Rattle.trace_tables.proofs.IntervalLemmas.{cut-inside}
+use Rattle.trace_parts.specs.Intervals.{cut}
+use Rattle.trace_parts.proofs.IntervalLemmas.{cut-inside}
 use Rattle.worker_pool.proofs.PartRows.{begins-one}
 use Rattle.worker_pool.proofs.parts.interval_at.Goals as goal
 

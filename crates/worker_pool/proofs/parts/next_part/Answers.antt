@@ -1,7 +1,7 @@
 use Rattle.std.proofs.Common.{◌≡◌, ◌∙◌, ◌+◌, sym, ap, subst}
 use Rattle.std.specs.Prelude.{Option, IfSome}
-use Rattle.trace_tables.specs.Intervals.{cut, HasInterval}
-use Rattle.trace_tables.specs.Parts.{PartRows}
+use Rattle.trace_parts.specs.Intervals.{cut, HasInterval}
+use Rattle.trace_parts.specs.Parts.{PartRows}
 use Rattle.worker_pool.proofs.PartRows.{none-sealed, gone-with}
 use Rattle.worker_pool.proofs.parts.next_part.Goals as goal
 

@@ -2,8 +2,8 @@ use Rattle.std.proofs.Common.{◌≡◌, ◌∙◌, ◌↔◌, ◌+◌, ap}
 use Rattle.std.specs.Prelude.{Option, IsSome, IfSome}
 use Rattle.std.proofs.lemmas.Option.{IfSome_then}
 use Rattle.actor_run.proofs.Errors.{ok-weaker}
-use Rattle.trace_tables.specs.Intervals.{cut, HasInterval}
-use Rattle.trace_tables.specs.Parts.{PartRows, part_of}
+use Rattle.trace_parts.specs.Intervals.{cut, HasInterval}
+use Rattle.trace_parts.specs.Parts.{PartRows, part_of}
 use Rattle.worker_pool.specs.Parts.{IsIntervalSealed, IsPartOfRun}
 use Rattle.worker_pool.proofs.PartRows.{part-at, some-at}
 use Rattle.worker_pool.proofs.parts.sealed_part.Goals as goal

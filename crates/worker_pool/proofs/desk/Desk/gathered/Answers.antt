@@ -3,13 +3,13 @@ use mathlib.Core.Logic.{∥∥₁_elim, ∥∥₁_map, ∥∥₁_map₂}
 use Rattle.std.proofs.Props.{props}
 use Rattle.std.specs.Prelude.{Option, Result, IfSome, IfErr}
 use Rattle.netdesc.specs.Faults.{process_count}
-use Rattle.trace_tables.specs.declared.part_fault.PartFault.{PartFault}
-use Rattle.trace_tables.specs.declared.part_fault.PartFault.TheVariants.{OutOfMemory}
-use Rattle.trace_tables.specs.Counting.{rows_at, gathered}
-use Rattle.trace_tables.specs.Gathering.{part_fault, Gives}
-use Rattle.trace_tables.specs.Intervals.{rows_within}
-use Rattle.trace_tables.specs.Ordered.{IsInOrder}
-use Rattle.trace_tables.specs.Parts.{BatchRows}
+use Rattle.trace_parts.specs.declared.part_fault.PartFault.{PartFault}
+use Rattle.trace_parts.specs.declared.part_fault.PartFault.TheVariants.{OutOfMemory}
+use Rattle.trace_parts.specs.Places.{rows_at, gathered}
+use Rattle.trace_parts.specs.Gathering.{part_fault, Gives}
+use Rattle.trace_parts.specs.Intervals.{rows_within}
+use Rattle.trace_parts.specs.Ordered.{IsInOrder}
+use Rattle.trace_parts.specs.Parts.{BatchRows}
 use Rattle.worker_pool.proofs.GatheredRun.{none-of, own-rows, part-gathered, given-batch}
 use Rattle.worker_pool.specs.Written.{IsPlaceFault}
 use Rattle.worker_pool.proofs.Written.{part-told}

@@ -1,6 +1,6 @@
 use Rattle.std.proofs.Common.{◌≡◌, subst}
 use Rattle.std.specs.Prelude.{Option, IfSome}
-use Rattle.trace_tables.specs.Parts.{PartRows}
+use Rattle.trace_parts.specs.Parts.{PartRows}
 use Rattle.worker_pool.specs.Parts.{IsNextPart}
 use Rattle.worker_pool.proofs.PartRows.{part-by-name}
 use Rattle.worker_pool.proofs.desk.TraceLock.give_part.Goals as goal

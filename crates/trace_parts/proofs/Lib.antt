@@ -1,0 +1,11 @@
+pub mod WritingLemmas
+pub mod GatherLemmas
+pub mod SortedLemmas
+pub mod RowOrderLemmas
+pub mod IntervalLemmas
+pub mod WaitingLemmas
+pub mod FaultLemmas
+pub mod TimeLemmas
+pub mod InOrderLemmas
+pub mod GatheredLemmas
+pub mod TakenLemmas

@@ -1,0 +1,81 @@
+-- A part that is taken is the next one of its process.
+use Rattle.std.proofs.Common.{◌≡◌, ◌∙◌, ℕ, ◌+◌, ◌<◌, ◌==◌, Bool, true, false, not, cond, List, length, refl, sym, ap, subst, arith}
+use Rattle.std.specs.Prelude.{◌||◌, nat_le, Option, Some, None}
+use Rattle.std.proofs.lemmas.Grind.{common_steps}
+use Rattle.std.proofs.lemmas.List.{length-set}
+use Rattle.vlink.specs.declared.note.Row.{Row}
+use Rattle.trace_parts.specs.declared.part_fault.PartFault.{PartFault}
+use Rattle.trace_parts.specs.declared.part_fault.PartFault.TheVariants.{Stranger}
+use Rattle.trace_parts.specs.Places.{gathered}
+use Rattle.trace_parts.specs.Gathered.{AreOfRows, IsOfRows}
+use Rattle.trace_parts.specs.Gathering.{Gathering, taken_of, is_stranger, place_fault, part_fault, with_part, Waits, Gives}
+use Rattle.trace_parts.specs.Intervals.{cut, rows_within}
+use Rattle.trace_parts.specs.Ordered.{IsInOrder}
+use Rattle.trace_parts.specs.Parts.{PartRows, BatchRows}
+use Rattle.trace_parts.proofs.GatheredLemmas.{interval_rows, with-of-rows, left-of-rows, firsts-are}
+
+-- it is of one of the processes
+process-known : (run run' processes process : ℕ) → (not (run == run') || nat_le processes process) ≡ false → process < processes
+process-known run run' processes process known = grind (arith, common_steps)
+
+-- it begins where the last one ended, and ends at the next cut
+place-from : (until end next from to : ℕ) → place_fault until end next from to ≡ None → from ≡ end
+place-from until end next from to none = grind (arith, common_steps)
+
+place-to : (until end next from to : ℕ) → place_fault until end next from to ≡ None → to ≡ next
+place-to until end next from to none = grind (arith, common_steps)
+
+known : (b : Bool) (fault : Option PartFault) → cond b (Some Stranger) fault ≡ None → b ≡ false
+known true fault e = absurd (cc)
+known false fault e = refl
+
+placed : (b : Bool) (fault : Option PartFault) → cond b (Some Stranger) fault ≡ None → fault ≡ None
+placed true fault e = absurd (cc)
+placed false fault e = e
+
+at-place : (g : Gathering) (part : PartRows) → part_fault g part ≡ None →
+    place_fault g.until (cut g.until (taken_of g part.process)) (cut g.until (taken_of g part.process + 1)) part.from part.to ≡ None
+at-place g part none =
+    placed (is_stranger g part) (place_fault g.until (cut g.until (taken_of g part.process)) (cut g.until (taken_of g part.process + 1)) part.from part.to) none
+
+-- so with it what waits are rows of each process, if it has those of its process
+put-of-rows : (g : Gathering) (part : PartRows) (rows_of : ℕ → List Row) → IsOfRows g rows_of → part_fault g part ≡ None →
+    part.rows ≡ rows_within part.from part.to (rows_of part.process) → AreOfRows g.until g.given rows_of (with_part part.process part.rows g.waiting)
+put-of-rows g part rows_of are none own =
+    with-of-rows g.until g.given p rows_of part.rows g.waiting are.parts
+    (process-known part.run g.run (length g.waiting) p (known (is_stranger g part) (place_fault g.until (cut g.until n) (cut g.until (n + 1)) part.from part.to) none))
+    (own
+    ∙ ap (λ (a : ℕ). rows_within a part.to (rows_of p)) (place-from g.until (cut g.until n) (cut g.until (n + 1)) part.from part.to (at-place g part none))
+    ∙ ap (λ (b : ℕ). rows_within (cut g.until n) b (rows_of p)) (place-to g.until (cut g.until n) (cut g.until (n + 1)) part.from part.to (at-place g part none)))
+  where
+    p : ℕ
+    p = part.process
+
+    n : ℕ
+    n = taken_of g part.process
+
+pub waits-of-rows : (old new : Gathering) (part : PartRows) (rows_of : ℕ → List Row) → IsOfRows old rows_of → part_fault old part ≡ None →
+    part.rows ≡ rows_within part.from part.to (rows_of part.process) → Waits old part new → IsOfRows new rows_of
+waits-of-rows old new part rows_of are none own waits =
+    subst (λ (g : Gathering). IsOfRows g rows_of) (sym waits.kept) (record { parts = put-of-rows old part rows_of are none own })
+
+pub gives-of-rows : (old new : Gathering) (part : PartRows) (batch : BatchRows) (rows_of : ℕ → List Row) → IsOfRows old rows_of → part_fault old part ≡ None →
+    part.rows ≡ rows_within part.from part.to (rows_of part.process) → Gives old part batch new → IsOfRows new rows_of
+gives-of-rows old new part batch rows_of are none own gives =
+    subst (λ (g : Gathering). IsOfRows g rows_of) (sym gives.left)
+    (record { parts = left-of-rows old.until old.given rows_of (with_part part.process part.rows old.waiting) (put-of-rows old part rows_of are none own) })
+
+-- and the batch has those of all processes
+pub batch-of-rows : (old new : Gathering) (part : PartRows) (batch : BatchRows) (rows_of : ℕ → List Row) → IsOfRows old rows_of → part_fault old part ≡ None →
+    part.rows ≡ rows_within part.from part.to (rows_of part.process) → Gives old part batch new →
+    IsInOrder (gathered (length old.waiting) (λ p. rows_within batch.from batch.to (rows_of p))) batch.rows
+batch-of-rows old new part batch rows_of are none own gives =
+    subst (λ (rows : List Row). IsInOrder rows batch.rows)
+    (firsts-are old.until old.given rows_of put (put-of-rows old part rows_of are none own) gives.complete
+    ∙ ap (λ (processes : ℕ). gathered processes (λ p. interval_rows old.until old.given (rows_of p))) (length-set old.waiting part.process _)
+    ∙ ap (λ (from : ℕ). gathered (length old.waiting) (λ p. rows_within from (cut old.until (old.given + 1)) (rows_of p))) (sym gives.from)
+    ∙ ap (λ (to : ℕ). gathered (length old.waiting) (λ p. rows_within batch.from to (rows_of p))) (sym gives.to))
+    gives.rows
+  where
+    put : List (List (List Row))
+    put = with_part part.process part.rows old.waiting

@@ -1,0 +1,50 @@
+-- The least fault of outcomes that come one after another.
+use Rattle.std.proofs.Common.{◌≡◌, ◌≤◌, ◌⊎◌, inl, inr, List, [], ◌∷◌, ◌++◌, sym, subst, arith}
+use Rattle.std.specs.Prelude.{Result, Ok, Err, ⊤, IsOk, IfErr, OnOk}
+use Rattle.std.specs.List.{All, Contains}
+use Rattle.std.proofs.lemmas.Bool.{false≢true}
+use Rattle.std.proofs.lemmas.List.Elements.{All-nil, All-cons, All-append, All-weaker, Contains-append_left, Contains-append_right}
+use Rattle.journal.specs.declared.fault.PoolFault.{PoolFault}
+use Rattle.journal.specs.Faults.{fault_number}
+use Rattle.worker_pool.specs.Outcomes.{HasNoLesser, IsLeastOf}
+
+-- of none
+pub least-none : IsLeastOf [] (Ok tt)
+least-none = record { one = tt; least = tt; well = All-nil IsOk }
+
+-- outcomes without a fault have none with a lesser number, and those of which a lesser one is the least
+well-lesser : (told : PoolFault) (outcome : Result ⊤ PoolFault) → IsOk outcome → HasNoLesser told outcome
+well-lesser told (Ok u) ok = tt
+well-lesser told (Err fault) ok = absurd (false≢true ok)
+
+still-lesser : (told fault : PoolFault) → fault_number told ≤ fault_number fault → (outcome : Result ⊤ PoolFault) → HasNoLesser fault outcome → HasNoLesser told outcome
+still-lesser told fault le (Ok u) h = tt
+still-lesser told fault le (Err other) h = omega arith
+
+module _ (outcomes : List (Result ⊤ PoolFault)) (other : Result ⊤ PoolFault) where
+  one : (before told : Result ⊤ PoolFault) → IsLeastOf outcomes before → (told ≡ before) ⊎ (told ≡ other) → IfErr told (λ fault. Contains (outcomes ++ other ∷ []) (Err fault))
+  one before (Ok u) h either = tt
+  one before (Err fault) h (inl e) = Contains-append_left outcomes (other ∷ []) (Err fault) (subst (λ (r : Result ⊤ PoolFault). IfErr r (λ f. Contains outcomes (Err f))) (sym e) h.one)
+  one before (Err fault) h (inr e) = Contains-append_right outcomes (other ∷ []) (Err fault) (0, omega arith, sym e)
+
+  least : (before told : Result ⊤ PoolFault) → IsLeastOf outcomes before → IfErr before (λ fault. IfErr told (λ t. fault_number t ≤ fault_number fault))
+      → IfErr other (λ fault. IfErr told (λ t. fault_number t ≤ fault_number fault)) → IfErr told (λ fault. All (HasNoLesser fault) (outcomes ++ other ∷ []))
+  least before (Ok u) h first second = tt
+  least (Ok v) (Err fault) h first second =
+      All-append (HasNoLesser fault) outcomes (other ∷ []) (All-weaker IsOk (HasNoLesser fault) (well-lesser fault) outcomes h.well)
+      (All-cons (HasNoLesser fault) other [] second (All-nil (HasNoLesser fault)))
+  least (Err earlier) (Err fault) h first second =
+      All-append (HasNoLesser fault) outcomes (other ∷ []) (All-weaker (HasNoLesser earlier) (HasNoLesser fault) (still-lesser fault earlier first) outcomes h.least)
+      (All-cons (HasNoLesser fault) other [] second (All-nil (HasNoLesser fault)))
+
+  well : (before told : Result ⊤ PoolFault) → IsLeastOf outcomes before → OnOk told (IsOk before × IsOk other) → OnOk told (All IsOk (outcomes ++ other ∷ []))
+  well before (Err fault) h both = tt
+  well (Ok v) (Ok u) h both = All-append IsOk outcomes (other ∷ []) h.well (All-cons IsOk other [] both.1 (All-nil IsOk))
+  well (Err earlier) (Ok u) h both = absurd (false≢true both.0)
+
+  -- of one more
+  pub least-more : (before told : Result ⊤ PoolFault) → IsLeastOf outcomes before → (told ≡ before) ⊎ (told ≡ other)
+      → IfErr before (λ fault. IfErr told (λ t. fault_number t ≤ fault_number fault)) → IfErr other (λ fault. IfErr told (λ t. fault_number t ≤ fault_number fault))
+      → OnOk told (IsOk before × IsOk other) → IsLeastOf (outcomes ++ other ∷ []) told
+  least-more before told h either first second both =
+      record { one = one before told h either; least = least before told h first second; well = well before told h both }
