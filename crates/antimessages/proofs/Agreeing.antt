@@ -1,15 +1,14 @@
 -- Lists of letters with the same signed counts agree in all that matters of a tally; and rules with the order of messages agree with
 -- `message_rules`. For code above, whose part of the law has a list of letters of its own, and rules with an actor.
-use Rattle.std.proofs.Common.{◌≡◌, ℕ, ◌+◌, ◌≤◌, inl, inr, Bool, true, false, not, ◌&&◌, cond, nat_lt, List, [], ◌∷◌, map, filter, ℤ, pos, negsuc, ◌+ℤ◌, ◌-ℤ◌, Option, Some, None, refl, sym, ap, ◌∙◌, subst, arith}
+use Rattle.std.proofs.Common.{◌≡◌, ℕ, ◌+◌, ◌≤◌, inl, inr, Bool, true, false, not, ◌&&◌, cond, nat_lt, List, [], ◌∷◌, map, filter, ℤ, pos, ◌+ℤ◌, ◌-ℤ◌, Option, Some, None, refl, sym, ap, ◌∙◌, subst, arith}
 use Rattle.std.specs.Prelude.{◌≢◌}
 use Rattle.std.proofs.lemmas.Bool.{cases_lt, lt-ltb, ltb-true, false_from_ne_true, both_ways}
 use Rattle.std.proofs.lemmas.Int.{ints}
 use Rattle.vlink.specs.declared.message.Message.{Message}
 use Rattle.vlink.specs.declared.message.Letter.{Letter}
-use Rattle.vlink.specs.declared.message.Sign.TheVariants.{Minus}
 use Rattle.virtual_time.specs.Rules.{Rules, IsOrder}
 use Rattle.virtual_time.specs.Lists.{one_if, same, lesser, least}
-use Rattle.virtual_time.specs.Letters.{Letter as Signed, minus_of, pluses, minuses, is_present}
+use Rattle.virtual_time.specs.Letters.{Letter as Signed, pluses, minuses, is_present}
 use Rattle.virtual_time.specs.Part.{is_turned}
 use Rattle.virtual_time.proofs.Order.{same_cases, same-refl}
 use Rattle.virtual_time.proofs.Letters.{counts-other}
@@ -68,15 +67,6 @@ module _ {S K N : Type 0} (r : Rules Message S K N) (O : IsOrder r) where
     where
       signed-other : (m : Message) → same r m l.message ≡ false → signed_count r m (signed l ∷ old) ≡ signed_count r m old
       signed-other m n = let a = counts-other r O m (signed l) old n in λ i. pos (a.0 i) -ℤ pos (a.1 i)
-
-  -- what `remove_if_one` does to the counts is what the antimessage in front does
-  pub removed-same_counts : (x : Message) (new old : List (Signed Message)) → signed_count r x new +ℤ pos 1 ≡ signed_count r x old →
-      ((m : Message) → m ≢ x → signed_count r m new ≡ signed_count r m old) → HaveSameCounts r new (minus_of x ∷ old)
-  removed-same_counts x new old mine others =
-      added-same_counts (record { message = x; sign = Minus }) new old (less (signed_count r x new) (signed_count r x old) mine) others
-    where
-      less : (a b : ℤ) → a +ℤ pos 1 ≡ b → a ≡ b +ℤ negsuc 0
-      less a b h = omega (arith, ints)
 
 -- rules with the order of messages
 module _ {S K N : Type 0} (r : Rules Message S K N) (e : (a b : Message) → r.less a b ≡ message_rules.less a b) where

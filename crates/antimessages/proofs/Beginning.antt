@@ -1,8 +1,8 @@
 -- The first letter of a message, put where none counts; and the letters at the beginning, where they are one plus letter of a message.
-use Rattle.std.proofs.Common.{◌≡◌, ℕ, zero, suc, ◌-◌, ◌<◌, Bool, true, false, cond, nat_lt, List, [], ◌∷◌, Some, None, Result, Ok, Err, OnOk, pos, refl, sym, ap, ◌∙◌, subst, arith}
+use Rattle.std.proofs.Common.{◌≡◌, ℕ, zero, suc, ◌-◌, ◌<◌, Bool, true, false, cond, nat_lt, List, [], ◌∷◌, slice_get, Some, None, Result, Ok, Err, OnOk, pos, refl, sym, ap, ◌∙◌, subst, arith}
 use Rattle.std.specs.Prelude.{OnErr}
 use Rattle.std.specs.List.Sorted.{IsStrictlySortedBy}
-use Rattle.std.specs.Ordering.{nat_cmp, ordering_then, is_eq, match_ordering}
+use Rattle.std.specs.Ordering.{nat_cmp, ordering_then, is_eq, is_lt, match_ordering}
 use Rattle.std.specs.declared.cmp.Ordering.{Ordering}
 use Rattle.std.specs.declared.cmp.Ordering.TheVariants.{Less, Equal, Greater}
 use Rattle.std.specs.Cmp.{IsTotalOrder, tied_itself}
@@ -64,6 +64,20 @@ module _ (T : IsTotalOrder message_cmp) (U : IsTotalOrder occurrence_cmp) (X : (
   not-there : (q : Occurrence) (e : Occurrence × Sign) (es : List (Occurrence × Sign)) → IsStrictlySortedBy occurrence_cmp (keys_of (e ∷ es)) →
       occurrence_cmp q e.0 ≡ Less → lookup (is_at (occurrence_cmp q)) (e ∷ es) ≡ None
   not-there q e es up l = lookup-none (is_at (occurrence_cmp q)) (e ∷ es) (none_below_head U q e es up l)
+
+  -- a message that comes before that of the first letter does not count
+  pub before-first : (o : Occurrence) (s : Sign) (es : List (Occurrence × Sign)) → AreCounted es → IsStrictlySortedBy occurrence_cmp (keys_of es) →
+      slice_get es 0 ≡ Some (o, s) → message_rules.less m o.message ≡ true → signed_count message_rules m (letters_of es) ≡ pos 0
+  before-first o s [] st up at less = cc
+  before-first o s (e ∷ es) st up at less =
+      let same : e ≡ (o, s) = cc in
+      none-counts m (e ∷ es) st (not-there (occurrence_of m 0) e es up
+      (subst (λ (z : Occurrence × Sign). occurrence_cmp (occurrence_of m 0) z.0 ≡ Less) (sym same) (go (message_cmp m o.message) less)))
+    where
+      go : (c : Ordering) → is_lt c ≡ true → ordering_then c (nat_cmp 0 o.ordinal) ≡ Less
+      go Less h = refl
+      go Equal h = cc
+      go Greater h = cc
 
   module _ (k : ℕ) (rest : List (Occurrence × Sign)) (st : AreCounted ((occurrence_of m k, Plus) ∷ rest))
       (up : IsStrictlySortedBy occurrence_cmp (keys_of ((occurrence_of m k, Plus) ∷ rest))) where

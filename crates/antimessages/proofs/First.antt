@@ -223,6 +223,27 @@ module _ (X : (a b : Message) → message_cmp a b ≡ Equal → a ≡ b) (O : Is
       first = λ x h a. not_before x (stands x h a);
     })
 
+  -- the first entry of all, where it lies there
+  head-there : (e : Occurrence × Sign) → slice_get es 0 ≡ Some e → range_contains occurrence_cmp (behind newest) Unbounded e.0 ≡ true → slice_get there 0 ≡ Some e
+  head-there e at passes = go es at
+    where
+      go : (xs : List (Occurrence × Sign)) → slice_get xs 0 ≡ Some e → slice_get (entries_between occurrence_cmp (behind newest) Unbounded xs) 0 ≡ Some e
+      go [] h = cc
+      go (x ∷ xs) h = let same : x ≡ e = cc in rw (subst (λ z. range_contains occurrence_cmp (behind newest) Unbounded z.0 ≡ true) (sym same) passes) (ap Some same)
+
+  -- where the first entry of all has a plus and its message comes after, it tells the first present message
+  pub found-head : (o : Occurrence) (s : Sign) → slice_get es 0 ≡ Some (o, s) → is_plus s ≡ true → is_after message_rules newest o.message ≡ true →
+      lookup (is_at (occurrence_cmp o)) es ≡ Some s → present_after message_rules newest (letters_of es) ≡ Some o.message
+  found-head o s at plus after at-place =
+      let low : o.ordinal ≤ 18446744073709551615 =
+      let sign = sym (st.signs o.message o.ordinal) ∙ (at-place ∙ ap Some (plus-is s plus)) in
+      let a = within Plus _ _ o.ordinal sign in
+      let b = at-most o.message es in
+      omega arith in
+      found-first (o, s)
+      (record { place = 0; at = head-there (o, s) at (lies-after newest o low ∙ after); passes = plus; none = λ j y w is. absurd (omega arith) })
+      (λ i is. at-place)
+
   -- no plus there
   pub found-none : find (λ x. is_plus x.1) there ≡ None → present_after message_rules newest (letters_of es) ≡ None
   found-none none = go (present_after message_rules newest (letters_of es)) refl

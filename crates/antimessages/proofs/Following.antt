@@ -13,25 +13,26 @@ use Rattle.antimessages.proofs.After.{first_after-is, first_after-from, first_af
 use Rattle.antimessages.proofs.Agreeing.{present-same_count}
 
 module _ {M S K N : Type 0} (r : Rules M S K N) (O : IsOrder r) (newest : Option M) where
-  -- where the same messages are present, it is the same
-  after-same : (a b : List (Signed M)) → ((m : M) → is_present r b m ≡ is_present r a m) → present_after r newest a ≡ present_after r newest b
+  -- where the same messages are present, of those that come after the newest, it is the same
+  pub after-same : (a b : List (Signed M)) → ((m : M) → is_after r newest m ≡ true → is_present r b m ≡ is_present r a m) →
+      present_after r newest a ≡ present_after r newest b
   after-same a b h = go (present_after r newest b) refl
     where
-      there : (x : M) → IsPresent r a x → IsPresent r b x
-      there x p = present-true r O b x (h x ∙ present-from r O a x p)
+      there : (x : M) → is_after r newest x ≡ true → IsPresent r a x → IsPresent r b x
+      there x k p = present-true r O b x (h x k ∙ present-from r O a x p)
 
-      here : (x : M) → IsPresent r b x → IsPresent r a x
-      here x p = present-true r O a x (sym (h x) ∙ present-from r O b x p)
+      here : (x : M) → is_after r newest x ≡ true → IsPresent r b x → IsPresent r a x
+      here x k p = present-true r O a x (sym (h x k) ∙ present-from r O b x p)
 
       none : (o : Option M) → present_after r newest a ≡ o → present_after r newest b ≡ None → o ≡ None
       none None e n = refl
-      none (Some x) e n = absurd (let f = first_after-is r O newest a x e in first_after-none r O newest b n x (there x f.present) f.after)
+      none (Some x) e n = absurd (let f = first_after-is r O newest a x e in first_after-none r O newest b n x (there x f.after f.present) f.after)
 
       go : (o : Option M) → present_after r newest b ≡ o → present_after r newest a ≡ o
       go None e = none (present_after r newest a) refl e
       go (Some x) e =
           let f = first_after-is r O newest b x e in
-          first_after-from r O newest a x (record { present = here x f.present; after = f.after; first = λ y p k. f.first y (there y p) k })
+          first_after-from r O newest a x (record { present = here x f.after f.present; after = f.after; first = λ y p k. f.first y (there y k p) k })
 
   -- where one message more is present, it is that one or the one before
   module _ (m : M) (a b : List (Signed M)) (apart : (x : M) → same r x m ≡ false → is_present r b x ≡ is_present r a x)
@@ -101,7 +102,7 @@ module _ {M S K N : Type 0} (r : Rules M S K N) (O : IsOrder r) (newest : Option
     here-now = present-same_count r l.message b (l ∷ a) (h l.message)
 
     pub next-same : change_by r l a ≡ Same → present_after r newest a ≡ present_after r newest b
-    next-same e = after-same a b (λ x. elim (same_cases r O x l.message) [
+    next-same e = after-same a b (λ x _. elim (same_cases r O x l.message) [
       | inl i ↦ subst (λ z. is_present r b z ≡ is_present r a z) (sym i) (here-now ∙ stays (is_present r a l.message) (is_present r (l ∷ a) l.message) e)
       | inr n ↦ others x n
     ])

@@ -7,4 +7,5 @@ pub mod Agreeing
 pub mod After
 pub mod First
 mod Beginning
+mod Told
 pub mod Following

@@ -6,7 +6,7 @@ use Rattle.std.specs.declared.cmp.Ordering.{Ordering}
 use Rattle.std.specs.declared.ops.Bound.{Bound}
 use Rattle.std.specs.declared.ops.Bound.TheVariants.{Excluded, Unbounded}
 use Rattle.std.specs.Map.{lookup}
-use Rattle.std.specs.BTreeMap.{is_at}
+use Rattle.std.specs.BTreeMap.{BTreeMap, is_at, IsOrdered}
 use Rattle.vlink.specs.declared.message.Message.{Message}
 use Rattle.vlink.specs.declared.message.Sign.{Sign}
 use Rattle.vlink.specs.declared.message.Sign.TheVariants.{Plus, Minus}
@@ -51,6 +51,10 @@ sign_at p n k = cond (nat_lt k (p - n)) (Some Plus) (cond (nat_lt k (n - p)) (So
 pub record AreCounted (es : List (Occurrence × Sign)) : Type 0 where
   pub signs : (m : Message) (k : ℕ) → lookup (is_at (occurrence_cmp (occurrence_of m k))) es
       ≡ sign_at (pluses message_rules m (letters_of es)) (minuses message_rules m (letters_of es)) k
+
+-- letters as a tally has them: in the order of their messages, and without opposite pairs
+abbrev pub IsTally : List (Signed Message) → Type 0
+IsTally ls = (signs : BTreeMap Occurrence Sign) × (letters_of signs.entries ≡ ls) × IsOrdered occurrence_cmp signs × AreCounted signs.entries
 
 -- the first of these letters, if there is one, is of another message than m
 abbrev pub IsNextOther : Message → List (Occurrence × Sign) → Type 0

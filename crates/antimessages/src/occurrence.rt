@@ -83,6 +83,14 @@ fn total_of<T: Ord>()
     ensures { IsTotalOrder T.cmp }
 {}
 
+/// Whether the first message comes before the second.
+pub(crate) fn is_before(first: &Message, second: &Message) -> bool
+    ensures { result ≡ message_rules.less first.now second.now }
+{
+    message_order();
+    compare(first, second) == Ordering::Less
+}
+
 /// Whether they are the same message. Most messages differ in their numbers.
 pub(crate) fn is_same(first: &Message, second: &Message) -> bool
     ensures { IsTrue result ↔ (first.now ≡ second.now) }

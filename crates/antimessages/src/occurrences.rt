@@ -6,12 +6,13 @@ ghost use Rattle.std.specs.Map.{lookup};
 ghost use Rattle.std.specs.BTreeMap.{is_at, insert_entry};
 ghost use Rattle.vlink.specs.declared.message.Message.{Message};
 ghost use Rattle.vlink.specs.declared.message.Sign.TheVariants.{Plus};
+ghost use Rattle.virtual_time.specs.Letters.{IsPresent, plus_of};
 ghost use Rattle.antimessages.specs.Letters.{message_rules, is_plus};
-ghost use Rattle.antimessages.specs.Counting.{signed_count, HaveSameCounts, present_after};
+ghost use Rattle.antimessages.specs.Counting.{signed_count, HaveSameCounts, is_after, present_after};
 ghost use Rattle.antimessages.specs.Occurrences.{AreCounted, letters_of, letter_at, occurrence_of, occurrence_cmp, count_with, behind, BeginsWithOne};
 
 use crate::fault::OutOfMemory;
-use crate::occurrence::{Occurrence, is_same, occurrence_order};
+use crate::occurrence::{Occurrence, is_before, is_same, occurrence_order};
 use std::collections::BTreeMap;
 use std::collections::btree_map::Range;
 use std::ops::Bound;
@@ -160,6 +161,34 @@ fn begins_with_one(signs: &BTreeMap<Occurrence, Sign>, message: &Message) -> boo
     }
 }
 
+/// The last letter of a message counts no more, where that is a plus. Else nothing changes.
+pub(crate) fn take_last(signs: &mut BTreeMap<Occurrence, Sign>, message: &Message)
+    requires { AreCounted signs.old.entries }
+    ensures counted { AreCounted signs.new.entries }
+    ensures counts { IsPresent message_rules (letters_of signs.old.entries) message.now →
+        HaveSameCounts message_rules (letters_of signs.old.entries) (plus_of message.now ∷ letters_of signs.new.entries) }
+    ensures unchanged { (IsPresent message_rules (letters_of signs.old.entries) message.now → ⊥) → signs.new.entries ≡ signs.old.entries }
+{
+    match last_of(signs, message) {
+        Some((ordinal, Sign::Plus)) => take(signs, message, ordinal, Sign::Plus),
+        Some((_, Sign::Minus)) => {}
+        None => {}
+    }
+}
+
+/// Whether all letters that count are of messages that come after this one.
+pub(crate) fn begins_after(signs: &BTreeMap<Occurrence, Sign>, message: &Message) -> bool
+    requires { AreCounted signs.now.entries }
+    ensures { IsTrue result → signed_count message_rules message.now (letters_of signs.now.entries) ≡ pos 0 }
+{
+    occurrence_order();
+    let _len = signs.len();
+    match signs.first_key_value() {
+        Some((first, _)) => is_before(message, &first.message),
+        None => true,
+    }
+}
+
 /// The first present message of those that come after `newest`, or of all where none is given.
 pub(crate) fn next_after(
     signs: &BTreeMap<Occurrence, Sign>,
@@ -170,7 +199,31 @@ pub(crate) fn next_after(
 {
     occurrence_order();
     let _len = signs.len();
+    let (first, sign) = signs.first_key_value()?;
+    if is_plus(*sign) && is_after(newest, &first.message) {
+        return Some(first.message);
+    }
     first_plus(signs.range((behind(newest), Bound::Unbounded)))
+}
+
+/// Whether the sign is a plus.
+fn is_plus(sign: Sign) -> bool
+    ensures { result ≡ is_plus sign }
+{
+    match sign {
+        Sign::Plus => true,
+        Sign::Minus => false,
+    }
+}
+
+/// Whether the message comes after `newest`, if that is given.
+fn is_after(newest: Option<&Message>, message: &Message) -> bool
+    ensures { result ≡ is_after message_rules (option_copied newest.entry) message.now }
+{
+    match newest {
+        Some(newest) => is_before(newest, message),
+        None => true,
+    }
 }
 
 /// Where the occurrences of messages that come after `newest` begin: behind all of its own.

@@ -1,16 +1,18 @@
 //! The tally of a process: the signed count of each message.
-ghost use Rattle.std.specs.Prelude.{◌≡◌, ◌≢◌, ◌↔◌, ◌+◌, [], List, IsTrue, pos, ◌+ℤ◌, Some, OnOk, OnErr, IfOk, false, not};
+ghost use Rattle.std.specs.Prelude.{◌≡◌, ◌≢◌, ◌↔◌, ◌+◌, ◌^◌, ◌<ℤ◌, [], ◌∷◌, List, IsTrue, pos, ◌+ℤ◌, Some, OnOk, OnErr, IfOk, false, not};
 ghost use Rattle.std.specs.Option.{MatchOption, option_copied};
 ghost use Rattle.vlink.specs.declared.message.Message.{Message};
 ghost use Rattle.vlink.specs.declared.message.Sign.TheVariants.{Plus};
-ghost use Rattle.virtual_time.specs.Letters.{Letter as Signed};
+ghost use Rattle.virtual_time.specs.Letters.{Letter as Signed, IsPresent, plus_of};
 ghost use Rattle.antimessages.specs.Letters.{message_rules, is_plus, signed, weight};
-ghost use Rattle.antimessages.specs.Counting.{signed_count, change_by, present_after};
-ghost use Rattle.antimessages.specs.Occurrences.{count_with};
+ghost use Rattle.antimessages.specs.Counting.{signed_count, HaveSameCounts, change_by, present_after};
+ghost use Rattle.antimessages.specs.Occurrences.{count_with, IsTally};
 
 use crate::fault::OutOfMemory;
 use crate::occurrence::{Occurrence, occurrence_order};
-use crate::occurrences::{last_of, next_after, put, put_first, take, take_first};
+use crate::occurrences::{
+    begins_after, last_of, next_after, put, put_first, take, take_first, take_last,
+};
 use std::alloc::Global;
 use std::collections::BTreeMap;
 use std::marker::Model;
@@ -61,7 +63,8 @@ impl Tally {
 
     /// The signed count of a message.
     pub fn count(&self, message: &Message) -> i128
-        ensures { result ≡ signed_count message_rules message.now self.now }
+        ensures count { result ≡ signed_count message_rules message.now self.now }
+        ensures small { result <ℤ pos (2 ^ 63) }
     {
         match last_of(&self.signs, message) {
             None => 0,
@@ -70,12 +73,12 @@ impl Tally {
         }
     }
 
-    /// What `add` of this letter would answer.
-    pub fn change_by(&self, letter: &Letter) -> Change
-        ensures { result ≡ change_by message_rules (signed letter.now) self.now }
+    /// Whether the signed count of a message is 0. Where the message comes before all others that are counted, none is looked for.
+    pub fn is_zero(&self, message: &Message) -> bool
+        ensures { IsTrue result ↔ (signed_count message_rules message.now self.now ≡ pos 0) }
     {
         occurrence_order();
-        change_at(last_of(&self.signs, &letter.message), letter.sign)
+        begins_after(&self.signs, message) || last_of(&self.signs, message).is_none()
     }
 
     /// The first present message of those that come after `newest`, or of all where none is given.
@@ -129,34 +132,26 @@ impl Tally {
         Ok(change)
     }
 
-    /// A message whose signed count is just 1 is counted once less: its count is 0 then. Where the count is another nothing changes.
-    /// The answer tells whether it was 1. It takes no memory.
-    pub fn take_one(&mut self, message: &Message) -> bool
-        ensures one { IsTrue result ↔ (signed_count message_rules message.now self.old ≡ pos 1) }
-        ensures count { IsTrue result → signed_count message_rules message.now self.new ≡ pos 0 }
-        ensures others { (m : Message) → m ≢ message.now → signed_count message_rules m self.new ≡ signed_count message_rules m self.old }
-        ensures unchanged { result ≡ false → self.new ≡ self.old }
+    /// A present message is counted once less. Where it is not present nothing changes. It takes no memory.
+    pub fn take_present(&mut self, message: &Message)
+        ensures present { IsPresent message_rules self.old message.now → HaveSameCounts message_rules self.old (plus_of message.now ∷ self.new) }
+        ensures absent { (IsPresent message_rules self.old message.now → ⊥) → self.new ≡ self.old }
     {
         occurrence_order();
-        if take_first(&mut self.signs, message) {
-            return true;
+        if !take_first(&mut self.signs, message) {
+            take_last(&mut self.signs, message);
         }
-        self.take_one_found(message)
     }
 
-    /// Does what `take_one` does, by two searches.
-    fn take_one_found(&mut self, message: &Message) -> bool
-        ensures one { IsTrue result ↔ (signed_count message_rules message.now self.old ≡ pos 1) }
-        ensures count { IsTrue result → signed_count message_rules message.now self.new ≡ pos 0 }
-        ensures others { (m : Message) → m ≢ message.now → signed_count message_rules m self.new ≡ signed_count message_rules m self.old }
-        ensures unchanged { result ≡ false → self.new ≡ self.old }
+    /// Which letters a tally has is told by its signed counts alone: two with the same counts are equal.
+    ///
+    /// A call does nothing: its caller learns what the clauses say.
+    pub fn told_by_counts(&self)
+        ensures tally { IsTally self.now }
+        ensures told { (other : List (Signed Message)) → IsTally other → HaveSameCounts message_rules self.now other → self.now ≡ other }
     {
         occurrence_order();
-        if !is_one(last_of(&self.signs, message)) {
-            return false;
-        }
-        take(&mut self.signs, message, 0, Sign::Plus);
-        true
+        let _len = self.signs.len();
     }
 }
 

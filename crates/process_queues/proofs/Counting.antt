@@ -1,11 +1,13 @@
 -- The signed counts of a process, by the rules of its actor and by those of messages alone.
-use Rattle.std.proofs.Common.{◌≡◌, ℕ, ◌+◌, ◌==◌, true, false, List, ◌∷◌, pos, ◌+ℤ◌, refl, sym, ap, ◌∙◌, arith, eq-eqb}
+use Rattle.std.proofs.Common.{◌≡◌, ℕ, ◌+◌, ◌==◌, Bool, true, false, not, ◌&&◌, List, ◌∷◌, pos, ◌-ℤ◌, refl, sym, ap, ◌∙◌, arith, eqb-true, eq-eqb}
 use Rattle.std.specs.Prelude.{◌≢◌}
+use Rattle.std.proofs.lemmas.Bool.{false_from_ne_true}
 use Rattle.std.proofs.lemmas.Int.{ints}
 use Rattle.vlink.specs.declared.message.Message.{Message}
 use Rattle.vlink.specs.declared.note.Note.{Note}
 use Rattle.virtual_time.specs.Rules.{Rules, IsOrder, rows_of}
-use Rattle.virtual_time.specs.Letters.{Letter as Signed, minus_of, pluses, minuses, is_present}
+use Rattle.virtual_time.specs.Lists.{one_if, same}
+use Rattle.virtual_time.specs.Letters.{Letter as Signed, plus_of, minus_of, pluses, minuses, is_present}
 use Rattle.virtual_time.specs.Part.{is_turned}
 use Rattle.reverse.specs.declared.sends.Sends.{Sends}
 use Rattle.reverse.specs.Plain.{Plain, IsReversible}
@@ -14,7 +16,7 @@ use Rattle.antimessages.specs.Letters.{message_rules}
 use Rattle.antimessages.specs.Counting.{signed_count, change_by, is_turn, HaveSameCounts}
 use Rattle.antimessages.specs.declared.tally.Change.{Change}
 use Rattle.antimessages.specs.declared.tally.Change.TheVariants.{BecamePresent, BecameAbsent, Same}
-use Rattle.antimessages.proofs.Agreeing.{present-same_count, same_counts-cons, change-same_counts, turned-is, removed-same_counts, count-messages, present-messages, change-messages}
+use Rattle.antimessages.proofs.Agreeing.{present-same_count, same_counts-cons, change-same_counts, turned-is, count-messages, present-messages, change-messages}
 use Rattle.process_queues.specs.Past.{rows_by}
 use Rattle.process_queues.specs.Queues.{CountsAgree}
 
@@ -64,12 +66,20 @@ module _ {S K : Type 0} (r : Rules Message S K Note) (R : OfMessages r) where
     turned n = turned-as ∙ turns _ n
 
   -- one letter of a message is taken out: as if an antimessage had come
-  pub counts-less : (m : Message) (a b new : List (Signed Message)) → CountsAgree r a b →
-      signed_count message_rules m new +ℤ pos 1 ≡ signed_count message_rules m b →
-      ((x : Message) → x ≢ m → signed_count message_rules x new ≡ signed_count message_rules x b) → CountsAgree r (minus_of m ∷ a) new
-  counts-less m a b new h one others x = counts-cons (minus_of m) a b h x ∙ sym (removed-same_counts message_rules R.messages m new b one others x)
+  pub counts-less : (m : Message) (a b new : List (Signed Message)) → CountsAgree r a b → HaveSameCounts message_rules (plus_of m ∷ new) b → CountsAgree r (minus_of m ∷ a) new
+  counts-less m a b new h less x =
+      counts-cons (minus_of m) a b h x ∙ go (same message_rules x m) (pluses message_rules x b) (minuses message_rules x b) (pluses message_rules x new) (minuses message_rules x new) (less x)
+    where
+      go : (c : Bool) (p n q o : ℕ) → pos (one_if (true && c) + q) -ℤ pos (one_if (not true && c) + o) ≡ pos p -ℤ pos n →
+          pos (one_if (false && c) + p) -ℤ pos (one_if (not false && c) + n) ≡ pos q -ℤ pos o
+      go true p n q o e = omega (arith, ints)
+      go false p n q o e = omega (arith, ints)
 
   -- the count is just 1
   pub one-left : (m : Message) (a b : List (Signed Message)) → CountsAgree r a b → signed_count message_rules m b ≡ pos 1 →
       (pluses r m a == minuses r m a + 1) ≡ true
   one-left m a b h e = eq-eqb _ _ (let i = h m in omega (arith, ints))
+
+  pub not-one-left : (m : Message) (a b : List (Signed Message)) → CountsAgree r a b → signed_count message_rules m b ≢ pos 1 →
+      (pluses r m a == minuses r m a + 1) ≡ false
+  not-one-left m a b h n = false_from_ne_true _ (λ t. n (let k = eqb-true (pluses r m a) (minuses r m a + 1) t in let i = h m in omega (arith, ints)))

@@ -1,12 +1,15 @@
 pub mod Arriving
+pub mod Beside
 pub mod Commits
 pub mod Counting
+pub mod Before
 pub mod Newest
 pub mod Next
 pub mod Pasts
 pub mod Reading
 pub mod Rolls
 pub mod Standing
+pub mod Stragglers
 pub mod Taking
 pub mod Places
 pub mod Since

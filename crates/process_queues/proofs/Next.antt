@@ -32,21 +32,21 @@ module _ {S K : Type 0} (r : Rules Message S K Note) (R : OfMessages r) (is_valu
   after-same (Some n) m = sym (R.less_one n m)
 
   -- a present message is not done just where it comes after the newest done event
-  after-not_done : (m : Message) → is_after r (newest_of part.done) m ≡ true → times_in r m part.done ≡ 0
+  pub after-not_done : (m : Message) → is_after r (newest_of part.done) m ≡ true → times_in r m part.done ≡ 0
   after-not_done m a = times-none r R.order m part.done (go (newest_of part.done) refl a)
     where
       go : (o : Option Message) → newest_of part.done ≡ o → is_after r o m ≡ true → IsIn r m part.done → ⊥
       go None e a j = let k = subst (λ ds. IsIn r m ds) (none-newest part.done e) j in absurd (omega arith)
       go (Some d) e a j = let k = newest-last r R.order part.done d m h.well.ascending e j in cc
 
-  not_done-after : (m : Message) → IsPresent r part.tally m → times_in r m part.done ≡ 0 → is_after r (newest_of part.done) m ≡ true
+  pub not_done-after : (m : Message) → IsPresent r part.tally m → times_in r m part.done ≡ 0 → is_after r (newest_of part.done) m ≡ true
   not_done-after m present z = go (newest_of part.done) refl
     where
       go : (o : Option Message) → newest_of part.done ≡ o → is_after r o m ≡ true
       go None e = refl
       go (Some d) e = h.well.done_first m present z d (newest-in r R.order part.done d e)
 
-  after-here : (m : Message) → is_after message_rules (newest_of (map (λ e. e.message) q.past.done)) m ≡ is_after r (newest_of part.done) m
+  pub after-here : (m : Message) → is_after message_rules (newest_of (map (λ e. e.message) q.past.done)) m ≡ is_after r (newest_of part.done) m
   after-here m = ap (λ o. is_after message_rules o m) newest-same ∙ after-same (newest_of part.done) m
 
   -- a message is present here and there
@@ -54,7 +54,7 @@ module _ {S K : Type 0} (r : Rules Message S K Note) (R : OfMessages r) (is_valu
   here m present = present-true message_rules R.messages q.tally m
       (sym (present-agree r R part.tally q.tally h.counts m) ∙ present-from r R.order part.tally m present)
 
-  there : (m : Message) → IsPresent message_rules q.tally m → IsPresent r part.tally m
+  pub there : (m : Message) → IsPresent message_rules q.tally m → IsPresent r part.tally m
   there m present = present-true r R.order part.tally m
       (present-agree r R part.tally q.tally h.counts m ∙ present-from message_rules R.messages q.tally m present)
 

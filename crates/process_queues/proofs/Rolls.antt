@@ -31,6 +31,9 @@ module _ {S K : Type 0} (r : Rules Message S K Note) (is_value : S → Message �
   pub done-messages : (part : Part Message S) (past : Past S K) → BelongsTo r is_value opening there part past → map (λ e. e.message) past.done ≡ part.done
   done-messages part past b = ap (map (λ e. e.message)) b.past_of.done ∙ messages-of r (reached r opening part.committed) part.done
 
+  pub done-ascending : (part : Part Message S) (past : Past S K) → BelongsTo r is_value opening there part past → IsAscending r (map (λ e. e.message) past.done)
+  done-ascending part past b = subst (IsAscending r) (sym (done-messages part past b)) b.ascending
+
 module _ {S K : Type 0} (r : Rules Message S K Note) (O : IsOrder r) (is_value : S → Message → Type 0) (opening : S) (there : Rows) (m : Message) where
   -- where m does not come after the newest event, there is one, which it does not come after
   pub record IsLate (part : Part Message S) (past : Past S K) : Type 0 where

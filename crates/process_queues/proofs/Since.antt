@@ -54,7 +54,7 @@ since-all r is_value start ms earlier past h m =
     omega arith
 
 -- the newest of these, and those before it
-take-more : {A : Type 0} (xs : List A) (k : ℕ) (x : A) → k < length xs → x ≡ slice_index_or xs k x → take (suc k) xs ≡ take k xs ++ x ∷ []
+pub take-more : {A : Type 0} (xs : List A) (k : ℕ) (x : A) → k < length xs → x ≡ slice_index_or xs k x → take (suc k) xs ≡ take k xs ++ x ∷ []
 take-more [] k x h e = absurd (omega arith)
 take-more (y ∷ ys) zero x h e = ap (λ z. z ∷ []) (sym e)
 take-more (y ∷ ys) (suc k) x h e = ap (λ z. y ∷ z) (take-more ys k x (omega arith) e)

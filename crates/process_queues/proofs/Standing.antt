@@ -17,6 +17,8 @@ use Rattle.virtual_time.proofs.WellStep.{opened-well, delivered-well, emptied-we
 use Rattle.virtual_time.proofs.WellArrive.{arrive-well}
 use Rattle.virtual_time.proofs.WellRun.{run-well}
 use Rattle.virtual_time.proofs.WellSeal.{seal-well}
+use Rattle.antimessages.specs.Letters.{message_rules}
+use Rattle.antimessages.specs.Counting.{HaveSameCounts}
 use Rattle.process_queues.specs.Past.{Past, Rows, IsPastOf, BelongsTo, handled_past, rows_by}
 use Rattle.process_queues.specs.Queues.{Queues, StandsFor, CountsAgree, rows_there, delivered_all}
 use Rattle.process_queues.proofs.Counting.{OfMessages}
@@ -46,6 +48,18 @@ module _ {S K : Type 0} (r : Rules Message S K Note) (is_value : S → Message �
       tray = ap (λ ls. ls ++ l ∷ []) h.tray;
       outbox = h.outbox;
       well = delivered-well r (λ s. ⊤) opening l part h.well;
+    })
+
+    -- the letters that count are others, with the same signed counts
+    pub recounted-stands : (tally : List (Signed Message)) → HaveSameCounts message_rules q.tally tally → q' ≡ record q { tally = tally } → StandsFor r is_value opening part q'
+    recounted-stands tally same e = subst (StandsFor r is_value opening part) (sym e) (record {
+      past = record { past_of = h.past.past_of; state = h.past.state; ascending = h.past.ascending };
+      sealed = h.sealed;
+      committed = h.committed;
+      counts = λ m. h.counts m ∙ same m;
+      tray = h.tray;
+      outbox = h.outbox;
+      well = h.well;
     })
 
     pub emptied-stands : q' ≡ record q { outbox = [] } → StandsFor r is_value opening (emptied part) q'

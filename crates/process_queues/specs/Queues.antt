@@ -1,14 +1,19 @@
 -- What a process has in hand, and when that stands for a part of the law of virtual time.
-use Rattle.std.specs.Prelude.{◌≡◌, ℕ, ◌+◌, drop, List, [], ◌∷◌, length, map, Option, ⊤}
+use Rattle.std.specs.Prelude.{◌≡◌, ℕ, ◌+◌, drop, List, [], ◌∷◌, ◌++◌, length, map, Option, ⊤}
 use Rattle.vlink.specs.declared.message.Message.{Message}
 use Rattle.vlink.specs.declared.note.Note.{Note}
 use Rattle.virtual_time.specs.Rules.{Rules, rowed}
-use Rattle.virtual_time.specs.Letters.{Letter as Signed}
+use Rattle.virtual_time.specs.Letters.{Letter as Signed, plus_of}
 use Rattle.virtual_time.specs.Part.{Part, delivered}
 use Rattle.virtual_time.specs.Well.{IsWell}
 use Rattle.antimessages.specs.Letters.{message_rules}
 use Rattle.antimessages.specs.Counting.{signed_count, present_after}
+use Rattle.process_queues.specs.declared.past.Event.{Event}
 use Rattle.process_queues.specs.Past.{Past, Rows, BelongsTo, newest_of}
+
+-- the letters that count: those that are counted beside the done events, and for each of these the letter that brought its message
+abbrev pub with_done : {K : Type 0} → List (Signed Message) → List (Event K) → List (Signed Message)
+with_done beside done = beside ++ map (λ e. plus_of e.message) done
 
 -- the past, how many rows of committed events have left it and how many are still there, how many events are committed, the letters that
 -- were counted, the tray and the outbox

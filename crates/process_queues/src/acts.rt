@@ -14,10 +14,10 @@ ghost use Rattle.process_queues.specs.Queues.{StandsFor, Does, next_in, state_in
 
 use crate::fault::ProcFault;
 use crate::process::Process;
-use antimessages::{Change, Tally, rewind};
+use antimessages::{Tally, rewind};
 use reverse::{Actor, Outbound, actor_rules};
 use std::collections::VecDeque;
-use vlink::{Letter, Message, Time};
+use vlink::{Letter, Message, Sign, Time};
 
 impl<R: Actor> Process<R> {
     /// The front letter of the tray is counted. Where its message became present or absent by that, every done event that does not come
@@ -37,7 +37,7 @@ impl<R: Actor> Process<R> {
         let Some(letter) = self.tray.front().copied() else {
             return Ok(None);
         };
-        if self.undoes_nothing(&letter) {
+        if self.past.is_before(&letter.message) {
             let change = self.tally.add(letter)?;
             pop_front(&mut self.tray);
             self.next = self
@@ -45,21 +45,33 @@ impl<R: Actor> Process<R> {
                 .next_with(self.next, &letter, change, self.past.newest());
             return Ok(Some(0));
         }
+        if !self.is_turned(&letter) {
+            self.tally.add(letter)?;
+            pop_front(&mut self.tray);
+            return Ok(Some(0));
+        }
         self.outbox.reserve(self.past.sent_since(&letter.message))?;
-        self.tally.add(letter)?;
+        let place = self.past.done_before(&letter.message);
+        self.past.count_again(&mut self.tally, place, letter)?;
         pop_front(&mut self.tray);
         let undone = self.past.roll_back(&letter.message, &mut self.outbox);
         self.next = self.tally.next_after(self.past.newest());
         Ok(Some(undone))
     }
 
-    /// Whether no event is undone as the letter is counted: its message comes after all done events, or becomes neither present nor absent.
-    fn undoes_nothing(&self, letter: &Letter) -> bool
-        ensures nothing { IsTrue result → (change_by message_rules (signed letter.now) self.now.queues.tally ≡ Same)
-            ⊎ (is_after (rules_of R.plain R.counter) (newest_of (map (λ e. e.message) self.now.queues.past.done)) letter.now.message ≡ true) }
-        ensures something { result ≡ false → change_by message_rules (signed letter.now) self.now.queues.tally ≢ Same }
+    /// Whether the letter makes its message, which does not come after all done events, present or absent. Such a message is present just
+    /// where it is done.
+    fn is_turned(&self, letter: &Letter) -> bool
+        requires { is_after (rules_of R.plain R.counter) (newest_of (map (λ e. e.message) self.now.queues.past.done)) letter.now.message ≡ false }
+        ensures turned { IsTrue result → change_by message_rules (signed letter.now) self.now.queues.tally ≢ Same }
+        ensures same { result ≡ false → change_by message_rules (signed letter.now) self.now.queues.tally ≡ Same }
     {
-        self.past.is_before(&letter.message) || self.tally.change_by(letter) == Change::Same
+        actor_rules::<R>();
+        let is_other = match letter.sign {
+            Sign::Plus => !self.past.has_done(&letter.message),
+            Sign::Minus => self.past.has_done(&letter.message),
+        };
+        is_other && self.tally.is_zero(&letter.message)
     }
 
     /// The first present message that is not done is handled: it joins the done events, and what it sends goes to the outbox.
@@ -105,6 +117,7 @@ impl<R: Actor> Process<R> {
             return Err(ProcFault::Exhausted);
         }
         self.past.handle(&message, out, &mut self.outbox)?;
+        self.tally.take_present(&message);
         self.next = self.tally.next_after(self.past.newest());
         Ok(Some(message))
     }
@@ -131,8 +144,8 @@ impl<R: Actor> Process<R> {
             return Ok(false);
         };
         let message = event.message;
-        reserve_if_one(&mut self.committed, &self.tally, &message)?;
-        if !self.tally.take_one(&message) {
+        reserve_if_zero(&mut self.committed, &self.tally, &message)?;
+        if !self.tally.is_zero(&message) {
             return Ok(false);
         }
         let _rows = self.past.rows().len();
@@ -162,24 +175,24 @@ fn pop_front(tray: &mut VecDeque<Letter>)
     rewind(tray);
 }
 
-/// Makes room for one committed event more, where the signed count of its message is just 1. A refusal comes only where it is, and where
-/// there was no room. Where there is room the count is not looked for.
-fn reserve_if_one(
+/// Makes room for one committed event more, where the signed count of its message in the tally is 0. A refusal comes only where it is, and
+/// where there was no room. Where there is room the count is not looked for.
+fn reserve_if_zero(
     committed: &mut Vec<u8>,
     tally: &Tally,
     message: &Message,
 ) -> Result<(), ProcFault>
     ensures same { committed.new.items ≡ committed.old.items }
-    ensures room { OnOk result (signed_count message_rules message.now tally.now ≡ pos 1 → vec_len committed.new < vec_capacity committed.new) }
+    ensures room { OnOk result (signed_count message_rules message.now tally.now ≡ pos 0 → vec_len committed.new < vec_capacity committed.new) }
     ensures no_less { vec_capacity committed.old ≤ vec_capacity committed.new }
-    ensures one { OnErr result (signed_count message_rules message.now tally.now ≡ pos 1) }
+    ensures zero { OnErr result (signed_count message_rules message.now tally.now ≡ pos 0) }
     ensures full { OnErr result (vec_capacity committed.old ≤ vec_len committed.old) }
     ensures memory { IfErr result (λ fault. fault ≡ OutOfMemory) }
 {
     if committed.len() < committed.capacity() {
         return Ok(());
     }
-    if tally.count(message) == 1 {
+    if tally.is_zero(message) {
         committed.reserve(1)?;
     }
     Ok(())

@@ -1,12 +1,15 @@
 //! Before events are committed: how many can be, and room for them.
-ghost use Rattle.std.specs.Prelude.{◌≡◌, ◌<◌, ◌≤◌, List, map, take, OnOk, OnErr, IfErr};
+ghost use Rattle.std.specs.Prelude.{◌≡◌, ◌<◌, ◌≤◌, ◌+ℤ◌, pos, List, map, take, OnOk, OnErr, IfErr};
 ghost use Rattle.vlink.specs.declared.message.Message.{Message};
+ghost use Rattle.virtual_time.specs.Lists.{IsAscending};
+ghost use Rattle.virtual_time.specs.Letters.{Letter as Signed};
 ghost use Rattle.virtual_time.specs.Part.{Part};
 ghost use Rattle.reverse.specs.Rules.{rules_of};
 ghost use Rattle.antimessages.specs.Letters.{message_rules};
+ghost use Rattle.antimessages.specs.Counting.{signed_count};
 ghost use Rattle.process_queues.specs.declared.fault.ProcFault.TheVariants.{OutOfMemory};
 ghost use Rattle.process_queues.specs.Committing.{can_commit, committable};
-ghost use Rattle.process_queues.specs.Queues.{StandsFor};
+ghost use Rattle.process_queues.specs.Queues.{StandsFor, with_done};
 
 use crate::fault::ProcFault;
 use crate::past::Event;
@@ -24,7 +27,8 @@ impl<R: Actor> Process<R> {
         ensures stands { (opening : R) (part : Part Message R) → StandsFor (rules_of R.plain R.counter) R.is_value opening part self.now.queues →
             result ≡ committable (rules_of R.plain R.counter) moment part.tally (take most part.done) }
     {
-        committable_of(&self.tally, moment, self.past.done(), most)
+        actor_rules::<R>();
+        committable_of::<R>(&self.tally, moment, self.past.done(), most)
     }
 
     /// Makes room for so many committed events: as long as no other call comes between, so many calls of `seal_oldest` take no memory.
@@ -40,15 +44,17 @@ impl<R: Actor> Process<R> {
     }
 }
 
-/// How many of these events, `most` at most, come before the first one that cannot be committed.
-fn committable_of<K: Copy>(
+/// How many of these done events, `most` at most, come before the first one that cannot be committed. The tally is that beside them.
+fn committable_of<R: Actor>(
     tally: &Tally,
     moment: Time,
-    events: &VecDeque<Event<K>>,
+    events: &VecDeque<Event<R::Record>>,
     most: usize,
 ) -> usize
-    ensures { result ≡ committable message_rules moment tally.now (take most (map (λ e. e.message) events.now.items)) }
+    requires { IsAscending (rules_of R.plain R.counter) (map (λ e. e.message) events.now.items) }
+    ensures { result ≡ committable message_rules moment (with_done tally.now events.now.items) (take most (map (λ e. e.message) events.now.items)) }
 {
+    actor_rules::<R>();
     let limit = most.min(events.len());
     for place in 0..limit {
         if !can_commit(tally, moment, &events[place].message) {
@@ -58,9 +64,10 @@ fn committable_of<K: Copy>(
     limit
 }
 
-/// Whether an event with this message can be committed.
+/// Whether a done event with this message can be committed: nothing counts of its message beside the letter that brought it.
 fn can_commit(tally: &Tally, moment: Time, message: &Message) -> bool
-    ensures { result ≡ can_commit message_rules moment tally.now message.now }
+    ensures { (all : List (Signed Message)) → signed_count message_rules message.now all ≡ signed_count message_rules message.now tally.now +ℤ pos 1 →
+        result ≡ can_commit message_rules moment all message.now }
 {
-    message.time < moment && tally.count(message) == 1
+    message.time < moment && tally.is_zero(message)
 }

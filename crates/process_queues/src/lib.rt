@@ -5,11 +5,13 @@
 mod acts;
 mod committing;
 mod fault;
+mod late;
 mod laws;
 mod order;
 mod past;
 mod posting;
 mod process;
+mod restoring;
 mod rollback;
 
 pub use fault::ProcFault;

@@ -1,5 +1,5 @@
 //! A process that runs ahead and rolls back.
-ghost use Rattle.std.specs.Prelude.{◌≡◌, ◌≢◌, ◌+◌, ◌<◌, ◌≤◌, ◌^◌, ◌-◌, ◌↔◌, [], ◌∷◌, ◌++◌, ℕ, length, map, min, take, drop, All, IsTrue, IsOk, OnOk, OnErr, IfOk, IfErr, slice_get};
+ghost use Rattle.std.specs.Prelude.{◌≡◌, ◌≢◌, false, pos, ◌+ℤ◌, ◌+◌, ◌<◌, ◌≤◌, ◌^◌, ◌-◌, ◌↔◌, [], ◌∷◌, ◌++◌, ℕ, length, map, min, take, drop, All, IsTrue, IsOk, OnOk, OnErr, IfOk, IfErr, slice_get};
 ghost use Rattle.std.specs.Option.{option_map};
 ghost use Rattle.std.specs.VecDeque.{deque_len, deque_capacity};
 ghost use Rattle.vlink.specs.declared.message.Message.{Message};
@@ -7,7 +7,7 @@ ghost use Rattle.vlink.specs.Numbering.{greatest_number};
 ghost use Rattle.virtual_time.specs.Letters.{lowest};
 ghost use Rattle.virtual_time.specs.Part.{Part, opened, delivered, next_of, floor_of};
 ghost use Rattle.reverse.specs.Rules.{rules_of};
-ghost use Rattle.antimessages.specs.Letters.{signed};
+ghost use Rattle.antimessages.specs.Letters.{message_rules, signed};
 ghost use Rattle.antimessages.specs.Counting.{signed_count};
 ghost use Rattle.antimessages.specs.Mailing.{letters_for};
 ghost use Rattle.process_queues.specs.declared.fault.ProcFault.TheVariants.{OutOfMemory};
@@ -35,6 +35,7 @@ pub struct Process<R: Actor> {
     pub(crate) sealed: usize,
     /// How many rows each committed event gave.
     pub(crate) committed: Vec<u8>,
+    /// The signed counts of the messages, less 1 for each done event: a done message that is counted once has none here.
     pub(crate) tally: Tally,
     /// The message that is handled next, if there is one: it is looked for once, and kept until something changes it.
     pub(crate) next: Option<Message>,
@@ -49,7 +50,7 @@ impl<R: Actor> Model for Process<R> {
     ghost use Rattle.virtual_time.specs.Part.{Part};
     ghost use Rattle.reverse.specs.Rules.{rules_of};
     ghost use Rattle.antimessages.specs.Letters.{signed};
-    ghost use Rattle.process_queues.specs.Queues.{InHand, StandsFor, next_by};
+    ghost use Rattle.process_queues.specs.Queues.{InHand, StandsFor, next_by, with_done};
 
     ghost Value = { InHand R R.Record };
 
@@ -59,7 +60,7 @@ impl<R: Actor> Model for Process<R> {
         left = p.left;
         sealed = p.sealed;
         committed = length p.committed.items;
-        tally = p.tally;
+        tally = with_done p.tally p.past.done;
         tray = map signed p.tray.items;
         outbox = p.outbox.letters;
       };
@@ -73,10 +74,10 @@ impl<R: Actor> Model for Process<R> {
           left = p.left;
           sealed = p.sealed;
           committed = length p.committed.items;
-          tally = p.tally;
+          tally = with_done p.tally p.past.done;
           tray = map signed p.tray.items;
           outbox = p.outbox.letters;
-        }) × (p.next ≡ next_by p.past p.tally) };
+        }) × (p.next ≡ next_by p.past (with_done p.tally p.past.done)) };
 }
 
 impl<R: Actor> Process<R> {
@@ -114,7 +115,8 @@ impl<R: Actor> Process<R> {
         ensures { (opening : R) (part : Part Message R) → StandsFor (rules_of R.plain R.counter) R.is_value opening part self.now.queues →
             result ≡ signed_count (rules_of R.plain R.counter) message.now part.tally }
     {
-        self.tally.count(message)
+        actor_rules::<R>();
+        count_with(&self.tally, message, self.past.has_done(message))
     }
 
     /// The moment of the oldest done event, if there is one.
@@ -317,6 +319,15 @@ fn take_letter<R: Actor>(tray: &mut VecDeque<Letter>, mail: &mut Mail, process: 
         Some(letter) => tray.push_back_reserved(letter),
         None => {}
     }
+}
+
+/// The signed count of a message, by the tally beside the done events and by whether it is done.
+fn count_with(tally: &Tally, message: &Message, is_done: bool) -> i128
+    ensures done { IsTrue is_done → result ≡ signed_count message_rules message.now tally.now +ℤ pos 1 }
+    ensures not_done { is_done ≡ false → result ≡ signed_count message_rules message.now tally.now }
+{
+    let counted = tally.count(message);
+    if is_done { counted + 1 } else { counted }
 }
 
 /// The earlier of two moments.

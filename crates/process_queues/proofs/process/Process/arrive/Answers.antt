@@ -1,29 +1,38 @@
-use Rattle.std.proofs.Common.{rules, ◌≡◌, ◌⊎◌, true, [], ◌∷◌, map, drop, slice_get, Some, refl, sym, ap, ◌∙◌, subst}
+use Rattle.std.proofs.Common.{rules, ◌≡◌, inl, inr, false, [], ◌∷◌, map, drop, slice_get, Some, refl, sym, ap, ◌∙◌, subst}
 use Rattle.virtual_time.specs.Rules.{rowed}
 use Rattle.virtual_time.specs.Part.{arrive, counted}
 use Rattle.reverse.specs.Rules.{rules_of}
 use Rattle.antimessages.specs.Letters.{message_rules, signed}
 use Rattle.antimessages.specs.Counting.{change_by, is_after, present_after}
 use Rattle.antimessages.specs.declared.tally.Change.TheVariants.{Same}
-use Rattle.antimessages.proofs.Agreeing.{added-same_counts}
+use Rattle.antimessages.proofs.Agreeing.{added-same_counts, after-messages}
+use Rattle.antimessages.proofs.Following.{next-same}
 use Rattle.process_queues.specs.Past.{newest_of}
-use Rattle.process_queues.specs.Queues.{StandsFor}
-use Rattle.process_queues.proofs.Arriving.{front-split, stays-put, turns, turned-behind, counts-with}
+use Rattle.process_queues.specs.Queues.{StandsFor, with_done}
+use Rattle.process_queues.proofs.Arriving.{front-split, stays-put, turns, counts-with}
+use Rattle.process_queues.proofs.Beside.{with_done-same, with_done-undone}
 use Rattle.process_queues.proofs.Counting.{of-messages}
+use Rattle.process_queues.proofs.Stragglers.{next-beside, not-owed, undone-split, before-within}
+use Rattle.process_queues.proofs.Rolls.{done-ascending, done-messages}
 use Rattle.process_queues.proofs.Standing.{arrived-still, arrived-back, counted-belongs, undone-none, undone-back}
 use Rattle.process_queues.proofs.process.Process.arrive.Goals as goal
 
 pub invariant_of-self : goal.invariant_of-self
 invariant_of-self g c = rw c.in_err-change.ensures.unchanged c.self.invariant
 
+pub invariant_of-self-in_err-add : goal.invariant_of-self-in_err-add
+invariant_of-self-in_err-add g c = rw c.in_err-add.ensures.unchanged c.self.invariant
+
 pub invariant_of-self-in_err-reserve : goal.invariant_of-self-in_err-reserve
 invariant_of-self-in_err-reserve g c = rw c.in_err-reserve.ensures.same c.self.invariant
 
-pub invariant_of-self-in_err-add : goal.invariant_of-self-in_err-add
-invariant_of-self-in_err-add g c = rw (c.in_ok-reserve.ensures.same, c.in_err-add.ensures.unchanged) c.self.invariant
+pub invariant_of-self-in_err-count_again : goal.invariant_of-self-in_err-count_again
+invariant_of-self-in_err-count_again g c = rw (c.in_ok-reserve.ensures.same, c.in_err-count_again.ensures.unchanged) c.self.invariant
 
-pub returns-then-undoes_nothing-clause-arrived : goal.returns-then-undoes_nothing-clause-arrived
-returns-then-undoes_nothing-clause-arrived g c opening part h =
+-- the letter comes after all done events
+
+pub returns-then-is_before-clause-arrived : goal.returns-then-is_before-clause-arrived
+returns-then-is_before-clause-arrived g c opening part h =
     let r = rules_of g.R.Reversible.plain g.R.Actor.counter in
     let v = g.R.Reversible.is_value in
     let R = of-messages g.R.Reversible.plain g.R.Actor.counter c.actor_rules.ensures.order c.actor_rules.ensures.undoes in
@@ -32,33 +41,37 @@ returns-then-undoes_nothing-clause-arrived g c opening part h =
     let first : slice_get c.self.inside.tray.items 0 ≡ Some l = search rules in
     let rest = map signed (drop 1 c.self.inside.tray.items) in
     let tray = front-split c.self.inside.tray.items l first in
-    arrived-still r v opening part _ _ k R (signed l) rest c.add.new.self tray
-    (stays-put r R v opening part _ h l _ refl (c.if-undoes_nothing.ensures.nothing refl))
-    (counts-with r R v opening part _ k l c.self.inside.tally refl c.add.new.self
-    (added-same_counts message_rules R.messages l c.add.new.self c.self.inside.tally c.in_ok-change.ensures.count c.in_ok-change.ensures.others))
+    let done = c.self.inside.past.done in
+    let all = with_done c.self.inside.tally done in
+    arrived-still r v opening part _ _ k R (signed l) rest (with_done c.add.new.self done) tray
+    (stays-put r R v opening part _ k l all refl (inr (sym c.if-is_before.ensures)))
+    (counts-with r R v opening part _ k l all refl (with_done c.add.new.self done)
+    (with_done-same R.messages c.add.new.self (signed l ∷ c.self.inside.tally) done
+    (added-same_counts message_rules R.messages l c.add.new.self c.self.inside.tally c.in_ok-change.ensures.count c.in_ok-change.ensures.others)))
     (rw c.pop_front.ensures refl)
 
-pub invariant_of-self-then-undoes_nothing : goal.invariant_of-self-then-undoes_nothing
-invariant_of-self-then-undoes_nothing g c =
+pub invariant_of-self-then-is_before : goal.invariant_of-self-then-is_before
+invariant_of-self-then-is_before g c =
     let r = rules_of g.R.Reversible.plain g.R.Actor.counter in
+    let v = g.R.Reversible.is_value in
     let i = c.self.invariant in
     let R = of-messages g.R.Reversible.plain g.R.Actor.counter c.actor_rules.ensures.order c.actor_rules.ensures.undoes in
     let l = c.in-Some.letter in
-    let nothing = subst (λ q. (change_by message_rules (signed l) q.queues.tally ≡ Same) ⊎ (is_after r (newest_of (map (λ e. e.message) q.queues.past.done)) l.message ≡ true))
-    (sym c.self.view_is) (c.if-undoes_nothing.ensures.nothing refl) in
+    let t = c.self.inside.tally in
     let newest = c.newest.ensures in
-    let counts = added-same_counts message_rules R.messages l c.add.new.self c.self.inside.tally c.in_ok-change.ensures.count c.in_ok-change.ensures.others in (
+    let counts = added-same_counts message_rules R.messages l c.add.new.self t c.in_ok-change.ensures.count c.in_ok-change.ensures.others in
+    let stands = returns-then-is_before-clause-arrived g c i.0 i.1 (subst (λ q. StandsFor r v i.0 i.1 q.queues) c.self.view_is i.2) in (
       i.0,
       arrive r i.0 i.1,
-      returns-then-undoes_nothing-clause-arrived g c i.0 i.1 (subst (λ q. StandsFor r g.R.Reversible.is_value i.0 i.1 q.queues) c.self.view_is i.2),
-      c.next_with-self-inside.ensures c.self.inside.tally counts c.in_ok-change.ensures.change
-          (λ n. turned-behind r R l c.self.inside.tally _ _ nothing (λ e. n (c.in_ok-change.ensures.change ∙ e)) newest)
-          (i.3 ∙ ap (λ o. present_after message_rules o c.self.inside.tally) (sym newest)) ∙
-          ap (λ o. present_after message_rules o c.add.new.self) newest,
+      stands,
+      c.next_with-self-inside.ensures t counts c.in_ok-change.ensures.change
+          (λ n. ap (λ o. is_after message_rules o l.message) newest ∙ (sym (after-messages r R.less_one _ l.message) ∙ sym c.if-is_before.ensures))
+          (i.3 ∙ (next-beside r R v i.0 i.1 _ i.2 t refl ∙ ap (λ o. present_after message_rules o t) (sym newest))) ∙
+          (ap (λ o. present_after message_rules o c.add.new.self) newest ∙ sym (next-beside r R v i.0 (arrive r i.0 i.1) _ stands c.add.new.self refl)),
     )
 
-pub returns-then-undoes_nothing-clause-answer : goal.returns-then-undoes_nothing-clause-answer
-returns-then-undoes_nothing-clause-answer g c opening part h =
+pub returns-then-is_before-clause-answer : goal.returns-then-is_before-clause-answer
+returns-then-is_before-clause-answer g c opening part h =
     let r = rules_of g.R.Reversible.plain g.R.Actor.counter in
     let v = g.R.Reversible.is_value in
     let R = of-messages g.R.Reversible.plain g.R.Actor.counter c.actor_rules.ensures.order c.actor_rules.ensures.undoes in
@@ -69,14 +82,92 @@ returns-then-undoes_nothing-clause-answer g c opening part h =
     let tray = front-split c.self.inside.tray.items l first in (
       λ none. let bad : signed l ∷ rest ≡ [] = sym tray ∙ (k.tray ∙ none) in cc,
       sym (undone-none r v opening part _ k R (signed l) rest tray
-          (stays-put r R v opening part _ h l _ refl (c.if-undoes_nothing.ensures.nothing refl))),
+          (stays-put r R v opening part _ k l (with_done c.self.inside.tally c.self.inside.past.done) refl (inr (sym c.if-is_before.ensures)))),
     )
+
+-- it comes late, and turns nothing
+
+pub is_turned-requires : goal.is_turned-requires
+is_turned-requires g c =
+    let r = rules_of g.R.Reversible.plain g.R.Actor.counter in
+    subst (λ q. is_after r (newest_of (map (λ e. e.message) q.queues.past.done)) c.in-Some.letter.message ≡ false) c.self.view_is (sym c.if-is_before.ensures)
+
+pub returns-then-not-is_turned-clause-arrived : goal.returns-then-not-is_turned-clause-arrived
+returns-then-not-is_turned-clause-arrived g c opening part h =
+    let r = rules_of g.R.Reversible.plain g.R.Actor.counter in
+    let v = g.R.Reversible.is_value in
+    let R = of-messages g.R.Reversible.plain g.R.Actor.counter c.actor_rules.ensures.order c.actor_rules.ensures.undoes in
+    let k = subst (λ q. StandsFor r v opening part q.queues) (sym c.self.view_is) h in
+    let l = c.in-Some.letter in
+    let first : slice_get c.self.inside.tray.items 0 ≡ Some l = search rules in
+    let rest = map signed (drop 1 c.self.inside.tray.items) in
+    let tray = front-split c.self.inside.tray.items l first in
+    let done = c.self.inside.past.done in
+    arrived-still r v opening part _ _ k R (signed l) rest (with_done c.add-then-not-is_turned.new.self done) tray
+    (stays-put r R v opening part _ h l _ refl (inl (c.if-not-is_turned.ensures.same refl)))
+    (counts-with r R v opening part _ k l (with_done c.self.inside.tally done) refl (with_done c.add-then-not-is_turned.new.self done)
+    (with_done-same R.messages c.add-then-not-is_turned.new.self (signed l ∷ c.self.inside.tally) done
+    (added-same_counts message_rules R.messages l c.add-then-not-is_turned.new.self c.self.inside.tally c.in_ok-add.ensures.count c.in_ok-add.ensures.others)))
+    (rw c.pop_front-then-not-is_turned.ensures refl)
+
+pub invariant_of-self-then-not-is_turned : goal.invariant_of-self-then-not-is_turned
+invariant_of-self-then-not-is_turned g c =
+    let r = rules_of g.R.Reversible.plain g.R.Actor.counter in
+    let v = g.R.Reversible.is_value in
+    let i = c.self.invariant in
+    let R = of-messages g.R.Reversible.plain g.R.Actor.counter c.actor_rules.ensures.order c.actor_rules.ensures.undoes in
+    let l = c.in-Some.letter in
+    let done = c.self.inside.past.done in
+    let all = with_done c.self.inside.tally done in
+    let counts = with_done-same R.messages c.add-then-not-is_turned.new.self (signed l ∷ c.self.inside.tally) done
+    (added-same_counts message_rules R.messages l c.add-then-not-is_turned.new.self c.self.inside.tally c.in_ok-add.ensures.count c.in_ok-add.ensures.others) in
+    let same = subst (λ q. change_by message_rules (signed l) q.queues.tally ≡ Same) (sym c.self.view_is) (c.if-not-is_turned.ensures.same refl) in (
+      i.0,
+      arrive r i.0 i.1,
+      returns-then-not-is_turned-clause-arrived g c i.0 i.1 (subst (λ q. StandsFor r v i.0 i.1 q.queues) c.self.view_is i.2),
+      i.3 ∙ next-same message_rules R.messages (newest_of (map (λ e. e.message) done)) (signed l) all (with_done c.add-then-not-is_turned.new.self done) counts same,
+    )
+
+pub returns-then-not-is_turned-clause-answer : goal.returns-then-not-is_turned-clause-answer
+returns-then-not-is_turned-clause-answer g c opening part h =
+    let r = rules_of g.R.Reversible.plain g.R.Actor.counter in
+    let v = g.R.Reversible.is_value in
+    let R = of-messages g.R.Reversible.plain g.R.Actor.counter c.actor_rules.ensures.order c.actor_rules.ensures.undoes in
+    let k = subst (λ q. StandsFor r v opening part q.queues) (sym c.self.view_is) h in
+    let l = c.in-Some.letter in
+    let first : slice_get c.self.inside.tray.items 0 ≡ Some l = search rules in
+    let rest = map signed (drop 1 c.self.inside.tray.items) in
+    let tray = front-split c.self.inside.tray.items l first in (
+      λ none. let bad : signed l ∷ rest ≡ [] = sym tray ∙ (k.tray ∙ none) in cc,
+      sym (undone-none r v opening part _ k R (signed l) rest tray
+          (stays-put r R v opening part _ h l _ refl (inl (c.if-not-is_turned.ensures.same refl)))),
+    )
+
+-- it turns its message, and events are undone
 
 pub sent_since-requires : goal.sent_since-requires
 sent_since-requires g c =
     let r = rules_of g.R.Reversible.plain g.R.Actor.counter in
     let i = c.self.invariant in
     (i.0, drop c.self.inside.left (rowed r i.0 (i.1).committed), i.1, i.2.past)
+
+pub done_before-place-requires : goal.done_before-place-requires
+done_before-place-requires g c =
+    let r = rules_of g.R.Reversible.plain g.R.Actor.counter in
+    let i = c.self.invariant in
+    done-ascending r g.R.Reversible.is_value i.0 _ i.1 _ i.2.past
+
+pub count_again-requires-clause-within : goal.count_again-requires-clause-within
+count_again-requires-clause-within g c =
+    let r = rules_of g.R.Reversible.plain g.R.Actor.counter in
+    before-within r c.in-Some.letter.message c.self.inside.past.done c.done_before-place.result c.done_before-place.ensures
+
+pub count_again-requires-clause-not_owed : goal.count_again-requires-clause-not_owed
+count_again-requires-clause-not_owed g c m j =
+    let r = rules_of g.R.Reversible.plain g.R.Actor.counter in
+    let i = c.self.invariant in
+    let R = of-messages g.R.Reversible.plain g.R.Actor.counter c.actor_rules.ensures.order c.actor_rules.ensures.undoes in
+    not-owed r R g.R.Reversible.is_value i.0 i.1 _ i.2 m c.self.inside.tally refl j
 
 pub roll_back-undone-requires-clause-some : goal.roll_back-undone-requires-clause-some
 roll_back-undone-requires-clause-some g c =
@@ -96,22 +187,31 @@ returns-clause-arrived g c opening part h =
     let tray = front-split c.self.inside.tray.items l first in
     let there = drop c.self.inside.left (rowed r opening part.committed) in
     let b = counted-belongs r v opening part _ k R (signed l) rest in
-    arrived-back r v opening part _ _ k R (signed l) rest c.add-2.new.self tray
-    (turns r R v opening part _ h l _ refl (c.if-undoes_nothing.ensures.something refl))
-    (counts-with r R v opening part _ k l c.self.inside.tally refl c.add-2.new.self
-    (added-same_counts message_rules R.messages l c.add-2.new.self c.self.inside.tally c.in_ok-add.ensures.count c.in_ok-add.ensures.others))
-    (c.roll_back-undone.ensures.rolled opening there (counted r (signed l) rest part) b)
+    let rolled = c.roll_back-undone.ensures.rolled opening there (counted r (signed l) rest part) b in
+    let done = c.self.inside.past.done in
+    let left = c.roll_back-undone.new.self.done in
+    let split = undone-split r R.order l.message part.done done left c.done_before-place.result (done-messages r v opening there part c.self.inside.past k.past) k.past.ascending
+    (done-messages r v opening there _ c.roll_back-undone.new.self rolled) c.done_before-place.ensures in
+    arrived-back r v opening part _ _ k R (signed l) rest (with_done c.count_again.new.tally left) tray
+    (turns r R v opening part _ h l _ refl (c.if-not-is_turned.ensures.turned refl))
+    (counts-with r R v opening part _ k l (with_done c.self.inside.tally done) refl (with_done c.count_again.new.tally left)
+    (with_done-undone R.messages (signed l) c.done_before-place.result c.self.inside.tally c.count_again.new.tally done left c.in_ok-count_again.ensures.counts split))
+    rolled
     refl refl refl refl (ap (map signed) c.pop_front-2.ensures)
     (c.roll_back-undone.ensures.posted opening there (counted r (signed l) rest part) b (c.in_ok-reserve.ensures.same ∙ k.outbox))
 
 pub invariant_of-self-2 : goal.invariant_of-self-2
 invariant_of-self-2 g c =
     let r = rules_of g.R.Reversible.plain g.R.Actor.counter in
-    let i = c.self.invariant in (
+    let v = g.R.Reversible.is_value in
+    let i = c.self.invariant in
+    let R = of-messages g.R.Reversible.plain g.R.Actor.counter c.actor_rules.ensures.order c.actor_rules.ensures.undoes in
+    let stands = returns-clause-arrived g c i.0 i.1 (subst (λ q. StandsFor r v i.0 i.1 q.queues) c.self.view_is i.2) in (
       i.0,
       arrive r i.0 i.1,
-      returns-clause-arrived g c i.0 i.1 (subst (λ q. StandsFor r g.R.Reversible.is_value i.0 i.1 q.queues) c.self.view_is i.2),
-      c.next_after-self-inside.ensures ∙ ap (λ o. present_after message_rules o c.add-2.new.self) c.newest-2.ensures,
+      stands,
+      c.next_after-self-inside.ensures ∙ (ap (λ o. present_after message_rules o c.count_again.new.tally) c.newest-2.ensures ∙
+          sym (next-beside r R v i.0 (arrive r i.0 i.1) _ stands c.count_again.new.tally refl)),
     )
 
 pub returns-clause-answer : goal.returns-clause-answer
@@ -127,6 +227,6 @@ returns-clause-answer g c opening part h =
     let b = counted-belongs r v opening part _ k R (signed l) rest in (
       λ none. let bad : signed l ∷ rest ≡ [] = sym tray ∙ (k.tray ∙ none) in cc,
       undone-back r v opening part _ k R (signed l) rest c.roll_back-undone.new.self c.roll_back-undone.result tray
-          (turns r R v opening part _ h l _ refl (c.if-undoes_nothing.ensures.something refl))
+          (turns r R v opening part _ h l _ refl (c.if-not-is_turned.ensures.turned refl))
           (c.roll_back-undone.ensures.rolled opening (drop c.self.inside.left (rowed r opening part.committed)) (counted r (signed l) rest part) b) c.roll_back-undone.ensures.count,
     )

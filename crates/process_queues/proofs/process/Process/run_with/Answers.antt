@@ -4,9 +4,12 @@ use Rattle.virtual_time.specs.Part.{run_one, handled, next_of}
 use Rattle.reverse.specs.Rules.{rules_of}
 use Rattle.antimessages.specs.Letters.{message_rules}
 use Rattle.antimessages.specs.Counting.{present_after}
-use Rattle.process_queues.specs.Queues.{StandsFor}
+use Rattle.process_queues.specs.Queues.{StandsFor, with_done}
+use Rattle.process_queues.proofs.Beside.{with_done-handled}
 use Rattle.process_queues.proofs.Counting.{of-messages}
-use Rattle.process_queues.proofs.Standing.{ran-stands}
+use Rattle.process_queues.proofs.Stragglers.{next-beside, beside-present}
+use Rattle.process_queues.proofs.Next.{next-stands}
+use Rattle.process_queues.proofs.Standing.{ran-stands, recounted-stands}
 use Rattle.process_queues.proofs.Taking.{err-gives}
 use Rattle.process_queues.proofs.process.Process.run_with.Goals as goal
 
@@ -35,8 +38,14 @@ returns-clause-ran g c = λ opening part h.
     let v = g.R.Reversible.is_value in
     let R = of-messages g.R.Reversible.plain g.R.Actor.counter c.actor_rules.ensures.order c.actor_rules.ensures.undoes in
     let k = subst (λ q. StandsFor r v opening part q.queues) (sym c.self.view_is) h in
-    let next : next_of r part ≡ Some c.in-Some.message = sym (c.next.ensures.stands opening part h) ∙ c.in-Some.is in
-    ran-stands r v opening part _ _ k R c.in-Some.message next c.in_ok-handle.ensures.valid
+    let m = c.in-Some.message in
+    let next : next_of r part ≡ Some m = sym (c.next.ensures.stands opening part h) ∙ c.in-Some.is in
+    let t = c.self.inside.tally in
+    let done = c.self.inside.past.done in
+    let ran = ran-stands r v opening part _ _ k R m next c.in_ok-handle.ensures.valid refl in
+    let taken = c.take_present.ensures.present (beside-present r R v opening part _ k t refl m (sym (next-stands r R v opening part _ k) ∙ next)) in
+    recounted-stands r v opening (run_one r part) _ _ ran (with_done c.take_present.new.self c.handle.new.self.done)
+    (λ x. sym (with_done-handled R.messages m t c.take_present.new.self done c.handle.new.self.done _ taken refl (ap (λ p. p.done) c.in_ok-handle.ensures.handled) x))
     (rw (c.in_ok-handle.ensures.handled, c.in_ok-handle.ensures.sent) refl)
 
 pub invariant_of-self : goal.invariant_of-self
@@ -45,9 +54,13 @@ invariant_of-self g c = rw (c.in_err-handle.ensures.unchanged, c.in_err-handle.e
 pub invariant_of-self-2 : goal.invariant_of-self-2
 invariant_of-self-2 g c =
     let r = rules_of g.R.Reversible.plain g.R.Actor.counter in
-    let i = c.self.invariant in (
+    let v = g.R.Reversible.is_value in
+    let R = of-messages g.R.Reversible.plain g.R.Actor.counter c.actor_rules.ensures.order c.actor_rules.ensures.undoes in
+    let i = c.self.invariant in
+    let stands = returns-clause-ran g c i.0 i.1 (subst (λ q. StandsFor r v i.0 i.1 q.queues) c.self.view_is i.2) in (
       i.0,
       run_one r i.1,
-      returns-clause-ran g c i.0 i.1 (subst (λ q. StandsFor r g.R.Reversible.is_value i.0 i.1 q.queues) c.self.view_is i.2),
-      c.next_after-self-inside.ensures ∙ ap (λ o. present_after message_rules o c.self.inside.tally) c.newest.ensures,
+      stands,
+      c.next_after-self-inside.ensures ∙ (ap (λ o. present_after message_rules o c.take_present.new.self) c.newest.ensures ∙
+          sym (next-beside r R v i.0 (run_one r i.1) _ stands c.take_present.new.self refl)),
     )

@@ -1,0 +1,77 @@
+//! Before done events are undone, their messages are counted again beside the letters that were counted.
+ghost use Rattle.std.specs.Prelude.{◌≡◌, ◌≤◌, ◌++◌, ◌∷◌, List, map, drop, length, OnOk, OnErr};
+ghost use Rattle.vlink.specs.declared.message.Message.{Message};
+ghost use Rattle.virtual_time.specs.Lists.{IsIn};
+ghost use Rattle.virtual_time.specs.Letters.{Letter as Signed, plus_of, pluses, minuses};
+ghost use Rattle.antimessages.specs.Letters.{message_rules, signed};
+ghost use Rattle.antimessages.specs.Counting.{HaveSameCounts};
+
+use crate::past::Past;
+use antimessages::{OutOfMemory, Tally};
+use reverse::{Actor, actor_rules};
+use vlink::{Letter, Sign};
+
+impl<R: Actor> Past<R> {
+    /// The messages of the done events from this place on are counted, and the letter is. A refusal changes nothing: what was counted till
+    /// then is taken out again, which takes no memory.
+    pub(crate) fn count_again(
+        &self,
+        tally: &mut Tally,
+        place: usize,
+        letter: Letter,
+    ) -> Result<(), OutOfMemory>
+        requires within { place ≤ length self.now.done }
+        requires not_owed { (m : Message) → IsIn message_rules m (map (λ e. e.message) self.now.done) → minuses message_rules m tally.old ≤ pluses message_rules m tally.old }
+        ensures counts { OnOk result (HaveSameCounts message_rules tally.new (signed letter ∷ (map (λ e. plus_of e.message) (drop place self.now.done) ++ tally.old))) }
+        ensures unchanged { OnErr result (tally.new ≡ tally.old) }
+    {
+        actor_rules::<R>();
+        tally.told_by_counts();
+        let counted = self.count_back(tally, place);
+        if counted == place {
+            match tally.add(letter) {
+                Ok(_) => return Ok(()),
+                Err(_) => {}
+            }
+        }
+        self.take_out(tally, counted);
+        tally.told_by_counts();
+        Err(OutOfMemory)
+    }
+
+    /// The messages of the done events are counted, from the newest back to this place, or to where memory is refused. The answer is the
+    /// place of the last one that is counted.
+    fn count_back(&self, tally: &mut Tally, place: usize) -> usize
+        requires { place ≤ length self.now.done }
+        ensures within { result ≤ length self.now.done }
+        ensures counts { HaveSameCounts message_rules tally.new (map (λ e. plus_of e.message) (drop result self.now.done) ++ tally.old) }
+    {
+        actor_rules::<R>();
+        let all = self.done.len();
+        for counted in 0..all - place {
+            let next = all - 1 - counted;
+            let letter = Letter {
+                message: self.done[next].message,
+                sign: Sign::Plus,
+            };
+            match tally.add(letter) {
+                Ok(_) => {}
+                Err(_) => return next + 1,
+            }
+        }
+        place
+    }
+
+    /// The messages of the done events from this place on are taken out again.
+    fn take_out(&self, tally: &mut Tally, place: usize)
+        requires { place ≤ length self.now.done }
+        ensures { (before : List (Signed Message)) → HaveSameCounts message_rules tally.old (map (λ e. plus_of e.message) (drop place self.now.done) ++ before) →
+            ((m : Message) → IsIn message_rules m (map (λ e. e.message) self.now.done) → minuses message_rules m before ≤ pluses message_rules m before) →
+            HaveSameCounts message_rules tally.new before }
+    {
+        actor_rules::<R>();
+        for taken in place..self.done.len() {
+            tally.take_present(&self.done[taken].message);
+        }
+    }
+}
