@@ -1,5 +1,5 @@
 -- Clauses on results and errors.
-use Rattle.std.proofs.Common.{Result, Ok, Err, IfOk, OnErr}
+use Rattle.std.proofs.Common.{Result, Ok, Err, IfOk, OnOk, OnErr}
 
 -- what holds in any case holds after an error
 pub after-error : {T E P : Type 0} → P → (r : Result T E) → OnErr r P
@@ -10,3 +10,8 @@ after-error p (Err y) = p
 pub ok-weaker : {T E : Type 0} (P Q : T → Type 0) → ((x : T) → P x → Q x) → (r : Result T E) → IfOk r P → IfOk r Q
 ok-weaker P Q follows (Ok x) p = follows x p
 ok-weaker P Q follows (Err y) p = tt
+
+-- what follows from a fact that holds where a call went well holds there too
+pub on-ok : {T E P Q : Type 0} → (P → Q) → (r : Result T E) → OnOk r P → OnOk r Q
+on-ok follows (Ok x) p = follows p
+on-ok follows (Err y) p = tt

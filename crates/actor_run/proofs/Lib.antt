@@ -3,3 +3,4 @@ pub mod Turning
 pub mod Loading
 pub mod Errors
 pub mod Waits
+pub mod Lists

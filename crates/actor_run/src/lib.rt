@@ -1,10 +1,12 @@
 //! The one-thread run of any actors: the first of all waiting messages is handled, until none waits.
 #![tactic(auto)]
 
+mod beside;
 mod fault;
 mod recorder;
 mod running;
 mod sent;
+mod two_lists;
 mod waiting;
 
 pub use fault::SimFault;

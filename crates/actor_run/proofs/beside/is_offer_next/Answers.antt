@@ -3,7 +3,7 @@ use Rattle.std.specs.Prelude.{IsSomeAnd}
 use Rattle.std.specs.BinaryHeap.{heap_items}
 use Rattle.reverse.specs.Rules.{is_before}
 use Rattle.actor_run.proofs.Waits.{NoneBefore, top-first, before-sent}
-use Rattle.actor_run.proofs.waiting.is_offer_next.Goals as goal
+use Rattle.actor_run.proofs.beside.is_offer_next.Goals as goal
 
 pub returns-in-Some-peek-clause-offer : goal.returns-in-Some-peek-clause-offer
 returns-in-Some-peek-clause-offer c = λ t.
