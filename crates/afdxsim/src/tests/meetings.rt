@@ -14,7 +14,8 @@ use vlink::Step;
 use worker_pool::{Gate, Outcome, Pace, run};
 
 /// How many workers there are, how often a process looks whether the other one has begun, at most, and which process waits for which; then
-/// how many looked in vain, and two steps of which the first one stands in the journal before the second, if that is told.
+/// how many looked in vain, and two steps of which the first one stands in the journal before the second, if that is told. A message of
+/// which the gate is told out of turn counts as one that looked in vain.
 ///
 /// With one worker the process that waits stands in the way of the other one.
 pub const ROWS: &str = "
@@ -74,6 +75,16 @@ impl Meeting {
         Ok(())
     }
 
+    // Counts as one that looked in vain a process of which a message is told out of turn: the number is that of those that it has handled.
+    fn note_turn(&self, process: u16, run: u64) {
+        let Some(place) = self.places.get(usize::from(process)) else {
+            return;
+        };
+        if place.handled.load(Ordering::SeqCst) != run {
+            self.missed.fetch_add(1, Ordering::SeqCst);
+        }
+    }
+
     // Whether it was seen that this process has begun.
     fn sees(&self, process: u64) -> bool {
         let Some(place) = self.places.get(process as usize) else {
@@ -93,12 +104,13 @@ impl Meeting {
 
 impl Gate for Meeting {
     fn before(&self, process: u16, run: u64) {
-        if run != 0 {
-            return;
-        }
+        self.note_turn(process, run);
         let Some(place) = self.places.get(usize::from(process)) else {
             return;
         };
+        if run != 0 {
+            return;
+        }
         place.has_begun.store(true, Ordering::SeqCst);
         if let Some(other) = place.waits_for {
             if !self.sees(other) {
@@ -107,7 +119,8 @@ impl Gate for Meeting {
         }
     }
 
-    fn after(&self, process: u16, _run: u64) {
+    fn after(&self, process: u16, run: u64) {
+        self.note_turn(process, run);
         if let Some(place) = self.places.get(usize::from(process)) {
             place.handled.fetch_add(1, Ordering::SeqCst);
         }
