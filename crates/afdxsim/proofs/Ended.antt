@@ -29,9 +29,9 @@ pub ok_if : {T F : Type 0} {P Q : T → Type 0} (r : Result T F) → IfOk r P �
 ok_if (Ok x) p f = f x p
 ok_if (Err e) p f = tt
 
-pub on_both : {T F P Q R : Type 0} (r : Result T F) → OnOk r P → OnOk r Q → (P → Q → R) → OnOk r R
-on_both (Ok x) p q f = f p q
-on_both (Err e) p q f = tt
+pub on_three : {T F P Q R V : Type 0} (r : Result T F) → OnOk r P → OnOk r Q → OnOk r R → (P → Q → R → V) → OnOk r V
+on_three (Ok x) p q s f = f p q s
+on_three (Err e) p q s f = tt
 
 pub on_err : {T F P Q : Type 0} (r : Result T F) → OnErr r P → (P → Q) → OnErr r Q
 on_err (Ok x) p f = tt

@@ -3,7 +3,7 @@ use Rattle.trace_tables.specs.Text.{tables_text}
 use Rattle.afdxsim.specs.Ending.{IsFaultOfOutput}
 use Rattle.afdxsim.specs.Files.{ShowsBoth}
 use Rattle.afdxsim.specs.Orders.{Says, Shows}
-use Rattle.afdxsim.proofs.Ended.{err_then, on_both}
+use Rattle.afdxsim.proofs.Ended.{err_then, on_three}
 use Rattle.afdxsim.proofs.replay.replay.Goals as goal
 
 pub returns-clause-done : goal.returns-clause-done
@@ -17,14 +17,13 @@ returns-clause-done g c =
     let same = c.account_in.ensures.host in
     let tables = tables_text c.args.network account.tables in
     let line = string_bytes account.line in
-    on_both c.show_account.result c.show_account.ensures.left (on_both c.show_account.result c.show_account.ensures.tables c.show_account.ensures.line (λ shown spoken. (shown, spoken)))
-    (λ left both. (
+    on_three c.show_account.result c.show_account.ensures.left c.show_account.ensures.tables c.show_account.ensures.line (λ left shown spoken. (
       tables,
       line,
       (told.0, account, subst (λ (path : List ℕ). outside.gives before path (Some told.0)) c.as_str.ensures.value told.1, told.2, refl, refl),
       subst (λ host. Shows outside host after tables) same
-          (subst (λ plan. Shows outside begun after (tables_text plan account.tables)) c.in_ok-account.ensures.network both.0),
-      subst (λ host. Says outside host after line) same both.1,
+          (subst (λ plan. Shows outside begun after (tables_text plan account.tables)) c.in_ok-account.ensures.network shown),
+      subst (λ host. Says outside host after line) same spoken,
       subst (λ host. ShowsBoth outside host after) same left,
     ))
 
