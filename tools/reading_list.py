@@ -33,7 +33,7 @@ BEGINNINGS = {
         ("worker_pool", "running", "run"),
         ("worker_pool", "summary", "run_summary"),
         ("worker_pool", "tracing", "run_traced"),
-        ("afdxsim", "run", "run_ordered"),
+        ("afdxsim", "run", "run"),
     ],
 }
 

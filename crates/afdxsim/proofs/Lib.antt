@@ -4,4 +4,5 @@ pub mod Statuses
 pub mod Unwritten
 pub mod Ended
 pub mod Leaving
+pub mod Streams
 pub mod Holding

@@ -1,9 +1,9 @@
--- How a command ends: what its streams took, and which fault it met.
-use Rattle.std.specs.Prelude.{◌≡◌, ◌⊎◌, ◌+◌, ℕ, List, Option}
+-- What a stream took, what of a fault is told on it, and why standard output did not take a text.
+use Rattle.std.specs.Prelude.{◌≡◌, ℕ, ◌+◌, List, Option}
 use Rattle.std.specs.Io.KnownBytes.{append_known}
 use Rattle.afdxsim.specs.declared.fault.Fault.{Fault}
 use Rattle.afdxsim.specs.declared.fault.Fault.TheVariants.{Description, JournalLine, JournalFull, CannotRead, CannotWriteFile, CannotWrite, Layout, OutOfMemory, Exhausted, Spawn, Torn}
-use Rattle.afdxsim.specs.Telling.{Telling, TellsOne}
+use Rattle.afdxsim.specs.Telling.{Telling}
 
 -- a stream took this text behind what it had taken
 abbrev pub Took : {A : Type 0} → (A → Option (List ℕ)) → A → A → List ℕ → Type 0
@@ -26,7 +26,3 @@ IsFaultOfOutput failures old new OutOfMemory = Unit
 IsFaultOfOutput failures old new Exhausted = ⊥
 IsFaultOfOutput failures old new Spawn = ⊥
 IsFaultOfOutput failures old new Torn = ⊥
-
--- a command has ended: with status 0, and this was done, or a fault was met, and was told
-abbrev pub Ends : ℕ → Type 0 → (Fault → Type 0) → (Telling → Type 0) → Type 0
-Ends status done IsMet IsTold = ((status ≡ 0) × done) ⊎ ((fault : Fault) × IsMet fault × TellsOne fault IsTold)

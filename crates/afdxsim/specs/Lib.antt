@@ -1,4 +1,5 @@
 pub mod Words
+pub mod Outside
 pub mod Telling
 pub mod Ending
 pub mod Checking
@@ -8,4 +9,5 @@ pub mod Files
 pub mod Naming
 pub mod Reading
 pub mod Replaying
+pub mod Orders
 pub mod Performing

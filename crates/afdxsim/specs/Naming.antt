@@ -1,11 +1,30 @@
--- Whether the words name one file twice.
+-- The files that an order names, and whether it names one twice.
 use Rattle.std.specs.Prelude.{◌≡◌, ◌≢◌, ◌⊎◌, ℕ, Bool, true, false, List, Option, None, Some, IfSome, option_map, string_bytes}
-use Rattle.clap.specs.Words.{Text}
-use Rattle.command_line.specs.Meaning.{Names, command_in, command_of, rows_in}
 use Rattle.command_line.specs.declared.orders.Order.{Order}
 use Rattle.command_line.specs.declared.orders.Order.TheVariants as ordered
 use Rattle.afdxsim.specs.declared.fault.Fault.TheVariants.{OutOfMemory}
 use Rattle.afdxsim.specs.Telling.{Telling, telling_of, telling_of_twice}
+
+-- the path of the description
+abbrev pub net_of : Order → List ℕ
+net_of (ordered.Check o) = string_bytes o.net
+net_of (ordered.Seq o) = string_bytes o.net
+net_of (ordered.Run o) = string_bytes o.net
+net_of (ordered.Replay o) = string_bytes o.net
+
+-- the path of the file that is to get the journal, if one is
+abbrev pub journal_of : Order → Option (List ℕ)
+journal_of (ordered.Check o) = None
+journal_of (ordered.Seq o) = None
+journal_of (ordered.Run o) = option_map string_bytes o.journal
+journal_of (ordered.Replay o) = None
+
+-- the path of the file that is to get the trace, if one is
+abbrev pub trace_of : Order → Option (List ℕ)
+trace_of (ordered.Check o) = None
+trace_of (ordered.Seq o) = option_map string_bytes o.trace
+trace_of (ordered.Run o) = option_map string_bytes o.trace
+trace_of (ordered.Replay o) = None
 
 -- these paths, where both are there, differ, and the host may tell that they name two files
 abbrev pub AreTwo : (List ℕ → List ℕ → Bool → Type 0) → Option (List ℕ) → Option (List ℕ) → Type 0
@@ -26,24 +45,14 @@ abbrev pub IsTwice : (List ℕ → List ℕ → Bool → Type 0) → List ℕ �
 IsTwice tells net journal trace path =
     AreOne tells (Some net) trace path ⊎ (AreOne tells (Some net) journal path ⊎ AreOne tells trace journal path)
 
--- the order names one file twice; a file that is only read may be
-abbrev pub OrdersTwice : (List ℕ → List ℕ → Bool → Type 0) → Order → Type 0
-OrdersTwice tells (ordered.Check o) = ⊥
-OrdersTwice tells (ordered.Seq o) = (path : List ℕ) × IsTwice tells (string_bytes o.net) None (option_map string_bytes o.trace) path
-OrdersTwice tells (ordered.Run o) =
-    (path : List ℕ) × IsTwice tells (string_bytes o.net) (option_map string_bytes o.journal) (option_map string_bytes o.trace) path
-OrdersTwice tells (ordered.Replay o) = ⊥
+-- the files of an order are different ones. A file that is only read may be named twice
+abbrev pub NamesApart : (List ℕ → List ℕ → Bool → Type 0) → Order → Type 0
+NamesApart tells order = AreApart tells (net_of order) (journal_of order) (trace_of order)
 
--- the words mean such an order
-abbrev pub NameTwice : (List ℕ → List ℕ → Bool → Type 0) → List Text → Type 0
-NameTwice tells words = (order : Order) × (command_in words ≡ Some (command_of order)) × Names (rows_in words) order × OrdersTwice tells order
+-- two of them are one, and this path names it
+abbrev pub NamesTwice : (List ℕ → List ℕ → Bool → Type 0) → Order → List ℕ → Type 0
+NamesTwice tells order path = IsTwice tells (net_of order) (journal_of order) (trace_of order) path
 
 -- the file with this path is told as named twice, or want of memory is, which its line itself may meet
 abbrev pub TellsTwice : List ℕ → (Telling → Type 0) → Type 0
 TellsTwice path IsTold = IsTold (telling_of_twice path) ⊎ IsTold (telling_of OutOfMemory)
-
--- what comes of an order with these files: one is named twice, which is told, and nothing else happened; or none is, and the order ended so
-abbrev pub EndsApart : (List ℕ → List ℕ → Bool → Type 0) → List ℕ → Option (List ℕ) → Option (List ℕ) → Type 0 → (Telling → Type 0) → Type 0 → Type 0
-EndsApart tells net journal trace NothingElse IsTold Ended =
-    ((path : List ℕ) × IsTwice tells net journal trace path × TellsTwice path IsTold × NothingElse)
-    ⊎ (AreApart tells net journal trace × Ended)

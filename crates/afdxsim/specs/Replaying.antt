@@ -20,7 +20,7 @@ use Rattle.timewarp.specs.Replaying.{did, not_enabled, refused}
 use Rattle.afdxsim.specs.declared.account.Account.{Account}
 use Rattle.afdxsim.specs.declared.fault.Fault.{Fault}
 use Rattle.afdxsim.specs.declared.fault.Fault.TheVariants.{Description, JournalLine, JournalFull, CannotRead, CannotWriteFile, CannotWrite, Layout, OutOfMemory, Exhausted, Spawn, Torn}
-use Rattle.afdxsim.specs.Reading.{GivesNetwork, IsFaultOfFile, IsFaultOfNet}
+use Rattle.afdxsim.specs.Reading.{IsFaultOfFile}
 
 -- the most lines of a journal
 abbrev pub most_lines : ℕ
@@ -98,16 +98,12 @@ IsFaultOfJournal plan text Exhausted = (steps : List Noting) × IsJournal text s
 IsFaultOfJournal plan text Spawn = ⊥
 IsFaultOfJournal plan text Torn = ⊥
 
--- reads of two files may give a network and a journal, and of what comes of it this is the text of the tables, and this the line
-abbrev pub GivesTexts : (Option (List ℕ) → Type 0) → (Option (List ℕ) → Type 0) → List ℕ → List ℕ → Type 0
-GivesTexts net steps tables line =
-    (plan : Plan) × (bytes : List ℕ) × (account : Account) × GivesNetwork net plan × steps (Some bytes) × TellsOfJournal plan bytes account ×
+-- a read of a file may give a journal, and of what comes of it on this network this is the text of the tables, and this the line
+abbrev pub GivesTexts : Plan → (Option (List ℕ) → Type 0) → List ℕ → List ℕ → Type 0
+GivesTexts plan gives tables line =
+    (bytes : List ℕ) × (account : Account) × gives (Some bytes) × TellsOfJournal plan bytes account ×
     (tables ≡ tables_text plan account.tables) × (line ≡ string_bytes account.line)
 
--- why a journal in the file with one path was not done on a network in the file with the other: there was no network, the journal was not
--- read, or it was not done
-abbrev pub IsFaultOfSteps : (Option (List ℕ) → Type 0) → List ℕ → (Option (List ℕ) → Type 0) → List ℕ → Fault → Type 0
-IsFaultOfSteps gives net journal steps fault =
-    IsFaultOfNet gives net fault
-    ⊎ (IsFaultOfFile journal steps fault
-    ⊎ ((plan : Plan) × (bytes : List ℕ) × GivesNetwork gives plan × journal (Some bytes) × IsFaultOfJournal plan bytes fault))
+-- why a journal in the file with this path was not done on this network: the file was not read, or the journal was not done
+abbrev pub IsFaultOfSteps : Plan → (Option (List ℕ) → Type 0) → List ℕ → Fault → Type 0
+IsFaultOfSteps plan gives path fault = IsFaultOfFile gives path fault ⊎ ((bytes : List ℕ) × gives (Some bytes) × IsFaultOfJournal plan bytes fault)

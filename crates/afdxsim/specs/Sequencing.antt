@@ -1,5 +1,5 @@
 -- What the program writes of a one-thread run, and why it gives one up.
-use Rattle.std.specs.Prelude.{◌≡◌, ◌⊎◌, ℕ, Bool, true, false, List, Option, Some}
+use Rattle.std.specs.Prelude.{◌≡◌, ◌⊎◌, ℕ, Bool, true, false, List}
 use Rattle.vlink.specs.declared.note.Row.{Row as Noted}
 use Rattle.netdesc.specs.Plan.{Plan}
 use Rattle.nodes.specs.rules.Simulation.{simulation_of}
@@ -12,7 +12,6 @@ use Rattle.trace_tables.specs.Text.{tables_text}
 use Rattle.seqsim.specs.Networks.{AreRowsOf}
 use Rattle.afdxsim.specs.declared.fault.Fault.{Fault}
 use Rattle.afdxsim.specs.declared.fault.Fault.TheVariants.{Description, JournalLine, JournalFull, CannotRead, CannotWriteFile, CannotWrite, Layout, OutOfMemory, Exhausted, Spawn, Torn}
-use Rattle.afdxsim.specs.Reading.{GivesNetwork, IsFaultOfNet}
 
 -- why a one-thread run was given up, as a fault of the program
 abbrev pub fault_of_run : SimFault → Fault
@@ -56,12 +55,3 @@ IsFaultOfTrace makes Unwritten path OutOfMemory = makes true
 IsFaultOfTrace makes Unwritten path Exhausted = ⊥
 IsFaultOfTrace makes Unwritten path Spawn = ⊥
 IsFaultOfTrace makes Unwritten path Torn = ⊥
-
--- why `seq` ended early, of a network in the file with this path and a trace for the file with that path, if there is one: there was no
--- network, its run was given up, the trace was not written, or the tables were not
-abbrev pub IsFaultOfSeq : (Option (List ℕ) → Type 0) → List ℕ → Option (List ℕ) → (Plan → List ℕ → Fault → Type 0) → (Fault → Type 0) → Fault → Type 0
-IsFaultOfSeq gives net trace IsOfTrace IsOfOutput fault =
-    IsFaultOfNet gives net fault
-    ⊎ (((plan : Plan) × GivesNetwork gives plan × IsFaultOfRun plan fault)
-    ⊎ (((plan : Plan) × (path : List ℕ) × GivesNetwork gives plan × (trace ≡ Some path) × IsOfTrace plan path fault)
-    ⊎ IsOfOutput fault))

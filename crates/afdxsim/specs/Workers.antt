@@ -13,7 +13,6 @@ use Rattle.trace_parts.specs.declared.trace_fault.TraceFault.TheVariants.{Part, 
 use Rattle.worker_pool.specs.Runs.{IsJournalOf}
 use Rattle.afdxsim.specs.declared.fault.Fault.{Fault}
 use Rattle.afdxsim.specs.declared.fault.Fault.TheVariants.{Description, JournalLine, JournalFull, CannotRead, CannotWriteFile, CannotWrite, Layout, OutOfMemory, Exhausted, Spawn, Torn}
-use Rattle.afdxsim.specs.Reading.{GivesNetwork, IsFaultOfNet}
 
 -- this is the text of the steps of a run by workers
 abbrev pub IsJournalText : Plan → List ℕ → Type 0
@@ -60,12 +59,3 @@ abbrev pub IsFaultOfFiles : Option (List ℕ) → Option (List ℕ) → (List �
 IsFaultOfFiles journal trace IsOfJournal IsOfTrace fault =
     ((path : List ℕ) × (trace ≡ Some path) × IsOfTrace path fault)
     ⊎ ((path : List ℕ) × (journal ≡ Some path) × IsOfJournal path fault)
-
--- why `run` ended early, of a network in the file with this path: there was no network, its run was given up, its trace was not made or not
--- written, its journal was not, or the tables were not written
-abbrev pub IsFaultOfRunBy : (Option (List ℕ) → Type 0) → List ℕ → Option (List ℕ) → Option (List ℕ) →
-    (Plan → List ℕ → Fault → Type 0) → (Plan → List ℕ → Fault → Type 0) → (Fault → Type 0) → Fault → Type 0
-IsFaultOfRunBy gives net journal trace IsOfJournal IsOfTrace IsOfOutput fault =
-    IsFaultOfNet gives net fault
-    ⊎ (((plan : Plan) × GivesNetwork gives plan × (IsFaultOfPool fault ⊎ IsFaultOfFiles journal trace (IsOfJournal plan) (IsOfTrace plan) fault))
-    ⊎ IsOfOutput fault)

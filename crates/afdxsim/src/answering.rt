@@ -1,11 +1,12 @@
 //! What is answered where words are no order that can be done: help, or why they are refused.
-ghost use Rattle.std.specs.Prelude.{◌≡◌, ◌≢◌, ◌⊎◌, ◌+◌, IfSome};
+ghost use Rattle.std.specs.Prelude.{◌≡◌, ◌≢◌, ◌⊎◌, IfSome};
 ghost use Rattle.clap.specs.declared.error.kind.ErrorKind.TheVariants as Kind;
 ghost use Rattle.afdxsim.specs.declared.fault.Fault.TheVariants.{CannotWrite, OutOfMemory};
 ghost use Rattle.afdxsim.specs.Telling.{TellsOne, telling_of};
-ghost use Rattle.afdxsim.specs.Ending.{Took, Told};
+ghost use Rattle.afdxsim.specs.Ending.{IsFaultOfOutput};
 ghost use Rattle.afdxsim.specs.Files.{TellsAlone};
 ghost use Rattle.afdxsim.specs.Naming.{TellsTwice};
+ghost use Rattle.afdxsim.specs.Orders.{IsTold, Says, Shows};
 ghost use Rattle.afdxsim.specs.Words.{AsksFor};
 
 use crate::fault::{BAD_WORDS, DONE, Fault};
@@ -20,9 +21,9 @@ use trace_tables::write_all;
 /// Tells of want of memory.
 fn tell_memory<H: Host>(host: &mut H) -> u8
     ensures value { result ≡ 5 }
-    ensures told { Told H.Errors.taken H.Errors.failures (H.errors host.old) (H.errors host.new) result (telling_of OutOfMemory) }
-    ensures alone { TellsAlone H.with_errors host.old host.new }
-    ensures output { H.output host.new ≡ H.output host.old }
+    ensures told { IsTold H.outside host.old host.new result (telling_of OutOfMemory) }
+    ensures alone { TellsAlone H.outside host.old host.new }
+    ensures output { H.outside.output host.new ≡ H.outside.output host.old }
 {
     telling::tell_memory(host.errors())
 }
@@ -30,8 +31,8 @@ fn tell_memory<H: Host>(host: &mut H) -> u8
 /// Tells of a file that the words name twice, or of want of memory, where the line wants that. Nothing else is done.
 pub fn refuse_twice<H: Host>(alloc: Global, path: &str, host: &mut H) -> u8
     ensures status { (result ≡ 2) ⊎ (result ≡ 5) }
-    ensures told { TellsTwice path.now (Told H.Errors.taken H.Errors.failures (H.errors host.old) (H.errors host.new) result) }
-    ensures alone { TellsAlone H.with_errors host.old host.new }
+    ensures told { TellsTwice path.now (IsTold H.outside host.old host.new result) }
+    ensures alone { TellsAlone H.outside host.old host.new }
 {
     tell_twice(alloc, path, host.errors())
 }
@@ -39,9 +40,9 @@ pub fn refuse_twice<H: Host>(alloc: Global, path: &str, host: &mut H) -> u8
 /// Writes a text on standard output.
 fn show<H: Host>(alloc: Global, text: &str, host: &mut H) -> u8
     ensures status { (result ≡ 0) ⊎ (result ≡ 4) ⊎ (result ≡ 5) }
-    ensures shown { result ≡ 0 → Took H.Output.taken (H.output host.old) (H.output host.new) text.now }
-    ensures failed { result ≢ 0 → H.Output.failures (H.output host.new) ≡ H.Output.failures (H.output host.old) + 1 }
-    ensures told { result ≢ 0 → TellsOne CannotWrite (Told H.Errors.taken H.Errors.failures (H.errors host.old) (H.errors host.new) result) }
+    ensures shown { result ≡ 0 → Shows H.outside host.old host.new text.now }
+    ensures failed { result ≢ 0 → IsFaultOfOutput H.outside.unshown (H.outside.output host.old) (H.outside.output host.new) CannotWrite }
+    ensures told { result ≢ 0 → TellsOne CannotWrite (IsTold H.outside host.old host.new result) }
 {
     match write_all(host.output(), text.as_bytes()) {
         Ok(()) => DONE,
@@ -52,10 +53,10 @@ fn show<H: Host>(alloc: Global, text: &str, host: &mut H) -> u8
 /// Writes the help that the words ask for.
 fn give_help<M: Display, H: Host>(alloc: Global, help: &M, host: &mut H) -> u8
     ensures status { (result ≡ 0) ⊎ (result ≡ 4) ⊎ (result ≡ 5) }
-    ensures shown { result ≡ 0 → IfSome (M.output help.now) (Took H.Output.taken (H.output host.old) (H.output host.new)) }
-    ensures failed { result ≡ 4 → H.Output.failures (H.output host.new) ≡ H.Output.failures (H.output host.old) + 1 }
-    ensures cannot_write { result ≡ 4 → TellsOne CannotWrite (Told H.Errors.taken H.Errors.failures (H.errors host.old) (H.errors host.new) result) }
-    ensures memory { result ≡ 5 → TellsOne OutOfMemory (Told H.Errors.taken H.Errors.failures (H.errors host.old) (H.errors host.new) result) }
+    ensures shown { result ≡ 0 → IfSome (M.output help.now) (Shows H.outside host.old host.new) }
+    ensures failed { result ≡ 4 → IsFaultOfOutput H.outside.unshown (H.outside.output host.old) (H.outside.output host.new) CannotWrite }
+    ensures cannot_write { result ≡ 4 → TellsOne CannotWrite (IsTold H.outside host.old host.new result) }
+    ensures memory { result ≡ 5 → TellsOne OutOfMemory (IsTold H.outside host.old host.new result) }
 {
     match help.to_string(alloc) {
         Ok(text) => show(alloc, text.as_str(), host),
@@ -66,10 +67,9 @@ fn give_help<M: Display, H: Host>(alloc: Global, help: &M, host: &mut H) -> u8
 /// Writes why the words are refused. Where error output fails, nothing more is said.
 fn refuse<M: Display, H: Host>(alloc: Global, why: &M, host: &mut H) -> u8
     ensures status { (result ≡ 2) ⊎ (result ≡ 5) }
-    ensures said { result ≡ 2 → H.Errors.failures (H.errors host.new) ≡ H.Errors.failures (H.errors host.old) →
-        IfSome (M.output why.now) (Took H.Errors.taken (H.errors host.old) (H.errors host.new)) }
-    ensures memory { result ≡ 5 → TellsOne OutOfMemory (Told H.Errors.taken H.Errors.failures (H.errors host.old) (H.errors host.new) result) }
-    ensures output { H.output host.new ≡ H.output host.old }
+    ensures said { result ≡ 2 → IfSome (M.output why.now) (Says H.outside host.old host.new) }
+    ensures memory { result ≡ 5 → TellsOne OutOfMemory (IsTold H.outside host.old host.new result) }
+    ensures output { H.outside.output host.new ≡ H.outside.output host.old }
 {
     match why.to_string(alloc) {
         Ok(text) => {
@@ -85,16 +85,15 @@ fn refuse<M: Display, H: Host>(alloc: Global, why: &M, host: &mut H) -> u8
 pub fn answer<M: Display, H: Host>(alloc: Global, kind: ErrorKind, message: &M, host: &mut H) -> u8
     ensures status { (result ≡ 0) ⊎ (result ≡ 2) ⊎ (result ≡ 4) ⊎ (result ≡ 5) }
     ensures memory { kind ≡ Kind.OutOfMemory → result ≡ 5 }
-    ensures told { result ≡ 5 → TellsOne OutOfMemory (Told H.Errors.taken H.Errors.failures (H.errors host.old) (H.errors host.new) result) }
-    ensures alone { kind ≡ Kind.OutOfMemory → TellsAlone H.with_errors host.old host.new }
+    ensures told { result ≡ 5 → TellsOne OutOfMemory (IsTold H.outside host.old host.new result) }
+    ensures alone { kind ≡ Kind.OutOfMemory → TellsAlone H.outside host.old host.new }
     ensures only_done { result ≡ 0 → AsksFor kind }
     ensures only_shown { result ≡ 4 → AsksFor kind }
     ensures only_mistake { result ≡ 2 → ¬ (AsksFor kind) }
-    ensures shown { result ≡ 0 → IfSome (M.output message.now) (Took H.Output.taken (H.output host.old) (H.output host.new)) }
-    ensures failed { result ≡ 4 → H.Output.failures (H.output host.new) ≡ H.Output.failures (H.output host.old) + 1 }
-    ensures cannot_write { result ≡ 4 → TellsOne CannotWrite (Told H.Errors.taken H.Errors.failures (H.errors host.old) (H.errors host.new) result) }
-    ensures said { result ≡ 2 → H.Errors.failures (H.errors host.new) ≡ H.Errors.failures (H.errors host.old) →
-        IfSome (M.output message.now) (Took H.Errors.taken (H.errors host.old) (H.errors host.new)) }
+    ensures shown { result ≡ 0 → IfSome (M.output message.now) (Shows H.outside host.old host.new) }
+    ensures failed { result ≡ 4 → IsFaultOfOutput H.outside.unshown (H.outside.output host.old) (H.outside.output host.new) CannotWrite }
+    ensures cannot_write { result ≡ 4 → TellsOne CannotWrite (IsTold H.outside host.old host.new result) }
+    ensures said { result ≡ 2 → IfSome (M.output message.now) (Says H.outside host.old host.new) }
 {
     match kind {
         ErrorKind::OutOfMemory => tell_memory(host),

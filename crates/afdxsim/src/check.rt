@@ -1,15 +1,13 @@
-//! `check NET`: whether a network's description is accepted.
-ghost use Rattle.std.specs.Prelude.{◌≡◌, ◌≢◌, ◌⊎◌, IfOk, IfErr, OnOk, string_bytes};
-ghost use Rattle.netdesc.specs.Plan.{Plan};
+//! `check NET`: what a network has whose description is accepted.
+ghost use Rattle.std.specs.Prelude.{◌≡◌, ◌≢◌, IfOk, IfErr, OnOk, string_bytes};
 ghost use Rattle.afdxsim.specs.declared.fault.Fault.TheVariants.{CannotWrite};
 ghost use Rattle.afdxsim.specs.Checking.{counts_text, check_text};
 ghost use Rattle.afdxsim.specs.Ending.{Took, IsFaultOfOutput};
 ghost use Rattle.afdxsim.specs.Files.{ShowsAlone};
-ghost use Rattle.afdxsim.specs.Reading.{GivesNetwork, IsFaultOfNet};
+ghost use Rattle.afdxsim.specs.Orders.{IsQuiet, Shows};
 
 use crate::fault::Fault;
 use crate::host::Host;
-use crate::reading::network_of;
 use netdesc::Network;
 use std::alloc::{AllocError, Global};
 use trace_tables::{Sink, write_all};
@@ -53,17 +51,14 @@ fn show_counts<O: Sink>(
     }
 }
 
-/// Judges the description in the file with this path, and tells on standard output what it describes. Nothing is run: its offers are counted,
-/// and no list of them is made.
-pub fn check<'a, H: Host>(alloc: Global, net: &'a str, host: &mut H) -> Result<(), Fault<'a>>
-    ensures text { OnOk result ((plan : Plan) × GivesNetwork (H.gives host.old net.entry.now) plan ×
-        Took H.Output.taken (H.output host.old) (H.output host.new) (check_text plan)) }
-    ensures fault { IfErr result (λ fault. IsFaultOfNet (H.gives host.old net.entry.now) net.entry.now fault ⊎
-        IsFaultOfOutput H.Output.failures (H.output host.old) (H.output host.new) fault) }
-    ensures kept { IfErr result (λ fault. fault ≢ CannotWrite → H.output host.new ≡ H.output host.old) }
-    ensures left { OnOk result (ShowsAlone H.with_output host.old host.new) }
-    ensures errors { H.errors host.new ≡ H.errors host.old }
+/// Tells on standard output what a network has: processes, virtual links and offers. Nothing is run: its offers are counted, and no list of
+/// them is made.
+pub fn check<H: Host>(alloc: Global, network: &Network, host: &mut H) -> Result<(), Fault<'static>>
+    ensures text { OnOk result (Shows H.outside host.old host.new (check_text network.now)) }
+    ensures left { OnOk result (ShowsAlone H.outside host.old host.new) }
+    ensures fault { IfErr result (IsFaultOfOutput H.outside.unshown (H.outside.output host.old) (H.outside.output host.new)) }
+    ensures kept { IfErr result (λ fault. fault ≢ CannotWrite → H.outside.output host.new ≡ H.outside.output host.old) }
+    ensures quiet { IsQuiet H.outside host.old host.new }
 {
-    let network = network_of(alloc, net, host)?;
-    show_counts(alloc, &network, host.output())
+    show_counts(alloc, network, host.output())
 }

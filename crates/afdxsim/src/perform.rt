@@ -1,12 +1,7 @@
 //! The whole program: from its words to its status.
-ghost use Rattle.std.specs.Prelude.{◌≡◌, [], ℕ, List, None, map, codes};
-ghost use Rattle.clap.specs.Words.{first_of};
-ghost use Rattle.command_line.specs.Meaning.{command_in, rows_in};
+ghost use Rattle.std.specs.Prelude.{◌≡◌, [], map};
 ghost use Rattle.afdxsim.specs.Telling.{IsStatus};
-ghost use Rattle.afdxsim.specs.Ending.{Told};
-ghost use Rattle.afdxsim.specs.Files.{IsFaultOfKeptFile, IsFaultOfTraceFile, LeavesRun, LeavesSeq, ShowsAlone, ShowsBoth, TellsAlone};
-ghost use Rattle.afdxsim.specs.Naming.{EndsApart, NameTwice};
-ghost use Rattle.afdxsim.specs.Performing.{AnswersWords, Begins, EndsCheck, EndsRun, EndsSeq, EndsReplay, found_in};
+ghost use Rattle.afdxsim.specs.Performing.{AnswersWords, NameTwice, Performs, found_in};
 
 use crate::answering::answer;
 use crate::host::Host;
@@ -32,44 +27,8 @@ pub fn perform<'a, S: AsStr, H: Host, T: Threads + Wait + Sync>(
     host: &mut H,
 ) -> u8
     ensures status { IsStatus result }
-    ensures words { AnswersWords (map S.text words.entry.now) (NameTwice (H.tells host.old) (map S.text words.entry.now)) result }
-    ensures check { found_in (map S.text words.entry.now) ≡ [] → command_in (map S.text words.entry.now) ≡ Some (codes "check") →
-        (net : List ℕ) → first_of (codes "NET") (rows_in (map S.text words.entry.now)) ≡ Some net →
-        Begins (TellsAlone H.with_errors host.old host.new) (Told H.Errors.taken H.Errors.failures (H.errors host.old) (H.errors host.new) result)
-        (EndsCheck (H.gives host.old net) net (ShowsAlone H.with_output host.old host.new)
-        H.Output.taken H.Output.failures (H.output host.old) (H.output host.new)
-        H.Errors.taken H.Errors.failures (H.errors host.old) (H.errors host.new) result) }
-    ensures seq { found_in (map S.text words.entry.now) ≡ [] → command_in (map S.text words.entry.now) ≡ Some (codes "seq") →
-        (net : List ℕ) → first_of (codes "NET") (rows_in (map S.text words.entry.now)) ≡ Some net →
-        Begins (TellsAlone H.with_errors host.old host.new) (Told H.Errors.taken H.Errors.failures (H.errors host.old) (H.errors host.new) result)
-        (EndsApart (H.tells host.old) net None (first_of (codes "trace") (rows_in (map S.text words.entry.now)))
-        (TellsAlone H.with_errors host.old host.new) (Told H.Errors.taken H.Errors.failures (H.errors host.old) (H.errors host.new) result)
-        (EndsSeq (H.gives host.old net) net (first_of (codes "trace") (rows_in (map S.text words.entry.now)))
-        (IsFaultOfTraceFile H.makes H.File.taken H.File.failures host.old)
-        (LeavesSeq H.made H.closed H.File.taken H.with_output (first_of (codes "trace") (rows_in (map S.text words.entry.now))) host.old host.new)
-        H.Output.taken H.Output.failures (H.output host.old) (H.output host.new)
-        H.Errors.taken H.Errors.failures (H.errors host.old) (H.errors host.new) result)) }
-    ensures run { found_in (map S.text words.entry.now) ≡ [] → command_in (map S.text words.entry.now) ≡ Some (codes "run") →
-        (net : List ℕ) → first_of (codes "NET") (rows_in (map S.text words.entry.now)) ≡ Some net →
-        Begins (TellsAlone H.with_errors host.old host.new) (Told H.Errors.taken H.Errors.failures (H.errors host.old) (H.errors host.new) result)
-        (EndsApart (H.tells host.old) net (first_of (codes "journal") (rows_in (map S.text words.entry.now)))
-        (first_of (codes "trace") (rows_in (map S.text words.entry.now)))
-        (TellsAlone H.with_errors host.old host.new) (Told H.Errors.taken H.Errors.failures (H.errors host.old) (H.errors host.new) result)
-        (EndsRun (H.gives host.old net) net (first_of (codes "journal") (rows_in (map S.text words.entry.now)))
-        (first_of (codes "trace") (rows_in (map S.text words.entry.now)))
-        (IsFaultOfKeptFile H.makes H.made H.closed H.File.taken H.File.failures (first_of (codes "trace") (rows_in (map S.text words.entry.now))) host.old)
-        (IsFaultOfTraceFile H.makes H.File.taken H.File.failures host.old)
-        (LeavesRun H.made H.closed H.File.taken H.with_output (first_of (codes "journal") (rows_in (map S.text words.entry.now)))
-        (first_of (codes "trace") (rows_in (map S.text words.entry.now))) host.old host.new)
-        H.Output.taken H.Output.failures (H.output host.old) (H.output host.new)
-        H.Errors.taken H.Errors.failures (H.errors host.old) (H.errors host.new) result)) }
-    ensures replay { found_in (map S.text words.entry.now) ≡ [] → command_in (map S.text words.entry.now) ≡ Some (codes "replay") →
-        (net steps : List ℕ) → first_of (codes "NET") (rows_in (map S.text words.entry.now)) ≡ Some net →
-        first_of (codes "STEPS") (rows_in (map S.text words.entry.now)) ≡ Some steps →
-        Begins (TellsAlone H.with_errors host.old host.new) (Told H.Errors.taken H.Errors.failures (H.errors host.old) (H.errors host.new) result)
-        (EndsReplay (H.gives host.old) net steps (ShowsBoth H.with_output H.with_errors host.old host.new)
-        H.Output.taken H.Output.failures (H.output host.old) (H.output host.new)
-        H.Errors.taken H.Errors.failures (H.errors host.old) (H.errors host.new) result) }
+    ensures words { AnswersWords (map S.text words.entry.now) (NameTwice (H.outside.tells host.old) (map S.text words.entry.now)) result }
+    ensures ordered { found_in (map S.text words.entry.now) ≡ [] → Performs H.outside host.old host.new (map S.text words.entry.now) result }
 {
     match order(alloc, words) {
         Ok(order) => obey(rt, alloc, &order, host),

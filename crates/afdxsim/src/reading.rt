@@ -35,8 +35,8 @@ pub fn bytes_of<'a, H: Host>(
     path: &'a str,
     host: &mut H,
 ) -> Result<Vec<u8>, Fault<'a>>
-    ensures bytes { IfOk result (λ bytes. H.gives host.old path.entry.now (Some bytes.items)) }
-    ensures fault { IfErr result (IsFaultOfFile (H.gives host.old path.entry.now) path.entry.now) }
+    ensures bytes { IfOk result (λ bytes. H.outside.gives host.old path.entry.now (Some bytes.items)) }
+    ensures fault { IfErr result (IsFaultOfFile (H.outside.gives host.old path.entry.now) path.entry.now) }
     ensures host { host.new ≡ host.old }
 {
     match host.read(alloc, path) {
@@ -52,8 +52,8 @@ pub fn network_of<'a, H: Host>(
     path: &'a str,
     host: &mut H,
 ) -> Result<Network, Fault<'a>>
-    ensures network { IfOk result (GivesNetwork (H.gives host.old path.entry.now)) }
-    ensures fault { IfErr result (IsFaultOfNet (H.gives host.old path.entry.now) path.entry.now) }
+    ensures network { IfOk result (GivesNetwork (H.outside.gives host.old path.entry.now)) }
+    ensures fault { IfErr result (IsFaultOfNet (H.outside.gives host.old path.entry.now) path.entry.now) }
     ensures host { host.new ≡ host.old }
 {
     let bytes = bytes_of(alloc, path, host)?;

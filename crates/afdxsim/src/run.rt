@@ -1,17 +1,18 @@
 //! `run NET [--workers N] [--turn N] [--window NS] [--journal FILE] [--trace FILE]`: the run of a network by workers.
 ghost use Rattle.std.specs.Prelude.{◌≡◌, ◌≢◌, ◌⊎◌, ℕ, true, List, IfErr, IfOk, OnOk, option_map, is_some, string_bytes};
+ghost use Rattle.command_line.specs.declared.orders.Order.TheVariants as ordered;
 ghost use Rattle.journal_text.specs.Text.{steps_text};
 ghost use Rattle.trace_tables.specs.Text.{tables_text};
 ghost use Rattle.worker_pool.specs.Runs.{IsJournalAsked};
 ghost use Rattle.afdxsim.specs.declared.fault.Fault.TheVariants.{CannotWrite};
-ghost use Rattle.afdxsim.specs.Ending.{Took, IsFaultOfOutput};
-ghost use Rattle.afdxsim.specs.Files.{IsFaultOfKeptFile, IsFaultOfTraceFile, LeavesRun, ShowsTables, TookSome, WritesAsked, WritesFile, WritesSome};
+ghost use Rattle.afdxsim.specs.Ending.{Took};
+ghost use Rattle.afdxsim.specs.Files.{IsFaultOfTraceFile, LeavesRun, TookSome, WritesAsked, WritesFile, WritesSome};
+ghost use Rattle.afdxsim.specs.Orders.{IsFaultOn, IsQuiet, ShowsTables};
 ghost use Rattle.afdxsim.specs.Sequencing.{IsTablesText, IsTraceText};
-ghost use Rattle.afdxsim.specs.Workers.{IsFaultOfPool, IsFaultOfJournalFile, IsFaultOfFiles, IsFaultOfRunBy};
+ghost use Rattle.afdxsim.specs.Workers.{IsFaultOfPool, IsFaultOfJournalFile};
 
 use crate::fault::Fault;
 use crate::host::{FileFault, Host};
-use crate::reading::network_of;
 use crate::seq::show_tables;
 use crate::steps::write_steps;
 use crate::workers::{found_by_workers, found_with_trace, pace_of};
@@ -37,11 +38,11 @@ fn simulate_with_trace<'a, H: Host, T: Threads + Wait + Sync>(
 ) -> Result<Summary, Fault<'a>>
     ensures text { IfOk result (λ found. IsTablesText network.now (tables_text network.now found.tables)) }
     ensures journal { IfOk result (λ found. IsJournalAsked network.now with_steps found.journal.items) }
-    ensures trace { OnOk result (WritesFile H.made H.closed H.File.taken path.entry.now (IsTraceText network.now) host.old host.new) }
+    ensures trace { OnOk result (WritesFile H.outside path.entry.now (IsTraceText network.now) host.old host.new) }
     ensures fault { IfErr result (λ fault. IsFaultOfPool fault ⊎
-        IsFaultOfTraceFile H.makes H.File.taken H.File.failures host.old network.now path.entry.now fault) }
-    ensures output { H.output host.new ≡ H.output host.old }
-    ensures errors { H.errors host.new ≡ H.errors host.old }
+        IsFaultOfTraceFile H.outside host.old network.now path.entry.now fault) }
+    ensures output { H.outside.output host.new ≡ H.outside.output host.old }
+    ensures quiet { IsQuiet H.outside host.old host.new }
 {
     match host.make(path) {
         Ok(file) => {
@@ -64,12 +65,12 @@ fn simulate<'a, H: Host, T: Threads + Wait + Sync>(
 ) -> Result<Summary, Fault<'a>>
     ensures text { IfOk result (λ found. IsTablesText network.now (tables_text network.now found.tables)) }
     ensures journal { IfOk result (λ found. IsJournalAsked network.now (is_some order.entry.now.journal) found.journal.items) }
-    ensures trace { OnOk result (WritesAsked H.made H.closed H.File.taken (option_map string_bytes order.entry.now.trace) (IsTraceText network.now) host.old host.new) }
+    ensures trace { OnOk result (WritesAsked H.outside (option_map string_bytes order.entry.now.trace) (IsTraceText network.now) host.old host.new) }
     ensures fault { IfErr result (λ fault. IsFaultOfPool fault ⊎
         ((path : List ℕ) × (option_map string_bytes order.entry.now.trace ≡ Some path) ×
-        IsFaultOfTraceFile H.makes H.File.taken H.File.failures host.old network.now path fault)) }
-    ensures output { H.output host.new ≡ H.output host.old }
-    ensures errors { H.errors host.new ≡ H.errors host.old }
+        IsFaultOfTraceFile H.outside host.old network.now path fault)) }
+    ensures output { H.outside.output host.new ≡ H.outside.output host.old }
+    ensures quiet { IsQuiet H.outside host.old host.new }
 {
     let pace = pace_of(order);
     let with_steps = order.journal.is_some();
@@ -113,11 +114,11 @@ fn keep_steps<'a, H: Host>(
     path: &'a str,
     host: &mut H,
 ) -> Result<(), Fault<'a>>
-    ensures file { OnOk result (WritesFile H.made H.closed H.File.taken path.entry.now (λ text. text ≡ steps_text steps.now) host.old host.new) }
-    ensures fault { IfErr result (IsFaultOfJournalFile (H.makes host.old path.entry.now)
-        (WritesSome H.File.taken H.File.failures (λ text. text ≡ steps_text steps.now)) path.entry.now) }
-    ensures output { H.output host.new ≡ H.output host.old }
-    ensures errors { H.errors host.new ≡ H.errors host.old }
+    ensures file { OnOk result (WritesFile H.outside path.entry.now (λ text. text ≡ steps_text steps.now) host.old host.new) }
+    ensures fault { IfErr result (IsFaultOfJournalFile (H.outside.makes host.old path.entry.now)
+        (WritesSome H.outside (λ text. text ≡ steps_text steps.now)) path.entry.now) }
+    ensures output { H.outside.output host.new ≡ H.outside.output host.old }
+    ensures quiet { IsQuiet H.outside host.old host.new }
 {
     match host.make(path) {
         Ok(mut file) => {
@@ -137,11 +138,11 @@ fn keep_journal<'a, H: Host>(
     order: &'a Run,
     host: &mut H,
 ) -> Result<(), Fault<'a>>
-    ensures file { OnOk result (WritesAsked H.made H.closed H.File.taken (option_map string_bytes order.entry.now.journal) (λ text. text ≡ steps_text steps.now) host.old host.new) }
+    ensures file { OnOk result (WritesAsked H.outside (option_map string_bytes order.entry.now.journal) (λ text. text ≡ steps_text steps.now) host.old host.new) }
     ensures fault { IfErr result (λ fault. (path : List ℕ) × (option_map string_bytes order.entry.now.journal ≡ Some path) ×
-        IsFaultOfJournalFile (H.makes host.old path) (WritesSome H.File.taken H.File.failures (λ text. text ≡ steps_text steps.now)) path fault) }
-    ensures output { H.output host.new ≡ H.output host.old }
-    ensures errors { H.errors host.new ≡ H.errors host.old }
+        IsFaultOfJournalFile (H.outside.makes host.old path) (WritesSome H.outside (λ text. text ≡ steps_text steps.now)) path fault) }
+    ensures output { H.outside.output host.new ≡ H.outside.output host.old }
+    ensures quiet { IsQuiet H.outside host.old host.new }
 {
     match &order.journal {
         Some(path) => keep_steps(alloc, steps, path.as_str(), host),
@@ -149,52 +150,25 @@ fn keep_journal<'a, H: Host>(
     }
 }
 
-/// Simulates the network by workers, which write the trace on the way, if one is ordered. Then the journal goes into its file, if one is
-/// ordered, and then the tables to standard output.
+/// Simulates the network by workers, which write the trace on the way, if one is ordered: its file is made before the run. Then the journal
+/// goes into its file, if one is ordered, and then the tables to standard output. A fault ends it at once: what was written stays, and nothing
+/// that comes later is made or written. Steps are listed only for a journal, and rows never.
 #[tactic(auto, using(crate::proofs::Unwritten::kept_of))]
-fn run_network<'a, H: Host, T: Threads + Wait + Sync>(
+pub fn run<'a, H: Host, T: Threads + Wait + Sync>(
     rt: &T,
     alloc: Global,
     network: &Network,
     order: &'a Run,
     host: &mut H,
 ) -> Result<(), Fault<'a>>
-    ensures text { OnOk result ((text : List ℕ) × IsTablesText network.now text × Took H.Output.taken (H.output host.old) (H.output host.new) text) }
-    ensures left { OnOk result (LeavesRun H.made H.closed H.File.taken H.with_output
-        (option_map string_bytes order.entry.now.journal) (option_map string_bytes order.entry.now.trace) host.old host.new network.now) }
-    ensures fault { IfErr result (λ fault. IsFaultOfPool fault ⊎
-        (IsFaultOfFiles (option_map string_bytes order.entry.now.journal) (option_map string_bytes order.entry.now.trace)
-        (IsFaultOfKeptFile H.makes H.made H.closed H.File.taken H.File.failures (option_map string_bytes order.entry.now.trace) host.old network.now)
-        (IsFaultOfTraceFile H.makes H.File.taken H.File.failures host.old network.now) fault ⊎
-        IsFaultOfOutput H.Output.failures (H.output host.old) (H.output host.new) fault)) }
-    ensures kept { IfErr result (λ fault. fault ≢ CannotWrite → H.output host.new ≡ H.output host.old) }
-    ensures errors { H.errors host.new ≡ H.errors host.old }
+    ensures tables { OnOk result (ShowsTables H.outside host.old host.new network.now) }
+    ensures left { OnOk result (LeavesRun H.outside (option_map string_bytes order.entry.now.journal) (option_map string_bytes order.entry.now.trace)
+        host.old host.new network.now) }
+    ensures fault { IfErr result (IsFaultOn H.outside host.old host.new network.now (ordered.Run order.entry.now)) }
+    ensures kept { IfErr result (λ fault. fault ≢ CannotWrite → H.outside.output host.new ≡ H.outside.output host.old) }
+    ensures quiet { IsQuiet H.outside host.old host.new }
 {
     let found = simulate(rt, alloc, network, order, host)?;
     keep_journal(alloc, found.journal.as_slice(), order, host)?;
     show_tables(alloc, network, &found.tables, host.output())
-}
-
-/// Simulates the network whose description is the file that is ordered, by workers. The trace's file is made before the run, which writes it;
-/// then come the journal's file and the tables on standard output. A fault ends it at once: what was written stays, and nothing that comes
-/// later is made or written. Steps are listed only for a journal, and rows never.
-pub fn run_ordered<'a, H: Host, T: Threads + Wait + Sync>(
-    rt: &T,
-    alloc: Global,
-    order: &'a Run,
-    host: &mut H,
-) -> Result<(), Fault<'a>>
-    ensures shown { OnOk result (ShowsTables (H.gives host.old (string_bytes order.entry.now.net)) H.Output.taken (H.output host.old) (H.output host.new)
-        (LeavesRun H.made H.closed H.File.taken H.with_output
-        (option_map string_bytes order.entry.now.journal) (option_map string_bytes order.entry.now.trace) host.old host.new)) }
-    ensures fault { IfErr result (IsFaultOfRunBy (H.gives host.old (string_bytes order.entry.now.net)) (string_bytes order.entry.now.net)
-        (option_map string_bytes order.entry.now.journal) (option_map string_bytes order.entry.now.trace)
-        (IsFaultOfKeptFile H.makes H.made H.closed H.File.taken H.File.failures (option_map string_bytes order.entry.now.trace) host.old)
-        (IsFaultOfTraceFile H.makes H.File.taken H.File.failures host.old)
-        (IsFaultOfOutput H.Output.failures (H.output host.old) (H.output host.new))) }
-    ensures kept { IfErr result (λ fault. fault ≢ CannotWrite → H.output host.new ≡ H.output host.old) }
-    ensures errors { H.errors host.new ≡ H.errors host.old }
-{
-    let network = network_of(alloc, order.net.as_str(), host)?;
-    run_network(rt, alloc, &network, order, host)
 }

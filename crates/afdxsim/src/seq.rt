@@ -1,16 +1,18 @@
 //! `seq NET [--trace FILE]`: the one-thread run of a network.
-ghost use Rattle.std.specs.Prelude.{◌≡◌, ◌≢◌, ◌⊎◌, ℕ, true, List, IfErr, IfOk, OnOk, option_map};
+ghost use Rattle.std.specs.Prelude.{◌≡◌, ◌≢◌, ◌⊎◌, true, IfErr, IfOk, OnOk, option_map, string_bytes};
+ghost use Rattle.command_line.specs.declared.orders.Order.TheVariants as ordered;
 ghost use Rattle.seqsim.specs.Networks.{AreRowsOf};
 ghost use Rattle.trace_parts.specs.Text.{trace_text};
 ghost use Rattle.trace_tables.specs.Text.{tables_text};
 ghost use Rattle.afdxsim.specs.declared.fault.Fault.TheVariants.{CannotWrite};
 ghost use Rattle.afdxsim.specs.Ending.{Took, IsFaultOfOutput};
-ghost use Rattle.afdxsim.specs.Files.{IsFaultOfTraceFile, LeavesSeq, ShowsAlone, ShowsTables, TookSome, WritesFile, WritesSome};
-ghost use Rattle.afdxsim.specs.Sequencing.{IsTablesText, IsFaultOfRun, IsFaultOfSeq, IsFaultOfTrace};
+ghost use Rattle.afdxsim.specs.Files.{IsFaultOfTraceFile, LeavesSeq, ShowsAlone, TookSome, WritesFile, WritesSome};
+ghost use Rattle.afdxsim.specs.Orders.{IsFaultOn, IsQuiet, ShowsTables};
+ghost use Rattle.afdxsim.specs.Sequencing.{IsTablesText, IsFaultOfRun, IsFaultOfTrace};
 
 use crate::fault::Fault;
 use crate::host::{FileFault, Host};
-use crate::reading::network_of;
+use command_line::Seq;
 use netdesc::Network;
 use seqsim::{Finished, run, run_tables};
 use std::alloc::Global;
@@ -65,11 +67,11 @@ fn keep_trace<'a, H: Host>(
     path: &'a str,
     host: &mut H,
 ) -> Result<(), Fault<'a>>
-    ensures file { OnOk result (WritesFile H.made H.closed H.File.taken path.entry.now (λ text. text ≡ trace_text network.now rows.now) host.old host.new) }
-    ensures fault { IfErr result (IsFaultOfTrace (H.makes host.old path.entry.now)
-        (WritesSome H.File.taken H.File.failures (λ text. text ≡ trace_text network.now rows.now)) path.entry.now) }
-    ensures output { H.output host.new ≡ H.output host.old }
-    ensures errors { H.errors host.new ≡ H.errors host.old }
+    ensures file { OnOk result (WritesFile H.outside path.entry.now (λ text. text ≡ trace_text network.now rows.now) host.old host.new) }
+    ensures fault { IfErr result (IsFaultOfTrace (H.outside.makes host.old path.entry.now)
+        (WritesSome H.outside (λ text. text ≡ trace_text network.now rows.now)) path.entry.now) }
+    ensures output { H.outside.output host.new ≡ H.outside.output host.old }
+    ensures quiet { IsQuiet H.outside host.old host.new }
 {
     match host.make(path) {
         Ok(mut file) => {
@@ -107,11 +109,12 @@ fn run_to_tables<H: Host>(
     network: &Network,
     host: &mut H,
 ) -> Result<(), Fault<'static>>
-    ensures text { OnOk result ((text : List ℕ) × IsTablesText network.now text × Took H.Output.taken (H.output host.old) (H.output host.new) text) }
-    ensures left { OnOk result (ShowsAlone H.with_output host.old host.new) }
-    ensures fault { IfErr result (λ fault. IsFaultOfRun network.now fault ⊎ IsFaultOfOutput H.Output.failures (H.output host.old) (H.output host.new) fault) }
-    ensures kept { IfErr result (λ fault. fault ≢ CannotWrite → H.output host.new ≡ H.output host.old) }
-    ensures errors { H.errors host.new ≡ H.errors host.old }
+    ensures tables { OnOk result (ShowsTables H.outside host.old host.new network.now) }
+    ensures left { OnOk result (ShowsAlone H.outside host.old host.new) }
+    ensures fault { IfErr result (λ fault. IsFaultOfRun network.now fault ⊎
+        IsFaultOfOutput H.outside.unshown (H.outside.output host.old) (H.outside.output host.new) fault) }
+    ensures kept { IfErr result (λ fault. fault ≢ CannotWrite → H.outside.output host.new ≡ H.outside.output host.old) }
+    ensures quiet { IsQuiet H.outside host.old host.new }
 {
     let tables = tables_of_run(alloc, network)?;
     show_tables(alloc, network, &tables, host.output())
@@ -125,38 +128,34 @@ fn run_to_trace<'a, H: Host>(
     path: &'a str,
     host: &mut H,
 ) -> Result<(), Fault<'a>>
-    ensures text { OnOk result ((text : List ℕ) × IsTablesText network.now text × Took H.Output.taken (H.output host.old) (H.output host.new) text) }
-    ensures left { OnOk result (LeavesSeq H.made H.closed H.File.taken H.with_output (Some path.entry.now) host.old host.new network.now) }
-    ensures fault { IfErr result (λ fault. IsFaultOfRun network.now fault ⊎
-        (IsFaultOfTraceFile H.makes H.File.taken H.File.failures host.old network.now path.entry.now fault ⊎
-        IsFaultOfOutput H.Output.failures (H.output host.old) (H.output host.new) fault)) }
-    ensures kept { IfErr result (λ fault. fault ≢ CannotWrite → H.output host.new ≡ H.output host.old) }
-    ensures errors { H.errors host.new ≡ H.errors host.old }
+    ensures tables { OnOk result (ShowsTables H.outside host.old host.new network.now) }
+    ensures left { OnOk result (LeavesSeq H.outside (Some path.entry.now) host.old host.new network.now) }
+    ensures fault { IfErr result (λ fault. (IsFaultOfRun network.now fault ⊎ IsFaultOfTraceFile H.outside host.old network.now path.entry.now fault) ⊎
+        IsFaultOfOutput H.outside.unshown (H.outside.output host.old) (H.outside.output host.new) fault) }
+    ensures kept { IfErr result (λ fault. fault ≢ CannotWrite → H.outside.output host.new ≡ H.outside.output host.old) }
+    ensures quiet { IsQuiet H.outside host.old host.new }
 {
     let finished = whole_run(alloc, network)?;
     keep_trace(alloc, network, finished.rows.as_slice(), path, host)?;
     show_tables(alloc, network, &finished.tables, host.output())
 }
 
-/// Simulates the network whose description is the file with this path, on one thread. Then the trace goes into its file, if one is
-/// asked for, and then the tables go to standard output. Where no trace is asked for, the rows are not kept.
+/// Simulates the network on one thread. Then the trace goes into its file, if one is ordered, and then the tables go to standard output.
+/// Where no trace is ordered, the rows are not kept.
 pub fn seq<'a, H: Host>(
     alloc: Global,
-    net: &'a str,
-    trace: Option<&'a str>,
+    network: &Network,
+    order: &'a Seq,
     host: &mut H,
 ) -> Result<(), Fault<'a>>
-    ensures shown { OnOk result (ShowsTables (H.gives host.old net.entry.now) H.Output.taken (H.output host.old) (H.output host.new)
-        (LeavesSeq H.made H.closed H.File.taken H.with_output (option_map (λ path. path.now) trace.entry) host.old host.new)) }
-    ensures fault { IfErr result (IsFaultOfSeq (H.gives host.old net.entry.now) net.entry.now (option_map (λ path. path.now) trace.entry)
-        (IsFaultOfTraceFile H.makes H.File.taken H.File.failures host.old) (IsFaultOfOutput H.Output.failures (H.output host.old) (H.output host.new))) }
-    ensures kept { IfErr result (λ fault. fault ≢ CannotWrite → H.output host.new ≡ H.output host.old) }
-    ensures errors { H.errors host.new ≡ H.errors host.old }
+    ensures tables { OnOk result (ShowsTables H.outside host.old host.new network.now) }
+    ensures left { OnOk result (LeavesSeq H.outside (option_map string_bytes order.entry.now.trace) host.old host.new network.now) }
+    ensures fault { IfErr result (IsFaultOn H.outside host.old host.new network.now (ordered.Seq order.entry.now)) }
+    ensures kept { IfErr result (λ fault. fault ≢ CannotWrite → H.outside.output host.new ≡ H.outside.output host.old) }
+    ensures quiet { IsQuiet H.outside host.old host.new }
 {
-    let network = network_of(alloc, net, host)?;
-    let shown = match trace {
-        Some(path) => run_to_trace(alloc, &network, path, host),
-        None => run_to_tables(alloc, &network, host),
-    };
-    shown
+    match &order.trace {
+        Some(path) => run_to_trace(alloc, network, path.as_str(), host),
+        None => run_to_tables(alloc, network, host),
+    }
 }

@@ -63,8 +63,8 @@ pub struct System {
 impl System {
     /// The system behind this runtime. No write has failed yet.
     pub fn new(runtime: HostRuntime) -> Self
-        ensures output { ⟦<Device<Stdout> as Sink>⟧.failures (⟦<System as Host>⟧.output result) ≡ 0 }
-        ensures errors { ⟦<Device<Stderr> as Sink>⟧.failures (⟦<System as Host>⟧.errors result) ≡ 0 }
+        ensures output { ⟦<Device<Stdout> as Sink>⟧.failures (⟦<System as Host>⟧.outside.output result) ≡ 0 }
+        ensures errors { ⟦<Device<Stderr> as Sink>⟧.failures (⟦<System as Host>⟧.outside.errors result) ≡ 0 }
     {
         System {
             runtime,
@@ -134,44 +134,42 @@ impl Host for System {
 
     type Errors = Device<Stderr>;
 
-    // What a file of the system holds is for the system to tell: a read may give any bytes, or none.
-    ghost gives = { λ _ _ _. Unit };
+    // What a file of the system holds, and which can be made, is for the system to tell; and what paths name, but that equal ones name one file.
+    ghost outside = { record {
+      gives = λ _ _ _. Unit;
+      makes = λ _ _ _. Unit;
+      tells = λ _ first second is_one. first ≡ second → is_one ≡ true;
+      output = λ system. system.output;
+      errors = λ system. system.errors;
+      with_output = λ system out. record system { output = out };
+      with_errors = λ system out. record system { errors = out };
+      made = λ system _. system;
+      closed = λ system _ _. system;
+      wrote = ⟦<Device<File> as Sink>⟧.taken;
+      unwritten = ⟦<Device<File> as Sink>⟧.failures;
+      showed = ⟦<Device<Stdout> as Sink>⟧.taken;
+      unshown = ⟦<Device<Stdout> as Sink>⟧.failures;
+      said = ⟦<Device<Stderr> as Sink>⟧.taken;
+      unsaid = ⟦<Device<Stderr> as Sink>⟧.failures;
+    } };
 
-    ghost makes = { λ _ _ _. Unit };
-
-    // Nor what its paths name, but that equal ones name one file.
-    ghost tells = { λ _ first second is_one. first ≡ second → is_one ≡ true };
-
-    ghost output = { λ system. system.output };
-
-    ghost errors = { λ system. system.errors };
-
-    ghost with_output = { λ system out. record system { output = out } };
-
-    ghost with_errors = { λ system out. record system { errors = out } };
-
-    // Of its files the system tells nothing.
-    ghost made = { λ system _. system };
-
-    ghost closed = { λ system _ _. system };
-
-    ghost equal_paths = { λ system path is_one told. told refl };
-
-    ghost output_stays = { λ system out. refl };
-
-    ghost errors_stay = { λ system out. refl };
-
-    ghost errors_beside = { λ system out. refl };
-
-    ghost output_beside = { λ system out. refl };
-
-    ghost output_at_made = { λ system path. refl };
-
-    ghost errors_at_made = { λ system path. refl };
-
-    ghost output_at_closed = { λ system path file. refl };
-
-    ghost errors_at_closed = { λ system path file. refl };
+    ghost lawful = { record {
+      equal_paths = λ _ _ _ told. told refl;
+      output_stays = λ _ _. refl;
+      errors_beside = λ _ _. refl;
+      errors_stay = λ _ _. refl;
+      output_beside = λ _ _. refl;
+      output_at_made = λ _ _. refl;
+      errors_at_made = λ _ _. refl;
+      output_at_closed = λ _ _ _. refl;
+      errors_at_closed = λ _ _ _. refl;
+      file_took = λ _. refl;
+      file_failed = λ _. refl;
+      output_took = λ _. refl;
+      output_failed = λ _. refl;
+      errors_took = λ _. refl;
+      errors_failed = λ _. refl;
+    } };
 
     fn is_one_file(&self, first: &str, second: &str) -> bool {
         first == second || self.is_same(first, second)

@@ -192,41 +192,41 @@ impl Host for MemoryHost {
 
     type Errors = Page;
 
-    ghost gives = { λ _ _ _. Unit };
+    ghost outside = { record {
+      gives = λ _ _ _. Unit;
+      makes = λ _ _ _. Unit;
+      tells = λ _ first second is_one. first ≡ second → is_one ≡ true;
+      output = λ host. host.output;
+      errors = λ host. host.errors;
+      with_output = λ host out. record host { output = out };
+      with_errors = λ host out. record host { errors = out };
+      made = λ host _. host;
+      closed = λ host _ _. host;
+      wrote = ⟦<Leaf as Sink>⟧.taken;
+      unwritten = ⟦<Leaf as Sink>⟧.failures;
+      showed = ⟦<Page as Sink>⟧.taken;
+      unshown = ⟦<Page as Sink>⟧.failures;
+      said = ⟦<Page as Sink>⟧.taken;
+      unsaid = ⟦<Page as Sink>⟧.failures;
+    } };
 
-    ghost makes = { λ _ _ _. Unit };
-
-    ghost tells = { λ _ first second is_one. first ≡ second → is_one ≡ true };
-
-    ghost output = { λ host. host.output };
-
-    ghost errors = { λ host. host.errors };
-
-    ghost with_output = { λ host out. record host { output = out } };
-
-    ghost with_errors = { λ host out. record host { errors = out } };
-
-    ghost made = { λ host _. host };
-
-    ghost closed = { λ host _ _. host };
-
-    ghost equal_paths = { λ host path is_one told. told refl };
-
-    ghost output_stays = { λ host out. refl };
-
-    ghost errors_stay = { λ host out. refl };
-
-    ghost errors_beside = { λ host out. refl };
-
-    ghost output_beside = { λ host out. refl };
-
-    ghost output_at_made = { λ host path. refl };
-
-    ghost errors_at_made = { λ host path. refl };
-
-    ghost output_at_closed = { λ host path file. refl };
-
-    ghost errors_at_closed = { λ host path file. refl };
+    ghost lawful = { record {
+      equal_paths = λ _ _ _ told. told refl;
+      output_stays = λ _ _. refl;
+      errors_beside = λ _ _. refl;
+      errors_stay = λ _ _. refl;
+      output_beside = λ _ _. refl;
+      output_at_made = λ _ _. refl;
+      errors_at_made = λ _ _. refl;
+      output_at_closed = λ _ _ _. refl;
+      errors_at_closed = λ _ _ _. refl;
+      file_took = λ _. refl;
+      file_failed = λ _. refl;
+      output_took = λ _. refl;
+      output_failed = λ _. refl;
+      errors_took = λ _. refl;
+      errors_failed = λ _. refl;
+    } };
 
     fn is_one_file(&self, first: &str, second: &str) -> bool {
         first == second || plain(first) == plain(second)

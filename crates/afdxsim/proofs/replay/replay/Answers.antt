@@ -1,36 +1,34 @@
-use Rattle.std.proofs.Common.{◌≡◌, ◌∙◌, inr, refl, ap, subst, string_bytes}
+use Rattle.std.proofs.Common.{List, Some, ℕ, inr, refl, subst, string_bytes}
 use Rattle.trace_tables.specs.Text.{tables_text}
-use Rattle.afdxsim.specs.Ending.{Took, IsFaultOfOutput}
-use Rattle.afdxsim.proofs.Ended.{on_both, err_then}
+use Rattle.afdxsim.specs.Ending.{IsFaultOfOutput}
+use Rattle.afdxsim.specs.Files.{ShowsBoth}
+use Rattle.afdxsim.specs.Orders.{Says, Shows}
+use Rattle.afdxsim.proofs.Ended.{err_then, on_three}
 use Rattle.afdxsim.proofs.replay.replay.Goals as goal
 
-pub returns-clause-text : goal.returns-clause-text
-returns-clause-text g c =
-    let taken = g.H.Output.Sink.taken in
-    let said = g.H.Errors.Sink.taken in
-    let unsaid = g.H.Errors.Sink.failures in
-    let output = g.H.Host.output in
-    let errors = g.H.Host.errors in
+pub returns-clause-done : goal.returns-clause-done
+returns-clause-done g c =
+    let outside = g.H.Host.outside in
+    let before = c.args.host.now in
+    let begun = c.account_in.new.host in
+    let after = c.show_account.new.host in
     let account = c.in_ok-account.account in
     let told = c.in_ok-account.ensures.told in
-    let tables = tables_text account.world.plan account.tables in
+    let same = c.account_in.ensures.host in
+    let tables = tables_text c.args.network account.tables in
     let line = string_bytes account.line in
-    let after = c.show_account.new.host in
-    on_both c.show_account.result c.show_account.ensures.tables c.show_account.ensures.line (λ shown spoken. (
+    on_three c.show_account.result c.show_account.ensures.left c.show_account.ensures.tables c.show_account.ensures.line (λ left shown spoken. (
       tables,
       line,
-      (account.world.plan, told.0, account, told.1, told.2, told.3, refl, refl),
-      subst (λ host. Took taken (output host) (output after) tables) c.account_in.ensures.host shown,
-      subst (λ host. unsaid (errors after) ≡ unsaid (errors host) → Took said (errors host) (errors after) line) c.account_in.ensures.host spoken,
+      (told.0, account, subst (λ (path : List ℕ). outside.gives before path (Some told.0)) c.as_str.ensures.value told.1, told.2, refl, refl),
+      subst (λ host. Shows outside host after tables) same
+          (subst (λ plan. Shows outside begun after (tables_text plan account.tables)) c.in_ok-account.ensures.network shown),
+      subst (λ host. Says outside host after line) same spoken,
+      subst (λ host. ShowsBoth outside host after) same left,
     ))
 
 pub returns-clause-fault : goal.returns-clause-fault
 returns-clause-fault g c =
-    let failures = g.H.Output.Sink.failures in
-    let output = g.H.Host.output in
+    let outside = g.H.Host.outside in
     err_then c.show_account.result c.show_account.ensures.fault (λ fault is.
-    inr (subst (λ host. IsFaultOfOutput failures (output host) (output c.show_account.new.host) fault) c.account_in.ensures.host is))
-
-pub returns-clause-kept : goal.returns-clause-kept
-returns-clause-kept g c =
-    err_then c.show_account.result c.show_account.ensures.kept (λ fault kept other. kept other ∙ ap g.H.Host.output c.account_in.ensures.host)
+    inr (subst (λ host. IsFaultOfOutput outside.unshown (outside.output host) (outside.output c.show_account.new.host) fault) c.account_in.ensures.host is))

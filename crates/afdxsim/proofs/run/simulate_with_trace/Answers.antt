@@ -9,5 +9,5 @@ returns-in_ok-found-in-Ok-clause-trace g c =
     let plan = c.args.network.now in
     let found = c.in_ok-found-in-Ok in
     let rows = found.ensures.text in
-    written g.H.Host.made g.H.Host.closed g.H.File.Sink.taken c.args.path.now (IsTraceText plan) c.args.host.now c.make.new.self c.close.new.self
+    written g.H.Host.outside g.met.H.Host.lawful c.args.path.now (IsTraceText plan) c.args.host.now c.make.new.self c.close.new.self
     c.in-Ok.file found.file (trace_text plan rows.0) c.in-Ok.ensures.host c.in-Ok.ensures.empty (found.ensures.trace rows.0 rows.1) (rows.0, rows.1, refl) c.close.ensures

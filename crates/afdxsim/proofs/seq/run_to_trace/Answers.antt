@@ -9,5 +9,5 @@ returns-in_err-keep_trace-clause-fault g c =
     let plan = c.args.network.now in
     let fault = c.in_err-keep_trace.field-0.0 in
     same_err _ c.from_residual-in_err-keep_trace.result fault c.from_residual-in_err-keep_trace.ensures.1
-    (inr (inl (rows_took g.H.Host.makes g.H.File.Sink.taken g.H.File.Sink.failures c.args.host.now plan c.as_slice.result.now c.args.path.now fault
+    (inl (inr (rows_took g.H.Host.outside c.args.host.now plan c.as_slice.result.now c.args.path.now fault
     (subst (AreRowsOf plan) (sym c.as_slice.ensures.value) c.in_ok-finished.ensures.rows) c.in_err-keep_trace.ensures.fault)))

@@ -1,0 +1,85 @@
+-- What comes of an order. A new command is a case of `DoneOn` and of `IsFaultOfWork`, and of the files that it names.
+use Rattle.std.specs.Prelude.{◌≡◌, ◌≢◌, ◌⊎◌, ℕ, List, Option, Some, option_map, string_bytes}
+use Rattle.command_line.specs.declared.orders.Order.{Order}
+use Rattle.command_line.specs.declared.orders.Order.TheVariants as ordered
+use Rattle.netdesc.specs.Plan.{Plan}
+use Rattle.afdxsim.specs.declared.fault.Fault.{Fault}
+use Rattle.afdxsim.specs.declared.fault.Fault.TheVariants.{CannotWrite}
+use Rattle.afdxsim.specs.Checking.{check_text}
+use Rattle.afdxsim.specs.Ending.{IsFaultOfOutput, Told, Took}
+use Rattle.afdxsim.specs.Files.{IsFaultOfKeptFile, IsFaultOfTraceFile, LeavesRun, LeavesSeq, ShowsAlone, ShowsBoth, TellsAlone}
+use Rattle.afdxsim.specs.Naming.{NamesApart, NamesTwice, TellsTwice, net_of}
+use Rattle.afdxsim.specs.Outside.{Outside}
+use Rattle.afdxsim.specs.Reading.{GivesNetwork, IsFaultOfNet}
+use Rattle.afdxsim.specs.Replaying.{GivesTexts, IsFaultOfSteps}
+use Rattle.afdxsim.specs.Sequencing.{IsFaultOfRun, IsTablesText}
+use Rattle.afdxsim.specs.Telling.{Telling, TellsOne}
+use Rattle.afdxsim.specs.Workers.{IsFaultOfFiles, IsFaultOfPool}
+
+-- why there was nothing to show of the order on this network, where the host was `old` before
+abbrev pub IsFaultOfWork : {S F O E : Type 0} → Outside S F O E → S → Plan → Order → Fault → Type 0
+IsFaultOfWork outside old plan (ordered.Check o) fault = ⊥
+IsFaultOfWork outside old plan (ordered.Seq o) fault =
+    IsFaultOfRun plan fault ⊎ ((path : List ℕ) × (option_map string_bytes o.trace ≡ Some path) × IsFaultOfTraceFile outside old plan path fault)
+IsFaultOfWork outside old plan (ordered.Run o) fault =
+    IsFaultOfPool fault ⊎ IsFaultOfFiles (option_map string_bytes o.journal) (option_map string_bytes o.trace)
+    (IsFaultOfKeptFile outside (option_map string_bytes o.trace) old plan) (IsFaultOfTraceFile outside old plan) fault
+IsFaultOfWork outside old plan (ordered.Replay o) fault = IsFaultOfSteps plan (outside.gives old (string_bytes o.steps)) (string_bytes o.steps) fault
+
+-- the host was `old` before, and is `new` after
+module _ {S F O E : Type 0} (outside : Outside S F O E) (old new : S) where
+  -- standard output took this text
+  abbrev pub Shows : List ℕ → Type 0
+  Shows text = Took outside.showed (outside.output old) (outside.output new) text
+
+  -- error output took this text, unless a write to it failed
+  abbrev pub Says : List ℕ → Type 0
+  Says text = outside.unsaid (outside.errors new) ≡ outside.unsaid (outside.errors old) → Took outside.said (outside.errors old) (outside.errors new) text
+
+  -- standard output took the tables of the one-thread run of the network
+  abbrev pub ShowsTables : Plan → Type 0
+  ShowsTables plan = (text : List ℕ) × IsTablesText plan text × Shows text
+
+  -- error output took nothing
+  abbrev pub IsQuiet : Type 0
+  IsQuiet = outside.errors new ≡ outside.errors old
+
+  -- the order was done on this network: this was shown, and this is left behind
+  abbrev pub DoneOn : Plan → Order → Type 0
+  DoneOn plan (ordered.Check o) = Shows (check_text plan) × ShowsAlone outside old new × IsQuiet
+  DoneOn plan (ordered.Seq o) = ShowsTables plan × LeavesSeq outside (option_map string_bytes o.trace) old new plan × IsQuiet
+  DoneOn plan (ordered.Run o) =
+      ShowsTables plan × LeavesRun outside (option_map string_bytes o.journal) (option_map string_bytes o.trace) old new plan × IsQuiet
+  DoneOn plan (ordered.Replay o) =
+      (tables : List ℕ) × (line : List ℕ) × GivesTexts plan (outside.gives old (string_bytes o.steps)) tables line × Shows tables × Says line ×
+      ShowsBoth outside old new
+
+  -- why the order was not done on this network: there was nothing to show, or standard output did not take it
+  abbrev pub IsFaultOn : Plan → Order → Fault → Type 0
+  IsFaultOn plan order fault = IsFaultOfWork outside old plan order fault ⊎ IsFaultOfOutput outside.unshown (outside.output old) (outside.output new) fault
+
+  -- a read of NET may give a text that describes a network, and the order was done on that
+  abbrev pub Done : Order → Type 0
+  Done order = (plan : Plan) × GivesNetwork (outside.gives old (net_of order)) plan × DoneOn plan order
+
+  -- why the order was not done: NET gave no network, or it was not done on the one that it gave
+  abbrev pub IsFaultOf : Order → Fault → Type 0
+  IsFaultOf order fault =
+      IsFaultOfNet (outside.gives old (net_of order)) (net_of order) fault
+      ⊎ ((plan : Plan) × GivesNetwork (outside.gives old (net_of order)) plan × IsFaultOn plan order fault)
+
+  -- this is told on error output, and goes with this status
+  abbrev pub IsTold : ℕ → Telling → Type 0
+  IsTold status telling = Told outside.said outside.unsaid (outside.errors old) (outside.errors new) status telling
+
+  -- the order has ended: it was done, or a fault was met and told, and standard output took nothing, unless it is what failed
+  abbrev pub HasEnded : Order → ℕ → Type 0
+  HasEnded order status =
+      ((status ≡ 0) × Done order)
+      ⊎ ((fault : Fault) × IsFaultOf order fault × (fault ≢ CannotWrite → outside.output new ≡ outside.output old) × TellsOne fault (IsTold status))
+
+  -- what comes of the order: it names a file twice, which is told, and nothing else happened; or it does not, and it has ended
+  abbrev pub Ends : Order → ℕ → Type 0
+  Ends order status =
+      ((path : List ℕ) × NamesTwice (outside.tells old) order path × TellsTwice path (IsTold status) × TellsAlone outside old new)
+      ⊎ (NamesApart (outside.tells old) order × HasEnded order status)

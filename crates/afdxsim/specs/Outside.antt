@@ -1,0 +1,51 @@
+-- What a host tells of all that the program reaches outside itself.
+use Rattle.std.specs.Prelude.{◌≡◌, ℕ, Bool, true, List, Option}
+
+-- hosts S, files F that are being written, standard outputs O and error outputs E, as plain functions and relations
+pub record Outside (S F O E : Type 0) : Type 1 where
+  -- what a read of the file with this path may give: its bytes, or none where it cannot be read
+  pub gives : S → List ℕ → Option (List ℕ) → Type 0
+  -- what a make of a file with this path may come to: it is made, or it is not
+  pub makes : S → List ℕ → Bool → Type 0
+  -- what may be told of two paths: that they name one file, or that they do not
+  pub tells : S → List ℕ → List ℕ → Bool → Type 0
+  -- standard output and error output
+  pub output : S → O
+  pub errors : S → E
+  -- the host once standard output is this, and once error output is
+  pub with_output : S → O → S
+  pub with_errors : S → E → S
+  -- the host once a new, empty file with this path was made, and once the file with it was given back, as it is
+  pub made : S → List ℕ → S
+  pub closed : S → List ℕ → F → S
+  -- what a file, standard output and error output took so far, where they can tell, and how many writes to them failed
+  pub wrote : F → Option (List ℕ)
+  pub unwritten : F → ℕ
+  pub showed : O → Option (List ℕ)
+  pub unshown : O → ℕ
+  pub said : E → Option (List ℕ)
+  pub unsaid : E → ℕ
+
+-- the law of a host, where these are what its sinks took, and how many of their writes failed
+pub record IsHost {S F O E : Type 0} (outside : Outside S F O E) (file_taken : F → Option (List ℕ)) (file_failures : F → ℕ)
+    (output_taken : O → Option (List ℕ)) (output_failures : O → ℕ) (errors_taken : E → Option (List ℕ)) (errors_failures : E → ℕ) : Type 0 where
+  -- equal paths name one file
+  pub equal_paths : (host : S) (path : List ℕ) (is_one : Bool) → outside.tells host path path is_one → is_one ≡ true
+  -- what is written on standard output stands there, and not on error output
+  pub output_stays : (host : S) (out : O) → outside.output (outside.with_output host out) ≡ out
+  pub errors_beside : (host : S) (out : O) → outside.errors (outside.with_output host out) ≡ outside.errors host
+  -- what is written on error output stands there, and not on standard output
+  pub errors_stay : (host : S) (out : E) → outside.errors (outside.with_errors host out) ≡ out
+  pub output_beside : (host : S) (out : E) → outside.output (outside.with_errors host out) ≡ outside.output host
+  -- a file that is made, or given back, is on neither
+  pub output_at_made : (host : S) (path : List ℕ) → outside.output (outside.made host path) ≡ outside.output host
+  pub errors_at_made : (host : S) (path : List ℕ) → outside.errors (outside.made host path) ≡ outside.errors host
+  pub output_at_closed : (host : S) (path : List ℕ) (file : F) → outside.output (outside.closed host path file) ≡ outside.output host
+  pub errors_at_closed : (host : S) (path : List ℕ) (file : F) → outside.errors (outside.closed host path file) ≡ outside.errors host
+  -- of what its sinks took, and of their failures, the host tells as they do
+  pub file_took : (file : F) → outside.wrote file ≡ file_taken file
+  pub file_failed : (file : F) → outside.unwritten file ≡ file_failures file
+  pub output_took : (out : O) → outside.showed out ≡ output_taken out
+  pub output_failed : (out : O) → outside.unshown out ≡ output_failures out
+  pub errors_took : (out : E) → outside.said out ≡ errors_taken out
+  pub errors_failed : (out : E) → outside.unsaid out ≡ errors_failures out
