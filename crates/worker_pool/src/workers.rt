@@ -45,8 +45,9 @@ pub(crate) fn start_all<'a, J: NetworkRun + Send + Sync, G: Gate + Sync, T: Thre
     let schedule = &schedule;
     let stop = AtomicBool::new(false);
     let stop = &stop;
+    let most = workers + 1;
     thread::scope(thread::scope_env(), rt, |scope| -> Result<(), PoolFault> {
-        let mut outcomes = Vec::with_capacity(alloc, workers + 1)?;
+        let mut outcomes = Vec::with_capacity(alloc, most)?;
         let mut handles = Vec::new(alloc);
         let mut start = Ok(());
         for picker in pickers {
