@@ -45,9 +45,9 @@ examples:
   campaign.py net.toml --seeds 1 --first 42 --offsets --keep -o worst
         the run of the seed 42 once more, and its description: worst/seed-42.toml, which afdxsim and report.py can be
         given to look at what happened in it
-  campaign.py net.toml --each-outage -o what_if
-        what is lost and what becomes late without each link and each switch: what_if/outages.html
-  campaign.py net.toml --each-outage 50000000 --seeds 5 --keep -o what_if
+  campaign.py net.toml --each-outage -o outages
+        what is lost and what becomes late without each link and each switch: outages/outages.html
+  campaign.py net.toml --each-outage 50000000 --seeds 5 --keep -o outages
         the same with five seeds, and out from 50 ms on. The description and the tables of each run are kept: report.py
         compares one with those of outage-0, which is none, by --against
   dask scheduler --host 10.0.0.1; dask worker tcp://10.0.0.1:8786 --nworkers 4 --nthreads 1

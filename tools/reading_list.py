@@ -120,8 +120,19 @@ class Tree:
                 found[alias] = Source(crate, path, None)
             for item in filter(None, map(str.strip, names.split(","))):
                 name, _, called = item.partition(" as ")
-                found[called or name] = Source(crate, path, name)
+                found[called or name] = self.passed_on(Source(crate, path, name))
         return found
+
+    def passed_on(self, source):
+        """The source of a name that a file of specs/ only passes on, as `virtual_time/specs/Law.antt` does."""
+        path = "specs/" + source.path.replace(".", "/") + ".antt"
+        if source.crate in self.order and not source.path.startswith("declared."):
+            for line in self.text(source.crate, path).splitlines():
+                if line.startswith("pub use "):
+                    ((crate, home, names, _),) = USE.findall(line)
+                    if source.name in map(str.strip, names.split(",")):
+                        return self.passed_on(Source(crate, home, source.name))
+        return source
 
     def imported(self, names, imports):
         for head, rest in names:

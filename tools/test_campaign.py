@@ -20,7 +20,7 @@ import report  # noqa: E402
 from second_opinion import CAUSES, Simulation  # noqa: E402
 
 COCKPIT, SATURATED, FAILING, N1 = (
-    os.path.join(HERE, "..", "examples", name + ".toml") for name in ("cockpit", "saturated_port", "failing_link", "n1")
+    os.path.join(HERE, "..", "examples", name + ".toml") for name in ("cockpit", "saturated_port", "link_outage", "n1")
 )
 
 # A program that prints what the plain simulator finds, after lines of a test's own.

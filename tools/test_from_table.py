@@ -100,7 +100,7 @@ class Back(Here):
                 blocks = text.split("\n\n")
                 wanted = toml_lines.read(read(path))
                 if any(not vl["a"] or not vl["b"] for vl in wanted["vl"]) and len(blocks) == 5:
-                    # Virtual link 2 of failing_link leaves out network B, which no rule of paths would do.
+                    # Virtual link 2 of link_outage leaves out network B, which no rule of paths would do.
                     continue
                 blocks[-1] = "\n".join(line.rsplit(",", 2)[0] for line in blocks[-1].splitlines())
                 table = self.file("without.csv", "\n\n".join(blocks) + "\n")

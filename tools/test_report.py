@@ -740,7 +740,7 @@ class InTheBrowser(unittest.TestCase):
                 yield {"destination": ends["where"][i], "99th": f"{greatest // 1000:,}.{greatest % 1000:03d}"}
 
     def test_few_frames_are_drawn_one_by_one(self):
-        path, tables = example("failing_link")
+        path, tables = example("link_outage")
         rows, _, trace, _ = simulated(path, self.folder)
         self.made(path, tables, "--trace", trace)
         page = self.browser.open(self.page, UNFOLD)
@@ -750,7 +750,7 @@ class InTheBrowser(unittest.TestCase):
 
     def test_against_another_run(self):
         """With an outage and without: what became slower, faster, lost, and by how much."""
-        path, tables = example("failing_link")
+        path, tables = example("link_outage")
         with open(path, "rb") as file:
             net = tomllib.load(file)
         sound = simulated(net | {"outage": []}, self.folder, "sound-")[1]
@@ -778,7 +778,7 @@ class InTheBrowser(unittest.TestCase):
 
     def test_against_a_run_of_another_network(self):
         """What the networks share is compared, and what one of them has alone is named."""
-        path, tables = example("failing_link")
+        path, tables = example("link_outage")
         with open(path, "rb") as file:
             net = tomllib.load(file)
         other = os.path.join(self.folder, "other.toml")
@@ -980,14 +980,14 @@ class WithoutABrowser(unittest.TestCase):
                 self.assertEqual(make(path, tables, word, bad, "-o", self.page), (2, f"report.py: {bad} {said}\n"))
 
     def test_the_page_stands_alone(self):
-        path, tables = example("failing_link")
+        path, tables = example("link_outage")
         self.assertEqual(make(path, tables, "-o", self.page), (0, ""))
         text = read(self.page)
         self.assertEqual(re.findall(r"(?i)https?:|\bsrc=|@import|<link|url\((?!#)", text), [])
         self.assertEqual(os.listdir(self.folder), ["report.html"])
 
     def test_outages_are_drawn_and_told(self):
-        path, tables = example("failing_link")
+        path, tables = example("link_outage")
         make(path, tables, "-o", self.page)
         (outages,) = (grid["rows"] for grid in Page(read(self.page)).data["grids"] if grid["name"] == "outages")
         moments = {"from": [20, 60], "to": [40, 61], "for": [20, 1]}
@@ -1002,7 +1002,7 @@ class WithoutABrowser(unittest.TestCase):
         self.assertEqual(marked, ["FCC&gt;SWA"])
 
     def test_merged_tables_tell_the_seed(self):
-        path, tables = example("failing_link")
+        path, tables = example("link_outage")
         lines = read(tables).splitlines()
         merged = "\n".join([lines[0] + ",seed"] + [f"{line},{40 + i}" for i, line in enumerate(lines[1:])]) + "\n"
         self.assertEqual(make(path, self.file("merged.csv", merged), "-o", self.page), (0, ""))
@@ -1032,7 +1032,7 @@ class WithoutABrowser(unittest.TestCase):
         self.assertEqual(make(net, tables, "--trace", trace, "-o", self.page), (0, ""))
 
     def test_bad_tables(self):
-        path, tables = example("failing_link")
+        path, tables = example("link_outage")
         good = read(tables)
         head, last = good.splitlines()[0], "dropped,3,FCC,duplicate,25,,,\n"
         for text, said in (
@@ -1079,7 +1079,7 @@ class WithoutABrowser(unittest.TestCase):
                 self.assertEqual(os.listdir(self.folder), ["bad.csv"])
 
     def test_bad_traces(self):
-        path, tables = example("failing_link")
+        path, tables = example("link_outage")
         _, _, trace, _ = simulated(path, self.folder)
         good = read(trace)
         lines = good.splitlines(True)

@@ -8,8 +8,10 @@ mod running;
 mod sent;
 mod two_lists;
 mod waiting;
+mod watch;
 
 pub use fault::SimFault;
 pub use recorder::Recorder;
 pub use running::{run_actors, take_all_turns};
 pub use waiting::Waiting;
+pub use watch::{Unwatched, Watch};

@@ -1,7 +1,8 @@
 //! What takes the rows of a run.
 ghost use Rattle.std.specs.Prelude.{◌≡◌, ◌++◌, ◌∷◌, [], List, OnOk};
-ghost use Rattle.vlink.specs.declared.note.Row.{Row as Noted};
-ghost use Rattle.actor_run.specs.Recording.{noted_at};
+ghost use Rattle.virtual_time.specs.Law.{rows_of};
+ghost use Rattle.vlink.specs.Order.{message_order};
+ghost use Rattle.vlink.specs.Letters.{Row};
 
 use std::alloc::{AllocError, Global};
 use vlink::{Message, Note, Row};
@@ -12,15 +13,15 @@ pub trait Recorder {
     type Purpose;
 
     /// These rows were taken, and no others.
-    ghost has_taken: { Self → List Noted → Type 0 };
+    ghost has_taken: { Self → List Row → Type 0 };
 
     /// What they are taken for.
     ghost purpose: { Self → Self.Purpose };
 
     /// Takes a row: that of this note, of the event of this message at its receiver. It fails only where memory is refused.
     fn take(&mut self, message: &Message, note: &Note) -> Result<(), AllocError>
-        requires { (rows : List Noted) × has_taken self.old rows }
-        ensures taken { OnOk result ((rows : List Noted) → has_taken self.old rows →
+        requires { (rows : List Row) × has_taken self.old rows }
+        ensures taken { OnOk result ((rows : List Row) → has_taken self.old rows →
             has_taken self.new (rows ++ record { message = message.now; place = message.now.receiver; note = note.now } ∷ [])) }
         ensures purpose { OnOk result (purpose self.new ≡ purpose self.old) };
 }
@@ -32,8 +33,8 @@ pub(crate) fn record<R: Recorder>(
     message: &Message,
     notes: &[Note],
 ) -> Result<(), AllocError>
-    requires { (rows : List Noted) × R.has_taken recorder.old rows }
-    ensures taken { OnOk result ((rows : List Noted) → R.has_taken recorder.old rows → R.has_taken recorder.new (rows ++ noted_at message.now notes.now)) }
+    requires { (rows : List Row) × R.has_taken recorder.old rows }
+    ensures taken { OnOk result ((rows : List Row) → R.has_taken recorder.old rows → R.has_taken recorder.new (rows ++ rows_of message_order message.now notes.now)) }
     ensures purpose { OnOk result (R.purpose recorder.new ≡ R.purpose recorder.old) }
 {
     for note in notes {

@@ -1,11 +1,10 @@
 //! The run: one message after another.
 ghost use Rattle.std.specs.Prelude.{◌≡◌, [], List, ℕ, suc, true, false, ◌<◌, ◌≤◌, ◌+◌, ◌++◌, ◌⊎◌, All, length, map, slice_get, Some, Ok, Err, OnOk, OnErr, IfOk, IfErr, IfSome, IfNone};
 ghost use Rattle.std.proofs.Math.ListN.{set};
-ghost use Rattle.vlink.specs.declared.note.Row.{Row as Noted};
 ghost use Rattle.vlink.specs.declared.time.TheConstants.{GREATEST_NS};
 ghost use Rattle.vlink.specs.Numbering.{greatest_number};
-ghost use Rattle.virtual_time.specs.Rules.{rows_of};
-ghost use Rattle.virtual_time.specs.OneThread.{one};
+ghost use Rattle.vlink.specs.Letters.{Row};
+ghost use Rattle.virtual_time.specs.Law.{rows_of, one};
 ghost use Rattle.reverse.specs.Rules.{rules_of};
 ghost use Rattle.actor_run.specs.declared.fault.SimFault.TheVariants.{OutOfMemory, Exhausted};
 ghost use Rattle.actor_run.specs.Running.{StandsAt, IsExhaustedAt, HasNumbersFrom, IsCutOffAt, IsRunning, AtEach, IsWholeRun, AreOnTheWay, CanRun, OfEach};
@@ -14,6 +13,7 @@ ghost use Rattle.actor_run.specs.Load.{load};
 use crate::fault::SimFault;
 use crate::recorder::{AllRows, Recorder, record};
 use crate::waiting::Waiting;
+use crate::watch::{Watch, show_event};
 use reverse::{Actor, Outbound, actor_rules};
 use std::alloc::Global;
 use vlink::{GREATEST_NS, Message, Row, Time};
@@ -55,33 +55,35 @@ fn act<A: Actor>(actors: &mut [A], message: &Message, out: &mut Outbound) -> boo
 }
 
 /// The first waiting message, if there is one, is handled by its receiver: what it sends waits, and `recorder` takes a row of each note.
-/// `out` is room for what it sends and notes. The answer is whether there was one.
+/// `out` is room for what it sends and notes, and `moment` gets the moment of it. The answer is whether there was one.
 #[inline(always)]
 fn take_turn<A: Actor, R: Recorder>(
     actors: &mut [A],
     waiting: &mut Waiting,
     recorder: &mut R,
     out: &mut Outbound,
+    moment: &mut Time,
 ) -> Result<bool, SimFault>
-    requires { (rows : List Noted) × R.has_taken recorder.old rows × IsRunning (rules_of A.plain A.counter) actors.old waiting.old rows }
-    ensures turned { result ≡ Ok true → (rows : List Noted) → R.has_taken recorder.old rows → AtEach (rules_of A.plain A.counter) actors.old waiting.old rows
-        (λ f n. (later : List Noted) × R.has_taken recorder.new later × StandsAt f (suc n) actors.new waiting.new later) }
+    requires { (rows : List Row) × R.has_taken recorder.old rows × IsRunning (rules_of A.plain A.counter) actors.old waiting.old rows }
+    ensures turned { result ≡ Ok true → (rows : List Row) → R.has_taken recorder.old rows → AtEach (rules_of A.plain A.counter) actors.old waiting.old rows
+        (λ f n. (later : List Row) × R.has_taken recorder.new later × StandsAt f (suc n) actors.new waiting.new later) }
     ensures smaller { result ≡ Ok true → load GREATEST_NS waiting.new < load GREATEST_NS waiting.old }
-    ensures over { result ≡ Ok false → (rows : List Noted) → R.has_taken recorder.old rows → AtEach (rules_of A.plain A.counter) actors.old waiting.old rows
+    ensures over { result ≡ Ok false → (rows : List Row) → R.has_taken recorder.old rows → AtEach (rules_of A.plain A.counter) actors.old waiting.old rows
         (λ f n. R.has_taken recorder.new rows × StandsAt f n actors.new waiting.new rows × ((one f n).waiting ≡ [])) }
     ensures purpose { OnOk result (R.purpose recorder.new ≡ R.purpose recorder.old) }
-    ensures exhausted { result ≡ Err Exhausted → (rows : List Noted) → R.has_taken recorder.old rows →
+    ensures exhausted { result ≡ Err Exhausted → (rows : List Row) → R.has_taken recorder.old rows →
         AtEach (rules_of A.plain A.counter) actors.old waiting.old rows IsExhaustedAt }
-    ensures used_up { (rows : List Noted) → R.has_taken recorder.old rows → AtEach (rules_of A.plain A.counter) actors.old waiting.old rows
+    ensures used_up { (rows : List Row) → R.has_taken recorder.old rows → AtEach (rules_of A.plain A.counter) actors.old waiting.old rows
         (λ f n. IsExhaustedAt f n → result ≡ Err Exhausted) }
-    ensures memory { result ≡ Err OutOfMemory → (rows : List Noted) → R.has_taken recorder.old rows →
+    ensures memory { result ≡ Err OutOfMemory → (rows : List Row) → R.has_taken recorder.old rows →
         AtEach (rules_of A.plain A.counter) actors.old waiting.old rows (λ f n. IsCutOffAt f n actors.new) }
-    ensures left { OnErr result ((rows : List Noted) → R.has_taken recorder.old rows → AtEach (rules_of A.plain A.counter) actors.old waiting.old rows
+    ensures left { OnErr result ((rows : List Row) → R.has_taken recorder.old rows → AtEach (rules_of A.plain A.counter) actors.old waiting.old rows
         (λ f n. AreOnTheWay f actors.new)) }
 {
     let Some(message) = waiting.pop() else {
         return Ok(false);
     };
+    *moment = message.time;
     if !act(actors, &message, out) {
         return Err(SimFault::Exhausted);
     }
@@ -91,46 +93,56 @@ fn take_turn<A: Actor, R: Recorder>(
 }
 
 /// Runs a simulation of these actors, where actor p is process p, from where it stands: the first of all waiting messages is handled by
-/// its receiver, until none waits. `recorder` takes a row for each note, in the order in which the messages are handled.
+/// its receiver, until none waits. `recorder` takes a row for each note, in the order in which the messages are handled. `watch` is shown how
+/// far the run is, once in 65,536 events and at the end of a run that is not given up.
 ///
 /// `OutOfMemory` comes only where a growth was refused, and `Exhausted` exactly where the actor whose turn it is has not enough numbers
 /// left. Either leaves the actors in the states of the run after some number of events.
 ///
 /// All that one turn does becomes a part of it.
 #[inline(never)]
-pub fn take_all_turns<A: Actor, R: Recorder>(
+pub fn take_all_turns<A: Actor, R: Recorder, W: Watch>(
     actors: &mut [A],
     waiting: &mut Waiting,
     recorder: &mut R,
+    watch: &mut W,
 ) -> Result<(), SimFault>
-    requires { (rows : List Noted) × R.has_taken recorder.old rows × IsRunning (rules_of A.plain A.counter) actors.old waiting.old rows }
-    ensures whole { OnOk result ((rows : List Noted) → R.has_taken recorder.old rows → AtEach (rules_of A.plain A.counter) actors.old waiting.old rows
-        (λ f n. (later : List Noted) × R.has_taken recorder.new later × IsWholeRun f later actors.new)) }
+    requires { (rows : List Row) × R.has_taken recorder.old rows × IsRunning (rules_of A.plain A.counter) actors.old waiting.old rows }
+    ensures whole { OnOk result ((rows : List Row) → R.has_taken recorder.old rows → AtEach (rules_of A.plain A.counter) actors.old waiting.old rows
+        (λ f n. (later : List Row) × R.has_taken recorder.new later × IsWholeRun f later actors.new)) }
     ensures purpose { OnOk result (R.purpose recorder.new ≡ R.purpose recorder.old) }
-    ensures exhausted { result ≡ Err Exhausted → (rows : List Noted) → R.has_taken recorder.old rows →
+    ensures exhausted { result ≡ Err Exhausted → (rows : List Row) → R.has_taken recorder.old rows →
         AtEach (rules_of A.plain A.counter) actors.old waiting.old rows (λ f n. (k : ℕ) × IsExhaustedAt f k) }
-    ensures numbers { OnOk result ((rows : List Noted) → R.has_taken recorder.old rows → AtEach (rules_of A.plain A.counter) actors.old waiting.old rows
+    ensures numbers { OnOk result ((rows : List Row) → R.has_taken recorder.old rows → AtEach (rules_of A.plain A.counter) actors.old waiting.old rows
         HasNumbersFrom) }
-    ensures memory { result ≡ Err OutOfMemory → (rows : List Noted) → R.has_taken recorder.old rows →
+    ensures memory { result ≡ Err OutOfMemory → (rows : List Row) → R.has_taken recorder.old rows →
         AtEach (rules_of A.plain A.counter) actors.old waiting.old rows (λ f n. (k : ℕ) × IsCutOffAt f k actors.new) }
-    ensures left { OnErr result ((rows : List Noted) → R.has_taken recorder.old rows → AtEach (rules_of A.plain A.counter) actors.old waiting.old rows
+    ensures left { OnErr result ((rows : List Row) → R.has_taken recorder.old rows → AtEach (rules_of A.plain A.counter) actors.old waiting.old rows
         (λ f n. AreOnTheWay f actors.new)) }
+    ensures watched { W.becomes watch.old watch.new }
 {
     let mut out = Outbound::new(0, Time::default(), 0);
-    'turns: while take_turn(actors, waiting, recorder, &mut out)? {}
+    let mut moment = Time::default();
+    let mut unseen = 0;
+    'turns: while take_turn(actors, waiting, recorder, &mut out, &mut moment)? {
+        unseen = show_event(watch, moment, unseen);
+    }
+    watch.look(moment, unseen);
     Ok(())
 }
 
 /// Runs the simulation of these actors, where actor p is process p, from these offers on: the first of all waiting messages is handled
 /// by its receiver, until none waits. The answer has a row for each note, in the order in which the messages were handled. The order of
-/// messages is the derived one: by time in ns, receiver, sender, number and body (profile).
+/// messages is the derived one: by time in ns, receiver, sender, number and body (profile). `watch` is shown how far the run is, as by
+/// `take_all_turns`.
 ///
 /// `OutOfMemory` comes only where a growth was refused, and `Exhausted` exactly where the actor whose turn it is has not enough numbers
 /// left. Either leaves the actors in the states of the run after some number of events.
-pub fn run_actors<A: Actor>(
+pub fn run_actors<A: Actor, W: Watch>(
     alloc: Global,
     actors: &mut [A],
     offers: &[Message],
+    watch: &mut W,
 ) -> Result<Vec<Row>, SimFault>
     requires { CanRun (rules_of A.plain A.counter) actors.old offers.now }
     ensures whole { IfOk result (λ rows. OfEach (rules_of A.plain A.counter) actors.old offers.now (λ f. IsWholeRun f rows.items actors.new)) }
@@ -139,9 +151,10 @@ pub fn run_actors<A: Actor>(
     ensures memory { result ≡ Err OutOfMemory → OfEach (rules_of A.plain A.counter) actors.old offers.now
         (λ f. (actors.new ≡ actors.old) ⊎ ((n : ℕ) × IsCutOffAt f n actors.new)) }
     ensures left { OnErr result (OfEach (rules_of A.plain A.counter) actors.old offers.now (λ f. AreOnTheWay f actors.new)) }
+    ensures watched { W.becomes watch.old watch.new }
 {
     let mut waiting = Waiting::with_offers(alloc, offers, actors.len())?;
     let mut all = AllRows::none(alloc);
-    take_all_turns(actors, &mut waiting, &mut all)?;
+    take_all_turns(actors, &mut waiting, &mut all, watch)?;
     Ok(all.rows)
 }

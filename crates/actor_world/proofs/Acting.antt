@@ -6,11 +6,8 @@ use Rattle.std.proofs.lemmas.Bool.{lt-ltb}
 use Rattle.vlink.specs.declared.message.Message.{Message}
 use Rattle.vlink.specs.declared.note.Note.{Note}
 use Rattle.vlink.specs.Numbering.{greatest_number}
-use Rattle.virtual_time.specs.Rules.{Rules}
-use Rattle.virtual_time.specs.Part.{Part, arrive, run_one, next_of, can_seal, seal_oldest}
-use Rattle.virtual_time.specs.Simulation.{Simulation}
-use Rattle.virtual_time.specs.World.{World, start, run, is_enabled, effect, with_part, is_early}
-use Rattle.virtual_time.specs.World.Step.{Arrive, Run, Commit}
+use Rattle.virtual_time.specs.Law.{Rules, Part, arrive, run_one, next_of, can_seal, seal_oldest, Simulation, World, start, run, is_enabled, effect, with_part, is_early}
+use Rattle.virtual_time.specs.declared.step.Step.TheVariants.{Arrive, Run, Commit}
 use Rattle.reverse.specs.Setting.{simulation_of}
 use Rattle.fossil.specs.Committed
 use Rattle.fossil.specs.Committed.{is_ready, committed_once}
@@ -53,7 +50,7 @@ module _ {S K : Type 0} (f : Simulation Message S K Note) (is_value : S → Mess
   unfolding effect
   arrived q' does kept ps e = acted (arrive f.rules) q' does kept ps e
 
-  pub run-enabled : (o : Option Message) → o ≡ next_of f.rules (w.parts p) → is_enabled f (Run p) w ≡ is_some o
+  pub run-enabled : (o : Option Message) → o ≡ next_of f.rules.order (w.parts p) → is_enabled f (Run p) w ≡ is_some o
   unfolding is_enabled
   run-enabled o e = rw (lt-ltb p f.processes within) (ap is_some (sym e))
 
@@ -62,10 +59,10 @@ module _ {S K : Type 0} (f : Simulation Message S K Note) (is_value : S → Mess
   unfolding effect
   ran q' does kept ps e = acted (λ opening. run_one f.rules) q' does kept ps e
 
-  ready-is : (part : Part Message S) (g : ℕ) → (is_early f g part.done && can_seal f.rules part part.done) ≡ is_ready f.rules g part
+  ready-is : (part : Part Message S) (g : ℕ) → (is_early f g part.done && can_seal f.rules.order part part.done) ≡ is_ready f.rules g part
   ready-is part g = go part.done
     where
-      go : (ms : List Message) → (is_early f g ms && can_seal f.rules part ms) ≡ (Committed.is_early f.rules g ms && can_seal f.rules part ms)
+      go : (ms : List Message) → (is_early f g ms && can_seal f.rules.order part ms) ≡ (Committed.is_early f.rules g ms && can_seal f.rules.order part ms)
       go [] = refl
       go (m ∷ ms) = refl
 
@@ -114,14 +111,14 @@ module _ {S K : Type 0} (r : Rules Message S K Note) (number end : S → ℕ) (i
   IsExhaustedIn q = IsSome (next_in q) × (greatest_number < r.counter q.past.state + 24)
 
   -- whether there is a next message
-  enabled : (b : Bool) → ((opening : S) (part : Part Message S) → StandsFor r is_value opening part q → is_some (next_of r part) ≡ b) →
+  enabled : (b : Bool) → ((opening : S) (part : Part Message S) → StandsFor r is_value opening part q → is_some (next_of r.order part) ≡ b) →
       AtEachWorld r number end is_placed is_value old (λ f w. is_enabled f (Run p) w ≡ b)
   enabled b e = λ x laid steps h.
       let f = simulation_of r x in
       let w = run f steps (start f) in
-      run-enabled f is_value w old h p q here (next_of r (w.parts p)) refl ∙ e (f.opening p) (w.parts p) (h.parts p q here)
+      run-enabled f is_value w old h p q here (next_of r.order (w.parts p)) refl ∙ e (f.opening p) (w.parts p) (h.parts p q here)
 
-  pub run-none : ((opening : S) (part : Part Message S) → StandsFor r is_value opening part q → None ≡ next_of r part) → (ps : List (Queues S K)) → ps ≡ old.processes →
+  pub run-none : ((opening : S) (part : Part Message S) → StandsFor r is_value opening part q → None ≡ next_of r.order part) → (ps : List (Queues S K)) → ps ≡ old.processes →
       IsStepped r number end is_placed is_value (Run p) old (record { processes = ps; mail = old.mail; floors = old.floors; gvt = old.gvt; until = old.until }) (Ok NotEnabled)
   run-none e ps d =
       when-not_enabled r number end is_placed is_value (Run p) old _ (enabled false (λ opening part h. ap is_some (sym (e opening part h)))) (the_same-when old ps d)
@@ -137,7 +134,7 @@ module _ {S K : Type 0} (r : Rules Message S K Note) (number end : S → ℕ) (i
         subst (λ s. greatest_number < r.counter s + 24) k.past.state d.2,
       )
 
-  pub run-did : OfMessages r → (IsExhaustedIn q → ⊥) → (m : Message) → ((opening : S) (part : Part Message S) → StandsFor r is_value opening part q → Some m ≡ next_of r part) →
+  pub run-did : OfMessages r → (IsExhaustedIn q → ⊥) → (m : Message) → ((opening : S) (part : Part Message S) → StandsFor r is_value opening part q → Some m ≡ next_of r.order part) →
       (q' : Queues S K) → Does r is_value (λ opening. run_one r) q q' → q'.left ≡ q.left → (ps : List (Queues S K)) → ps ≡ set old.processes p q' →
       IsStepped r number end is_placed is_value (Run p) old (record { processes = ps; mail = old.mail; floors = old.floors; gvt = old.gvt; until = old.until }) (Ok Did)
   run-did R enough m e q' does kept ps d =
@@ -147,7 +144,7 @@ module _ {S K : Type 0} (r : Rules Message S K Note) (number end : S → ℕ) (i
         ran (simulation_of r x) is_value (run (simulation_of r x) steps (start (simulation_of r x))) old h p q here q' does kept ps d,
       ))
 
-  pub run-refused : OfMessages r → ((opening : S) (part : Part Message S) → StandsFor r is_value opening part q → IsSome (next_of r part)) →
+  pub run-refused : OfMessages r → ((opening : S) (part : Part Message S) → StandsFor r is_value opening part q → IsSome (next_of r.order part)) →
       (ps : List (Queues S K)) → ps ≡ old.processes → (fault : ProcFault) →
       (fault ≡ process.Exhausted) ↔ IsExhaustedIn q →
       (answer : Result Done StepFault) → answer ≡ Err (fault_of fault) →

@@ -4,9 +4,8 @@ use Rattle.std.specs.Prelude.{◌↔◌, OnOk, IfOk}
 use Rattle.std.proofs.lemmas.Bool.{false≢true}
 use Rattle.vlink.specs.declared.message.Message.{Message}
 use Rattle.vlink.specs.declared.note.Note.{Note}
-use Rattle.virtual_time.specs.Rules.{Rules}
-use Rattle.virtual_time.specs.Simulation.{Simulation}
-use Rattle.virtual_time.specs.World.{World, Step, start, run, is_enabled, effect, step}
+use Rattle.virtual_time.specs.Law.{Rules, Simulation, World, start, run, is_enabled, effect, step}
+use Rattle.virtual_time.specs.declared.step.Step.{Step}
 use Rattle.reverse.specs.Setting.{simulation_of}
 use Rattle.actor_world.specs.declared.done.Done.{Done}
 use Rattle.actor_world.specs.declared.done.Done.TheVariants.{Did, NotEnabled}

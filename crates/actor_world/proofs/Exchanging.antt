@@ -8,12 +8,9 @@ use Rattle.std.proofs.lemmas.List.Elements.{All-nil, All-cons}
 use Rattle.std.proofs.lemmas.Option.{slice_get_cases, slice_get_within}
 use Rattle.vlink.specs.declared.message.Message.{Message}
 use Rattle.vlink.specs.declared.note.Note.{Note}
-use Rattle.virtual_time.specs.Rules.{Rules, IsOrder}
-use Rattle.virtual_time.specs.Letters.{Letter as Signed, IsNamed, received_by}
-use Rattle.virtual_time.specs.Part.{Part, delivered, emptied, floor_of}
-use Rattle.virtual_time.specs.Simulation.{Simulation, Laws}
-use Rattle.virtual_time.specs.World.{World, start, run, is_enabled, effect, taken, gvt_over}
-use Rattle.virtual_time.specs.World.Step.{Take, Post, Gvt}
+use Rattle.vlink.specs.Letters.{Letter}
+use Rattle.virtual_time.specs.Law.{Rules, IsOrder, IsNamed, received_by, Part, delivered, emptied, floor_of, Simulation, Laws, World, start, run, is_enabled, effect, taken, gvt_over}
+use Rattle.virtual_time.specs.declared.step.Step.TheVariants.{Take, Post, Gvt}
 use Rattle.virtual_time.proofs.Letters.{named-head}
 use Rattle.virtual_time.proofs.Reading.{reached-keeps}
 use Rattle.virtual_time.proofs.Kept.{put_elim, start-kept}
@@ -44,7 +41,7 @@ module _ {S K : Type 0} (f : Simulation Message S K Note) (is_value : S → Mess
   within : p < f.processes
   within = process-within f is_value w old h p q here
 
-  pub take-enabled : (i : ℕ) (l : Signed Message) → slice_get (letters_for p old.mail) i ≡ Some l → is_enabled f (Take p i) w ≡ true
+  pub take-enabled : (i : ℕ) (l : Letter) → slice_get (letters_for p old.mail) i ≡ Some l → is_enabled f (Take p i) w ≡ true
   unfolding is_enabled
   take-enabled i l e =
       rw (lt-ltb p f.processes within, lt-ltb i (length (w.mail p)) (subst (λ ls. i < length ls) (h.mail p within) (slice_get_within (letters_for p old.mail) i l e))) refl
@@ -52,9 +49,9 @@ module _ {S K : Type 0} (f : Simulation Message S K Note) (is_value : S → Mess
   module _ (q' : Queues S K) (ps : List (Queues S K)) (ps-is : ps ≡ set old.processes p q') (mail : List Store) (boxes : length mail ≡ length old.mail)
       (floors : List ℕ) (floor_count : length floors ≡ length old.floors) (floors_others : (k : ℕ) → (k ≡ p → ⊥) → slice_get floors k ≡ slice_get old.floors k)
       (until : ℕ) (until-is : until ≡ old.until) where
-    pub took : (i : ℕ) (l : Signed Message) → slice_get (letters_for p old.mail) i ≡ Some l → Does f.rules is_value (λ opening. delivered l) q q' → q'.left ≡ q.left →
+    pub took : (i : ℕ) (l : Letter) → slice_get (letters_for p old.mail) i ≡ Some l → Does f.rules is_value (λ opening. delivered l) q q' → q'.left ≡ q.left →
         letters_for p mail ≡ remove (letters_for p old.mail) i → ((k : ℕ) → (k ≡ p → ⊥) → letters_for k mail ≡ letters_for k old.mail) →
-        slice_get floors p ≡ option_map (min (f.rules.time l.message)) (slice_get old.floors p) →
+        slice_get floors p ≡ option_map (min (f.rules.order.time l.message)) (slice_get old.floors p) →
         StandsForWorld f is_value (effect f (Take p i) w) (record { processes = ps; mail = mail; floors = floors; gvt = old.gvt; until = until })
     unfolding effect
     took i l e does kept left others lowered =
@@ -67,15 +64,15 @@ module _ {S K : Type 0} (f : Simulation Message S K Note) (is_value : S → Mess
           boxes = boxes ∙ h.boxes;
           mail = put_elim (λ k ls. k < f.processes → letters_for k mail ≡ ls) p (remove (w.mail p) i) w.mail (λ j. left ∙ ap (λ z. remove z i) (h.mail p within)) (λ k n j. others k n ∙ h.mail k j);
           floor_count = floor_count ∙ h.floor_count;
-          floors = put_elim (λ k t. k < f.processes → slice_get floors k ≡ Some t) p (min (f.rules.time l.message) (w.floors p)) w.floors
-              (λ j. lowered ∙ ap (option_map (min (f.rules.time l.message))) (h.floors p j)) (λ k n j. floors_others k n ∙ h.floors k j);
+          floors = put_elim (λ k t. k < f.processes → slice_get floors k ≡ Some t) p (min (f.rules.order.time l.message) (w.floors p)) w.floors
+              (λ j. lowered ∙ ap (option_map (min (f.rules.order.time l.message))) (h.floors p j)) (λ k n j. floors_others k n ∙ h.floors k j);
           gvt = h.gvt;
           until = until-is ∙ h.until;
         })
 
     pub did-post : Does f.rules is_value (λ opening. emptied) q q' → q'.left ≡ q.left →
-        ((k : ℕ) → letters_for k mail ≡ letters_for k old.mail ++ received_by f.rules k q.outbox) →
-        (floor : ℕ) → floor ≡ floor_of f.rules f.until (w.parts p) → slice_get floors p ≡ Some floor →
+        ((k : ℕ) → letters_for k mail ≡ letters_for k old.mail ++ received_by f.rules.order k q.outbox) →
+        (floor : ℕ) → floor ≡ floor_of f.rules.order f.until (w.parts p) → slice_get floors p ≡ Some floor →
         StandsForWorld f is_value (effect f (Post p) w) (record { processes = ps; mail = mail; floors = floors; gvt = old.gvt; until = until })
     unfolding effect
     did-post does kept sent floor floor-is here' = record {
@@ -83,9 +80,9 @@ module _ {S K : Type 0} (f : Simulation Message S K Note) (is_value : S → Mess
       parts = λ k o d. parts-set f is_value w old h p within (emptied (w.parts p)) q' (does (f.opening p) (w.parts p) part-here) k o (subst (λ z. slice_get z k ≡ Some o) ps-is d);
       whole = λ k o d. whole-set f is_value w old h p within q' (kept ∙ h.whole p q here) k o (subst (λ z. slice_get z k ≡ Some o) ps-is d);
       boxes = boxes ∙ h.boxes;
-      mail = λ k j. sent k ∙ (ap (λ z. z ++ received_by f.rules k q.outbox) (h.mail k j) ∙ ap (λ z. w.mail k ++ received_by f.rules k z) part-here.outbox);
+      mail = λ k j. sent k ∙ (ap (λ z. z ++ received_by f.rules.order k q.outbox) (h.mail k j) ∙ ap (λ z. w.mail k ++ received_by f.rules.order k z) part-here.outbox);
       floor_count = floor_count ∙ h.floor_count;
-      floors = put_elim (λ k t. k < f.processes → slice_get floors k ≡ Some t) p (floor_of f.rules f.until (w.parts p)) w.floors
+      floors = put_elim (λ k t. k < f.processes → slice_get floors k ≡ Some t) p (floor_of f.rules.order f.until (w.parts p)) w.floors
           (λ j. here' ∙ ap (λ z. Some z) floor-is) (λ k n j. floors_others k n ∙ h.floors k j);
       gvt = h.gvt;
       until = until-is ∙ h.until;
@@ -96,7 +93,7 @@ module _ {S K : Type 0} (f : Simulation Message S K Note) (is_value : S → Mess
   post-enabled = lt-ltb p f.processes within
 
   -- a fact of states that each message keeps is so at the state in hand
-  pub in-hand-has : IsOrder f.rules → (Good : S → Type 0) → ((s : S) (m : Message) → Good s → Good (f.rules.after s m)) → Good (f.opening p) → Good q.past.state
+  pub in-hand-has : IsOrder f.rules.order → (Good : S → Type 0) → ((s : S) (m : Message) → Good s → Good (f.rules.after s m)) → Good (f.opening p) → Good q.past.state
   in-hand-has O Good stays good =
       subst Good (sym (sym part-here.past.state ∙ part-here.well.state_is))
       (reached-keeps f.rules O Good stays (f.opening p) ((w.parts p).committed ++ (w.parts p).done) good)
@@ -108,15 +105,15 @@ take-not f is_value w old h p within i e =
     rw (lt-ltb p f.processes within, le-ltb i (length (w.mail p)) (subst (λ ls. length ls ≤ i) (h.mail p within) (none-past (letters_for p old.mail) i e))) refl
 
 -- letters to processes of which there are so many
-letters-go : {S K : Type 0} (r : Rules Message S K Note) (O : IsOrder r) (n : ℕ) (ls : List (Signed Message)) → ((m : Message) → IsNamed r m ls → r.receiver m < n) →
-    All (λ l. r.receiver l.message < n) ls
-letters-go r O n [] h = All-nil (λ l. r.receiver l.message < n)
+letters-go : {S K : Type 0} (r : Rules Message S K Note) (O : IsOrder r.order) (n : ℕ) (ls : List Letter) → ((m : Message) → IsNamed r.order m ls → r.order.receiver m < n) →
+    All (λ l. r.order.receiver l.message < n) ls
+letters-go r O n [] h = All-nil (λ l. r.order.receiver l.message < n)
 letters-go r O n (l ∷ ls) h =
-    All-cons (λ z. r.receiver z.message < n) l ls (h l.message (named-head r O l ls)) (letters-go r O n ls (λ m k. h m (let a = k in omega arith)))
+    All-cons (λ z. r.order.receiver z.message < n) l ls (h l.message (named-head r.order O l ls)) (letters-go r O n ls (λ m k. h m (let a = k in omega arith)))
 
 module _ {S K : Type 0} (r : Rules Message S K Note) (number end : S → ℕ) (is_placed : S → Type 0) (is_value : S → Message → Type 0)
     (old : Holdings S K) (p : ℕ) (q : Queues S K) (here : slice_get old.processes p ≡ Some q) where
-  pub take-refused : (i : ℕ) (l : Signed Message) → slice_get (letters_for p old.mail) i ≡ Some l → (ps : List (Queues S K)) → ps ≡ old.processes →
+  pub take-refused : (i : ℕ) (l : Letter) → slice_get (letters_for p old.mail) i ≡ Some l → (ps : List (Queues S K)) → ps ≡ old.processes →
       (answer : Result Done StepFault) → answer ≡ Err (fault_of process.OutOfMemory) →
       IsStepped r number end is_placed is_value (Take p i) old (record { processes = ps; mail = old.mail; floors = old.floors; gvt = old.gvt; until = old.until }) answer
   take-refused i l e ps d answer a =
@@ -128,9 +125,9 @@ module _ {S K : Type 0} (r : Rules Message S K Note) (number end : S → ℕ) (i
   module _ (q' : Queues S K) (ps : List (Queues S K)) (ps-is : ps ≡ set old.processes p q') (mail : List Store) (boxes : length mail ≡ length old.mail)
       (floors : List ℕ) (floor_count : length floors ≡ length old.floors) (floors_others : (k : ℕ) → (k ≡ p → ⊥) → slice_get floors k ≡ slice_get old.floors k)
       (until : ℕ) (until-is : until ≡ old.until) where
-    pub take-did : (i : ℕ) (l : Signed Message) → slice_get (letters_for p old.mail) i ≡ Some l → Does r is_value (λ opening. delivered l) q q' → q'.left ≡ q.left →
+    pub take-did : (i : ℕ) (l : Letter) → slice_get (letters_for p old.mail) i ≡ Some l → Does r is_value (λ opening. delivered l) q q' → q'.left ≡ q.left →
         letters_for p mail ≡ remove (letters_for p old.mail) i → ((k : ℕ) → (k ≡ p → ⊥) → letters_for k mail ≡ letters_for k old.mail) →
-        slice_get floors p ≡ option_map (min (r.time l.message)) (slice_get old.floors p) →
+        slice_get floors p ≡ option_map (min (r.order.time l.message)) (slice_get old.floors p) →
         IsStepped r number end is_placed is_value (Take p i) old (record { processes = ps; mail = mail; floors = floors; gvt = old.gvt; until = until }) (Ok Did)
     take-did i l e does kept left others lowered =
         when-did r number end is_placed is_value (Take p i) old _ (λ x laid steps h d. d)
@@ -141,9 +138,9 @@ module _ {S K : Type 0} (r : Rules Message S K Note) (number end : S → ℕ) (i
           took f is_value w old h p q here q' ps ps-is mail boxes floors floor_count floors_others until until-is i l e does kept left others lowered,
         ))
 
-    pub post-did : IsOrder r → ((s : S) (m : Message) → end (r.after s m) ≡ end s) → Does r is_value (λ opening. emptied) q q' → q'.left ≡ q.left →
-        ((k : ℕ) → letters_for k mail ≡ letters_for k old.mail ++ received_by r k q.outbox) → q'.past ≡ q.past →
-        (floor : ℕ) → ((opening : S) (part : Part Message S) → StandsFor r is_value opening part q' → floor ≡ floor_of r (end q'.past.state) part) →
+    pub post-did : IsOrder r.order → ((s : S) (m : Message) → end (r.after s m) ≡ end s) → Does r is_value (λ opening. emptied) q q' → q'.left ≡ q.left →
+        ((k : ℕ) → letters_for k mail ≡ letters_for k old.mail ++ received_by r.order k q.outbox) → q'.past ≡ q.past →
+        (floor : ℕ) → ((opening : S) (part : Part Message S) → StandsFor r is_value opening part q' → floor ≡ floor_of r.order (end q'.past.state) part) →
         slice_get floors p ≡ Some floor →
         IsStepped r number end is_placed is_value (Post p) old (record { processes = ps; mail = mail; floors = floors; gvt = old.gvt; until = until }) (Ok Did)
     post-did O stays does kept sent past floor floor-is here' =
@@ -155,8 +152,8 @@ module _ {S K : Type 0} (r : Rules Message S K Note) (number end : S → ℕ) (i
         let at_end : end q.past.state ≡ x.until =
         in-hand-has f is_value w old h p q here O (λ s. end s ≡ x.until) (λ s m e. stays s m ∙ e) (laid.end_is p (within f is_value w old h p q here)) in
         let floor' = floor-is (f.opening p) (emptied (w.parts p)) (does (f.opening p) (w.parts p) k) in
-        let same : floor ≡ floor_of r x.until (w.parts p) =
-        floor' ∙ ap (λ t. floor_of r t (w.parts p)) (ap (λ (z : Past S K). end z.state) past ∙ at_end) in (
+        let same : floor ≡ floor_of r.order x.until (w.parts p) =
+        floor' ∙ ap (λ t. floor_of r.order t (w.parts p)) (ap (λ (z : Past S K). end z.state) past ∙ at_end) in (
           post-enabled f is_value w old h p q here,
           did-post f is_value w old h p q here q' ps ps-is mail boxes floors floor_count floors_others until until-is does kept sent floor same here',
         ))
@@ -172,7 +169,7 @@ module _ {S K : Type 0} (r : Rules Message S K Note) (number end : S → ℕ) (i
 
   -- what is in the outbox goes to processes
   pub outbox-goes : ((x : Setting S) → IsLaidOut r number end is_placed x → Laws (simulation_of r x)) → IsAWorld r number end is_placed is_value old →
-      All (λ l. r.receiver l.message < length old.mail) q.outbox
+      All (λ l. r.order.receiver l.message < length old.mail) q.outbox
   outbox-goes laws world =
       let x = world.0 in
       let f = simulation_of r x in
@@ -181,8 +178,8 @@ module _ {S K : Type 0} (r : Rules Message S K Note) (number end : S → ℕ) (i
       let h = world.3 in
       let k = run-kept f L world.2 (start f) (start-kept f L) in
       let i = within f is_value w old h p q here in
-      subst (λ n. All (λ l. r.receiver l.message < n) q.outbox) (sym h.boxes)
-      (subst (λ ls. All (λ l. r.receiver l.message < x.processes) ls) (sym (part-here f is_value w old h p q here).outbox)
+      subst (λ n. All (λ l. r.order.receiver l.message < n) q.outbox) (sym h.boxes)
+      (subst (λ ls. All (λ l. r.order.receiver l.message < x.processes) ls) (sym (part-here f is_value w old h p q here).outbox)
       (letters-go r L.order x.processes (w.parts p).outbox (λ m j. ((k.sound p i).outbox_from m j).1)))
 
 module _ {S K : Type 0} (r : Rules Message S K Note) (number end : S → ℕ) (is_placed : S → Type 0) (is_value : S → Message → Type 0) (old : Holdings S K) where

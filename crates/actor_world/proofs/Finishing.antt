@@ -2,9 +2,7 @@
 use Rattle.std.proofs.Common.{◌≡◌, ◌∙◌, ℕ, suc, ◌<◌, [], sym}
 use Rattle.vlink.specs.declared.message.Message.{Message}
 use Rattle.vlink.specs.declared.note.Note.{Note}
-use Rattle.virtual_time.specs.Simulation.{Simulation}
-use Rattle.virtual_time.specs.World.{World}
-use Rattle.virtual_time.specs.Safe.{IsFinished}
+use Rattle.virtual_time.specs.Law.{Simulation, World, IsFinished}
 use Rattle.actor_world.specs.Worlds.{Holdings, StandsForWorld}
 
 module _ {S K : Type 0} (f : Simulation Message S K Note) (is_value : S → Message → Type 0) (w : World Message S) (held : Holdings S K) (h : StandsForWorld f is_value w held) where

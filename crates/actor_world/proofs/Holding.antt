@@ -9,11 +9,9 @@ use Rattle.std.proofs.lemmas.List.{get_or-set_same, get_or-set_other, length-map
 use Rattle.std.proofs.lemmas.Option.{slice_get-get_or, get_or_from_slice_get, slice_get_within, slice_get_read, slice_get-map}
 use Rattle.vlink.specs.declared.message.Message.{Message}
 use Rattle.vlink.specs.declared.note.Note.{Note}
-use Rattle.virtual_time.specs.Rules.{Rules}
-use Rattle.virtual_time.specs.Part.{Part, next_of}
-use Rattle.virtual_time.specs.Simulation.{Simulation, put}
-use Rattle.virtual_time.specs.World.{World, Step, start, run, is_enabled, effect, with_part}
-use Rattle.virtual_time.specs.World.Step.{Take, Arrive, Run, Post, Gvt, Commit}
+use Rattle.virtual_time.specs.Law.{Rules, Part, next_of, Simulation, put, World, start, run, is_enabled, effect, with_part}
+use Rattle.virtual_time.specs.declared.step.Step.{Step}
+use Rattle.virtual_time.specs.declared.step.Step.TheVariants.{Take, Arrive, Run, Post, Gvt, Commit}
 use Rattle.reverse.specs.Setting.{simulation_of}
 use Rattle.process_queues.specs.Queues.{Queues, InHand, StandsFor}
 use Rattle.actor_world.specs.declared.done.Done.{Done}
@@ -30,7 +28,7 @@ some-is None h = cc
 -- an exhausted step is enabled
 exhausted-enabled : {S K : Type 0} (f : Simulation Message S K Note) (x : Step) (w : World Message S) → IsExhausted f x w → is_enabled f x w ≡ true
 unfolding is_enabled
-exhausted-enabled f (Run p) w d = rw (lt-ltb p f.processes d.0) (some-is (next_of f.rules (w.parts p)) d.1)
+exhausted-enabled f (Run p) w d = rw (lt-ltb p f.processes d.0) (some-is (next_of f.rules.order (w.parts p)) d.1)
 exhausted-enabled f (Take p i) w d = absurd d
 exhausted-enabled f (Arrive p) w d = absurd d
 exhausted-enabled f (Post p) w d = absurd d

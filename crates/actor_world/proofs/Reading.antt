@@ -7,10 +7,7 @@ use Rattle.std.proofs.lemmas.List.{length-map}
 use Rattle.std.proofs.lemmas.Option.{slice_get-get_or, slice_get_cases}
 use Rattle.vlink.specs.declared.message.Message.{Message}
 use Rattle.vlink.specs.declared.note.Note.{Note}
-use Rattle.virtual_time.specs.Rules.{Rules}
-use Rattle.virtual_time.specs.Part.{Part}
-use Rattle.virtual_time.specs.Simulation.{Simulation}
-use Rattle.virtual_time.specs.World.{World}
+use Rattle.virtual_time.specs.Law.{Rules, Part, Simulation, World}
 use Rattle.process_queues.specs.Queues.{Queues, InHand, StandsFor}
 use Rattle.actor_world.specs.Worlds.{Holdings, StandsForWorld}
 

@@ -3,11 +3,9 @@ use Rattle.std.specs.Prelude.{◌≡◌, ℕ, ◌+◌, ◌<◌, List, [], ◌∷
 use Rattle.vlink.specs.declared.message.Message.{Message}
 use Rattle.vlink.specs.declared.note.Note.{Note}
 use Rattle.vlink.specs.Numbering.{greatest_number}
-use Rattle.virtual_time.specs.Rules.{Rules}
-use Rattle.virtual_time.specs.Part.{opened, next_of}
-use Rattle.virtual_time.specs.Simulation.{Simulation}
-use Rattle.virtual_time.specs.World.{World, Step, start, run}
-use Rattle.virtual_time.specs.World.Step.{Run}
+use Rattle.virtual_time.specs.Law.{Rules, opened, next_of, Simulation, World, start, run}
+use Rattle.virtual_time.specs.declared.step.Step.{Step}
+use Rattle.virtual_time.specs.declared.step.Step.TheVariants.{Run}
 use Rattle.reverse.specs.Setting.{Setting, simulation_of, Opens, IsLaidOut}
 use Rattle.antimessages.specs.Letters.{Store}
 use Rattle.antimessages.specs.Mailing.{letters_for}
@@ -52,7 +50,7 @@ pub record HoldsTheSame {S K : Type 0} (old new : Holdings S K) : Type 0 where
 
 -- the step is Run of a process that there is, which has a next message, and not enough numbers left for all that one event can send
 abbrev pub IsExhausted : {S K : Type 0} → Simulation Message S K Note → Step → World Message S → Type 0
-IsExhausted f (Run p) w = (p < f.processes) × IsSome (next_of f.rules (w.parts p)) × (greatest_number < f.rules.counter (w.parts p).state + 24)
+IsExhausted f (Run p) w = (p < f.processes) × IsSome (next_of f.rules.order (w.parts p)) × (greatest_number < f.rules.counter (w.parts p).state + 24)
 IsExhausted f _ w = ⊥
 
 module _ {S K : Type 0} (r : Rules Message S K Note) (number end : S → ℕ) (is_placed : S → Type 0) (is_value : S → Message → Type 0) where

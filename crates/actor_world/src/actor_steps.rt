@@ -1,11 +1,9 @@
 //! The six steps of a world of any actors.
 ghost use Rattle.std.specs.Prelude.{◌≡◌, ◌≢◌, ◌↔◌, ◌<◌, ℕ, true, false, length, Some, Ok, Err, IsTrue, OnOk, IfOk};
-ghost use Rattle.vlink.specs.declared.step.Step.TheVariants.{Gvt as NotedGvt};
-ghost use Rattle.virtual_time.specs.World.{is_enabled, step as stepped};
-ghost use Rattle.virtual_time.specs.World.Step.{Take, Arrive, Run, Post, Gvt, Commit};
+ghost use Rattle.virtual_time.specs.declared.step.Step.TheVariants.{Gvt, Take, Arrive, Run, Post, Commit};
+ghost use Rattle.virtual_time.specs.Law.{is_enabled, step as stepped};
 ghost use Rattle.reverse.specs.Rules.{rules_of};
-ghost use Rattle.antimessages.specs.Letters.{signed};
-ghost use Rattle.antimessages.specs.Steps.{step_of, names_none};
+ghost use Rattle.antimessages.specs.Steps.{names_none};
 ghost use Rattle.actor_world.specs.declared.done.Done.TheVariants.{Did, NotEnabled};
 ghost use Rattle.actor_world.specs.declared.fault.StepFault.TheVariants.{NoProcess, OutOfMemory, Exhausted};
 ghost use Rattle.actor_world.specs.Worlds.{StandsForWorld, HoldsTheSame, IsExhausted, AtEachWorld, IsAWorld};
@@ -25,16 +23,16 @@ impl<R: Actor> ActorWorld<R> {
     pub fn step(&mut self, step: Step) -> Result<Done, StepFault>
         requires { IsAWorld (rules_of R.plain R.counter) R.number R.end R.is_placed R.is_value self.old }
         ensures stands { OnOk result (AtEachWorld (rules_of R.plain R.counter) R.number R.end R.is_placed R.is_value self.old
-            (λ f w. StandsForWorld f R.is_value (stepped f (step_of step) w) self.new)) }
+            (λ f w. StandsForWorld f R.is_value (stepped f step w) self.new)) }
         ensures enabled { IfOk result (λ done. AtEachWorld (rules_of R.plain R.counter) R.number R.end R.is_placed R.is_value self.old
-            (λ f w. (done ≡ Did) ↔ (is_enabled f (step_of step) w ≡ true))) }
+            (λ f w. (done ≡ Did) ↔ (is_enabled f step w ≡ true))) }
         ensures unchanged { result ≢ Ok Did → HoldsTheSame self.old self.new }
         ensures no_process { (result ≡ Err NoProcess) ↔ (names_none (length self.old.processes) step ≡ true) }
         ensures exhausted { AtEachWorld (rules_of R.plain R.counter) R.number R.end R.is_placed R.is_value self.old
-            (λ f w. (result ≡ Err Exhausted) ↔ IsExhausted f (step_of step) w) }
+            (λ f w. (result ≡ Err Exhausted) ↔ IsExhausted f step w) }
         ensures memory { result ≡ Err OutOfMemory → AtEachWorld (rules_of R.plain R.counter) R.number R.end R.is_placed R.is_value self.old
-            (λ f w. is_enabled f (step_of step) w ≡ true) }
-        ensures gvt { step ≡ NotedGvt → result ≡ Ok Did }
+            (λ f w. is_enabled f step w ≡ true) }
+        ensures gvt { step ≡ Gvt → result ≡ Ok Did }
     {
         if self.names_none(&step) {
             return Err(StepFault::NoProcess);
@@ -149,7 +147,7 @@ impl<R: Actor> ActorWorld<R> {
 
 /// The time of the letter's message.
 fn time_of(letter: &Letter) -> Time
-    ensures { result ≡ (signed letter.now).message.time }
+    ensures { result ≡ letter.now.message.time }
 {
     letter.message.time
 }

@@ -2,14 +2,10 @@
 ghost use Rattle.std.specs.Prelude.{◌≡◌, ◌↔◌, ◌<◌, ◌≤◌, ℕ, [], All, length, map, take, slice_get, Some, IsTrue, IsNone, IfOk, IfErr, IfSome};
 ghost use Rattle.std.specs.Option.{option_map};
 ghost use Rattle.vlink.specs.declared.time.TheConstants.{GREATEST_NS};
-ghost use Rattle.virtual_time.specs.Rules.{reached, rowed};
-ghost use Rattle.virtual_time.specs.Part.{undo_all};
-ghost use Rattle.virtual_time.specs.World.{start};
+ghost use Rattle.virtual_time.specs.Law.{reached, rowed, undo_all, start};
 ghost use Rattle.reverse.specs.Rules.{rules_of};
 ghost use Rattle.reverse.specs.Setting.{Setting, simulation_of, Opens, IsLaidOut};
-ghost use Rattle.antimessages.specs.Letters.{signed};
 ghost use Rattle.antimessages.specs.Mailing.{letters_for};
-ghost use Rattle.process_queues.specs.Past.{seen_row};
 ghost use Rattle.actor_world.specs.declared.fault.StepFault.TheVariants.{OutOfMemory};
 ghost use Rattle.actor_world.specs.Worlds.{AreOpened, StandsForWorld, AtEachWorld, IsAWorld, CanOpen};
 
@@ -99,7 +95,7 @@ impl<R: Actor + Drop> ActorWorld<R> {
     /// none, or no such process.
     pub fn look(&self, process: u32, place: u32) -> Option<Letter>
         requires { IsAWorld (rules_of R.plain R.counter) R.number R.end R.is_placed R.is_value self.now }
-        ensures { option_map signed result ≡ slice_get (letters_for process self.now.mail) place }
+        ensures { result ≡ slice_get (letters_for process self.now.mail) place }
     {
         if process >= u32::from(self.floors.processes()) {
             return None;
@@ -132,7 +128,7 @@ impl<R: Actor + Drop> ActorWorld<R> {
     pub fn sealed(&self, process: u32) -> &[Row]
         requires { process < length self.now.processes }
         ensures { AtEachWorld (rules_of R.plain R.counter) R.number R.end R.is_placed R.is_value self.now
-            (λ f w. map seen_row result.now ≡ rowed f.rules (f.opening process) (w.parts process).committed) }
+            (λ f w. result.now ≡ rowed f.rules (f.opening process) (w.parts process).committed) }
     {
         self.processes[process as usize].sealed()
     }

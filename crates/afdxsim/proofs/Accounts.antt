@@ -3,17 +3,15 @@ use Rattle.std.proofs.Common.{◌≡◌, ◌∙◌, ◌↔◌, ℕ, ◌<◌, ◌
 use Rattle.std.proofs.lemmas.Bool.{cases_lt}
 use Rattle.std.specs.Prelude.{IsErrOf}
 use Rattle.std.specs.Global.{Vec}
-use Rattle.vlink.specs.declared.note.Row.{Row as Noted}
-use Rattle.vlink.specs.declared.step.Step.{Step as Noting}
-use Rattle.virtual_time.specs.World.{Step, start}
-use Rattle.virtual_time.specs.Safe.{IsFinished}
+use Rattle.vlink.specs.Letters.{Row}
+use Rattle.virtual_time.specs.declared.step.Step.{Step}
+use Rattle.virtual_time.specs.Law.{start, IsFinished}
 use Rattle.netdesc.specs.Plan.{Plan}
 use Rattle.nodes.specs.rules.Simulation.{simulation_of}
 use Rattle.journal_text.specs.declared.fault.LinesFault.{LinesFault}
 use Rattle.journal_text.specs.declared.fault.LinesFault.TheVariants as journal
 use Rattle.journal_text.specs.Lines.{HasCause}
 use Rattle.trace_tables.specs.Tables.{TableLists, tables_of}
-use Rattle.antimessages.specs.Steps.{step_of}
 use Rattle.timewarp.specs.declared.replaying.Replay.{Replay}
 use Rattle.seqsim.specs.Committed.{after, AreCommittedRows}
 use Rattle.timewarp.specs.Networks.{NetworkWorld, IsAfter}
@@ -25,7 +23,7 @@ use Rattle.afdxsim.specs.declared.fault.Fault.TheVariants.{OutOfMemory, Exhauste
 use Rattle.afdxsim.specs.Replaying.{most_lines, summary_text, fault_of_lines, IsSummary, IsJournal, AreCommittedTables, TellsOfSteps, TellsOfJournal, IsExhaustedIn, IsFaultOfJournal}
 
 -- a text that was read has at most as many lines as are allowed
-pub few_lines : (n most : ℕ) (r : Result (Vec Noting) LinesFault) (v : Vec Noting) → r ≡ Ok v → (most < n → IsErrOf r journal.TooMany) → n ≤ most
+pub few_lines : (n most : ℕ) (r : Result (Vec Step) LinesFault) (v : Vec Step) → r ≡ Ok v → (most < n → IsErrOf r journal.TooMany) → n ≤ most
 few_lines n most r v is full = elim (cases_lt most n) [ inl i ↦ absurd (let a = full i in cc) | inr i ↦ omega arith ]
 
 -- why a text was not read is why its journal was not done, on whatever network
@@ -39,7 +37,7 @@ lines_fault plan text refusal fault cause is = subst (IsFaultOfJournal plan text
     of journal.OutOfMemory cause = cause
 
 -- a replay that was counted on a network
-pub replayed : (found : Replay) (plan : Plan) (steps : List Noting) → found.world.plan ≡ plan → IsAfter found.world (map step_of steps) →
+pub replayed : (found : Replay) (plan : Plan) (steps : List Step) → found.world.plan ≡ plan → IsAfter found.world steps →
     found.did ≡ did (simulation_of plan) steps (start (simulation_of plan)) →
     found.not_enabled ≡ not_enabled (simulation_of plan) steps (start (simulation_of plan)) →
     found.refused ≡ refused (simulation_of plan) steps → IsReplayed found steps
@@ -52,9 +50,9 @@ replayed found plan steps e is a b d =
     }
 
 -- the line of a replay is that of its steps
-pub summary : (found : Replay) (steps : List Noting) (gvt : ℕ) (is_finished : Bool) (text : List ℕ) → IsReplayed found steps →
-    gvt ≡ (after found.world.plan (map step_of steps)).gvt →
-    (IsTrue is_finished ↔ IsFinished (simulation_of found.world.plan) (after found.world.plan (map step_of steps))) →
+pub summary : (found : Replay) (steps : List Step) (gvt : ℕ) (is_finished : Bool) (text : List ℕ) → IsReplayed found steps →
+    gvt ≡ (after found.world.plan steps).gvt →
+    (IsTrue is_finished ↔ IsFinished (simulation_of found.world.plan) (after found.world.plan steps)) →
     text ≡ summary_text found.did found.not_enabled found.refused gvt is_finished → IsSummary found.world.plan steps text
 summary found steps gvt is_finished text is at ends written = (
   is_finished,
@@ -68,20 +66,20 @@ summary found steps gvt is_finished text is at ends written = (
 
 -- the tables of some rows that are committed
 pub committed : (world : NetworkWorld) (tables : TableLists) (steps : List Step) → IsAfter world steps →
-    ((steps : List Step) → IsAfter world steps → (rows : List Noted) → AreCommittedRows world.plan steps rows → tables ≡ tables_of world.plan rows) →
-    ((steps : List Step) → IsAfter world steps → (rows : List Noted) × AreCommittedRows world.plan steps rows) → AreCommittedTables world.plan steps tables
+    ((steps : List Step) → IsAfter world steps → (rows : List Row) → AreCommittedRows world.plan steps rows → tables ≡ tables_of world.plan rows) →
+    ((steps : List Step) → IsAfter world steps → (rows : List Row) × AreCommittedRows world.plan steps rows) → AreCommittedTables world.plan steps tables
 committed world tables steps is sealed rows = let some = rows steps is in (some.0, some.1, sealed steps is some.0 some.1)
 
 -- what tells of the steps of a journal tells of the journal
-pub tells : (plan other : Plan) (text : List ℕ) (steps : List Noting) (account : Account) → other ≡ plan → IsJournal text steps → TellsOfSteps other steps account →
+pub tells : (plan other : Plan) (text : List ℕ) (steps : List Step) (account : Account) → other ≡ plan → IsJournal text steps → TellsOfSteps other steps account →
     TellsOfJournal plan text account
 tells plan other text steps account e is told = (steps, is, subst (λ (p : Plan). TellsOfSteps p steps account) e told)
 
 -- want of memory, and what gives up a replay, as faults of a journal
-pub memory_fault : (plan : Plan) (text : List ℕ) (steps : List Noting) (fault : Fault) → IsJournal text steps → fault ≡ OutOfMemory → IsFaultOfJournal plan text fault
+pub memory_fault : (plan : Plan) (text : List ℕ) (steps : List Step) (fault : Fault) → IsJournal text steps → fault ≡ OutOfMemory → IsFaultOfJournal plan text fault
 memory_fault plan text steps fault is e = subst (IsFaultOfJournal plan text) (sym e) is.within
 
-pub steps_fault : (plan : Plan) (text : List ℕ) (steps : List Noting) (fault : Fault) → IsJournal text steps →
+pub steps_fault : (plan : Plan) (text : List ℕ) (steps : List Step) (fault : Fault) → IsJournal text steps →
     (fault ≡ OutOfMemory) ⊎ ((fault ≡ Exhausted) × IsExhaustedIn plan steps) → IsFaultOfJournal plan text fault
 steps_fault plan text steps fault is (inl e) = memory_fault plan text steps fault is e
 steps_fault plan text steps fault is (inr h) = subst (IsFaultOfJournal plan text) (sym h.0) (steps, is, h.1)

@@ -2,7 +2,7 @@
 use Rattle.std.proofs.Common.{◌≡◌, ◌∙◌, ℕ, List, [], ◌++◌, Option, Some, None, sym, ap, subst}
 use Rattle.std.specs.Prelude.{IfSome, is_some, option_map}
 use Rattle.std.specs.Io.KnownBytes.{append_known}
-use Rattle.vlink.specs.declared.step.Step.{Step as Noting}
+use Rattle.virtual_time.specs.declared.step.Step.{Step}
 use Rattle.netdesc.specs.Plan.{Plan}
 use Rattle.journal_text.specs.Text.{steps_text}
 use Rattle.afdxsim.specs.Ending.{Took}
@@ -38,7 +38,7 @@ module _ {S F O E : Type 0} (outside : Outside S F O E) where
   of_text path P Q old new wrote f = (wrote.0, if_some (outside.wrote wrote.0) wrote.1 f, wrote.2)
 
   -- the steps of a run that are asked for are its journal
-  pub journal_written : {X : Type 0} (bytes : X → List ℕ) (plan : Plan) (journal : Option X) (steps : List Noting) (old new : S) → IsJournalAsked plan (is_some journal) steps →
+  pub journal_written : {X : Type 0} (bytes : X → List ℕ) (plan : Plan) (journal : Option X) (steps : List Step) (old new : S) → IsJournalAsked plan (is_some journal) steps →
       WritesAsked outside (option_map bytes journal) (λ text. text ≡ steps_text steps) old new →
       WritesAsked outside (option_map bytes journal) (IsJournalText plan) old new
   journal_written bytes plan None steps old new is wrote = wrote

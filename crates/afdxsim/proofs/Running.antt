@@ -7,7 +7,7 @@ use Rattle.actor_run.specs.declared.fault.SimFault.{SimFault}
 use Rattle.actor_run.specs.declared.fault.SimFault.TheVariants as sim
 use Rattle.journal.specs.declared.fault.PoolFault.{PoolFault}
 use Rattle.afdxsim.specs.declared.fault.Fault.{Fault}
-use Rattle.vlink.specs.declared.note.Row.{Row as Noted}
+use Rattle.vlink.specs.Letters.{Row}
 use Rattle.trace_tables.specs.Tables.{TableLists, tables_of}
 use Rattle.trace_tables.specs.Text.{tables_text}
 use Rattle.seqsim.specs.Networks.{AreRowsOf}
@@ -28,6 +28,6 @@ pub workers_gave_up : (why : PoolFault) (fault : Fault) → fault ≡ fault_of_p
 workers_gave_up why fault named = (why, named)
 
 -- the text of the tables of a run
-pub tables_made : (plan : Plan) (tables : TableLists) (rows : List Noted) → AreRowsOf plan rows → tables ≡ tables_of plan rows →
+pub tables_made : (plan : Plan) (tables : TableLists) (rows : List Row) → AreRowsOf plan rows → tables ≡ tables_of plan rows →
     IsTablesText plan (tables_text plan tables)
 tables_made plan tables rows are is = (rows, are, ap (tables_text plan) is)

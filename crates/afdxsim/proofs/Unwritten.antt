@@ -1,8 +1,8 @@
 -- Why a file is not whole, told of the one that was made.
 use Rattle.std.proofs.Common.{◌≡◌, ◌∙◌, ◌⊎◌, inl, inr, ℕ, ◌+◌, Bool, true, false, List, [], take, Option, Some, None, Result, Err, refl, sym, ap, subst, option_map}
 use Rattle.std.specs.Prelude.{IfErr, IfSome, is_some}
-use Rattle.vlink.specs.declared.note.Row.{Row as Noted}
-use Rattle.vlink.specs.declared.step.Step.{Step as Noting}
+use Rattle.vlink.specs.Letters.{Row}
+use Rattle.virtual_time.specs.declared.step.Step.{Step}
 use Rattle.netdesc.specs.Plan.{Plan}
 use Rattle.seqsim.specs.Networks.{AreRowsOf}
 use Rattle.trace_parts.specs.Sinking.{IsBeginning}
@@ -103,7 +103,7 @@ at_err P r why is holds = subst (λ x. IfErr x P) is holds
 -- why a run did not write its trace, by how its writing went
 pub run_fault : {File : Type 0} (taken : File → Option (List ℕ)) (failures : File → ℕ) (plan : Plan) (path : Bor (List ℕ)) (file full : File) (tables : List ℕ) (why : TraceFault) (fault : Fault) →
     fault ≡ fault_of_trace path why → IsTablesText plan tables →
-    ((rows : List Noted) → AreRowsOf plan rows → IsBeginning (taken file) (taken full) (trace_text plan rows)) →
+    ((rows : List Row) → AreRowsOf plan rows → IsBeginning (taken file) (taken full) (trace_text plan rows)) →
     (why ≡ Out out.Device → failures full ≡ failures file + 1) →
     IsFaultOfPool fault ⊎ IsFaultOfTrace (λ made. made ≡ true) ((full : File) × (text : List ℕ) × IsTraceText plan text × TookSome taken failures file full text) path.now fault
 run_fault {File = File} taken failures plan path file full tables why fault named run begins failed = subst Told (sym named) (of why failed)
@@ -121,7 +121,7 @@ run_fault {File = File} taken failures plan path file full tables why fault name
     of (Out out.Device) f = inr (refl, inr (refl, (full, trace_text plan run.0, (run.0, run.1, refl), (begins run.0 run.1, f refl))))
 
 -- the steps that were asked for are the journal of the run
-asked : (plan : Plan) (steps : List Noting) (is_some : Bool) → is_some ≡ true → IsJournalAsked plan is_some steps → IsJournalOf plan steps
+asked : (plan : Plan) (steps : List Step) (is_some : Bool) → is_some ≡ true → IsJournalAsked plan is_some steps → IsJournalOf plan steps
 asked plan steps true is h = h
 asked plan steps false is h = absurd (let bad : false ≡ true = is in cc)
 
@@ -131,7 +131,7 @@ module _ {S F O E : Type 0} (outside : Outside S F O E) where
   some_of P Q f some = (some.0, some.1, some.2, some.3, f some.2 some.4, some.5)
 
   -- the trace of a run, of its rows
-  pub rows_took : (host : S) (plan : Plan) (rows : List Noted) (path : List ℕ) (fault : Fault) → AreRowsOf plan rows →
+  pub rows_took : (host : S) (plan : Plan) (rows : List Row) (path : List ℕ) (fault : Fault) → AreRowsOf plan rows →
       IsFaultOfTrace (outside.makes host path) (WritesSome outside (λ text. text ≡ trace_text plan rows)) path fault →
       IsFaultOfTraceFile outside host plan path fault
   rows_took host plan rows path fault are is =
@@ -139,7 +139,7 @@ module _ {S F O E : Type 0} (outside : Outside S F O E) where
       (outside.makes host path) (λ h. h) (λ h. h)
       (some_of (λ text. text ≡ trace_text plan rows) (IsTraceText plan) (λ text same. (rows, are, same))) fault is
 
-  pub kept_of : {X : Type 0} (bytes : X → List ℕ) (trace : Option (List ℕ)) (journal : Option X) (old traced : S) (plan : Plan) (steps : List Noting) (path : List ℕ) (fault : Fault) →
+  pub kept_of : {X : Type 0} (bytes : X → List ℕ) (trace : Option (List ℕ)) (journal : Option X) (old traced : S) (plan : Plan) (steps : List Step) (path : List ℕ) (fault : Fault) →
       WritesAsked outside trace (IsTraceText plan) old traced → IsJournalAsked plan (is_some journal) steps → option_map bytes journal ≡ Some path →
       IsFaultOfJournalFile (outside.makes traced path) (WritesSome outside (λ text. text ≡ steps_text steps)) path fault →
       IsFaultOfKeptFile outside trace old plan path fault

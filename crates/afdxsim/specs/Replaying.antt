@@ -1,9 +1,8 @@
 -- What the program says of a journal whose steps were done on a network.
 use Rattle.std.specs.Prelude.{◌≡◌, ◌⊎◌, ◌↔◌, ◌<◌, ◌≤◌, ℕ, Bool, true, false, IsTrue, All, List, Option, ◌++◌, length, map, take, slice_get, Some, codes, decimal, string_bytes}
-use Rattle.vlink.specs.declared.note.Row.{Row as Noted}
-use Rattle.vlink.specs.declared.step.Step.{Step as Noting}
-use Rattle.virtual_time.specs.World.{Step, start}
-use Rattle.virtual_time.specs.Safe.{IsFinished}
+use Rattle.vlink.specs.Letters.{Row}
+use Rattle.virtual_time.specs.declared.step.Step.{Step}
+use Rattle.virtual_time.specs.Law.{start, IsFinished}
 use Rattle.netdesc.specs.Plan.{Plan}
 use Rattle.nodes.specs.rules.Simulation.{simulation_of}
 use Rattle.journal_text.specs.declared.fault.LinesFault.{LinesFault}
@@ -13,7 +12,6 @@ use Rattle.journal_text.specs.Lines.{lines, IsFirstBad}
 use Rattle.trace_tables.specs.Tables.{TableLists, tables_of}
 use Rattle.trace_tables.specs.Text.{tables_text}
 use Rattle.seqsim.specs.Networks.{AreRowsOf}
-use Rattle.antimessages.specs.Steps.{step_of}
 use Rattle.timewarp.specs.Worlds.{IsExhausted}
 use Rattle.seqsim.specs.Committed.{after, AreCommittedRows}
 use Rattle.timewarp.specs.Replaying.{did, not_enabled, refused}
@@ -42,36 +40,36 @@ summary_text did not_enabled refused gvt is_finished =
     counted_text did not_enabled refused gvt ++ finish_text is_finished
 
 -- this is the line of these steps, done on this network from the start on
-abbrev pub IsSummary : Plan → List Noting → List ℕ → Type 0
+abbrev pub IsSummary : Plan → List Step → List ℕ → Type 0
 IsSummary plan steps text =
-    (is_finished : Bool) × (IsTrue is_finished ↔ IsFinished (simulation_of plan) (after plan (map step_of steps))) ×
+    (is_finished : Bool) × (IsTrue is_finished ↔ IsFinished (simulation_of plan) (after plan steps)) ×
     (text ≡ summary_text
     (did (simulation_of plan) steps (start (simulation_of plan)))
     (not_enabled (simulation_of plan) steps (start (simulation_of plan)))
     (refused (simulation_of plan) steps)
-    (after plan (map step_of steps)).gvt
+    (after plan steps).gvt
     is_finished)
 
 -- these are the tables of what is committed after these steps
 abbrev pub AreCommittedTables : Plan → List Step → TableLists → Type 0
-AreCommittedTables plan steps tables = (rows : List Noted) × AreCommittedRows plan steps rows × (tables ≡ tables_of plan rows)
+AreCommittedTables plan steps tables = (rows : List Row) × AreCommittedRows plan steps rows × (tables ≡ tables_of plan rows)
 
 -- the account tells of these steps, done on this network
-pub record TellsOfSteps (plan : Plan) (steps : List Noting) (account : Account) : Type 0 where
-  pub tables : AreCommittedTables plan (map step_of steps) account.tables
+pub record TellsOfSteps (plan : Plan) (steps : List Step) (account : Account) : Type 0 where
+  pub tables : AreCommittedTables plan steps account.tables
   -- where the run is finished they are the tables of the one-thread run
-  pub whole : IsFinished (simulation_of plan) (after plan (map step_of steps)) → (rows : List Noted) → AreRowsOf plan rows → account.tables ≡ tables_of plan rows
+  pub whole : IsFinished (simulation_of plan) (after plan steps) → (rows : List Row) → AreRowsOf plan rows → account.tables ≡ tables_of plan rows
   pub line : IsSummary plan steps (string_bytes account.line)
 
 -- a text with these steps as its lines, and with at most as many lines as are allowed
-pub record IsJournal (text : List ℕ) (steps : List Noting) : Type 0 where
+pub record IsJournal (text : List ℕ) (steps : List Step) : Type 0 where
   pub written : steps_text steps ≡ text
   pub fits : All Fits steps
   pub within : length (lines text) ≤ most_lines
 
 -- the account tells of the journal with this text, done on this network
 abbrev pub TellsOfJournal : Plan → List ℕ → Account → Type 0
-TellsOfJournal plan text account = (steps : List Noting) × IsJournal text steps × TellsOfSteps plan steps account
+TellsOfJournal plan text account = (steps : List Step) × IsJournal text steps × TellsOfSteps plan steps account
 
 -- why a text was not read as a journal, as a fault of the program
 abbrev pub fault_of_lines : LinesFault → Fault
@@ -80,9 +78,9 @@ fault_of_lines (journal.BadLine n) = JournalLine n
 fault_of_lines journal.OutOfMemory = OutOfMemory
 
 -- at some step of these the process has not enough numbers left for what one event can send
-abbrev pub IsExhaustedIn : Plan → List Noting → Type 0
+abbrev pub IsExhaustedIn : Plan → List Step → Type 0
 IsExhaustedIn plan steps =
-    (n : ℕ) × (x : Noting) × (slice_get steps n ≡ Some x) × IsExhausted (simulation_of plan) (step_of x) (after plan (take n (map step_of steps)))
+    (n : ℕ) × (x : Step) × (slice_get steps n ≡ Some x) × IsExhausted (simulation_of plan) x (after plan (take n steps))
 
 -- why the journal with this text was not done on this network
 abbrev pub IsFaultOfJournal : Plan → List ℕ → Fault → Type 0
@@ -94,7 +92,7 @@ IsFaultOfJournal plan text (CannotWriteFile path) = ⊥
 IsFaultOfJournal plan text CannotWrite = ⊥
 IsFaultOfJournal plan text Layout = ⊥
 IsFaultOfJournal plan text OutOfMemory = length (lines text) ≤ most_lines
-IsFaultOfJournal plan text Exhausted = (steps : List Noting) × IsJournal text steps × IsExhaustedIn plan steps
+IsFaultOfJournal plan text Exhausted = (steps : List Step) × IsJournal text steps × IsExhaustedIn plan steps
 IsFaultOfJournal plan text Spawn = ⊥
 IsFaultOfJournal plan text Torn = ⊥
 

@@ -1,6 +1,6 @@
 -- What the program writes of a one-thread run, and why it gives one up.
 use Rattle.std.specs.Prelude.{◌≡◌, ◌⊎◌, ℕ, Bool, true, false, List}
-use Rattle.vlink.specs.declared.note.Row.{Row as Noted}
+use Rattle.vlink.specs.Letters.{Row}
 use Rattle.netdesc.specs.Plan.{Plan}
 use Rattle.nodes.specs.rules.Simulation.{simulation_of}
 use Rattle.actor_run.specs.Running.{IsExhaustedAt}
@@ -20,11 +20,11 @@ fault_of_run sim.Exhausted = Exhausted
 
 -- this is the text of the tables of the one-thread run of the network
 abbrev pub IsTablesText : Plan → List ℕ → Type 0
-IsTablesText plan text = (rows : List Noted) × AreRowsOf plan rows × (text ≡ tables_text plan (tables_of plan rows))
+IsTablesText plan text = (rows : List Row) × AreRowsOf plan rows × (text ≡ tables_text plan (tables_of plan rows))
 
 -- this is the text of its trace
 abbrev pub IsTraceText : Plan → List ℕ → Type 0
-IsTraceText plan text = (rows : List Noted) × AreRowsOf plan rows × (text ≡ trace_text plan rows)
+IsTraceText plan text = (rows : List Row) × AreRowsOf plan rows × (text ≡ trace_text plan rows)
 
 -- why the one-thread run of a network was given up: after some events the process whose turn it is has not enough numbers left, or a growth
 -- was refused

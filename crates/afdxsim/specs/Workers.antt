@@ -1,7 +1,7 @@
 -- Why the program gives up a run by workers, and what it writes of one.
 use Rattle.std.specs.Prelude.{◌≡◌, ◌⊎◌, ℕ, Bool, true, false, List, Option, Some}
 use Rattle.std.specs.Borrow.{Bor}
-use Rattle.vlink.specs.declared.step.Step.{Step as Noting}
+use Rattle.virtual_time.specs.declared.step.Step.{Step}
 use Rattle.netdesc.specs.Plan.{Plan}
 use Rattle.journal_text.specs.Text.{steps_text}
 use Rattle.journal.specs.declared.fault.PoolFault.{PoolFault}
@@ -16,7 +16,7 @@ use Rattle.afdxsim.specs.declared.fault.Fault.TheVariants.{Description, JournalL
 
 -- this is the text of the steps of a run by workers
 abbrev pub IsJournalText : Plan → List ℕ → Type 0
-IsJournalText plan text = (steps : List Noting) × IsJournalOf plan steps × (text ≡ steps_text steps)
+IsJournalText plan text = (steps : List Step) × IsJournalOf plan steps × (text ≡ steps_text steps)
 
 -- why a run by workers was given up, as a fault of the program
 abbrev pub fault_of_pool : PoolFault → Fault

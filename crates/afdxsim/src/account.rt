@@ -1,9 +1,8 @@
 //! A journal, done on a network, and what is told of it.
 ghost use Rattle.std.specs.Prelude.{◌≡◌, ◌⊎◌, List, IfOk, IfErr, string_bytes};
-ghost use Rattle.vlink.specs.declared.note.Row.{Row as Noted};
-ghost use Rattle.vlink.specs.declared.step.Step.{Step as Noting};
-ghost use Rattle.virtual_time.specs.World.{Step as Stepped};
-ghost use Rattle.virtual_time.specs.Safe.{IsFinished};
+ghost use Rattle.vlink.specs.Letters.{Row};
+ghost use Rattle.virtual_time.specs.declared.step.Step.{Step};
+ghost use Rattle.virtual_time.specs.Law.{IsFinished};
 ghost use Rattle.netdesc.specs.Plan.{Plan};
 ghost use Rattle.nodes.specs.rules.Simulation.{simulation_of};
 ghost use Rattle.trace_tables.specs.Tables.{tables_of};
@@ -76,7 +75,7 @@ fn line_of(
 
 /// The line that tells what a replay has found.
 fn summary_of(alloc: Global, found: &Replay) -> Result<String, AllocError>
-    ensures { IfOk result (λ line. (steps : List Noting) → IsReplayed found.now steps → IsSummary found.now.world.plan steps (string_bytes line)) }
+    ensures { IfOk result (λ line. (steps : List Step) → IsReplayed found.now steps → IsSummary found.now.world.plan steps (string_bytes line)) }
 {
     let gvt = found.world.gvt().ns();
     let is_finished = found.world.is_finished();
@@ -94,9 +93,9 @@ fn summary_of(alloc: Global, found: &Replay) -> Result<String, AllocError>
 /// The tables of what is committed.
 #[tactic(auto, using(crate::proofs::Accounts::committed))]
 fn committed_tables(alloc: Global, world: &World) -> Result<Tables, AllocError>
-    ensures committed { IfOk result (λ tables. (steps : List Stepped) → IsAfter world.now steps → AreCommittedTables world.now.plan steps tables) }
-    ensures whole { IfOk result (λ tables. (steps : List Stepped) → IsAfter world.now steps →
-        IsFinished (simulation_of world.now.plan) (after world.now.plan steps) → (rows : List Noted) → AreRowsOf world.now.plan rows →
+    ensures committed { IfOk result (λ tables. (steps : List Step) → IsAfter world.now steps → AreCommittedTables world.now.plan steps tables) }
+    ensures whole { IfOk result (λ tables. (steps : List Step) → IsAfter world.now steps →
+        IsFinished (simulation_of world.now.plan) (after world.now.plan steps) → (rows : List Row) → AreRowsOf world.now.plan rows →
         tables ≡ tables_of world.now.plan rows) }
 {
     match world.tables(alloc) {
@@ -107,7 +106,7 @@ fn committed_tables(alloc: Global, world: &World) -> Result<Tables, AllocError>
 
 /// Tells what a replay has found.
 fn told(alloc: Global, found: Replay) -> Result<Account, AllocError>
-    ensures told { IfOk result (λ account. (steps : List Noting) → IsReplayed found steps → TellsOfSteps found.world.plan steps account) }
+    ensures told { IfOk result (λ account. (steps : List Step) → IsReplayed found steps → TellsOfSteps found.world.plan steps account) }
     ensures network { IfOk result (λ account. account.world.plan ≡ found.world.plan) }
 {
     let line = summary_of(alloc, &found)?;

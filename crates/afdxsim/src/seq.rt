@@ -14,7 +14,7 @@ use crate::fault::Fault;
 use crate::host::{FileFault, Host};
 use command_line::Seq;
 use netdesc::Network;
-use seqsim::{Finished, run, run_tables};
+use seqsim::{Finished, Unwatched, run, run_tables};
 use std::alloc::Global;
 use trace_tables::{OutFault, Sink, Tables, write_csv, write_trace};
 use vlink::Row;
@@ -90,7 +90,7 @@ fn tables_of_run(alloc: Global, network: &Network) -> Result<Tables, Fault<'stat
     ensures text { IfOk result (λ tables. IsTablesText network.now (tables_text network.now tables)) }
     ensures fault { IfErr result (IsFaultOfRun network.now) }
 {
-    Ok(run_tables(alloc, network)?)
+    Ok(run_tables(alloc, network, &mut Unwatched)?)
 }
 
 /// The one-thread run of the network, with its rows.
@@ -100,7 +100,7 @@ fn whole_run(alloc: Global, network: &Network) -> Result<Finished, Fault<'static
     ensures rows { IfOk result (λ finished. AreRowsOf network.now finished.rows.items) }
     ensures fault { IfErr result (IsFaultOfRun network.now) }
 {
-    Ok(run(alloc, network)?)
+    Ok(run(alloc, network, &mut Unwatched)?)
 }
 
 /// Simulates the network on one thread, and writes its tables on standard output.

@@ -1,6 +1,6 @@
 //! A run by workers: its tables, and what else is asked for.
 ghost use Rattle.std.specs.Prelude.{◌≡◌, ◌⊎◌, ◌+◌, ℕ, true, List, IfErr, IfOk, OnOk};
-ghost use Rattle.vlink.specs.declared.note.Row.{Row as Noted};
+ghost use Rattle.vlink.specs.Letters.{Row};
 ghost use Rattle.trace_parts.specs.declared.fault.OutFault.TheVariants.{Device};
 ghost use Rattle.trace_parts.specs.declared.trace_fault.TraceFault.TheVariants.{Out};
 ghost use Rattle.trace_parts.specs.Sinking.{IsBeginning};
@@ -70,9 +70,9 @@ fn traced<F: Sink + Drop + Send, T: Threads + Wait + Sync>(
 ) -> Result<Traced<F>, Fault<'static>>
     ensures text { IfOk result (λ found. IsTablesText network.now (tables_text network.now found.outcome.tables)) }
     ensures journal { IfOk result (λ found. IsJournalAsked network.now with_steps found.outcome.journal.items) }
-    ensures trace { IfOk result (λ found. OnOk found.written ((rows : List Noted) → AreRowsOf network.now rows →
+    ensures trace { IfOk result (λ found. OnOk found.written ((rows : List Row) → AreRowsOf network.now rows →
         Took F.taken file found.sink (trace_text network.now rows))) }
-    ensures beginning { IfOk result (λ found. (rows : List Noted) → AreRowsOf network.now rows →
+    ensures beginning { IfOk result (λ found. (rows : List Row) → AreRowsOf network.now rows →
         IsBeginning (F.taken file) (F.taken found.sink) (trace_text network.now rows)) }
     ensures device { IfOk result (λ found. IfErr found.written (λ why. why ≡ Out Device → F.failures found.sink ≡ F.failures file + 1)) }
     ensures fault { IfErr result IsFaultOfPool }
@@ -106,7 +106,7 @@ pub fn found_with_trace<'a, F: Sink + Drop + Send, T: Threads + Wait + Sync>(
 ) -> Result<(Summary, F), Fault<'a>>
     ensures text { IfOk result (λ found. IsTablesText network.now (tables_text network.now found.0.tables)) }
     ensures journal { IfOk result (λ found. IsJournalAsked network.now with_steps found.0.journal.items) }
-    ensures trace { IfOk result (λ found. (rows : List Noted) → AreRowsOf network.now rows →
+    ensures trace { IfOk result (λ found. (rows : List Row) → AreRowsOf network.now rows →
         Took F.taken file found.1 (trace_text network.now rows)) }
     ensures fault { IfErr result (λ fault. IsFaultOfPool fault ⊎ IsFaultOfTrace (λ made. made ≡ true)
         ((full : F) × (text : List ℕ) × IsTraceText network.now text × TookSome F.taken F.failures file full text) path.entry.now fault) }

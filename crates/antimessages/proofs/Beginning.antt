@@ -13,12 +13,11 @@ use Rattle.std.proofs.lemmas.Int.{ints}
 use Rattle.std.proofs.lemmas.Map.{lookup-none}
 use Rattle.std.proofs.lemmas.Map.Entries.{none_below_head}
 use Rattle.vlink.specs.declared.message.Message.{Message}
-use Rattle.vlink.specs.declared.message.Sign.{Sign}
-use Rattle.vlink.specs.declared.message.Sign.TheVariants.{Plus, Minus}
-use Rattle.vlink.specs.Order.{message_cmp}
-use Rattle.virtual_time.specs.Letters.{pluses, minuses}
+use Rattle.virtual_time.specs.declared.letter.Sign.{Sign}
+use Rattle.virtual_time.specs.declared.letter.Sign.TheVariants.{Plus, Minus}
+use Rattle.vlink.specs.Order.{message_cmp, message_order}
+use Rattle.virtual_time.specs.Law.{pluses, minuses}
 use Rattle.antimessages.specs.declared.occurrence.Occurrence.{Occurrence}
-use Rattle.antimessages.specs.Letters.{message_rules}
 use Rattle.antimessages.specs.Counting.{signed_count}
 use Rattle.antimessages.specs.Occurrences.{occurrence_of, occurrence_cmp, letters_of, count_with, sign_at, AreCounted, BeginsWithOne, IsNextOther}
 use Rattle.antimessages.proofs.Last.{at-zero, at-last}
@@ -44,8 +43,8 @@ none-with Minus = omega (arith, ints)
 
 -- no letter of the message counts where none stands at ordinal 0
 pub none-counts : (m : Message) (es : List (Occurrence × Sign)) → AreCounted es → lookup (is_at (occurrence_cmp (occurrence_of m 0))) es ≡ None →
-    signed_count message_rules m (letters_of es) ≡ pos 0
-none-counts m es st h = at-zero (pluses message_rules m (letters_of es)) (minuses message_rules m (letters_of es)) (sym (st.signs m 0) ∙ h)
+    signed_count message_order m (letters_of es) ≡ pos 0
+none-counts m es st h = at-zero (pluses message_order m (letters_of es)) (minuses message_order m (letters_of es)) (sym (st.signs m 0) ∙ h)
 
 -- where a plus stands at an ordinal, one stands at each lesser one
 plus-below : (p n k j : ℕ) → sign_at p n k ≡ Some Plus → j < k → sign_at p n j ≡ Some Plus
@@ -67,7 +66,7 @@ module _ (T : IsTotalOrder message_cmp) (U : IsTotalOrder occurrence_cmp) (X : (
 
   -- a message that comes before that of the first letter does not count
   pub before-first : (o : Occurrence) (s : Sign) (es : List (Occurrence × Sign)) → AreCounted es → IsStrictlySortedBy occurrence_cmp (keys_of es) →
-      slice_get es 0 ≡ Some (o, s) → message_rules.less m o.message ≡ true → signed_count message_rules m (letters_of es) ≡ pos 0
+      slice_get es 0 ≡ Some (o, s) → message_order.less m o.message ≡ true → signed_count message_order m (letters_of es) ≡ pos 0
   before-first o s [] st up at less = cc
   before-first o s (e ∷ es) st up at less =
       let same : e ≡ (o, s) = cc in
@@ -84,7 +83,7 @@ module _ (T : IsTotalOrder message_cmp) (U : IsTotalOrder occurrence_cmp) (X : (
     abbrev all : List (Occurrence × Sign)
     all = (occurrence_of m k, Plus) ∷ rest
 
-    sign-here : sign_at (pluses message_rules m (letters_of all)) (minuses message_rules m (letters_of all)) k ≡ Some Plus
+    sign-here : sign_at (pluses message_order m (letters_of all)) (minuses message_order m (letters_of all)) k ≡ Some Plus
     sign-here = sym (st.signs m k) ∙ rw (tied_itself U (occurrence_of m k)) refl
 
     -- its first letter has the ordinal 0
@@ -113,11 +112,11 @@ module _ (T : IsTotalOrder message_cmp) (U : IsTotalOrder occurrence_cmp) (X : (
             later Equal w l = absurd (o (sym (X m f.0.message w)))
             later Greater w l = absurd (let z : ⊥ = cc in z)
 
-    one-there : IsNextOther m rest → signed_count message_rules m (letters_of all) ≡ pos 1
+    one-there : IsNextOther m rest → signed_count message_order m (letters_of all) ≡ pos 1
     one-there n =
         let z = first-ordinal in
-        at-last Plus (pluses message_rules m (letters_of all)) (minuses message_rules m (letters_of all)) 0
-        (subst (λ j. sign_at (pluses message_rules m (letters_of all)) (minuses message_rules m (letters_of all)) j ≡ Some Plus) z sign-here)
+        at-last Plus (pluses message_order m (letters_of all)) (minuses message_order m (letters_of all)) 0
+        (subst (λ j. sign_at (pluses message_order m (letters_of all)) (minuses message_order m (letters_of all)) j ≡ Some Plus) z sign-here)
         (sym (st.signs m 1) ∙ (past z ∙ next-none z n))
       where
         past : k ≡ 0 → lookup (is_at (occurrence_cmp (occurrence_of m 1))) all ≡ lookup (is_at (occurrence_cmp (occurrence_of m 1))) rest
@@ -128,14 +127,14 @@ module _ (T : IsTotalOrder message_cmp) (U : IsTotalOrder occurrence_cmp) (X : (
 
   module _ (es : List (Occurrence × Sign)) (st : AreCounted es) (up : IsStrictlySortedBy occurrence_cmp (keys_of es)) (h : BeginsWithOne m es) where
     -- the count of the message is 1
-    pub begins-one : signed_count message_rules m (letters_of es) ≡ pos 1
+    pub begins-one : signed_count message_order m (letters_of es) ≡ pos 1
     begins-one = go es st up h
       where
-        go : (es : List (Occurrence × Sign)) → AreCounted es → IsStrictlySortedBy occurrence_cmp (keys_of es) → BeginsWithOne m es → signed_count message_rules m (letters_of es) ≡ pos 1
+        go : (es : List (Occurrence × Sign)) → AreCounted es → IsStrictlySortedBy occurrence_cmp (keys_of es) → BeginsWithOne m es → signed_count message_order m (letters_of es) ≡ pos 1
         go [] st up h = absurd h
         go (e ∷ rest) st up h =
             let same : e ≡ (occurrence_of m e.0.ordinal, Plus) = is-one e h.0 h.1 in
-            subst (λ x. signed_count message_rules m (letters_of (x ∷ rest)) ≡ pos 1) (sym same)
+            subst (λ x. signed_count message_order m (letters_of (x ∷ rest)) ≡ pos 1) (sym same)
             (one-there e.0.ordinal rest (subst (λ x. AreCounted (x ∷ rest)) same st) (subst (λ x. IsStrictlySortedBy occurrence_cmp (keys_of (x ∷ rest))) same up) h.2)
 
     -- its letter is the first one

@@ -5,10 +5,10 @@ use Rattle.std.specs.VecDeque.{deque_len, deque_capacity}
 use Rattle.std.proofs.lemmas.Bool.{cases_eq}
 use Rattle.std.proofs.lemmas.List.{map-append, take_more, at_drop_more, length-map, get_or-map}
 use Rattle.std.proofs.lemmas.List.Elements.{filter-append}
-use Rattle.vlink.specs.declared.message.Message.{Message}
-use Rattle.vlink.specs.declared.message.Letter.{Letter}
-use Rattle.virtual_time.specs.Letters.{Letter as Signed, received_by}
-use Rattle.antimessages.specs.Letters.{message_rules, signed, Store}
+use Rattle.virtual_time.specs.Law.{received_by}
+use Rattle.antimessages.specs.Letters.{Store}
+use Rattle.vlink.specs.Order.{message_order}
+use Rattle.vlink.specs.Letters.{Letter}
 use Rattle.antimessages.specs.Mailing.{store_of, letters_in, room_in, letters_for, room_for, HasRoom}
 
 module _ {X Y : Type 0} (f : X → Y) where
@@ -29,59 +29,38 @@ module _ {X Y : Type 0} (f : X → Y) where
   get-at (y ∷ ys) zero x h e = ap (λ z. Some (f z)) (sym e)
   get-at (y ∷ ys) (suc i) x h e = get-at ys i x (omega arith) e
 
-  pub map-remove : (xs : List X) (i : ℕ) → map f (remove xs i) ≡ remove (map f xs) i
-  map-remove [] zero = refl
-  map-remove [] (suc i) = refl
-  map-remove (y ∷ ys) zero = refl
-  map-remove (y ∷ ys) (suc i) = ap (λ z. f y ∷ z) (map-remove ys i)
-
--- how many letters a process receives
-pub received-filter : (p : ℕ) (ls : List Letter) → received_by message_rules p (map signed ls) ≡ map signed (filter (λ l. l.message.receiver == p) ls)
-received-filter p [] = refl
-received-filter p (l ∷ ls) = go (l.message.receiver == p) (received-filter p ls)
-  where
-    go : (b : Bool) → received_by message_rules p (map signed ls) ≡ map signed (filter (λ l. l.message.receiver == p) ls) →
-        cond b (signed l ∷ received_by message_rules p (map signed ls)) (received_by message_rules p (map signed ls))
-        ≡ map signed (cond b (l ∷ filter (λ l. l.message.receiver == p) ls) (filter (λ l. l.message.receiver == p) ls))
-    go true e = ap (λ z. signed l ∷ z) e
-    go false e = e
-
 -- the letter at a place: those before it and it, and it and those behind
 module _ (p : ℕ) (ls : List Letter) (i : ℕ) (l : Letter) (h : i < length ls) (e : l ≡ get_or ls i l) where
-  pub received-more : received_by message_rules p (map signed (take (i + 1) ls))
-      ≡ received_by message_rules p (map signed (take i ls)) ++ cond (l.message.receiver == p) (signed l ∷ []) []
+  pub received-more : received_by message_order p (take (i + 1) ls)
+      ≡ received_by message_order p (take i ls) ++ cond (l.message.receiver == p) (l ∷ []) []
   received-more =
-      ap (λ z. received_by message_rules p (map signed z)) (take_more ls i l h ∙ ap (λ z. take i ls ++ z ∷ []) (sym e)) ∙
-      (ap (received_by message_rules p) (map-append signed (take i ls) (l ∷ [])) ∙
-      filter-append (λ (x : Signed Message). x.message.receiver == p) (map signed (take i ls)) (signed l ∷ []))
+      ap (λ z. received_by message_order p z) (take_more ls i l h ∙ ap (λ z. take i ls ++ z ∷ []) (sym e)) ∙
+      filter-append (λ (x : Letter). x.message.receiver == p) (take i ls) (l ∷ [])
 
-  pub received-rest : received_by message_rules p (map signed (drop i ls))
-      ≡ cond (l.message.receiver == p) (signed l ∷ received_by message_rules p (map signed (drop (i + 1) ls))) (received_by message_rules p (map signed (drop (i + 1) ls)))
-  received-rest = at_drop_more (λ z. received_by message_rules p (map signed z)) ls i l h ∙
-      ap (λ z. received_by message_rules p (map signed (z ∷ drop (i + 1) ls))) (sym e)
+  pub received-rest : received_by message_order p (drop i ls)
+      ≡ cond (l.message.receiver == p) (l ∷ received_by message_order p (drop (i + 1) ls)) (received_by message_order p (drop (i + 1) ls))
+  received-rest = at_drop_more (λ z. received_by message_order p z) ls i l h ∙
+      ap (λ z. received_by message_order p (z ∷ drop (i + 1) ls)) (sym e)
 
 -- each letter of a list has one of n receivers
 pub receiver-within : (ls : List Letter) (n : ℕ) → All (λ l. l.message.receiver < n) ls → (i : ℕ) (l : Letter) → i < length ls → l ≡ get_or ls i l → l.message.receiver < n
 receiver-within ls n all i l h e = subst (λ x. x.message.receiver < n) (sym e) (all i l h)
 
 -- where each letter has one of n receivers, no other process receives any
-pub received-none : (ls : List Letter) (n p : ℕ) → All (λ l. l.message.receiver < n) ls → n ≤ p → received_by message_rules p (map signed ls) ≡ []
+pub received-none : (ls : List Letter) (n p : ℕ) → All (λ l. l.message.receiver < n) ls → n ≤ p → received_by message_order p ls ≡ []
 received-none [] n p all h = refl
 received-none (l ∷ ls) n p all h =
     let other : l.message.receiver ≡ p → ⊥ = λ e. let k = all 0 l (omega arith) in omega arith in
     rw (ne_eqb l.message.receiver p other) (received-none ls n p (λ k d inside. all (suc k) d (omega arith)) h)
 
 -- what is said of the receivers of letters, in the words of the law and in those of the code
-pub receivers-inside : (ls now : List Letter) (seen : List (Signed Message)) (boxes : List (VecDeque Letter Global)) (mail : List Store) →
-    now ≡ ls → map signed ls ≡ seen → map store_of boxes ≡ mail → All (λ l. l.message.receiver < length mail) seen → All (λ l. l.message.receiver < length boxes) now
-receivers-inside ls now seen boxes mail e s m all = λ k d h.
-    let inside : k < length (map signed now) = let a = length-map now signed in omega arith in
+pub receivers-inside : (ls now : List Letter) (seen : List Letter) (boxes : List (VecDeque Letter Global)) (mail : List Store) →
+    now ≡ ls → ls ≡ seen → map store_of boxes ≡ mail → All (λ l. l.message.receiver < length mail) seen → All (λ l. l.message.receiver < length boxes) now
+receivers-inside ls now seen boxes mail e s m all =
     let b : length mail ≡ length boxes = ap length (sym m) ∙ length-map boxes store_of in
-    let same : seen ≡ map signed now = sym s ∙ ap (map signed) (sym e) in
-    let P : Signed Message → Type 0 = λ l. l.message.receiver < length boxes in
-    subst P (get_or-map signed now k d (signed d) (let a = length-map now signed in omega arith))
-    (subst (λ z. (get_or z k (signed d)).message.receiver < length boxes) same
-    (subst (λ n. (get_or seen k (signed d)).message.receiver < n) b (all k (signed d) (subst (λ z. k < length z) (sym same) inside))))
+    let same : seen ≡ now = sym s ∙ sym e in
+    subst (λ (n : ℕ). All (λ (l : Letter). l.message.receiver < n) now) b
+    (subst (λ (z : List Letter). All (λ (l : Letter). l.message.receiver < length mail) z) same all)
 
 -- letters that are all for one of no processes are none
 pub for-none : (ls : List Letter) (n : ℕ) → n ≡ 0 → All (λ l. l.message.receiver < n) ls → ls ≡ []
@@ -90,13 +69,13 @@ for-none (l ∷ ls) n e all = absurd (let h = all 0 l (omega arith) in omega ari
 
 -- one box is another one now
 module _ (boxes : List (VecDeque Letter Global)) (i : ℕ) (old new : VecDeque Letter Global) (h : i < length boxes) (e : old ≡ get_or boxes i old) where
-  pub old-letters : letters_for i (map store_of boxes) ≡ map signed old.items
+  pub old-letters : letters_for i (map store_of boxes) ≡ old.items
   old-letters = ap letters_in (get-at store_of boxes i old h e)
 
   pub old-room : room_for i (map store_of boxes) ≡ deque_capacity old - deque_len old
   old-room = ap room_in (get-at store_of boxes i old h e)
 
-  pub new-letters : letters_for i (map store_of (set boxes i new)) ≡ map signed new.items
+  pub new-letters : letters_for i (map store_of (set boxes i new)) ≡ new.items
   new-letters = ap letters_in (get-here store_of boxes i new h)
 
   pub new-room : room_for i (map store_of (set boxes i new)) ≡ deque_capacity new - deque_len new
@@ -111,7 +90,7 @@ module _ (boxes : List (VecDeque Letter Global)) (i : ℕ) (old new : VecDeque L
   -- the letters stay, in more room or less
   pub same-letters : new.items ≡ old.items → (p : ℕ) → letters_for p (map store_of (set boxes i new)) ≡ letters_for p (map store_of boxes)
   same-letters k p = elim (cases_eq p i) [
-    | inl a ↦ ap (λ z. letters_for z (map store_of (set boxes i new))) a ∙ (new-letters ∙ (ap (map signed) k ∙ (sym old-letters ∙ ap (λ z. letters_for z (map store_of boxes)) (sym a))))
+    | inl a ↦ ap (λ z. letters_for z (map store_of (set boxes i new))) a ∙ (new-letters ∙ (k ∙ (sym old-letters ∙ ap (λ z. letters_for z (map store_of boxes)) (sym a))))
     | inr n ↦ other-letters p n
   ]
 
@@ -123,12 +102,11 @@ module _ (boxes : List (VecDeque Letter Global)) (i : ℕ) (old new : VecDeque L
 
   -- this process has room for all letters that it receives, as those before it
   pub reserve-next : (outbox : List Letter) → deque_len new + length (filter (λ x. x.message.receiver == i) outbox) ≤ deque_capacity new →
-      ((p : ℕ) → p < i → length (received_by message_rules p (map signed outbox)) ≤ room_for p (map store_of boxes)) →
-      (p : ℕ) → p < i + 1 → length (received_by message_rules p (map signed outbox)) ≤ room_for p (map store_of (set boxes i new))
+      ((p : ℕ) → p < i → length (received_by message_order p outbox) ≤ room_for p (map store_of boxes)) →
+      (p : ℕ) → p < i + 1 → length (received_by message_order p outbox) ≤ room_for p (map store_of (set boxes i new))
   reserve-next outbox fits room p below = elim (cases_eq p i) [
     | inl a ↦
-        let x = ap (λ z. length (received_by message_rules z (map signed outbox))) a in
-        let y = ap length (received-filter i outbox) ∙ length-map (filter (λ x. x.message.receiver == i) outbox) signed in
+        let x = ap (λ z. length (received_by message_order z outbox)) a in
         let z = ap (λ z. room_for z (map store_of (set boxes i new))) a ∙ new-room in
         omega arith
     | inr n ↦ let x = other-room p n in let y = room p (omega arith) in omega arith
@@ -136,59 +114,58 @@ module _ (boxes : List (VecDeque Letter Global)) (i : ℕ) (old new : VecDeque L
 
   -- a growth is refused only where this process has too little room
   pub refused-next : (outbox : List Letter) → deque_capacity old < deque_len old + length (filter (λ x. x.message.receiver == i) outbox) →
-      HasRoom (map store_of boxes) (map signed outbox) → ⊥
+      HasRoom (map store_of boxes) outbox → ⊥
   refused-next outbox full room =
       let x = room i in
       let fits = old.small.1 in
       let y = old-room in
-      let a = ap length (received-filter i outbox) ∙ length-map (filter (λ x. x.message.receiver == i) outbox) signed in
       omega arith
 
   -- one letter more at the back of its receiver's mail, the one at this place of the outbox
   module _ (outbox : List Letter) (k : ℕ) (l : Letter) (within : k < length outbox) (there : l ≡ get_or outbox k l) (mine : i ≡ l.message.receiver) where
     -- it needs room, and so there is room
-    pub room-needed : HasRoom (map store_of boxes) (map signed (drop k outbox)) → deque_len old < deque_capacity old
+    pub room-needed : HasRoom (map store_of boxes) (drop k outbox) → deque_len old < deque_capacity old
     room-needed room =
         let a = room i in
         let b = old-room in
-        let c : received_by message_rules i (map signed (drop k outbox)) ≡ signed l ∷ received_by message_rules i (map signed (drop (k + 1) outbox)) =
+        let c : received_by message_order i (drop k outbox) ≡ l ∷ received_by message_order i (drop (k + 1) outbox) =
         received-rest i outbox k l within there ∙
-        ap (λ z. cond z (signed l ∷ received_by message_rules i (map signed (drop (k + 1) outbox))) (received_by message_rules i (map signed (drop (k + 1) outbox)))) (eq-eqb _ _ (sym mine)) in
+        ap (λ z. cond z (l ∷ received_by message_order i (drop (k + 1) outbox)) (received_by message_order i (drop (k + 1) outbox))) (eq-eqb _ _ (sym mine)) in
         let d = ap length c in
         omega arith
 
     pub put-letters : (first : List (VecDeque Letter Global)) → new.items ≡ old.items ++ l ∷ [] →
-        ((p : ℕ) → letters_for p (map store_of boxes) ≡ letters_for p (map store_of first) ++ received_by message_rules p (map signed (take k outbox))) →
-        (p : ℕ) → letters_for p (map store_of (set boxes i new)) ≡ letters_for p (map store_of first) ++ received_by message_rules p (map signed (take (k + 1) outbox))
+        ((p : ℕ) → letters_for p (map store_of boxes) ≡ letters_for p (map store_of first) ++ received_by message_order p (take k outbox)) →
+        (p : ℕ) → letters_for p (map store_of (set boxes i new)) ≡ letters_for p (map store_of first) ++ received_by message_order p (take (k + 1) outbox)
     put-letters first push put p = go (cases_eq p i)
       where
-        more : (b : Bool) → (l.message.receiver == p) ≡ b → letters_for p (map store_of first) ++ received_by message_rules p (map signed (take (k + 1) outbox))
-            ≡ (letters_for p (map store_of first) ++ received_by message_rules p (map signed (take k outbox))) ++ cond b (signed l ∷ []) []
+        more : (b : Bool) → (l.message.receiver == p) ≡ b → letters_for p (map store_of first) ++ received_by message_order p (take (k + 1) outbox)
+            ≡ (letters_for p (map store_of first) ++ received_by message_order p (take k outbox)) ++ cond b (l ∷ []) []
         more b e =
             ap (λ z. letters_for p (map store_of first) ++ z) (received-more p outbox k l within there ∙
-            ap (λ z. received_by message_rules p (map signed (take k outbox)) ++ cond z (signed l ∷ []) []) e) ∙
-            sym (append_assoc (letters_for p (map store_of first)) (received_by message_rules p (map signed (take k outbox))) (cond b (signed l ∷ []) []))
+            ap (λ z. received_by message_order p (take k outbox) ++ cond z (l ∷ []) []) e) ∙
+            sym (append_assoc (letters_for p (map store_of first)) (received_by message_order p (take k outbox)) (cond b (l ∷ []) []))
 
-        go : (p ≡ i) ⊎ (p ≡ i → ⊥) → letters_for p (map store_of (set boxes i new)) ≡ letters_for p (map store_of first) ++ received_by message_rules p (map signed (take (k + 1) outbox))
+        go : (p ≡ i) ⊎ (p ≡ i → ⊥) → letters_for p (map store_of (set boxes i new)) ≡ letters_for p (map store_of first) ++ received_by message_order p (take (k + 1) outbox)
         go (inl a) =
-            ap (λ z. letters_for z (map store_of (set boxes i new))) a ∙ (new-letters ∙ (ap (map signed) push ∙ (map-append signed old.items (l ∷ []) ∙
-            (ap (λ z. z ++ signed l ∷ []) (sym old-letters ∙ (ap (λ z. letters_for z (map store_of boxes)) (sym a) ∙ put p)) ∙ sym (more true (eq-eqb _ _ (sym mine ∙ sym a)))))))
+            ap (λ z. letters_for z (map store_of (set boxes i new))) a ∙ (new-letters ∙ (push ∙
+            (ap (λ z. z ++ l ∷ []) (sym old-letters ∙ (ap (λ z. letters_for z (map store_of boxes)) (sym a) ∙ put p)) ∙ sym (more true (eq-eqb _ _ (sym mine ∙ sym a))))))
         go (inr n) =
             other-letters p n ∙ (put p ∙ (sym (append-nil _) ∙ sym (more false (ne_eqb _ _ (λ e. n (sym e ∙ sym mine))))))
 
     pub put-room : deque_len new ≡ deque_len old + 1 → deque_capacity new ≡ deque_capacity old →
-        HasRoom (map store_of boxes) (map signed (drop k outbox)) → HasRoom (map store_of (set boxes i new)) (map signed (drop (k + 1) outbox))
+        HasRoom (map store_of boxes) (drop k outbox) → HasRoom (map store_of (set boxes i new)) (drop (k + 1) outbox)
     put-room n c room p = go (cases_eq p i)
       where
         rest : ℕ
-        rest = length (received_by message_rules p (map signed (drop (k + 1) outbox)))
+        rest = length (received_by message_order p (drop (k + 1) outbox))
 
-        split : (b : Bool) → (l.message.receiver == p) ≡ b → length (received_by message_rules p (map signed (drop k outbox)))
-            ≡ length (cond b (signed l ∷ received_by message_rules p (map signed (drop (k + 1) outbox))) (received_by message_rules p (map signed (drop (k + 1) outbox))))
+        split : (b : Bool) → (l.message.receiver == p) ≡ b → length (received_by message_order p (drop k outbox))
+            ≡ length (cond b (l ∷ received_by message_order p (drop (k + 1) outbox)) (received_by message_order p (drop (k + 1) outbox)))
         split b e = ap length (received-rest p outbox k l within there ∙
-            ap (λ z. cond z (signed l ∷ received_by message_rules p (map signed (drop (k + 1) outbox))) (received_by message_rules p (map signed (drop (k + 1) outbox)))) e)
+            ap (λ z. cond z (l ∷ received_by message_order p (drop (k + 1) outbox)) (received_by message_order p (drop (k + 1) outbox))) e)
 
-        go : (p ≡ i) ⊎ (p ≡ i → ⊥) → length (received_by message_rules p (map signed (drop (k + 1) outbox))) ≤ room_for p (map store_of (set boxes i new))
+        go : (p ≡ i) ⊎ (p ≡ i → ⊥) → length (received_by message_order p (drop (k + 1) outbox)) ≤ room_for p (map store_of (set boxes i new))
         go (inl a) =
             let s = split true (eq-eqb _ _ (sym mine ∙ sym a)) in
             let x = room p in
@@ -204,24 +181,24 @@ module _ (boxes : List (VecDeque Letter Global)) (i : ℕ) (old new : VecDeque L
     -- the receiver of this letter has room for all that it receives, as those of the letters before it
     pub reserve-room : deque_len new ≡ deque_len old → deque_capacity old ≤ deque_capacity new →
         deque_len new + length (filter (λ x. x.message.receiver == l.message.receiver) outbox) ≤ deque_capacity new →
-        ((p : ℕ) → 0 < length (received_by message_rules p (map signed (take k outbox))) → length (received_by message_rules p (map signed outbox)) ≤ room_for p (map store_of boxes)) →
-        (p : ℕ) → 0 < length (received_by message_rules p (map signed (take (k + 1) outbox))) →
-        length (received_by message_rules p (map signed outbox)) ≤ room_for p (map store_of (set boxes i new))
+        ((p : ℕ) → 0 < length (received_by message_order p (take k outbox)) → length (received_by message_order p outbox) ≤ room_for p (map store_of boxes)) →
+        (p : ℕ) → 0 < length (received_by message_order p (take (k + 1) outbox)) →
+        length (received_by message_order p outbox) ≤ room_for p (map store_of (set boxes i new))
     reserve-room n c fits room p some = go (cases_eq p i)
       where
-        all : length (received_by message_rules l.message.receiver (map signed outbox)) ≡ length (filter (λ x. x.message.receiver == l.message.receiver) outbox)
-        all = ap length (received-filter l.message.receiver outbox) ∙ length-map (filter (λ x. x.message.receiver == l.message.receiver) outbox) signed
+        all : length (received_by message_order l.message.receiver outbox) ≡ length (filter (λ x. x.message.receiver == l.message.receiver) outbox)
+        all = refl
 
-        go : (p ≡ i) ⊎ (p ≡ i → ⊥) → length (received_by message_rules p (map signed outbox)) ≤ room_for p (map store_of (set boxes i new))
+        go : (p ≡ i) ⊎ (p ≡ i → ⊥) → length (received_by message_order p outbox) ≤ room_for p (map store_of (set boxes i new))
         go (inl a) =
-            let x = ap (λ z. length (received_by message_rules z (map signed outbox))) (a ∙ mine) in
+            let x = ap (λ z. length (received_by message_order z outbox)) (a ∙ mine) in
             let y = all in
             let z = ap (λ z. room_for z (map store_of (set boxes i new))) a ∙ new-room in
             omega arith
         go (inr m) =
-            let e : received_by message_rules p (map signed (take (k + 1) outbox)) ≡ received_by message_rules p (map signed (take k outbox)) =
+            let e : received_by message_order p (take (k + 1) outbox) ≡ received_by message_order p (take k outbox) =
             received-more p outbox k l within there ∙
-            (ap (λ z. received_by message_rules p (map signed (take k outbox)) ++ cond z (signed l ∷ []) []) (ne_eqb _ _ (λ e. m (sym e ∙ sym mine))) ∙ append-nil _) in
+            (ap (λ z. received_by message_order p (take k outbox) ++ cond z (l ∷ []) []) (ne_eqb _ _ (λ e. m (sym e ∙ sym mine))) ∙ append-nil _) in
             let x = room p (subst (λ z. 0 < length z) e some) in
             let y = other-room p m in
             omega arith

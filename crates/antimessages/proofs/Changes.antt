@@ -5,15 +5,12 @@ use Rattle.std.specs.Option.{MatchOption}
 use Rattle.std.proofs.lemmas.Bool.{cases_lt, lt-ltb, ltb-true, false_from_ne_true}
 use Rattle.std.proofs.lemmas.Int.{ints}
 use Rattle.vlink.specs.declared.message.Message.{Message}
-use Rattle.vlink.specs.declared.message.Letter.{Letter}
-use Rattle.vlink.specs.declared.message.Sign.{Sign}
-use Rattle.vlink.specs.declared.message.Sign.TheVariants.{Plus, Minus}
+use Rattle.vlink.specs.Letters.{Letter}
+use Rattle.virtual_time.specs.declared.letter.Sign.{Sign}
+use Rattle.virtual_time.specs.declared.letter.Sign.TheVariants.{Plus, Minus}
 use Rattle.antimessages.specs.Occurrences.{count_with}
-use Rattle.virtual_time.specs.Rules.{Rules, IsOrder}
-use Rattle.virtual_time.specs.Lists.{same}
-use Rattle.virtual_time.specs.Letters.{Letter as Signed, pluses, minuses, is_present}
+use Rattle.virtual_time.specs.Law.{Order, IsOrder, same, pluses, minuses, is_present}
 use Rattle.virtual_time.proofs.Order.{same-refl}
-use Rattle.antimessages.specs.Letters.{signed}
 use Rattle.antimessages.specs.Counting.{change_by, change_between, signed_count}
 use Rattle.antimessages.specs.declared.tally.Change.TheVariants.{BecamePresent, BecameAbsent, Same}
 
@@ -39,41 +36,41 @@ minus-other p q h = elim (cases_lt q p) [
   | inr less ↦ rw (not-lt q p less, not-lt (1 + q) (0 + p) (omega arith)) refl
 ]
 
-module _ {S K N : Type 0} (r : Rules Message S K N) (O : IsOrder r) (l : Letter) (tally : List (Signed Message)) where
-  one : same r l.message l.message ≡ true
-  one = same-refl r O l.message
+module _ (order : Order Message) (O : IsOrder order) (l : Letter) (tally : List Letter) where
+  one : same order l.message l.message ≡ true
+  one = same-refl order O l.message
 
-  pub change-plus_none : l.sign ≡ Plus → signed_count r l.message tally ≡ pos 0 → change_by r (signed l) tally ≡ BecamePresent
+  pub change-plus_none : l.sign ≡ Plus → signed_count order l.message tally ≡ pos 0 → change_by order l tally ≡ BecamePresent
   unfolding is_present
-  change-plus_none e h = rw (e, one) (plus-none (pluses r l.message tally) (minuses r l.message tally) h)
+  change-plus_none e h = rw (e, one) (plus-none (pluses order l.message tally) (minuses order l.message tally) h)
 
-  pub change-plus_some : l.sign ≡ Plus → signed_count r l.message tally ≢ pos 0 → change_by r (signed l) tally ≡ Same
+  pub change-plus_some : l.sign ≡ Plus → signed_count order l.message tally ≢ pos 0 → change_by order l tally ≡ Same
   unfolding is_present
-  change-plus_some e h = rw (e, one) (plus-some (pluses r l.message tally) (minuses r l.message tally) h)
+  change-plus_some e h = rw (e, one) (plus-some (pluses order l.message tally) (minuses order l.message tally) h)
 
-  pub change-minus_one : l.sign ≡ Minus → signed_count r l.message tally ≡ pos 1 → change_by r (signed l) tally ≡ BecameAbsent
+  pub change-minus_one : l.sign ≡ Minus → signed_count order l.message tally ≡ pos 1 → change_by order l tally ≡ BecameAbsent
   unfolding is_present
-  change-minus_one e h = rw (e, one) (minus-one (pluses r l.message tally) (minuses r l.message tally) h)
+  change-minus_one e h = rw (e, one) (minus-one (pluses order l.message tally) (minuses order l.message tally) h)
 
-  pub change-minus_other : l.sign ≡ Minus → signed_count r l.message tally ≢ pos 1 → change_by r (signed l) tally ≡ Same
+  pub change-minus_other : l.sign ≡ Minus → signed_count order l.message tally ≢ pos 1 → change_by order l tally ≡ Same
   unfolding is_present
-  change-minus_other e h = rw (e, one) (minus-other (pluses r l.message tally) (minuses r l.message tally) h)
+  change-minus_other e h = rw (e, one) (minus-other (pluses order l.message tally) (minuses order l.message tally) h)
 
   -- a letter by the last ordinal and the sign of those of its message that count
   abbrev pub Tells : Option (ℕ × Sign) → Type 0
-  Tells last = MatchOption last (signed_count r l.message tally ≡ pos 0) (λ x. signed_count r l.message tally ≡ count_with x.1 (x.0 + 1))
+  Tells last = MatchOption last (signed_count order l.message tally ≡ pos 0) (λ x. signed_count order l.message tally ≡ count_with x.1 (x.0 + 1))
 
-  pub change-first : l.sign ≡ Plus → Tells None → BecamePresent ≡ change_by r (signed l) tally
+  pub change-first : l.sign ≡ Plus → Tells None → BecamePresent ≡ change_by order l tally
   change-first e t = sym (change-plus_none e t)
 
-  pub change-next : (x : ℕ × Sign) → l.sign ≡ Plus → Tells (Some x) → Same ≡ change_by r (signed l) tally
+  pub change-next : (x : ℕ × Sign) → l.sign ≡ Plus → Tells (Some x) → Same ≡ change_by order l tally
   change-next (k, Plus) e t = sym (change-plus_some e (λ z. omega (arith, ints)))
   change-next (k, Minus) e t = sym (change-plus_some e (λ z. omega (arith, ints)))
 
-  pub change-only : (last : Option (ℕ × Sign)) → l.sign ≡ Minus → last ≡ Some (0, Plus) → Tells last → BecameAbsent ≡ change_by r (signed l) tally
+  pub change-only : (last : Option (ℕ × Sign)) → l.sign ≡ Minus → last ≡ Some (0, Plus) → Tells last → BecameAbsent ≡ change_by order l tally
   change-only last e is t = let one = subst Tells is t in sym (change-minus_one e one)
 
-  pub change-not_only : (last : Option (ℕ × Sign)) → l.sign ≡ Minus → (last ≡ Some (0, Plus) → ⊥) → Tells last → Same ≡ change_by r (signed l) tally
+  pub change-not_only : (last : Option (ℕ × Sign)) → l.sign ≡ Minus → (last ≡ Some (0, Plus) → ⊥) → Tells last → Same ≡ change_by order l tally
   change-not_only None e n t = sym (change-minus_other e (λ z. omega (arith, ints)))
   change-not_only (Some (k, Minus)) e n t = sym (change-minus_other e (λ z. omega (arith, ints)))
   change-not_only (Some (zero, Plus)) e n t = absurd (n refl)

@@ -9,16 +9,13 @@ use Rattle.std.specs.BTreeMap.{is_at, insert_entry}
 use Rattle.std.proofs.lemmas.Bool.{both_ways, false_from_ne_true, cases_lt, lt-ltb, ltb-true}
 use Rattle.std.proofs.lemmas.Int.{ints}
 use Rattle.vlink.specs.declared.message.Message.{Message}
-use Rattle.vlink.specs.declared.message.Sign.{Sign}
-use Rattle.vlink.specs.declared.message.Sign.TheVariants.{Plus, Minus}
-use Rattle.vlink.specs.Order.{message_cmp}
-use Rattle.virtual_time.specs.Rules.{IsOrder}
-use Rattle.virtual_time.specs.Lists.{one_if, same}
-use Rattle.virtual_time.specs.Letters.{pluses, minuses}
+use Rattle.virtual_time.specs.declared.letter.Sign.{Sign}
+use Rattle.virtual_time.specs.declared.letter.Sign.TheVariants.{Plus, Minus}
+use Rattle.vlink.specs.Order.{message_cmp, message_order}
+use Rattle.virtual_time.specs.Law.{IsOrder, one_if, same, pluses, minuses, is_plus}
 use Rattle.virtual_time.proofs.Order.{same-refl, same_cases}
 use Rattle.virtual_time.proofs.Letters.{counts-other}
 use Rattle.antimessages.specs.declared.occurrence.Occurrence.{Occurrence}
-use Rattle.antimessages.specs.Letters.{message_rules, is_plus}
 use Rattle.antimessages.specs.Counting.{signed_count}
 use Rattle.antimessages.specs.Occurrences.{occurrence_of, occurrence_cmp, letter_at, letters_of, count_with, sign_at, AreCounted}
 
@@ -89,11 +86,11 @@ fewer Minus p n q o k e f h = omega (arith, ints)
 
 -- the letters of fs are those of es and this one
 pub record IsOneMore (e : Occurrence × Sign) (es fs : List (Occurrence × Sign)) : Type 0 where
-  pub pluses_are : (m : Message) → pluses message_rules m (letters_of fs) ≡ pluses message_rules m (letter_at e ∷ letters_of es)
-  pub minuses_are : (m : Message) → minuses message_rules m (letters_of fs) ≡ minuses message_rules m (letter_at e ∷ letters_of es)
+  pub pluses_are : (m : Message) → pluses message_order m (letters_of fs) ≡ pluses message_order m (letter_at e ∷ letters_of es)
+  pub minuses_are : (m : Message) → minuses message_order m (letters_of fs) ≡ minuses message_order m (letter_at e ∷ letters_of es)
 
 pub counts-more : (e : Occurrence × Sign) (es fs : List (Occurrence × Sign)) → IsOneMore e es fs → (m : Message) →
-    signed_count message_rules m (letters_of fs) ≡ signed_count message_rules m (letter_at e ∷ letters_of es)
+    signed_count message_order m (letters_of fs) ≡ signed_count message_order m (letter_at e ∷ letters_of es)
 counts-more e es fs h m = λ i. pos (h.pluses_are m i) -ℤ pos (h.minuses_are m i)
 
 pub insert-more : (es : List (Occurrence × Sign)) (q : Occurrence) (s : Sign) → lookup (is_at (occurrence_cmp q)) es ≡ None →
@@ -110,15 +107,15 @@ insert-more (e ∷ es) q s h = go (occurrence_cmp q e.0) h (λ k. insert-more es
         let a = ih k in
         record { pluses_are = λ m. let b = a.pluses_are m in omega arith; minuses_are = λ m. let b = a.minuses_are m in omega arith }
 
-module _ (T : IsTotalOrder message_cmp) (X : (a b : Message) → message_cmp a b ≡ Equal → a ≡ b) (O : IsOrder message_rules) where
+module _ (T : IsTotalOrder message_cmp) (X : (a b : Message) → message_cmp a b ≡ Equal → a ≡ b) (O : IsOrder message_order) where
   at-same : (m : Message) (j k : ℕ) → is_at (occurrence_cmp (occurrence_of m j)) (occurrence_of m k) ≡ (j == k)
   at-same m j k = rw (tied_itself T m) (cmp-eqb j k)
 
-  at-other : (m x : Message) (k j : ℕ) → same message_rules x m ≡ false → is_at (occurrence_cmp (occurrence_of m k)) (occurrence_of x j) ≡ false
+  at-other : (m x : Message) (k j : ℕ) → same message_order x m ≡ false → is_at (occurrence_cmp (occurrence_of m k)) (occurrence_of x j) ≡ false
   at-other m x k j n =
       false_from_ne_true _ (λ t.
       let e : m ≡ x = X m x (first-equal (message_cmp m x) (nat_cmp k j) t) in
-      both_ways _ (subst (λ y. same message_rules y m ≡ false) (sym e) n) (same-refl message_rules O m))
+      both_ways _ (subst (λ y. same message_order y m ≡ false) (sym e) n) (same-refl message_order O m))
 
   pub remove-more : (es : List (Occurrence × Sign)) (q : Occurrence) (s : Sign) → lookup (is_at (occurrence_cmp q)) es ≡ Some s →
       IsOneMore (q, s) (remove_entry (is_at (occurrence_cmp q)) es) es
@@ -132,34 +129,34 @@ module _ (T : IsTotalOrder message_cmp) (X : (a b : Message) → message_cmp a b
           let t : e.1 ≡ s = cc in
           let u : q.message ≡ e.0.message = X q.message e.0.message (first-equal _ (nat_cmp q.ordinal e.0.ordinal) w) in
           record {
-            pluses_are = λ m i. one_if (is_plus (t i) && same message_rules m (sym u i)) + pluses message_rules m (letters_of es);
-            minuses_are = λ m i. one_if (not (is_plus (t i)) && same message_rules m (sym u i)) + minuses message_rules m (letters_of es);
+            pluses_are = λ m i. one_if (is_plus (t i) && same message_order m (sym u i)) + pluses message_order m (letters_of es);
+            minuses_are = λ m i. one_if (not (is_plus (t i)) && same message_order m (sym u i)) + minuses message_order m (letters_of es);
           }
       go false w k ih =
           let a = ih k in
           record { pluses_are = λ m. let b = a.pluses_are m in omega arith; minuses_are = λ m. let b = a.minuses_are m in omega arith }
 
   module _ (m : Message) (k : ℕ) (s : Sign) (es fs : List (Occurrence × Sign)) where
-    own-pluses : IsOneMore (occurrence_of m k, s) es fs → pluses message_rules m (letters_of fs) ≡ one_if (is_plus s && true) + pluses message_rules m (letters_of es)
-    own-pluses h = h.pluses_are m ∙ ap (λ b. one_if (is_plus s && b) + pluses message_rules m (letters_of es)) (same-refl message_rules O m)
+    own-pluses : IsOneMore (occurrence_of m k, s) es fs → pluses message_order m (letters_of fs) ≡ one_if (is_plus s && true) + pluses message_order m (letters_of es)
+    own-pluses h = h.pluses_are m ∙ ap (λ b. one_if (is_plus s && b) + pluses message_order m (letters_of es)) (same-refl message_order O m)
 
-    own-minuses : IsOneMore (occurrence_of m k, s) es fs → minuses message_rules m (letters_of fs) ≡ one_if (not (is_plus s) && true) + minuses message_rules m (letters_of es)
-    own-minuses h = h.minuses_are m ∙ ap (λ b. one_if (not (is_plus s) && b) + minuses message_rules m (letters_of es)) (same-refl message_rules O m)
+    own-minuses : IsOneMore (occurrence_of m k, s) es fs → minuses message_order m (letters_of fs) ≡ one_if (not (is_plus s) && true) + minuses message_order m (letters_of es)
+    own-minuses h = h.minuses_are m ∙ ap (λ b. one_if (not (is_plus s) && b) + minuses message_order m (letters_of es)) (same-refl message_order O m)
 
-    other-signs : IsOneMore (occurrence_of m k, s) es fs → (x : Message) (j : ℕ) → same message_rules x m ≡ false →
-        sign_at (pluses message_rules x (letters_of fs)) (minuses message_rules x (letters_of fs)) j
-        ≡ sign_at (pluses message_rules x (letters_of es)) (minuses message_rules x (letters_of es)) j
+    other-signs : IsOneMore (occurrence_of m k, s) es fs → (x : Message) (j : ℕ) → same message_order x m ≡ false →
+        sign_at (pluses message_order x (letters_of fs)) (minuses message_order x (letters_of fs)) j
+        ≡ sign_at (pluses message_order x (letters_of es)) (minuses message_order x (letters_of es)) j
     other-signs h x j n =
-        let a = counts-other message_rules O x (letter_at (occurrence_of m k, s)) (letters_of es) n in
+        let a = counts-other message_order O x (letter_at (occurrence_of m k, s)) (letters_of es) n in
         let p = h.pluses_are x ∙ a.0 in
         let q = h.minuses_are x ∙ a.1 in
         λ i. sign_at (p i) (q i) j
 
-    pub put-counted : AreCounted es → signed_count message_rules m (letters_of es) ≡ count_with s k → IsOneMore (occurrence_of m k, s) es fs →
+    pub put-counted : AreCounted es → signed_count message_order m (letters_of es) ≡ count_with s k → IsOneMore (occurrence_of m k, s) es fs →
         ((q : Occurrence) → lookup (is_at (occurrence_cmp q)) fs ≡ cond (is_at (occurrence_cmp (occurrence_of m k)) q) (Some s) (lookup (is_at (occurrence_cmp q)) es)) → AreCounted fs
-    put-counted st c h u = record { signs = λ x j. go x j (same_cases message_rules O x m) }
+    put-counted st c h u = record { signs = λ x j. go x j (same_cases message_order O x m) }
       where
-        here : (j : ℕ) → lookup (is_at (occurrence_cmp (occurrence_of m j))) fs ≡ sign_at (pluses message_rules m (letters_of fs)) (minuses message_rules m (letters_of fs)) j
+        here : (j : ℕ) → lookup (is_at (occurrence_cmp (occurrence_of m j))) fs ≡ sign_at (pluses message_order m (letters_of fs)) (minuses message_order m (letters_of fs)) j
         here j =
             let a = more s _ _ _ _ k (own-pluses h) (own-minuses h) c in
             u (occurrence_of m j) ∙
@@ -167,19 +164,19 @@ module _ (T : IsTotalOrder message_cmp) (X : (a b : Message) → message_cmp a b
             (ap (λ o. cond (k == j) (Some s) o) (st.signs m j ∙ sign-count_with s _ _ k j c) ∙
             (next (Some s) k j ∙ sym (sign-count_with s _ _ (k + 1) j a))))
 
-        go : (x : Message) (j : ℕ) → (x ≡ m) ⊎ (same message_rules x m ≡ false) →
-            lookup (is_at (occurrence_cmp (occurrence_of x j))) fs ≡ sign_at (pluses message_rules x (letters_of fs)) (minuses message_rules x (letters_of fs)) j
-        go x j (inl e) = subst (λ y. lookup (is_at (occurrence_cmp (occurrence_of y j))) fs ≡ sign_at (pluses message_rules y (letters_of fs)) (minuses message_rules y (letters_of fs)) j) (sym e) (here j)
+        go : (x : Message) (j : ℕ) → (x ≡ m) ⊎ (same message_order x m ≡ false) →
+            lookup (is_at (occurrence_cmp (occurrence_of x j))) fs ≡ sign_at (pluses message_order x (letters_of fs)) (minuses message_order x (letters_of fs)) j
+        go x j (inl e) = subst (λ y. lookup (is_at (occurrence_cmp (occurrence_of y j))) fs ≡ sign_at (pluses message_order y (letters_of fs)) (minuses message_order y (letters_of fs)) j) (sym e) (here j)
         go x j (inr n) =
             u (occurrence_of x j) ∙
             (ap (λ b. cond b (Some s) (lookup (is_at (occurrence_cmp (occurrence_of x j))) es)) (at-other m x k j n) ∙
             (st.signs x j ∙ sym (other-signs h x j n)))
 
-    pub take-counted : AreCounted fs → signed_count message_rules m (letters_of fs) ≡ count_with s (k + 1) → IsOneMore (occurrence_of m k, s) es fs →
+    pub take-counted : AreCounted fs → signed_count message_order m (letters_of fs) ≡ count_with s (k + 1) → IsOneMore (occurrence_of m k, s) es fs →
         ((q : Occurrence) → lookup (is_at (occurrence_cmp q)) es ≡ cond (is_at (occurrence_cmp (occurrence_of m k)) q) None (lookup (is_at (occurrence_cmp q)) fs)) → AreCounted es
-    take-counted st c h u = record { signs = λ x j. go x j (same_cases message_rules O x m) }
+    take-counted st c h u = record { signs = λ x j. go x j (same_cases message_order O x m) }
       where
-        here : (j : ℕ) → lookup (is_at (occurrence_cmp (occurrence_of m j))) es ≡ sign_at (pluses message_rules m (letters_of es)) (minuses message_rules m (letters_of es)) j
+        here : (j : ℕ) → lookup (is_at (occurrence_cmp (occurrence_of m j))) es ≡ sign_at (pluses message_order m (letters_of es)) (minuses message_order m (letters_of es)) j
         here j =
             let a = fewer s _ _ _ _ k (own-pluses h) (own-minuses h) c in
             u (occurrence_of m j) ∙
@@ -187,16 +184,16 @@ module _ (T : IsTotalOrder message_cmp) (X : (a b : Message) → message_cmp a b
             (ap (λ o. cond (k == j) None o) (st.signs m j ∙ sign-count_with s _ _ (k + 1) j c) ∙
             (less (Some s) k j ∙ sym (sign-count_with s _ _ k j a))))
 
-        go : (x : Message) (j : ℕ) → (x ≡ m) ⊎ (same message_rules x m ≡ false) →
-            lookup (is_at (occurrence_cmp (occurrence_of x j))) es ≡ sign_at (pluses message_rules x (letters_of es)) (minuses message_rules x (letters_of es)) j
-        go x j (inl e) = subst (λ y. lookup (is_at (occurrence_cmp (occurrence_of y j))) es ≡ sign_at (pluses message_rules y (letters_of es)) (minuses message_rules y (letters_of es)) j) (sym e) (here j)
+        go : (x : Message) (j : ℕ) → (x ≡ m) ⊎ (same message_order x m ≡ false) →
+            lookup (is_at (occurrence_cmp (occurrence_of x j))) es ≡ sign_at (pluses message_order x (letters_of es)) (minuses message_order x (letters_of es)) j
+        go x j (inl e) = subst (λ y. lookup (is_at (occurrence_cmp (occurrence_of y j))) es ≡ sign_at (pluses message_order y (letters_of es)) (minuses message_order y (letters_of es)) j) (sym e) (here j)
         go x j (inr n) =
             u (occurrence_of x j) ∙
             (ap (λ b. cond b None (lookup (is_at (occurrence_cmp (occurrence_of x j))) fs)) (at-other m x k j n) ∙
             (st.signs x j ∙ other-signs h x j n))
 
-    pub nothing-on_top : AreCounted es → signed_count message_rules m (letters_of es) ≡ count_with s k → lookup (is_at (occurrence_cmp (occurrence_of m k))) es ≡ None
+    pub nothing-on_top : AreCounted es → signed_count message_order m (letters_of es) ≡ count_with s k → lookup (is_at (occurrence_cmp (occurrence_of m k))) es ≡ None
     nothing-on_top st c = st.signs m k ∙ (sign-count_with s _ _ k k c ∙ ap (λ b. cond b (Some s) None) (not-lt k k (λ t. omega arith)))
 
-    pub last-stands : AreCounted fs → signed_count message_rules m (letters_of fs) ≡ count_with s (k + 1) → lookup (is_at (occurrence_cmp (occurrence_of m k))) fs ≡ Some s
+    pub last-stands : AreCounted fs → signed_count message_order m (letters_of fs) ≡ count_with s (k + 1) → lookup (is_at (occurrence_cmp (occurrence_of m k))) fs ≡ Some s
     last-stands st c = st.signs m k ∙ (sign-count_with s _ _ (k + 1) k c ∙ ap (λ b. cond b (Some s) None) (lt-ltb k (k + 1) (omega arith)))

@@ -14,14 +14,12 @@ use Rattle.std.proofs.lemmas.Bool.{cases_lt, lt-ltb, ltb-true}
 use Rattle.std.proofs.lemmas.List.Kept.{IsStrictlySortedBy-filter}
 use Rattle.std.proofs.lemmas.Map.Entries.{place_from_lookup, lookup-filter-keys}
 use Rattle.vlink.specs.declared.message.Message.{Message}
-use Rattle.vlink.specs.declared.message.Sign.{Sign}
-use Rattle.vlink.specs.declared.message.Sign.TheVariants.{Plus, Minus}
-use Rattle.vlink.specs.Order.{message_cmp}
-use Rattle.virtual_time.specs.Rules.{IsOrder}
-use Rattle.virtual_time.specs.Letters.{IsPresent, pluses, minuses}
+use Rattle.virtual_time.specs.declared.letter.Sign.{Sign}
+use Rattle.virtual_time.specs.declared.letter.Sign.TheVariants.{Plus, Minus}
+use Rattle.vlink.specs.Order.{message_cmp, message_order}
+use Rattle.virtual_time.specs.Law.{IsOrder, IsPresent, pluses, minuses, is_plus}
 use Rattle.virtual_time.proofs.Order.{less-asym}
 use Rattle.antimessages.specs.declared.occurrence.Occurrence.{Occurrence}
-use Rattle.antimessages.specs.Letters.{message_rules, is_plus}
 use Rattle.antimessages.specs.Counting.{is_after, present_after}
 use Rattle.antimessages.specs.Occurrences.{occurrence_of, occurrence_cmp, letters_of, sign_at, behind, AreCounted}
 use Rattle.antimessages.proofs.After.{first_after-is, first_after-from}
@@ -126,7 +124,7 @@ present-plus p n h = rw (lt-ltb 0 (p - n) (omega arith)) refl
 
 -- an occurrence lies there where its message comes after that message
 lies-after : (newest : Option Message) (o : Occurrence) → o.ordinal ≤ 18446744073709551615 →
-    range_contains occurrence_cmp (behind newest) Unbounded o ≡ is_after message_rules newest o.message
+    range_contains occurrence_cmp (behind newest) Unbounded o ≡ is_after message_order newest o.message
 lies-after None o h = refl
 lies-after (Some m) o h = go (message_cmp m o.message) (nat_lt 18446744073709551615 o.ordinal) (18446744073709551615 == o.ordinal) refl
   where
@@ -137,7 +135,7 @@ lies-after (Some m) o h = go (message_cmp m o.message) (nat_lt 18446744073709551
     go Equal false true e = refl
     go Equal false false e = refl
 
-module _ (X : (a b : Message) → message_cmp a b ≡ Equal → a ≡ b) (O : IsOrder message_rules) (es : List (Occurrence × Sign)) (st : AreCounted es)
+module _ (X : (a b : Message) → message_cmp a b ≡ Equal → a ≡ b) (O : IsOrder message_order) (es : List (Occurrence × Sign)) (st : AreCounted es)
     (up : IsStrictlySortedBy occurrence_cmp (keys_of es)) (small : length es < 9223372036854775808) (newest : Option Message) where
   -- the entries there
   abbrev pub there : List (Occurrence × Sign)
@@ -159,7 +157,7 @@ module _ (X : (a b : Message) → message_cmp a b ≡ Equal → a ≡ b) (O : Is
     pub at : slice_get there place ≡ Some (key, Plus)
     pub own : x ≡ key.message
 
-  stands : (x : Message) → IsPresent message_rules (letters_of es) x → is_after message_rules newest x ≡ true → Stands x
+  stands : (x : Message) → IsPresent message_order (letters_of es) x → is_after message_order newest x ≡ true → Stands x
   stands x h a =
       let q = occurrence_of x 0 in
       let here : lookup (is_at (occurrence_cmp q)) es ≡ Some Plus = st.signs x 0 ∙ present-plus _ _ h in
@@ -179,7 +177,7 @@ module _ (X : (a b : Message) → message_cmp a b ≡ Equal → a ≡ b) (O : Is
       lies : (k : Occurrence) → is_at (occurrence_cmp (occurrence_of x 0)) k ≡ true → range_contains occurrence_cmp (behind newest) Unbounded k ≡ true
       lies k t =
           let zero_is : 0 ≡ k.ordinal = low 0 k.ordinal (ap is_eq (second-equal (message_cmp x k.message) (nat_cmp 0 k.ordinal) t)) in
-          lies-after newest k (omega arith) ∙ subst (λ m. is_after message_rules newest m ≡ true) (own-message x k t) a
+          lies-after newest k (omega arith) ∙ subst (λ m. is_after message_order newest m ≡ true) (own-message x k t) a
 
   plus-is : (s : Sign) → is_plus s ≡ true → s ≡ Plus
   plus-is Plus h = refl
@@ -191,10 +189,10 @@ module _ (X : (a b : Message) → message_cmp a b ≡ Equal → a ≡ b) (O : Is
     kept : (range_contains occurrence_cmp (behind newest) Unbounded e.0 ≡ true) × (lookup (is_at (occurrence_cmp e.0)) es ≡ Some e.1)
     kept = let k = kept-at (λ x. range_contains occurrence_cmp (behind newest) Unbounded x.0) es f.place e f.at in (k.0, at-place k.1 k.2)
 
-    sign : sign_at (pluses message_rules e.0.message (letters_of es)) (minuses message_rules e.0.message (letters_of es)) e.0.ordinal ≡ Some Plus
+    sign : sign_at (pluses message_order e.0.message (letters_of es)) (minuses message_order e.0.message (letters_of es)) e.0.ordinal ≡ Some Plus
     sign = sym (st.signs e.0.message e.0.ordinal) ∙ (kept.1 ∙ ap Some (plus-is e.1 f.passes))
 
-    not_before : (x : Message) → Stands x → message_rules.less x e.0.message ≡ false
+    not_before : (x : Message) → Stands x → message_order.less x e.0.message ≡ false
     not_before x s = elim (cases_lt s.place f.place) [
       | inl less ↦ let bad = f.none s.place (s.key, Plus) less s.at in cc
       | inr more ↦ elim (cases_lt f.place s.place) [
@@ -203,18 +201,18 @@ module _ (X : (a b : Message) → message_cmp a b ≡ Equal → a ≡ b) (O : Is
             let one : f.place ≡ s.place = omega arith in
             let both : Some e ≡ Some (s.key, Plus) = sym f.at ∙ (ap (slice_get there) one ∙ s.at) in
             let message : e.0.message ≡ x = (let k : e ≡ (s.key, Plus) = cc in ap (λ z. z.0.message) k) ∙ sym s.own in
-            subst (λ m. message_rules.less x m ≡ false) (sym message) (O.irreflexive x)
+            subst (λ m. message_order.less x m ≡ false) (sym message) (O.irreflexive x)
       ]
     ]
       where
         behind_it : (o : Ordering) → message_cmp e.0.message s.key.message ≡ o → ordering_then o (nat_cmp e.0.ordinal s.key.ordinal) ≡ Less →
-            message_rules.less x e.0.message ≡ false
-        behind_it Less w t = less-asym message_rules O e.0.message x (subst (λ m. message_rules.less e.0.message m ≡ true) (sym s.own) (ap is_lt w))
-        behind_it Equal w t = subst (λ m. message_rules.less x m ≡ false) (s.own ∙ sym (X e.0.message s.key.message w)) (O.irreflexive x)
+            message_order.less x e.0.message ≡ false
+        behind_it Less w t = less-asym message_order O e.0.message x (subst (λ m. message_order.less e.0.message m ≡ true) (sym s.own) (ap is_lt w))
+        behind_it Equal w t = subst (λ m. message_order.less x m ≡ false) (s.own ∙ sym (X e.0.message s.key.message w)) (O.irreflexive x)
         behind_it Greater w t = cc
 
-    pub found-first : present_after message_rules newest (letters_of es) ≡ Some e.0.message
-    found-first = first_after-from message_rules O newest (letters_of es) e.0.message (record {
+    pub found-first : present_after message_order newest (letters_of es) ≡ Some e.0.message
+    found-first = first_after-from message_order O newest (letters_of es) e.0.message (record {
       present = plus-present _ _ e.0.ordinal sign;
       after =
           let a = within Plus _ _ e.0.ordinal sign in
@@ -232,8 +230,8 @@ module _ (X : (a b : Message) → message_cmp a b ≡ Equal → a ≡ b) (O : Is
       go (x ∷ xs) h = let same : x ≡ e = cc in rw (subst (λ z. range_contains occurrence_cmp (behind newest) Unbounded z.0 ≡ true) (sym same) passes) (ap Some same)
 
   -- where the first entry of all has a plus and its message comes after, it tells the first present message
-  pub found-head : (o : Occurrence) (s : Sign) → slice_get es 0 ≡ Some (o, s) → is_plus s ≡ true → is_after message_rules newest o.message ≡ true →
-      lookup (is_at (occurrence_cmp o)) es ≡ Some s → present_after message_rules newest (letters_of es) ≡ Some o.message
+  pub found-head : (o : Occurrence) (s : Sign) → slice_get es 0 ≡ Some (o, s) → is_plus s ≡ true → is_after message_order newest o.message ≡ true →
+      lookup (is_at (occurrence_cmp o)) es ≡ Some s → present_after message_order newest (letters_of es) ≡ Some o.message
   found-head o s at plus after at-place =
       let low : o.ordinal ≤ 18446744073709551615 =
       let sign = sym (st.signs o.message o.ordinal) ∙ (at-place ∙ ap Some (plus-is s plus)) in
@@ -245,22 +243,22 @@ module _ (X : (a b : Message) → message_cmp a b ≡ Equal → a ≡ b) (O : Is
       (λ i is. at-place)
 
   -- no plus there
-  pub found-none : find (λ x. is_plus x.1) there ≡ None → present_after message_rules newest (letters_of es) ≡ None
-  found-none none = go (present_after message_rules newest (letters_of es)) refl
+  pub found-none : find (λ x. is_plus x.1) there ≡ None → present_after message_order newest (letters_of es) ≡ None
+  found-none none = go (present_after message_order newest (letters_of es)) refl
     where
-      go : (o : Option Message) → present_after message_rules newest (letters_of es) ≡ o → o ≡ None
+      go : (o : Option Message) → present_after message_order newest (letters_of es) ≡ o → o ≡ None
       go None e = refl
       go (Some m) e =
-          let f = first_after-is message_rules O newest (letters_of es) m e in
+          let f = first_after-is message_order O newest (letters_of es) m e in
           let s = stands m f.present f.after in
           let bad = none-passes (λ x. is_plus x.1) there none s.place (s.key, Plus) s.at in
           cc
 
   -- the first plus there tells the first present message
   pub found : ((i : ℕ) (k : Occurrence) (s : Sign) → slice_get es i ≡ Some (k, s) → lookup (is_at (occurrence_cmp k)) es ≡ Some s) →
-      option_map (λ x. x.0.message) (find (λ x. is_plus x.1) there) ≡ present_after message_rules newest (letters_of es)
+      option_map (λ x. x.0.message) (find (λ x. is_plus x.1) there) ≡ present_after message_order newest (letters_of es)
   found at-place = go (find (λ x. is_plus x.1) there) refl
     where
-      go : (o : Option (Occurrence × Sign)) → find (λ x. is_plus x.1) there ≡ o → option_map (λ x. x.0.message) o ≡ present_after message_rules newest (letters_of es)
+      go : (o : Option (Occurrence × Sign)) → find (λ x. is_plus x.1) there ≡ o → option_map (λ x. x.0.message) o ≡ present_after message_order newest (letters_of es)
       go None e = sym (found-none e)
       go (Some x) e = sym (found-first x (first-is (λ y. is_plus y.1) there x e) (λ i is. at-place i x.0 x.1 is))

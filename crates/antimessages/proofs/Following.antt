@@ -1,9 +1,8 @@
 -- The first present message after another one, once one letter more is counted.
 use Rattle.std.proofs.Common.{◌≡◌, inl, inr, Bool, true, false, cond, List, ◌∷◌, Option, Some, None, pos, ◌-ℤ◌, refl, sym, ◌∙◌, subst}
 use Rattle.std.proofs.lemmas.Bool.{both_ways, cases_Bool, false_from_ne_true}
-use Rattle.virtual_time.specs.Rules.{Rules, IsOrder}
-use Rattle.virtual_time.specs.Lists.{same, lesser}
-use Rattle.virtual_time.specs.Letters.{Letter as Signed, IsPresent, is_present}
+use Rattle.virtual_time.specs.Law.{Order, IsOrder, same, lesser, IsPresent, is_present}
+use Rattle.virtual_time.specs.declared.letter.Letter.{Letter}
 use Rattle.virtual_time.proofs.Letters.{counts-other}
 use Rattle.virtual_time.proofs.Order.{same_cases, less-asym}
 use Rattle.virtual_time.proofs.Presence.{present-true, present-from}
@@ -12,98 +11,98 @@ use Rattle.antimessages.specs.declared.tally.Change.TheVariants.{BecamePresent, 
 use Rattle.antimessages.proofs.After.{first_after-is, first_after-from, first_after-none}
 use Rattle.antimessages.proofs.Agreeing.{present-same_count}
 
-module _ {M S K N : Type 0} (r : Rules M S K N) (O : IsOrder r) (newest : Option M) where
+module _ {M : Type 0} (order : Order M) (O : IsOrder order) (newest : Option M) where
   -- where the same messages are present, of those that come after the newest, it is the same
-  pub after-same : (a b : List (Signed M)) → ((m : M) → is_after r newest m ≡ true → is_present r b m ≡ is_present r a m) →
-      present_after r newest a ≡ present_after r newest b
-  after-same a b h = go (present_after r newest b) refl
+  pub after-same : (a b : List (Letter M)) → ((m : M) → is_after order newest m ≡ true → is_present order b m ≡ is_present order a m) →
+      present_after order newest a ≡ present_after order newest b
+  after-same a b h = go (present_after order newest b) refl
     where
-      there : (x : M) → is_after r newest x ≡ true → IsPresent r a x → IsPresent r b x
-      there x k p = present-true r O b x (h x k ∙ present-from r O a x p)
+      there : (x : M) → is_after order newest x ≡ true → IsPresent order a x → IsPresent order b x
+      there x k p = present-true order O b x (h x k ∙ present-from order O a x p)
 
-      here : (x : M) → is_after r newest x ≡ true → IsPresent r b x → IsPresent r a x
-      here x k p = present-true r O a x (sym (h x k) ∙ present-from r O b x p)
+      here : (x : M) → is_after order newest x ≡ true → IsPresent order b x → IsPresent order a x
+      here x k p = present-true order O a x (sym (h x k) ∙ present-from order O b x p)
 
-      none : (o : Option M) → present_after r newest a ≡ o → present_after r newest b ≡ None → o ≡ None
+      none : (o : Option M) → present_after order newest a ≡ o → present_after order newest b ≡ None → o ≡ None
       none None e n = refl
-      none (Some x) e n = absurd (let f = first_after-is r O newest a x e in first_after-none r O newest b n x (there x f.after f.present) f.after)
+      none (Some x) e n = absurd (let f = first_after-is order O newest a x e in first_after-none order O newest b n x (there x f.after f.present) f.after)
 
-      go : (o : Option M) → present_after r newest b ≡ o → present_after r newest a ≡ o
-      go None e = none (present_after r newest a) refl e
+      go : (o : Option M) → present_after order newest b ≡ o → present_after order newest a ≡ o
+      go None e = none (present_after order newest a) refl e
       go (Some x) e =
-          let f = first_after-is r O newest b x e in
-          first_after-from r O newest a x (record { present = here x f.after f.present; after = f.after; first = λ y p k. f.first y (there y k p) k })
+          let f = first_after-is order O newest b x e in
+          first_after-from order O newest a x (record { present = here x f.after f.present; after = f.after; first = λ y p k. f.first y (there y k p) k })
 
   -- where one message more is present, it is that one or the one before
-  module _ (m : M) (a b : List (Signed M)) (apart : (x : M) → same r x m ≡ false → is_present r b x ≡ is_present r a x)
-      (was : is_present r a m ≡ false) (now : is_present r b m ≡ true) (behind : is_after r newest m ≡ true) where
-    in-a : (x : M) → IsPresent r b x → same r x m ≡ false → IsPresent r a x
-    in-a x p n = present-true r O a x (sym (apart x n) ∙ present-from r O b x p)
+  module _ (m : M) (a b : List (Letter M)) (apart : (x : M) → same order x m ≡ false → is_present order b x ≡ is_present order a x)
+      (was : is_present order a m ≡ false) (now : is_present order b m ≡ true) (behind : is_after order newest m ≡ true) where
+    in-a : (x : M) → IsPresent order b x → same order x m ≡ false → IsPresent order a x
+    in-a x p n = present-true order O a x (sym (apart x n) ∙ present-from order O b x p)
 
-    in-b : (x : M) → IsPresent r a x → IsPresent r b x
-    in-b x p = elim (same_cases r O x m) [
-      | inl e ↦ present-true r O b x (subst (λ z. is_present r b z ≡ true) (sym e) now)
-      | inr n ↦ present-true r O b x (apart x n ∙ present-from r O a x p)
+    in-b : (x : M) → IsPresent order a x → IsPresent order b x
+    in-b x p = elim (same_cases order O x m) [
+      | inl e ↦ present-true order O b x (subst (λ z. is_present order b z ≡ true) (sym e) now)
+      | inr n ↦ present-true order O b x (apart x n ∙ present-from order O a x p)
     ]
 
-    not-itself : (x : M) → x ≡ m → r.less x m ≡ false
-    not-itself x e = subst (λ z. r.less z m ≡ false) (sym e) (O.irreflexive m)
+    not-itself : (x : M) → x ≡ m → order.less x m ≡ false
+    not-itself x e = subst (λ z. order.less z m ≡ false) (sym e) (O.irreflexive m)
 
-    after-more : present_after r newest b ≡ lesser r m (present_after r newest a)
-    after-more = go (present_after r newest a) refl
+    after-more : present_after order newest b ≡ lesser order m (present_after order newest a)
+    after-more = go (present_after order newest a) refl
       where
-        go : (o : Option M) → present_after r newest a ≡ o → present_after r newest b ≡ lesser r m o
-        go None e = first_after-from r O newest b m (record {
-          present = present-true r O b m now;
+        go : (o : Option M) → present_after order newest a ≡ o → present_after order newest b ≡ lesser order m o
+        go None e = first_after-from order O newest b m (record {
+          present = present-true order O b m now;
           after = behind;
-          first = λ x p k. elim (same_cases r O x m) [
+          first = λ x p k. elim (same_cases order O x m) [
             | inl i ↦ not-itself x i
-            | inr n ↦ absurd (first_after-none r O newest a e x (in-a x p n) k)
+            | inr n ↦ absurd (first_after-none order O newest a e x (in-a x p n) k)
           ];
         })
-        go (Some y) e = choose (r.less y m) refl
+        go (Some y) e = choose (order.less y m) refl
           where
-            choose : (c : Bool) → r.less y m ≡ c → present_after r newest b ≡ cond c (Some y) (Some m)
+            choose : (c : Bool) → order.less y m ≡ c → present_after order newest b ≡ cond c (Some y) (Some m)
             choose true w =
-                let f = first_after-is r O newest a y e in
-                first_after-from r O newest b y (record {
+                let f = first_after-is order O newest a y e in
+                first_after-from order O newest b y (record {
                   present = in-b y f.present;
                   after = f.after;
-                  first = λ x p k. elim (same_cases r O x m) [
-                    | inl i ↦ subst (λ z. r.less z y ≡ false) (sym i) (less-asym r O y m w)
+                  first = λ x p k. elim (same_cases order O x m) [
+                    | inl i ↦ subst (λ z. order.less z y ≡ false) (sym i) (less-asym order O y m w)
                     | inr n ↦ f.first x (in-a x p n) k
                   ];
                 })
             choose false w =
-                let f = first_after-is r O newest a y e in
-                first_after-from r O newest b m (record {
-                  present = present-true r O b m now;
+                let f = first_after-is order O newest a y e in
+                first_after-from order O newest b m (record {
+                  present = present-true order O b m now;
                   after = behind;
-                  first = λ x p k. elim (same_cases r O x m) [
+                  first = λ x p k. elim (same_cases order O x m) [
                     | inl i ↦ not-itself x i
                     | inr n ↦ false_from_ne_true _ (λ t. below x (f.first x (in-a x p n) k) t)
                   ];
                 })
               where
-                below : (x : M) → r.less x y ≡ false → r.less x m ≡ true → ⊥
-                below x n t = elim (cases_Bool (r.less m y)) [
+                below : (x : M) → order.less x y ≡ false → order.less x m ≡ true → ⊥
+                below x n t = elim (cases_Bool (order.less m y)) [
                   | inl l ↦ both_ways _ n (O.transitive x m y t l)
-                  | inr l ↦ both_ways _ n (subst (λ z. r.less x z ≡ true) (O.total m y l w) t)
+                  | inr l ↦ both_ways _ n (subst (λ z. order.less x z ≡ true) (O.total m y l w) t)
                 ]
 
-  module _ (l : Signed M) (a b : List (Signed M)) (h : HaveSameCounts r b (l ∷ a)) where
+  module _ (l : Letter M) (a b : List (Letter M)) (h : HaveSameCounts order b (l ∷ a)) where
     -- the other messages are present as before
-    others : (x : M) → same r x l.message ≡ false → is_present r b x ≡ is_present r a x
+    others : (x : M) → same order x l.message ≡ false → is_present order b x ≡ is_present order a x
     others x n =
-        let c = counts-other r O x l a n in
-        present-same_count r x b a (h x ∙ (λ i. pos (c.0 i) -ℤ pos (c.1 i)))
+        let c = counts-other order O x l a n in
+        present-same_count order x b a (h x ∙ (λ i. pos (c.0 i) -ℤ pos (c.1 i)))
 
-    here-now : is_present r b l.message ≡ is_present r (l ∷ a) l.message
-    here-now = present-same_count r l.message b (l ∷ a) (h l.message)
+    here-now : is_present order b l.message ≡ is_present order (l ∷ a) l.message
+    here-now = present-same_count order l.message b (l ∷ a) (h l.message)
 
-    pub next-same : change_by r l a ≡ Same → present_after r newest a ≡ present_after r newest b
-    next-same e = after-same a b (λ x _. elim (same_cases r O x l.message) [
-      | inl i ↦ subst (λ z. is_present r b z ≡ is_present r a z) (sym i) (here-now ∙ stays (is_present r a l.message) (is_present r (l ∷ a) l.message) e)
+    pub next-same : change_by order l a ≡ Same → present_after order newest a ≡ present_after order newest b
+    next-same e = after-same a b (λ x _. elim (same_cases order O x l.message) [
+      | inl i ↦ subst (λ z. is_present order b z ≡ is_present order a z) (sym i) (here-now ∙ stays (is_present order a l.message) (is_present order (l ∷ a) l.message) e)
       | inr n ↦ others x n
     ])
       where
@@ -113,9 +112,9 @@ module _ {M S K N : Type 0} (r : Rules M S K N) (O : IsOrder r) (newest : Option
         stays false true e = absurd (let z : ⊥ = cc in z)
         stays false false e = refl
 
-    pub next-more : change_by r l a ≡ BecamePresent → is_after r newest l.message ≡ true → present_after r newest b ≡ lesser r l.message (present_after r newest a)
+    pub next-more : change_by order l a ≡ BecamePresent → is_after order newest l.message ≡ true → present_after order newest b ≡ lesser order l.message (present_after order newest a)
     next-more e behind =
-        let t = turned (is_present r a l.message) (is_present r (l ∷ a) l.message) e in
+        let t = turned (is_present order a l.message) (is_present order (l ∷ a) l.message) e in
         after-more l.message a b others t.0 (here-now ∙ t.1) behind
       where
         turned : (c d : Bool) → change_between c d ≡ BecamePresent → (c ≡ false) × (d ≡ true)

@@ -10,14 +10,12 @@ use Rattle.std.specs.BTreeMap.{is_at}
 use Rattle.std.proofs.lemmas.Bool.{both_ways, cases_lt, lt-ltb, ltb-true}
 use Rattle.std.proofs.lemmas.Int.{ints}
 use Rattle.vlink.specs.declared.message.Message.{Message}
-use Rattle.vlink.specs.declared.message.Sign.{Sign}
-use Rattle.vlink.specs.declared.message.Sign.TheVariants.{Plus, Minus}
-use Rattle.vlink.specs.Order.{message_cmp}
-use Rattle.virtual_time.specs.Letters.{pluses, minuses}
-use Rattle.virtual_time.specs.Lists.{one_if, same}
+use Rattle.virtual_time.specs.declared.letter.Sign.{Sign}
+use Rattle.virtual_time.specs.declared.letter.Sign.TheVariants.{Plus, Minus}
+use Rattle.vlink.specs.Order.{message_cmp, message_order}
+use Rattle.virtual_time.specs.Law.{pluses, minuses, is_plus, one_if, same}
 use Rattle.virtual_time.proofs.Order.{one_if-le}
 use Rattle.antimessages.specs.declared.occurrence.Occurrence.{Occurrence}
-use Rattle.antimessages.specs.Letters.{message_rules, is_plus}
 use Rattle.antimessages.specs.Counting.{signed_count}
 use Rattle.antimessages.specs.Occurrences.{occurrence_of, occurrence_cmp, letters_of, count_with, sign_at, AreCounted}
 
@@ -65,15 +63,15 @@ within s p n k h = go (nat_lt k (p - n)) (nat_lt k (n - p)) refl refl h
     go false true i j x = let a = ltb-true k (n - p) j in omega arith
     go false false i j x = absurd (let z : ⊥ = cc in z)
 
-pub at-most : (m : Message) (es : List (Occurrence × Sign)) → pluses message_rules m (letters_of es) + minuses message_rules m (letters_of es) ≤ length es
+pub at-most : (m : Message) (es : List (Occurrence × Sign)) → pluses message_order m (letters_of es) + minuses message_order m (letters_of es) ≤ length es
 at-most m [] = omega arith
 at-most m (e ∷ es) = go (is_plus e.1) (at-most m es)
   where
-    go : (b : Bool) → pluses message_rules m (letters_of es) + minuses message_rules m (letters_of es) ≤ length es →
-        (one_if (b && same message_rules m e.0.message) + pluses message_rules m (letters_of es))
-        + (one_if (not b && same message_rules m e.0.message) + minuses message_rules m (letters_of es)) ≤ suc (length es)
-    go true i = let a = one_if-le (same message_rules m e.0.message) in omega arith
-    go false i = let a = one_if-le (same message_rules m e.0.message) in omega arith
+    go : (b : Bool) → pluses message_order m (letters_of es) + minuses message_order m (letters_of es) ≤ length es →
+        (one_if (b && same message_order m e.0.message) + pluses message_order m (letters_of es))
+        + (one_if (not b && same message_order m e.0.message) + minuses message_order m (letters_of es)) ≤ suc (length es)
+    go true i = let a = one_if-le (same message_order m e.0.message) in omega arith
+    go false i = let a = one_if-le (same message_order m e.0.message) in omega arith
 
 module _ (T : IsTotalOrder message_cmp) (X : (a b : Message) → message_cmp a b ≡ Equal → a ≡ b) (m : Message) (top : ℕ) (es : List (Occurrence × Sign)) (st : AreCounted es) where
   -- the places of the message are not beyond the greatest one
@@ -89,13 +87,13 @@ module _ (T : IsTotalOrder message_cmp) (X : (a b : Message) → message_cmp a b
       ])
 
   pub count-none : ((q : Occurrence) → is_gt (occurrence_cmp q (occurrence_of m top)) ≡ false → lookup (is_at (occurrence_cmp q)) es ≡ None) →
-      signed_count message_rules m (letters_of es) ≡ pos 0
-  count-none h = at-zero (pluses message_rules m (letters_of es)) (minuses message_rules m (letters_of es)) (sym (st.signs m 0) ∙ h (occurrence_of m 0) (up_to 0 (omega arith)))
+      signed_count message_order m (letters_of es) ≡ pos 0
+  count-none h = at-zero (pluses message_order m (letters_of es)) (minuses message_order m (letters_of es)) (sym (st.signs m 0) ∙ h (occurrence_of m 0) (up_to 0 (omega arith)))
 
   module _ (e : Occurrence) (s : Sign) (here : lookup (is_at (occurrence_cmp e)) es ≡ Some s) (low : is_gt (occurrence_cmp e (occurrence_of m top)) ≡ false)
       (last : (q : Occurrence) → is_gt (occurrence_cmp q (occurrence_of m top)) ≡ false → IsSome (lookup (is_at (occurrence_cmp q)) es) → is_lt (occurrence_cmp e q) ≡ false) where
-    pub count-other_last : (e.message ≡ m → ⊥) → signed_count message_rules m (letters_of es) ≡ pos 0
-    count-other_last n = at-zero (pluses message_rules m (letters_of es)) (minuses message_rules m (letters_of es)) (sym (st.signs m 0) ∙ some-of _ (λ i. go (message_cmp e.message m) refl low (last (occurrence_of m 0) (up_to 0 (omega arith)) i)))
+    pub count-other_last : (e.message ≡ m → ⊥) → signed_count message_order m (letters_of es) ≡ pos 0
+    count-other_last n = at-zero (pluses message_order m (letters_of es)) (minuses message_order m (letters_of es)) (sym (st.signs m 0) ∙ some-of _ (λ i. go (message_cmp e.message m) refl low (last (occurrence_of m 0) (up_to 0 (omega arith)) i)))
       where
         go : (o : Ordering) → message_cmp e.message m ≡ o → is_gt (ordering_then o (nat_cmp e.ordinal top)) ≡ false → is_lt (ordering_then o (nat_cmp e.ordinal 0)) ≡ false → ⊥
         go Less w l k = cc
@@ -104,12 +102,12 @@ module _ (T : IsTotalOrder message_cmp) (X : (a b : Message) → message_cmp a b
 
   module _ (k : ℕ) (s : Sign) (here : lookup (is_at (occurrence_cmp (occurrence_of m k))) es ≡ Some s) (small : length es < top) where
     pub room : k < length es
-    room = let a = within s (pluses message_rules m (letters_of es)) (minuses message_rules m (letters_of es)) k (sym (st.signs m k) ∙ here) in let b = at-most m es in omega arith
+    room = let a = within s (pluses message_order m (letters_of es)) (minuses message_order m (letters_of es)) k (sym (st.signs m k) ∙ here) in let b = at-most m es in omega arith
 
     pub count-last : ((q : Occurrence) → is_gt (occurrence_cmp q (occurrence_of m top)) ≡ false → IsSome (lookup (is_at (occurrence_cmp q)) es) → is_lt (occurrence_cmp (occurrence_of m k) q) ≡ false) →
-        signed_count message_rules m (letters_of es) ≡ count_with s (k + 1)
+        signed_count message_order m (letters_of es) ≡ count_with s (k + 1)
     count-last last =
-        at-last s (pluses message_rules m (letters_of es)) (minuses message_rules m (letters_of es)) k (sym (st.signs m k) ∙ here)
+        at-last s (pluses message_order m (letters_of es)) (minuses message_order m (letters_of es)) k (sym (st.signs m k) ∙ here)
         (sym (st.signs m (k + 1)) ∙ some-of _ (λ i. let r = room in
         both_ways _ (last (occurrence_of m (k + 1)) (up_to (k + 1) (omega arith)) i) below))
       where

@@ -8,11 +8,11 @@ use Rattle.std.specs.BTreeMap.{BTreeMap, IsOrdered}
 use Rattle.std.proofs.lemmas.Int.{ints}
 use Rattle.std.proofs.lemmas.Map.Lookups.{exact_unsigned, btree_map_from_get}
 use Rattle.vlink.specs.declared.message.Message.{Message}
-use Rattle.vlink.specs.declared.message.Sign.{Sign}
-use Rattle.vlink.specs.Order.{message_cmp}
-use Rattle.virtual_time.specs.Letters.{Letter as Signed, pluses, minuses}
+use Rattle.virtual_time.specs.declared.letter.Sign.{Sign}
+use Rattle.vlink.specs.Order.{message_cmp, message_order}
+use Rattle.virtual_time.specs.Law.{pluses, minuses}
+use Rattle.virtual_time.specs.declared.letter.Letter.{Letter}
 use Rattle.antimessages.specs.declared.occurrence.Occurrence.{Occurrence}
-use Rattle.antimessages.specs.Letters.{message_rules}
 use Rattle.antimessages.specs.Counting.{HaveSameCounts}
 use Rattle.antimessages.specs.Occurrences.{occurrence_cmp, letters_of, sign_at, AreCounted, IsTally}
 
@@ -38,6 +38,6 @@ same-sign p n q o k h =
 -- two tallies with the same counts
 pub one-tally : IsTotalOrder occurrence_cmp → ((a b : Message) → message_cmp a b ≡ Equal → a ≡ b) → (m n : BTreeMap Occurrence Sign) →
     IsOrdered occurrence_cmp m → IsOrdered occurrence_cmp n → AreCounted m.entries → AreCounted n.entries →
-    HaveSameCounts message_rules (letters_of m.entries) (letters_of n.entries) → m.entries ≡ n.entries
+    HaveSameCounts message_order (letters_of m.entries) (letters_of n.entries) → m.entries ≡ n.entries
 one-tally U X m n up up' st st' h = btree_map_from_get U m n up up'
     (λ q. st.signs q.message q.ordinal ∙ (same-sign _ _ _ _ q.ordinal (h q.message) ∙ sym (st'.signs q.message q.ordinal))) (exact X)

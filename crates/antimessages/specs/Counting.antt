@@ -1,8 +1,7 @@
 -- Signed counts: what a letter makes of them, and which present message comes first.
 use Rattle.std.specs.Prelude.{◌≡◌, ℤ, pos, ◌-ℤ◌, Bool, true, false, ◌&&◌, List, ◌∷◌, map, filter, Option, Some, None}
-use Rattle.virtual_time.specs.Rules.{Rules}
-use Rattle.virtual_time.specs.Lists.{least}
-use Rattle.virtual_time.specs.Letters.{Letter, pluses, minuses, is_present}
+use Rattle.virtual_time.specs.Law.{Order, least, pluses, minuses, is_present}
+use Rattle.virtual_time.specs.declared.letter.Letter.{Letter}
 use Rattle.antimessages.specs.declared.tally.Change.{Change}
 use Rattle.antimessages.specs.declared.tally.Change.TheVariants.{BecamePresent, BecameAbsent, Same}
 
@@ -18,10 +17,10 @@ is_turn BecamePresent = true
 is_turn BecameAbsent = true
 is_turn Same = false
 
-module _ {M S K N : Type 0} (r : Rules M S K N) where
+module _ {M : Type 0} (o : Order M) where
   -- the signed count of m: its plus letters less its minus letters
   abbrev pub signed_count : M → List (Letter M) → ℤ
-  signed_count m tally = pos (pluses r m tally) -ℤ pos (minuses r m tally)
+  signed_count m tally = pos (pluses o m tally) -ℤ pos (minuses o m tally)
 
   -- each message has the same signed count in both: as tallies they are the same
   abbrev pub HaveSameCounts : List (Letter M) → List (Letter M) → Type 0
@@ -29,13 +28,13 @@ module _ {M S K N : Type 0} (r : Rules M S K N) where
 
   -- whether the message of a letter becomes present or absent as the letter enters the tally
   abbrev pub change_by : Letter M → List (Letter M) → Change
-  change_by l tally = change_between (is_present r tally l.message) (is_present r (l ∷ tally) l.message)
+  change_by l tally = change_between (is_present o tally l.message) (is_present o (l ∷ tally) l.message)
 
   -- the message comes after another one, if there is one
   abbrev pub is_after : Option M → M → Bool
   is_after None m = true
-  is_after (Some newest) m = r.less newest m
+  is_after (Some newest) m = o.less newest m
 
   -- the first present message of those that come after another one, if there is one
   abbrev pub present_after : Option M → List (Letter M) → Option M
-  present_after newest tally = least r (filter (λ m. is_present r tally m && is_after newest m) (map (λ l. l.message) tally))
+  present_after newest tally = least o (filter (λ m. is_present o tally m && is_after newest m) (map (λ l. l.message) tally))

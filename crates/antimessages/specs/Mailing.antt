@@ -3,17 +3,17 @@ use Rattle.std.specs.Prelude.{ℕ, ◌≤◌, ◌-◌, List, [], length, map, Op
 use Rattle.std.specs.VecDeque.{deque_len, deque_capacity}
 use Rattle.std.specs.declared.collections.VecDeque.{VecDeque}
 use Rattle.std.proofs.Common.{Global}
-use Rattle.vlink.specs.declared.message.Message.{Message}
-use Rattle.vlink.specs.declared.message.Letter.{Letter}
-use Rattle.virtual_time.specs.Letters.{Letter as Signed, received_by}
-use Rattle.antimessages.specs.Letters.{message_rules, signed, Store}
+use Rattle.virtual_time.specs.Law.{received_by}
+use Rattle.antimessages.specs.Letters.{Store}
+use Rattle.vlink.specs.Order.{message_order}
+use Rattle.vlink.specs.Letters.{Letter}
 
 -- the letters that one process has to take
 abbrev pub store_of : VecDeque Letter Global → Store
-store_of waiting = record { letters = map signed waiting.items; room = deque_capacity waiting - deque_len waiting }
+store_of waiting = record { letters = waiting.items; room = deque_capacity waiting - deque_len waiting }
 
 -- the letters of a store, none where there is no store; and its room
-abbrev pub letters_in : Option Store → List (Signed Message)
+abbrev pub letters_in : Option Store → List Letter
 letters_in None = []
 letters_in (Some store) = store.letters
 
@@ -22,7 +22,7 @@ room_in None = 0
 room_in (Some store) = store.room
 
 -- the letters for process p: none where there is no such process
-abbrev pub letters_for : ℕ → List Store → List (Signed Message)
+abbrev pub letters_for : ℕ → List Store → List Letter
 letters_for p mail = letters_in (slice_get mail p)
 
 -- the room for more letters for process p
@@ -30,5 +30,5 @@ abbrev pub room_for : ℕ → List Store → ℕ
 room_for p mail = room_in (slice_get mail p)
 
 -- the mail of each process has room for those of these letters that it receives
-abbrev pub HasRoom : List Store → List (Signed Message) → Type 0
-HasRoom mail letters = (p : ℕ) → length (received_by message_rules p letters) ≤ room_for p mail
+abbrev pub HasRoom : List Store → List Letter → Type 0
+HasRoom mail letters = (p : ℕ) → length (received_by message_order p letters) ≤ room_for p mail

@@ -8,12 +8,12 @@ use Rattle.std.specs.declared.ops.Bound.TheVariants.{Excluded, Unbounded}
 use Rattle.std.specs.Map.{lookup}
 use Rattle.std.specs.BTreeMap.{BTreeMap, is_at, IsOrdered}
 use Rattle.vlink.specs.declared.message.Message.{Message}
-use Rattle.vlink.specs.declared.message.Sign.{Sign}
-use Rattle.vlink.specs.declared.message.Sign.TheVariants.{Plus, Minus}
-use Rattle.vlink.specs.Order.{message_cmp}
-use Rattle.virtual_time.specs.Letters.{Letter as Signed, pluses, minuses}
+use Rattle.virtual_time.specs.declared.letter.Sign.{Sign}
+use Rattle.virtual_time.specs.declared.letter.Sign.TheVariants.{Plus, Minus}
+use Rattle.vlink.specs.Order.{message_cmp, message_order}
+use Rattle.vlink.specs.Letters.{Letter}
+use Rattle.virtual_time.specs.Law.{pluses, minuses, is_plus}
 use Rattle.antimessages.specs.declared.occurrence.Occurrence.{Occurrence}
-use Rattle.antimessages.specs.Letters.{message_rules, is_plus}
 
 abbrev pub occurrence_of : Message → ℕ → Occurrence
 occurrence_of m k = record { message = m; ordinal = k }
@@ -27,10 +27,10 @@ abbrev pub occurrence_cmp : Occurrence → Occurrence → Ordering
 occurrence_cmp = occurrences_by message_cmp
 
 -- the letter that counts
-abbrev pub letter_at : Occurrence × Sign → Signed Message
-letter_at e = record { message = e.0.message; plus = is_plus e.1 }
+abbrev pub letter_at : Occurrence × Sign → Letter
+letter_at e = record { message = e.0.message; sign = e.1 }
 
-abbrev pub letters_of : List (Occurrence × Sign) → List (Signed Message)
+abbrev pub letters_of : List (Occurrence × Sign) → List Letter
 letters_of es = map letter_at es
 
 -- where the occurrences of messages that come after another one begin: behind all of its own
@@ -50,10 +50,10 @@ sign_at p n k = cond (nat_lt k (p - n)) (Some Plus) (cond (nat_lt k (n - p)) (So
 -- at each ordinal of each message stands the sign that its count tells
 pub record AreCounted (es : List (Occurrence × Sign)) : Type 0 where
   pub signs : (m : Message) (k : ℕ) → lookup (is_at (occurrence_cmp (occurrence_of m k))) es
-      ≡ sign_at (pluses message_rules m (letters_of es)) (minuses message_rules m (letters_of es)) k
+      ≡ sign_at (pluses message_order m (letters_of es)) (minuses message_order m (letters_of es)) k
 
 -- letters as a tally has them: in the order of their messages, and without opposite pairs
-abbrev pub IsTally : List (Signed Message) → Type 0
+abbrev pub IsTally : List Letter → Type 0
 IsTally ls = (signs : BTreeMap Occurrence Sign) × (letters_of signs.entries ≡ ls) × IsOrdered occurrence_cmp signs × AreCounted signs.entries
 
 -- the first of these letters, if there is one, is of another message than m

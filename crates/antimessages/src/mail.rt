@@ -1,8 +1,8 @@
 //! The mail: a box of letters for each process.
 ghost use Rattle.std.specs.Prelude.{◌≡◌, ◌≢◌, ℕ, ◌<◌, ◌≤◌, [], ◌++◌, length, map, remove, slice_get, All, IsOk, OnOk, OnErr, IfOk};
 ghost use Rattle.std.specs.Option.{option_map};
-ghost use Rattle.virtual_time.specs.Letters.{received_by};
-ghost use Rattle.antimessages.specs.Letters.{message_rules, signed};
+ghost use Rattle.virtual_time.specs.Law.{received_by};
+ghost use Rattle.vlink.specs.Order.{message_order};
 ghost use Rattle.antimessages.specs.Mailing.{letters_for, room_for, HasRoom};
 
 use crate::ends::take_at;
@@ -54,7 +54,7 @@ impl Mail {
     pub fn with_letters(alloc: Global, processes: u16, outbox: &Outbox) -> Result<Self, OutOfMemory>
         requires { All (λ letter. letter.message.receiver < processes) outbox.now.letters }
         ensures processes { IfOk result (λ mail. length mail ≡ processes) }
-        ensures letters { IfOk result (λ mail. (p : ℕ) → letters_for p mail ≡ received_by message_rules p outbox.now.letters) }
+        ensures letters { IfOk result (λ mail. (p : ℕ) → letters_for p mail ≡ received_by message_order p outbox.now.letters) }
         ensures reserved { processes ≡ 0 → IsOk result }
     {
         let Mail { mut boxes } = Mail::new(alloc, processes)?;
@@ -81,7 +81,7 @@ impl Mail {
 
     /// The letter number `place`, from 0, of those for this process: the one that `take` would give. None where there is none.
     pub fn look(&self, process: u16, place: usize) -> Option<Letter>
-        ensures { option_map signed result ≡ slice_get (letters_for process self.now) place }
+        ensures { result ≡ slice_get (letters_for process self.now) place }
     {
         match self.boxes.get(usize::from(process)) {
             Some(letters) => letters.get(place).copied(),
@@ -93,7 +93,7 @@ impl Mail {
     /// where there is none or no such process.
     #[inline(always)]
     pub fn take(&mut self, process: u16, place: usize) -> Option<Letter>
-        ensures taken { option_map signed result ≡ slice_get (letters_for process self.old) place }
+        ensures taken { result ≡ slice_get (letters_for process self.old) place }
         ensures left { letters_for process self.new ≡ remove (letters_for process self.old) place }
         ensures others { (q : ℕ) → q ≢ process → letters_for q self.new ≡ letters_for q self.old }
         ensures processes { length self.new ≡ length self.old }
@@ -107,7 +107,7 @@ impl Mail {
     /// All letters for this process go to `letters`, which has none, and no letter is copied: the two change places, with their room.
     pub fn take_all(&mut self, process: u16, letters: &mut VecDeque<Letter>)
         requires { letters.old.items ≡ [] }
-        ensures taken { map signed letters.new.items ≡ letters_for process self.old }
+        ensures taken { letters.new.items ≡ letters_for process self.old }
         ensures left { letters_for process self.new ≡ [] }
         ensures others { (q : ℕ) → q ≢ process → letters_for q self.new ≡ letters_for q self.old }
         ensures processes { length self.new ≡ length self.old }
@@ -136,7 +136,7 @@ impl Mail {
     /// is room this takes no memory and succeeds; a refusal changes nothing.
     pub fn post(&mut self, outbox: &mut Outbox) -> Result<(), OutOfMemory>
         requires { All (λ letter. letter.message.receiver < length self.old) outbox.old.letters }
-        ensures posted { OnOk result ((p : ℕ) → letters_for p self.new ≡ letters_for p self.old ++ received_by message_rules p outbox.old.letters) }
+        ensures posted { OnOk result ((p : ℕ) → letters_for p self.new ≡ letters_for p self.old ++ received_by message_order p outbox.old.letters) }
         ensures emptied { OnOk result (outbox.new.letters ≡ []) }
         ensures unchanged { OnErr result ((p : ℕ) → letters_for p self.new ≡ letters_for p self.old) }
         ensures kept { OnErr result (outbox.new.letters ≡ outbox.old.letters) }

@@ -1,10 +1,9 @@
 //! The message that comes next, kept as letters are counted.
 ghost use Rattle.std.specs.Prelude.{◌≡◌, ◌≢◌, ◌∷◌, List, true};
 ghost use Rattle.std.specs.Option.{option_copied};
-ghost use Rattle.vlink.specs.declared.message.Message.{Message};
-ghost use Rattle.virtual_time.specs.Lists.{lesser};
-ghost use Rattle.virtual_time.specs.Letters.{Letter as Signed};
-ghost use Rattle.antimessages.specs.Letters.{message_rules, signed};
+ghost use Rattle.virtual_time.specs.Law.{lesser};
+ghost use Rattle.vlink.specs.Order.{message_order};
+ghost use Rattle.vlink.specs.Letters.{Letter};
 ghost use Rattle.antimessages.specs.Counting.{change_by, is_after, present_after, HaveSameCounts};
 ghost use Rattle.antimessages.specs.declared.tally.Change.TheVariants.{Same};
 
@@ -23,11 +22,11 @@ impl Tally {
         change: Change,
         newest: Option<&Message>,
     ) -> Option<Message>
-        ensures { (before : List (Signed Message)) → HaveSameCounts message_rules self.now (signed letter.now ∷ before) →
-            change ≡ change_by message_rules (signed letter.now) before →
-            (change ≢ Same → is_after message_rules (option_copied newest.entry) letter.now.message ≡ true) →
-            next ≡ present_after message_rules (option_copied newest.entry) before →
-            result ≡ present_after message_rules (option_copied newest.entry) self.now }
+        ensures { (before : List Letter) → HaveSameCounts message_order self.now (letter.now ∷ before) →
+            change ≡ change_by message_order letter.now before →
+            (change ≢ Same → is_after message_order (option_copied newest.entry) letter.now.message ≡ true) →
+            next ≡ present_after message_order (option_copied newest.entry) before →
+            result ≡ present_after message_order (option_copied newest.entry) self.now }
     {
         occurrence_order();
         match change {
@@ -40,7 +39,7 @@ impl Tally {
 
 /// The message, or the other one if that comes first.
 fn lesser(message: &Message, other: Option<Message>) -> Message
-    ensures { Some result ≡ lesser message_rules message.now other }
+    ensures { Some result ≡ lesser message_order message.now other }
 {
     message_order();
     match other {

@@ -4,9 +4,8 @@ ghost use Rattle.std.specs.Cmp.{IsTotalOrder, partial_equiv_from_equiv, eq_by_cm
 ghost use Rattle.std.specs.Ordering.{eq_by_cmp, as_partial_cmp};
 ghost use Rattle.std.specs.declared.cmp.Ordering.TheVariants.{Equal};
 ghost use Rattle.vlink.specs.declared.message.Message.{Message};
-ghost use Rattle.vlink.specs.Order.{message_cmp};
-ghost use Rattle.virtual_time.specs.Rules.{IsOrder};
-ghost use Rattle.antimessages.specs.Letters.{message_rules};
+ghost use Rattle.vlink.specs.Order.{message_cmp, message_order};
+ghost use Rattle.virtual_time.specs.Law.{IsOrder};
 ghost use Rattle.antimessages.specs.Occurrences.{occurrences_by, occurrence_cmp};
 ghost use Rattle.antimessages.specs.Ordered.{occurrences_total};
 ghost use Rattle.vlink.specs.contracts.message.MessageOrd.TheImpl.Laws as message_total;
@@ -72,7 +71,7 @@ pub(crate) fn occurrence_order()
     ensures occurrences { IsTotalOrder occurrence_cmp }
     ensures total { IsTotalOrder message_cmp }
     ensures exact { (a b : Message) → message_cmp a b ≡ Equal → a ≡ b }
-    ensures messages { IsOrder message_rules }
+    ensures messages { IsOrder message_order }
 {
     message_order();
     total_of::<Occurrence>();
@@ -85,7 +84,7 @@ fn total_of<T: Ord>()
 
 /// Whether the first message comes before the second.
 pub(crate) fn is_before(first: &Message, second: &Message) -> bool
-    ensures { result ≡ message_rules.less first.now second.now }
+    ensures { result ≡ message_order.less first.now second.now }
 {
     message_order();
     compare(first, second) == Ordering::Less

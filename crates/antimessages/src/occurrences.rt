@@ -5,9 +5,9 @@ ghost use Rattle.std.specs.List.{find};
 ghost use Rattle.std.specs.Map.{lookup};
 ghost use Rattle.std.specs.BTreeMap.{is_at, insert_entry};
 ghost use Rattle.vlink.specs.declared.message.Message.{Message};
-ghost use Rattle.vlink.specs.declared.message.Sign.TheVariants.{Plus};
-ghost use Rattle.virtual_time.specs.Letters.{IsPresent, plus_of};
-ghost use Rattle.antimessages.specs.Letters.{message_rules, is_plus};
+ghost use Rattle.virtual_time.specs.declared.letter.Sign.TheVariants.{Plus};
+ghost use Rattle.virtual_time.specs.Law.{IsPresent, plus_of, is_plus};
+ghost use Rattle.vlink.specs.Order.{message_order};
 ghost use Rattle.antimessages.specs.Counting.{signed_count, HaveSameCounts, is_after, present_after};
 ghost use Rattle.antimessages.specs.Occurrences.{AreCounted, letters_of, letter_at, occurrence_of, occurrence_cmp, count_with, behind, BeginsWithOne};
 
@@ -21,8 +21,8 @@ use vlink::{Message, Sign};
 /// The last ordinal of a message and the sign of its letters, if any of them count.
 pub(crate) fn last_of(signs: &BTreeMap<Occurrence, Sign>, message: &Message) -> Option<(u64, Sign)>
     requires { AreCounted signs.now.entries }
-    ensures count { MatchOption result (signed_count message_rules message.now (letters_of signs.now.entries) ≡ pos 0)
-        (λ x. signed_count message_rules message.now (letters_of signs.now.entries) ≡ count_with x.1 (x.0 + 1)) }
+    ensures count { MatchOption result (signed_count message_order message.now (letters_of signs.now.entries) ≡ pos 0)
+        (λ x. signed_count message_order message.now (letters_of signs.now.entries) ≡ count_with x.1 (x.0 + 1)) }
     ensures room { IfSome result (λ x. x.0 + 1 < 2 ^ 63) }
 {
     occurrence_order();
@@ -48,9 +48,9 @@ pub(crate) fn put_first(
 ) -> Result<bool, OutOfMemory>
     requires { AreCounted signs.old.entries }
     ensures counted { AreCounted signs.new.entries }
-    ensures none { IfOk result (λ first. IsTrue first → signed_count message_rules message.now (letters_of signs.old.entries) ≡ pos 0) }
+    ensures none { IfOk result (λ first. IsTrue first → signed_count message_order message.now (letters_of signs.old.entries) ≡ pos 0) }
     ensures counts { IfOk result (λ first. IsTrue first →
-        HaveSameCounts message_rules (letters_of signs.new.entries) (letter_at (occurrence_of message.now 0, sign) ∷ letters_of signs.old.entries)) }
+        HaveSameCounts message_order (letters_of signs.new.entries) (letter_at (occurrence_of message.now 0, sign) ∷ letters_of signs.old.entries)) }
     ensures stays { IfOk result (λ first. first ≡ false → signs.new.entries ≡ signs.old.entries) }
     ensures unchanged { OnErr result (signs.new.entries ≡ signs.old.entries) }
 {
@@ -89,9 +89,9 @@ pub(crate) fn put(
     sign: Sign,
 ) -> Result<(), OutOfMemory>
     requires counted { AreCounted signs.old.entries }
-    requires last { signed_count message_rules message.now (letters_of signs.old.entries) ≡ count_with sign ordinal }
+    requires last { signed_count message_order message.now (letters_of signs.old.entries) ≡ count_with sign ordinal }
     ensures counted { AreCounted signs.new.entries }
-    ensures counts { OnOk result (HaveSameCounts message_rules (letters_of signs.new.entries) (letter_at (occurrence_of message.now ordinal, sign) ∷ letters_of signs.old.entries)) }
+    ensures counts { OnOk result (HaveSameCounts message_order (letters_of signs.new.entries) (letter_at (occurrence_of message.now ordinal, sign) ∷ letters_of signs.old.entries)) }
     ensures unchanged { OnErr result (signs.new.entries ≡ signs.old.entries) }
 {
     occurrence_order();
@@ -111,9 +111,9 @@ pub(crate) fn take(
     sign: Sign,
 )
     requires counted { AreCounted signs.old.entries }
-    requires last { signed_count message_rules message.now (letters_of signs.old.entries) ≡ count_with sign (ordinal + 1) }
+    requires last { signed_count message_order message.now (letters_of signs.old.entries) ≡ count_with sign (ordinal + 1) }
     ensures counted { AreCounted signs.new.entries }
-    ensures counts { HaveSameCounts message_rules (letters_of signs.old.entries) (letter_at (occurrence_of message.now ordinal, sign) ∷ letters_of signs.new.entries) }
+    ensures counts { HaveSameCounts message_order (letters_of signs.old.entries) (letter_at (occurrence_of message.now ordinal, sign) ∷ letters_of signs.new.entries) }
 {
     occurrence_order();
     let last = Occurrence {
@@ -129,8 +129,8 @@ pub(crate) fn take_first(signs: &mut BTreeMap<Occurrence, Sign>, message: &Messa
     requires { AreCounted signs.old.entries }
     ensures counted { AreCounted signs.new.entries }
     ensures counts { IsTrue result →
-        HaveSameCounts message_rules (letters_of signs.old.entries) (letter_at (occurrence_of message.now 0, Plus) ∷ letters_of signs.new.entries) }
-    ensures one { IsTrue result → signed_count message_rules message.now (letters_of signs.old.entries) ≡ pos 1 }
+        HaveSameCounts message_order (letters_of signs.old.entries) (letter_at (occurrence_of message.now 0, Plus) ∷ letters_of signs.new.entries) }
+    ensures one { IsTrue result → signed_count message_order message.now (letters_of signs.old.entries) ≡ pos 1 }
     ensures unchanged { result ≡ false → signs.new.entries ≡ signs.old.entries }
 {
     occurrence_order();
@@ -165,9 +165,9 @@ fn begins_with_one(signs: &BTreeMap<Occurrence, Sign>, message: &Message) -> boo
 pub(crate) fn take_last(signs: &mut BTreeMap<Occurrence, Sign>, message: &Message)
     requires { AreCounted signs.old.entries }
     ensures counted { AreCounted signs.new.entries }
-    ensures counts { IsPresent message_rules (letters_of signs.old.entries) message.now →
-        HaveSameCounts message_rules (letters_of signs.old.entries) (plus_of message.now ∷ letters_of signs.new.entries) }
-    ensures unchanged { (IsPresent message_rules (letters_of signs.old.entries) message.now → ⊥) → signs.new.entries ≡ signs.old.entries }
+    ensures counts { IsPresent message_order (letters_of signs.old.entries) message.now →
+        HaveSameCounts message_order (letters_of signs.old.entries) (plus_of message.now ∷ letters_of signs.new.entries) }
+    ensures unchanged { (IsPresent message_order (letters_of signs.old.entries) message.now → ⊥) → signs.new.entries ≡ signs.old.entries }
 {
     match last_of(signs, message) {
         Some((ordinal, Sign::Plus)) => take(signs, message, ordinal, Sign::Plus),
@@ -179,7 +179,7 @@ pub(crate) fn take_last(signs: &mut BTreeMap<Occurrence, Sign>, message: &Messag
 /// Whether all letters that count are of messages that come after this one.
 pub(crate) fn begins_after(signs: &BTreeMap<Occurrence, Sign>, message: &Message) -> bool
     requires { AreCounted signs.now.entries }
-    ensures { IsTrue result → signed_count message_rules message.now (letters_of signs.now.entries) ≡ pos 0 }
+    ensures { IsTrue result → signed_count message_order message.now (letters_of signs.now.entries) ≡ pos 0 }
 {
     occurrence_order();
     let _len = signs.len();
@@ -195,7 +195,7 @@ pub(crate) fn next_after(
     newest: Option<&Message>,
 ) -> Option<Message>
     requires { AreCounted signs.now.entries }
-    ensures { result ≡ present_after message_rules (option_copied newest.entry) (letters_of signs.now.entries) }
+    ensures { result ≡ present_after message_order (option_copied newest.entry) (letters_of signs.now.entries) }
 {
     occurrence_order();
     let _len = signs.len();
@@ -218,7 +218,7 @@ fn is_plus(sign: Sign) -> bool
 
 /// Whether the message comes after `newest`, if that is given.
 fn is_after(newest: Option<&Message>, message: &Message) -> bool
-    ensures { result ≡ is_after message_rules (option_copied newest.entry) message.now }
+    ensures { result ≡ is_after message_order (option_copied newest.entry) message.now }
 {
     match newest {
         Some(newest) => is_before(newest, message),

@@ -1,7 +1,6 @@
 //! The outbox of a process.
 ghost use Rattle.std.specs.Prelude.{◌≡◌, ◌+◌, ◌<◌, ◌≤◌, ◌↔◌, [], ◌∷◌, ◌++◌, map, All, IsTrue, IsOk, IfOk, OnOk, OnErr};
-ghost use Rattle.virtual_time.specs.Letters.{plus_of};
-ghost use Rattle.antimessages.specs.Letters.{signed};
+ghost use Rattle.virtual_time.specs.Law.{plus_of};
 
 use crate::fault::OutOfMemory;
 use crate::posting::are_within;
@@ -17,11 +16,11 @@ pub struct Outbox {
 
 impl Model for Outbox {
     ghost use Rattle.std.specs.Prelude.{◌-◌, map, vec_len, vec_capacity};
-    ghost use Rattle.antimessages.specs.Letters.{Store, signed};
+    ghost use Rattle.antimessages.specs.Letters.{Store};
 
     ghost Value = { Store };
 
-    ghost view = { λ b. record { letters = map signed b.letters.items; room = vec_capacity b.letters - vec_len b.letters } };
+    ghost view = { λ b. record { letters = b.letters.items; room = vec_capacity b.letters - vec_len b.letters } };
 }
 
 impl Outbox {
@@ -36,7 +35,7 @@ impl Outbox {
 
     /// The letters, the first made at the front.
     pub fn letters(&self) -> &[Letter]
-        ensures { map signed result.now ≡ self.now.letters }
+        ensures { result.now ≡ self.now.letters }
     {
         &self.letters
     }
@@ -50,7 +49,7 @@ impl Outbox {
 
     /// The letter goes to the back. Where there is room this takes no memory and succeeds; a refusal changes nothing.
     pub fn push(&mut self, letter: Letter) -> Result<(), OutOfMemory>
-        ensures pushed { OnOk result (self.new.letters ≡ self.old.letters ++ signed letter ∷ []) }
+        ensures pushed { OnOk result (self.new.letters ≡ self.old.letters ++ letter ∷ []) }
         ensures unchanged { OnErr result (self.new.letters ≡ self.old.letters) }
         ensures reserved { 0 < self.old.room → IsOk result }
         ensures room { self.old.room ≤ self.new.room + 1 }

@@ -2,8 +2,8 @@
 ghost use Rattle.std.specs.Prelude.{◌≡◌, ℕ, [], ◌∷◌, ◌+◌, ◌<◌, ◌≤◌, ◌==◌, ◌++◌, nat_lt, length, map, filter, All, IsOk, OnOk, OnErr};
 ghost use Rattle.std.specs.List.{list_all};
 ghost use Rattle.std.specs.VecDeque.{deque_len, deque_capacity};
-ghost use Rattle.virtual_time.specs.Letters.{received_by};
-ghost use Rattle.antimessages.specs.Letters.{message_rules, signed};
+ghost use Rattle.virtual_time.specs.Law.{received_by};
+ghost use Rattle.vlink.specs.Order.{message_order};
 ghost use Rattle.antimessages.specs.Mailing.{letters_for, room_for, HasRoom, store_of};
 
 use std::alloc::AllocError;
@@ -19,9 +19,9 @@ pub(crate) fn reserve_all(
     requires { All (λ letter. letter.message.receiver < length boxes.old.items) letters.now }
     ensures same { (p : ℕ) → letters_for p (map store_of boxes.new.items) ≡ letters_for p (map store_of boxes.old.items) }
     ensures processes { length boxes.new.items ≡ length boxes.old.items }
-    ensures room { OnOk result (HasRoom (map store_of boxes.new.items) (map signed letters.now)) }
+    ensures room { OnOk result (HasRoom (map store_of boxes.new.items) letters.now) }
     ensures no_less { (p : ℕ) → room_for p (map store_of boxes.old.items) ≤ room_for p (map store_of boxes.new.items) }
-    ensures reserved { HasRoom (map store_of boxes.old.items) (map signed letters.now) → IsOk result }
+    ensures reserved { HasRoom (map store_of boxes.old.items) letters.now → IsOk result }
 {
     if letters.len() <= boxes.len() {
         reserve_by_letters(boxes, letters)
@@ -38,9 +38,9 @@ fn reserve_by_receivers(
     requires { All (λ letter. letter.message.receiver < length boxes.old.items) letters.now }
     ensures same { (p : ℕ) → letters_for p (map store_of boxes.new.items) ≡ letters_for p (map store_of boxes.old.items) }
     ensures processes { length boxes.new.items ≡ length boxes.old.items }
-    ensures room { OnOk result (HasRoom (map store_of boxes.new.items) (map signed letters.now)) }
+    ensures room { OnOk result (HasRoom (map store_of boxes.new.items) letters.now) }
     ensures no_less { (p : ℕ) → room_for p (map store_of boxes.old.items) ≤ room_for p (map store_of boxes.new.items) }
-    ensures reserved { HasRoom (map store_of boxes.old.items) (map signed letters.now) → IsOk result }
+    ensures reserved { HasRoom (map store_of boxes.old.items) letters.now → IsOk result }
 {
     for receiver in 0..boxes.len() {
         make_room(&mut boxes[receiver], letters, receiver)?;
@@ -56,9 +56,9 @@ fn reserve_by_letters(
     requires { All (λ letter. letter.message.receiver < length boxes.old.items) letters.now }
     ensures same { (p : ℕ) → letters_for p (map store_of boxes.new.items) ≡ letters_for p (map store_of boxes.old.items) }
     ensures processes { length boxes.new.items ≡ length boxes.old.items }
-    ensures room { OnOk result (HasRoom (map store_of boxes.new.items) (map signed letters.now)) }
+    ensures room { OnOk result (HasRoom (map store_of boxes.new.items) letters.now) }
     ensures no_less { (p : ℕ) → room_for p (map store_of boxes.old.items) ≤ room_for p (map store_of boxes.new.items) }
-    ensures reserved { HasRoom (map store_of boxes.old.items) (map signed letters.now) → IsOk result }
+    ensures reserved { HasRoom (map store_of boxes.old.items) letters.now → IsOk result }
 {
     for letter in letters {
         let receiver = usize::from(letter.message.receiver);
@@ -108,9 +108,9 @@ pub(crate) fn are_within(letters: &[Letter], processes: usize) -> bool
 /// Each letter goes to the back of the mail of its receiver, in order. There is room for all.
 pub(crate) fn put_all(boxes: &mut Vec<VecDeque<Letter>>, letters: &[Letter])
     requires receivers { All (λ letter. letter.message.receiver < length boxes.old.items) letters.now }
-    requires room { HasRoom (map store_of boxes.old.items) (map signed letters.now) }
+    requires room { HasRoom (map store_of boxes.old.items) letters.now }
     ensures put { (p : ℕ) → letters_for p (map store_of boxes.new.items)
-        ≡ letters_for p (map store_of boxes.old.items) ++ received_by message_rules p (map signed letters.now) }
+        ≡ letters_for p (map store_of boxes.old.items) ++ received_by message_order p letters.now }
     ensures processes { length boxes.new.items ≡ length boxes.old.items }
 {
     for letter in letters {
@@ -126,7 +126,7 @@ pub(crate) fn push_all(
 ) -> Result<(), AllocError>
     requires { All (λ letter. letter.message.receiver < length boxes.old.items) letters.now }
     ensures put { OnOk result ((p : ℕ) → letters_for p (map store_of boxes.new.items)
-        ≡ letters_for p (map store_of boxes.old.items) ++ received_by message_rules p (map signed letters.now)) }
+        ≡ letters_for p (map store_of boxes.old.items) ++ received_by message_order p letters.now) }
     ensures processes { length boxes.new.items ≡ length boxes.old.items }
     ensures none { letters.now ≡ [] → IsOk result }
 {

@@ -2,9 +2,11 @@
 ghost use Rattle.std.specs.Prelude.{◌≡◌, ◌≢◌, ◌↔◌, ◌+◌, ◌^◌, ◌<ℤ◌, [], ◌∷◌, List, IsTrue, pos, ◌+ℤ◌, Some, OnOk, OnErr, IfOk, false, not};
 ghost use Rattle.std.specs.Option.{MatchOption, option_copied};
 ghost use Rattle.vlink.specs.declared.message.Message.{Message};
-ghost use Rattle.vlink.specs.declared.message.Sign.TheVariants.{Plus};
-ghost use Rattle.virtual_time.specs.Letters.{Letter as Signed, IsPresent, plus_of};
-ghost use Rattle.antimessages.specs.Letters.{message_rules, is_plus, signed, weight};
+ghost use Rattle.virtual_time.specs.declared.letter.Sign.TheVariants.{Plus};
+ghost use Rattle.virtual_time.specs.Law.{IsPresent, plus_of, is_plus};
+ghost use Rattle.antimessages.specs.Letters.{weight};
+ghost use Rattle.vlink.specs.Order.{message_order};
+ghost use Rattle.vlink.specs.Letters.{Letter};
 ghost use Rattle.antimessages.specs.Counting.{signed_count, HaveSameCounts, change_by, present_after};
 ghost use Rattle.antimessages.specs.Occurrences.{count_with, IsTally};
 
@@ -40,11 +42,11 @@ pub struct Tally {
 
 impl Model for Tally {
     ghost use Rattle.std.specs.Prelude.{List};
+    ghost use Rattle.vlink.specs.Letters.{Letter};
     ghost use Rattle.vlink.specs.declared.message.Message.{Message};
-    ghost use Rattle.virtual_time.specs.Letters.{Letter};
     ghost use Rattle.antimessages.specs.Occurrences.{letters_of, AreCounted};
 
-    ghost Value = { List (Letter Message) };
+    ghost Value = { List Letter };
 
     ghost view = { λ t. letters_of t.signs.entries };
 
@@ -63,7 +65,7 @@ impl Tally {
 
     /// The signed count of a message.
     pub fn count(&self, message: &Message) -> i128
-        ensures count { result ≡ signed_count message_rules message.now self.now }
+        ensures count { result ≡ signed_count message_order message.now self.now }
         ensures small { result <ℤ pos (2 ^ 63) }
     {
         match last_of(&self.signs, message) {
@@ -75,7 +77,7 @@ impl Tally {
 
     /// Whether the signed count of a message is 0. Where the message comes before all others that are counted, none is looked for.
     pub fn is_zero(&self, message: &Message) -> bool
-        ensures { IsTrue result ↔ (signed_count message_rules message.now self.now ≡ pos 0) }
+        ensures { IsTrue result ↔ (signed_count message_order message.now self.now ≡ pos 0) }
     {
         occurrence_order();
         begins_after(&self.signs, message) || last_of(&self.signs, message).is_none()
@@ -83,7 +85,7 @@ impl Tally {
 
     /// The first present message of those that come after `newest`, or of all where none is given.
     pub fn next_after(&self, newest: Option<&Message>) -> Option<Message>
-        ensures { result ≡ present_after message_rules (option_copied newest.entry) self.now }
+        ensures { result ≡ present_after message_order (option_copied newest.entry) self.now }
     {
         next_after(&self.signs, newest)
     }
@@ -91,11 +93,11 @@ impl Tally {
     /// The letter is counted: its message's count rises by 1 for a plus and falls by 1 for a minus, also below 0. The answer tells
     /// whether the message became present or absent by that. A refusal changes nothing.
     pub fn add(&mut self, letter: Letter) -> Result<Change, OutOfMemory>
-        ensures count { OnOk result (signed_count message_rules letter.message self.new
-            ≡ signed_count message_rules letter.message self.old +ℤ weight letter.sign) }
+        ensures count { OnOk result (signed_count message_order letter.message self.new
+            ≡ signed_count message_order letter.message self.old +ℤ weight letter.sign) }
         ensures others { OnOk result ((m : Message) → m ≢ letter.message →
-            signed_count message_rules m self.new ≡ signed_count message_rules m self.old) }
-        ensures change { IfOk result (λ change. change ≡ change_by message_rules (signed letter) self.old) }
+            signed_count message_order m self.new ≡ signed_count message_order m self.old) }
+        ensures change { IfOk result (λ change. change ≡ change_by message_order letter self.old) }
         ensures unchanged { OnErr result (self.new ≡ self.old) }
     {
         occurrence_order();
@@ -108,11 +110,11 @@ impl Tally {
 
     /// Does what `add` does, by two searches.
     fn add_further(&mut self, letter: Letter) -> Result<Change, OutOfMemory>
-        ensures count { OnOk result (signed_count message_rules letter.message self.new
-            ≡ signed_count message_rules letter.message self.old +ℤ weight letter.sign) }
+        ensures count { OnOk result (signed_count message_order letter.message self.new
+            ≡ signed_count message_order letter.message self.old +ℤ weight letter.sign) }
         ensures others { OnOk result ((m : Message) → m ≢ letter.message →
-            signed_count message_rules m self.new ≡ signed_count message_rules m self.old) }
-        ensures change { IfOk result (λ change. change ≡ change_by message_rules (signed letter) self.old) }
+            signed_count message_order m self.new ≡ signed_count message_order m self.old) }
+        ensures change { IfOk result (λ change. change ≡ change_by message_order letter self.old) }
         ensures unchanged { OnErr result (self.new ≡ self.old) }
     {
         occurrence_order();
@@ -134,8 +136,8 @@ impl Tally {
 
     /// A present message is counted once less. Where it is not present nothing changes. It takes no memory.
     pub fn take_present(&mut self, message: &Message)
-        ensures present { IsPresent message_rules self.old message.now → HaveSameCounts message_rules self.old (plus_of message.now ∷ self.new) }
-        ensures absent { (IsPresent message_rules self.old message.now → ⊥) → self.new ≡ self.old }
+        ensures present { IsPresent message_order self.old message.now → HaveSameCounts message_order self.old (plus_of message.now ∷ self.new) }
+        ensures absent { (IsPresent message_order self.old message.now → ⊥) → self.new ≡ self.old }
     {
         occurrence_order();
         if !take_first(&mut self.signs, message) {
@@ -148,7 +150,7 @@ impl Tally {
     /// A call does nothing: its caller learns what the clauses say.
     pub fn told_by_counts(&self)
         ensures tally { IsTally self.now }
-        ensures told { (other : List (Signed Message)) → IsTally other → HaveSameCounts message_rules self.now other → self.now ≡ other }
+        ensures told { (other : List Letter) → IsTally other → HaveSameCounts message_order self.now other → self.now ≡ other }
     {
         occurrence_order();
         let _len = self.signs.len();
@@ -157,9 +159,9 @@ impl Tally {
 
 /// What a letter of this sign makes of its message, of which `last` tells the last ordinal and the sign of the letters that count.
 fn change_at(last: Option<(u64, Sign)>, sign: Sign) -> Change
-    ensures { (m : Message) (tally : List (Signed Message)) → MatchOption last (signed_count message_rules m tally ≡ pos 0)
-        (λ x. signed_count message_rules m tally ≡ count_with x.1 (x.0 + 1)) →
-        result ≡ change_by message_rules (record { message = m; plus = is_plus sign }) tally }
+    ensures { (m : Message) (tally : List Letter) → MatchOption last (signed_count message_order m tally ≡ pos 0)
+        (λ x. signed_count message_order m tally ≡ count_with x.1 (x.0 + 1)) →
+        result ≡ change_by message_order (record { message = m; sign = sign }) tally }
 {
     occurrence_order();
     match sign {

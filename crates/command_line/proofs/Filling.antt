@@ -1,23 +1,24 @@
 -- What a command's arguments keep: each row has a value, which is a number within limits where its argument is one.
-use Rattle.std.proofs.Common.{◌≡◌, ◌∙◌, ℕ, Bool, true, false, cond, List, [], ◌∷◌, ◌++◌, length, Option, Some, None, refl, sym, ap, subst}
-use Rattle.std.specs.Prelude.{find, slice_get, option_map, IfSome, is_some}
+use Rattle.std.proofs.Common.{◌≡◌, ◌∙◌, ℕ, zero, suc, Bool, true, false, cond, List, [], ◌∷◌, ◌++◌, length, Option, Some, None, refl, sym, ap, subst}
+use Rattle.std.specs.Prelude.{◌==◌, find, slice_get, option_map, IfSome, is_some}
 use Rattle.std.specs.Option.{option_and_then, option_map_or}
 use Rattle.std.specs.Str.{bytes_eq}
+use Rattle.std.specs.Cmp.{unsigned_Decides}
 use Rattle.std.proofs.lemmas.Slice.Eq.{bytes_eq-Decides}
 use Rattle.clap.specs.Facts.{explicit_source, parser_of_value, unwrap_or_range}
-use Rattle.clap.specs.Faults.{action_fault, repeat_fault, values_fault}
+use Rattle.clap.specs.Faults.{action_fault, repeat_fault, set_fault, values_fault}
 use Rattle.clap.specs.Kinds.{range_kinds, value_kinds}
 use Rattle.clap.specs.Takes.{is_given}
 use Rattle.clap.specs.Values.{IsUnsignedIn, read_as, refused_kind}
 use Rattle.clap.specs.ValueTests.{accepts}
-use Rattle.clap.specs.Walk.{Row, Rule, Text, action_of, at_row, first_of, most_values, more_values, one_of, reading_by, row_text, used_as, values_or_missing, without}
-use Rattle.clap.specs.declared.builder.action.ArgAction.TheVariants.{Set, Help, Version}
+use Rattle.clap.specs.Walk.{Row, Rule, Text, action_of, at_row, first_of, default_rows, has_row, most_values, more_values, one_of, reading_by, row_text, used_as, values_or_missing, with_values, without}
+use Rattle.clap.specs.declared.builder.action.ArgAction.TheVariants.{Set, SetTrue, Help, Version}
 use Rattle.clap.specs.declared.builder.value_parser.ValueParser.{ValueParser}
 use Rattle.clap.specs.declared.builder.value_parser.ValueParser.TheVariants.{Unsigned}
-use Rattle.clap.specs.declared.parser.matches.ValueSource.TheVariants.{CommandLine}
-use Rattle.clap.specs.declared.error.kind.ErrorKind.TheVariants.{InvalidValue}
+use Rattle.clap.specs.declared.parser.matches.ValueSource.TheVariants.{CommandLine, DefaultValue}
+use Rattle.clap.specs.declared.error.kind.ErrorKind.TheVariants.{InvalidValue, WrongNumberOfValues}
 use Rattle.clap.proofs.ValueTestLemmas.{accepts-Accepts}
-use Rattle.command_line.proofs.Walking.{Each, Keeps, each_found, neither}
+use Rattle.command_line.proofs.Walking.{Each, Keeps, KeepsByDefault, each_found, neither}
 
 each_of_both : (Q : Row → Type 0) (xs ys : List Row) → Each Q xs → Each Q ys → Each Q (xs ++ ys)
 each_of_both Q [] ys f g = g
@@ -43,6 +44,16 @@ accepted i p t none = go (accepts i p t) none
     go : (b : Bool) → cond b [] (refused_kind p ∷ []) ≡ [] → b ≡ true
     go true none = refl
     go false none = cc
+
+-- an argument that takes no value gets none
+no_value : (least most n : ℕ) → least ≡ 0 → most ≡ 0 → range_kinds least most (suc n) ≡ [] → ⊥
+no_value zero zero n a b none = go (0 == suc n) (unsigned_Decides 0 (suc n)).0 none
+  where
+    go : (b : Bool) → (b ≡ true → 0 ≡ suc n) → cond b [] (WrongNumberOfValues ∷ []) ≡ [] → ⊥
+    go true same none = let bad : 0 ≡ suc n = same refl in cc
+    go false same none = cc
+no_value zero (suc m) n a b none = cc
+no_value (suc l) m n a b none = cc
 
 -- an argument that asks for the version
 pub version_keeps : (again : Bool) (Q : Row → Type 0) (a : Rule) → action_of a ≡ Version → Keeps again Q a
@@ -80,9 +91,23 @@ module _ (limits : Text → Option (ℕ × ℕ)) where
   abbrev pub IsFilled : Row → Type 0
   IsFilled r = (t : Text) × (slice_get r.values 0 ≡ Some t) × IsRead r.id (read_as r.reading t)
 
+  -- an argument of this kind gets values, of which the first is one
+  abbrev Reads : Rule → Type 0
+  Reads a = (t : Text) → accepts a.ignore_case (parser_of_value a.parser) t ≡ true → IsRead a.id (read_as (reading_by a) t)
+
+  set_well : (again : Bool) (a : Rule) → Reads a → (v : Text) (vs : List Text) (rows : List Row) → set_fault again a (v ∷ vs) rows ≡ []
+      → Each IsFilled rows → Each IsFilled (with_values a.id (reading_by a) CommandLine (v ∷ vs) (without a.id rows))
+  set_well again a reads v vs rows fits good =
+      let values_fit = (neither (repeat_fault again a.id rows) (values_fault a (v ∷ vs)) fits).1 in
+      let first = (neither (value_kinds a.ignore_case (parser_of_value a.parser) v) _ values_fit).0 in
+      let read = reads v (accepted a.ignore_case (parser_of_value a.parser) v first) in
+      let alone = each_at_row IsFilled a.id (λ _. []) [] rows (λ r filled. tt) tt good in
+      each_at_row IsFilled a.id (more_values CommandLine (v ∷ vs)) _ (without a.id rows)
+      (λ r filled. ((filled.0, first_stays r.values (v ∷ vs) filled.0 filled.1, filled.2), tt)) ((v, refl, read), tt) alone
+
   -- an argument that is set to a value
   pub set_keeps : (again : Bool) (a : Rule) → action_of a ≡ Set → range_kinds (unwrap_or_range a.range).start_inclusive (most_values a) 0 ≡ InvalidValue ∷ []
-      → ((t : Text) → accepts a.ignore_case (parser_of_value a.parser) t ≡ true → IsRead a.id (read_as (reading_by a) t)) → Keeps again IsFilled a
+      → Reads a → Keeps again IsFilled a
   set_keeps again a sets empty reads = record {
     kept = λ values rows none good.
         let parts = neither (range_kinds (unwrap_or_range a.range).start_inclusive (most_values a) (length values)) _ none in
@@ -93,18 +118,48 @@ module _ (limits : Text → Option (ℕ × ℕ)) where
           → Each IsFilled (used_as (action_of a) a.id (reading_by a) (values_or_missing a vs) rows)
       go rows good [] few fits = cc
       go rows good (v ∷ vs) few fits =
-          let values_fit = (neither (repeat_fault again a.id rows) (values_fault a (v ∷ vs)) fits).1 in
-          let first = (neither (value_kinds a.ignore_case (parser_of_value a.parser) v) _ values_fit).0 in
-          let read = reads v (accepted a.ignore_case (parser_of_value a.parser) v first) in
-          let alone = each_at_row IsFilled a.id (λ _. []) [] rows (λ r filled. tt) tt good in
-          subst (λ x. Each IsFilled (used_as x a.id (reading_by a) (v ∷ vs) rows)) (sym sets)
-          (each_at_row IsFilled a.id (more_values CommandLine (v ∷ vs)) _ (without a.id rows)
-          (λ r filled. ((filled.0, first_stays r.values (v ∷ vs) filled.0 filled.1, filled.2), tt)) ((v, refl, read), tt) alone)
+          subst (λ x. Each IsFilled (used_as x a.id (reading_by a) (v ∷ vs) rows)) (sym sets) (set_well again a reads v vs rows fits good)
+
+  reads_text : (a : Rule) → limits a.id ≡ None → Reads a
+  reads_text a none t passes = subst (λ o. IfSome o (λ m. accepts false (Unsigned m.0 m.1) (read_as (reading_by a) t) ≡ true)) (sym none) tt
 
   -- an argument that is set to a text
   pub is_set : (again : Bool) (a : Rule) → action_of a ≡ Set → range_kinds (unwrap_or_range a.range).start_inclusive (most_values a) 0 ≡ InvalidValue ∷ [] → limits a.id ≡ None
       → Keeps again IsFilled a
-  is_set again a sets empty none = set_keeps again a sets empty (λ t passes. subst (λ o. IfSome o (λ m. accepts false (Unsigned m.0 m.1) (read_as (reading_by a) t) ≡ true)) (sym none) tt)
+  is_set again a sets empty none = set_keeps again a sets empty (reads_text a none)
+
+  -- a flag: no value may stand behind it, and it has the one that stands for none
+  pub flag_keeps : (again : Bool) (a : Rule) (named : Text) → action_of a ≡ SetTrue → a.missing ≡ named ∷ []
+      → (unwrap_or_range a.range).start_inclusive ≡ 0 → most_values a ≡ 0 → limits a.id ≡ None → Keeps again IsFilled a
+  flag_keeps again a named sets missing least most none = record {
+    kept = λ values rows fits good.
+        let parts = neither (range_kinds (unwrap_or_range a.range).start_inclusive (most_values a) (length values)) _ fits in
+        go rows good values parts.0 (subst (λ x. action_fault x again a (values_or_missing a values) rows ≡ []) sets parts.1);
+  }
+    where
+      go : (rows : List Row) → Each IsFilled rows → (vs : List Text) → range_kinds (unwrap_or_range a.range).start_inclusive (most_values a) (length vs) ≡ [] → action_fault SetTrue again a (values_or_missing a vs) rows ≡ []
+          → Each IsFilled (used_as (action_of a) a.id (reading_by a) (values_or_missing a vs) rows)
+      go rows good (v ∷ vs) few fits = absurd (no_value _ _ (length vs) least most few)
+      go rows good [] few fits =
+          let one : set_fault again a (named ∷ []) rows ≡ [] = subst (λ vs. set_fault again a vs rows ≡ []) missing fits in
+          subst (λ x. Each IsFilled (used_as x a.id (reading_by a) a.missing rows)) (sym sets)
+          (subst (λ vs. Each IsFilled (with_values a.id (reading_by a) CommandLine vs (without a.id rows))) (sym missing)
+          (set_well again a (reads_text a none) named [] rows one good))
+
+  -- where it is not named it has its default
+  pub flag_default : (a : Rule) (unnamed : Text) → a.defaults ≡ unnamed ∷ [] → limits a.id ≡ None → KeepsByDefault IsFilled a
+  flag_default a unnamed default none = record { kept = λ rows good. go rows good (has_row a.id rows) a.defaults default }
+    where
+      filled_so : (t : Text) → IsRead a.id (read_as (reading_by a) t)
+      filled_so t = subst (λ o. IfSome o (λ m. accepts false (Unsigned m.0 m.1) (read_as (reading_by a) t) ≡ true)) (sym none) tt
+
+      go : (rows : List Row) → Each IsFilled rows → (b : Bool) (ds : List Text) → ds ≡ unnamed ∷ [] → Each IsFilled (cond b rows (default_rows a.id (reading_by a) ds rows))
+      go rows good true ds is = good
+      go rows good false [] is = cc
+      go rows good false (d ∷ ds) is =
+          each_at_row IsFilled a.id (more_values DefaultValue (d ∷ ds)) _ rows
+          (λ r filled. ((filled.0, first_stays r.values (d ∷ ds) filled.0 filled.1, filled.2), tt))
+          ((d, refl, filled_so d), tt) good
 
   -- what is given has a value
   pub has_first : (id : Text) (rows : List Row) → Each IsFilled rows → is_given id rows ≡ true → is_some (first_of id rows) ≡ true

@@ -8,12 +8,12 @@ use Rattle.clap.specs.Faults.{check_fault, entered_fault, fault_of, level_fault,
 use Rattle.clap.specs.Kinds.{check_kinds}
 use Rattle.clap.specs.Simple.{App, Shape, built, entered, label_of, names_of, rows_at, subcommand_of}
 use Rattle.clap.specs.Takes.{is_given}
-use Rattle.clap.specs.Walk.{Row, Text, answers_to, finished, nothing_held, rows_after, walk, walk_from}
+use Rattle.clap.specs.Walk.{Row, Rule, Text, answers_to, finished, nothing_held, rows_after, walk, walk_from}
 use Rattle.vlink.specs.declared.time.TheConstants.{LATEST_NS}
 use Rattle.command_line.specs.Given.{IsGiven}
 use Rattle.command_line.specs.Program.{program}
-use Rattle.command_line.proofs.Filling.{IsFilled, found_passes, has_first, help_keeps, is_set, is_within, set_keeps, version_keeps}
-use Rattle.command_line.proofs.Walking.{Each, IsNoHelp, Keeps, Stopped, at_level, each_found, neither, with_words}
+use Rattle.command_line.proofs.Filling.{IsFilled, flag_default, flag_keeps, found_passes, has_first, help_keeps, is_set, is_within, set_keeps, version_keeps}
+use Rattle.command_line.proofs.Walking.{Each, IsNoHelp, Keeps, KeepsByDefault, Stopped, at_level, each_found, neither, no_default, with_words}
 
 -- the least and the greatest value of the argument with this id, if it is a number
 abbrev limits_of : Text → Option (ℕ × ℕ)
@@ -34,12 +34,12 @@ requires_two false h x none = cc
 abbrev IsCommand : Text → Type 0
 IsCommand name = (name ≡ codes "check") ⊎ ((name ≡ codes "seq") ⊎ ((name ≡ codes "run") ⊎ (name ≡ codes "replay")))
 
-gives : (s : Shape) → Each (Keeps s.args_override_self (IsFilled limits_of)) s.rules → Each (λ a. a.defaults ≡ []) s.rules → IsCommand s.name
+gives : (s : Shape) → Each (Keeps s.args_override_self (IsFilled limits_of)) s.rules → Each (KeepsByDefault (IsFilled limits_of)) s.rules → IsCommand s.name
     → ((rows : List Row) → check_fault s rows false ≡ [] → is_given (codes "NET") rows ≡ true)
     → ((rows : List Row) → check_fault s rows false ≡ [] → s.name ≡ codes "replay" → is_given (codes "STEPS") rows ≡ true)
     → (words : List Text) → level_fault s [] nothing_held words false [] ≡ [] → IsGiven s.name (rows_after s.rules [] words)
-gives s each plain known net steps words none =
-    let here = at_level s (IsFilled limits_of) each plain words none in
+gives s each defaults known net steps words none =
+    let here = at_level s (IsFilled limits_of) each defaults words none in
     let rows = rows_after s.rules [] words in
     record {
       known = known;
@@ -68,25 +68,28 @@ no_help word none names = go (bytes_eq (codes "help") word) refl names
         cc
     go false is names = cc
 
+plain : (a : Rule) → a.defaults ≡ [] → KeepsByDefault (IsFilled limits_of) a
+plain = no_default (IsFilled limits_of)
+
 each_gives : (word : Text) → Each (Gives word) ready.subs
 each_gives word = (
   λ no_help_called answers. gives _ (is_set limits_of _ _ refl refl refl, (help_keeps _ _ _ refl, tt))
-      (refl, (refl, tt)) (inl refl)
+      (plain _ refl, (plain _ refl, tt)) (inl refl)
       (λ rows none. requires_one (is_given (codes "NET") rows) _ none)
       (λ rows none is. cc),
   (
-    λ no_help_called answers. gives _ (is_set limits_of _ _ refl refl refl, (is_set limits_of _ _ refl refl refl, (help_keeps _ _ _ refl, tt)))
-        (refl, (refl, (refl, tt))) (inr (inl refl))
+    λ no_help_called answers. gives _ (is_set limits_of _ _ refl refl refl, (is_set limits_of _ _ refl refl refl, (flag_keeps limits_of _ _ _ refl refl refl refl refl, (help_keeps _ _ _ refl, tt))))
+        (plain _ refl, (plain _ refl, (flag_default limits_of _ _ refl refl, (plain _ refl, tt)))) (inr (inl refl))
         (λ rows none. requires_one (is_given (codes "NET") rows) _ none)
         (λ rows none is. cc),
     (
-      λ no_help_called answers. gives _ (is_set limits_of _ _ refl refl refl, (set_keeps limits_of _ _ refl refl (λ t passes. passes), (set_keeps limits_of _ _ refl refl (λ t passes. passes), (set_keeps limits_of _ _ refl refl (λ t passes. passes), (is_set limits_of _ _ refl refl refl, (is_set limits_of _ _ refl refl refl, (help_keeps _ _ _ refl, tt)))))))
-          (refl, (refl, (refl, (refl, (refl, (refl, (refl, tt))))))) (inr (inr (inl refl)))
+      λ no_help_called answers. gives _ (is_set limits_of _ _ refl refl refl, (set_keeps limits_of _ _ refl refl (λ t passes. passes), (set_keeps limits_of _ _ refl refl (λ t passes. passes), (set_keeps limits_of _ _ refl refl (λ t passes. passes), (is_set limits_of _ _ refl refl refl, (is_set limits_of _ _ refl refl refl, (flag_keeps limits_of _ _ _ refl refl refl refl refl, (help_keeps _ _ _ refl, tt))))))))
+          (plain _ refl, (plain _ refl, (plain _ refl, (plain _ refl, (plain _ refl, (plain _ refl, (flag_default limits_of _ _ refl refl, (plain _ refl, tt)))))))) (inr (inr (inl refl)))
           (λ rows none. requires_one (is_given (codes "NET") rows) _ none)
           (λ rows none is. cc),
       (
         λ no_help_called answers. gives _ (is_set limits_of _ _ refl refl refl, (is_set limits_of _ _ refl refl refl, (help_keeps _ _ _ refl, tt)))
-            (refl, (refl, (refl, tt))) (inr (inr (inr refl)))
+            (plain _ refl, (plain _ refl, (plain _ refl, tt))) (inr (inr (inr refl)))
             (λ rows none. (requires_two (is_given (codes "NET") rows) (is_given (codes "STEPS") rows) _ none).0)
             (λ rows none is. (requires_two (is_given (codes "NET") rows) (is_given (codes "STEPS") rows) _ none).1),
         (λ no_help_called answers. absurd (no_help word no_help_called answers), tt),

@@ -1,5 +1,5 @@
 -- What holds of each row that a walk over the words makes, where the walk has no fault: what each use of an argument keeps.
-use Rattle.std.proofs.Common.{◌≡◌, ◌∙◌, ℕ, Bool, true, false, cond, zero, suc, List, [], ◌∷◌, length, drop, Option, Some, None, codes, refl, sym, ap, subst}
+use Rattle.std.proofs.Common.{◌≡◌, ℕ, Bool, true, false, cond, zero, suc, List, [], ◌∷◌, length, drop, Option, Some, None, codes, refl, ap, subst}
 use Rattle.std.specs.Prelude.{⊤, ◌&&◌, not, find, fold, slice_get, IfSome, is_some, encode_utf8}
 use Rattle.std.specs.Option.{option_map_or}
 use Rattle.std.specs.Str.{bytes_eq, chars}
@@ -8,7 +8,6 @@ use Rattle.clap.specs.Kinds.{Kinds, or_else}
 use Rattle.clap.specs.Faults.{bundle_fault, bundle_step_fault, check_fault, flag_word_fault, flags_fault, level_fault, long_fault, option_fault, other_fault, positional_fault, react_fault, settle_fault, short_fault, step_fault, stray_fault, turn_fault, use_fault, walk_fault, word_fault}
 use Rattle.clap.specs.Simple.{Shape}
 use Rattle.clap.specs.Walk.{Held, Names, Outcome, Row, Rule, Step, Text, Waiting, Walk, after_flag, after_step, arg_by_id, arg_by_index, arg_by_long, arg_by_short, attached_value, bundle, bundle_met, bundle_step, default_rows, done, finished, flag_met, has_row, idle, is_pending, long_met, long_or_other, next, nothing_held, option, option_met, option_word, plain, plain_word, positional, reacted, reading_by, refused, rows_after, settled, settled_rows, short_met, short_or_plain, subcommand, subcommand_met, subcommand_or_other, takes_several, takes_values, to_positional, trailing, used, used_by_id, value, waits, walk, walk_from, walked, with_default, word_met}
-use Rattle.clap.specs.declared.builder.value_parser.Reading.{Reading}
 use Rattle.clap.specs.declared.error.kind.ErrorKind.TheVariants.{DisplayHelp, InvalidSubcommand, TooManyValues}
 
 -- a fact of each element
@@ -221,26 +220,32 @@ module _ (s : Shape) (names : Names) (Q : Row → Type 0) (each : Each (Keeps s.
       let here = with_turn w.stopped w word parts.0 good known in
       with_words rest (walked s.rules names w word) parts.1 here.0 here.1
 
-no_default : (ds : List Text) (id : Text) (how : Reading) (b : Bool) (rows : List Row) → ds ≡ [] → cond b rows (default_rows id how ds rows) ≡ rows
-no_default [] id how true rows none = refl
-no_default [] id how false rows none = refl
-no_default (d ∷ ds) id how b rows none = cc
+-- the default of the argument keeps what holds of each row
+pub record KeepsByDefault (Q : Row → Type 0) (a : Rule) : Type 0 where
+  pub kept : (rows : List Row) → Each Q rows → Each Q (with_default rows a)
 
--- arguments without defaults add no row
-no_defaults : (rules : List Rule) (rows : List Row) → Each (λ a. a.defaults ≡ []) rules → fold with_default rows rules ≡ rows
-no_defaults [] rows none = refl
-no_defaults (a ∷ rest) rows none =
-    ap (λ r. fold with_default r rest) (no_default a.defaults a.id (reading_by a) (has_row a.id rows) rows none.0) ∙ no_defaults rest rows none.1
+-- an argument without one does
+pub no_default : (Q : Row → Type 0) (a : Rule) → a.defaults ≡ [] → KeepsByDefault Q a
+no_default Q a none = record { kept = λ rows good. go rows good (has_row a.id rows) a.defaults none }
+  where
+    go : (rows : List Row) → Each Q rows → (b : Bool) (ds : List Text) → ds ≡ [] → Each Q (cond b rows (default_rows a.id (reading_by a) ds rows))
+    go rows good true ds none = good
+    go rows good false [] none = good
+    go rows good false (d ∷ ds) none = cc
+
+with_defaults : (Q : Row → Type 0) (rules : List Rule) (rows : List Row) → Each (KeepsByDefault Q) rules → Each Q rows → Each Q (fold with_default rows rules)
+with_defaults Q [] rows keep good = good
+with_defaults Q (a ∷ rest) rows keep good = with_defaults Q rest (with_default rows a) keep.1 (keep.0.kept rows good)
 
 -- a command without subcommands: it holds of each row, and the last checks have no fault
-pub at_level : (s : Shape) (Q : Row → Type 0) → Each (Keeps s.args_override_self Q) s.rules → Each (λ a. a.defaults ≡ []) s.rules → (words : List Text)
+pub at_level : (s : Shape) (Q : Row → Type 0) → Each (Keeps s.args_override_self Q) s.rules → Each (KeepsByDefault Q) s.rules → (words : List Text)
     → level_fault s [] nothing_held words false [] ≡ []
     → Each Q (rows_after s.rules [] words) × (check_fault s (rows_after s.rules [] words) false ≡ [])
-at_level s Q each plain_rules words none =
+at_level s Q each defaults words none =
     let end = (walk s.rules [] nothing_held words).held in
     let first = neither (walk_fault s [] (walk_from nothing_held) words) _ none in
     let second = neither (settle_fault s.rules s.args_override_self end) _ first.1 in
     let third = neither _ (check_fault s (finished s.rules end) false) second.1 in
     let walked_well = with_words s [] Q each words (walk_from nothing_held) first.0 tt tt in
     let good = settle s.rules s.args_override_self Q each end second.0 walked_well.0 in
-    (subst (Each Q) (sym (no_defaults s.rules (settled s.rules end).rows plain_rules)) good, third.1)
+    (with_defaults Q s.rules (settled s.rules end).rows defaults good, third.1)

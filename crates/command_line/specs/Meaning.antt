@@ -1,5 +1,5 @@
 -- What the words after the program's name mean.
-use Rattle.std.specs.Prelude.{◌≡◌, ◌≤◌, ℕ, List, [], Option, Some, None, IfSome, option_map, codes}
+use Rattle.std.specs.Prelude.{◌≡◌, ◌↔◌, ◌≤◌, ℕ, IsTrue, Bool, List, [], Option, Some, None, IfSome, option_map, codes}
 use Rattle.std.specs.Option.{option_map_or}
 use Rattle.std.specs.Str.Parse.{digits_value, without_leading_plus}
 use Rattle.std.specs.String.{string_bytes}
@@ -32,12 +32,17 @@ command_of (order.Replay o) = codes "replay"
 abbrev pub IsNumberOf : Option Text → ℕ → Type 0
 IsNumberOf word n = IfSome word (λ digits. n ≡ digits_value 10 (without_leading_plus digits))
 
+-- the flag with this id is set where the words name it
+abbrev pub IsNamed : List Row → Text → Bool → Type 0
+IsNamed rows id is_set = IsTrue is_set ↔ (first_of id rows ≡ Some (codes "true"))
+
 pub record NamesCheck (rows : List Row) (o : Check) : Type 0 where
   pub net : first_of (codes "NET") rows ≡ Some (string_bytes o.net)
 
 pub record NamesSeq (rows : List Row) (o : Seq) : Type 0 where
   pub net : first_of (codes "NET") rows ≡ Some (string_bytes o.net)
   pub trace : first_of (codes "trace") rows ≡ option_map string_bytes o.trace
+  pub progress : IsNamed rows (codes "progress") o.progress
 
 pub record NamesRun (rows : List Row) (o : Run) : Type 0 where
   pub net : first_of (codes "NET") rows ≡ Some (string_bytes o.net)
@@ -46,6 +51,7 @@ pub record NamesRun (rows : List Row) (o : Run) : Type 0 where
   pub window : IsNumberOf (one_of (codes "window") rows) o.window_ns
   pub journal : first_of (codes "journal") rows ≡ option_map string_bytes o.journal
   pub trace : first_of (codes "trace") rows ≡ option_map string_bytes o.trace
+  pub progress : IsNamed rows (codes "progress") o.progress
 
 pub record NamesReplay (rows : List Row) (o : Replay) : Type 0 where
   pub net : first_of (codes "NET") rows ≡ Some (string_bytes o.net)

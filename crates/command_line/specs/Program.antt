@@ -2,6 +2,7 @@
 use Rattle.std.specs.Prelude.{ℕ, true, Some, codes}
 use Rattle.clap.specs.Words.{App, Rule, Text, new_app, new_rule, with_rule, with_subcommand}
 use Rattle.clap.specs.Simple.{on_top}
+use Rattle.clap.specs.declared.builder.action.ArgAction.TheVariants.{SetTrue}
 use Rattle.clap.specs.declared.builder.value_parser.ValueParser.TheVariants.{Unsigned}
 use Rattle.vlink.specs.declared.time.TheConstants.{LATEST_NS}
 
@@ -13,6 +14,10 @@ path_rule id = record (new_rule id) { required = true }
 abbrev pub file_rule : Text → Rule
 file_rule id = record (new_rule id) { long = Some id; value_names = 1 }
 
+-- a flag that may be named: `--id`
+abbrev pub flag_rule : Text → Rule
+flag_rule id = record (new_rule id) { long = Some id; action = Some SetTrue }
+
 -- a whole number that may be named, from 1 to the most: `--id N`
 abbrev pub number_rule : Text → ℕ → Rule
 number_rule id most = record (file_rule id) { parser = Some (Unsigned 1 most) }
@@ -21,14 +26,16 @@ number_rule id most = record (file_rule id) { parser = Some (Unsigned 1 most) }
 abbrev pub check_app : App
 check_app = with_rule (new_app (codes "check")) (path_rule (codes "NET"))
 
--- `seq NET [--trace FILE]`
+-- `seq NET [--trace FILE] [--progress]`
 abbrev pub seq_app : App
-seq_app = with_rule (with_rule (new_app (codes "seq")) (path_rule (codes "NET"))) (file_rule (codes "trace"))
+seq_app =
+    with_rule (with_rule (with_rule (new_app (codes "seq")) (path_rule (codes "NET"))) (file_rule (codes "trace"))) (flag_rule (codes "progress"))
 
--- `run NET [--workers N] [--turn N] [--window NS] [--journal FILE] [--trace FILE]`
+-- `run NET [--workers N] [--turn N] [--window NS] [--journal FILE] [--trace FILE] [--progress]`
 abbrev pub run_app : App
 run_app =
     with_rule
+    (with_rule
     (with_rule
     (with_rule
     (with_rule
@@ -36,7 +43,8 @@ run_app =
     (number_rule (codes "turn") 256))
     (number_rule (codes "window") LATEST_NS))
     (file_rule (codes "journal")))
-    (file_rule (codes "trace"))
+    (file_rule (codes "trace")))
+    (flag_rule (codes "progress"))
 
 -- `replay NET STEPS`
 abbrev pub replay_app : App

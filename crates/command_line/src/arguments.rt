@@ -1,10 +1,10 @@
 //! The arguments of the commands.
 ghost use Rattle.std.specs.Prelude.{◌≡◌, Some, false};
 ghost use Rattle.clap.specs.Words.{new_rule, rule_of};
-ghost use Rattle.command_line.specs.Program.{file_rule, path_rule};
+ghost use Rattle.command_line.specs.Program.{file_rule, flag_rule, path_rule};
 
-use clap::Arg;
 use clap::builder::ValueParser;
+use clap::{Arg, ArgAction};
 use std::alloc::Global;
 
 /// A path that has to be there, known by its place.
@@ -21,6 +21,17 @@ pub(crate) fn file<'a>(alloc: Global, id: &'a str, help: &'a str) -> Arg<'a>
     ensures local { result.global ≡ false }
 {
     Arg::new(alloc, id).long(id).value_name("FILE").help(help)
+}
+
+/// A flag that may be named: `--id`.
+pub(crate) fn flag<'a>(alloc: Global, id: &'a str, help: &'a str) -> Arg<'a>
+    ensures rule { rule_of result ≡ flag_rule id.entry.now }
+    ensures local { result.global ≡ false }
+{
+    Arg::new(alloc, id)
+        .long(id)
+        .action(ArgAction::SetTrue)
+        .help(help)
 }
 
 /// A number that may be named: `--id UNIT`.

@@ -7,7 +7,7 @@ ghost use Rattle.command_line.specs.Meaning.{HasDefaults, IsWithinLimits, Names,
 
 use crate::orders::{Check, Order, Replay, Run, Seq};
 use crate::paces::{MOST_TURN, MOST_WORKERS, USUAL_TURN, USUAL_WINDOW_NS, USUAL_WORKERS};
-use crate::values::{given_text_of, number_of, text_of};
+use crate::values::{given_text_of, is_named, number_of, text_of};
 use clap::ArgMatches;
 use std::alloc::{AllocError, Global};
 use vlink::LATEST_NS;
@@ -47,7 +47,11 @@ fn seq_of(alloc: Global, values: &ArgMatches<'_>) -> Result<Seq, AllocError>
 {
     let net = given_text_of(alloc, values, "NET")?;
     let trace = text_of(alloc, values, "trace")?;
-    Ok(Seq { net, trace })
+    Ok(Seq {
+        net,
+        trace,
+        progress: is_named(values, "progress"),
+    })
 }
 
 fn run_of(alloc: Global, values: &ArgMatches<'_>) -> Result<Run, AllocError>
@@ -72,6 +76,7 @@ fn run_of(alloc: Global, values: &ArgMatches<'_>) -> Result<Run, AllocError>
         window_ns,
         journal,
         trace,
+        progress: is_named(values, "progress"),
     })
 }
 

@@ -5,9 +5,9 @@
 pub enum Order {
     /// `check NET`.
     Check(Check),
-    /// `seq NET [--trace FILE]`.
+    /// `seq NET [--trace FILE] [--progress]`.
     Seq(Seq),
-    /// `run NET [--workers N] [--turn N] [--window NS] [--journal FILE] [--trace FILE]`.
+    /// `run NET [--workers N] [--turn N] [--window NS] [--journal FILE] [--trace FILE] [--progress]`.
     Run(Run),
     /// `replay NET STEPS`.
     Replay(Replay),
@@ -27,6 +27,8 @@ pub struct Seq {
     pub net: String,
     /// The path of the file that is to get the trace, if one is.
     pub trace: Option<String>,
+    /// Whether error output is to say how far the run is.
+    pub progress: bool,
 }
 
 /// Run a network by Time Warp on several threads.
@@ -44,6 +46,8 @@ pub struct Run {
     pub journal: Option<String>,
     /// The path of the file that is to get the trace, if one is.
     pub trace: Option<String>,
+    /// Whether error output is to say how far the run is.
+    pub progress: bool,
 }
 
 /// Run a network by the steps of a journal.

@@ -4,7 +4,7 @@ ghost use Rattle.clap.specs.Words.{app_of};
 ghost use Rattle.clap.specs.declared.builder.command.Command.TheViews.{out-Command};
 ghost use Rattle.command_line.specs.Program.{check_app, program, replay_app, run_app, seq_app};
 
-use crate::arguments::{file, path};
+use crate::arguments::{file, flag, path};
 use crate::paces::{turn, window, workers};
 use clap::Command;
 use std::alloc::{AllocError, Global};
@@ -15,6 +15,9 @@ const VERSION: &str = "0.1.0";
 const NET: &str = "The network's description, a TOML file";
 
 const TRACE: &str = "Writes each delivery and each drop to this file, as CSV";
+
+const PROGRESS: &str =
+    "Says on error output, at most four times a second, how far the run is and how long it may still take";
 
 const EXAMPLES: &str =
     "Examples:\n  afdxsim check examples/n1.toml\n  afdxsim seq examples/n1.toml --trace t.csv\n  afdxsim run examples/n1.toml --workers 8 --journal steps.txt\n  afdxsim replay examples/n1.toml steps.txt\n\nA refused description is told by its first fault; tools/explain.py tells all of them at once, each with its line.";
@@ -56,7 +59,8 @@ fn seq<'a>(alloc: Global) -> Result<Command<'a>, AllocError>
         .about("Simulates the network on one thread, and prints its tables as CSV")
         .after_help("Example: afdxsim seq examples/n1.toml --trace t.csv")
         .arg(path(alloc, "NET", NET))?
-        .arg(file(alloc, "trace", TRACE))
+        .arg(file(alloc, "trace", TRACE))?
+        .arg(flag(alloc, "progress", PROGRESS))
 }
 
 fn run<'a>(alloc: Global) -> Result<Command<'a>, AllocError>
@@ -75,7 +79,8 @@ fn run<'a>(alloc: Global) -> Result<Command<'a>, AllocError>
             "journal",
             "Writes the run's steps to this file, for replay",
         ))?
-        .arg(file(alloc, "trace", TRACE))
+        .arg(file(alloc, "trace", TRACE))?
+        .arg(flag(alloc, "progress", PROGRESS))
 }
 
 fn replay<'a>(alloc: Global) -> Result<Command<'a>, AllocError>

@@ -3,7 +3,7 @@ ghost use Rattle.std.specs.Prelude.{◌≡◌, ◌≤◌, None, Some, true, IfOk
 ghost use Rattle.std.specs.String.{string_bytes};
 ghost use Rattle.clap.specs.Words.{found_of, first_of, one_of, rows_of};
 ghost use Rattle.command_line.specs.Given.{IsUpTo};
-ghost use Rattle.command_line.specs.Meaning.{IsNumberOf};
+ghost use Rattle.command_line.specs.Meaning.{IsNamed, IsNumberOf};
 
 use clap::ArgMatches;
 use std::alloc::{AllocError, Global};
@@ -33,6 +33,16 @@ pub(crate) fn given_text_of(
 {
     let text = values.get_str(id).unwrap();
     String::from_str(alloc, text)
+}
+
+/// Whether a flag is named.
+pub(crate) fn is_named(values: &ArgMatches<'_>, id: &str) -> bool
+    ensures { IsNamed (rows_of (found_of values.now)) id.now result }
+{
+    match values.get_str(id) {
+        Some(text) => text == "true",
+        None => false,
+    }
 }
 
 /// The number of an argument, which is at most the greatest, or the usual one where it has none.

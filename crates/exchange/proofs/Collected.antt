@@ -7,18 +7,15 @@ use Rattle.std.proofs.lemmas.Bool.{cases_eq}
 use Rattle.std.proofs.lemmas.Option.{get_or_from_slice_get}
 use Rattle.vlink.specs.declared.message.Message.{Message}
 use Rattle.vlink.specs.declared.note.Note.{Note}
-use Rattle.virtual_time.specs.Rules.{Rules}
-use Rattle.virtual_time.specs.Simulation.{Simulation}
-use Rattle.virtual_time.specs.Letters.{Letter as Signed, lowest, times_of}
-use Rattle.virtual_time.specs.Part.{Part, opened}
-use Rattle.virtual_time.specs.World.{Step}
-use Rattle.virtual_time.specs.Own.{Act, local}
-use Rattle.virtual_time.specs.Own.Act.{Deliver}
-use Rattle.virtual_time.specs.Journal.{Move, Took, act_by, acts_of, steps_of, own_in, reach, after_own, fetched}
+use Rattle.virtual_time.specs.Law.{Rules, Simulation, lowest, times_of, Part, opened, Act, local, after_moves, Deliver, Took, acts_of, steps_of, own_in, reach, after_own, fetched}
+use Rattle.virtual_time.specs.declared.step.Step.{Step}
+use Rattle.virtual_time.specs.declared.moved.Move.{Move}
 use Rattle.virtual_time.proofs.Kept.{put_elim}
 use Rattle.virtual_time.proofs.Journal.{local-append, takes}
 use Rattle.reverse.specs.Setting.{Setting, simulation_of}
-use Rattle.antimessages.specs.Letters.{message_rules, Store}
+use Rattle.antimessages.specs.Letters.{Store}
+use Rattle.vlink.specs.Order.{message_order}
+use Rattle.vlink.specs.Letters.{Letter}
 use Rattle.antimessages.specs.Mailing.{letters_for}
 use Rattle.gvt.specs.Horizon.{Floors}
 use Rattle.process_queues.specs.Queues.{Queues, StandsFor, Does, delivered_all}
@@ -30,7 +27,7 @@ use Rattle.exchange.specs.Effects.{told, mark, collects}
 use Rattle.exchange.proofs.Growth.{Fresh, books-set, kept-more}
 
 -- the deliveries of these letters
-delivered-local : {S K : Type 0} (r : Rules Message S K Note) (o : S) (ls : List (Signed Message)) (part : Part Message S) → delivered_all ls part ≡ local r o (map (λ l. Deliver l) ls) part
+delivered-local : {S K : Type 0} (r : Rules Message S K Note) (o : S) (ls : List Letter) (part : Part Message S) → delivered_all ls part ≡ local r o (map (λ l. Deliver l) ls) part
 delivered-local r o [] part = refl
 delivered-local r o (l ∷ ls) part = delivered-local r o ls _
 
@@ -38,17 +35,17 @@ lowest-push : (d : ℕ) (xs : List ℕ) (x : ℕ) → lowest d (xs ++ x ∷ []) 
 lowest-push d [] x = refl
 lowest-push d (y ∷ xs) x = let a = lowest-push d xs x in omega arith
 
-times-more : (d : ℕ) (ls : List (Signed Message)) (i : ℕ) (l : Signed Message) → i < length ls → slice_get ls i ≡ Some l →
-    lowest d (times_of message_rules (take (i + 1) ls)) ≡ min l.message.time (lowest d (times_of message_rules (take i ls)))
+times-more : (d : ℕ) (ls : List Letter) (i : ℕ) (l : Letter) → i < length ls → slice_get ls i ≡ Some l →
+    lowest d (times_of message_order (take (i + 1) ls)) ≡ min l.message.time (lowest d (times_of message_order (take i ls)))
 times-more d ls i l h e =
-    ap (λ z. lowest d (times_of message_rules z)) (take_more ls i l h ∙ ap (λ z. take i ls ++ z ∷ []) (get_or_from_slice_get ls i l l e)) ∙
-    (ap (lowest d) (map-append (λ (x : Signed Message). x.message.time) (take i ls) (l ∷ [])) ∙
-    lowest-push d (times_of message_rules (take i ls)) l.message.time)
+    ap (λ z. lowest d (times_of message_order z)) (take_more ls i l h ∙ ap (λ z. take i ls ++ z ∷ []) (get_or_from_slice_get ls i l l e)) ∙
+    (ap (lowest d) (map-append (λ (x : Letter). x.message.time) (take i ls) (l ∷ [])) ∙
+    lowest-push d (times_of message_order (take i ls)) l.message.time)
 
 -- a floor that has fallen to the first letters falls to the next
-pub floor-more : (ls : List (Signed Message)) (i : ℕ) (l : Signed Message) → i < length ls → slice_get ls i ≡ Some l → (first now new : Option ℕ) →
-    now ≡ option_map (λ d. lowest d (times_of message_rules (take i ls))) first → new ≡ option_map (min l.message.time) now →
-    new ≡ option_map (λ d. lowest d (times_of message_rules (take (i + 1) ls))) first
+pub floor-more : (ls : List Letter) (i : ℕ) (l : Letter) → i < length ls → slice_get ls i ≡ Some l → (first now new : Option ℕ) →
+    now ≡ option_map (λ d. lowest d (times_of message_order (take i ls))) first → new ≡ option_map (min l.message.time) now →
+    new ≡ option_map (λ d. lowest d (times_of message_order (take (i + 1) ls))) first
 floor-more ls i l h e None now new a b = b ∙ ap (option_map (min l.message.time)) a
 floor-more ls i l h e (Some d) now new a b = b ∙ (ap (option_map (min l.message.time)) a ∙ ap (λ z. Some z) (sym (times-more d ls i l h e)))
 
@@ -100,11 +97,11 @@ module _ {S K : Type 0} {r : Rules Message S K Note} {number end : S → ℕ} {i
   }
 
   -- the first letters of the mail of a process are collected
-  pub kept-collected : (p : ℕ) → p < x.processes → (xs rest : List (Signed Message)) → letters_for p mail ≡ xs ++ rest → 0 < length xs →
+  pub kept-collected : (p : ℕ) → p < x.processes → (xs rest : List Letter) → letters_for p mail ≡ xs ++ rest → 0 < length xs →
       {prior : Option ℕ} {t : Tokens} → Fresh pages ts (told p prior (Took xs)) (own_in p (entries_of ts)) t →
       (mail' : List Store) → length mail' ≡ length mail → letters_for p mail' ≡ rest → ((q : ℕ) → (q ≡ p → ⊥) → letters_for q mail' ≡ letters_for q mail) →
       (floors' : Floors) → length floors'.floors ≡ length floors.floors → floors'.until ≡ floors.until →
-      slice_get floors'.floors p ≡ option_map (λ d. lowest d (times_of r xs)) (slice_get floors.floors p) →
+      slice_get floors'.floors p ≡ option_map (λ d. lowest d (times_of r.order xs)) (slice_get floors.floors p) →
       ((q : ℕ) → (q ≡ p → ⊥) → slice_get floors'.floors q ≡ slice_get floors.floors q) →
       (ts' : List Tokens) → ts' ≡ ts ++ t ∷ [] → (count' : ℕ) → count' ≡ count + length xs →
       (books' : List Mark) → books' ≡ set books p (mark (Some (length ts)) gvt) →
@@ -119,35 +116,35 @@ module _ {S K : Type 0} {r : Rules Message S K Note} {number end : S → ℕ} {i
       mail' boxes
       (put_elim (λ q ls. q < x.processes → letters_for q mail' ≡ ls) p rest w.mail (λ j. left) (λ q n j. others q n ∙ k.mail_is q j))
       floors' floor_count until
-      (put_elim (λ q n. q < x.processes → slice_get floors'.floors q ≡ Some n) p (lowest (w.floors p) (times_of r xs)) w.floors
-      (λ j. here ∙ ap (option_map (λ d. lowest d (times_of r xs))) (k.floors_is p j)) (λ q n j. elsewhere q n ∙ k.floors_is q j))
+      (put_elim (λ q n. q < x.processes → slice_get floors'.floors q ≡ Some n) p (lowest (w.floors p) (times_of r.order xs)) w.floors
+      (λ j. here ∙ ap (option_map (λ d. lowest d (times_of r.order xs))) (k.floors_is p j)) (λ q n j. elsewhere q n ∙ k.floors_is q j))
       gvt k.gvt_is count' (counts ∙ ap (λ n. count + n) (sym many)) (subst (λ n. 0 < n) (sym many) some)
       (set books p (mark (Some (length ts)) gvt)) (books-set new k.booked (λ q. refl) i refl gvt (omega arith))))
 
 -- a process without a block, after these letters were collected for it
-pub part-collected : {S K : Type 0} (f : Simulation Message S K Note) (p : ℕ) (own own' : List (Act Message)) (block : List Move) (xs : List (Signed Message)) → block ≡ [] → own' ≡ own ++ acts_of (Took xs) →
-    after_own f p own' ≡ local f.rules (f.opening p) (acts_of (Took xs)) (local f.rules (f.opening p) (map act_by block) (after_own f p own))
+pub part-collected : {S K : Type 0} (f : Simulation Message S K Note) (p : ℕ) (own own' : List (Act Message)) (block : List Move) (xs : List Letter) → block ≡ [] → own' ≡ own ++ acts_of (Took xs) →
+    after_own f p own' ≡ local f.rules (f.opening p) (acts_of (Took xs)) (after_moves f.rules (f.opening p) block (after_own f p own))
 part-collected f p own own' block xs none more =
     ap (after_own f p) more ∙
     (local-append f (f.opening p) own (acts_of (Took xs)) (opened (f.opening p)) ∙
-    ap (λ b. local f.rules (f.opening p) (acts_of (Took xs)) (local f.rules (f.opening p) (map act_by b) (after_own f p own))) (sym none))
+    ap (λ b. local f.rules (f.opening p) (acts_of (Took xs)) (after_moves f.rules (f.opening p) b (after_own f p own))) (sym none))
 
-pub stands-collected : {S K : Type 0} (f : Simulation Message S K Note) (is_value : S → Message → Type 0) (p : ℕ) (own own' : List (Act Message)) (block : List Move) (xs : List (Signed Message)) (q q' : Queues S K) →
-    block ≡ [] → own' ≡ own ++ acts_of (Took xs) → StandsFor f.rules is_value (f.opening p) (local f.rules (f.opening p) (map act_by block) (after_own f p own)) q →
+pub stands-collected : {S K : Type 0} (f : Simulation Message S K Note) (is_value : S → Message → Type 0) (p : ℕ) (own own' : List (Act Message)) (block : List Move) (xs : List Letter) (q q' : Queues S K) →
+    block ≡ [] → own' ≡ own ++ acts_of (Took xs) → StandsFor f.rules is_value (f.opening p) (after_moves f.rules (f.opening p) block (after_own f p own)) q →
     Does f.rules is_value (λ opening. delivered_all xs) q q' → StandsFor f.rules is_value (f.opening p) (after_own f p own') q'
 stands-collected f is_value p own own' block xs q q' none more stands does =
-    let part = local f.rules (f.opening p) (map act_by block) (after_own f p own) in
+    let part = after_moves f.rules (f.opening p) block (after_own f p own) in
     subst (λ z. StandsFor f.rules is_value (f.opening p) z q') (delivered-local f.rules (f.opening p) xs part ∙ sym (part-collected f p own own' block xs none more))
     (does (f.opening p) part stands)
 
 -- and what contracts see of it
-pub share-collected : {S K : Type 0} (f : Simulation Message S K Note) (p : ℕ) (own own' : List (Act Message)) (block : List Move) (xs : List (Signed Message)) (m m' : Mark) (gone : ℕ) →
+pub share-collected : {S K : Type 0} (f : Simulation Message S K Note) (p : ℕ) (own own' : List (Act Message)) (block : List Move) (xs : List Letter) (m m' : Mark) (gone : ℕ) →
     block ≡ [] → own' ≡ own ++ acts_of (Took xs) → m ≡ m' →
     ◌≡◌ {A = InShare S}
-    (record { number = p; part = local f.rules (f.opening p) (map act_by block) (after_own f p own'); block = block; own = own'; share = m; gone = gone })
+    (record { number = p; part = after_moves f.rules (f.opening p) block (after_own f p own'); block = block; own = own'; share = m; gone = gone })
     (record {
       number = p;
-      part = local f.rules (f.opening p) (acts_of (Took xs)) (local f.rules (f.opening p) (map act_by block) (after_own f p own));
+      part = local f.rules (f.opening p) (acts_of (Took xs)) (after_moves f.rules (f.opening p) block (after_own f p own));
       block = [];
       own = own ++ acts_of (Took xs);
       share = m';
@@ -156,7 +153,7 @@ pub share-collected : {S K : Type 0} (f : Simulation Message S K Note) (p : ℕ)
 share-collected f p own own' block xs m m' gone none more same =
     λ i. record {
       number = p;
-      part = (ap (λ b. local f.rules (f.opening p) (map act_by b) (after_own f p own')) none ∙ part-collected f p own own' block xs none more) i;
+      part = (ap (λ b. after_moves f.rules (f.opening p) b (after_own f p own')) none ∙ part-collected f p own own' block xs none more) i;
       block = none i;
       own = more i;
       share = same i;
@@ -165,13 +162,13 @@ share-collected f p own own' block xs m m' gone none more same =
 
 module _ {S K : Type 0} (f : Simulation Message S K Note) (x : Ledger) (h : InShare S) (y : Ledger) (k : InShare S) where
   -- some were there
-  pub collects-some : (xs ys : List (Signed Message)) → ys ≡ xs → 0 < length ys →
+  pub collects-some : (xs ys : List Letter) → ys ≡ xs → 0 < length ys →
       y ≡ record { entries = x.entries ++ told h.number h.share.place (Took ys) ∷ []; books = set x.books h.number (mark (Some (length x.entries)) (reach f x.entries).gvt); limit = x.limit } →
       k ≡ record h { part = local f.rules (f.opening h.number) (acts_of (Took ys)) h.part; block = []; own = h.own ++ acts_of (Took ys); share = mark (Some (length x.entries)) (reach f x.entries).gvt } →
       collects f xs x h y k
   collects-some xs ys is some a b = subst (λ z. collects f z x h y k) is (go ys some a b)
     where
-      go : (zs : List (Signed Message)) → 0 < length zs →
+      go : (zs : List Letter) → 0 < length zs →
           y ≡ record { entries = x.entries ++ told h.number h.share.place (Took zs) ∷ []; books = set x.books h.number (mark (Some (length x.entries)) (reach f x.entries).gvt); limit = x.limit } →
           k ≡ record h { part = local f.rules (f.opening h.number) (acts_of (Took zs)) h.part; block = []; own = h.own ++ acts_of (Took zs); share = mark (Some (length x.entries)) (reach f x.entries).gvt } →
           collects f zs x h y k

@@ -4,26 +4,24 @@ use Rattle.std.proofs.lemmas.List.{take-append-le}
 use Rattle.std.proofs.lemmas.List.Elements.{All-nil}
 use Rattle.vlink.specs.declared.message.Message.{Message}
 use Rattle.vlink.specs.declared.note.Note.{Note}
-use Rattle.virtual_time.specs.Rules.{Rules, Row, rowed, reached}
-use Rattle.virtual_time.specs.Letters.{Letter}
-use Rattle.virtual_time.specs.Part.{Part, next_of, handled, arrived, is_turned, rolled_back, counted, can_seal, sealed}
-use Rattle.virtual_time.specs.Own.{Act, acted, local}
-use Rattle.virtual_time.specs.Own.Act.{Deliver, Arriving, Running, Sealing, Emptying}
+use Rattle.vlink.specs.Letters.{Letter, Row}
+use Rattle.virtual_time.specs.Law.{Rules, rowed, reached, Part, next_of, handled, arrived, is_turned, rolled_back, counted, can_seal, sealed, Act, acted, local, Deliver, Emptying, Moves}
 use Rattle.virtual_time.proofs.Handling.{rowed-append}
+use Rattle.virtual_time.specs.declared.moved.Move.TheVariants.{Arrived, Ran, Sealed}
 use Rattle.process_queues.specs.Queues.{Queues, StandsFor}
 use Rattle.fossil.specs.Within.{AreFirstBefore}
 
 module _ {S K : Type 0} (r : Rules Message S K Note) where
   -- where no row has left, all that left are early
-  pub gone-none : (moment n : ℕ) → n ≡ 0 → (rows : List (Row Message Note)) → AreFirstBefore r moment n rows
-  gone-none moment n none rows = subst (λ z. AreFirstBefore r moment z rows) (sym none) (All-nil (λ row. r.time row.message < moment))
+  pub gone-none : (moment n : ℕ) → n ≡ 0 → (rows : List Row) → AreFirstBefore r moment n rows
+  gone-none moment n none rows = subst (λ z. AreFirstBefore r moment z rows) (sym none) (All-nil (λ row. r.order.time row.message < moment))
 
   -- what is earlier than a moment is earlier than a later one
-  pub gone-later : (moment later : ℕ) → moment ≤ later → (n : ℕ) (rows : List (Row Message Note)) → AreFirstBefore r moment n rows → AreFirstBefore r later n rows
+  pub gone-later : (moment later : ℕ) → moment ≤ later → (n : ℕ) (rows : List Row) → AreFirstBefore r moment n rows → AreFirstBefore r later n rows
   gone-later moment later le n rows h i d lt = let a = h i d lt in omega arith
 
   -- no row is of a moment before 0, so that none has left
-  pub gone-zero : (n : ℕ) (rows : List (Row Message Note)) → n ≤ length rows → AreFirstBefore r 0 n rows → n ≡ 0
+  pub gone-zero : (n : ℕ) (rows : List Row) → n ≤ length rows → AreFirstBefore r 0 n rows → n ≡ 0
   gone-zero zero rows within h = refl
   gone-zero (suc n) [] within h = absurd (omega arith)
   gone-zero (suc n) (x ∷ xs) within h = let a = h 0 x (omega arith) in absurd (omega arith)
@@ -36,9 +34,9 @@ module _ {S K : Type 0} (r : Rules Message S K Note) where
     stays : (ms : List Message) → Grows ms ms
     stays ms = ([], sym (append-nil ms))
 
-    arriving-grows : (part : Part Message S) (ls : List (Letter Message)) → Grows part.committed (arrived r o part ls).committed
+    arriving-grows : (part : Part Message S) (ls : List Letter) → Grows part.committed (arrived r o part ls).committed
     arriving-grows part [] = stays part.committed
-    arriving-grows part (l ∷ rest) = go (is_turned r l part.tally)
+    arriving-grows part (l ∷ rest) = go (is_turned r.order l part.tally)
       where
         go : (b : Bool) → Grows part.committed (cond b (rolled_back r o l.message (counted r l rest part)) (counted r l rest part)).committed
         go true = stays part.committed
@@ -48,9 +46,9 @@ module _ {S K : Type 0} (r : Rules Message S K Note) where
     running-grows part None = stays part.committed
     running-grows part (Some m) = stays part.committed
 
-    sealing-grows : (part : Part Message S) (ms : List Message) → Grows part.committed (cond (can_seal r part ms) (sealed r part ms) part).committed
+    sealing-grows : (part : Part Message S) (ms : List Message) → Grows part.committed (cond (can_seal r.order part ms) (sealed r part ms) part).committed
     sealing-grows part [] = stays part.committed
-    sealing-grows part (m ∷ rest) = go (can_seal r part (m ∷ rest))
+    sealing-grows part (m ∷ rest) = go (can_seal r.order part (m ∷ rest))
       where
         go : (b : Bool) → Grows part.committed (cond b (sealed r part (m ∷ rest)) part).committed
         go true = (m ∷ [], refl)
@@ -58,9 +56,9 @@ module _ {S K : Type 0} (r : Rules Message S K Note) where
 
     act-grows : (a : Act Message) (part : Part Message S) → Grows part.committed (acted r o a part).committed
     act-grows (Deliver l) part = stays part.committed
-    act-grows Arriving part = arriving-grows part part.tray
-    act-grows Running part = running-grows part (next_of r part)
-    act-grows Sealing part = sealing-grows part part.done
+    act-grows (Moves Arrived) part = arriving-grows part part.tray
+    act-grows (Moves Ran) part = running-grows part (next_of r.order part)
+    act-grows (Moves Sealed) part = sealing-grows part part.done
     act-grows Emptying part = stays part.committed
 
     acts-grow : (acts : List (Act Message)) (part : Part Message S) → Grows part.committed (local r o acts part).committed
@@ -80,4 +78,4 @@ module _ {S K : Type 0} (r : Rules Message S K Note) where
         (λ i. take (kept i) (rowed r o ((ap (λ (z : Part Message S). z.committed) did ∙ grown.1) i)))
         ∙ (ap (take q.left) (rowed-append r o part.committed grown.0)
         ∙ take-append-le q.left first (rowed r (reached r o part.committed) grown.0) (let a = stands.sealed in omega arith)) in
-        subst (λ rows. All (λ row. r.time row.message < moment) rows) (sym same) h
+        subst (λ rows. All (λ row. r.order.time row.message < moment) rows) (sym same) h

@@ -5,11 +5,7 @@ use Rattle.std.proofs.lemmas.Bool.{cases_eq}
 use Rattle.std.proofs.lemmas.List.{length-map, length-set, map-append}
 use Rattle.vlink.specs.declared.message.Message.{Message}
 use Rattle.vlink.specs.declared.note.Note.{Note}
-use Rattle.virtual_time.specs.Rules.{Rules}
-use Rattle.virtual_time.specs.Simulation.{put}
-use Rattle.virtual_time.specs.World.{World, run}
-use Rattle.virtual_time.specs.Own.{Act, local}
-use Rattle.virtual_time.specs.Journal.{Deed, Entry, steps_of, steps, acts_of, own_in, reach, after_own, is_of, last_from, last_place}
+use Rattle.virtual_time.specs.Law.{Rules, put, World, run, Act, local, Deed, Entry, steps_of, steps, acts_of, own_in, reach, after_own, is_of, last_from, last_place}
 use Rattle.virtual_time.proofs.Journal.{steps-append, reach-push, own-append, parts-push}
 use Rattle.reverse.specs.Setting.{Setting, simulation_of}
 use Rattle.antimessages.specs.Letters.{Store}

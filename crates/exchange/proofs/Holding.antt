@@ -4,13 +4,9 @@ use Rattle.std.proofs.lemmas.Bool.{and_parts}
 use Rattle.std.proofs.lemmas.List.{map-append}
 use Rattle.vlink.specs.declared.message.Message.{Message}
 use Rattle.vlink.specs.declared.note.Note.{Note}
-use Rattle.virtual_time.specs.Rules.{Rules, rowed}
-use Rattle.virtual_time.specs.Simulation.{Simulation, Laws}
-use Rattle.virtual_time.specs.Part.{Part, opened, emptied}
-use Rattle.virtual_time.specs.Own.{acted, local}
-use Rattle.virtual_time.specs.Own.Act.{Emptying}
-use Rattle.virtual_time.specs.SafePart.{IsSafePart, MayAct}
-use Rattle.virtual_time.specs.Journal.{Move, Arrived, Ran, Sealed, Posted, act_by, acts_of, steps, own_in, reach, after_own, can_move, AreEnabled}
+use Rattle.virtual_time.specs.Law.{Rules, rowed, Simulation, Laws, Part, opened, emptied, acted, local, after_moves, Emptying, Moves, IsSafePart, MayAct, Posted, acts_of, steps, own_in, reach, after_own, can_move, AreEnabled}
+use Rattle.virtual_time.specs.declared.moved.Move.{Move}
+use Rattle.virtual_time.specs.declared.moved.Move.TheVariants.{Arrived, Ran, Sealed}
 use Rattle.virtual_time.proofs.Journal.{local-append, emptied-last, enabled-later}
 use Rattle.virtual_time.proofs.SafePart.{acted-safe, world-safe}
 use Rattle.reverse.specs.Setting.{Setting, simulation_of}
@@ -26,16 +22,16 @@ use Rattle.exchange.proofs.Gone.{gone-stays}
 
 module _ {S K : Type 0} (f : Simulation Message S K Note) where
   -- some steps and then others
-  pub moved-then : (o : S) (ms ns : List Move) (part : Part Message S) → local f.rules o (map act_by (ms ++ ns)) part ≡ local f.rules o (map act_by ns) (local f.rules o (map act_by ms) part)
+  pub moved-then : (o : S) (ms ns : List Move) (part : Part Message S) → after_moves f.rules o (ms ++ ns) part ≡ after_moves f.rules o ns (after_moves f.rules o ms part)
   moved-then o ms ns part =
-      ap (λ z. local f.rules o z part) (map-append (λ (m : Move). act_by {M = Message} m) ms ns) ∙ local-append f o (map act_by ms) (map act_by ns) part
+      ap (λ z. local f.rules o z part) (map-append (λ (m : Move). Moves {M = Message} m) ms ns) ∙ local-append f o (map (λ m. Moves m) ms) (map (λ m. Moves m) ns) part
 
-  enabled-push : (o : S) (g : ℕ) (ms : List Move) (m : Move) (part : Part Message S) → AreEnabled f o g ms part → can_move f g m (local f.rules o (map act_by ms) part) ≡ true →
+  enabled-push : (o : S) (g : ℕ) (ms : List Move) (m : Move) (part : Part Message S) → AreEnabled f o g ms part → can_move f g m (after_moves f.rules o ms part) ≡ true →
       AreEnabled f o g (ms ++ m ∷ []) part
   enabled-push o g [] m part a e = (e, tt)
-  enabled-push o g (n ∷ ms) m part a e = (a.0, enabled-push o g ms m (acted f.rules o (act_by n) part) a.1 e)
+  enabled-push o g (n ∷ ms) m part a e = (a.0, enabled-push o g ms m (acted f.rules o (Moves n) part) a.1 e)
 
-  may-move : (g : ℕ) (m : Move) (part : Part Message S) → can_move f g m part ≡ true → MayAct f g (act_by m) part
+  may-move : (g : ℕ) (m : Move) (part : Part Message S) → can_move f g m part ≡ true → MayAct f g (Moves m) part
   may-move g Arrived part e = tt
   may-move g Ran part e = tt
   may-move g Sealed part e = (and_parts _ _ e).0
@@ -44,33 +40,33 @@ module _ {S K : Type 0} {r : Rules Message S K Note} {number end : S → ℕ} {i
   module _ {is_value : S → Message → Type 0} {pages table : List ℕ} {p seen gone : ℕ} {block : List Move} {last : Option EntryPlace} {q : Queues S K}
       (h : Holds r number end is_placed x is_value pages table p seen gone block last q) (L : Laws (simulation_of r x)) where
     -- it does one step more
-    pub holds-moved : (m : Move) → can_move (simulation_of r x) seen m (local r (x.opening p) (map act_by block) (after_own (simulation_of r x) p (own_of last))) ≡ true →
-        (q' : Queues S K) → StandsFor r is_value (x.opening p) (acted r (x.opening p) (act_by m) (local r (x.opening p) (map act_by block) (after_own (simulation_of r x) p (own_of last)))) q' → q'.left ≡ q.left →
+    pub holds-moved : (m : Move) → can_move (simulation_of r x) seen m (after_moves r (x.opening p) block (after_own (simulation_of r x) p (own_of last))) ≡ true →
+        (q' : Queues S K) → StandsFor r is_value (x.opening p) (acted r (x.opening p) (Moves m) (after_moves r (x.opening p) block (after_own (simulation_of r x) p (own_of last)))) q' → q'.left ≡ q.left →
         (block' : List Move) → block' ≡ block ++ m ∷ [] → Holds r number end is_placed x is_value pages table p seen gone block' last q'
     holds-moved m can q' stands kept block' longer =
         let f = simulation_of r x in
         let base = after_own f p (own_of last) in
-        let part = local r (x.opening p) (map act_by block) base in
-        let next : local r (x.opening p) (map act_by (block ++ m ∷ [])) base ≡ acted r (x.opening p) (act_by m) part = moved-then f (x.opening p) block (m ∷ []) base in
+        let part = after_moves r (x.opening p) block base in
+        let next : after_moves r (x.opening p) (block ++ m ∷ []) base ≡ acted r (x.opening p) (Moves m) part = moved-then f (x.opening p) block (m ∷ []) base in
         subst (λ b. Holds r number end is_placed x is_value pages table p seen gone b last q') (sym longer) (record {
           laid = h.laid;
           same = h.same;
           number_is = h.number_is;
           stands = subst (λ z. StandsFor r is_value (x.opening p) z q') (sym next) stands;
-          safe = subst (λ z. IsSafePart f p seen z) (sym next) (acted-safe f L p seen h.number_is (act_by m) part h.safe (may-move f seen m part can));
-          gone_early = gone-stays r (x.opening p) part q h.stands gone h.gone_early (act_by m ∷ []) _ next q' kept;
+          safe = subst (λ z. IsSafePart f p seen z) (sym next) (acted-safe f L p seen h.number_is (Moves m) part h.safe (may-move f seen m part can));
+          gone_early = gone-stays r (x.opening p) part q h.stands gone h.gone_early (Moves m ∷ []) _ next q' kept;
           enabled = enabled-push f (x.opening p) seen block m base h.enabled can;
           last_is = h.last_is;
         })
 
     -- its block goes to the journal
     pub holds-posted : (last' : Option EntryPlace) → IsLast pages last' → own_of last' ≡ own_of last ++ acts_of (Posted block) →
-        (q' : Queues S K) → StandsFor r is_value (x.opening p) (emptied (local r (x.opening p) (map act_by block) (after_own (simulation_of r x) p (own_of last)))) q' → q'.left ≡ q.left →
+        (q' : Queues S K) → StandsFor r is_value (x.opening p) (emptied (after_moves r (x.opening p) block (after_own (simulation_of r x) p (own_of last)))) q' → q'.left ≡ q.left →
         (block' : List Move) → block' ≡ [] → Holds r number end is_placed x is_value pages table p seen gone block' last' q'
     holds-posted last' is-last own q' stands kept block' none =
         let f = simulation_of r x in
         let base = after_own f p (own_of last) in
-        let part = local r (x.opening p) (map act_by block) base in
+        let part = after_moves r (x.opening p) block base in
         let next : after_own f p (own_of last') ≡ emptied part =
         ap (after_own f p) own ∙ (local-append f (x.opening p) (own_of last) (acts_of (Posted block)) (opened (x.opening p)) ∙ emptied-last f (x.opening p) block base) in
         subst (λ b. Holds r number end is_placed x is_value pages table p seen gone b last' q') (sym none) (record {
@@ -119,13 +115,13 @@ module _ {S K : Type 0} {r : Rules Message S K Note} {number end : S → ℕ} {i
     -- what is in hand is the process of the world and then its block, of which each step can be done there
     pub joined : {is_value : S → Message → Type 0} {table' : List ℕ} {p seen gone : ℕ} {block : List Move} {last : Option EntryPlace} {q : Queues S K} →
         Holds r number end is_placed x is_value pages table' p seen gone block last q → seen ≤ gvt → own_of last ≡ own_in p (entries_of ts) →
-        (local r (x.opening p) (map act_by block) (after_own (simulation_of r x) p (own_of last)) ≡ local r (x.opening p) (map act_by block) ((reach (simulation_of r x) (entries_of ts)).parts p))
+        (after_moves r (x.opening p) block (after_own (simulation_of r x) p (own_of last)) ≡ after_moves r (x.opening p) block ((reach (simulation_of r x) (entries_of ts)).parts p))
         × AreEnabled (simulation_of r x) (x.opening p) (reach (simulation_of r x) (entries_of ts)).gvt block ((reach (simulation_of r x) (entries_of ts)).parts p)
         × (own_of last ≡ own_in p (entries_of ts))
     joined {p = p} {seen = seen} {block = block} {last = last} h low mine =
         let f = simulation_of r x in
         let same = world-part p last mine in (
-          ap (local r (x.opening p) (map act_by block)) same,
+          ap (after_moves r (x.opening p) block) same,
           subst (λ g. AreEnabled f (x.opening p) g block ((reach f (entries_of ts)).parts p)) k.gvt_is
               (subst (λ z. AreEnabled f (x.opening p) gvt block z) same (enabled-later f (x.opening p) seen gvt low block (after_own f p (own_of last)) h.enabled)),
           mine,

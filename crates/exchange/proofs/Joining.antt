@@ -3,9 +3,8 @@ use Rattle.std.proofs.Common.{◌≡◌, ℕ, ◌<◌, ◌≤◌, List, map, len
 use Rattle.std.proofs.lemmas.Option.{slice_get_within, slice_get_read}
 use Rattle.vlink.specs.declared.message.Message.{Message}
 use Rattle.vlink.specs.declared.note.Note.{Note}
-use Rattle.virtual_time.specs.Rules.{Rules}
-use Rattle.virtual_time.specs.Own.{local}
-use Rattle.virtual_time.specs.Journal.{Move, act_by, own_in, reach, after_own, AreEnabled}
+use Rattle.virtual_time.specs.Law.{Rules, local, after_moves, own_in, reach, after_own, AreEnabled}
+use Rattle.virtual_time.specs.declared.moved.Move.{Move}
 use Rattle.reverse.specs.Setting.{Setting, simulation_of}
 use Rattle.antimessages.specs.Letters.{Store}
 use Rattle.gvt.specs.Horizon.{Floors}
@@ -29,7 +28,7 @@ module _ {S K : Type 0} {r : Rules Message S K Note} {number end : S → ℕ} {i
 
   abbrev Told : Type 0
   Told =
-      (local r (x.opening p) (map act_by block) (after_own (simulation_of r x) p (own_of last)) ≡ local r (x.opening p) (map act_by block) ((reach (simulation_of r x) (entries_of ts)).parts p))
+      (after_moves r (x.opening p) block (after_own (simulation_of r x) p (own_of last)) ≡ after_moves r (x.opening p) block ((reach (simulation_of r x) (entries_of ts)).parts p))
       × AreEnabled (simulation_of r x) (x.opening p) (reach (simulation_of r x) (entries_of ts)).gvt block ((reach (simulation_of r x) (entries_of ts)).parts p)
       × (own_of last ≡ own_in p (entries_of ts))
 

@@ -1,14 +1,12 @@
 -- The steps of a journal, entry by entry.
 use Rattle.std.proofs.Common.{◌≡◌, ℕ, zero, suc, ◌+◌, ◌<◌, ◌≤◌, List, [], ◌∷◌, ◌++◌, map, length, take, drop, slice_get, get_or, Some, None, refl, sym, ap, ◌∙◌, arith, drop-cons, length-append, append-nil, append_assoc}
 use Rattle.std.specs.Option.{option_map}
-use Rattle.std.proofs.lemmas.List.{take_more, map-append}
+use Rattle.std.proofs.lemmas.List.{take_more}
 use Rattle.std.proofs.lemmas.Option.{slice_get-map, slice_get_read, slice_get_within, get_or_from_slice_get}
 use Rattle.vlink.specs.declared.message.Message.{Message}
-use Rattle.vlink.specs.declared.step.Step.{Step as Noted}
-use Rattle.virtual_time.specs.World.{Step}
-use Rattle.virtual_time.specs.Journal.{Entry, steps_of, steps}
+use Rattle.virtual_time.specs.declared.step.Step.{Step}
+use Rattle.virtual_time.specs.Law.{Entry, steps_of, steps}
 use Rattle.virtual_time.proofs.Journal.{steps-append}
-use Rattle.antimessages.specs.Steps.{step_of}
 use Rattle.journal.specs.Deeds.{seen_entry}
 use Rattle.journal.specs.declared.tokens.Tokens.{Tokens}
 use Rattle.exchange.specs.Keeps.{entries_of}
@@ -58,15 +56,14 @@ steps-few (x ∷ es) (suc i) e h =
     omega arith
 
 -- a list that has some steps gets the next one
-pub listed-more : (ss : List Step) (i : ℕ) (s : Noted) (first list more : List Noted) → Some (step_of s) ≡ slice_get ss i → map step_of list ≡ map step_of first ++ take i ss → more ≡ list ++ s ∷ [] →
-    map step_of more ≡ map step_of first ++ take (i + 1) ss
+pub listed-more : (ss : List Step) (i : ℕ) (s : Step) (first list more : List Step) → Some s ≡ slice_get ss i → list ≡ first ++ take i ss → more ≡ list ++ s ∷ [] →
+    more ≡ first ++ take (i + 1) ss
 listed-more ss i s first list more at so-far pushed =
-    let next : take (i + 1) ss ≡ take i ss ++ step_of s ∷ [] =
-    take_more ss i (step_of s) (slice_get_within ss i (step_of s) (sym at)) ∙ ap (λ z. take i ss ++ z ∷ []) (get_or_from_slice_get ss i (step_of s) (step_of s) (sym at)) in
-    ap (map step_of) pushed ∙
-    (map-append step_of list (s ∷ []) ∙
-    (ap (λ z. z ++ step_of s ∷ []) so-far ∙
-    (append_assoc (map step_of first) (take i ss) (step_of s ∷ []) ∙ ap (λ z. map step_of first ++ z) (sym next))))
+    let next : take (i + 1) ss ≡ take i ss ++ s ∷ [] =
+    take_more ss i s (slice_get_within ss i s (sym at)) ∙ ap (λ z. take i ss ++ z ∷ []) (get_or_from_slice_get ss i s s (sym at)) in
+    pushed ∙
+    (ap (λ z. z ++ s ∷ []) so-far ∙
+    (append_assoc first (take i ss) (s ∷ []) ∙ ap (λ z. first ++ z) (sym next)))
 
 -- there is a step at each place of a list
 pub some-step : (ss : List Step) (i : ℕ) → i < length ss → slice_get ss i ≡ None → ⊥

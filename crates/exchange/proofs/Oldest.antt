@@ -5,25 +5,24 @@ use Rattle.std.specs.Option.{option_map}
 use Rattle.std.proofs.lemmas.Bool.{le-ltb, ltb-false}
 use Rattle.vlink.specs.declared.message.Message.{Message}
 use Rattle.vlink.specs.declared.note.Note.{Note}
-use Rattle.virtual_time.specs.Rules.{Rules, IsOrder}
-use Rattle.virtual_time.specs.Lists.{IsAscending, earlier}
+use Rattle.virtual_time.specs.Law.{Rules, IsOrder, IsAscending, earlier}
 use Rattle.virtual_time.proofs.Lists.{filter-none}
 use Rattle.virtual_time.proofs.Order.{less-time}
 use Rattle.fossil.specs.Committed.{is_moment_before}
 
-module _ {S K : Type 0} (r : Rules Message S K Note) (O : IsOrder r) (moment : ℕ) where
-  pub oldest-tells : (done : List Message) → IsAscending r done → (first : Option ℕ) → first ≡ option_map r.time (slice_get done 0) →
-      (before : Bool) → before ≡ is_moment_before moment first → IsTrue (not before) ↔ (earlier r moment done ≡ [])
+module _ {S K : Type 0} (r : Rules Message S K Note) (O : IsOrder r.order) (moment : ℕ) where
+  pub oldest-tells : (done : List Message) → IsAscending r.order done → (first : Option ℕ) → first ≡ option_map r.order.time (slice_get done 0) →
+      (before : Bool) → before ≡ is_moment_before moment first → IsTrue (not before) ↔ (earlier r.order moment done ≡ [])
   oldest-tells [] up first e before b =
-      subst (λ z. IsTrue (not z) ↔ (earlier r moment [] ≡ [])) (sym (b ∙ ap (is_moment_before moment) e)) (λ t. refl, λ n. refl)
+      subst (λ z. IsTrue (not z) ↔ (earlier r.order moment [] ≡ [])) (sym (b ∙ ap (is_moment_before moment) e)) (λ t. refl, λ n. refl)
   oldest-tells (x ∷ xs) up first e before b =
-      subst (λ z. IsTrue (not z) ↔ (earlier r moment (x ∷ xs) ≡ [])) (sym (b ∙ ap (is_moment_before moment) e)) (pick (nat_lt (r.time x) moment) behind)
+      subst (λ z. IsTrue (not z) ↔ (earlier r.order moment (x ∷ xs) ≡ [])) (sym (b ∙ ap (is_moment_before moment) e)) (pick (nat_lt (r.order.time x) moment) behind)
     where
-      behind : nat_lt (r.time x) moment ≡ false → earlier r moment xs ≡ []
+      behind : nat_lt (r.order.time x) moment ≡ false → earlier r.order moment xs ≡ []
       behind late =
-          filter-none r O (λ y. nat_lt (r.time y) moment) xs
-          (λ y j. le-ltb (r.time y) moment (let a = less-time r O x y (up.0 y j) in let b = ltb-false _ _ late in omega arith))
+          filter-none r.order O (λ y. nat_lt (r.order.time y) moment) xs
+          (λ y j. le-ltb (r.order.time y) moment (let a = less-time r.order O x y (up.0 y j) in let b = ltb-false _ _ late in omega arith))
 
-      pick : (a : Bool) → (a ≡ false → earlier r moment xs ≡ []) → IsTrue (not a) ↔ (cond a (x ∷ earlier r moment xs) (earlier r moment xs) ≡ [])
+      pick : (a : Bool) → (a ≡ false → earlier r.order moment xs ≡ []) → IsTrue (not a) ↔ (cond a (x ∷ earlier r.order moment xs) (earlier r.order moment xs) ≡ [])
       pick true h = (λ t. absurd cc, λ n. absurd cc)
       pick false h = (λ t. h refl, λ n. refl)

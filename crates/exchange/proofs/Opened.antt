@@ -6,13 +6,8 @@ use Rattle.std.proofs.lemmas.List.Elements.{All-nil, All-cons}
 use Rattle.std.proofs.lemmas.Option.{slice_get_read}
 use Rattle.vlink.specs.declared.message.Message.{Message}
 use Rattle.vlink.specs.declared.note.Note.{Note}
-use Rattle.virtual_time.specs.Rules.{Rules, IsOrder}
-use Rattle.virtual_time.specs.Lists.{IsIn}
-use Rattle.virtual_time.specs.Letters.{plus_of, received_by}
-use Rattle.virtual_time.specs.Simulation.{Laws}
-use Rattle.virtual_time.specs.Part.{opened}
-use Rattle.virtual_time.specs.World.{run}
-use Rattle.virtual_time.specs.Journal.{Move}
+use Rattle.virtual_time.specs.Law.{Rules, IsOrder, IsIn, plus_of, received_by, Laws, opened, run}
+use Rattle.virtual_time.specs.declared.moved.Move.{Move}
 use Rattle.virtual_time.proofs.Lists.{in-head}
 use Rattle.virtual_time.proofs.SafePart.{world-safe}
 use Rattle.reverse.specs.Setting.{Setting, simulation_of, IsLaidOut}
@@ -29,11 +24,11 @@ use Rattle.exchange.proofs.Gone.{gone-none}
 use Rattle.exchange.proofs.Lists.{slice_get-last, slice_get-more}
 
 -- messages to processes of which there are so many
-messages-go : {S K : Type 0} (r : Rules Message S K Note) (O : IsOrder r) (n : ℕ) (ms : List Message) → ((m : Message) → IsIn r m ms → r.receiver m < n) →
-    All (λ l. r.receiver l.message < n) (map plus_of ms)
-messages-go r O n [] h = All-nil (λ l. r.receiver l.message < n)
+messages-go : {S K : Type 0} (r : Rules Message S K Note) (O : IsOrder r.order) (n : ℕ) (ms : List Message) → ((m : Message) → IsIn r.order m ms → r.order.receiver m < n) →
+    All (λ l. r.order.receiver l.message < n) (map plus_of ms)
+messages-go r O n [] h = All-nil (λ l. r.order.receiver l.message < n)
 messages-go r O n (m ∷ ms) h =
-    All-cons (λ l. r.receiver l.message < n) (plus_of m) (map plus_of ms) (h m (in-head r O m ms)) (messages-go r O n ms (λ k j. h k (let a = j in omega arith)))
+    All-cons (λ l. r.order.receiver l.message < n) (plus_of m) (map plus_of ms) (h m (in-head r.order O m ms)) (messages-go r O n ms (λ k j. h k (let a = j in omega arith)))
 
 -- the actor at a place is in the opening state of the process of that number
 pub actor-opens : {S : Type 0} (processes : ℕ) (opening : ℕ → S) (actors : List S) → length actors ≡ processes → ((p : ℕ) → p < processes → slice_get actors p ≡ Some (opening p)) →
@@ -59,11 +54,11 @@ helds-more opening hs more n h count each is pushed p i =
 
 module _ {S K : Type 0} {r : Rules Message S K Note} {number end : S → ℕ} {is_placed : S → Type 0} {x : Setting S} (laid : IsLaidOut r number end is_placed x) where
   -- the offers go to processes
-  pub offers-go : IsOrder r → (offers : List Message) → offers ≡ x.offers → (n : ℕ) → n ≡ x.processes → All (λ l. r.receiver l.message < n) (map plus_of offers)
-  offers-go O offers same n e = messages-go r O n offers (λ m j. let a = laid.offered_to m (subst (IsIn r m) same j) in omega arith)
+  pub offers-go : IsOrder r.order → (offers : List Message) → offers ≡ x.offers → (n : ℕ) → n ≡ x.processes → All (λ l. r.order.receiver l.message < n) (map plus_of offers)
+  offers-go O offers same n e = messages-go r O n offers (λ m j. let a = laid.offered_to m (subst (IsIn r.order m) same j) in omega arith)
 
   module _ {pages table : List ℕ} (same : table ≡ pages) where
-    pub kept-opened : (mail : List Store) → length mail ≡ x.processes → ((p : ℕ) → letters_for p mail ≡ received_by r p (map plus_of x.offers)) →
+    pub kept-opened : (mail : List Store) → length mail ≡ x.processes → ((p : ℕ) → letters_for p mail ≡ received_by r.order p (map plus_of x.offers)) →
         (floors : Floors) → length floors.floors ≡ x.processes → floors.until ≡ x.until → ((p : ℕ) → p < x.processes → slice_get floors.floors p ≡ Some (suc x.until)) →
         (books : List Mark) → books ≡ replicate x.processes blank → (ts : List Tokens) → ts ≡ [] → (gvt : ℕ) → gvt ≡ 0 → IsRecorded r number end is_placed x pages table ts mail floors gvt 0 books
     unfolding run

@@ -5,13 +5,10 @@ use Rattle.std.proofs.lemmas.List.{length-map}
 use Rattle.std.proofs.lemmas.List.Elements.{All-nil, All-cons}
 use Rattle.vlink.specs.declared.message.Message.{Message}
 use Rattle.vlink.specs.declared.note.Note.{Note}
-use Rattle.virtual_time.specs.Rules.{Rules, IsOrder}
-use Rattle.virtual_time.specs.Simulation.{Simulation, Laws, put}
-use Rattle.virtual_time.specs.Letters.{Letter as Signed, IsNamed, received_by}
-use Rattle.virtual_time.specs.Part.{Part, opened, emptied, floor_of}
-use Rattle.virtual_time.specs.World.{World, Step, start, run}
-use Rattle.virtual_time.specs.Own.{Act, local}
-use Rattle.virtual_time.specs.Journal.{Move, Posted, step_by, act_by, acts_of, steps_of, steps, own_in, reach, after_own, AreEnabled, delivered_block}
+use Rattle.vlink.specs.Letters.{Letter}
+use Rattle.virtual_time.specs.Law.{Rules, IsOrder, Simulation, Laws, put, IsNamed, received_by, Part, opened, emptied, floor_of, World, start, run, Act, local, after_moves, Posted, step_by, acts_of, steps_of, steps, own_in, reach, after_own, AreEnabled, delivered_block}
+use Rattle.virtual_time.specs.declared.step.Step.{Step}
+use Rattle.virtual_time.specs.declared.moved.Move.{Move}
 use Rattle.virtual_time.proofs.Letters.{named-head}
 use Rattle.virtual_time.proofs.Reading.{reached-keeps}
 use Rattle.virtual_time.proofs.Kept.{put_elim}
@@ -31,14 +28,14 @@ use Rattle.exchange.proofs.Collected.{kept-as}
 use Rattle.exchange.proofs.Growth.{Fresh, books-set, kept-more}
 
 -- letters to processes of which there are so many
-letters-go : {S K : Type 0} (r : Rules Message S K Note) (O : IsOrder r) (n : ℕ) (ls : List (Signed Message)) → ((m : Message) → IsNamed r m ls → r.receiver m < n) →
-    All (λ l. r.receiver l.message < n) ls
-letters-go r O n [] h = All-nil (λ l. r.receiver l.message < n)
+letters-go : {S K : Type 0} (r : Rules Message S K Note) (O : IsOrder r.order) (n : ℕ) (ls : List Letter) → ((m : Message) → IsNamed r.order m ls → r.order.receiver m < n) →
+    All (λ l. r.order.receiver l.message < n) ls
+letters-go r O n [] h = All-nil (λ l. r.order.receiver l.message < n)
 letters-go r O n (l ∷ ls) h =
-    All-cons (λ z. r.receiver z.message < n) l ls (h l.message (named-head r O l ls)) (letters-go r O n ls (λ m k. h m (let a = k in omega arith)))
+    All-cons (λ z. r.order.receiver z.message < n) l ls (h l.message (named-head r.order O l ls)) (letters-go r O n ls (λ m k. h m (let a = k in omega arith)))
 
 -- the actor of a process is told the end time of the run
-pub end-told : {S K : Type 0} (r : Rules Message S K Note) (is_value : S → Message → Type 0) (opening : S) (part : Part Message S) (q : Queues S K) → StandsFor r is_value opening part q → IsOrder r →
+pub end-told : {S K : Type 0} (r : Rules Message S K Note) (is_value : S → Message → Type 0) (opening : S) (part : Part Message S) (q : Queues S K) → StandsFor r is_value opening part q → IsOrder r.order →
     (end : S → ℕ) → ((s : S) (m : Message) → end (r.after s m) ≡ end s) → (until : ℕ) → end opening ≡ until → end q.past.state ≡ until
 end-told r is_value opening part q h O end stays until is =
     subst (λ s. end s ≡ until) (sym (sym h.past.state ∙ h.well.state_is))
@@ -47,23 +44,23 @@ end-told r is_value opening part q h O end stays until is =
 module _ {S K : Type 0} {r : Rules Message S K Note} {number end : S → ℕ} {is_placed : S → Type 0} {x : Setting S} {pages table : List ℕ} {ts : List Tokens} {mail : List Store} {floors : Floors}
     {gvt count : ℕ} {books : List Mark} (k : IsRecorded r number end is_placed x pages table ts mail floors gvt count books) (L : Laws (simulation_of r x)) (p : ℕ) (i : p < x.processes) (block : List Move)
     (enabled : AreEnabled (simulation_of r x) (x.opening p) (reach (simulation_of r x) (entries_of ts)).gvt block ((reach (simulation_of r x) (entries_of ts)).parts p))
-    (part : Part Message S) (part-is : part ≡ local r (x.opening p) (map act_by block) ((reach (simulation_of r x) (entries_of ts)).parts p)) where
+    (part : Part Message S) (part-is : part ≡ after_moves r (x.opening p) block ((reach (simulation_of r x) (entries_of ts)).parts p)) where
   -- what is in its outbox goes to processes
-  pub outbox-goes : (ls : List (Signed Message)) → ls ≡ part.outbox → All (λ l. r.receiver l.message < length mail) ls
+  pub outbox-goes : (ls : List Letter) → ls ≡ part.outbox → All (λ l. r.order.receiver l.message < length mail) ls
   outbox-goes ls is =
       let f = simulation_of r x in
       let w = reach f (entries_of ts) in
       let xs = steps (entries_of ts) ++ map (step_by p) block in
-      let done = local r (x.opening p) (map act_by block) (w.parts p) in
+      let done = after_moves r (x.opening p) block (w.parts p) in
       let there : (run f xs (start f)).parts p ≡ done =
       ap (λ (z : World Message S). z.parts p) (run-then f (steps (entries_of ts)) (map (step_by p) block) (start f) ∙ moves f p i block w enabled) ∙ put_here p done w.parts in
       let same : ls ≡ ((run f xs (start f)).parts p).outbox = is ∙ (ap (λ (z : Part Message S). z.outbox) part-is ∙ ap (λ (z : Part Message S). z.outbox) (sym there)) in
-      letters-go r L.order (length mail) ls (λ m h. subst (λ n. r.receiver m < n) (sym k.boxes) (outboxes f L xs p m (subst (λ z. IsNamed r m z) same h)))
+      letters-go r L.order (length mail) ls (λ m h. subst (λ n. r.order.receiver m < n) (sym k.boxes) (outboxes f L xs p m (subst (λ z. IsNamed r.order m z) same h)))
 
   pub kept-posted : {prior : Option ℕ} {t : Tokens} → Fresh pages ts (told p prior (Posted block)) (own_in p (entries_of ts)) t →
-      (mail' : List Store) → length mail' ≡ length mail → ((q : ℕ) → letters_for q mail' ≡ letters_for q mail ++ received_by r q part.outbox) →
+      (mail' : List Store) → length mail' ≡ length mail → ((q : ℕ) → letters_for q mail' ≡ letters_for q mail ++ received_by r.order q part.outbox) →
       (floors' : Floors) → length floors'.floors ≡ length floors.floors → floors'.until ≡ floors.until →
-      (floor : ℕ) → floor ≡ floor_of r x.until part → slice_get floors'.floors p ≡ Some floor →
+      (floor : ℕ) → floor ≡ floor_of r.order x.until part → slice_get floors'.floors p ≡ Some floor →
       ((q : ℕ) → (q ≡ p → ⊥) → slice_get floors'.floors q ≡ slice_get floors.floors q) →
       (ts' : List Tokens) → ts' ≡ ts ++ t ∷ [] → (count' : ℕ) → count' ≡ count + (length block + 1) →
       (seen : ℕ) → seen ≤ gvt → (books' : List Mark) → books' ≡ set books p (mark (Some (length ts)) seen) →
@@ -71,16 +68,16 @@ module _ {S K : Type 0} {r : Rules Message S K Note} {number end : S → ℕ} {i
   kept-posted {t = t} new mail' boxes letters floors' floor_count until floor floor-is here others ts' more count' counts seen low books' books-are =
       let f = simulation_of r x in
       let w = reach f (entries_of ts) in
-      let done = local r (x.opening p) (map act_by block) (w.parts p) in
+      let done = after_moves r (x.opening p) block (w.parts p) in
       let many : length (steps_of {M = Message} p (Posted block)) ≡ length block + 1 =
       length-append (map (step_by p) block) (Step.Post p ∷ []) ∙ ap (λ n. n + 1) (length-map block (step_by p)) in
       subst (λ us. IsRecorded r number end is_placed x pages table us mail' floors' gvt count' books') (sym more)
       (subst (λ bs. IsRecorded r number end is_placed x pages table (ts ++ t ∷ []) mail' floors' gvt count' bs) (sym books-are)
       (kept-more k new (delivered_block f p block w) (posts f p i block w enabled) (ap (λ z. put p z w.parts) (sym (emptied-last f (x.opening p) block (w.parts p))))
-      mail' boxes (λ q j. letters q ∙ (λ n. k.mail_is q j n ++ received_by r q (part-is n).outbox))
+      mail' boxes (λ q j. letters q ∙ (λ n. k.mail_is q j n ++ received_by r.order q (part-is n).outbox))
       floors' floor_count until
-      (put_elim (λ q n. q < x.processes → slice_get floors'.floors q ≡ Some n) p (floor_of r x.until done) w.floors
-      (λ j. here ∙ ap (λ z. Some z) (floor-is ∙ ap (floor_of r x.until) part-is)) (λ q n j. others q n ∙ k.floors_is q j))
+      (put_elim (λ q n. q < x.processes → slice_get floors'.floors q ≡ Some n) p (floor_of r.order x.until done) w.floors
+      (λ j. here ∙ ap (λ z. Some z) (floor-is ∙ ap (floor_of r.order x.until) part-is)) (λ q n j. others q n ∙ k.floors_is q j))
       gvt k.gvt_is count' (counts ∙ ap (λ n. count + n) (sym many)) (omega arith)
       (set books p (mark (Some (length ts)) seen)) (books-set new k.booked (λ q. refl) i refl seen low)))
 
@@ -98,9 +95,9 @@ module _ {S K : Type 0} {r : Rules Message S K Note} {number end : S → ℕ} {i
 
 -- a process alone, when its block is in the journal
 pub part-posted : {S K : Type 0} (f : Simulation Message S K Note) (p : ℕ) (own own' : List (Act Message)) (block block' : List Move) → own' ≡ own ++ acts_of (Posted block) → block' ≡ [] →
-    local f.rules (f.opening p) (map act_by block') (after_own f p own') ≡ emptied (local f.rules (f.opening p) (map act_by block) (after_own f p own))
+    after_moves f.rules (f.opening p) block' (after_own f p own') ≡ emptied (after_moves f.rules (f.opening p) block (after_own f p own))
 part-posted f p own own' block block' more none =
-    ap (λ b. local f.rules (f.opening p) (map act_by b) (after_own f p own')) none ∙
+    ap (λ b. after_moves f.rules (f.opening p) b (after_own f p own')) none ∙
     (ap (after_own f p) more ∙ (local-append f (f.opening p) own (acts_of (Posted block)) (opened (f.opening p)) ∙ emptied-last f (f.opening p) block (after_own f p own)))
 
 module _ {S K : Type 0} (f : Simulation Message S K Note) (x : Ledger) (h : InShare S) (y : Ledger) (k : InShare S) where

@@ -2,11 +2,7 @@
 use Rattle.std.proofs.Common.{◌≡◌, ℕ, ◌+◌, ◌<◌, ◌≤◌, Bool, true, false, List, [], ◌∷◌, ◌++◌, length, slice_get, Some, None, refl, sym, ◌∙◌, subst, arith}
 use Rattle.vlink.specs.declared.message.Message.{Message}
 use Rattle.vlink.specs.declared.note.Note.{Note}
-use Rattle.virtual_time.specs.Rules.{Rules}
-use Rattle.virtual_time.specs.Simulation.{Simulation, Laws}
-use Rattle.virtual_time.specs.World.{World, start, run, gvt_over}
-use Rattle.virtual_time.specs.Own.{Act}
-use Rattle.virtual_time.specs.Journal.{Published, steps_of, steps, reach}
+use Rattle.virtual_time.specs.Law.{Rules, Simulation, Laws, World, start, run, gvt_over, Act, Published, steps_of, steps, reach}
 use Rattle.virtual_time.proofs.Journal.{put_kept, run-then, publishes}
 use Rattle.virtual_time.proofs.Safety.{rises}
 use Rattle.reverse.specs.Setting.{Setting, simulation_of}
@@ -23,9 +19,9 @@ use Rattle.exchange.proofs.Growth.{Fresh, books-stay, kept-more}
 module _ {S K : Type 0} {r : Rules Message S K Note} {number end : S → ℕ} {is_placed : S → Type 0} {x : Setting S} {pages table : List ℕ} {ts : List Tokens} {mail : List Store} {floors : Floors}
     {gvt count : ℕ} {books : List Mark} (k : IsRecorded r number end is_placed x pages table ts mail floors gvt count books) where
   -- the horizon of floors and mail is GVT of the world after the journal
-  pub gvt-told : ((f : Simulation Message S K Note) → ((m : Message) → f.rules.time m ≡ m.time) → (w : World Message S) (fs : Floors) (ms : List Store) →
+  pub gvt-told : ((f : Simulation Message S K Note) → ((m : Message) → f.rules.order.time m ≡ m.time) → (w : World Message S) (fs : Floors) (ms : List Store) →
       f.processes ≡ length fs.floors → f.processes ≡ length ms → f.until ≡ fs.until → ((p : ℕ) → p < f.processes → slice_get fs.floors p ≡ Some (w.floors p)) →
-      ((p : ℕ) → p < f.processes → letters_for p ms ≡ w.mail p) → horizon_over fs ms ≡ gvt_over f f.processes w) → ((m : Message) → r.time m ≡ m.time) →
+      ((p : ℕ) → p < f.processes → letters_for p ms ≡ w.mail p) → horizon_over fs ms ≡ gvt_over f f.processes w) → ((m : Message) → r.order.time m ≡ m.time) →
       horizon_over floors mail ≡ gvt_over (simulation_of r x) x.processes (reach (simulation_of r x) (entries_of ts))
   gvt-told law time =
       law (simulation_of r x) time (reach (simulation_of r x) (entries_of ts)) floors mail (sym k.floor_count) (sym k.boxes) (sym k.until) k.floors_is k.mail_is

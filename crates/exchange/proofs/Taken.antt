@@ -5,11 +5,8 @@ use Rattle.std.specs.Result.{IfOk, OnOk, OnErr, is_err}
 use Rattle.std.proofs.lemmas.List.{take-append-drop, length-take, length-map, take_min}
 use Rattle.vlink.specs.declared.message.Message.{Message}
 use Rattle.vlink.specs.declared.note.Note.{Note}
-use Rattle.virtual_time.specs.Rules.{Rules}
-use Rattle.virtual_time.specs.Simulation.{Laws}
-use Rattle.virtual_time.specs.Letters.{lowest, times_of}
-use Rattle.virtual_time.specs.Own.{local}
-use Rattle.virtual_time.specs.Journal.{Move, Took, act_by, acts_of, own_in, reach, after_own}
+use Rattle.virtual_time.specs.Law.{Rules, Laws, lowest, times_of, local, after_moves, Took, acts_of, own_in, reach, after_own}
+use Rattle.virtual_time.specs.declared.moved.Move.{Move}
 use Rattle.reverse.specs.Setting.{Setting, simulation_of}
 use Rattle.antimessages.specs.Letters.{Store}
 use Rattle.antimessages.specs.Mailing.{letters_for}
@@ -50,7 +47,7 @@ module _ {S K : Type 0} {r : Rules Message S K Note} {number end : S → ℕ} {i
   -- what the Exchange keeps
   pub kept-taken : (mail' : List Store) → length mail' ≡ length mail → letters_for p mail' ≡ drop n (letters_for p mail) → ((q : ℕ) → (q ≡ p → ⊥) → letters_for q mail' ≡ letters_for q mail) →
       (floors' : Floors) → length floors'.floors ≡ length floors.floors → floors'.until ≡ floors.until →
-      slice_get floors'.floors p ≡ option_map (λ d. lowest d (times_of r (take n (letters_for p mail)))) (slice_get floors.floors p) →
+      slice_get floors'.floors p ≡ option_map (λ d. lowest d (times_of r.order (take n (letters_for p mail)))) (slice_get floors.floors p) →
       ((q : ℕ) → (q ≡ p → ⊥) → slice_get floors'.floors q ≡ slice_get floors.floors q) →
       IsRecorded r number end is_placed x pages table ts' mail' floors' gvt (count + n) books'
   kept-taken mail' boxes left others floors' floor_count until here elsewhere =
@@ -76,7 +73,7 @@ module _ {S K : Type 0} {r : Rules Message S K Note} {number end : S → ℕ} {i
         (stands-collected f is_value p (own_of last) (entry_own t.cell.value) block xs q q' none own h.stands
         (subst (λ z. Does r is_value (λ opening. delivered_all xs) z q') same does))
         gone
-        (gone-stays r (x.opening p) (local r (x.opening p) (map act_by block) (after_own f p (own_of last))) q h.stands gone h.gone_early (acts_of (Took xs)) _
+        (gone-stays r (x.opening p) (after_moves r (x.opening p) block (after_own f p (own_of last))) q h.stands gone h.gone_early (acts_of (Took xs)) _
         (part-collected f p (own_of last) (entry_own t.cell.value) block xs none own) q' (left ∙ ap (λ (z : Queues S K). z.left) same))
         block none)
         table' h.same
@@ -87,7 +84,7 @@ module _ {S K : Type 0} {r : Rules Message S K Note} {number end : S → ℕ} {i
         (record { entries = entries_of ts; books = books; limit = limit })
         (record {
           number = p;
-          part = local r (x.opening p) (map act_by block) (after_own (simulation_of r x) p (own_of last));
+          part = after_moves r (x.opening p) block (after_own (simulation_of r x) p (own_of last));
           block = block;
           own = own_of last;
           share = mark (place_in last) seen;
@@ -96,7 +93,7 @@ module _ {S K : Type 0} {r : Rules Message S K Note} {number end : S → ℕ} {i
         (record { entries = entries_of ts'; books = books'; limit = limit })
         (record {
           number = p;
-          part = local r (x.opening p) (map act_by block) (after_own (simulation_of r x) p (entry_own t.cell.value));
+          part = after_moves r (x.opening p) block (after_own (simulation_of r x) p (entry_own t.cell.value));
           block = block;
           own = entry_own t.cell.value;
           share = mark (Some at) gvt;

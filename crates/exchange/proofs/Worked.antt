@@ -3,9 +3,8 @@ use Rattle.std.proofs.Common.{◌≡◌, ℕ, ◌+◌, ◌-◌, ◌≤◌, ◌�
 use Rattle.std.proofs.lemmas.List.{length-replicate}
 use Rattle.vlink.specs.declared.message.Message.{Message}
 use Rattle.vlink.specs.declared.note.Note.{Note}
-use Rattle.virtual_time.specs.Lists.{earlier}
-use Rattle.virtual_time.specs.Simulation.{Simulation}
-use Rattle.virtual_time.specs.Journal.{Arrived, Ran, Sealed}
+use Rattle.virtual_time.specs.Law.{earlier, Simulation}
+use Rattle.virtual_time.specs.declared.moved.Move.TheVariants.{Arrived, Ran, Sealed}
 use Rattle.exchange.specs.Views.{InShare}
 use Rattle.exchange.specs.Effects.{moved_by, turn, all_arrived, Runs, RanEarly, IsIdleBefore, Works}
 use Rattle.exchange.proofs.Moves.{moved-none, moved-chain}
@@ -31,7 +30,7 @@ ran-after f most window h h1 h2 arrived ran = subst (λ (z : InShare _). Runs f 
 module _ {S K : Type 0} (f : Simulation Message S K Note) (most window : ℕ) (h h1 h2 h3 : InShare S) (r c : ℕ) where
   pub works : h1 ≡ moved_by f (replicate (length h.part.tray) Arrived) h → h2 ≡ moved_by f (replicate r Ran) h1 → h3 ≡ moved_by f (replicate c Sealed) h2 →
       r ≤ most → RanEarly f (h1.share.seen + window) r h1.part → (r ≡ most) ⊎ IsIdleBefore f (h1.share.seen + window) h2.part →
-      earlier f.rules h2.share.seen h3.part.done ≡ [] →
+      earlier f.rules.order h2.share.seen h3.part.done ≡ [] →
       (before after : ℕ) → before ≡ length h.block → after ≡ length h3.block → Works f most window h h3 (after - before)
   works arrived ran sealed within early idle below before after old new =
       let a = length h.part.tray in
@@ -49,5 +48,5 @@ module _ {S K : Type 0} (f : Simulation Message S K Note) (most window : ℕ) (h
           | inr none ↦ inr (subst (λ (z : InShare S). IsIdleBefore f (h.share.seen + window) z.part) (moved-turn f a r 0 h h1 h2 h2 arrived ran (moved-none f h2))
               (subst (λ s. IsIdleBefore f (s + window) h2.part) seen none))
         ];
-        committed_below = subst (λ s. earlier f.rules s h3.part.done ≡ []) (ap (λ (z : InShare S). z.share.seen) ran ∙ seen) below;
+        committed_below = subst (λ s. earlier f.rules.order s h3.part.done ≡ []) (ap (λ (z : InShare S). z.share.seen) ran ∙ seen) below;
       }

@@ -3,13 +3,10 @@ use Rattle.std.specs.Prelude.{◌≡◌, ◌≢◌, ◌↔◌, ℕ, zero, suc, �
 use Rattle.vlink.specs.declared.message.Message.{Message}
 use Rattle.vlink.specs.declared.note.Note.{Note}
 use Rattle.vlink.specs.Numbering.{greatest_number}
-use Rattle.virtual_time.specs.Lists.{earlier}
-use Rattle.virtual_time.specs.Letters.{Letter}
-use Rattle.virtual_time.specs.Part.{Part, emptied, next_of, run_one}
-use Rattle.virtual_time.specs.Simulation.{Simulation}
-use Rattle.virtual_time.specs.World.{gvt_over}
-use Rattle.virtual_time.specs.Own.{local}
-use Rattle.virtual_time.specs.Journal.{Move, Arrived, Ran, Sealed, Deed, Took, Posted, Published, Entry, act_by, acts_of, reach}
+use Rattle.vlink.specs.Letters.{Letter}
+use Rattle.virtual_time.specs.Law.{earlier, Part, emptied, next_of, run_one, Simulation, gvt_over, local, after_moves, Deed, Took, Posted, Published, Entry, acts_of, reach}
+use Rattle.virtual_time.specs.declared.moved.Move.{Move}
+use Rattle.virtual_time.specs.declared.moved.Move.TheVariants.{Arrived, Ran, Sealed}
 use Rattle.journal.specs.declared.fault.PoolFault.{PoolFault}
 use Rattle.journal.specs.declared.fault.PoolFault.TheVariants.{OutOfMemory, Exhausted}
 use Rattle.exchange.specs.declared.mark.Mark.{Mark}
@@ -29,7 +26,7 @@ turn arrivals runs commits = replicate arrivals Arrived ++ replicate runs Ran ++
 
 module _ {S K : Type 0} (f : Simulation Message S K Note) where
   -- these letters go from the front of the mail to the tray, and book and share note the GVT of the Exchange; none makes no entry
-  abbrev pub collects : List (Letter Message) → Ledger → InShare S → Ledger → InShare S → Type 0
+  abbrev pub collects : List Letter → Ledger → InShare S → Ledger → InShare S → Type 0
   collects [] x h y k =
       (y ≡ record {
         entries = x.entries;
@@ -91,11 +88,11 @@ module _ {S K : Type 0} (f : Simulation Message S K Note) where
 
   -- the process did these steps, and they joined the block
   abbrev pub moved_by : List Move → InShare S → InShare S
-  moved_by ms h = record h { part = local f.rules (f.opening h.number) (map act_by ms) h.part; block = h.block ++ ms }
+  moved_by ms h = record h { part = after_moves f.rules (f.opening h.number) ms h.part; block = h.block ++ ms }
 
   -- a message that is earlier than the limit is handled next
   abbrev pub IsDueBefore : ℕ → Part Message S → Type 0
-  IsDueBefore limit part = (m : Message) × (next_of f.rules part ≡ Some m) × (f.rules.time m < limit)
+  IsDueBefore limit part = (m : Message) × (next_of f.rules.order part ≡ Some m) × (f.rules.order.time m < limit)
 
   -- its actor has not enough numbers left for all that one event can send
   abbrev pub WantsNumbers : Part Message S → Type 0
@@ -104,11 +101,11 @@ module _ {S K : Type 0} (f : Simulation Message S K Note) where
   -- each of so many runs handles a message that is earlier than the limit
   abbrev pub RanEarly : ℕ → ℕ → Part Message S → Type 0
   RanEarly limit zero part = ⊤
-  RanEarly limit (suc runs) part = (m : Message) × (next_of f.rules part ≡ Some m) × (f.rules.time m < limit) × RanEarly limit runs (run_one f.rules part)
+  RanEarly limit (suc runs) part = (m : Message) × (next_of f.rules.order part ≡ Some m) × (f.rules.order.time m < limit) × RanEarly limit runs (run_one f.rules part)
 
   -- no message that can be handled is earlier than the limit
   abbrev pub IsIdleBefore : ℕ → Part Message S → Type 0
-  IsIdleBefore limit part = MatchOption (next_of f.rules part) ⊤ (λ m. limit ≤ f.rules.time m)
+  IsIdleBefore limit part = MatchOption (next_of f.rules.order part) ⊤ (λ m. limit ≤ f.rules.order.time m)
 
   -- all letters of the tray arrive; then messages are handled that are earlier than the GVT seen and the window, `turn` at most, as long as
   -- there are any; then all done events below the GVT seen are committed
@@ -120,7 +117,7 @@ module _ {S K : Type 0} (f : Simulation Message S K Note) where
     pub within : runs ≤ most
     pub early : RanEarly (h.share.seen + window) runs (moved_by (replicate (length h.part.tray) Arrived) h).part
     pub idle : (runs ≡ most) ⊎ IsIdleBefore (h.share.seen + window) (moved_by (turn (length h.part.tray) runs 0) h).part
-    pub committed_below : earlier f.rules h.share.seen k.part.done ≡ []
+    pub committed_below : earlier f.rules.order h.share.seen k.part.done ≡ []
 
   -- messages that are earlier than the limit are handled, so many at most, as long as there are any
   pub record Runs (most limit : ℕ) (h k : InShare S) : Type 0 where
@@ -151,7 +148,7 @@ module _ {S K : Type 0} (f : Simulation Message S K Note) where
   pub record StopsAtCommit (h k : InShare S) (fault : PoolFault) : Type 0 where
     pub commits : ℕ
     pub did : k ≡ moved_by (replicate commits Sealed) h
-    pub left : earlier f.rules h.share.seen k.part.done ≢ []
+    pub left : earlier f.rules.order h.share.seen k.part.done ≢ []
     pub memory : fault ≡ OutOfMemory
 
   -- all letters of the tray arrive

@@ -2,10 +2,8 @@
 use Rattle.std.specs.Prelude.{◌≡◌, ℕ, ◌<◌, ◌≤◌, ◌^◌, List, [], map, length, Option, Some, None, slice_get, slice_index, ⊤}
 use Rattle.vlink.specs.declared.message.Message.{Message}
 use Rattle.vlink.specs.declared.note.Note.{Note}
-use Rattle.virtual_time.specs.Rules.{Rules, rowed}
-use Rattle.virtual_time.specs.Own.{Act, local}
-use Rattle.virtual_time.specs.SafePart.{IsSafePart}
-use Rattle.virtual_time.specs.Journal.{Move, Entry, act_by, steps, own_in, last_place, reach, after_own, AreEnabled}
+use Rattle.virtual_time.specs.Law.{Rules, rowed, Act, local, after_moves, IsSafePart, Entry, steps, own_in, last_place, reach, after_own, AreEnabled}
+use Rattle.virtual_time.specs.declared.moved.Move.{Move}
 use Rattle.reverse.specs.Setting.{Setting, simulation_of, IsLaidOut}
 use Rattle.antimessages.specs.Letters.{Store}
 use Rattle.antimessages.specs.Mailing.{letters_for}
@@ -93,8 +91,8 @@ module _ {S K : Type 0} (r : Rules Message S K Note) (number end : S → ℕ) (i
     pub laid : IsLaidOut r number end is_placed x
     pub same : table ≡ pages
     pub number_is : p < x.processes
-    pub stands : StandsFor r is_value (x.opening p) (local r (x.opening p) (map act_by block) (after_own (simulation_of r x) p (own_of last))) q
-    pub safe : IsSafePart (simulation_of r x) p seen (local r (x.opening p) (map act_by block) (after_own (simulation_of r x) p (own_of last)))
-    pub gone_early : AreFirstBefore r gone q.left (rowed r (x.opening p) (local r (x.opening p) (map act_by block) (after_own (simulation_of r x) p (own_of last))).committed)
+    pub stands : StandsFor r is_value (x.opening p) (after_moves r (x.opening p) block (after_own (simulation_of r x) p (own_of last))) q
+    pub safe : IsSafePart (simulation_of r x) p seen (after_moves r (x.opening p) block (after_own (simulation_of r x) p (own_of last)))
+    pub gone_early : AreFirstBefore r gone q.left (rowed r (x.opening p) (after_moves r (x.opening p) block (after_own (simulation_of r x) p (own_of last))).committed)
     pub enabled : AreEnabled (simulation_of r x) (x.opening p) seen block (after_own (simulation_of r x) p (own_of last))
     pub last_is : IsLast pages last

@@ -1,9 +1,8 @@
 -- What contracts see of an Exchange and of a Held.
 use Rattle.std.specs.Prelude.{ℕ, List, [], None, get_or}
 use Rattle.vlink.specs.declared.message.Message.{Message}
-use Rattle.virtual_time.specs.Part.{Part, opened}
-use Rattle.virtual_time.specs.Own.{Act}
-use Rattle.virtual_time.specs.Journal.{Move, Entry}
+use Rattle.virtual_time.specs.Law.{Part, opened, Act, Entry}
+use Rattle.virtual_time.specs.declared.moved.Move.{Move}
 use Rattle.exchange.specs.declared.mark.Mark.{Mark}
 
 -- the entries of the journal, the book of each process, and how many steps the journal can have

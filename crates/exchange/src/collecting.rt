@@ -1,11 +1,10 @@
 //! A process takes letters from the mail.
 ghost use Rattle.std.specs.Prelude.{◌≡◌, ◌≢◌, ◌<◌, ◌≤◌, ◌+◌, ◌⊎◌, ℕ, [], map, min, set, take, length, slice_get, IfOk, OnErr, IfErr, Err};
 ghost use Rattle.std.specs.Option.{option_map};
-ghost use Rattle.virtual_time.specs.Letters.{lowest, times_of};
-ghost use Rattle.virtual_time.specs.Journal.{Took, reach, steps};
+ghost use Rattle.virtual_time.specs.Law.{lowest, times_of, Took, reach, steps};
 ghost use Rattle.reverse.specs.Rules.{rules_of};
 ghost use Rattle.reverse.specs.Setting.{simulation_of};
-ghost use Rattle.antimessages.specs.Letters.{message_rules};
+ghost use Rattle.vlink.specs.Order.{message_order};
 ghost use Rattle.antimessages.specs.Mailing.{letters_for};
 ghost use Rattle.journal.specs.declared.fault.PoolFault.TheVariants.{OutOfMemory, JournalFull, Torn};
 ghost use Rattle.journal.specs.Deeds.{seen_deed, past_own, place_of};
@@ -121,7 +120,7 @@ fn lower_floor(floors: &mut Floors, mail: &Mail, process: u16, count: usize)
     requires within { process < length floors.old.floors }
     requires enough { count ≤ length (letters_for process mail.now) }
     ensures floor { slice_get floors.new.floors process
-        ≡ option_map (λ floor. lowest floor (times_of message_rules (take count (letters_for process mail.now)))) (slice_get floors.old.floors process) }
+        ≡ option_map (λ floor. lowest floor (times_of message_order (take count (letters_for process mail.now)))) (slice_get floors.old.floors process) }
     ensures others { (q : ℕ) → q ≢ process → slice_get floors.new.floors q ≡ slice_get floors.old.floors q }
     ensures processes { length floors.new.floors ≡ length floors.old.floors }
     ensures until { floors.new.until ≡ floors.old.until }

@@ -1,10 +1,9 @@
 //! What the processes of a run share.
 ghost use Rattle.std.specs.Prelude.{◌≡◌, ◌<◌, slice_get};
 ghost use Rattle.std.specs.Option.{option_map};
-ghost use Rattle.virtual_time.specs.Journal.{reach};
+ghost use Rattle.virtual_time.specs.Law.{reach};
 ghost use Rattle.reverse.specs.Rules.{rules_of};
 ghost use Rattle.reverse.specs.Setting.{simulation_of};
-ghost use Rattle.antimessages.specs.Letters.{signed};
 
 use crate::mark::Mark;
 use crate::run_of::ActorRun;
@@ -66,7 +65,7 @@ impl<'a, R: Actor, J: ActorRun<R>> Exchange<'a, R, J> {
 
     /// The letter number `place`, from 0, of the mail of process `process`. None where there is none, or no such process.
     pub fn look(&self, process: u16, place: usize) -> Option<Letter>
-        ensures letter { process < J.setting.processes → option_map signed result
+        ensures letter { process < J.setting.processes → result
             ≡ slice_get ((reach (simulation_of (rules_of R.plain R.counter) J.setting) self.now.entries).mail process) place }
     {
         self.mail.look(process, place)

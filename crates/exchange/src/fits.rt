@@ -1,7 +1,6 @@
 //! Whether a process in hand is the one of the journal.
 ghost use Rattle.std.specs.Prelude.{◌≡◌, true, map};
-ghost use Rattle.virtual_time.specs.Own.{local};
-ghost use Rattle.virtual_time.specs.Journal.{act_by, own_in, reach, AreEnabled};
+ghost use Rattle.virtual_time.specs.Law.{local, after_moves, own_in, reach, AreEnabled};
 ghost use Rattle.reverse.specs.Rules.{rules_of};
 ghost use Rattle.reverse.specs.Setting.{simulation_of};
 ghost use Rattle.exchange.specs.Views.{book_of};
@@ -18,7 +17,7 @@ impl<'a, R: Actor, J: ActorRun<R>> Exchange<'a, R, J> {
     pub fn fits(&self, held: &Held<'a, R, J>) -> bool
         ensures yes { result ≡ true }
         ensures same { held.now.share ≡ book_of self.now.books held.now.number }
-        ensures part { held.now.part ≡ local (rules_of R.plain R.counter) (J.setting.opening held.now.number) (map act_by held.now.block)
+        ensures part { held.now.part ≡ after_moves (rules_of R.plain R.counter) (J.setting.opening held.now.number) held.now.block
             ((reach (simulation_of (rules_of R.plain R.counter) J.setting) self.now.entries).parts held.now.number) }
         ensures enabled { AreEnabled (simulation_of (rules_of R.plain R.counter) J.setting) (J.setting.opening held.now.number)
             (reach (simulation_of (rules_of R.plain R.counter) J.setting) self.now.entries).gvt held.now.block
@@ -32,7 +31,7 @@ impl<'a, R: Actor, J: ActorRun<R>> Exchange<'a, R, J> {
     /// Share and book are equal, so that both speak of one entry. A call does nothing: its caller learns what the clauses say.
     pub(crate) fn join(&self, held: &Held<'a, R, J>)
         ensures same { held.now.share ≡ book_of self.now.books held.now.number }
-        ensures part { held.now.part ≡ local (rules_of R.plain R.counter) (J.setting.opening held.now.number) (map act_by held.now.block)
+        ensures part { held.now.part ≡ after_moves (rules_of R.plain R.counter) (J.setting.opening held.now.number) held.now.block
             ((reach (simulation_of (rules_of R.plain R.counter) J.setting) self.now.entries).parts held.now.number) }
         ensures enabled { AreEnabled (simulation_of (rules_of R.plain R.counter) J.setting) (J.setting.opening held.now.number)
             (reach (simulation_of (rules_of R.plain R.counter) J.setting) self.now.entries).gvt held.now.block

@@ -1,10 +1,8 @@
 //! A process in hand.
 ghost use Rattle.std.specs.Prelude.{◌≡◌, ◌↔◌, ◌<◌, [], length, map, IsTrue};
-ghost use Rattle.virtual_time.specs.Rules.{rowed};
-ghost use Rattle.virtual_time.specs.Part.{next_of};
+ghost use Rattle.vlink.specs.Order.{message_order};
+ghost use Rattle.virtual_time.specs.Law.{rowed, next_of};
 ghost use Rattle.reverse.specs.Rules.{rules_of};
-ghost use Rattle.antimessages.specs.Letters.{signed};
-ghost use Rattle.process_queues.specs.Past.{seen_row};
 ghost use Rattle.journal.specs.Deeds.{past_own, place_of};
 
 use crate::mark::Mark;
@@ -42,8 +40,7 @@ pub struct Held<'a, R: Actor, J: ActorRun<R>> {
 
 impl<'a, R: Actor, J: ActorRun<R>> Model for Held<'a, R, J> {
     ghost use Rattle.std.specs.Prelude.{map};
-    ghost use Rattle.virtual_time.specs.Own.{local};
-    ghost use Rattle.virtual_time.specs.Journal.{act_by, after_own};
+    ghost use Rattle.virtual_time.specs.Law.{local, after_moves, after_own};
     ghost use Rattle.reverse.specs.Rules.{rules_of};
     ghost use Rattle.reverse.specs.Setting.{simulation_of};
     ghost use Rattle.journal.specs.Names.{names};
@@ -54,7 +51,7 @@ impl<'a, R: Actor, J: ActorRun<R>> Model for Held<'a, R, J> {
 
     ghost view = { λ h. record {
       number = h.number;
-      part = local (rules_of R.plain R.counter) (J.setting.opening h.number) (map act_by h.block)
+      part = after_moves (rules_of R.plain R.counter) (J.setting.opening h.number) h.block
           (after_own (simulation_of (rules_of R.plain R.counter) J.setting) h.number (own_of h.last));
       block = h.block;
       own = own_of h.last;
@@ -105,21 +102,21 @@ impl<'a, R: Actor, J: ActorRun<R>> Held<'a, R, J> {
 
     /// The rows of its committed events, in their order, where none has left.
     pub fn sealed(&self) -> &[Row]
-        ensures { self.now.gone ≡ 0 → map seen_row result.now ≡ rowed (rules_of R.plain R.counter) (J.setting.opening self.now.number) self.now.part.committed }
+        ensures { self.now.gone ≡ 0 → result.now ≡ rowed (rules_of R.plain R.counter) (J.setting.opening self.now.number) self.now.part.committed }
     {
         self.process.sealed()
     }
 
     /// The letters that wait to be posted, in order.
     pub fn outbox(&self) -> &[Letter]
-        ensures { map signed result.now ≡ self.now.part.outbox }
+        ensures { result.now ≡ self.now.part.outbox }
     {
         self.process.outbox()
     }
 
     /// The message that it handles next, if there is one.
     pub fn next(&self) -> Option<Message>
-        ensures { result ≡ next_of (rules_of R.plain R.counter) self.now.part }
+        ensures { result ≡ next_of message_order self.now.part }
     {
         self.process.next()
     }

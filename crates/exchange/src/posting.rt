@@ -1,6 +1,7 @@
 //! What a process did goes to the journal, and its letters to the mail.
 ghost use Rattle.std.specs.Prelude.{◌≡◌, ◌<◌, ◌+◌, ◌⊎◌, List, length, OnOk, OnErr, IfErr, Err};
-ghost use Rattle.virtual_time.specs.Journal.{Move, steps};
+ghost use Rattle.virtual_time.specs.Law.{steps};
+ghost use Rattle.virtual_time.specs.declared.moved.Move.{Move};
 ghost use Rattle.reverse.specs.Rules.{rules_of};
 ghost use Rattle.reverse.specs.Setting.{simulation_of};
 ghost use Rattle.journal.specs.declared.entry.Deed.TheVariants.{Post};

@@ -2,18 +2,17 @@
 ghost use Rattle.std.specs.Prelude.{◌≡◌, ◌<◌, ◌≤◌, Some, map, ◌++◌, length, slice_get, OnOk, IfOk, IfErr};
 ghost use Rattle.std.specs.Option.{option_map};
 ghost use Rattle.vlink.specs.declared.message.Message.{Message};
-ghost use Rattle.virtual_time.specs.Journal.{steps, steps_of, step_by};
-ghost use Rattle.antimessages.specs.Steps.{step_of};
+ghost use Rattle.virtual_time.specs.Law.{steps, steps_of, step_by};
 ghost use Rattle.journal.specs.Deeds.{seen_deed, seen_entry};
-ghost use Rattle.journal.specs.Moves.{seen_move};
 ghost use Rattle.journal.specs.declared.fault.PoolFault.TheVariants.{OutOfMemory};
 ghost use Rattle.exchange.specs.Keeps.{IsCounted};
 
 use crate::exchange::Exchange;
 use crate::run_of::ActorRun;
-use journal::{Deed, Entry, Moved, PoolFault};
+use journal::{Deed, Entry, PoolFault};
 use reverse::Actor;
 use std::alloc::{AllocError, Global};
+use virtual_time::Move;
 use vlink::Step;
 
 impl<'a, R: Actor, J: ActorRun<R>> Exchange<'a, R, J> {
@@ -27,7 +26,7 @@ impl<'a, R: Actor, J: ActorRun<R>> Exchange<'a, R, J> {
     /// The step number `place`, from 0, of the journal. None: there are no more. Its time goes by the number of entries: all steps are listed
     /// by `step_list`.
     pub fn step_at(&self, place: u64) -> Option<Step>
-        ensures { option_map step_of result ≡ slice_get (steps self.now.entries) place }
+        ensures { result ≡ slice_get (steps self.now.entries) place }
     {
         let mut left = place;
         for at in 0..self.entry_count() {
@@ -43,7 +42,7 @@ impl<'a, R: Actor, J: ActorRun<R>> Exchange<'a, R, J> {
 
     /// All steps of the journal, in order. It is refused for memory alone.
     pub fn step_list(&self, alloc: Global) -> Result<Vec<Step>, PoolFault>
-        ensures list { IfOk result (λ list. map step_of list.items ≡ steps self.now.entries) }
+        ensures list { IfOk result (λ list. list.items ≡ steps self.now.entries) }
         ensures memory { IfErr result (λ fault. fault ≡ OutOfMemory) }
     {
         let mut list = Vec::with_capacity(alloc, self.steps() as usize)?;
@@ -76,7 +75,7 @@ impl<'a, R: Actor, J: ActorRun<R>> Exchange<'a, R, J> {
 fn add_steps(list: &mut Vec<Step>, entry: &Entry) -> Result<(), AllocError>
     requires counted { IsCounted entry.now }
     requires few { length (steps_of {M = Message} entry.now.process (seen_deed entry.now.process entry.now.deed)) ≤ 67108864 }
-    ensures { OnOk result (map step_of list.new.items ≡ map step_of list.old.items ++ steps_of {M = Message} entry.now.process (seen_deed entry.now.process entry.now.deed)) }
+    ensures { OnOk result (list.new.items ≡ list.old.items ++ steps_of {M = Message} entry.now.process (seen_deed entry.now.process entry.now.deed)) }
 {
     for at in 0..count_of(entry) {
         if let Some(step) = step_in(entry, at) {
@@ -102,7 +101,7 @@ fn count_of(entry: &Entry) -> u64
 /// The step number `at`, from 0, of those for which an entry stands. None: there are no more.
 fn step_in(entry: &Entry, at: u64) -> Option<Step>
     requires { IsCounted entry.now }
-    ensures { option_map step_of result ≡ slice_get (steps_of {M = Message} entry.now.process (seen_deed entry.now.process entry.now.deed)) at }
+    ensures { result ≡ slice_get (steps_of {M = Message} entry.now.process (seen_deed entry.now.process entry.now.deed)) at }
 {
     let process = u32::from(entry.process);
     match &entry.deed {
@@ -131,12 +130,12 @@ fn step_in(entry: &Entry, at: u64) -> Option<Step>
 }
 
 /// The step of a process that it does alone.
-fn step_of_move(process: u32, moved: Moved) -> Step
-    ensures { step_of result ≡ step_by process (seen_move moved) }
+fn step_of_move(process: u32, moved: Move) -> Step
+    ensures { result ≡ step_by process moved }
 {
     match moved {
-        Moved::Arrived => Step::Arrive { process },
-        Moved::Ran => Step::Run { process },
-        Moved::Sealed => Step::Commit { process },
+        Move::Arrived => Step::Arrive { process },
+        Move::Ran => Step::Run { process },
+        Move::Sealed => Step::Commit { process },
     }
 }

@@ -1,12 +1,9 @@
 //! The rows of a process in hand that are for good.
 ghost use Rattle.std.specs.Prelude.{◌≡◌, ◌≤◌, ◌↔◌, ℕ, [], map, max, IsTrue};
-ghost use Rattle.vlink.specs.declared.message.Message.{Message};
-ghost use Rattle.virtual_time.specs.Rules.{rowed};
-ghost use Rattle.virtual_time.specs.Lists.{earlier};
-ghost use Rattle.virtual_time.specs.OneThread.{one, rows_at};
+ghost use Rattle.vlink.specs.Order.{message_order};
+ghost use Rattle.virtual_time.specs.Law.{rowed, rows_at, earlier, one};
 ghost use Rattle.reverse.specs.Rules.{rules_of};
 ghost use Rattle.reverse.specs.Setting.{simulation_of};
-ghost use Rattle.process_queues.specs.Past.{seen_row};
 ghost use Rattle.fossil.specs.Committed.{is_moment_before};
 ghost use Rattle.fossil.specs.Within.{rows_within};
 
@@ -20,7 +17,7 @@ impl<'a, R: Actor, J: ActorRun<R>> Held<'a, R, J> {
     /// Whether its events before a moment, in ns, are all committed and are for good: the moment is not later than the GVT that it saw, and no
     /// done event is earlier.
     pub fn is_sealed_before(&self, moment: Time) -> bool
-        ensures { IsTrue result ↔ ((moment ≤ self.now.share.seen) × (earlier (rules_of R.plain R.counter) moment self.now.part.done ≡ [])) }
+        ensures { IsTrue result ↔ ((moment ≤ self.now.share.seen) × (earlier message_order moment self.now.part.done ≡ [])) }
     {
         actor_rules::<R>();
         moment.ns() <= self.seen.ns() && !is_before(self.process.oldest(), moment)
@@ -33,10 +30,10 @@ impl<'a, R: Actor, J: ActorRun<R>> Held<'a, R, J> {
     /// - `whole`: where its events before `to` are all committed and are for good, they are all such rows that the one-thread run has of it.
     pub fn rows_between(&self, from: Time, to: Time) -> &[Row]
         requires { self.now.gone ≤ from }
-        ensures rows { map seen_row result.now
+        ensures rows { result.now
             ≡ rows_within (rules_of R.plain R.counter) from to (rowed (rules_of R.plain R.counter) (J.setting.opening self.now.number) self.now.part.committed) }
-        ensures whole { to ≤ self.now.share.seen → earlier (rules_of R.plain R.counter) to self.now.part.done ≡ [] →
-            (turns : ℕ) → (one (simulation_of (rules_of R.plain R.counter) J.setting) turns).waiting ≡ [] → map seen_row result.now
+        ensures whole { to ≤ self.now.share.seen → earlier message_order to self.now.part.done ≡ [] →
+            (turns : ℕ) → (one (simulation_of (rules_of R.plain R.counter) J.setting) turns).waiting ≡ [] → result.now
             ≡ rows_within (rules_of R.plain R.counter) from to (rows_at (simulation_of (rules_of R.plain R.counter) J.setting) self.now.number
             (one (simulation_of (rules_of R.plain R.counter) J.setting) turns).rows) }
     {

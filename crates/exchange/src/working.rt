@@ -1,10 +1,10 @@
 //! What a process does alone.
 ghost use Rattle.std.specs.Prelude.{◌≡◌, ◌≢◌, ◌<◌, ◌≤◌, ◌+◌, ◌⊎◌, ◌↔◌, ℕ, true, false, [], ◌∷◌, length, replicate, OnOk, IfOk, OnErr, IfErr, Err, Some, IsSome, IsTrue};
+ghost use Rattle.vlink.specs.Order.{message_order};
 ghost use Rattle.vlink.specs.declared.message.Message.{Message};
 ghost use Rattle.vlink.specs.Numbering.{greatest_number};
-ghost use Rattle.virtual_time.specs.Lists.{earlier};
-ghost use Rattle.virtual_time.specs.Part.{next_of};
-ghost use Rattle.virtual_time.specs.Journal.{Arrived, Ran, Sealed};
+ghost use Rattle.virtual_time.specs.Law.{earlier, next_of};
+ghost use Rattle.virtual_time.specs.declared.moved.Move.TheVariants.{Arrived, Ran, Sealed};
 ghost use Rattle.reverse.specs.Rules.{rules_of};
 ghost use Rattle.reverse.specs.Setting.{simulation_of};
 ghost use Rattle.journal.specs.declared.fault.PoolFault.TheVariants.{OutOfMemory, Exhausted};
@@ -14,8 +14,9 @@ use crate::gate::Gate;
 use crate::held::Held;
 use crate::run_of::ActorRun;
 use fossil::commit_oldest;
-use journal::{Moved, PoolFault};
+use journal::PoolFault;
 use reverse::{Actor, actor_laws};
+use virtual_time::Move;
 use vlink::Time;
 
 /// All letters of the tray arrive; then messages that are earlier than the GVT seen and `window`, in ns, are handled, `turn` at most, as long
@@ -33,7 +34,7 @@ pub fn work<'a, R: Actor, J: ActorRun<R>, G: Gate>(
 ) -> Result<u64, PoolFault>
     ensures ok { IfOk result (λ count. Works (simulation_of (rules_of R.plain R.counter) J.setting) turn window held.old held.new count) }
     ensures some { IfErr result (λ fault. WorksSome (simulation_of (rules_of R.plain R.counter) J.setting) turn window held.old held.new fault) }
-    ensures exhausted { result ≡ Err Exhausted → IsSome (next_of (rules_of R.plain R.counter) held.new.part)
+    ensures exhausted { result ≡ Err Exhausted → IsSome (next_of message_order held.new.part)
         × (greatest_number < R.counter held.new.part.state + 24) }
     ensures faults { IfErr result (λ fault. (fault ≡ OutOfMemory) ⊎ (fault ≡ Exhausted)) }
 {
@@ -73,7 +74,7 @@ impl<'a, R: Actor, J: ActorRun<R>> Held<'a, R, J> {
         ensures memory { IfErr result (λ fault. fault ≡ OutOfMemory) }
     {
         actor_laws::<R>();
-        self.block.push(self.alloc, Moved::Arrived)?;
+        self.block.push(self.alloc, Move::Arrived)?;
         match self.process.arrive() {
             Ok(_undone) => Ok(()),
             Err(_fault) => {
@@ -118,7 +119,7 @@ impl<'a, R: Actor, J: ActorRun<R>> Held<'a, R, J> {
         if !self.process.has_numbers() {
             return Err(PoolFault::Exhausted);
         }
-        self.block.push(self.alloc, Moved::Ran)?;
+        self.block.push(self.alloc, Move::Ran)?;
         gate.before(self.number, self.runs);
         match self.process.run_with(&mut self.out) {
             Ok(_message) => {
@@ -136,7 +137,7 @@ impl<'a, R: Actor, J: ActorRun<R>> Held<'a, R, J> {
     /// All done events that are earlier than the GVT seen are committed.
     fn commit_all(&mut self) -> Result<(), PoolFault>
         ensures committed { OnOk result ((commits : ℕ) × (self.new ≡ moved_by (simulation_of (rules_of R.plain R.counter) J.setting) (replicate commits Sealed) self.old)
-            × (earlier (rules_of R.plain R.counter) self.old.share.seen self.new.part.done ≡ [])) }
+            × (earlier message_order self.old.share.seen self.new.part.done ≡ [])) }
         ensures some { IfErr result (λ fault. StopsAtCommit (simulation_of (rules_of R.plain R.counter) J.setting) self.old self.new fault) }
     {
         loop {
@@ -150,10 +151,10 @@ impl<'a, R: Actor, J: ActorRun<R>> Held<'a, R, J> {
     fn commit_one(&mut self) -> Result<bool, PoolFault>
         ensures committed { IfOk result (λ done. done ≡ true → self.new ≡ moved_by (simulation_of (rules_of R.plain R.counter) J.setting) (Sealed ∷ []) self.old) }
         ensures fewer { IfOk result (λ done. done ≡ true → length self.new.part.done < length self.old.part.done) }
-        ensures none { IfOk result (λ done. done ≡ false → earlier (rules_of R.plain R.counter) self.old.share.seen self.old.part.done ≡ []) }
+        ensures none { IfOk result (λ done. done ≡ false → earlier message_order self.old.share.seen self.old.part.done ≡ []) }
         ensures stays { IfOk result (λ done. done ≡ false → self.new ≡ self.old) }
         ensures unchanged { OnErr result (self.new ≡ self.old) }
-        ensures left { OnErr result (earlier (rules_of R.plain R.counter) self.old.share.seen self.old.part.done ≢ []) }
+        ensures left { OnErr result (earlier message_order self.old.share.seen self.old.part.done ≢ []) }
         ensures memory { IfErr result (λ fault. fault ≡ OutOfMemory) }
     {
         actor_laws::<R>();
@@ -163,7 +164,7 @@ impl<'a, R: Actor, J: ActorRun<R>> Held<'a, R, J> {
         if self.seen.ns() <= oldest.ns() {
             return Ok(false);
         }
-        self.block.push(self.alloc, Moved::Sealed)?;
+        self.block.push(self.alloc, Move::Sealed)?;
         match commit_oldest(&mut self.process, self.seen) {
             Ok(true) => Ok(true),
             Ok(false) => {

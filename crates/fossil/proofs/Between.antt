@@ -12,9 +12,8 @@ use Rattle.std.proofs.lemmas.List.Elements.{All-append, All-map, All-weaker}
 use Rattle.std.proofs.lemmas.List.Sorted.{IsNonDecreasingBy-drop}
 use Rattle.vlink.specs.declared.message.Message.{Message}
 use Rattle.vlink.specs.declared.note.Note.{Note}
-use Rattle.vlink.specs.declared.note.Row.{Row as Noted}
-use Rattle.virtual_time.specs.Rules.{Rules, Row}
-use Rattle.process_queues.specs.Past.{seen_row}
+use Rattle.virtual_time.specs.declared.row.Row.{Row}
+use Rattle.virtual_time.specs.Law.{Rules}
 use Rattle.fossil.specs.Within.{is_within, rows_within, AreFirstBefore}
 
 module _ {X : Type 0} (p : X → Bool) where
@@ -55,35 +54,15 @@ module _ {X : Type 0} (time : X → ℕ) (from to : ℕ) where
       (λ k d i j. in-time _ (begins.1 k d i (omega arith)) (ends.0 k d (omega arith) (omega arith)))
       (λ k d i j. too-late _ (ends.1 k d (omega arith) j))
 
--- rows as the law of virtual time sees them
-abbrev Rise : List (Row Message Note) → Type 0
-Rise rows = IsNonDecreasingBy (λ row. row.message.time) rows
-
--- those behind the ones that have left
-pub seen-in-time : (rows : List Noted) (left : ℕ) (all : List (Row Message Note)) → map seen_row rows ≡ drop left all → Rise all →
-    IsNonDecreasingBy (λ (row : Noted). row.message.time) rows
-seen-in-time rows left all behind rise i j d le lt =
-    let up : Rise (map seen_row rows) = subst Rise (sym behind) (IsNonDecreasingBy-drop (λ row. row.message.time) left all rise) in
-    let at : (k : ℕ) → k < length rows → (get_or (map seen_row rows) k (seen_row d)).message.time ≡ (get_or rows k d).message.time =
-    λ k h. ap (λ (row : Row Message Note). row.message.time) (get_or-map seen_row rows k d (seen_row d) h) in
-    let a = at i (omega arith) in
-    let b = at j lt in
-    let c = up i j (seen_row d) le (let e = length-map rows seen_row in omega arith) in
-    omega arith
-
-pub seen-filter : (q : Message → Bool) (rows : List Noted) → filter (λ row. q row.message) (map seen_row rows) ≡ map seen_row (filter (λ row. q row.message) rows)
-seen-filter q [] = refl
-seen-filter q (x ∷ xs) = go (q x.message) (seen-filter q xs)
-  where
-    go : (b : Bool) → filter (λ row. q row.message) (map seen_row xs) ≡ map seen_row (filter (λ row. q row.message) xs) →
-        cond b (seen_row x ∷ filter (λ row. q row.message) (map seen_row xs)) (filter (λ row. q row.message) (map seen_row xs))
-        ≡ map seen_row (cond b (x ∷ filter (λ row. q row.message) xs) (filter (λ row. q row.message) xs))
-    go true e = ap (λ z. seen_row x ∷ z) e
-    go false e = e
+-- rows behind those that have left
+pub rest-in-time : (rows : List (Row Message Note)) (left : ℕ) (all : List (Row Message Note)) → rows ≡ drop left all →
+    IsNonDecreasingBy (λ (row : Row Message Note). row.message.time) all → IsNonDecreasingBy (λ (row : Row Message Note). row.message.time) rows
+rest-in-time rows left all behind rise =
+    subst (IsNonDecreasingBy (λ (row : Row Message Note). row.message.time)) (sym behind) (IsNonDecreasingBy-drop (λ row. row.message.time) left all rise)
 
 -- rows before the first moment can be left out
 module _ {M S K N : Type 0} (r : Rules M S K N) (from to : ℕ) where
-  outside : (m : M) → r.time m < from → is_within r from to m ≡ false
+  outside : (m : M) → r.order.time m < from → is_within r from to m ≡ false
   outside m a = grind (arith, common_steps)
 
   pub rows-kept : (n : ℕ) (rows : List (Row M N)) → AreFirstBefore r from n rows → rows_within r from to (drop n rows) ≡ rows_within r from to rows
@@ -107,18 +86,14 @@ abbrev IsFrom : ℕ → Row Message Note → Type 0
 IsFrom t row = t ≤ row.message.time
 
 -- behind rows that have left, so many rows are earlier than a moment, and the others are not
-module _ (moment left count : ℕ) (rows : List Noted) (all : List (Row Message Note)) (behind : map seen_row rows ≡ drop left all)
+module _ (moment left count : ℕ) (rows : List (Row Message Note)) (all : List (Row Message Note)) (behind : rows ≡ drop left all)
     (point : IsPartitionPoint (λ row. nat_lt row.message.time moment ≡ true) (λ row. nat_lt row.message.time moment ≡ false) rows count) where
   -- where no more than these leave, those that leave are early
   pub next-early : (limit n : ℕ) → moment ≤ limit → n ≤ count → All (IsBefore limit) (take n (drop left all))
-  next-early limit n le few = subst (All (IsBefore limit)) (sym there) (All-map (IsBefore limit) seen_row (take n rows) early)
-    where
-      there : take n (drop left all) ≡ map seen_row (take n rows)
-      there = ap (take n) (sym behind) ∙ take-map seen_row n rows
-
-      early : All (λ row. IsBefore limit (seen_row row)) (take n rows)
-      early = All-weaker (λ row. nat_lt row.message.time moment ≡ true) (λ row. IsBefore limit (seen_row row)) (λ row e. let a = ltb-true _ _ e in omega arith) (take n rows)
-          (all-first (λ row. nat_lt row.message.time moment ≡ true) rows count n few point.0)
+  next-early limit n le few =
+      subst (λ (z : List (Row Message Note)). All (IsBefore limit) (take n z)) behind
+      (All-weaker (λ row. nat_lt row.message.time moment ≡ true) (IsBefore limit) (λ row e. let a = ltb-true _ _ e in omega arith) (take n rows)
+      (all-first (λ row. nat_lt row.message.time moment ≡ true) rows count n few point.0))
 
   -- and where such as had left are early, so are all that have left
   pub first-early : (limit n : ℕ) → moment ≤ limit → n ≤ count → All (IsBefore limit) (take left all) → All (IsBefore limit) (take (left + n) all)
@@ -128,11 +103,7 @@ module _ (moment left count : ℕ) (rows : List Noted) (all : List (Row Message 
 
   -- where all these leave, the rest is late
   pub rest-late : All (IsFrom moment) (drop (left + count) all)
-  rest-late = subst (All (IsFrom moment)) (sym there) (All-map (IsFrom moment) seen_row (drop count rows) late)
-    where
-      there : drop (left + count) all ≡ map seen_row (drop count rows)
-      there = sym (drop-drop count left all) ∙ (ap (drop count) (sym behind) ∙ drop-map seen_row count rows)
-
-      late : All (λ row. IsFrom moment (seen_row row)) (drop count rows)
-      late = All-weaker (λ row. nat_lt row.message.time moment ≡ false) (λ row. IsFrom moment (seen_row row)) (λ row e. ltb-false _ _ e) (drop count rows)
-          (all-rest (λ row. nat_lt row.message.time moment ≡ false) rows count point.1)
+  rest-late =
+      subst (All (IsFrom moment)) (ap (drop count) behind ∙ drop-drop count left all)
+      (All-weaker (λ row. nat_lt row.message.time moment ≡ false) (IsFrom moment) (λ row e. ltb-false _ _ e) (drop count rows)
+      (all-rest (λ row. nat_lt row.message.time moment ≡ false) rows count point.1))

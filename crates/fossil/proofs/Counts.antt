@@ -1,10 +1,8 @@
 -- How many events are committed one after another, counted before the first of them is.
 use Rattle.std.proofs.Common.{◌≡◌, ℕ, zero, suc, ◌+◌, ◌<◌, ◌==◌, Bool, true, false, ◌&&◌, cond, if◌then◌else◌, nat_lt, List, [], ◌∷◌, take, Result, Ok, Err, refl, sym, ap, ◌∙◌, subst, arith, add-one}
 use Rattle.std.specs.Prelude.{OnOk, OnErr, IsErr}
-use Rattle.virtual_time.specs.Rules.{Rules, IsOrder}
-use Rattle.virtual_time.specs.Lists.{IsIn, IsAscending, one_if}
-use Rattle.virtual_time.specs.Letters.{Letter, minus_of, pluses, minuses}
-use Rattle.virtual_time.specs.Part.{Part, can_seal, sealed, seal_oldest}
+use Rattle.virtual_time.specs.Law.{Rules, IsOrder, IsIn, IsAscending, one_if, minus_of, pluses, minuses, Part, can_seal, sealed, seal_oldest}
+use Rattle.virtual_time.specs.declared.letter.Letter.{Letter}
 use Rattle.virtual_time.proofs.Order.{greater-different}
 use Rattle.virtual_time.proofs.Lists.{in-head}
 use Rattle.virtual_time.proofs.Letters.{counts-other}
@@ -46,40 +44,40 @@ module _ {M S K N : Type 0} (r : Rules M S K N) where
       go true = refl
       go false = refl
 
-  module _ (O : IsOrder r) (g : ℕ) where
+  module _ (O : IsOrder r.order) (g : ℕ) where
     -- that m is committed changes nothing for the events behind it
-    can-other : (m x : M) (tally : List (Letter M)) → r.less m x ≡ true → can_commit r g (minus_of m ∷ tally) x ≡ can_commit r g tally x
+    can-other : (m x : M) (tally : List (Letter M)) → r.order.less m x ≡ true → can_commit r.order g (minus_of m ∷ tally) x ≡ can_commit r.order g tally x
     can-other m x tally h =
-        let a = counts-other r O x (minus_of m) tally (greater-different r O x m h) in
-        ap (λ p. nat_lt (r.time x) g && (p == minuses r x (minus_of m ∷ tally) + 1)) a.0 ∙ ap (λ q. nat_lt (r.time x) g && (pluses r x tally == q + 1)) a.1
+        let a = counts-other r.order O x (minus_of m) tally (greater-different r.order O x m h) in
+        ap (λ p. nat_lt (r.order.time x) g && (p == minuses r.order x (minus_of m ∷ tally) + 1)) a.0 ∙ ap (λ q. nat_lt (r.order.time x) g && (pluses r.order x tally == q + 1)) a.1
 
-    committable-other : (m : M) (tally : List (Letter M)) (n : ℕ) (xs : List M) → ((x : M) → IsIn r x xs → r.less m x ≡ true) →
-        committable r g (minus_of m ∷ tally) (take n xs) ≡ committable r g tally (take n xs)
+    committable-other : (m : M) (tally : List (Letter M)) (n : ℕ) (xs : List M) → ((x : M) → IsIn r.order x xs → r.order.less m x ≡ true) →
+        committable r.order g (minus_of m ∷ tally) (take n xs) ≡ committable r.order g tally (take n xs)
     committable-other m tally zero xs h = refl
     committable-other m tally (suc n) [] h = refl
     committable-other m tally (suc n) (x ∷ xs) h =
-        ap (λ can. if can then suc (committable r g (minus_of m ∷ tally) (take n xs)) else 0) (can-other m x tally (h x (in-head r O x xs))) ∙
-        ap (λ k. if can_commit r g tally x then suc k else 0) (committable-other m tally n xs (λ y j. h y (let k : IsIn r y (x ∷ xs) = omega arith in k)))
+        ap (λ can. if can then suc (committable r.order g (minus_of m ∷ tally) (take n xs)) else 0) (can-other m x tally (h x (in-head r.order O x xs))) ∙
+        ap (λ k. if can_commit r.order g tally x then suc k else 0) (committable-other m tally n xs (λ y j. h y (let k : IsIn r.order y (x ∷ xs) = omega arith in k)))
 
     -- as many as come before the first one that cannot be committed
-    pub committable-below : (n : ℕ) (part : Part M S) → IsAscending r part.done → committable r g part.tally (take n part.done) ≡ committed_below r g n part
+    pub committable-below : (n : ℕ) (part : Part M S) → IsAscending r.order part.done → committable r.order g part.tally (take n part.done) ≡ committed_below r g n part
     committable-below zero part up = refl
     committable-below (suc n) part up = go part.done refl (committable-below n)
       where
-        go : (ms : List M) → part.done ≡ ms → ((p : Part M S) → IsAscending r p.done → committable r g p.tally (take n p.done) ≡ committed_below r g n p) →
-            committable r g part.tally (take (suc n) ms) ≡ cond (is_early r g ms && can_seal r part ms) (suc (committed_below r g n (seal_oldest r part))) 0
+        go : (ms : List M) → part.done ≡ ms → ((p : Part M S) → IsAscending r.order p.done → committable r.order g p.tally (take n p.done) ≡ committed_below r g n p) →
+            committable r.order g part.tally (take (suc n) ms) ≡ cond (is_early r g ms && can_seal r.order part ms) (suc (committed_below r g n (seal_oldest r part))) 0
         go [] e ih = refl
-        go (m ∷ rest) e ih = pick (can_commit r g part.tally m) refl
+        go (m ∷ rest) e ih = pick (can_commit r.order g part.tally m) refl
           where
-            ascends : IsAscending r (m ∷ rest)
-            ascends = subst (IsAscending r) e up
+            ascends : IsAscending r.order (m ∷ rest)
+            ascends = subst (IsAscending r.order) e up
 
-            seals : can_seal r part (m ∷ rest) ≡ true → seal_oldest r part ≡ sealed r part (m ∷ rest)
-            seals h = ap (λ ms. cond (can_seal r part ms) (sealed r part ms) part) e ∙ ap (λ b. cond b (sealed r part (m ∷ rest)) part) h
+            seals : can_seal r.order part (m ∷ rest) ≡ true → seal_oldest r part ≡ sealed r part (m ∷ rest)
+            seals h = ap (λ ms. cond (can_seal r.order part ms) (sealed r part ms) part) e ∙ ap (λ b. cond b (sealed r part (m ∷ rest)) part) h
 
-            pick : (b : Bool) → can_commit r g part.tally m ≡ b →
-                cond b (suc (committable r g part.tally (take n rest))) 0 ≡ cond b (suc (committed_below r g n (seal_oldest r part))) 0
+            pick : (b : Bool) → can_commit r.order g part.tally m ≡ b →
+                cond b (suc (committable r.order g part.tally (take n rest))) 0 ≡ cond b (suc (committed_below r g n (seal_oldest r part))) 0
             pick true h = ap suc
                 (sym (committable-other m part.tally n rest ascends.0) ∙
-                (ih (sealed r part (m ∷ rest)) ascends.1 ∙ ap (committed_below r g n) (sym (seals (and-second (nat_lt (r.time m) g) _ h)))))
+                (ih (sealed r part (m ∷ rest)) ascends.1 ∙ ap (committed_below r g n) (sym (seals (and-second (nat_lt (r.order.time m) g) _ h)))))
             pick false h = refl

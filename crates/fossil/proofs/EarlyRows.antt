@@ -5,12 +5,8 @@ use Rattle.std.proofs.lemmas.Bool.{and_parts, lt-ltb, ltb-true, both_ways}
 use Rattle.std.proofs.lemmas.List.{append_cancel_left, take-append-drop}
 use Rattle.std.proofs.lemmas.List.Elements.{filter-append}
 use Rattle.std.proofs.lemmas.List.Sums.{length-filter, count_by-le-length}
-use Rattle.virtual_time.specs.Rules.{Rules, Row, reached, rows_of, rowed}
-use Rattle.virtual_time.specs.Lists.{IsIn, earlier}
-use Rattle.virtual_time.specs.Simulation.{Simulation, Laws}
-use Rattle.virtual_time.specs.OneThread.{one, events, rows_at}
-use Rattle.virtual_time.specs.Part.{Part}
-use Rattle.virtual_time.specs.SafePart.{IsSafePart}
+use Rattle.virtual_time.specs.Law.{Rules, reached, rows_of, rowed, rows_at, IsIn, earlier, Simulation, Laws, one, events, Part, IsSafePart}
+use Rattle.virtual_time.specs.declared.row.Row.{Row}
 use Rattle.virtual_time.proofs.Handling.{rowed-append}
 use Rattle.virtual_time.proofs.Safety.{rows}
 use Rattle.fossil.specs.Within.{is_within, rows_within}
@@ -31,7 +27,7 @@ module _ {M S K N : Type 0} (r : Rules M S K N) (q : M → Bool) where
   abbrev passing : List (Row M N) → List (Row M N)
   passing rows = filter (λ row. q row.message) rows
 
-  event-fails : (m : M) → q m ≡ false → (ns : List N) → passing (rows_of r m ns) ≡ []
+  event-fails : (m : M) → q m ≡ false → (ns : List N) → passing (rows_of r.order m ns) ≡ []
   event-fails m e [] = refl
   event-fails m e (n ∷ ns) = rw e (event-fails m e ns)
 
@@ -41,9 +37,9 @@ module _ {M S K N : Type 0} (r : Rules M S K N) (q : M → Bool) where
   rows-fail s (m ∷ ms) none = go (q m) refl none (rows-fail (r.after s m) ms)
     where
       go : (b : Bool) → q m ≡ b → cond b (m ∷ filter q ms) (filter q ms) ≡ [] → (filter q ms ≡ [] → passing (rowed r (r.after s m) ms) ≡ []) →
-          passing (rows_of r m (r.notes s m) ++ rowed r (r.after s m) ms) ≡ []
+          passing (rows_of r.order m (r.notes s m) ++ rowed r (r.after s m) ms) ≡ []
       go true e h i = absurd cc
-      go false e h i = filter-append (λ row. q row.message) (rows_of r m (r.notes s m)) (rowed r (r.after s m) ms)
+      go false e h i = filter-append (λ row. q row.message) (rows_of r.order m (r.notes s m)) (rowed r (r.after s m) ms)
           ∙ (ap (λ z. z ++ passing (rowed r (r.after s m) ms)) (event-fails m e (r.notes s m)) ∙ i h)
 
   -- events and then such that do not pass
@@ -54,30 +50,30 @@ module _ {M S K N : Type 0} (r : Rules M S K N) (q : M → Bool) where
       (ap (λ z. passing (rowed r s ms) ++ z) (rows-fail (reached r s ms) more none) ∙ append-nil (passing (rowed r s ms))))
 
 module _ {M S K N : Type 0} (f : Simulation M S K N) (L : Laws f) (p g from to : ℕ) (part : Part M S) (safe : IsSafePart f p g part)
-    (low : to ≤ g) (none : earlier f.rules to part.done ≡ []) where
+    (low : to ≤ g) (none : earlier f.rules.order to part.done ≡ []) where
   abbrev inside : M → Bool
   inside = is_within f.rules from to
 
-  inside-early : (m : M) → inside m ≡ true → nat_lt (f.rules.time m) to ≡ true
+  inside-early : (m : M) → inside m ≡ true → nat_lt (f.rules.order.time m) to ≡ true
   inside-early m h = (and_parts _ _ h).1
 
-  inside-below : (m : M) → inside m ≡ true → nat_lt (f.rules.time m) g ≡ true
+  inside-below : (m : M) → inside m ≡ true → nat_lt (f.rules.order.time m) g ≡ true
   inside-below m h = lt-ltb _ _ (let a = ltb-true _ _ (inside-early m h) in omega arith)
 
-  done-outside : filter inside (earlier f.rules g part.done) ≡ []
+  done-outside : filter inside (earlier f.rules.order g part.done) ≡ []
   done-outside =
-      filter-twice inside (λ m. nat_lt (f.rules.time m) g) inside-below part.done
-      ∙ (sym (filter-twice inside (λ m. nat_lt (f.rules.time m) to) inside-early part.done) ∙ ap (filter inside) none)
+      filter-twice inside (λ m. nat_lt (f.rules.order.time m) g) inside-below part.done
+      ∙ (sym (filter-twice inside (λ m. nat_lt (f.rules.order.time m) to) inside-early part.done) ∙ ap (filter inside) none)
 
   module _ (n : ℕ) (ended : (one f n).waiting ≡ []) where
-    below : earlier f.rules g (events f n p) ≡ part.committed ++ earlier f.rules g part.done
-    below = safe.below.each n (λ m j. absurd (let k = subst (λ z. IsIn f.rules m z) ended j in omega arith))
+    below : earlier f.rules.order g (events f n p) ≡ part.committed ++ earlier f.rules.order g part.done
+    below = safe.below.each n (λ m j. absurd (let k = subst (λ z. IsIn f.rules.order m z) ended j in omega arith))
 
     enough : length part.committed ≤ length (events f n p)
     enough =
-        let a = ap length below ∙ length-append part.committed (earlier f.rules g part.done) in
-        let b = length-filter (λ m. nat_lt (f.rules.time m) g) (events f n p) in
-        let c = count_by-le-length (λ m. nat_lt (f.rules.time m) g) (events f n p) in
+        let a = ap length below ∙ length-append part.committed (earlier f.rules.order g part.done) in
+        let b = length-filter (λ m. nat_lt (f.rules.order.time m) g) (events f n p) in
+        let c = count_by-le-length (λ m. nat_lt (f.rules.order.time m) g) (events f n p) in
         omega arith
 
     begins : part.committed ++ drop (length part.committed) (events f n p) ≡ events f n p
@@ -85,11 +81,11 @@ module _ {M S K N : Type 0} (f : Simulation M S K N) (L : Laws f) (p g from to :
 
     same-events : filter inside (events f n p) ≡ filter inside part.committed
     same-events =
-        sym (filter-twice inside (λ m. nat_lt (f.rules.time m) g) inside-below (events f n p))
-        ∙ (ap (filter inside) below ∙ (filter-append inside part.committed (earlier f.rules g part.done)
+        sym (filter-twice inside (λ m. nat_lt (f.rules.order.time m) g) inside-below (events f n p))
+        ∙ (ap (filter inside) below ∙ (filter-append inside part.committed (earlier f.rules.order g part.done)
         ∙ (ap (λ z. filter inside part.committed ++ z) done-outside ∙ append-nil (filter inside part.committed))))
 
-    pub early-rows : rows_within f.rules from to (rows_at f p (one f n).rows) ≡ rows_within f.rules from to (rowed f.rules (f.opening p) part.committed)
+    pub early-rows : rows_within f.rules from to (rows_at p (one f n).rows) ≡ rows_within f.rules from to (rowed f.rules (f.opening p) part.committed)
     early-rows =
         let more = drop (length part.committed) (events f n p) in
         ap (rows_within f.rules from to) (rows f L n p ∙ ap (rowed f.rules (f.opening p)) (sym begins))

@@ -1,7 +1,6 @@
 -- Events earlier than GVT are committed, one after another, the oldest first.
 use Rattle.std.specs.Prelude.{ℕ, zero, suc, Bool, false, ◌&&◌, if◌then◌else◌, nat_lt, List, [], ◌∷◌, Option, Some, None}
-use Rattle.virtual_time.specs.Rules.{Rules}
-use Rattle.virtual_time.specs.Part.{Part, can_seal, seal_oldest}
+use Rattle.virtual_time.specs.Law.{Rules, Part, can_seal, seal_oldest}
 
 -- the moment, if there is one, is earlier than another
 abbrev pub is_moment_before : ℕ → Option ℕ → Bool
@@ -12,11 +11,11 @@ module _ {M S K N : Type 0} (r : Rules M S K N) where
   -- the oldest of these done events is earlier than g
   abbrev pub is_early : ℕ → List M → Bool
   is_early g [] = false
-  is_early g (m ∷ ms) = nat_lt (r.time m) g
+  is_early g (m ∷ ms) = nat_lt (r.order.time m) g
 
   -- the oldest done event is earlier than g and can be committed
   abbrev pub is_ready : ℕ → Part M S → Bool
-  is_ready g part = is_early g part.done && can_seal r part part.done
+  is_ready g part = is_early g part.done && can_seal r.order part part.done
 
   -- the part after its oldest done event was committed so many times
   abbrev pub sealed_times : ℕ → Part M S → Part M S

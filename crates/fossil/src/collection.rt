@@ -1,8 +1,7 @@
 //! Fossil collection of one process.
 ghost use Rattle.std.specs.Prelude.{◌≡◌, ◌<◌, ◌≤◌, true, false, Ok, OnOk, OnErr, IfOk};
 ghost use Rattle.vlink.specs.declared.message.Message.{Message};
-ghost use Rattle.virtual_time.specs.Lists.{one_if};
-ghost use Rattle.virtual_time.specs.Part.{Part};
+ghost use Rattle.virtual_time.specs.Law.{one_if, Part};
 ghost use Rattle.reverse.specs.Rules.{rules_of};
 ghost use Rattle.process_queues.specs.Queues.{StandsFor, Does};
 ghost use Rattle.fossil.specs.Committed.{is_moment_before, is_ready, sealed_times, committed_below, committed_once};

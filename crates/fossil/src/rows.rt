@@ -2,10 +2,8 @@
 ghost use Rattle.std.specs.Prelude.{◌≡◌, ◌+◌, ◌<◌, ◌≤◌, ◌^◌, ℕ, length, map, nat_lt, true, false};
 ghost use Rattle.std.specs.List.Sorted.{IsNonDecreasingBy, IsPartitionPoint};
 ghost use Rattle.vlink.specs.declared.message.Message.{Message};
-ghost use Rattle.virtual_time.specs.Rules.{rowed};
-ghost use Rattle.virtual_time.specs.Part.{Part};
+ghost use Rattle.virtual_time.specs.Law.{rowed, Part};
 ghost use Rattle.reverse.specs.Rules.{rules_of};
-ghost use Rattle.process_queues.specs.Past.{seen_row};
 ghost use Rattle.process_queues.specs.Queues.{StandsFor, Does, rows_there};
 ghost use Rattle.fossil.specs.Within.{rows_within, AreInTime, AreFirstBefore, AreFrom};
 
@@ -22,10 +20,10 @@ pub fn rows_between<R: Actor>(process: &Process<R>, from: Time, to: Time) -> &[R
     requires { (opening : R) × (part : Part Message R) × StandsFor (rules_of R.plain R.counter) R.is_value opening part process.now.queues
         × AreInTime (rules_of R.plain R.counter) (rowed (rules_of R.plain R.counter) opening part.committed) }
     ensures there { (opening : R) (part : Part Message R) → StandsFor (rules_of R.plain R.counter) R.is_value opening part process.now.queues →
-        map seen_row result.now ≡ rows_within (rules_of R.plain R.counter) from to (rows_there (rules_of R.plain R.counter) opening part process.now.queues) }
+        result.now ≡ rows_within (rules_of R.plain R.counter) from to (rows_there (rules_of R.plain R.counter) opening part process.now.queues) }
     ensures whole { (opening : R) (part : Part Message R) → StandsFor (rules_of R.plain R.counter) R.is_value opening part process.now.queues →
         AreFirstBefore (rules_of R.plain R.counter) from process.now.queues.left (rowed (rules_of R.plain R.counter) opening part.committed) →
-        map seen_row result.now ≡ rows_within (rules_of R.plain R.counter) from to (rowed (rules_of R.plain R.counter) opening part.committed) }
+        result.now ≡ rows_within (rules_of R.plain R.counter) from to (rowed (rules_of R.plain R.counter) opening part.committed) }
 {
     let rows = process.sealed();
     let begin = count_before(rows, from);

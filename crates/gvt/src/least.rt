@@ -1,16 +1,15 @@
 //! The horizon of floors and mail, and why it is GVT.
-ghost use Rattle.std.specs.Prelude.{◌≡◌, ℕ, ◌+◌, ◌<◌, List, Some, min, length, slice_get};
+ghost use Rattle.std.specs.Prelude.{◌≡◌, ℕ, ◌+◌, ◌<◌, List, Some, length, slice_get};
 ghost use Rattle.vlink.specs.declared.message.Message.{Message};
-ghost use Rattle.virtual_time.specs.Letters.{lowest, times_of};
-ghost use Rattle.virtual_time.specs.Simulation.{Simulation};
-ghost use Rattle.virtual_time.specs.World.{World, gvt_over};
-ghost use Rattle.antimessages.specs.Letters.{Store, message_rules};
+ghost use Rattle.virtual_time.specs.Law.{lowest, times_of, Simulation, World, gvt_over};
+ghost use Rattle.antimessages.specs.Letters.{Store};
+ghost use Rattle.vlink.specs.Order.{message_order};
 ghost use Rattle.antimessages.specs.Mailing.{letters_for};
 ghost use Rattle.gvt.specs.Horizon.{Floors as Floored, horizon_over};
 
 use crate::floors::Floors;
 use antimessages::Mail;
-use vlink::Time;
+use vlink::{Time, earlier};
 
 /// The least of all floors and of the times of all letters in the mail, or the moment after the end: what GVT is set to (Jefferson,
 /// "Virtual Time", ACM TOPLAS 7(3), 1985). There may be more boxes in the mail than floors, or fewer. It takes no memory.
@@ -27,7 +26,7 @@ pub fn horizon(floors: &Floors, mail: &Mail) -> Time
 /// The horizon of floors and mail that are those of a world, a floor and a box of the mail for each process, is what the step Gvt
 /// sets there.
 pub fn gvt_law<S, K, N>()
-    ensures { (f : Simulation Message S K N) → ((m : Message) → f.rules.time m ≡ m.time) → (w : World Message S) (floors : Floored) (mail : List Store) →
+    ensures { (f : Simulation Message S K N) → ((m : Message) → f.rules.order.time m ≡ m.time) → (w : World Message S) (floors : Floored) (mail : List Store) →
         f.processes ≡ length floors.floors → f.processes ≡ length mail → f.until ≡ floors.until →
         ((p : ℕ) → p < f.processes → slice_get floors.floors p ≡ Some (w.floors p)) →
         ((p : ℕ) → p < f.processes → letters_for p mail ≡ w.mail p) →
@@ -49,7 +48,7 @@ fn earliest_floor(floors: &Floors) -> Time
 
 /// The least time of the letters for this process, or the moment where that is earlier.
 fn earliest_letter(mail: &Mail, process: u16, moment: Time) -> Time
-    ensures { result ≡ lowest moment (times_of message_rules (letters_for process mail.now)) }
+    ensures { result ≡ lowest moment (times_of message_order (letters_for process mail.now)) }
 {
     let mut earliest = moment;
     for place in 0..mail.count(process) {
@@ -58,15 +57,4 @@ fn earliest_letter(mail: &Mail, process: u16, moment: Time) -> Time
         }
     }
     earliest
-}
-
-/// The earlier of two moments.
-fn earlier(first: Time, second: Time) -> Time
-    ensures { result ≡ min first second }
-{
-    if first.ns() <= second.ns() {
-        first
-    } else {
-        second
-    }
 }

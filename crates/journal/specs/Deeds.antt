@@ -1,8 +1,7 @@
 -- What an entry tells, as plain data.
 use Rattle.std.specs.Prelude.{ℕ, List, [], ◌++◌, Option, Some, None, take}
 use Rattle.vlink.specs.declared.message.Message.{Message}
-use Rattle.virtual_time.specs.Journal.{Deed as SeenDeed, Took, Posted, Published, Entry as SeenEntry, acts_of}
-use Rattle.virtual_time.specs.Own.{Act}
+use Rattle.virtual_time.specs.Law.{Deed as SeenDeed, Took, Posted, Published, Entry as SeenEntry, acts_of, Act}
 use Rattle.antimessages.specs.Mailing.{letters_for}
 use Rattle.journal.specs.declared.entry.Deed.{Deed}
 use Rattle.journal.specs.declared.entry.Deed.TheVariants.{Collect, Post, Publish}

@@ -1,10 +1,10 @@
 //! What one process did alone since its last post.
 ghost use Rattle.std.specs.Prelude.{◌≡◌, ◌↔◌, List, IsTrue, [], ◌∷◌, ◌++◌, length, slice_get, OnOk, OnErr, IfOk};
 ghost use Rattle.std.specs.Option.{option_map};
-ghost use Rattle.virtual_time.specs.Journal.{Move};
-ghost use Rattle.journal.specs.Moves.{seen_move, counted, longer};
+ghost use Rattle.virtual_time.specs.declared.moved.Move.{Move};
+ghost use Rattle.journal.specs.Moves.{counted, longer};
 
-use crate::moved::Moved;
+use virtual_time::Move;
 use crate::turn::Turn;
 use antimessages::OutOfMemory;
 use std::alloc::Global;
@@ -14,7 +14,7 @@ use std::marker::Model;
 #[derive(Drop)]
 pub(crate) struct Longer {
     pub(crate) turn: Turn,
-    pub(crate) rest: Vec<Moved>,
+    pub(crate) rest: Vec<Move>,
 }
 
 /// How the steps are kept: a turn takes no allocation.
@@ -32,7 +32,7 @@ pub struct Block {
 
 impl Model for Block {
     ghost use Rattle.std.specs.Prelude.{List};
-    ghost use Rattle.virtual_time.specs.Journal.{Move};
+    ghost use Rattle.virtual_time.specs.declared.moved.Move.{Move};
     ghost use Rattle.journal.specs.Moves.{moves_of};
 
     ghost Value = { List Move };
@@ -72,8 +72,8 @@ impl Block {
     }
 
     /// The step number `at`, from 0. `None`: there are no more.
-    pub fn get(&self, at: usize) -> Option<Moved>
-        ensures { option_map seen_move result ≡ slice_get self.now at }
+    pub fn get(&self, at: usize) -> Option<Move>
+        ensures { result ≡ slice_get self.now at }
     {
         match &self.kind {
             Kind::Counted(turn) => turn.get(at),
@@ -82,8 +82,8 @@ impl Block {
     }
 
     /// One step more. `OutOfMemory`: a growth was refused, and the steps are as they were.
-    pub fn push(&mut self, alloc: Global, moved: Moved) -> Result<(), OutOfMemory>
-        ensures pushed { OnOk result (self.new ≡ self.old ++ seen_move moved ∷ []) }
+    pub fn push(&mut self, alloc: Global, moved: Move) -> Result<(), OutOfMemory>
+        ensures pushed { OnOk result (self.new ≡ self.old ++ moved ∷ []) }
         ensures unchanged { OnErr result (self.new ≡ self.old) }
     {
         match &mut self.kind {
@@ -115,16 +115,16 @@ impl Block {
 }
 
 impl Longer {
-    fn new(alloc: Global, turn: Turn, moved: Moved) -> Result<Longer, OutOfMemory>
-        ensures { IfOk result (λ l. longer l ≡ counted turn ++ seen_move moved ∷ []) }
+    fn new(alloc: Global, turn: Turn, moved: Move) -> Result<Longer, OutOfMemory>
+        ensures { IfOk result (λ l. longer l ≡ counted turn ++ moved ∷ []) }
     {
         let mut rest = Vec::new(alloc);
         rest.push(moved)?;
         Ok(Longer { turn, rest })
     }
 
-    fn get(&self, at: usize) -> Option<Moved>
-        ensures { option_map seen_move result ≡ slice_get (longer self.now) at }
+    fn get(&self, at: usize) -> Option<Move>
+        ensures { result ≡ slice_get (longer self.now) at }
     {
         let counted = self.turn.len();
         if at < counted {

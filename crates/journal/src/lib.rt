@@ -4,7 +4,6 @@
 mod block;
 mod entry;
 mod fault;
-mod moved;
 mod table;
 mod tokens;
 mod turn;
@@ -12,6 +11,5 @@ mod turn;
 pub use block::Block;
 pub use entry::{Deed, Entry, Past};
 pub use fault::PoolFault;
-pub use moved::Moved;
 pub use table::{AnyEntry, CELLS, Entries, PAGES, Page};
 pub use tokens::{EntryPlace, Tokens};

@@ -1,10 +1,10 @@
 //! The steps of a turn, as three counts.
 ghost use Rattle.std.specs.Prelude.{◌≡◌, ◌<◌, ◌^◌, ℕ, List, true, false, [], ◌∷◌, ◌++◌, length, slice_get};
 ghost use Rattle.std.specs.Option.{option_map};
-ghost use Rattle.virtual_time.specs.Journal.{Move};
-ghost use Rattle.journal.specs.Moves.{seen_move, counted};
+ghost use Rattle.virtual_time.specs.declared.moved.Move.{Move};
+ghost use Rattle.journal.specs.Moves.{counted};
 
-use crate::moved::Moved;
+use virtual_time::Move;
 
 /// So many arrivals, then so many runs, then so many commits: what a process does in a turn.
 #[derive(Clone, Copy)]
@@ -24,41 +24,41 @@ impl Turn {
     }
 
     /// The step number `at`, from 0.
-    pub(crate) fn get(self, at: usize) -> Option<Moved>
-        ensures { option_map seen_move result ≡ slice_get (counted self) at }
+    pub(crate) fn get(self, at: usize) -> Option<Move>
+        ensures { result ≡ slice_get (counted self) at }
     {
         let ran = self.arrivals as usize;
         let sealed = ran + self.runs as usize;
         if at < ran {
-            Some(Moved::Arrived)
+            Some(Move::Arrived)
         } else if at < sealed {
-            Some(Moved::Ran)
+            Some(Move::Ran)
         } else if at < sealed + self.commits as usize {
-            Some(Moved::Sealed)
+            Some(Move::Sealed)
         } else {
             None
         }
     }
 
     /// Counts one step more. `false`: it does not go behind the steps that are counted, or its count is at its greatest.
-    pub(crate) fn add(&mut self, moved: Moved) -> bool
-        ensures added { result ≡ true → counted self.new ≡ counted self.old ++ seen_move moved ∷ [] }
+    pub(crate) fn add(&mut self, moved: Move) -> bool
+        ensures added { result ≡ true → counted self.new ≡ counted self.old ++ moved ∷ [] }
         ensures unchanged { result ≡ false → self.new ≡ self.old }
     {
         match moved {
-            Moved::Arrived => {
+            Move::Arrived => {
                 if self.runs > 0 || self.commits > 0 || self.arrivals == u32::MAX {
                     return false;
                 }
                 self.arrivals += 1;
             }
-            Moved::Ran => {
+            Move::Ran => {
                 if self.commits > 0 || self.runs == u32::MAX {
                     return false;
                 }
                 self.runs += 1;
             }
-            Moved::Sealed => {
+            Move::Sealed => {
                 if self.commits == u32::MAX {
                     return false;
                 }

@@ -2,7 +2,7 @@
 use Rattle.std.proofs.Common.{◌≡◌, ◌∙◌, ℕ, ◌≤◌, List, All, length, Result, Ok, Err, refl, sym, ap, inl, inr, arith}
 use Rattle.std.specs.Prelude.{IfOk, IfErr}
 use Rattle.std.specs.Global.{Vec}
-use Rattle.vlink.specs.declared.step.Step.{Step}
+use Rattle.virtual_time.specs.declared.step.Step.{Step}
 use Rattle.journal_text.specs.declared.fault.LinesFault.{LinesFault}
 use Rattle.journal_text.specs.declared.fault.LinesFault.TheVariants.{TooMany, BadLine, OutOfMemory}
 use Rattle.journal_text.specs.Text.{Fits, steps_text}

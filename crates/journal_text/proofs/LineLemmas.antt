@@ -5,8 +5,8 @@ use Rattle.std.specs.List.{onto_first, concat}
 use Rattle.std.specs.Str.Parse.{AllDigits}
 use Rattle.std.proofs.lemmas.Bool.{ne_eqb, eqb-true, cond-false}
 use Rattle.std.proofs.lemmas.Str.Parse.{digit_from_value}
-use Rattle.vlink.specs.declared.step.Step.{Step}
-use Rattle.vlink.specs.declared.step.Step.TheVariants.{Take, Arrive, Run, Post, Gvt, Commit}
+use Rattle.virtual_time.specs.declared.step.Step.{Step}
+use Rattle.virtual_time.specs.declared.step.Step.TheVariants.{Take, Arrive, Run, Post, Gvt, Commit}
 use Rattle.journal_text.specs.Text.{Fits, number_then, step_line}
 use Rattle.journal_text.specs.Lines.{lines}
 use Rattle.journal_text.proofs.DigitLemmas.{decimal_digits, number_then-append}

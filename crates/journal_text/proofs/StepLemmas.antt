@@ -3,8 +3,8 @@ use Rattle.std.proofs.Common.{◌≡◌, ◌∙◌, ℕ, ◌^◌, ◌<◌, ◌==
 use Rattle.std.specs.Prelude.{decimal}
 use Rattle.std.specs.Str.Parse.{digits_value}
 use Rattle.std.proofs.lemmas.List.{drop_at}
-use Rattle.vlink.specs.declared.step.Step.{Step}
-use Rattle.vlink.specs.declared.step.Step.TheVariants.{Take, Arrive, Run, Post, Gvt, Commit}
+use Rattle.virtual_time.specs.declared.step.Step.{Step}
+use Rattle.virtual_time.specs.declared.step.Step.TheVariants.{Take, Arrive, Run, Post, Gvt, Commit}
 use Rattle.journal_text.specs.Text.{Fits, number_then, step_line}
 use Rattle.journal_text.specs.Fronts.{BeginsWithNone}
 use Rattle.journal_text.proofs.DigitLemmas.{one_number, NoDigitFirst, digits_front, digits_front-append, decimal_digits, decimal_value, number_then-append}

@@ -4,7 +4,7 @@ use Rattle.std.specs.List.{concat}
 use Rattle.std.proofs.lemmas.List.{append-nil, length-map, length-take, take_at, get_or-append_right, get_or-take}
 use Rattle.std.proofs.lemmas.List.Elements.{All-head, All-tail, All-map, All-weaker, All-get_or}
 use Rattle.std.proofs.lemmas.Bool.{cases_order}
-use Rattle.vlink.specs.declared.step.Step.{Step}
+use Rattle.virtual_time.specs.declared.step.Step.{Step}
 use Rattle.journal_text.specs.Text.{Fits, step_line, steps_text}
 use Rattle.journal_text.specs.Lines.{lines, IsStepLine, IsFirstBad}
 use Rattle.journal_text.specs.Fronts.{BeginsWithNone}

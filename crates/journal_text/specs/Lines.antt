@@ -2,7 +2,7 @@
 use Rattle.std.specs.Prelude.{ℕ, ◌≡◌, ◌<◌, ◌≤◌, ◌-◌, ◌==◌, ◌⊎◌, All, length, take, slice_index_or, if◌then◌else◌, List, [], ◌∷◌, Result, MatchResult}
 use Rattle.std.specs.Global.{Vec}
 use Rattle.std.specs.List.{onto_first}
-use Rattle.vlink.specs.declared.step.Step.{Step}
+use Rattle.virtual_time.specs.declared.step.Step.{Step}
 use Rattle.journal_text.specs.declared.fault.LinesFault.{LinesFault}
 use Rattle.journal_text.specs.declared.fault.LinesFault.TheVariants.{TooMany, BadLine, OutOfMemory}
 use Rattle.journal_text.specs.Text.{Fits, step_line}

@@ -1,8 +1,8 @@
 -- The text of the steps of a run. A text is the list of its bytes.
 use Rattle.std.specs.Prelude.{ℕ, ◌<◌, ◌^◌, ⊤, codes, decimal, List, [], ◌∷◌, ◌++◌}
 use Rattle.std.specs.List.{flat_map}
-use Rattle.vlink.specs.declared.step.Step.{Step}
-use Rattle.vlink.specs.declared.step.Step.TheVariants.{Take, Arrive, Run, Post, Gvt, Commit}
+use Rattle.virtual_time.specs.declared.step.Step.{Step}
+use Rattle.virtual_time.specs.declared.step.Step.TheVariants.{Take, Arrive, Run, Post, Gvt, Commit}
 
 -- the numbers of a step are below 2 ^ 32
 abbrev pub Fits : Step → Type 0

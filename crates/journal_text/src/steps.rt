@@ -1,6 +1,6 @@
 //! A whole text as a list of steps.
 ghost use Rattle.std.specs.Prelude.{ℕ, List, ◌≡◌, ◌<◌, ◌≤◌, All, length, IfOk, IfErr, IsErrOf};
-ghost use Rattle.vlink.specs.declared.step.Step.{Step};
+ghost use Rattle.virtual_time.specs.declared.step.Step.{Step};
 ghost use Rattle.journal_text.specs.declared.fault.LinesFault.TheVariants.{TooMany, BadLine};
 ghost use Rattle.journal_text.specs.Text.{Fits, steps_text};
 ghost use Rattle.journal_text.specs.Lines.{lines, IsFirstBad, HasCause, AreRead, IsRefused};

@@ -1,4 +1,3 @@
-pub mod Popping
 pub mod Limit
 pub mod Starts
 pub mod Busy

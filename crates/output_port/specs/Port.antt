@@ -2,6 +2,7 @@
 use Rattle.std.specs.Prelude.{ℕ, ◌+◌, ◌*◌, ◌<◌, ◌≤◌, Bool, true, false, if◌then◌else◌, nat_le, List, [], ◌∷◌, ◌++◌}
 use Rattle.vlink.specs.declared.frame.Frame.{Frame}
 use Rattle.frame_ring.specs.Queue.{bytes_of}
+use Rattle.frame_ring.specs.Last.{without_last}
 use Rattle.reverse.specs.Plain.{Plain}
 use Rattle.output_port.specs.declared.event.Priority.{Priority}
 use Rattle.output_port.specs.declared.event.Priority.TheVariants.{High, Low}
@@ -122,12 +123,6 @@ free_answer of_free.Nothing = Nothing
 abbrev pub outcome : PortState → PortEvent → Outcome
 outcome p (Put frame priority) = put p frame priority
 outcome p Free = free p
-
--- all but the last
-abbrev pub without_last : List Frame → List Frame
-without_last [] = []
-without_last (x ∷ []) = []
-without_last (x ∷ (y ∷ ys)) = x ∷ without_last (y ∷ ys)
 
 -- the state before an event, from the state after it and the record that was kept of it
 abbrev pub undone : PortState → PortRecord → PortState

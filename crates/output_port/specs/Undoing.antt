@@ -1,18 +1,14 @@
 -- The inverse law of the output port.
 use Rattle.std.proofs.Common.{◌≡◌, ◌++◌, Bool, true, false, cond, List, [], ◌∷◌, refl, sym, ap}
 use Rattle.vlink.specs.declared.frame.Frame.{Frame}
+use Rattle.frame_ring.specs.Last.{without_last, without_last-push}
 use Rattle.reverse.specs.Plain.{IsReversible}
 use Rattle.output_port.specs.declared.event.Priority.{Priority}
 use Rattle.output_port.specs.declared.event.Priority.TheVariants.{High, Low}
 use Rattle.output_port.specs.declared.event.PortEvent.TheVariants.{Put, Free}
 use Rattle.output_port.specs.declared.event.PortRecord.TheVariants as saved
 use Rattle.output_port.specs.declared.event.PutRecord.TheVariants as of_put
-use Rattle.output_port.specs.Port.{PortState, Outcome, port, put_kept, without_last, undone, keeping, dropping, still_idle, at_once, may_wait, next}
-
-pub without_last-push : (xs : List Frame) (x : Frame) → without_last (xs ++ x ∷ []) ≡ xs
-without_last-push [] x = refl
-without_last-push (y ∷ []) x = refl
-without_last-push (y ∷ (z ∷ zs)) x = ap (λ ws. y ∷ ws) (without_last-push (z ∷ zs) x)
+use Rattle.output_port.specs.Port.{PortState, Outcome, port, put_kept, undone, keeping, dropping, still_idle, at_once, may_wait, next}
 
 -- undoing this outcome at the state p gives p
 IsUndone : PortState → Outcome → Type 0

@@ -1,7 +1,8 @@
 //! An output port: two lists by priority, and a line that is free or busy.
 ghost use Rattle.std.specs.Prelude.{◌≡◌, ◌+◌, ◌*◌, ◌≤◌, ◌++◌, [], ◌∷◌, true, false, length, ⊤, IfOk};
 ghost use Rattle.std.proofs.Props.{props};
-ghost use Rattle.output_port.specs.Port.{PortState, opening, port, IsWithinBytes, put, put_answer, put_kept, free, free_answer, undone, waiting, with_waiting, waiting_bytes, may_wait, without_last};
+ghost use Rattle.frame_ring.specs.Last.{without_last};
+ghost use Rattle.output_port.specs.Port.{PortState, opening, port, IsWithinBytes, put, put_answer, put_kept, free, free_answer, undone, waiting, with_waiting, waiting_bytes, may_wait};
 ghost use Rattle.output_port.specs.declared.event.PortRecord.TheVariants as saved;
 ghost use Rattle.output_port.specs.Undoing.{port-undoes, put-saves};
 

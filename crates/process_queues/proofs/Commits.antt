@@ -5,21 +5,21 @@ use Rattle.std.proofs.lemmas.Bool.{eqb-true}
 use Rattle.std.proofs.lemmas.Int.{ints}
 use Rattle.vlink.specs.declared.message.Message.{Message}
 use Rattle.vlink.specs.declared.note.Note.{Note}
-use Rattle.virtual_time.specs.Rules.{Rules, reached}
-use Rattle.virtual_time.specs.Letters.{Letter as Signed, pluses, minuses}
-use Rattle.virtual_time.specs.Part.{Part}
-use Rattle.antimessages.specs.Letters.{message_rules}
-use Rattle.process_queues.specs.Queues.{Queues, StandsFor, CountsAgree}
+use Rattle.virtual_time.specs.Law.{Order, Rules, reached, pluses, minuses, Part}
+use Rattle.virtual_time.specs.declared.letter.Letter.{Letter}
+use Rattle.vlink.specs.Order.{message_order}
+use Rattle.antimessages.specs.Counting.{HaveSameCounts}
+use Rattle.process_queues.specs.Queues.{Queues, StandsFor}
 use Rattle.process_queues.specs.Committing.{can_commit, committable}
 use Rattle.process_queues.proofs.Pasts.{messages-of}
 
 -- no more than are looked at
-pub committable-within : {M S K N : Type 0} (r : Rules M S K N) (g : ℕ) (tally : List (Signed M)) (n : ℕ) (ms : List M) → committable r g tally (take n ms) ≤ n
-committable-within r g tally zero ms = omega arith
-committable-within r g tally (suc n) [] = omega arith
-committable-within r g tally (suc n) (m ∷ ms) = go (can_commit r g tally m) (committable-within r g tally n ms)
+pub committable-within : {M : Type 0} (order : Order M) (g : ℕ) (tally : List (Letter M)) (n : ℕ) (ms : List M) → committable order g tally (take n ms) ≤ n
+committable-within order g tally zero ms = omega arith
+committable-within order g tally (suc n) [] = omega arith
+committable-within order g tally (suc n) (m ∷ ms) = go (can_commit order g tally m) (committable-within order g tally n ms)
   where
-    go : (b : Bool) → committable r g tally (take n ms) ≤ n → cond b (suc (committable r g tally (take n ms))) 0 ≤ suc n
+    go : (b : Bool) → committable order g tally (take n ms) ≤ n → cond b (suc (committable order g tally (take n ms))) 0 ≤ suc n
     go true h = omega arith
     go false h = omega arith
 
@@ -29,21 +29,21 @@ same-one p q p' q' e = both_ways (p == q + 1) (p' == q' + 1)
     (λ t. eq-eqb p' (q' + 1) (let k = eqb-true p (q + 1) t in omega (arith, ints)))
     (λ t. eq-eqb p (q + 1) (let k = eqb-true p' (q' + 1) t in omega (arith, ints)))
 
-module _ {S K : Type 0} (r : Rules Message S K Note) (t : (m : Message) → r.time m ≡ m.time) where
-  can_commit-agree : (g : ℕ) (a b : List (Signed Message)) → CountsAgree r a b → (m : Message) → can_commit r g a m ≡ can_commit message_rules g b m
-  can_commit-agree g a b h m =
-      ap (λ time. nat_lt time g && (pluses r m a == minuses r m a + 1)) (t m) ∙
-      ap (λ one. nat_lt m.time g && one) (same-one (pluses r m a) (minuses r m a) (pluses message_rules m b) (minuses message_rules m b) (h m))
+can_commit-agree : (g : ℕ) (a b : List (Letter Message)) → HaveSameCounts message_order a b → (m : Message) → can_commit message_order g a m ≡ can_commit message_order g b m
+can_commit-agree g a b h m =
+    ap (λ one. nat_lt m.time g && one) (same-one (pluses message_order m a) (minuses message_order m a) (pluses message_order m b) (minuses message_order m b) (h m))
 
-  committable-agree : (g : ℕ) (a b : List (Signed Message)) → CountsAgree r a b → (ms : List Message) → committable r g a ms ≡ committable message_rules g b ms
-  committable-agree g a b h [] = refl
-  committable-agree g a b h (m ∷ ms) =
-      ap (λ can. if can then suc (committable r g a ms) else 0) (can_commit-agree g a b h m) ∙
-      ap (λ n. if can_commit message_rules g b m then suc n else 0) (committable-agree g a b h ms)
+committable-agree : (g : ℕ) (a b : List (Letter Message)) → HaveSameCounts message_order a b → (ms : List Message) → committable message_order g a ms ≡ committable message_order g b ms
+committable-agree g a b h [] = refl
+committable-agree g a b h (m ∷ ms) =
+    ap (λ can. if can then suc (committable message_order g a ms) else 0) (can_commit-agree g a b h m) ∙
+    ap (λ n. if can_commit message_order g b m then suc n else 0) (committable-agree g a b h ms)
 
+module _ {S K : Type 0} (r : Rules Message S K Note) (same : r.order ≡ message_order) where
   pub committable-stands : (is_value : S → Message → Type 0) (opening : S) (part : Part Message S) (q : Queues S K) → StandsFor r is_value opening part q →
-      (g n : ℕ) → committable message_rules g q.tally (take n (map (λ e. e.message) q.past.done)) ≡ committable r g part.tally (take n part.done)
+      (g n : ℕ) → committable message_order g q.tally (take n (map (λ e. e.message) q.past.done)) ≡ committable r.order g part.tally (take n part.done)
   committable-stands is_value opening part q h g n =
-      ap (λ ms. committable message_rules g q.tally (take n ms))
+      ap (λ ms. committable message_order g q.tally (take n ms))
       (ap (map (λ e. e.message)) h.past.past_of.done ∙ messages-of r (reached r opening part.committed) part.done) ∙
-      sym (committable-agree g part.tally q.tally h.counts (take n part.done))
+      (sym (committable-agree g part.tally q.tally h.counts (take n part.done)) ∙
+      sym (ap (λ o. committable o g part.tally (take n part.done)) same))

@@ -3,10 +3,11 @@ use Rattle.std.proofs.Common.{◌≡◌, ℕ, ◌-◌, ◌<◌, ◌≤◌, List,
 use Rattle.std.proofs.lemmas.List.{length-append, length-map}
 use Rattle.vlink.specs.declared.message.Message.{Message}
 use Rattle.vlink.specs.declared.note.Note.{Note}
-use Rattle.virtual_time.specs.Rules.{Rules, reached, sent, rowed, rows_of}
+use Rattle.vlink.specs.Order.{message_order}
+use Rattle.virtual_time.specs.Law.{Rules, reached, sent, rowed, rows_of}
 use Rattle.virtual_time.proofs.Handling.{reached-append, sent-append, rowed-append}
 use Rattle.process_queues.specs.declared.past.Event.{Event}
-use Rattle.process_queues.specs.Past.{Past, Rows, rows_by, event_of, events_of, AreValues, handled_past, IsPastOf}
+use Rattle.process_queues.specs.Past.{Past, Rows, event_of, events_of, AreValues, handled_past, IsPastOf}
 use Rattle.process_queues.proofs.Taking.{snoc-parts, split-last}
 
 -- the front part of a list, and what is behind it
@@ -25,7 +26,7 @@ back-of xs ys k e = ap (λ n. drop n (xs ++ ys)) e ∙ go xs
     go (z ∷ zs) = go zs
 
 -- an event gives a row a note
-pub length-rows : (m : Message) (notes : List Note) → length (rows_by m notes) ≡ length notes
+pub length-rows : (m : Message) (notes : List Note) → length (rows_of message_order m notes) ≡ length notes
 length-rows m [] = refl
 length-rows m (n ∷ ns) = let e = length-rows m ns in omega arith
 
@@ -57,9 +58,9 @@ module _ {S K : Type 0} (r : Rules Message S K Note) where
     past-none past a b c d = record { state = a; done = b; values = tt; sends = c; rows = d ∙ sym (append-nil earlier) }
 
     -- one event is handled at the end
-    pub past-more : (past : Past S K) (m : Message) → ((notes : List Note) → rows_of r m notes ≡ map (λ n. record { message = m; place = m.receiver; note = n }) notes) →
+    pub past-more : (past : Past S K) (m : Message) → r.order ≡ message_order →
         IsPastOf r is_value start ms earlier past → is_value past.state m → IsPastOf r is_value start (ms ++ m ∷ []) earlier (handled_past r past m)
-    past-more past m places h v = record {
+    past-more past m order_is h v = record {
       state = ap (λ s. r.after s m) h.state ∙ sym (reached-append r start ms (m ∷ []));
       done = ap (λ es. es ++ event_of r past.state m ∷ []) h.done ∙ (ap (λ s. events_of r start ms ++ event_of r s m ∷ []) h.state ∙ sym (events-append start ms (m ∷ [])));
       values = values-append is_value start ms m h.values (subst (λ s. is_value s m) h.state v);
@@ -67,7 +68,7 @@ module _ {S K : Type 0} (r : Rules Message S K Note) where
           sym (sent-append r start ms (m ∷ []) ∙ ap (λ z. sent r start ms ++ z) (append-nil _)));
       rows = ap (λ rs. rs ++ map (λ n. record { message = m; place = m.receiver; note = n }) (r.notes past.state m)) h.rows ∙
           (append_assoc earlier (rowed r start ms) _ ∙
-          ap (λ z. earlier ++ z) (ap (λ z. rowed r start ms ++ z) (sym (places (r.notes past.state m)) ∙ ap (λ s. rows_of r m (r.notes s m)) h.state) ∙
+          ap (λ z. earlier ++ z) (ap (λ z. rowed r start ms ++ z) (ap (λ o. rows_of o m (r.notes past.state m)) (sym order_is) ∙ ap (λ s. rows_of r.order m (r.notes s m)) h.state) ∙
           sym (rowed-append r start ms (m ∷ []) ∙ ap (λ z. rowed r start ms ++ z) (append-nil _))));
     }
 
@@ -79,7 +80,7 @@ module _ {S K : Type 0} (r : Rules Message S K Note) where
       pub valid : is_value (reached r start ms) e
       pub values : AreValues r is_value start ms
       pub sends : past.sends ≡ sent r start ms ++ r.sends (reached r start ms) e
-      pub rows : past.rows ≡ (earlier ++ rowed r start ms) ++ rows_of r e (r.notes (reached r start ms) e)
+      pub rows : past.rows ≡ (earlier ++ rowed r start ms) ++ rows_of r.order e (r.notes (reached r start ms) e)
 
     pub came-last : (e : Message) (past : Past S K) (front : List (Event K)) (event : Event K) → past.done ≡ front ++ event ∷ [] →
         IsPastOf r is_value start (ms ++ e ∷ []) earlier past → CameLast e past front event
@@ -106,9 +107,9 @@ module _ {S K : Type 0} (r : Rules Message S K Note) where
     pub gives-last : (e : Message) (past : Past S K) (front : List (Event K)) (event : Event K) → CameLast e past front event → Gives e past event
     gives-last e past front event h =
         let s = ap length h.sends ∙ length-append (sent r start ms) (r.sends (reached r start ms) e) in
-        let n = ap length h.rows ∙ length-append (earlier ++ rowed r start ms) (rows_of r e (r.notes (reached r start ms) e)) in
+        let n = ap length h.rows ∙ length-append (earlier ++ rowed r start ms) (rows_of r.order e (r.notes (reached r start ms) e)) in
         let a : event.sent ≡ length (r.sends (reached r start ms) e) = ap (λ x. x.sent) h.event_is in
-        let b : event.noted ≡ length (rows_of r e (r.notes (reached r start ms) e)) = ap (λ x. x.noted) h.event_is ∙ sym (length-map (r.notes (reached r start ms) e) _) in
+        let b : event.noted ≡ length (rows_of r.order e (r.notes (reached r start ms) e)) = ap (λ x. x.noted) h.event_is ∙ sym (length-map (r.notes (reached r start ms) e) _) in
         record {
           sent = omega arith;
           noted = omega arith;
@@ -123,9 +124,9 @@ module _ {S K : Type 0} (r : Rules Message S K Note) where
         IsPastOf r is_value start ms earlier past'
     past-less e past past' front event h law a b c d =
         let s = ap length h.sends ∙ length-append (sent r start ms) (r.sends (reached r start ms) e) in
-        let n = ap length h.rows ∙ length-append (earlier ++ rowed r start ms) (rows_of r e (r.notes (reached r start ms) e)) in
+        let n = ap length h.rows ∙ length-append (earlier ++ rowed r start ms) (rows_of r.order e (r.notes (reached r start ms) e)) in
         let x : event.sent ≡ length (r.sends (reached r start ms) e) = ap (λ x. x.sent) h.event_is in
-        let y : event.noted ≡ length (rows_of r e (r.notes (reached r start ms) e)) = ap (λ x. x.noted) h.event_is ∙ sym (length-map (r.notes (reached r start ms) e) _) in
+        let y : event.noted ≡ length (rows_of r.order e (r.notes (reached r start ms) e)) = ap (λ x. x.noted) h.event_is ∙ sym (length-map (r.notes (reached r start ms) e) _) in
         record {
           state = a ∙ (ap (λ z. r.undo past.state z.message z.kept) h.event_is ∙
               (ap (λ z. r.undo z e (r.kept (reached r start ms) e)) h.state ∙ law (reached r start ms)));
@@ -134,7 +135,7 @@ module _ {S K : Type 0} (r : Rules Message S K Note) where
           sends = c ∙ (ap (take (length past.sends - event.sent)) h.sends ∙
               front-of (sent r start ms) (r.sends (reached r start ms) e) (length past.sends - event.sent) (omega arith));
           rows = d ∙ (ap (take (length past.rows - event.noted)) h.rows ∙
-              front-of (earlier ++ rowed r start ms) (rows_of r e (r.notes (reached r start ms) e)) (length past.rows - event.noted) (omega arith));
+              front-of (earlier ++ rowed r start ms) (rows_of r.order e (r.notes (reached r start ms) e)) (length past.rows - event.noted) (omega arith));
         }
 
     -- of a past with an event at the end something was done

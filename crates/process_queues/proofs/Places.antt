@@ -3,8 +3,8 @@ use Rattle.std.proofs.Common.{◌≡◌, ℕ, suc, ◌+◌, ◌<◌, false, true
 use Rattle.std.proofs.lemmas.List.{length-take, length-map, get_or-take, get_or-map}
 use Rattle.std.proofs.Math.Seq.{drop-cons}
 use Rattle.vlink.specs.declared.message.Message.{Message}
-use Rattle.virtual_time.specs.Letters.{Letter as Signed}
-use Rattle.antimessages.specs.Letters.{message_rules}
+use Rattle.vlink.specs.Order.{message_order}
+use Rattle.vlink.specs.Letters.{Letter}
 use Rattle.process_queues.specs.Committing.{can_commit, committable}
 
 -- those from place k on, by the one at that place
@@ -28,28 +28,28 @@ from-place f es most n e i h p =
     next : suc n ≡ n + 1
     next = omega arith
 
-module _ {A : Type 0} (f : A → Message) (g : ℕ) (tally : List (Signed Message)) (es : List A) (most n : ℕ) (e : A) (i : n < most) (h : n < length es) (p : e ≡ slice_index_or es n e) where
-  pub none-from : false ≡ can_commit message_rules g tally (f e) → committable message_rules g tally (drop n (take most (map f es))) ≡ 0
+module _ {A : Type 0} (f : A → Message) (g : ℕ) (tally : List Letter) (es : List A) (most n : ℕ) (e : A) (i : n < most) (h : n < length es) (p : e ≡ slice_index_or es n e) where
+  pub none-from : false ≡ can_commit message_order g tally (f e) → committable message_order g tally (drop n (take most (map f es))) ≡ 0
   none-from c = go
     where
-      a : committable message_rules g tally (drop n (take most (map f es))) ≡ committable message_rules g tally (f e ∷ drop (n + 1) (take most (map f es)))
-      a = ap (committable message_rules g tally) (from-place f es most n e i h p)
+      a : committable message_order g tally (drop n (take most (map f es))) ≡ committable message_order g tally (f e ∷ drop (n + 1) (take most (map f es)))
+      a = ap (committable message_order g tally) (from-place f es most n e i h p)
 
-      b : committable message_rules g tally (f e ∷ drop (n + 1) (take most (map f es))) ≡ 0
-      b = ap (λ can. if can then suc (committable message_rules g tally (drop (n + 1) (take most (map f es)))) else 0) (sym c)
+      b : committable message_order g tally (f e ∷ drop (n + 1) (take most (map f es))) ≡ 0
+      b = ap (λ can. if can then suc (committable message_order g tally (drop (n + 1) (take most (map f es)))) else 0) (sym c)
 
-      go : committable message_rules g tally (drop n (take most (map f es))) ≡ 0
+      go : committable message_order g tally (drop n (take most (map f es))) ≡ 0
       go = omega (arith, a, b)
 
-  pub one-from : true ≡ can_commit message_rules g tally (f e) →
-      committable message_rules g tally (drop n (take most (map f es))) ≡ committable message_rules g tally (drop (n + 1) (take most (map f es))) + 1
+  pub one-from : true ≡ can_commit message_order g tally (f e) →
+      committable message_order g tally (drop n (take most (map f es))) ≡ committable message_order g tally (drop (n + 1) (take most (map f es))) + 1
   one-from c = go
     where
-      a : committable message_rules g tally (drop n (take most (map f es))) ≡ committable message_rules g tally (f e ∷ drop (n + 1) (take most (map f es)))
-      a = ap (committable message_rules g tally) (from-place f es most n e i h p)
+      a : committable message_order g tally (drop n (take most (map f es))) ≡ committable message_order g tally (f e ∷ drop (n + 1) (take most (map f es)))
+      a = ap (committable message_order g tally) (from-place f es most n e i h p)
 
-      b : committable message_rules g tally (f e ∷ drop (n + 1) (take most (map f es))) ≡ suc (committable message_rules g tally (drop (n + 1) (take most (map f es))))
-      b = ap (λ can. if can then suc (committable message_rules g tally (drop (n + 1) (take most (map f es)))) else 0) (sym c)
+      b : committable message_order g tally (f e ∷ drop (n + 1) (take most (map f es))) ≡ suc (committable message_order g tally (drop (n + 1) (take most (map f es))))
+      b = ap (λ can. if can then suc (committable message_order g tally (drop (n + 1) (take most (map f es)))) else 0) (sym c)
 
-      go : committable message_rules g tally (drop n (take most (map f es))) ≡ committable message_rules g tally (drop (n + 1) (take most (map f es))) + 1
+      go : committable message_order g tally (drop n (take most (map f es))) ≡ committable message_order g tally (drop (n + 1) (take most (map f es))) + 1
       go = omega (arith, a, b)

@@ -3,12 +3,9 @@ use Rattle.std.proofs.Common.{◌≡◌, ℕ, suc, ◌+◌, ◌≤◌, min, List
 use Rattle.std.specs.Option.{option_map}
 use Rattle.std.proofs.lemmas.List.{length-append, length-drop}
 use Rattle.vlink.specs.declared.message.Message.{Message}
-use Rattle.vlink.specs.declared.message.Letter.{Letter}
-use Rattle.antimessages.specs.Letters.{signed}
 use Rattle.vlink.specs.declared.note.Note.{Note}
-use Rattle.virtual_time.specs.Rules.{Rules, IsOrder, reached, rowed}
-use Rattle.virtual_time.specs.Letters.{lowest, times_of}
-use Rattle.virtual_time.specs.Part.{Part, unhandled, next_of, floor_of}
+use Rattle.vlink.specs.Letters.{Letter}
+use Rattle.virtual_time.specs.Law.{Rules, IsOrder, reached, rowed, lowest, times_of, Part, unhandled, next_of, floor_of}
 use Rattle.virtual_time.proofs.Least.{least-some, least-none}
 use Rattle.virtual_time.proofs.Lowest.{lowest-top, lowest-message, lowest-messages}
 use Rattle.virtual_time.proofs.Order.{not_less-time}
@@ -60,20 +57,20 @@ module _ {S K : Type 0} (r : Rules Message S K Note) (is_value : S → Message �
       let c = length-append (rows_there r opening part q) (rowed r (reached r opening part.committed) part.done) in
       omega arith
 
-module _ {S K : Type 0} (r : Rules Message S K Note) (O : IsOrder r) (until : ℕ) (part : Part Message S) where
+module _ {S K : Type 0} (r : Rules Message S K Note) (O : IsOrder r.order) (until : ℕ) (part : Part Message S) where
   -- the least time of the unhandled messages is that of the next one
-  pub floor-some : (m : Message) → next_of r part ≡ Some m → min (r.time m) (until + 1) ≡ floor_of r until (record part { tray = [] })
+  pub floor-some : (m : Message) → next_of r.order part ≡ Some m → min (r.order.time m) (until + 1) ≡ floor_of r.order until (record part { tray = [] })
   floor-some m e =
-      let l = least-some r O (unhandled r part.tally part.done) m e in
-      let a = lowest-top r O (suc until) (map r.time (unhandled r part.tally part.done)) in
-      let b = lowest-message r O (suc until) (unhandled r part.tally part.done) m l.inside in
-      let c = lowest-messages r O (min (r.time m) (suc until)) (suc until) (unhandled r part.tally part.done) (omega arith)
-      (λ x i. let k = not_less-time r O x m (l.lowest x i) in omega arith) in
+      let l = least-some r.order O (unhandled r.order part.tally part.done) m e in
+      let a = lowest-top r.order O (suc until) (map r.order.time (unhandled r.order part.tally part.done)) in
+      let b = lowest-message r.order O (suc until) (unhandled r.order part.tally part.done) m l.inside in
+      let c = lowest-messages r.order O (min (r.order.time m) (suc until)) (suc until) (unhandled r.order part.tally part.done) (omega arith)
+      (λ x i. let k = not_less-time r.order O x m (l.lowest x i) in omega arith) in
       omega arith
 
-  pub floor-none : next_of r part ≡ None → until + 1 ≡ floor_of r until (record part { tray = [] })
-  floor-none e = let k = least-none r O (unhandled r part.tally part.done) e in
-      let a = ap (λ ms. lowest (suc until) (map r.time ms)) k in
+  pub floor-none : next_of r.order part ≡ None → until + 1 ≡ floor_of r.order until (record part { tray = [] })
+  floor-none e = let k = least-none r.order O (unhandled r.order part.tally part.done) e in
+      let a = ap (λ ms. lowest (suc until) (map r.order.time ms)) k in
       omega arith
 
 -- the least of these and one more behind them
@@ -82,7 +79,7 @@ lowest-push d x [] = refl
 lowest-push d x (y ∷ ys) = let a = lowest-push d x ys in omega arith
 
 -- the times of letters are those that the law of virtual time sees
-pub times-signed : {S K : Type 0} (r : Rules Message S K Note) → ((m : Message) → r.time m ≡ m.time) → (ls : List Letter) →
-    map (λ l. l.message.time) ls ≡ times_of r (map signed ls)
+pub times-signed : {S K : Type 0} (r : Rules Message S K Note) → ((m : Message) → r.order.time m ≡ m.time) → (ls : List Letter) →
+    map (λ l. l.message.time) ls ≡ times_of r.order ls
 times-signed r t [] = refl
-times-signed r t (l ∷ ls) = ap (λ z. z ∷ map (λ x. x.message.time) ls) (sym (t l.message)) ∙ ap (λ zs. r.time l.message ∷ zs) (times-signed r t ls)
+times-signed r t (l ∷ ls) = ap (λ z. z ∷ map (λ x. x.message.time) ls) (sym (t l.message)) ∙ ap (λ zs. r.order.time l.message ∷ zs) (times-signed r t ls)

@@ -1,9 +1,10 @@
 -- What the newest events sent, up to one that comes before a message.
 use Rattle.std.proofs.Common.{◌≡◌, ℕ, zero, suc, ◌+◌, ◌≤◌, ◌<◌, Bool, true, false, cond, List, [], ◌∷◌, ◌++◌, length, map, take, reverse, slice_index_or, Some, refl, sym, ap, ◌∙◌, arith}
 use Rattle.std.proofs.lemmas.List.{length-append, map-append, reverse-append}
+use Rattle.vlink.specs.Order.{message_order}
 use Rattle.vlink.specs.declared.message.Message.{Message}
 use Rattle.vlink.specs.declared.note.Note.{Note}
-use Rattle.virtual_time.specs.Rules.{Rules, sent}
+use Rattle.virtual_time.specs.Law.{Rules, sent}
 use Rattle.reverse.specs.declared.sends.Sends.{Sends}
 use Rattle.reverse.specs.Plain.{Plain}
 use Rattle.reverse.specs.Rules.{is_before, rules_of}
@@ -74,8 +75,8 @@ newest-snoc (x ∷ (y ∷ ys)) d = newest-more x y (ys ++ d ∷ []) ∙ newest-s
 
 -- where the message does not come after the newest event, that one counts
 pub since-last : {S K : Type 0} (plain : Plain S Message Sends K) (counter : S → ℕ) (m : Message) (done front : List (Event K)) (e : Event K) → done ≡ front ++ e ∷ [] →
-    is_after (rules_of plain counter) (newest_of (map (λ (x : Event K). x.message) done)) m ≡ false → sent_since m (reverse done) ≡ e.sent + sent_since m (reverse front)
+    is_after message_order (newest_of (map (λ (x : Event K). x.message) done)) m ≡ false → sent_since m (reverse done) ≡ e.sent + sent_since m (reverse front)
 since-last plain counter m done front e d a =
     let newest = ap (λ ds. newest_of (map (λ (x : Event _). x.message) ds)) d ∙ (ap newest_of (map-append (λ (x : Event _). x.message) front (e ∷ [])) ∙ newest-snoc (map (λ (x : Event _). x.message) front) e.message) in
-    let late : is_before e.message m ≡ false = sym (ap (λ o. is_after (rules_of plain counter) o m) newest) ∙ a in
+    let late : is_before e.message m ≡ false = sym (ap (λ o. is_after message_order o m) newest) ∙ a in
     ap (λ ds. sent_since m (reverse ds)) d ∙ (since-snoc m front e ∙ ap (λ b. cond b 0 (e.sent + sent_since m (reverse front))) late)

@@ -6,19 +6,17 @@ use Rattle.std.proofs.lemmas.Bool.{false_from_ne_true, both_ways, cases_lt}
 use Rattle.std.proofs.lemmas.List.{drop-map, length-map}
 use Rattle.std.proofs.lemmas.List.Filters.{length-filter_both}
 use Rattle.vlink.specs.declared.message.Message.{Message}
-use Rattle.vlink.specs.declared.message.Sign.{Sign}
-use Rattle.vlink.specs.declared.message.Sign.TheVariants.{Plus, Minus}
+use Rattle.virtual_time.specs.declared.letter.Sign.{Sign}
+use Rattle.virtual_time.specs.declared.letter.Sign.TheVariants.{Plus, Minus}
 use Rattle.vlink.specs.declared.note.Note.{Note}
-use Rattle.virtual_time.specs.Rules.{Rules, IsOrder}
-use Rattle.virtual_time.specs.Lists.{one_if, same, times_in, IsIn, IsAscending, before, from_on}
-use Rattle.virtual_time.specs.Letters.{Letter as Signed, IsPresent, pluses, minuses, is_present}
-use Rattle.virtual_time.specs.Part.{Part}
+use Rattle.virtual_time.specs.Law.{Rules, IsOrder, one_if, same, times_in, IsIn, IsAscending, before, from_on, IsPresent, pluses, minuses, is_present, is_plus, Part}
 use Rattle.virtual_time.proofs.Lists.{times-append, times-none, times-filter_out, in-head, in-cons}
 use Rattle.virtual_time.proofs.Order.{same-refl, less-asym}
 use Rattle.virtual_time.proofs.Ascending.{ascending-once, ascending-filter}
 use Rattle.virtual_time.proofs.Rolling.{roll-split, roll-undone}
 use Rattle.virtual_time.proofs.Presence.{present-true, present-from}
-use Rattle.antimessages.specs.Letters.{message_rules, is_plus}
+use Rattle.vlink.specs.Order.{message_order}
+use Rattle.vlink.specs.Letters.{Letter}
 use Rattle.antimessages.proofs.After.{first_after-is}
 use Rattle.antimessages.specs.Counting.{signed_count, change_by, change_between, is_after, present_after}
 use Rattle.antimessages.specs.declared.tally.Change.TheVariants.{Same}
@@ -31,63 +29,63 @@ use Rattle.process_queues.proofs.Next.{here, there, after-not_done, not_done-aft
 use Rattle.process_queues.proofs.Rolls.{done-messages}
 
 -- whether a message is done, by what stands behind those that come before it
-module _ {M S K N : Type 0} (r : Rules M S K N) (O : IsOrder r) (ds : List M) (up : IsAscending r ds) (m : M) where
-  behind : (rest : List M) → from_on r m ds ≡ rest → (o : Option M) → slice_get ds (length (before r m ds)) ≡ o → slice_get rest 0 ≡ o
-  behind rest e o at = sym (go (before r m ds)) ∙ (ap (λ xs. slice_get xs (length (before r m ds))) (ap (λ ys. before r m ds ++ ys) (sym e) ∙ roll-split r O m ds up) ∙ at)
+module _ {M S K N : Type 0} (r : Rules M S K N) (O : IsOrder r.order) (ds : List M) (up : IsAscending r.order ds) (m : M) where
+  behind : (rest : List M) → from_on r.order m ds ≡ rest → (o : Option M) → slice_get ds (length (before r.order m ds)) ≡ o → slice_get rest 0 ≡ o
+  behind rest e o at = sym (go (before r.order m ds)) ∙ (ap (λ xs. slice_get xs (length (before r.order m ds))) (ap (λ ys. before r.order m ds ++ ys) (sym e) ∙ roll-split r O m ds up) ∙ at)
     where
       go : (xs : List M) → slice_get (xs ++ rest) (length xs) ≡ slice_get rest 0
       go [] = refl
       go (x ∷ xs) = go xs
 
-  not-before : times_in r m (before r m ds) ≡ 0
-  not-before = times-filter_out r O (λ x. r.less x m) m ds (O.irreflexive m)
+  not-before : times_in r.order m (before r.order m ds) ≡ 0
+  not-before = times-filter_out r.order O (λ x. r.order.less x m) m ds (O.irreflexive m)
 
-  times-from : (rest : List M) → from_on r m ds ≡ rest → times_in r m ds ≡ times_in r m rest
+  times-from : (rest : List M) → from_on r.order m ds ≡ rest → times_in r.order m ds ≡ times_in r.order m rest
   times-from rest e =
-      let a = ap (times_in r m) (roll-split r O m ds up) in
-      let b = times-append r O m (before r m ds) (from_on r m ds) in
+      let a = ap (times_in r.order m) (roll-split r O m ds up) in
+      let b = times-append r.order O m (before r.order m ds) (from_on r.order m ds) in
       let c = not-before in
-      let d = ap (times_in r m) e in
+      let d = ap (times_in r.order m) e in
       omega arith
 
-  from-here : (x : M) (xs : List M) → from_on r m ds ≡ x ∷ xs → r.less x m ≡ false
-  from-here x xs e = (roll-undone r O m ds x (subst (λ zs. IsIn r x zs) (sym e) (in-head r O x xs))).0
+  from-here : (x : M) (xs : List M) → from_on r.order m ds ≡ x ∷ xs → r.order.less x m ≡ false
+  from-here x xs e = (roll-undone r O m ds x (subst (λ zs. IsIn r.order x zs) (sym e) (in-head r.order O x xs))).0
 
   -- the first one that does not come before it does not come after it
-  pub once-done : (x : M) → slice_get ds (length (before r m ds)) ≡ Some x → r.less m x ≡ false → times_in r m ds ≡ 1
-  once-done x at n = go (from_on r m ds) refl
+  pub once-done : (x : M) → slice_get ds (length (before r.order m ds)) ≡ Some x → r.order.less m x ≡ false → times_in r.order m ds ≡ 1
+  once-done x at n = go (from_on r.order m ds) refl
     where
-      go : (rest : List M) → from_on r m ds ≡ rest → times_in r m ds ≡ 1
+      go : (rest : List M) → from_on r.order m ds ≡ rest → times_in r.order m ds ≡ 1
       go [] e = let k = behind [] e (Some x) at in cc
       go (y ∷ ys) e =
           let k : y ≡ x = (let j = behind (y ∷ ys) e (Some x) at in cc) in
-          let same : y ≡ m = O.total y m (from-here y ys e) (subst (λ z. r.less m z ≡ false) (sym k) n) in
+          let same : y ≡ m = O.total y m (from-here y ys e) (subst (λ z. r.order.less m z ≡ false) (sym k) n) in
           let a = times-from (y ∷ ys) e in
-          let b = ascending-once r O m ds up in
-          let c = subst (λ z. IsIn r m (z ∷ ys)) (sym same) (in-head r O m ys) in
+          let b = ascending-once r.order O m ds up in
+          let c = subst (λ z. IsIn r.order m (z ∷ ys)) (sym same) (in-head r.order O m ys) in
           omega arith
 
   -- it comes after it, or there is none
-  pub never-done : (x : M) → slice_get ds (length (before r m ds)) ≡ Some x → r.less m x ≡ true → times_in r m ds ≡ 0
-  never-done x at t = go (from_on r m ds) refl
+  pub never-done : (x : M) → slice_get ds (length (before r.order m ds)) ≡ Some x → r.order.less m x ≡ true → times_in r.order m ds ≡ 0
+  never-done x at t = go (from_on r.order m ds) refl
     where
-      go : (rest : List M) → from_on r m ds ≡ rest → times_in r m ds ≡ 0
+      go : (rest : List M) → from_on r.order m ds ≡ rest → times_in r.order m ds ≡ 0
       go [] e = let k = behind [] e (Some x) at in cc
       go (y ∷ ys) e =
           let k : y ≡ x = (let j = behind (y ∷ ys) e (Some x) at in cc) in
-          times-from (y ∷ ys) e ∙ times-none r O m (y ∷ ys) (none y ys (subst (λ z. r.less m z ≡ true) (sym k) t)
-          (subst (IsAscending r) e (ascending-filter r O (λ z. not (r.less z m)) ds up)))
+          times-from (y ∷ ys) e ∙ times-none r.order O m (y ∷ ys) (none y ys (subst (λ z. r.order.less m z ≡ true) (sym k) t)
+          (subst (IsAscending r.order) e (ascending-filter r.order O (λ z. not (r.order.less z m)) ds up)))
         where
-          none : (y : M) (ys : List M) → r.less m y ≡ true → IsAscending r (y ∷ ys) → IsIn r m (y ∷ ys) → ⊥
-          none y ys l w i = elim (in-cons r O m y ys i) [
-            | inl j ↦ both_ways _ (O.irreflexive m) (subst (λ z. r.less m z ≡ true) (sym j) l)
-            | inr j ↦ both_ways _ (less-asym r O m y l) (w.0 m j)
+          none : (y : M) (ys : List M) → r.order.less m y ≡ true → IsAscending r.order (y ∷ ys) → IsIn r.order m (y ∷ ys) → ⊥
+          none y ys l w i = elim (in-cons r.order O m y ys i) [
+            | inl j ↦ both_ways _ (O.irreflexive m) (subst (λ z. r.order.less m z ≡ true) (sym j) l)
+            | inr j ↦ both_ways _ (less-asym r.order O m y l) (w.0 m j)
           ]
 
-  pub none-done : slice_get ds (length (before r m ds)) ≡ None → times_in r m ds ≡ 0
-  none-done at = go (from_on r m ds) refl
+  pub none-done : slice_get ds (length (before r.order m ds)) ≡ None → times_in r.order m ds ≡ 0
+  none-done at = go (from_on r.order m ds) refl
     where
-      go : (rest : List M) → from_on r m ds ≡ rest → times_in r m ds ≡ 0
+      go : (rest : List M) → from_on r.order m ds ≡ rest → times_in r.order m ds ≡ 0
       go [] e = times-from [] e
       go (y ∷ ys) e = let k = behind (y ∷ ys) e None at in cc
 
@@ -103,65 +101,65 @@ none-get (x ∷ xs) zero n = absurd (n (omega arith))
 none-get (x ∷ xs) (suc k) n = none-get xs k (λ h. n (omega arith))
 
 -- what a letter makes of its message, by whether that is present before and afterwards
-module _ (l : Signed Message) (tally : List (Signed Message)) (b : Bool) (was : is_present message_rules tally l.message ≡ b) where
-  pub change-none : is_present message_rules (l ∷ tally) l.message ≡ b → change_by message_rules l tally ≡ Same
-  change-none now = ap (λ z. change_between z (is_present message_rules (l ∷ tally) l.message)) was ∙ (ap (change_between b) now ∙ both b)
+module _ (l : Letter) (tally : List Letter) (b : Bool) (was : is_present message_order tally l.message ≡ b) where
+  pub change-none : is_present message_order (l ∷ tally) l.message ≡ b → change_by message_order l tally ≡ Same
+  change-none now = ap (λ z. change_between z (is_present message_order (l ∷ tally) l.message)) was ∙ (ap (change_between b) now ∙ both b)
     where
       both : (b : Bool) → change_between b b ≡ Same
       both true = refl
       both false = refl
 
-  pub change-some : is_present message_rules (l ∷ tally) l.message ≡ not b → change_by message_rules l tally ≢ Same
-  change-some now same = other b (sym (ap (λ z. change_between z (is_present message_rules (l ∷ tally) l.message)) was ∙ ap (change_between b) now) ∙ same)
+  pub change-some : is_present message_order (l ∷ tally) l.message ≡ not b → change_by message_order l tally ≢ Same
+  change-some now same = other b (sym (ap (λ z. change_between z (is_present message_order (l ∷ tally) l.message)) was ∙ ap (change_between b) now) ∙ same)
     where
       other : (b : Bool) → change_between b (not b) ≡ Same → ⊥
       other true e = cc
       other false e = cc
 
-module _ (O : IsOrder message_rules) (tally : List (Signed Message)) (m : Message) where
-  pub is-absent : pluses message_rules m tally ≤ minuses message_rules m tally → is_present message_rules tally m ≡ false
-  is-absent h = false_from_ne_true _ (λ t. let k = present-true message_rules O tally m t in omega arith)
+module _ (O : IsOrder message_order) (tally : List Letter) (m : Message) where
+  pub is-absent : pluses message_order m tally ≤ minuses message_order m tally → is_present message_order tally m ≡ false
+  is-absent h = false_from_ne_true _ (λ t. let k = present-true message_order O tally m t in omega arith)
 
 -- a letter, by how often its message is done and how many count beside the done events
-module _ (O : IsOrder message_rules) {K : Type 0} (l : Signed Message) (t : List (Signed Message)) (done : List (Event K)) where
-  abbrev all : List (Signed Message)
+module _ (O : IsOrder message_order) {K : Type 0} (l : Letter) (t : List Letter) (done : List (Event K)) where
+  abbrev all : List Letter
   all = with_done t done
 
-  brings : l.plus ≡ true → (pluses message_rules l.message (l ∷ all) ≡ pluses message_rules l.message all + 1)
-      × (minuses message_rules l.message (l ∷ all) ≡ minuses message_rules l.message all)
+  brings : is_plus l.sign ≡ true → (pluses message_order l.message (l ∷ all) ≡ pluses message_order l.message all + 1)
+      × (minuses message_order l.message (l ∷ all) ≡ minuses message_order l.message all)
   brings e =
-      let a = ap one_if (λ i. e i && same-refl message_rules O l.message i) in
-      let b = ap one_if (λ i. not (e i) && same-refl message_rules O l.message i) in
+      let a = ap one_if (λ i. e i && same-refl message_order O l.message i) in
+      let b = ap one_if (λ i. not (e i) && same-refl message_order O l.message i) in
       (omega (arith, a), omega (arith, b))
 
-  takes : l.plus ≡ false → (pluses message_rules l.message (l ∷ all) ≡ pluses message_rules l.message all)
-      × (minuses message_rules l.message (l ∷ all) ≡ minuses message_rules l.message all + 1)
+  takes : is_plus l.sign ≡ false → (pluses message_order l.message (l ∷ all) ≡ pluses message_order l.message all)
+      × (minuses message_order l.message (l ∷ all) ≡ minuses message_order l.message all + 1)
   takes e =
-      let a = ap one_if (λ i. e i && same-refl message_rules O l.message i) in
-      let b = ap one_if (λ i. not (e i) && same-refl message_rules O l.message i) in
+      let a = ap one_if (λ i. e i && same-refl message_order O l.message i) in
+      let b = ap one_if (λ i. not (e i) && same-refl message_order O l.message i) in
       (omega (arith, a), omega (arith, b))
 
   -- it brings a message that is not done, or takes back one that is, and nothing else counts
-  pub turned-zero : (b : Bool) → l.plus ≡ b → times O l.message done ≡ one_if (not b) → signed_count message_rules l.message t ≡ pos 0 →
-      change_by message_rules l all ≢ Same
+  pub turned-zero : (b : Bool) → is_plus l.sign ≡ b → times O l.message done ≡ one_if (not b) → signed_count message_order l.message t ≡ pos 0 →
+      change_by message_order l all ≢ Same
   turned-zero true e d z =
       let c = with_done-count O l.message t done in
       let n = brings e in
-      change-some l all false (is-absent O all l.message (omega (arith, ints))) (present-from message_rules O (l ∷ all) l.message (omega (arith, ints, n.0, n.1)))
+      change-some l all false (is-absent O all l.message (omega (arith, ints))) (present-from message_order O (l ∷ all) l.message (omega (arith, ints, n.0, n.1)))
   turned-zero false e d z =
       let c = with_done-count O l.message t done in
       let n = takes e in
-      change-some l all true (present-from message_rules O all l.message (omega (arith, ints))) (is-absent O (l ∷ all) l.message (omega (arith, ints, n.0, n.1)))
+      change-some l all true (present-from message_order O all l.message (omega (arith, ints))) (is-absent O (l ∷ all) l.message (omega (arith, ints, n.0, n.1)))
 
   -- such a message, of which something else counts
-  pub kept-other : (b : Bool) → l.plus ≡ b → times O l.message done ≡ one_if (not b) → signed_count message_rules l.message t ≢ pos 0 →
-      (times O l.message done ≡ 1 → IsPresent message_rules all l.message) →
-      (times O l.message done ≡ 0 → pluses message_rules l.message all ≤ minuses message_rules l.message all) → change_by message_rules l all ≡ Same
+  pub kept-other : (b : Bool) → is_plus l.sign ≡ b → times O l.message done ≡ one_if (not b) → signed_count message_order l.message t ≢ pos 0 →
+      (times O l.message done ≡ 1 → IsPresent message_order all l.message) →
+      (times O l.message done ≡ 0 → pluses message_order l.message all ≤ minuses message_order l.message all) → change_by message_order l all ≡ Same
   kept-other true e d z some none =
       let c = with_done-count O l.message t done in
       let n = brings e in
       let w = none d in
-      let x : (pluses message_rules l.message all ≡ minuses message_rules l.message all → ⊥) = λ k. z (omega (arith, ints)) in
+      let x : (pluses message_order l.message all ≡ minuses message_order l.message all → ⊥) = λ k. z (omega (arith, ints)) in
       change-none l all false (is-absent O all l.message w) (is-absent O (l ∷ all) l.message (below _ _ w x n.0 n.1))
     where
       below : (p n : ℕ) → p ≤ n → (p ≡ n → ⊥) → {p' n' : ℕ} → p' ≡ p + 1 → n' ≡ n → p' ≤ n'
@@ -170,20 +168,20 @@ module _ (O : IsOrder message_rules) {K : Type 0} (l : Signed Message) (t : List
       let c = with_done-count O l.message t done in
       let n = takes e in
       let w = some d in
-      let x : (pluses message_rules l.message all ≡ minuses message_rules l.message all + 1 → ⊥) = λ k. z (omega (arith, ints)) in
-      change-none l all true (present-from message_rules O all l.message w) (present-from message_rules O (l ∷ all) l.message (above _ _ w x n.0 n.1))
+      let x : (pluses message_order l.message all ≡ minuses message_order l.message all + 1 → ⊥) = λ k. z (omega (arith, ints)) in
+      change-none l all true (present-from message_order O all l.message w) (present-from message_order O (l ∷ all) l.message (above _ _ w x n.0 n.1))
     where
       above : (p n : ℕ) → n < p → (p ≡ n + 1 → ⊥) → {p' n' : ℕ} → p' ≡ p → n' ≡ n + 1 → n' < p'
       above p n w x f g = elim (cases_lt (n + 1) p) [ inl k ↦ omega arith | inr k ↦ absurd (x (omega arith)) ]
 
   -- it brings a message that is done, or takes back one that is not
-  pub kept-more : (b : Bool) → l.plus ≡ b → times O l.message done ≡ one_if b →
-      (times O l.message done ≡ 1 → IsPresent message_rules all l.message) →
-      (times O l.message done ≡ 0 → pluses message_rules l.message all ≤ minuses message_rules l.message all) → change_by message_rules l all ≡ Same
+  pub kept-more : (b : Bool) → is_plus l.sign ≡ b → times O l.message done ≡ one_if b →
+      (times O l.message done ≡ 1 → IsPresent message_order all l.message) →
+      (times O l.message done ≡ 0 → pluses message_order l.message all ≤ minuses message_order l.message all) → change_by message_order l all ≡ Same
   kept-more true e d some none =
       let n = brings e in
       let w = some d in
-      change-none l all true (present-from message_rules O all l.message w) (present-from message_rules O (l ∷ all) l.message (omega (arith, n.0, n.1)))
+      change-none l all true (present-from message_order O all l.message w) (present-from message_order O (l ∷ all) l.message (omega (arith, n.0, n.1)))
   kept-more false e d some none =
       let n = takes e in
       let w = none d in
@@ -192,34 +190,34 @@ module _ (O : IsOrder message_rules) {K : Type 0} (l : Signed Message) (t : List
 -- a message that does not come after all done events is present just where it is done
 module _ {S K : Type 0} (r : Rules Message S K Note) (R : OfMessages r) (is_value : S → Message → Type 0) (opening : S) (part : Part Message S) (q : Queues S K)
     (h : StandsFor r is_value opening part q) (m : Message) where
-  pub done-times : times_in r m part.done ≡ times R.messages m q.past.done
-  done-times = times-messages r R m part.done ∙ ap (times_in message_rules m) (sym (done-messages r is_value opening _ part q.past h.past))
+  pub done-times : times_in r.order m part.done ≡ times R.messages m q.past.done
+  done-times = times-messages r R m part.done ∙ ap (times_in message_order m) (sym (done-messages r is_value opening _ part q.past h.past))
 
-  pub done-present : times R.messages m q.past.done ≡ 1 → IsPresent message_rules q.tally m
+  pub done-present : times R.messages m q.past.done ≡ 1 → IsPresent message_order q.tally m
   done-present d = here r R is_value opening part q h m (h.well.done_present m (let k = done-times in omega arith))
 
-  pub late-absent : is_after r (newest_of (map (λ e. e.message) q.past.done)) m ≡ false → times R.messages m q.past.done ≡ 0 →
-      pluses message_rules m q.tally ≤ minuses message_rules m q.tally
-  late-absent late d = elim (cases_lt (minuses message_rules m q.tally) (pluses message_rules m q.tally)) [
+  pub late-absent : is_after r.order (newest_of (map (λ e. e.message) q.past.done)) m ≡ false → times R.messages m q.past.done ≡ 0 →
+      pluses message_order m q.tally ≤ minuses message_order m q.tally
+  late-absent late d = elim (cases_lt (minuses message_order m q.tally) (pluses message_order m q.tally)) [
     | inl k ↦ absurd (both_ways _ late
-        (ap (λ ds. is_after r (newest_of ds) m) (done-messages r is_value opening _ part q.past h.past) ∙
+        (ap (λ ds. is_after r.order (newest_of ds) m) (done-messages r is_value opening _ part q.past h.past) ∙
         not_done-after r R is_value opening part q h m (there r R is_value opening part q h m k) (done-times ∙ d)))
     | inr k ↦ k
   ]
 
   -- what comes after all done events is not done
-  pub after-none : is_after message_rules (newest_of (map (λ e. e.message) q.past.done)) m ≡ true → times R.messages m q.past.done ≡ 0
+  pub after-none : is_after message_order (newest_of (map (λ e. e.message) q.past.done)) m ≡ true → times R.messages m q.past.done ≡ 0
   after-none a = sym done-times ∙ after-not_done r R is_value opening part q h m (sym (after-here r R is_value opening part q h m) ∙ a)
 
   -- of a done message not less than 0 count beside the done events
-  pub not-owed : (t : List (Signed Message)) → q.tally ≡ with_done t q.past.done → IsIn message_rules m (map (λ e. e.message) q.past.done) →
-      minuses message_rules m t ≤ pluses message_rules m t
+  pub not-owed : (t : List Letter) → q.tally ≡ with_done t q.past.done → IsIn message_order m (map (λ e. e.message) q.past.done) →
+      minuses message_order m t ≤ pluses message_order m t
   not-owed t e i =
       let a = with_done-count R.messages m t q.past.done in
-      let up = ascending-once r R.order m part.done h.past.ascending in
+      let up = ascending-once r.order R.order m part.done h.past.ascending in
       let k = done-times in
       let p = done-present (omega arith) in
-      let f = ap (signed_count message_rules m) e in
+      let f = ap (signed_count message_order m) e in
       omega (arith, ints)
 
 -- whether a letter brings a message that is not done, or takes back one that is
@@ -236,100 +234,103 @@ other-times Minus false other n some none e = (λ t. absurd (both_ways _ e t), �
 
 -- what a letter makes of its message, which does not come after all done events
 module _ {S K : Type 0} (r : Rules Message S K Note) (R : OfMessages r) (is_value : S → Message → Type 0) (opening : S) (part : Part Message S) (q : Queues S K)
-    (h : StandsFor r is_value opening part q) (l : Signed Message) (t : List (Signed Message)) (e : q.tally ≡ with_done t q.past.done) where
-  by-messages : (n : ℕ) → times_in r l.message (map (λ e. e.message) q.past.done) ≡ n → times R.messages l.message q.past.done ≡ n
+    (h : StandsFor r is_value opening part q) (l : Letter) (t : List Letter) (e : q.tally ≡ with_done t q.past.done) where
+  by-messages : (n : ℕ) → times_in r.order l.message (map (λ e. e.message) q.past.done) ≡ n → times R.messages l.message q.past.done ≡ n
   by-messages n k = sym (times-messages r R l.message (map (λ e. e.message) q.past.done)) ∙ k
 
-  some-here : times R.messages l.message q.past.done ≡ 1 → IsPresent message_rules (with_done t q.past.done) l.message
-  some-here d = subst (λ ls. IsPresent message_rules ls l.message) e (done-present r R is_value opening part q h l.message d)
+  some-here : times R.messages l.message q.past.done ≡ 1 → IsPresent message_order (with_done t q.past.done) l.message
+  some-here d = subst (λ ls. IsPresent message_order ls l.message) e (done-present r R is_value opening part q h l.message d)
 
-  none-here : is_after r (newest_of (map (λ e. e.message) q.past.done)) l.message ≡ false → times R.messages l.message q.past.done ≡ 0 →
-      pluses message_rules l.message (with_done t q.past.done) ≤ minuses message_rules l.message (with_done t q.past.done)
-  none-here late d = subst (λ ls. pluses message_rules l.message ls ≤ minuses message_rules l.message ls) e (late-absent r R is_value opening part q h l.message late d)
+  none-here : is_after r.order (newest_of (map (λ e. e.message) q.past.done)) l.message ≡ false → times R.messages l.message q.past.done ≡ 0 →
+      pluses message_order l.message (with_done t q.past.done) ≤ minuses message_order l.message (with_done t q.past.done)
+  none-here late d = subst (λ ls. pluses message_order l.message ls ≤ minuses message_order l.message ls) e (late-absent r R is_value opening part q h l.message late d)
 
-  pub turns-it : times_in r l.message (map (λ e. e.message) q.past.done) ≡ one_if (not l.plus) → signed_count message_rules l.message t ≡ pos 0 → change_by message_rules l q.tally ≢ Same
-  turns-it k z = subst (λ ls. change_by message_rules l ls ≢ Same) (sym e) (turned-zero R.messages l t q.past.done l.plus refl (by-messages _ k) z)
+  pub turns-it : times_in r.order l.message (map (λ e. e.message) q.past.done) ≡ one_if (not (is_plus l.sign)) → signed_count message_order l.message t ≡ pos 0 → change_by message_order l q.tally ≢ Same
+  turns-it k z = subst (λ ls. change_by message_order l ls ≢ Same) (sym e) (turned-zero R.messages l t q.past.done (is_plus l.sign) refl (by-messages _ k) z)
 
-  pub keeps-it : is_after r (newest_of (map (λ e. e.message) q.past.done)) l.message ≡ false → times_in r l.message (map (λ e. e.message) q.past.done) ≡ one_if (not l.plus) →
-      signed_count message_rules l.message t ≢ pos 0 → change_by message_rules l q.tally ≡ Same
-  keeps-it late k z = ap (change_by message_rules l) e ∙ kept-other R.messages l t q.past.done l.plus refl (by-messages _ k) z some-here (none-here late)
+  pub keeps-it : is_after r.order (newest_of (map (λ e. e.message) q.past.done)) l.message ≡ false → times_in r.order l.message (map (λ e. e.message) q.past.done) ≡ one_if (not (is_plus l.sign)) →
+      signed_count message_order l.message t ≢ pos 0 → change_by message_order l q.tally ≡ Same
+  keeps-it late k z = ap (change_by message_order l) e ∙ kept-other R.messages l t q.past.done (is_plus l.sign) refl (by-messages _ k) z some-here (none-here late)
 
-  pub keeps-done : is_after r (newest_of (map (λ e. e.message) q.past.done)) l.message ≡ false → times_in r l.message (map (λ e. e.message) q.past.done) ≡ one_if l.plus →
-      change_by message_rules l q.tally ≡ Same
-  keeps-done late k = ap (change_by message_rules l) e ∙ kept-more R.messages l t q.past.done l.plus refl (by-messages _ k) some-here (none-here late)
+  pub keeps-done : is_after r.order (newest_of (map (λ e. e.message) q.past.done)) l.message ≡ false → times_in r.order l.message (map (λ e. e.message) q.past.done) ≡ one_if (is_plus l.sign) →
+      change_by message_order l q.tally ≡ Same
+  keeps-done late k = ap (change_by message_order l) e ∙ kept-more R.messages l t q.past.done (is_plus l.sign) refl (by-messages _ k) some-here (none-here late)
 
 -- the signed count of a message, by that beside the done events and by whether it is done
 pub count-stands : {S K : Type 0} (r : Rules Message S K Note) (R : OfMessages r) (is_value : S → Message → Type 0) (opening : S) (part : Part Message S) (q : Queues S K) →
-    StandsFor r is_value opening part q → (m : Message) (t : List (Signed Message)) → q.tally ≡ with_done t q.past.done → (done : Bool) (count : ℤ) →
-    (IsTrue done → times_in r m (map (λ e. e.message) q.past.done) ≡ 1) → (done ≡ false → times_in r m (map (λ e. e.message) q.past.done) ≡ 0) →
-    (IsTrue done → count ≡ signed_count message_rules m t +ℤ pos 1) → (done ≡ false → count ≡ signed_count message_rules m t) → count ≡ signed_count r m part.tally
+    StandsFor r is_value opening part q → (m : Message) (t : List Letter) → q.tally ≡ with_done t q.past.done → (done : Bool) (count : ℤ) →
+    (IsTrue done → times_in r.order m (map (λ e. e.message) q.past.done) ≡ 1) → (done ≡ false → times_in r.order m (map (λ e. e.message) q.past.done) ≡ 0) →
+    (IsTrue done → count ≡ signed_count message_order m t +ℤ pos 1) → (done ≡ false → count ≡ signed_count message_order m t) → count ≡ signed_count r.order m part.tally
 count-stands r R is_value opening part q h m t e done count some none more rest = go done some none more rest
   where
-    go : (d : Bool) → (IsTrue d → times_in r m (map (λ e. e.message) q.past.done) ≡ 1) → (d ≡ false → times_in r m (map (λ e. e.message) q.past.done) ≡ 0) →
-        (IsTrue d → count ≡ signed_count message_rules m t +ℤ pos 1) → (d ≡ false → count ≡ signed_count message_rules m t) → count ≡ signed_count r m part.tally
+    same-count : signed_count r.order m part.tally ≡ signed_count message_order m part.tally
+    same-count = ap (λ o. signed_count o m part.tally) R.order_is
+
+    go : (d : Bool) → (IsTrue d → times_in r.order m (map (λ e. e.message) q.past.done) ≡ 1) → (d ≡ false → times_in r.order m (map (λ e. e.message) q.past.done) ≡ 0) →
+        (IsTrue d → count ≡ signed_count message_order m t +ℤ pos 1) → (d ≡ false → count ≡ signed_count message_order m t) → count ≡ signed_count r.order m part.tally
     go true some none more rest =
         let a = times-messages r R m (map (λ e. e.message) q.past.done) in
         let b = some refl in
         let c = with_done-count R.messages m t q.past.done in
-        let f = h.counts m ∙ ap (signed_count message_rules m) e in
+        let f = same-count ∙ (h.counts m ∙ ap (signed_count message_order m) e) in
         let k = more refl in
         omega (arith, ints)
     go false some none more rest =
         let a = times-messages r R m (map (λ e. e.message) q.past.done) in
         let b = none refl in
         let c = with_done-count R.messages m t q.past.done in
-        let f = h.counts m ∙ ap (signed_count message_rules m) e in
+        let f = same-count ∙ (h.counts m ∙ ap (signed_count message_order m) e) in
         let k = rest refl in
         omega (arith, ints)
 
 -- the message that is next, by the letters beside the done events
 pub next-beside : {S K : Type 0} (r : Rules Message S K Note) (R : OfMessages r) (is_value : S → Message → Type 0) (opening : S) (part : Part Message S) (q : Queues S K) →
-    StandsFor r is_value opening part q → (t : List (Signed Message)) → q.tally ≡ with_done t q.past.done →
-    next_in q ≡ present_after message_rules (newest_of (map (λ e. e.message) q.past.done)) t
+    StandsFor r is_value opening part q → (t : List Letter) → q.tally ≡ with_done t q.past.done →
+    next_in q ≡ present_after message_order (newest_of (map (λ e. e.message) q.past.done)) t
 next-beside r R is_value opening part q h t e =
     let newest = newest_of (map (λ e. e.message) q.past.done) in
-    ap (present_after message_rules newest) e ∙
+    ap (present_after message_order newest) e ∙
     with_done-next R.messages newest t q.past.done (λ m a. after-none r R is_value opening part q h m a)
 
 -- the done events are those that stay and those that are undone
-pub undone-split : {S K : Type 0} (r : Rules Message S K Note) → IsOrder r → (m : Message) (ds : List Message) (done done' : List (Event K)) (n : ℕ) →
-    map (λ (e : Event K). e.message) done ≡ ds → IsAscending r ds → map (λ (e : Event K). e.message) done' ≡ before r m ds →
-    n ≡ length (before r m (map (λ (e : Event K). e.message) done)) →
+pub undone-split : {S K : Type 0} (r : Rules Message S K Note) → IsOrder r.order → (m : Message) (ds : List Message) (done done' : List (Event K)) (n : ℕ) →
+    map (λ (e : Event K). e.message) done ≡ ds → IsAscending r.order ds → map (λ (e : Event K). e.message) done' ≡ before r.order m ds →
+    n ≡ length (before r.order m (map (λ (e : Event K). e.message) done)) →
     map (λ (e : Event K). e.message) done ≡ map (λ (e : Event K). e.message) done' ++ map (λ (e : Event K). e.message) (drop n done)
 undone-split r O m ds done done' n was up now k =
     was ∙ (sym (roll-split r O m ds up) ∙
-    (ap (λ xs. xs ++ from_on r m ds) (sym now) ∙ ap (λ xs. map (λ (e : Event _). e.message) done' ++ xs) (sym rest)))
+    (ap (λ xs. xs ++ from_on r.order m ds) (sym now) ∙ ap (λ xs. map (λ (e : Event _). e.message) done' ++ xs) (sym rest)))
   where
     past : (xs ys : List Message) → drop (length xs) (xs ++ ys) ≡ ys
     past [] ys = refl
     past (x ∷ xs) ys = past xs ys
 
-    rest : map (λ (e : Event _). e.message) (drop n done) ≡ from_on r m ds
+    rest : map (λ (e : Event _). e.message) (drop n done) ≡ from_on r.order m ds
     rest = sym (drop-map (λ (e : Event _). e.message) n done) ∙ (ap (drop n) (was ∙ sym (roll-split r O m ds up)) ∙
-        (ap (λ i. drop i (before r m ds ++ from_on r m ds)) (k ∙ ap (λ xs. length (before r m xs)) was) ∙ past (before r m ds) (from_on r m ds)))
+        (ap (λ i. drop i (before r.order m ds ++ from_on r.order m ds)) (k ∙ ap (λ xs. length (before r.order m xs)) was) ∙ past (before r.order m ds) (from_on r.order m ds)))
 
 -- no more events come before a message than there are
 pub before-within : {S K : Type 0} (r : Rules Message S K Note) (m : Message) (done : List (Event K)) (n : ℕ) →
-    n ≡ length (before r m (map (λ (e : Event K). e.message) done)) → n ≤ length done
+    n ≡ length (before r.order m (map (λ (e : Event K). e.message) done)) → n ≤ length done
 before-within r m done n e =
-    let a = length-filter_both (λ x. r.less x m) (λ x. not (r.less x m)) (λ x. refl) (map (λ (e : Event _). e.message) done) in
+    let a = length-filter_both (λ x. r.order.less x m) (λ x. not (r.order.less x m)) (λ x. refl) (map (λ (e : Event _). e.message) done) in
     let b = length-map done (λ (e : Event _). e.message) in
     omega arith
 
 -- the message that is next counts beside the done events
 pub beside-present : {S K : Type 0} (r : Rules Message S K Note) (R : OfMessages r) (is_value : S → Message → Type 0) (opening : S) (part : Part Message S) (q : Queues S K) →
-    StandsFor r is_value opening part q → (t : List (Signed Message)) → q.tally ≡ with_done t q.past.done → (m : Message) → next_in q ≡ Some m → IsPresent message_rules t m
+    StandsFor r is_value opening part q → (t : List Letter) → q.tally ≡ with_done t q.past.done → (m : Message) → next_in q ≡ Some m → IsPresent message_order t m
 beside-present r R is_value opening part q h t e m next =
-    (first_after-is message_rules R.messages (newest_of (map (λ e. e.message) q.past.done)) t m (sym (next-beside r R is_value opening part q h t e) ∙ next)).present
+    (first_after-is message_order R.messages (newest_of (map (λ e. e.message) q.past.done)) t m (sym (next-beside r R is_value opening part q h t e) ∙ next)).present
 
 -- of the oldest done event one letter more counts than beside the done events
 pub oldest-more : {S K : Type 0} (r : Rules Message S K Note) (R : OfMessages r) (is_value : S → Message → Type 0) (opening : S) (part : Part Message S) (q : Queues S K) →
-    StandsFor r is_value opening part q → (m : Message) (rest : List Message) → part.done ≡ m ∷ rest → (t : List (Signed Message)) →
-    signed_count message_rules m (with_done t q.past.done) ≡ signed_count message_rules m t +ℤ pos 1
+    StandsFor r is_value opening part q → (m : Message) (rest : List Message) → part.done ≡ m ∷ rest → (t : List Letter) →
+    signed_count message_order m (with_done t q.past.done) ≡ signed_count message_order m t +ℤ pos 1
 oldest-more r R is_value opening part q h m rest d t =
     let a = with_done-count R.messages m t q.past.done in
     let b = done-times r R is_value opening part q h m in
-    let up = ascending-once r R.order m part.done h.past.ascending in
-    let i = subst (λ ds. IsIn r m ds) (sym d) (in-head r R.order m rest) in
+    let up = ascending-once r.order R.order m part.done h.past.ascending in
+    let i = subst (λ ds. IsIn r.order m ds) (sym d) (in-head r.order R.order m rest) in
     let one : times R.messages m q.past.done ≡ 1 = omega arith in
     omega (arith, ints)

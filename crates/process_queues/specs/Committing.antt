@@ -1,12 +1,12 @@
 -- Which done events can be committed, one after another.
 use Rattle.std.specs.Prelude.{ℕ, suc, ◌+◌, ◌==◌, Bool, ◌&&◌, if◌then◌else◌, nat_lt, List, [], ◌∷◌}
-use Rattle.virtual_time.specs.Rules.{Rules}
-use Rattle.virtual_time.specs.Letters.{Letter, pluses, minuses}
+use Rattle.virtual_time.specs.Law.{Order, pluses, minuses}
+use Rattle.virtual_time.specs.declared.letter.Letter.{Letter}
 
-module _ {M S K N : Type 0} (r : Rules M S K N) where
+module _ {M : Type 0} (o : Order M) where
   -- the event is earlier than g, and its signed count is just 1
   abbrev pub can_commit : ℕ → List (Letter M) → M → Bool
-  can_commit g tally m = nat_lt (r.time m) g && (pluses r m tally == minuses r m tally + 1)
+  can_commit g tally m = nat_lt (o.time m) g && (pluses o m tally == minuses o m tally + 1)
 
   -- how many of these events, the oldest first, come before the first one that cannot be committed
   abbrev pub committable : ℕ → List (Letter M) → List M → ℕ

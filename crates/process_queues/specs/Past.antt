@@ -2,16 +2,15 @@
 use Rattle.std.specs.Prelude.{◌≡◌, ℕ, ◌+◌, ◌-◌, if◌then◌else◌, List, [], ◌∷◌, ◌++◌, length, map, Option, slice_get, ⊤}
 use Rattle.vlink.specs.declared.message.Message.{Message}
 use Rattle.vlink.specs.declared.note.Note.{Note}
-use Rattle.vlink.specs.declared.note.Row.{Row as Noted}
+use Rattle.vlink.specs.Order.{message_order}
+use Rattle.vlink.specs.Letters.{Row}
 use Rattle.reverse.specs.Rules.{is_before}
-use Rattle.virtual_time.specs.Rules.{Rules, Row, reached, sent, rowed}
-use Rattle.virtual_time.specs.Lists.{IsAscending}
-use Rattle.virtual_time.specs.Part.{Part}
+use Rattle.virtual_time.specs.Law.{Rules, reached, sent, rowed, rows_of, IsAscending, Part}
 use Rattle.process_queues.specs.declared.past.Event.{Event}
 
 -- notes with their messages and places, as the law of virtual time sees them
 abbrev pub Rows : Type 0
-Rows = List (Row Message Note)
+Rows = List Row
 
 -- the state of the actor, the done events, all that they sent, and the rows of the committed events that are still there and then of the done ones
 pub record Past (S K : Type 0) : Type 0 where
@@ -19,14 +18,6 @@ pub record Past (S K : Type 0) : Type 0 where
   pub done : List (Event K)
   pub sends : List Message
   pub rows : Rows
-
--- a row, as the law of virtual time sees it
-abbrev pub seen_row : Noted → Row Message Note
-seen_row row = record { message = row.message; place = row.place; note = row.note }
-
--- the rows that the event of a message gives
-abbrev pub rows_by : Message → List Note → Rows
-rows_by m notes = map (λ n. record { message = m; place = m.receiver; note = n }) notes
 
 -- how many messages these events sent, the newest event first, up to the first one that comes before this message
 abbrev pub sent_since : {K : Type 0} → Message → List (Event K) → ℕ
@@ -58,7 +49,7 @@ module _ {S K : Type 0} (r : Rules Message S K Note) where
     state = r.after past.state m;
     done = past.done ++ event_of past.state m ∷ [];
     sends = past.sends ++ r.sends past.state m;
-    rows = past.rows ++ rows_by m (r.notes past.state m);
+    rows = past.rows ++ rows_of message_order m (r.notes past.state m);
   }
 
   -- the past is that of these events, handled from the state start on, behind the rows of earlier ones
@@ -82,4 +73,4 @@ module _ {S K : Type 0} (r : Rules Message S K Note) where
   pub record BelongsTo (is_value : S → Message → Type 0) (opening : S) (there : Rows) (part : Part Message S) (past : Past S K) : Type 0 where
     pub past_of : IsPastOf is_value (reached r opening part.committed) part.done there past
     pub state : part.state ≡ past.state
-    pub ascending : IsAscending r part.done
+    pub ascending : IsAscending r.order part.done

@@ -2,17 +2,15 @@
 use Rattle.std.specs.Prelude.{◌≡◌, ℕ, ◌+◌, drop, List, [], ◌∷◌, ◌++◌, length, map, Option, ⊤}
 use Rattle.vlink.specs.declared.message.Message.{Message}
 use Rattle.vlink.specs.declared.note.Note.{Note}
-use Rattle.virtual_time.specs.Rules.{Rules, rowed}
-use Rattle.virtual_time.specs.Letters.{Letter as Signed, plus_of}
-use Rattle.virtual_time.specs.Part.{Part, delivered}
-use Rattle.virtual_time.specs.Well.{IsWell}
-use Rattle.antimessages.specs.Letters.{message_rules}
-use Rattle.antimessages.specs.Counting.{signed_count, present_after}
+use Rattle.virtual_time.specs.Law.{Rules, rowed, plus_of, Part, delivered, IsWell}
+use Rattle.vlink.specs.Order.{message_order}
+use Rattle.vlink.specs.Letters.{Letter}
+use Rattle.antimessages.specs.Counting.{HaveSameCounts, present_after}
 use Rattle.process_queues.specs.declared.past.Event.{Event}
 use Rattle.process_queues.specs.Past.{Past, Rows, BelongsTo, newest_of}
 
 -- the letters that count: those that are counted beside the done events, and for each of these the letter that brought its message
-abbrev pub with_done : {K : Type 0} → List (Signed Message) → List (Event K) → List (Signed Message)
+abbrev pub with_done : {K : Type 0} → List Letter → List (Event K) → List Letter
 with_done beside done = beside ++ map (λ e. plus_of e.message) done
 
 -- the past, how many rows of committed events have left it and how many are still there, how many events are committed, the letters that
@@ -22,19 +20,15 @@ pub record Queues (S K : Type 0) : Type 0 where
   pub left : ℕ
   pub sealed : ℕ
   pub committed : ℕ
-  pub tally : List (Signed Message)
-  pub tray : List (Signed Message)
-  pub outbox : List (Signed Message)
+  pub tally : List Letter
+  pub tray : List Letter
+  pub outbox : List Letter
 
 -- the queues, for how many more letters the tray has room, and for how many more committed events there is room
 pub record InHand (S K : Type 0) : Type 0 where
   pub queues : Queues S K
   pub room : ℕ
   pub committed_room : ℕ
-
--- the two tallies have the same signed counts
-abbrev pub CountsAgree : {S K : Type 0} → Rules Message S K Note → List (Signed Message) → List (Signed Message) → Type 0
-CountsAgree r a b = (m : Message) → signed_count r m a ≡ signed_count message_rules m b
 
 -- the rows of the committed events of this part, but those that have left, the oldest
 abbrev pub rows_there : {S K : Type 0} → Rules Message S K Note → S → Part Message S → Queues S K → Rows
@@ -48,7 +42,7 @@ pub record StandsFor {S K : Type 0} (r : Rules Message S K Note) (is_value : S �
   pub sealed : q.left + q.sealed ≡ length (rowed r opening part.committed)
   pub committed : q.committed ≡ length part.committed
   -- the letters
-  pub counts : CountsAgree r part.tally q.tally
+  pub counts : HaveSameCounts message_order part.tally q.tally
   pub tray : q.tray ≡ part.tray
   pub outbox : q.outbox ≡ part.outbox
   -- the part is one that the law of a process speaks of
@@ -63,13 +57,13 @@ abbrev pub state_in : {S K : Type 0} → Queues S K → S
 state_in q = q.past.state
 
 -- the message that is handled next: the first present one of those that come after the newest done event
-abbrev pub next_by : {S K : Type 0} → Past S K → List (Signed Message) → Option Message
-next_by past tally = present_after message_rules (newest_of (map (λ e. e.message) past.done)) tally
+abbrev pub next_by : {S K : Type 0} → Past S K → List Letter → Option Message
+next_by past tally = present_after message_order (newest_of (map (λ e. e.message) past.done)) tally
 
 abbrev pub next_in : {S K : Type 0} → Queues S K → Option Message
 next_in q = next_by q.past q.tally
 
 -- these letters come to the back of the tray, one after another
-abbrev pub delivered_all : {S : Type 0} → List (Signed Message) → Part Message S → Part Message S
+abbrev pub delivered_all : {S : Type 0} → List Letter → Part Message S → Part Message S
 delivered_all [] part = part
 delivered_all (l ∷ ls) part = delivered_all ls (delivered l part)

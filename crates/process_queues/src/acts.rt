@@ -2,10 +2,9 @@
 ghost use Rattle.std.specs.Prelude.{map, ◌≡◌, ◌≢◌, ◌+◌, ◌-◌, ◌<◌, ◌≤◌, ◌⊎◌, ◌↔◌, [], false, true, drop, IsTrue, IsSome, Option, None, Ok, MatchOption, OnOk, OnErr, IfOk, IfErr, Some, pos, vec_len, vec_capacity};
 ghost use Rattle.vlink.specs.declared.message.Message.{Message};
 ghost use Rattle.vlink.specs.Numbering.{greatest_number};
-ghost use Rattle.virtual_time.specs.Rules.{reached};
-ghost use Rattle.virtual_time.specs.Part.{Part, arrive, undone_by, run_one, next_of, can_seal, seal_oldest, undo_all};
+ghost use Rattle.virtual_time.specs.Law.{reached, Part, arrive, undone_by, run_one, next_of, can_seal, seal_oldest, undo_all};
 ghost use Rattle.reverse.specs.Rules.{rules_of};
-ghost use Rattle.antimessages.specs.Letters.{message_rules, signed};
+ghost use Rattle.vlink.specs.Order.{message_order};
 ghost use Rattle.antimessages.specs.Counting.{signed_count, change_by, is_after};
 ghost use Rattle.antimessages.specs.declared.tally.Change.TheVariants.{Same};
 ghost use Rattle.process_queues.specs.declared.fault.ProcFault.TheVariants.{OutOfMemory, Exhausted};
@@ -26,7 +25,7 @@ impl<R: Actor> Process<R> {
     pub fn arrive(&mut self) -> Result<Option<u64>, ProcFault>
         ensures arrived { OnOk result (Does (rules_of R.plain R.counter) R.is_value (arrive (rules_of R.plain R.counter)) self.old.queues self.new.queues) }
         ensures answer { IfOk result (λ undone. (opening : R) (part : Part Message R) → StandsFor (rules_of R.plain R.counter) R.is_value opening part self.old.queues →
-            MatchOption undone (part.tray ≡ []) (λ count. (part.tray ≢ []) × (count ≡ undone_by (rules_of R.plain R.counter) part part.tray))) }
+            MatchOption undone (part.tray ≡ []) (λ count. (part.tray ≢ []) × (count ≡ undone_by message_order part part.tray))) }
         ensures tray { OnOk result (self.new.queues.tray ≡ drop 1 self.old.queues.tray) }
         ensures left { self.new.queues.left ≡ self.old.queues.left }
         ensures refused { OnErr result (self.old.queues.tray ≢ []) }
@@ -62,9 +61,9 @@ impl<R: Actor> Process<R> {
     /// Whether the letter makes its message, which does not come after all done events, present or absent. Such a message is present just
     /// where it is done.
     fn is_turned(&self, letter: &Letter) -> bool
-        requires { is_after (rules_of R.plain R.counter) (newest_of (map (λ e. e.message) self.now.queues.past.done)) letter.now.message ≡ false }
-        ensures turned { IsTrue result → change_by message_rules (signed letter.now) self.now.queues.tally ≢ Same }
-        ensures same { result ≡ false → change_by message_rules (signed letter.now) self.now.queues.tally ≡ Same }
+        requires { is_after message_order (newest_of (map (λ e. e.message) self.now.queues.past.done)) letter.now.message ≡ false }
+        ensures turned { IsTrue result → change_by message_order letter.now self.now.queues.tally ≢ Same }
+        ensures same { result ≡ false → change_by message_order letter.now self.now.queues.tally ≡ Same }
     {
         actor_rules::<R>();
         let is_other = match letter.sign {
@@ -79,7 +78,7 @@ impl<R: Actor> Process<R> {
     pub fn run(&mut self) -> Result<Option<Message>, ProcFault>
         ensures ran { OnOk result (Does (rules_of R.plain R.counter) R.is_value (λ opening. run_one (rules_of R.plain R.counter)) self.old.queues self.new.queues) }
         ensures handled { IfOk result (λ message. (opening : R) (part : Part Message R) →
-            StandsFor (rules_of R.plain R.counter) R.is_value opening part self.old.queues → message ≡ next_of (rules_of R.plain R.counter) part) }
+            StandsFor (rules_of R.plain R.counter) R.is_value opening part self.old.queues → message ≡ next_of message_order part) }
         ensures next { IfOk result (λ message. message ≡ next_in self.old.queues) }
         ensures tray { self.new.queues.tray ≡ self.old.queues.tray }
         ensures left { self.new.queues.left ≡ self.old.queues.left }
@@ -87,7 +86,7 @@ impl<R: Actor> Process<R> {
             IsSome (next_in self.old.queues) × (greatest_number < R.counter (state_in self.old.queues) + 24) }
         ensures idle { result ≡ Ok None → self.new.queues ≡ self.old.queues }
         ensures refused { OnErr result ((opening : R) (part : Part Message R) →
-            StandsFor (rules_of R.plain R.counter) R.is_value opening part self.old.queues → IsSome (next_of (rules_of R.plain R.counter) part)) }
+            StandsFor (rules_of R.plain R.counter) R.is_value opening part self.old.queues → IsSome (next_of message_order part)) }
         ensures unchanged { OnErr result (self.new.queues ≡ self.old.queues) }
     {
         let mut out = Outbound::new(0, Time::default(), 0);
@@ -98,7 +97,7 @@ impl<R: Actor> Process<R> {
     pub fn run_with(&mut self, out: &mut Outbound) -> Result<Option<Message>, ProcFault>
         ensures ran { OnOk result (Does (rules_of R.plain R.counter) R.is_value (λ opening. run_one (rules_of R.plain R.counter)) self.old.queues self.new.queues) }
         ensures handled { IfOk result (λ message. (opening : R) (part : Part Message R) →
-            StandsFor (rules_of R.plain R.counter) R.is_value opening part self.old.queues → message ≡ next_of (rules_of R.plain R.counter) part) }
+            StandsFor (rules_of R.plain R.counter) R.is_value opening part self.old.queues → message ≡ next_of message_order part) }
         ensures next { IfOk result (λ message. message ≡ next_in self.old.queues) }
         ensures tray { self.new.queues.tray ≡ self.old.queues.tray }
         ensures left { self.new.queues.left ≡ self.old.queues.left }
@@ -106,7 +105,7 @@ impl<R: Actor> Process<R> {
             IsSome (next_in self.old.queues) × (greatest_number < R.counter (state_in self.old.queues) + 24) }
         ensures idle { result ≡ Ok None → self.new.queues ≡ self.old.queues }
         ensures refused { OnErr result ((opening : R) (part : Part Message R) →
-            StandsFor (rules_of R.plain R.counter) R.is_value opening part self.old.queues → IsSome (next_of (rules_of R.plain R.counter) part)) }
+            StandsFor (rules_of R.plain R.counter) R.is_value opening part self.old.queues → IsSome (next_of message_order part)) }
         ensures unchanged { OnErr result (self.new.queues ≡ self.old.queues) }
     {
         actor_rules::<R>();
@@ -127,7 +126,7 @@ impl<R: Actor> Process<R> {
     pub fn seal_oldest(&mut self) -> Result<bool, ProcFault>
         ensures sealed { OnOk result (Does (rules_of R.plain R.counter) R.is_value (λ opening. seal_oldest (rules_of R.plain R.counter)) self.old.queues self.new.queues) }
         ensures answer { IfOk result (λ done. (opening : R) (part : Part Message R) →
-            StandsFor (rules_of R.plain R.counter) R.is_value opening part self.old.queues → done ≡ can_seal (rules_of R.plain R.counter) part part.done) }
+            StandsFor (rules_of R.plain R.counter) R.is_value opening part self.old.queues → done ≡ can_seal message_order part part.done) }
         ensures tray { self.new.queues.tray ≡ self.old.queues.tray }
         ensures left { self.new.queues.left ≡ self.old.queues.left }
         ensures outbox { self.new.queues.outbox ≡ self.old.queues.outbox }
@@ -135,7 +134,7 @@ impl<R: Actor> Process<R> {
         ensures unchanged { OnErr result (self.new.queues ≡ self.old.queues) }
         ensures idle { result ≡ Ok false → self.new.queues ≡ self.old.queues }
         ensures refused { OnErr result ((opening : R) (part : Part Message R) →
-            StandsFor (rules_of R.plain R.counter) R.is_value opening part self.old.queues → can_seal (rules_of R.plain R.counter) part part.done ≡ true) }
+            StandsFor (rules_of R.plain R.counter) R.is_value opening part self.old.queues → can_seal message_order part part.done ≡ true) }
         ensures reserved { OnErr result (self.old.committed_room ≡ 0) }
         ensures memory { IfErr result (λ fault. fault ≡ OutOfMemory) }
     {
@@ -183,9 +182,9 @@ fn reserve_if_zero(
     message: &Message,
 ) -> Result<(), ProcFault>
     ensures same { committed.new.items ≡ committed.old.items }
-    ensures room { OnOk result (signed_count message_rules message.now tally.now ≡ pos 0 → vec_len committed.new < vec_capacity committed.new) }
+    ensures room { OnOk result (signed_count message_order message.now tally.now ≡ pos 0 → vec_len committed.new < vec_capacity committed.new) }
     ensures no_less { vec_capacity committed.old ≤ vec_capacity committed.new }
-    ensures zero { OnErr result (signed_count message_rules message.now tally.now ≡ pos 0) }
+    ensures zero { OnErr result (signed_count message_order message.now tally.now ≡ pos 0) }
     ensures full { OnErr result (vec_capacity committed.old ≤ vec_len committed.old) }
     ensures memory { IfErr result (λ fault. fault ≡ OutOfMemory) }
 {

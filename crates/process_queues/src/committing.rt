@@ -1,11 +1,10 @@
 //! Before events are committed: how many can be, and room for them.
 ghost use Rattle.std.specs.Prelude.{◌≡◌, ◌<◌, ◌≤◌, ◌+ℤ◌, pos, List, map, take, OnOk, OnErr, IfErr};
 ghost use Rattle.vlink.specs.declared.message.Message.{Message};
-ghost use Rattle.virtual_time.specs.Lists.{IsAscending};
-ghost use Rattle.virtual_time.specs.Letters.{Letter as Signed};
-ghost use Rattle.virtual_time.specs.Part.{Part};
+ghost use Rattle.virtual_time.specs.Law.{IsAscending, Part};
 ghost use Rattle.reverse.specs.Rules.{rules_of};
-ghost use Rattle.antimessages.specs.Letters.{message_rules};
+ghost use Rattle.vlink.specs.Order.{message_order};
+ghost use Rattle.vlink.specs.Letters.{Letter};
 ghost use Rattle.antimessages.specs.Counting.{signed_count};
 ghost use Rattle.process_queues.specs.declared.fault.ProcFault.TheVariants.{OutOfMemory};
 ghost use Rattle.process_queues.specs.Committing.{can_commit, committable};
@@ -25,7 +24,7 @@ impl<R: Actor> Process<R> {
     pub fn committable(&self, moment: Time, most: usize) -> usize
         ensures within { result ≤ most }
         ensures stands { (opening : R) (part : Part Message R) → StandsFor (rules_of R.plain R.counter) R.is_value opening part self.now.queues →
-            result ≡ committable (rules_of R.plain R.counter) moment part.tally (take most part.done) }
+            result ≡ committable message_order moment part.tally (take most part.done) }
     {
         actor_rules::<R>();
         committable_of::<R>(&self.tally, moment, self.past.done(), most)
@@ -51,8 +50,8 @@ fn committable_of<R: Actor>(
     events: &VecDeque<Event<R::Record>>,
     most: usize,
 ) -> usize
-    requires { IsAscending (rules_of R.plain R.counter) (map (λ e. e.message) events.now.items) }
-    ensures { result ≡ committable message_rules moment (with_done tally.now events.now.items) (take most (map (λ e. e.message) events.now.items)) }
+    requires { IsAscending message_order (map (λ e. e.message) events.now.items) }
+    ensures { result ≡ committable message_order moment (with_done tally.now events.now.items) (take most (map (λ e. e.message) events.now.items)) }
 {
     actor_rules::<R>();
     let limit = most.min(events.len());
@@ -66,8 +65,8 @@ fn committable_of<R: Actor>(
 
 /// Whether a done event with this message can be committed: nothing counts of its message beside the letter that brought it.
 fn can_commit(tally: &Tally, moment: Time, message: &Message) -> bool
-    ensures { (all : List (Signed Message)) → signed_count message_rules message.now all ≡ signed_count message_rules message.now tally.now +ℤ pos 1 →
-        result ≡ can_commit message_rules moment all message.now }
+    ensures { (all : List Letter) → signed_count message_order message.now all ≡ signed_count message_order message.now tally.now +ℤ pos 1 →
+        result ≡ can_commit message_order moment all message.now }
 {
     message.time < moment && tally.is_zero(message)
 }

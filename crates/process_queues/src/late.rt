@@ -1,6 +1,7 @@
 //! Where a message stands among the done events.
 ghost use Rattle.std.specs.Prelude.{◌≡◌, IsTrue, false, length, map};
-ghost use Rattle.virtual_time.specs.Lists.{IsAscending, before, times_in};
+ghost use Rattle.vlink.specs.Order.{message_order};
+ghost use Rattle.virtual_time.specs.Law.{IsAscending, before, times_in};
 ghost use Rattle.reverse.specs.Rules.{rules_of};
 
 use crate::order::is_before;
@@ -12,8 +13,8 @@ impl<R: Actor> Past<R> {
     /// How many of the done events come before the message. They are looked at from the newest on: most letters that come late come little
     /// late.
     pub(crate) fn done_before(&self, message: &Message) -> usize
-        requires { IsAscending (rules_of R.plain R.counter) (map (λ e. e.message) self.now.done) }
-        ensures { result ≡ length (before (rules_of R.plain R.counter) message.now (map (λ e. e.message) self.now.done)) }
+        requires { IsAscending message_order (map (λ e. e.message) self.now.done) }
+        ensures { result ≡ length (before message_order message.now (map (λ e. e.message) self.now.done)) }
     {
         actor_rules::<R>();
         let events = self.done.len();
@@ -28,9 +29,9 @@ impl<R: Actor> Past<R> {
 
     /// Whether the message is that of a done event: of the first one that does not come before it.
     pub(crate) fn has_done(&self, message: &Message) -> bool
-        requires { IsAscending (rules_of R.plain R.counter) (map (λ e. e.message) self.now.done) }
-        ensures done { IsTrue result → times_in (rules_of R.plain R.counter) message.now (map (λ e. e.message) self.now.done) ≡ 1 }
-        ensures not_done { result ≡ false → times_in (rules_of R.plain R.counter) message.now (map (λ e. e.message) self.now.done) ≡ 0 }
+        requires { IsAscending message_order (map (λ e. e.message) self.now.done) }
+        ensures done { IsTrue result → times_in message_order message.now (map (λ e. e.message) self.now.done) ≡ 1 }
+        ensures not_done { result ≡ false → times_in message_order message.now (map (λ e. e.message) self.now.done) ≡ 0 }
     {
         actor_rules::<R>();
         let place = self.done_before(message);

@@ -1,12 +1,8 @@
 //! What holds of every process, whatever letters come to it.
 ghost use Rattle.std.specs.Prelude.{◌≢◌, ◌≤◌, List};
+ghost use Rattle.vlink.specs.Order.{message_order};
 ghost use Rattle.vlink.specs.declared.message.Message.{Message};
-ghost use Rattle.virtual_time.specs.Rules.{sent};
-ghost use Rattle.virtual_time.specs.Lists.{times_in};
-ghost use Rattle.virtual_time.specs.Part.{Part};
-ghost use Rattle.virtual_time.specs.Own.{Act, acted};
-ghost use Rattle.virtual_time.specs.Own.Act.{Emptying};
-ghost use Rattle.virtual_time.specs.Well.{SendsKept};
+ghost use Rattle.virtual_time.specs.Law.{sent, times_in, Part, Act, acted, Emptying, SendsKept};
 ghost use Rattle.reverse.specs.Rules.{rules_of};
 ghost use Rattle.process_queues.specs.Queues.{Queues, StandsFor};
 
@@ -25,7 +21,7 @@ use reverse::{Actor, actor_rules};
 pub fn process_laws<R: Actor>()
     ensures sends { (opening : R) (part : Part Message R) (queues : Queues R R.Record) → StandsFor (rules_of R.plain R.counter) R.is_value opening part queues →
         (act : Act Message) → act ≢ Emptying → (m : Message) → SendsKept (rules_of R.plain R.counter) opening part (acted (rules_of R.plain R.counter) opening act part) m }
-    ensures sent_once { (opening : R) (events : List Message) (m : Message) → times_in (rules_of R.plain R.counter) m (sent (rules_of R.plain R.counter) opening events) ≤ 1 }
+    ensures sent_once { (opening : R) (events : List Message) (m : Message) → times_in message_order m (sent (rules_of R.plain R.counter) opening events) ≤ 1 }
 {
     actor_rules::<R>();
 }

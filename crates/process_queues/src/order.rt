@@ -1,4 +1,5 @@
 //! Messages in their order.
+ghost use Rattle.vlink.specs.Order.{message_order};
 ghost use Rattle.std.specs.Prelude.{◌≡◌};
 ghost use Rattle.reverse.specs.Rules.{is_before};
 

@@ -2,13 +2,13 @@
 ghost use Rattle.std.specs.Prelude.{◌≡◌, ◌+◌, ◌<◌, ◌≤◌, ◌-◌, List, [], ◌∷◌, ◌++◌, ◌↔◌, length, map, take, drop, reverse, vec_len, vec_capacity, IsTrue, OnOk, OnErr, IfErr, slice_get};
 ghost use Rattle.std.specs.Option.{option_map, option_copied};
 ghost use Rattle.std.specs.VecDeque.{deque_len, deque_capacity};
+ghost use Rattle.vlink.specs.Order.{message_order};
 ghost use Rattle.vlink.specs.declared.message.Message.{Message};
 ghost use Rattle.vlink.specs.Numbering.{greatest_number};
-ghost use Rattle.virtual_time.specs.Rules.{reached};
-ghost use Rattle.virtual_time.specs.Letters.{plus_of, minus_of};
+ghost use Rattle.virtual_time.specs.Law.{reached, rows_of, plus_of, minus_of};
 ghost use Rattle.reverse.specs.Rules.{rules_of};
 ghost use Rattle.antimessages.specs.Counting.{is_after};
-ghost use Rattle.process_queues.specs.Past.{Past, Rows, IsPastOf, handled_past, newest_of, seen_row, rows_by, FirstDone};
+ghost use Rattle.process_queues.specs.Past.{Past, Rows, IsPastOf, handled_past, newest_of, FirstDone};
 
 use crate::order::is_before;
 use antimessages::{OutOfMemory, Outbox, rewind};
@@ -40,11 +40,11 @@ pub(crate) struct Past<R: Actor> {
 
 impl<R: Actor> Model for Past<R> {
     ghost use Rattle.std.specs.Prelude.{map};
-    ghost use Rattle.process_queues.specs.Past.{Past, seen_row};
+    ghost use Rattle.process_queues.specs.Past.{Past};
 
     ghost Value = { Past R R.Record };
 
-    ghost view = { λ p. record { state = p.actor; done = p.done.items; sends = p.sends.items; rows = map seen_row p.rows.items } };
+    ghost view = { λ p. record { state = p.actor; done = p.done.items; sends = p.sends.items; rows = p.rows.items } };
 }
 
 impl<R: Actor> Past<R> {
@@ -69,7 +69,7 @@ impl<R: Actor> Past<R> {
 
     /// The rows of the committed events, but those that are forgotten, and of the done ones.
     pub(crate) fn rows(&self) -> &[Row]
-        ensures { map seen_row result.now ≡ self.now.rows }
+        ensures { result.now ≡ self.now.rows }
     {
         &self.rows
     }
@@ -125,7 +125,7 @@ impl<R: Actor> Past<R> {
 
     /// Whether the message comes after the newest done event, if there is one.
     pub(crate) fn is_before(&self, message: &Message) -> bool
-        ensures { result ≡ is_after (rules_of R.plain R.counter) (newest_of (map (λ e. e.message) self.now.done)) message.now }
+        ensures { result ≡ is_after message_order (newest_of (map (λ e. e.message) self.now.done)) message.now }
     {
         match self.newest() {
             Some(newest) => is_before(newest, message),
@@ -169,7 +169,7 @@ impl<R: Actor> Past<R> {
         ensures forgotten { (start : R) (ms : List Message) (e : Message) (earlier : Rows) →
             IsPastOf (rules_of R.plain R.counter) R.is_value start (e ∷ ms) earlier self.old →
             IsPastOf (rules_of R.plain R.counter) R.is_value ((rules_of R.plain R.counter).after start e) ms
-            (earlier ++ rows_by e ((rules_of R.plain R.counter).notes start e)) self.new }
+            (earlier ++ rows_of message_order e ((rules_of R.plain R.counter).notes start e)) self.new }
         ensures noted { (start : R) (ms : List Message) (e : Message) (earlier : Rows) →
             IsPastOf (rules_of R.plain R.counter) R.is_value start (e ∷ ms) earlier self.old →
             result ≡ length ((rules_of R.plain R.counter).notes start e) }
@@ -204,7 +204,7 @@ fn send_all(sends: &mut VecDeque<Message>, outbox: &mut Outbox, messages: &[Mess
 /// The notes that the message's event gave go behind the rows, which have room for them.
 fn note_all(rows: &mut Vec<Row>, message: &Message, notes: &[Note])
     requires { vec_len rows.old + length notes.now ≤ vec_capacity rows.old }
-    ensures { map seen_row rows.new.items ≡ map seen_row rows.old.items ++ rows_by message.now notes.now }
+    ensures { rows.new.items ≡ rows.old.items ++ rows_of message_order message.now notes.now }
 {
     for note in notes {
         rows.push_reserved(Row {

@@ -1,9 +1,8 @@
 //! The letters of a process go to the mail.
 ghost use Rattle.std.specs.Prelude.{◌≡◌, ◌<◌, ◌≤◌, ℕ, ◌++◌, [], length, All, IsOk, OnOk, OnErr, IfErr};
-ghost use Rattle.virtual_time.specs.Letters.{received_by};
-ghost use Rattle.virtual_time.specs.Part.{emptied};
+ghost use Rattle.virtual_time.specs.Law.{received_by, emptied};
 ghost use Rattle.reverse.specs.Rules.{rules_of};
-ghost use Rattle.antimessages.specs.Letters.{message_rules};
+ghost use Rattle.vlink.specs.Order.{message_order};
 ghost use Rattle.antimessages.specs.Mailing.{letters_for, room_for, HasRoom};
 ghost use Rattle.process_queues.specs.declared.fault.ProcFault.TheVariants.{OutOfMemory};
 ghost use Rattle.process_queues.specs.Queues.{Does};
@@ -34,7 +33,7 @@ impl<R: Actor> Process<R> {
     pub fn post(&mut self, mail: &mut Mail) -> Result<(), ProcFault>
         requires { All (λ letter. letter.message.receiver < length mail.old) self.old.queues.outbox }
         ensures emptied { OnOk result (Does (rules_of R.plain R.counter) R.is_value (λ opening. emptied) self.old.queues self.new.queues) }
-        ensures posted { OnOk result ((p : ℕ) → letters_for p mail.new ≡ letters_for p mail.old ++ received_by message_rules p self.old.queues.outbox) }
+        ensures posted { OnOk result ((p : ℕ) → letters_for p mail.new ≡ letters_for p mail.old ++ received_by message_order p self.old.queues.outbox) }
         ensures queues { OnOk result (self.new.queues ≡ record self.old.queues { outbox = [] }) }
         ensures processes { length mail.new ≡ length mail.old }
         ensures unchanged { OnErr result (self.new.queues ≡ self.old.queues) }

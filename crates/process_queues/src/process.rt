@@ -4,14 +4,12 @@ ghost use Rattle.std.specs.Option.{option_map};
 ghost use Rattle.std.specs.VecDeque.{deque_len, deque_capacity};
 ghost use Rattle.vlink.specs.declared.message.Message.{Message};
 ghost use Rattle.vlink.specs.Numbering.{greatest_number};
-ghost use Rattle.virtual_time.specs.Letters.{lowest};
-ghost use Rattle.virtual_time.specs.Part.{Part, opened, delivered, next_of, floor_of};
+ghost use Rattle.virtual_time.specs.Law.{lowest, Part, opened, delivered, next_of, floor_of};
 ghost use Rattle.reverse.specs.Rules.{rules_of};
-ghost use Rattle.antimessages.specs.Letters.{message_rules, signed};
+ghost use Rattle.vlink.specs.Order.{message_order};
 ghost use Rattle.antimessages.specs.Counting.{signed_count};
 ghost use Rattle.antimessages.specs.Mailing.{letters_for};
 ghost use Rattle.process_queues.specs.declared.fault.ProcFault.TheVariants.{OutOfMemory};
-ghost use Rattle.process_queues.specs.Past.{seen_row};
 ghost use Rattle.process_queues.specs.Queues.{StandsFor, Does, rows_there, delivered_all, next_in, state_in};
 
 use crate::fault::ProcFault;
@@ -21,7 +19,7 @@ use reverse::{Actor, actor_rules};
 use std::alloc::Global;
 use std::collections::VecDeque;
 use std::marker::Model;
-use vlink::{Letter, Message, Row, Time};
+use vlink::{Letter, Message, Row, Time, earlier};
 
 /// A process that runs ahead of the others, and rolls back where a letter comes late.
 ///
@@ -47,9 +45,8 @@ impl<R: Actor> Model for Process<R> {
     ghost use Rattle.std.specs.Prelude.{◌≡◌, ◌-◌, length, map, vec_len, vec_capacity};
     ghost use Rattle.std.specs.VecDeque.{deque_len, deque_capacity};
     ghost use Rattle.vlink.specs.declared.message.Message.{Message};
-    ghost use Rattle.virtual_time.specs.Part.{Part};
+    ghost use Rattle.virtual_time.specs.Law.{Part};
     ghost use Rattle.reverse.specs.Rules.{rules_of};
-    ghost use Rattle.antimessages.specs.Letters.{signed};
     ghost use Rattle.process_queues.specs.Queues.{InHand, StandsFor, next_by, with_done};
 
     ghost Value = { InHand R R.Record };
@@ -61,7 +58,7 @@ impl<R: Actor> Model for Process<R> {
         sealed = p.sealed;
         committed = length p.committed.items;
         tally = with_done p.tally p.past.done;
-        tray = map signed p.tray.items;
+        tray = p.tray.items;
         outbox = p.outbox.letters;
       };
       room = deque_capacity p.tray - deque_len p.tray;
@@ -75,7 +72,7 @@ impl<R: Actor> Model for Process<R> {
           sealed = p.sealed;
           committed = length p.committed.items;
           tally = with_done p.tally p.past.done;
-          tray = map signed p.tray.items;
+          tray = p.tray.items;
           outbox = p.outbox.letters;
         }) × (p.next ≡ next_by p.past (with_done p.tally p.past.done)) };
 }
@@ -113,7 +110,7 @@ impl<R: Actor> Process<R> {
     /// count any more.
     pub fn count(&self, message: &Message) -> i128
         ensures { (opening : R) (part : Part Message R) → StandsFor (rules_of R.plain R.counter) R.is_value opening part self.now.queues →
-            result ≡ signed_count (rules_of R.plain R.counter) message.now part.tally }
+            result ≡ signed_count message_order message.now part.tally }
     {
         actor_rules::<R>();
         count_with(&self.tally, message, self.past.has_done(message))
@@ -138,7 +135,7 @@ impl<R: Actor> Process<R> {
     /// The rows of the committed events but those that have left, in their order.
     pub fn sealed(&self) -> &[Row]
         ensures { (opening : R) (part : Part Message R) → StandsFor (rules_of R.plain R.counter) R.is_value opening part self.now.queues →
-            map seen_row result.now ≡ rows_there (rules_of R.plain R.counter) opening part self.now.queues }
+            result.now ≡ rows_there (rules_of R.plain R.counter) opening part self.now.queues }
     {
         &self.past.rows()[..self.sealed]
     }
@@ -173,7 +170,7 @@ impl<R: Actor> Process<R> {
 
     /// The letters that wait to be posted, in order.
     pub fn outbox(&self) -> &[Letter]
-        ensures { map signed result.now ≡ self.now.queues.outbox }
+        ensures { result.now ≡ self.now.queues.outbox }
     {
         self.outbox.letters()
     }
@@ -198,7 +195,7 @@ impl<R: Actor> Process<R> {
     pub fn next(&self) -> Option<Message>
         ensures next { result ≡ next_in self.now.queues }
         ensures stands { (opening : R) (part : Part Message R) → StandsFor (rules_of R.plain R.counter) R.is_value opening part self.now.queues →
-            result ≡ next_of (rules_of R.plain R.counter) part }
+            result ≡ next_of message_order part }
     {
         actor_rules::<R>();
         self.next
@@ -215,7 +212,7 @@ impl<R: Actor> Process<R> {
     /// that are not done, or the moment after the end.
     pub fn floor(&self) -> Time
         ensures { (opening : R) (part : Part Message R) → StandsFor (rules_of R.plain R.counter) R.is_value opening part self.now.queues →
-            result ≡ floor_of (rules_of R.plain R.counter) (R.end (state_in self.now.queues)) part }
+            result ≡ floor_of message_order (R.end (state_in self.now.queues)) part }
     {
         floor_of_tray::<R>(&self.tray, self.floor_of_messages())
     }
@@ -223,7 +220,7 @@ impl<R: Actor> Process<R> {
     /// The least time of the present messages that are not done, or the moment after the end.
     fn floor_of_messages(&self) -> Time
         ensures { (opening : R) (part : Part Message R) → StandsFor (rules_of R.plain R.counter) R.is_value opening part self.now.queues →
-            result ≡ floor_of (rules_of R.plain R.counter) (R.end (state_in self.now.queues)) (record part { tray = [] }) }
+            result ≡ floor_of message_order (R.end (state_in self.now.queues)) (record part { tray = [] }) }
     {
         actor_rules::<R>();
         let end = Time::new(self.past.actor().until().ns() + 1).unwrap();
@@ -246,8 +243,8 @@ impl<R: Actor> Process<R> {
 
     /// The letter comes to the back of the tray.
     pub fn deliver(&mut self, letter: Letter) -> Result<(), ProcFault>
-        ensures delivered { OnOk result (Does (rules_of R.plain R.counter) R.is_value (λ opening. delivered (signed letter)) self.old.queues self.new.queues) }
-        ensures tray { OnOk result (self.new.queues ≡ record self.old.queues { tray = self.old.queues.tray ++ signed letter ∷ [] }) }
+        ensures delivered { OnOk result (Does (rules_of R.plain R.counter) R.is_value (λ opening. delivered letter) self.old.queues self.new.queues) }
+        ensures tray { OnOk result (self.new.queues ≡ record self.old.queues { tray = self.old.queues.tray ++ letter ∷ [] }) }
         ensures room { OnOk result (self.old.room ≤ self.new.room + 1) }
         ensures unchanged { OnErr result (self.new.queues ≡ self.old.queues) }
         ensures reserved { OnErr result (self.old.room ≡ 0) }
@@ -290,7 +287,7 @@ impl<R: Actor> Process<R> {
 fn take_letters<R: Actor>(tray: &mut VecDeque<Letter>, mail: &mut Mail, process: u16, count: usize)
     requires room { deque_len tray.old + count ≤ deque_capacity tray.old }
     requires enough { count ≤ length (letters_for process mail.old) }
-    ensures tray { map signed tray.new.items ≡ map signed tray.old.items ++ take count (letters_for process mail.old) }
+    ensures tray { tray.new.items ≡ tray.old.items ++ take count (letters_for process mail.old) }
     ensures left { letters_for process mail.new ≡ drop count (letters_for process mail.old) }
     ensures others { (q : ℕ) → q ≢ process → letters_for q mail.new ≡ letters_for q mail.old }
     ensures processes { length mail.new ≡ length mail.old }
@@ -308,7 +305,7 @@ fn take_letters<R: Actor>(tray: &mut VecDeque<Letter>, mail: &mut Mail, process:
 fn take_letter<R: Actor>(tray: &mut VecDeque<Letter>, mail: &mut Mail, process: u16)
     requires room { deque_len tray.old < deque_capacity tray.old }
     requires some { 0 < length (letters_for process mail.old) }
-    ensures tray { map signed tray.new.items ≡ map signed tray.old.items ++ take 1 (letters_for process mail.old) }
+    ensures tray { tray.new.items ≡ tray.old.items ++ take 1 (letters_for process mail.old) }
     ensures length { deque_len tray.new ≡ deque_len tray.old + 1 }
     ensures capacity { deque_capacity tray.new ≡ deque_capacity tray.old }
     ensures left { letters_for process mail.new ≡ drop 1 (letters_for process mail.old) }
@@ -323,22 +320,11 @@ fn take_letter<R: Actor>(tray: &mut VecDeque<Letter>, mail: &mut Mail, process: 
 
 /// The signed count of a message, by the tally beside the done events and by whether it is done.
 fn count_with(tally: &Tally, message: &Message, is_done: bool) -> i128
-    ensures done { IsTrue is_done → result ≡ signed_count message_rules message.now tally.now +ℤ pos 1 }
-    ensures not_done { is_done ≡ false → result ≡ signed_count message_rules message.now tally.now }
+    ensures done { IsTrue is_done → result ≡ signed_count message_order message.now tally.now +ℤ pos 1 }
+    ensures not_done { is_done ≡ false → result ≡ signed_count message_order message.now tally.now }
 {
     let counted = tally.count(message);
     if is_done { counted + 1 } else { counted }
-}
-
-/// The earlier of two moments.
-fn earlier(first: Time, second: Time) -> Time
-    ensures { result ≡ min first second }
-{
-    if first.ns() <= second.ns() {
-        first
-    } else {
-        second
-    }
 }
 
 /// The least time of these letters, or the given moment where that is earlier.

@@ -1,9 +1,9 @@
 //! Before done events are undone, their messages are counted again beside the letters that were counted.
 ghost use Rattle.std.specs.Prelude.{◌≡◌, ◌≤◌, ◌++◌, ◌∷◌, List, map, drop, length, OnOk, OnErr};
 ghost use Rattle.vlink.specs.declared.message.Message.{Message};
-ghost use Rattle.virtual_time.specs.Lists.{IsIn};
-ghost use Rattle.virtual_time.specs.Letters.{Letter as Signed, plus_of, pluses, minuses};
-ghost use Rattle.antimessages.specs.Letters.{message_rules, signed};
+ghost use Rattle.virtual_time.specs.Law.{IsIn, plus_of, pluses, minuses};
+ghost use Rattle.vlink.specs.Order.{message_order};
+ghost use Rattle.vlink.specs.Letters.{Letter};
 ghost use Rattle.antimessages.specs.Counting.{HaveSameCounts};
 
 use crate::past::Past;
@@ -21,8 +21,8 @@ impl<R: Actor> Past<R> {
         letter: Letter,
     ) -> Result<(), OutOfMemory>
         requires within { place ≤ length self.now.done }
-        requires not_owed { (m : Message) → IsIn message_rules m (map (λ e. e.message) self.now.done) → minuses message_rules m tally.old ≤ pluses message_rules m tally.old }
-        ensures counts { OnOk result (HaveSameCounts message_rules tally.new (signed letter ∷ (map (λ e. plus_of e.message) (drop place self.now.done) ++ tally.old))) }
+        requires not_owed { (m : Message) → IsIn message_order m (map (λ e. e.message) self.now.done) → minuses message_order m tally.old ≤ pluses message_order m tally.old }
+        ensures counts { OnOk result (HaveSameCounts message_order tally.new (letter ∷ (map (λ e. plus_of e.message) (drop place self.now.done) ++ tally.old))) }
         ensures unchanged { OnErr result (tally.new ≡ tally.old) }
     {
         actor_rules::<R>();
@@ -44,7 +44,7 @@ impl<R: Actor> Past<R> {
     fn count_back(&self, tally: &mut Tally, place: usize) -> usize
         requires { place ≤ length self.now.done }
         ensures within { result ≤ length self.now.done }
-        ensures counts { HaveSameCounts message_rules tally.new (map (λ e. plus_of e.message) (drop result self.now.done) ++ tally.old) }
+        ensures counts { HaveSameCounts message_order tally.new (map (λ e. plus_of e.message) (drop result self.now.done) ++ tally.old) }
     {
         actor_rules::<R>();
         let all = self.done.len();
@@ -65,9 +65,9 @@ impl<R: Actor> Past<R> {
     /// The messages of the done events from this place on are taken out again.
     fn take_out(&self, tally: &mut Tally, place: usize)
         requires { place ≤ length self.now.done }
-        ensures { (before : List (Signed Message)) → HaveSameCounts message_rules tally.old (map (λ e. plus_of e.message) (drop place self.now.done) ++ before) →
-            ((m : Message) → IsIn message_rules m (map (λ e. e.message) self.now.done) → minuses message_rules m before ≤ pluses message_rules m before) →
-            HaveSameCounts message_rules tally.new before }
+        ensures { (before : List Letter) → HaveSameCounts message_order tally.old (map (λ e. plus_of e.message) (drop place self.now.done) ++ before) →
+            ((m : Message) → IsIn message_order m (map (λ e. e.message) self.now.done) → minuses message_order m before ≤ pluses message_order m before) →
+            HaveSameCounts message_order tally.new before }
     {
         actor_rules::<R>();
         for taken in place..self.done.len() {

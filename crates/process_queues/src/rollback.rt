@@ -2,9 +2,7 @@
 ghost use Rattle.std.specs.Prelude.{◌≡◌, ◌+◌, ◌≤◌, ◌-◌, List, [], ◌∷◌, ◌++◌, length, map, take, drop, reverse};
 ghost use Rattle.std.specs.VecDeque.{deque_len};
 ghost use Rattle.vlink.specs.declared.message.Message.{Message};
-ghost use Rattle.virtual_time.specs.Rules.{reached};
-ghost use Rattle.virtual_time.specs.Letters.{minus_of};
-ghost use Rattle.virtual_time.specs.Part.{Part, rolled_back};
+ghost use Rattle.virtual_time.specs.Law.{reached, minus_of, Part, rolled_back};
 ghost use Rattle.reverse.specs.Rules.{rules_of};
 ghost use Rattle.process_queues.specs.Past.{Rows, IsPastOf, LastDone, BelongsTo, sent_since};
 ghost use Rattle.process_queues.specs.declared.past.Event.{Event};

@@ -3,9 +3,7 @@
 use Rattle.std.specs.Prelude.{◌≡◌, ℕ, ◌<◌, ◌≤◌, List, length, slice_get, Some}
 use Rattle.vlink.specs.declared.message.Message.{Message}
 use Rattle.vlink.specs.declared.note.Note.{Note}
-use Rattle.virtual_time.specs.Rules.{Rules}
-use Rattle.virtual_time.specs.Lists.{IsIn, times_in}
-use Rattle.virtual_time.specs.Simulation.{Simulation, IsReached}
+use Rattle.virtual_time.specs.Law.{Rules, IsIn, times_in, Simulation, IsReached}
 
 -- what is simulated, but for the rules of its actors: how many processes there are, the end time, the opening states and the offers
 pub record Setting (S : Type 0) : Type 0 where
@@ -41,8 +39,8 @@ pub record IsLaidOut {S K : Type 0} (r : Rules Message S K Note) (number end : S
   pub number_is : (p : ℕ) → p < x.processes → number (x.opening p) ≡ p
   pub end_is : (p : ℕ) → p < x.processes → end (x.opening p) ≡ x.until
   pub placed : (p : ℕ) → p < x.processes → is_placed (x.opening p)
-  pub receivers : (p : ℕ) → p < x.processes → (s : S) → IsReached (simulation_of r x) p s → (e m : Message) → IsIn r m (r.sends s e) → r.receiver m < x.processes
-  pub offered_once : (m : Message) → times_in r m x.offers ≤ 1
-  pub offered_from : (m : Message) → IsIn r m x.offers → x.processes ≤ r.sender m
-  pub offered_to : (m : Message) → IsIn r m x.offers → r.receiver m < x.processes
-  pub offered_in_time : (m : Message) → IsIn r m x.offers → r.time m ≤ x.until
+  pub receivers : (p : ℕ) → p < x.processes → (s : S) → IsReached (simulation_of r x) p s → (e m : Message) → IsIn r.order m (r.sends s e) → r.order.receiver m < x.processes
+  pub offered_once : (m : Message) → times_in r.order m x.offers ≤ 1
+  pub offered_from : (m : Message) → IsIn r.order m x.offers → x.processes ≤ r.order.sender m
+  pub offered_to : (m : Message) → IsIn r.order m x.offers → r.order.receiver m < x.processes
+  pub offered_in_time : (m : Message) → IsIn r.order m x.offers → r.order.time m ≤ x.until

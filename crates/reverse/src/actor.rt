@@ -2,7 +2,7 @@
 ghost use Rattle.std.specs.Prelude.{◌≡◌, ℕ, ◌+◌, ◌<◌, ◌≤◌, ◌↔◌, IsTrue, All, length};
 ghost use Rattle.vlink.specs.declared.message.Message.{Message};
 ghost use Rattle.vlink.specs.Numbering.{greatest_number};
-ghost use Rattle.virtual_time.specs.Lists.{IsNumbered};
+ghost use Rattle.virtual_time.specs.Law.{IsNumbered};
 
 use crate::outbound::Outbound;
 use crate::reversible::Reversible;

@@ -1,5 +1,5 @@
 //! When actors meet the laws of a simulation.
-ghost use Rattle.virtual_time.specs.Simulation.{Laws};
+ghost use Rattle.virtual_time.specs.Law.{Laws};
 ghost use Rattle.reverse.specs.Rules.{rules_of};
 ghost use Rattle.reverse.specs.Setting.{Setting, simulation_of, IsLaidOut};
 

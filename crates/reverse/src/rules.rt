@@ -1,12 +1,12 @@
 //! What an actor gives to the law of virtual time.
 ghost use Rattle.std.specs.Prelude.{◌≡◌, ◌+◌, ◌<◌, ◌≤◌, length};
+ghost use Rattle.vlink.specs.Order.{message_order};
 ghost use Rattle.vlink.specs.declared.message.Message.{Message};
-ghost use Rattle.virtual_time.specs.Rules.{IsOrder};
-ghost use Rattle.virtual_time.specs.Lists.{IsIn, IsNumbered};
+ghost use Rattle.virtual_time.specs.Law.{IsOrder, IsIn, IsNumbered};
 ghost use Rattle.reverse.specs.Rules.{rules_of};
 
 use crate::actor::Actor;
-use vlink::message_order;
+use vlink::lawful_order;
 
 /// The rules of an actor are what the law of virtual time asks of one actor: its order of messages is total and by
 /// time first; what an event sends has the actor as its sender, is later than the event, not later than the end
@@ -14,20 +14,13 @@ use vlink::message_order;
 ///
 /// A call does nothing: its caller learns what the clauses say.
 pub fn actor_rules<R: Actor>()
-    ensures order { IsOrder (rules_of R.plain R.counter) }
-    ensures sender { (s : R) (e m : Message) → IsIn (rules_of R.plain R.counter) m ((rules_of R.plain R.counter).sends s e) → m.sender ≡ R.number s }
-    ensures later { (s : R) (e m : Message) → R.is_placed s → IsIn (rules_of R.plain R.counter) m ((rules_of R.plain R.counter).sends s e) → e.time < m.time }
-    ensures in_time { (s : R) (e m : Message) → IsIn (rules_of R.plain R.counter) m ((rules_of R.plain R.counter).sends s e) → m.time ≤ R.end s }
+    ensures order { IsOrder message_order }
+    ensures sender { (s : R) (e m : Message) → IsIn message_order m ((rules_of R.plain R.counter).sends s e) → m.sender ≡ R.number s }
+    ensures later { (s : R) (e m : Message) → R.is_placed s → IsIn message_order m ((rules_of R.plain R.counter).sends s e) → e.time < m.time }
+    ensures in_time { (s : R) (e m : Message) → IsIn message_order m ((rules_of R.plain R.counter).sends s e) → m.time ≤ R.end s }
     ensures numbered { (s : R) (e : Message) → IsNumbered (λ m. m.number) (R.counter s) ((rules_of R.plain R.counter).sends s e) }
     ensures counted { (s : R) (e : Message) → R.counter (R.plain.after s e) ≡ R.counter s + length ((rules_of R.plain R.counter).sends s e) }
     ensures undoes { (s : R) (e : Message) → R.plain.before (R.plain.after s e) e (R.plain.saves s e) ≡ s }
 {
-    ordered::<R>();
-}
-
-/// The order of messages is the one that the law asks for.
-fn ordered<R: Actor>()
-    ensures { IsOrder (rules_of R.plain R.counter) }
-{
-    message_order();
+    lawful_order();
 }

@@ -5,8 +5,8 @@ use Rattle.std.proofs.lemmas.Bool.{lt-leb}
 use Rattle.vlink.specs.declared.message.Message.{Message}
 use Rattle.vlink.specs.declared.note.Note.{Note}
 use Rattle.vlink.specs.declared.message.Body.TheVariants.{PortFree}
-use Rattle.virtual_time.specs.Rules.{Rules, IsOrder, reached}
-use Rattle.virtual_time.specs.Lists.{IsIn, times_in, one_if, same}
+use Rattle.vlink.specs.Order.{message_order}
+use Rattle.virtual_time.specs.Law.{Rules, IsOrder, reached, IsIn, times_in, one_if, same}
 use Rattle.virtual_time.proofs.Lists.{in-cons}
 use Rattle.virtual_time.proofs.Reading.{reached-keeps}
 use Rattle.reverse.specs.Rules.{rules_of}
@@ -37,15 +37,15 @@ sends-none : (s : Summing) (e : Message) → s.until < 5 → sends s e ≡ []
 sends-none s e h =
     ap (λ b. cond b (record { time = e.time + 5; receiver = 1; sender = 0; number = s.counter; body = PortFree 0 } ∷ []) []) (lt-leb (e.time + 5) s.until (omega arith))
 
-module _ (O : IsOrder counted) (actor : Summing) (short : actor.until < 5) (offer : Message) where
+module _ (O : IsOrder message_order) (actor : Summing) (short : actor.until < 5) (offer : Message) where
   reached-short : (s : Summing) → (ms : List Message) → s ≡ reached counted actor ms → s.until < 5
   reached-short s ms e = subst (λ (z : Summing). z.until < 5) (sym e) (reached-keeps counted O (λ (z : Summing). z.until < 5) (λ z m g. g) actor ms short)
 
-  the-offer : (m : Message) → IsIn counted m (offer ∷ []) → m ≡ offer
-  the-offer m j = elim (in-cons counted O m offer [] j) [ inl e ↦ e | inr none ↦ absurd (omega arith) ]
+  the-offer : (m : Message) → IsIn message_order m (offer ∷ []) → m ≡ offer
+  the-offer m j = elim (in-cons message_order O m offer [] j) [ inl e ↦ e | inr none ↦ absurd (omega arith) ]
 
-  once : (m : Message) → times_in counted m (offer ∷ []) ≤ 1
-  once m = go (same counted m offer)
+  once : (m : Message) → times_in message_order m (offer ∷ []) ≤ 1
+  once m = go (same message_order m offer)
     where
       go : (b : Bool) → one_if b + 0 ≤ 1
       go true = omega arith
@@ -59,7 +59,7 @@ module _ (O : IsOrder counted) (actor : Summing) (short : actor.until < 5) (offe
         placed = λ p h. tt;
         receivers = λ p h s r e m j.
             let none = sends-none s e (reached-short s r.0 r.1) in
-            let bad = subst (λ ms. IsIn counted m ms) none j in
+            let bad = subst (λ ms. IsIn message_order m ms) none j in
             absurd (omega arith);
         offered_once = once;
         offered_from = λ m j. let k = ap (λ (z : Message). z.sender) (the-offer m j) in omega arith;

@@ -4,7 +4,7 @@ use Rattle.std.proofs.lemmas.List.Elements.{All-nil, All-cons}
 use Rattle.std.proofs.lemmas.Bool.{leb-true}
 use Rattle.vlink.specs.declared.message.Message.{Message}
 use Rattle.vlink.specs.declared.message.Body.TheVariants.{PortFree}
-use Rattle.virtual_time.specs.Lists.{IsNumbered}
+use Rattle.virtual_time.specs.Law.{IsNumbered}
 use Rattle.sample_actor.specs.declared.summing.Summing.{Summing}
 use Rattle.sample_actor.specs.Summing.{sends}
 

@@ -1,7 +1,6 @@
 pub mod NetworkLemmas
 pub mod StatesLemmas
 pub mod RowLemmas
-pub mod SeenRows
 pub mod CommittedRows
 pub mod OneThreadRows
 pub mod RowsByProcess

@@ -1,8 +1,7 @@
 -- Networks lay their processes and offers out as the laws of a simulation ask.
 use Rattle.std.proofs.Common.{◌≡◌, ◌∙◌, ℕ, ◌<◌, List, refl, sym, subst}
 use Rattle.vlink.specs.declared.message.Message.{Message}
-use Rattle.virtual_time.specs.Rules.{IsOrder}
-use Rattle.virtual_time.specs.Simulation.{IsReached}
+use Rattle.virtual_time.specs.Law.{IsOrder, IsReached}
 use Rattle.virtual_time.proofs.Reading.{reached-keeps}
 use Rattle.reverse.proofs.Members.{in-all}
 use Rattle.reverse.specs.Setting.{AreInStates, IsLaidOut, Opens}
@@ -28,7 +27,7 @@ opened plan made seen offered sent d e nodes offers =
       offered = e ∙ offers;
     }
 
-module _ (plan : Plan) (O : IsOrder (simulation_of plan).rules) where
+module _ (plan : Plan) (O : IsOrder (simulation_of plan).rules.order) where
   -- the simulation has the messages, processes, end and offers of the network
   pub of-network : IsOfNetwork plan (simulation_of plan)
   of-network =
@@ -58,7 +57,7 @@ module _ (plan : Plan) (O : IsOrder (simulation_of plan).rules) where
           end_is = λ p i. refl;
           placed = opening-placed plan accepted;
           receivers = λ p i s h e m j.
-              in-all (simulation_of plan).rules O (λ x. x.receiver < process_count plan) m ((simulation_of plan).rules.sends s e)
+              in-all (simulation_of plan).rules.order O (λ x. x.receiver < process_count plan) m ((simulation_of plan).rules.sends s e)
               (sends-near (process_count plan) s e (reached-wired p i s h)) j;
           offered_once = offers.offered_once;
           offered_from = offers.offered_from;

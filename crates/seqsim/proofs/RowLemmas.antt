@@ -1,23 +1,19 @@
 -- The rows of the one-thread run of a network.
-use Rattle.std.proofs.Common.{◌≡◌, ◌∙◌, List, map, sym, ap, inl, inr, arith}
+use Rattle.std.proofs.Common.{◌≡◌, ◌∙◌, List, sym, ap, inl, inr, arith}
 use Rattle.std.proofs.lemmas.Bool.{cases_lt}
-use Rattle.vlink.specs.declared.note.Row.{Row as Noted}
-use Rattle.virtual_time.specs.Simulation.{Laws}
-use Rattle.virtual_time.specs.OneThread.{one}
+use Rattle.vlink.specs.Letters.{Row}
+use Rattle.virtual_time.specs.Law.{Laws, one}
 use Rattle.virtual_time.proofs.Turns.{over-same}
 use Rattle.netdesc.specs.Plan.{Plan}
 use Rattle.nodes.specs.rules.Simulation.{simulation_of}
-use Rattle.actor_run.specs.Running.{seen_row}
 use Rattle.seqsim.specs.Networks.{AreRowsOf}
-use Rattle.seqsim.proofs.SeenRows.{unseen, back}
 
 -- all runs of a network in which nothing waits any more have the same rows
-pub same-rows : (plan : Plan) → Laws (simulation_of plan) → (rows others : List Noted) → AreRowsOf plan rows → AreRowsOf plan others → rows ≡ others
+pub same-rows : (plan : Plan) → Laws (simulation_of plan) → (rows others : List Row) → AreRowsOf plan rows → AreRowsOf plan others → rows ≡ others
 same-rows plan L rows others r o =
     let f = simulation_of plan in
     let same : one f r.0 ≡ one f o.0 = elim (cases_lt r.0 o.0) [
       | inl i ↦ sym (over-same f L r.0 o.0 r.1 (omega arith))
       | inr i ↦ over-same f L o.0 r.0 o.1 i
     ] in
-    let seen : map seen_row rows ≡ map seen_row others = r.2 ∙ (ap (λ t. t.rows) same ∙ sym o.2) in
-    sym (back rows) ∙ (ap unseen seen ∙ back others)
+    r.2 ∙ (ap (λ t. t.rows) same ∙ sym o.2)

@@ -1,7 +1,7 @@
 -- The one-thread run of a network: its setting, and what a run of all its events has found.
 use Rattle.std.specs.Prelude.{◌≡◌, ℕ, [], map, List}
-use Rattle.vlink.specs.declared.note.Row.{Row as Noted}
-use Rattle.virtual_time.specs.OneThread.{one}
+use Rattle.vlink.specs.Letters.{Row}
+use Rattle.virtual_time.specs.Law.{one}
 use Rattle.reverse.specs.Setting.{Setting}
 use Rattle.netdesc.specs.Plan.{Plan}
 use Rattle.netdesc.specs.Faults.{process_count}
@@ -9,7 +9,6 @@ use Rattle.traffic.specs.Offers.{offers_of}
 use Rattle.nodes.specs.rules.Node.{NodeState}
 use Rattle.nodes.specs.rules.Opening.{opening}
 use Rattle.nodes.specs.rules.Simulation.{simulation_of}
-use Rattle.actor_run.specs.Running.{seen_row}
 
 -- what a network simulates, but for the rules of its nodes and lines
 abbrev pub setting_of : Plan → Setting NodeState
@@ -22,6 +21,6 @@ setting_of plan =
     }
 
 -- in the one-thread run of the network, after some number of events nothing waits any more, and these are its rows
-abbrev pub AreRowsOf : Plan → List Noted → Type 0
+abbrev pub AreRowsOf : Plan → List Row → Type 0
 AreRowsOf plan rows =
-    (n : ℕ) × ((one (simulation_of plan) n).waiting ≡ []) × (map seen_row rows ≡ (one (simulation_of plan) n).rows)
+    (n : ℕ) × ((one (simulation_of plan) n).waiting ≡ []) × (rows ≡ (one (simulation_of plan) n).rows)

@@ -1,6 +1,6 @@
 //! The rows of a run, counted as they come.
 ghost use Rattle.std.specs.Prelude.{◌≡◌, [], List, IfOk};
-ghost use Rattle.vlink.specs.declared.note.Row.{Row as Noted};
+ghost use Rattle.vlink.specs.Letters.{Row};
 ghost use Rattle.trace_tables.specs.SoFar.{IsSoFar};
 ghost use Rattle.trace_tables.specs.Tables.{tables_of};
 
@@ -31,8 +31,8 @@ impl<'a> Counted<'a> {
 
     /// The tables of the rows. It fails only where memory is refused.
     pub(crate) fn into_tables(self) -> Result<Tables, AllocError>
-        requires { (rows : List Noted) × IsSoFar self.network.now self.tables rows }
-        ensures { IfOk result (λ tables. (rows : List Noted) → IsSoFar self.entry.network.now self.entry.tables rows →
+        requires { (rows : List Row) × IsSoFar self.network.now self.tables rows }
+        ensures { IfOk result (λ tables. (rows : List Row) → IsSoFar self.entry.network.now self.entry.tables rows →
             tables ≡ tables_of self.entry.network.now rows) }
     {
         self.tables.tables(self.network)

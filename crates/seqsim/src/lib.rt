@@ -7,7 +7,7 @@ mod rows;
 mod simulating;
 mod tables;
 
-pub use actor_run::{SimFault, run_actors};
+pub use actor_run::{SimFault, Unwatched, Watch, run_actors};
 pub use networks::{network_laws, network_layout};
 pub use rows::rows_by_process;
 pub use simulating::{Finished, nodes_of, run};

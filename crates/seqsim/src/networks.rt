@@ -1,5 +1,5 @@
 //! Networks meet the laws of a simulation.
-ghost use Rattle.virtual_time.specs.Simulation.{Laws};
+ghost use Rattle.virtual_time.specs.Law.{Laws};
 ghost use Rattle.reverse.specs.Setting.{IsLaidOut};
 ghost use Rattle.nodes.specs.rules.Placed.{IsPlaced};
 ghost use Rattle.nodes.specs.rules.Simulation.{simulation_of};

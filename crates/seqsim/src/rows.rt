@@ -1,17 +1,14 @@
 //! The rows of the one-thread run of a network are told by those of each process.
 ghost use Rattle.std.specs.Prelude.{◌≡◌, ◌<◌, ℕ, [], map, List};
-ghost use Rattle.vlink.specs.declared.message.Message.{Message};
-ghost use Rattle.vlink.specs.declared.note.Row.{Row as Noted};
-ghost use Rattle.virtual_time.specs.Rules.{rowed};
-ghost use Rattle.virtual_time.specs.OneThread.{one, rows_at};
-ghost use Rattle.virtual_time.specs.World.{Step};
-ghost use Rattle.virtual_time.specs.Safe.{IsFinished};
+ghost use Rattle.vlink.specs.Order.{message_order};
+ghost use Rattle.vlink.specs.Letters.{Row};
+ghost use Rattle.virtual_time.specs.Law.{rowed, rows_at, one, IsFinished};
+ghost use Rattle.virtual_time.specs.declared.step.Step.{Step};
 ghost use Rattle.netdesc.specs.Faults.{process_count};
 ghost use Rattle.nodes.specs.rules.Opening.{opening};
 ghost use Rattle.nodes.specs.rules.Simulation.{simulation_of};
 ghost use Rattle.trace_parts.specs.Places.{gathered};
 ghost use Rattle.trace_parts.specs.Ordered.{AreInMessageOrder, rows_of_event};
-ghost use Rattle.actor_run.specs.Running.{seen_row};
 ghost use Rattle.seqsim.specs.Committed.{after, AreCommittedRows};
 ghost use Rattle.seqsim.specs.Networks.{AreRowsOf};
 
@@ -33,14 +30,14 @@ use vlink::{Message, Note, message_order};
 ///
 /// A call does nothing: its caller learns what the clauses say.
 pub fn rows_by_process(network: &Network)
-    ensures in_order { (rows : List Noted) → AreRowsOf network.now rows → AreInMessageOrder rows }
-    ensures by_process { (n : ℕ) → (one (simulation_of network.now) n).waiting ≡ [] → (rows : List Noted) → AreInMessageOrder rows →
-        ((p : ℕ) → rows_at (simulation_of network.now) p (map seen_row rows) ≡ rows_at (simulation_of network.now) p (one (simulation_of network.now) n).rows) →
+    ensures in_order { (rows : List Row) → AreRowsOf network.now rows → AreInMessageOrder rows }
+    ensures by_process { (n : ℕ) → (one (simulation_of network.now) n).waiting ≡ [] → (rows : List Row) → AreInMessageOrder rows →
+        ((p : ℕ) → rows_at p rows ≡ rows_at p (one (simulation_of network.now) n).rows) →
         AreRowsOf network.now rows }
-    ensures gathered { (steps : List Step) (rows_of : ℕ → List Noted) → ((p : ℕ) → p < process_count network.now →
-        map seen_row (rows_of p) ≡ rowed (simulation_of network.now).rules (opening network.now p) ((after network.now steps).parts p).committed) →
+    ensures gathered { (steps : List Step) (rows_of : ℕ → List Row) → ((p : ℕ) → p < process_count network.now →
+        (rows_of p) ≡ rowed (simulation_of network.now).rules (opening network.now p) ((after network.now steps).parts p).committed) →
         AreCommittedRows network.now steps (gathered (process_count network.now) rows_of) }
-    ensures finished { (steps : List Step) → IsFinished (simulation_of network.now) (after network.now steps) → (rows ordered : List Noted) →
+    ensures finished { (steps : List Step) → IsFinished (simulation_of network.now) (after network.now steps) → (rows ordered : List Row) →
         AreCommittedRows network.now steps rows → AreInMessageOrder ordered → ((m : Message) → rows_of_event m ordered ≡ rows_of_event m rows) →
         AreRowsOf network.now ordered }
 {

@@ -10,7 +10,7 @@ ghost use Rattle.actor_run.specs.Running.{IsExhaustedAt, HasNumbersFrom};
 ghost use Rattle.seqsim.specs.Networks.{AreRowsOf};
 
 use crate::networks::network_laws;
-use actor_run::{SimFault, run_actors};
+use actor_run::{SimFault, Watch, run_actors};
 use netdesc::Network;
 use nodes::Node;
 use std::alloc::{AllocError, Global};
@@ -37,20 +37,21 @@ pub fn nodes_of(alloc: Global, network: &Network) -> Result<Vec<Node>, AllocErro
 }
 
 /// Simulates a network on one thread: the first of all waiting messages is handled, until none waits. The rows are those of the
-/// one-thread run of the law of virtual time, and after it nothing waits.
+/// one-thread run of the law of virtual time, and after it nothing waits. `watch` is shown how far the run is.
 ///
 /// `OutOfMemory` comes only where a growth was refused, and `Exhausted` only where the process whose turn it is has not enough numbers
 /// left for what one event can send. Where that happens anywhere in the run, there is no answer but a fault.
-pub fn run(alloc: Global, network: &Network) -> Result<Finished, SimFault>
+pub fn run<W: Watch>(alloc: Global, network: &Network, watch: &mut W) -> Result<Finished, SimFault>
     ensures whole { IfOk result (λ finished. AreRowsOf network.now finished.rows.items) }
     ensures tables { IfOk result (λ finished. finished.tables ≡ tables_of network.now finished.rows.items) }
     ensures exhausted { result ≡ Err Exhausted → (n : ℕ) × IsExhaustedAt (simulation_of network.now) n }
     ensures numbers { OnOk result (HasNumbersFrom (simulation_of network.now) 0) }
+    ensures watched { W.becomes watch.old watch.new }
 {
     network_laws(network);
     let offers = offers(alloc, network)?;
     let mut nodes = nodes_of(alloc, network)?;
-    let rows = run_actors(alloc, &mut nodes, &offers)?;
+    let rows = run_actors(alloc, &mut nodes, &offers, watch)?;
     let tables = Tables::of(alloc, network, &rows)?;
     Ok(Finished { tables, rows })
 }

@@ -1,6 +1,6 @@
 //! The tables of the run of a network, where its rows are not asked for.
 ghost use Rattle.std.specs.Prelude.{◌≡◌, ℕ, [], List, Err, OnOk, IfOk};
-ghost use Rattle.vlink.specs.declared.note.Row.{Row as Noted};
+ghost use Rattle.vlink.specs.Letters.{Row};
 ghost use Rattle.nodes.specs.rules.Simulation.{simulation_of};
 ghost use Rattle.trace_tables.specs.Tables.{tables_of};
 ghost use Rattle.actor_run.specs.declared.fault.SimFault.TheVariants.{Exhausted};
@@ -10,7 +10,7 @@ ghost use Rattle.seqsim.specs.Networks.{AreRowsOf};
 use crate::counted::Counted;
 use crate::networks::network_laws;
 use crate::simulating::nodes_of;
-use actor_run::{SimFault, Waiting, take_all_turns};
+use actor_run::{SimFault, Waiting, Watch, take_all_turns};
 use netdesc::Network;
 use nodes::Node;
 use std::alloc::Global;
@@ -18,37 +18,45 @@ use trace_tables::Tables;
 use traffic::offers;
 
 /// The messages are handled, one after another, until none waits. Their rows are counted, and not kept.
-fn count_all_turns(
+fn count_all_turns<W: Watch>(
     alloc: Global,
     network: &Network,
     nodes: &mut [Node],
     waiting: &mut Waiting,
+    watch: &mut W,
 ) -> Result<Tables, SimFault>
     requires { StandsAt (simulation_of network.now) 0 nodes.old waiting.old [] }
-    ensures whole { IfOk result (λ tables. (rows : List Noted) × AreRowsOf network.now rows × (tables ≡ tables_of network.now rows)) }
+    ensures whole { IfOk result (λ tables. (rows : List Row) × AreRowsOf network.now rows × (tables ≡ tables_of network.now rows)) }
     ensures exhausted { result ≡ Err Exhausted → (n : ℕ) × IsExhaustedAt (simulation_of network.now) n }
     ensures numbers { OnOk result (HasNumbersFrom (simulation_of network.now) 0) }
+    ensures watched { W.becomes watch.old watch.new }
 {
     network_laws(network);
     let mut counted = Counted::none(alloc, network)?;
-    take_all_turns(nodes, waiting, &mut counted)?;
+    take_all_turns(nodes, waiting, &mut counted, watch)?;
     Ok(counted.into_tables()?)
 }
 
 /// Simulates a network on one thread, as `run` does, where only the tables are asked for: a note is counted as soon as it is found, and
 /// no row of it is kept. The tables are those of the rows of the one-thread run of the law of virtual time, and after it nothing waits.
+/// `watch` is shown how far the run is.
 ///
 /// `OutOfMemory` comes only where a growth was refused, and `Exhausted` only where the process whose turn it is has not enough numbers
 /// left for what one event can send. Where that happens anywhere in the run, there is no answer but a fault.
-pub fn run_tables(alloc: Global, network: &Network) -> Result<Tables, SimFault>
-    ensures whole { IfOk result (λ tables. (rows : List Noted) × AreRowsOf network.now rows × (tables ≡ tables_of network.now rows)) }
-    ensures each { IfOk result (λ tables. (rows : List Noted) → AreRowsOf network.now rows → tables ≡ tables_of network.now rows) }
+pub fn run_tables<W: Watch>(
+    alloc: Global,
+    network: &Network,
+    watch: &mut W,
+) -> Result<Tables, SimFault>
+    ensures whole { IfOk result (λ tables. (rows : List Row) × AreRowsOf network.now rows × (tables ≡ tables_of network.now rows)) }
+    ensures each { IfOk result (λ tables. (rows : List Row) → AreRowsOf network.now rows → tables ≡ tables_of network.now rows) }
     ensures exhausted { result ≡ Err Exhausted → (n : ℕ) × IsExhaustedAt (simulation_of network.now) n }
     ensures numbers { OnOk result (HasNumbersFrom (simulation_of network.now) 0) }
+    ensures watched { W.becomes watch.old watch.new }
 {
     network_laws(network);
     let offers = offers(alloc, network)?;
     let mut nodes = nodes_of(alloc, network)?;
     let mut waiting = Waiting::of_offers(alloc, offers, nodes.len())?;
-    count_all_turns(alloc, network, &mut nodes, &mut waiting)
+    count_all_turns(alloc, network, &mut nodes, &mut waiting, watch)
 }

@@ -1,8 +1,7 @@
 -- Beginnings of a list of steps.
 use Rattle.std.proofs.Common.{◌≡◌, ℕ, zero, suc, ◌≤◌, List, [], ◌∷◌, ◌++◌, take, drop, refl, sym, ap, subst, arith}
-use Rattle.virtual_time.specs.Lists.{earlier}
-use Rattle.virtual_time.specs.Safe.{history}
-use Rattle.virtual_time.specs.World.{Step}
+use Rattle.virtual_time.specs.Law.{earlier, history}
+use Rattle.virtual_time.specs.declared.step.Step.{Step}
 use Rattle.netdesc.specs.Plan.{Plan}
 use Rattle.nodes.specs.rules.Simulation.{simulation_of}
 use Rattle.seqsim.specs.Committed.{after}
@@ -22,12 +21,12 @@ beginnings-rise plan law xs n m h =
 
 -- and what was below it then is the same after the longer one
 pub beginnings-stay : (plan : Plan) → ((steps more : List Step) (p : ℕ) →
-    earlier (simulation_of plan).rules (after plan steps).gvt (history (simulation_of plan) (after plan (steps ++ more)) p)
-    ≡ earlier (simulation_of plan).rules (after plan steps).gvt (history (simulation_of plan) (after plan steps) p)) →
+    earlier (simulation_of plan).rules.order (after plan steps).gvt (history (simulation_of plan) (after plan (steps ++ more)) p)
+    ≡ earlier (simulation_of plan).rules.order (after plan steps).gvt (history (simulation_of plan) (after plan steps) p)) →
     (xs : List Step) (n m : ℕ) → n ≤ m → (p : ℕ) →
-    earlier (simulation_of plan).rules (after plan (take n xs)).gvt (history (simulation_of plan) (after plan (take m xs)) p)
-    ≡ earlier (simulation_of plan).rules (after plan (take n xs)).gvt (history (simulation_of plan) (after plan (take n xs)) p)
+    earlier (simulation_of plan).rules.order (after plan (take n xs)).gvt (history (simulation_of plan) (after plan (take m xs)) p)
+    ≡ earlier (simulation_of plan).rules.order (after plan (take n xs)).gvt (history (simulation_of plan) (after plan (take n xs)) p)
 beginnings-stay plan law xs n m h p =
-    subst (λ (ys : List Step). earlier (simulation_of plan).rules (after plan (take n xs)).gvt (history (simulation_of plan) (after plan ys) p)
-    ≡ earlier (simulation_of plan).rules (after plan (take n xs)).gvt (history (simulation_of plan) (after plan (take n xs)) p))
+    subst (λ (ys : List Step). earlier (simulation_of plan).rules.order (after plan (take n xs)).gvt (history (simulation_of plan) (after plan ys) p)
+    ≡ earlier (simulation_of plan).rules.order (after plan (take n xs)).gvt (history (simulation_of plan) (after plan (take n xs)) p))
     (sym (beginning-more n m xs h)) (law (take n xs) (drop n (take m xs)) p)

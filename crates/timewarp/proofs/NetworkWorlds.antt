@@ -2,11 +2,8 @@
 use Rattle.std.proofs.Common.{◌≡◌, ◌≢◌, ◌↔◌, ◌++◌, ℕ, ◌<◌, ◌≤◌, inl, inr, true, List, [], ◌∷◌, Result, Ok, Err, OnOk, OnErr, IfOk, length, refl, sym, ap, subst, arith}
 use Rattle.std.specs.Prelude.{is_ok, Option, Some, None, IfSome, IsNone}
 use Rattle.std.proofs.lemmas.Bool.{false≢true, cases_lt}
-use Rattle.virtual_time.specs.Simulation.{Simulation}
-use Rattle.virtual_time.specs.OneThread.{IsLeft}
-use Rattle.virtual_time.specs.Part.{undo_all}
-use Rattle.virtual_time.specs.Safe.{Safe}
-use Rattle.virtual_time.specs.World.{World, Step, start, step, run, is_enabled}
+use Rattle.virtual_time.specs.Law.{Simulation, IsLeft, undo_all, Safe, World, start, step, run, is_enabled}
+use Rattle.virtual_time.specs.declared.step.Step.{Step}
 use Rattle.reverse.specs.Setting.{IsLaidOut}
 use Rattle.netdesc.specs.Plan.{Plan}
 use Rattle.nodes.specs.declared.node.NodeRecord.{NodeRecord}

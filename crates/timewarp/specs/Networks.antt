@@ -1,6 +1,6 @@
 -- The worlds of a network that a program holds.
 use Rattle.std.specs.Prelude.{List}
-use Rattle.virtual_time.specs.World.{Step}
+use Rattle.virtual_time.specs.declared.step.Step.{Step}
 use Rattle.netdesc.specs.Plan.{Plan}
 use Rattle.nodes.specs.declared.node.NodeRecord.{NodeRecord}
 use Rattle.nodes.specs.rules.Node.{NodeState}

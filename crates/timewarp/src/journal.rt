@@ -1,12 +1,9 @@
 //! Journals: all their steps in order, and what holds of them.
 ghost use Rattle.std.specs.Prelude.{◌≡◌, ◌≢◌, ◌≤◌, ◌+◌, ℕ, map, take, Err, IfOk, OnOk, slice_get, Some, length};
 ghost use Rattle.vlink.specs.declared.message.Message.{Message};
-ghost use Rattle.vlink.specs.declared.step.Step.{Step as Noted};
-ghost use Rattle.virtual_time.specs.Lists.{earlier};
-ghost use Rattle.virtual_time.specs.World.{start};
-ghost use Rattle.virtual_time.specs.Safe.{Safe, history, CountLaw, IsFinished, IsWhole};
+ghost use Rattle.virtual_time.specs.declared.step.Step.{Step};
+ghost use Rattle.virtual_time.specs.Law.{earlier, start, Safe, history, CountLaw, IsFinished, IsWhole};
 ghost use Rattle.nodes.specs.rules.Simulation.{simulation_of};
-ghost use Rattle.antimessages.specs.Steps.{step_of};
 ghost use Rattle.actor_world.specs.declared.fault.StepFault.TheVariants.{NoProcess, Exhausted};
 ghost use Rattle.actor_world.specs.Worlds.{IsExhausted};
 ghost use Rattle.seqsim.specs.Committed.{after};
@@ -31,26 +28,26 @@ use vlink::Step;
 /// never falls; and messages and antimessages balance. A run that is finished has the events and the rows of the whole one-thread run.
 pub fn replay(alloc: Global, network: Network, steps: &[Step]) -> Result<Replay, StepFault>
     ensures network { IfOk result (λ replay. replay.world.plan ≡ network) }
-    ensures after { IfOk result (λ replay. IsAfter replay.world (map step_of steps.now)) }
+    ensures after { IfOk result (λ replay. IsAfter replay.world steps.now) }
     ensures did { IfOk result (λ replay. replay.did ≡ did (simulation_of network) steps.now (start (simulation_of network))) }
     ensures not_enabled { IfOk result (λ replay. replay.not_enabled ≡ not_enabled (simulation_of network) steps.now (start (simulation_of network))) }
     ensures refused { IfOk result (λ replay. replay.refused ≡ refused (simulation_of network) steps.now) }
     ensures all { IfOk result (λ replay. replay.did + replay.not_enabled + replay.refused ≡ length steps.now) }
-    ensures safe { (n : ℕ) → Safe (simulation_of network) (after network (take n (map step_of steps.now))) }
-    ensures rises { (n m : ℕ) → n ≤ m → (after network (take n (map step_of steps.now))).gvt ≤ (after network (take m (map step_of steps.now))).gvt }
+    ensures safe { (n : ℕ) → Safe (simulation_of network) (after network (take n steps.now)) }
+    ensures rises { (n m : ℕ) → n ≤ m → (after network (take n steps.now)).gvt ≤ (after network (take m steps.now)).gvt }
     ensures never_undone { (n m : ℕ) → n ≤ m → (p : ℕ) →
-        earlier (simulation_of network).rules (after network (take n (map step_of steps.now))).gvt
-        (history (simulation_of network) (after network (take m (map step_of steps.now))) p)
-        ≡ earlier (simulation_of network).rules (after network (take n (map step_of steps.now))).gvt
-        (history (simulation_of network) (after network (take n (map step_of steps.now))) p) }
-    ensures whole { (n : ℕ) → IsFinished (simulation_of network) (after network (take n (map step_of steps.now))) →
-        IsWhole (simulation_of network) (after network (take n (map step_of steps.now))) }
-    ensures balances { (n : ℕ) (m : Message) → CountLaw (simulation_of network) (after network (take n (map step_of steps.now))) m }
+        earlier (simulation_of network).rules.order (after network (take n steps.now)).gvt
+        (history (simulation_of network) (after network (take m steps.now)) p)
+        ≡ earlier (simulation_of network).rules.order (after network (take n steps.now)).gvt
+        (history (simulation_of network) (after network (take n steps.now)) p) }
+    ensures whole { (n : ℕ) → IsFinished (simulation_of network) (after network (take n steps.now)) →
+        IsWhole (simulation_of network) (after network (take n steps.now)) }
+    ensures balances { (n : ℕ) (m : Message) → CountLaw (simulation_of network) (after network (take n steps.now)) m }
     ensures known { result ≢ Err NoProcess }
-    ensures exhausted { result ≡ Err Exhausted → (n : ℕ) × (x : Noted) × (slice_get steps.now n ≡ Some x) ×
-        IsExhausted (simulation_of network) (step_of x) (after network (take n (map step_of steps.now))) }
-    ensures numbered { OnOk result ((n : ℕ) (x : Noted) → slice_get steps.now n ≡ Some x →
-        ¬ (IsExhausted (simulation_of network) (step_of x) (after network (take n (map step_of steps.now))))) }
+    ensures exhausted { result ≡ Err Exhausted → (n : ℕ) × (x : Step) × (slice_get steps.now n ≡ Some x) ×
+        IsExhausted (simulation_of network) x (after network (take n steps.now)) }
+    ensures numbered { OnOk result ((n : ℕ) (x : Step) → slice_get steps.now n ≡ Some x →
+        ¬ (IsExhausted (simulation_of network) x (after network (take n steps.now)))) }
 {
     world_laws(&network);
     let mut replay = Replay::new(alloc, network)?;

@@ -1,13 +1,8 @@
 //! What holds of every run of a network, whatever its steps.
 ghost use Rattle.std.specs.Prelude.{ℕ, ◌≡◌, ◌<◌, ◌≤◌, List, ◌++◌};
 ghost use Rattle.vlink.specs.declared.message.Message.{Message};
-ghost use Rattle.virtual_time.specs.Rules.{rowed};
-ghost use Rattle.virtual_time.specs.Lists.{IsAscending, IsIn, earlier, times_in};
-ghost use Rattle.virtual_time.specs.Simulation.{made};
-ghost use Rattle.virtual_time.specs.OneThread.{IsBelow, one, events, rows_at};
-ghost use Rattle.virtual_time.specs.Letters.{IsNamed};
-ghost use Rattle.virtual_time.specs.World.{Step};
-ghost use Rattle.virtual_time.specs.Safe.{Safe, history, CountLaw, NothingBefore, IsFinished, IsWhole};
+ghost use Rattle.virtual_time.specs.Law.{rowed, rows_at, IsAscending, IsIn, earlier, times_in, made, IsBelow, one, events, IsNamed, Safe, history, CountLaw, NothingBefore, IsFinished, IsWhole};
+ghost use Rattle.virtual_time.specs.declared.step.Step.{Step};
 ghost use Rattle.netdesc.specs.Faults.{process_count};
 ghost use Rattle.nodes.specs.rules.Opening.{opening};
 ghost use Rattle.nodes.specs.rules.Simulation.{simulation_of};
@@ -41,23 +36,23 @@ pub fn world_laws(network: &Network)
     ensures counts { (steps : List Step) (m : Message) → CountLaw (simulation_of network.now) (after network.now steps) m }
     ensures once { (steps : List Step) (m : Message) → made (simulation_of network.now) (history (simulation_of network.now) (after network.now steps)) m ≤ 1 }
     ensures handled_once { (steps : List Step) (p : ℕ) (m : Message) →
-        times_in (simulation_of network.now).rules m (history (simulation_of network.now) (after network.now steps) p) ≤ 1 }
+        times_in (simulation_of network.now).rules.order m (history (simulation_of network.now) (after network.now steps) p) ≤ 1 }
     ensures seen { (steps : List Step) (g : ℕ) → g ≤ (after network.now steps).gvt → (p : ℕ) → IsBelow (simulation_of network.now) p g
-        (earlier (simulation_of network.now).rules g (history (simulation_of network.now) (after network.now steps) p)) }
+        (earlier (simulation_of network.now).rules.order g (history (simulation_of network.now) (after network.now steps) p)) }
     ensures rises { (steps more : List Step) → (after network.now steps).gvt ≤ (after network.now (steps ++ more)).gvt }
     ensures never_undone { (steps more : List Step) (p : ℕ) →
-        earlier (simulation_of network.now).rules (after network.now steps).gvt (history (simulation_of network.now) (after network.now (steps ++ more)) p)
-        ≡ earlier (simulation_of network.now).rules (after network.now steps).gvt (history (simulation_of network.now) (after network.now steps) p) }
+        earlier (simulation_of network.now).rules.order (after network.now steps).gvt (history (simulation_of network.now) (after network.now (steps ++ more)) p)
+        ≡ earlier (simulation_of network.now).rules.order (after network.now steps).gvt (history (simulation_of network.now) (after network.now steps) p) }
     ensures ascend { (steps : List Step) (p : ℕ) →
-        IsAscending (simulation_of network.now).rules (history (simulation_of network.now) (after network.now steps) p) }
+        IsAscending (simulation_of network.now).rules.order (history (simulation_of network.now) (after network.now steps) p) }
     ensures committed_early { (steps : List Step) (p : ℕ) (m : Message) →
-        IsIn (simulation_of network.now).rules m ((after network.now steps).parts p).committed → m.time < (after network.now steps).gvt }
+        IsIn (simulation_of network.now).rules.order m ((after network.now steps).parts p).committed → m.time < (after network.now steps).gvt }
     ensures floors { (steps : List Step) (p : ℕ) → p < process_count network.now →
         NothingBefore (simulation_of network.now) ((after network.now steps).floors p) ((after network.now steps).parts p) }
     ensures gvt_low { (steps : List Step) (p : ℕ) → p < process_count network.now → (after network.now steps).gvt ≤ (after network.now steps).floors p }
     ensures outboxes { (steps : List Step) (p : ℕ) (m : Message) →
-        IsNamed (simulation_of network.now).rules m ((after network.now steps).parts p).outbox → m.receiver < process_count network.now }
-    ensures rows { (turns p : ℕ) → rows_at (simulation_of network.now) p (one (simulation_of network.now) turns).rows
+        IsNamed (simulation_of network.now).rules.order m ((after network.now steps).parts p).outbox → m.receiver < process_count network.now }
+    ensures rows { (turns p : ℕ) → rows_at p (one (simulation_of network.now) turns).rows
         ≡ rowed (simulation_of network.now).rules (opening network.now p) (events (simulation_of network.now) turns p) }
     ensures whole { (steps : List Step) → IsFinished (simulation_of network.now) (after network.now steps) →
         IsWhole (simulation_of network.now) (after network.now steps) }

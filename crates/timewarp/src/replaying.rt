@@ -1,13 +1,10 @@
 //! What a replay has found, step by step.
 ghost use Rattle.std.specs.Prelude.{◌≡◌, ◌≢◌, ◌↔◌, ◌<◌, ◌≤◌, ◌+◌, ◌^◌, ℕ, true, List, ◌∷◌, ◌++◌, [], map, Err, IsOk, OnOk, OnErr, IfOk, IfErr};
 ghost use Rattle.vlink.specs.declared.message.Message.{Message};
-ghost use Rattle.vlink.specs.declared.step.Step.{Step as Noted};
-ghost use Rattle.vlink.specs.declared.step.Step.TheVariants.{Gvt as NotedGvt};
-ghost use Rattle.virtual_time.specs.Lists.{earlier};
-ghost use Rattle.virtual_time.specs.World.{Step as Stepped, is_enabled};
-ghost use Rattle.virtual_time.specs.Safe.{Safe, history, CountLaw, IsFinished, IsWhole};
+ghost use Rattle.virtual_time.specs.declared.step.Step.{Step};
+ghost use Rattle.virtual_time.specs.declared.step.Step.TheVariants.{Gvt};
+ghost use Rattle.virtual_time.specs.Law.{earlier, is_enabled, Safe, history, CountLaw, IsFinished, IsWhole};
 ghost use Rattle.nodes.specs.rules.Simulation.{simulation_of};
-ghost use Rattle.antimessages.specs.Steps.{step_of};
 ghost use Rattle.actor_world.specs.declared.fault.StepFault.TheVariants.{NoProcess, OutOfMemory, Exhausted};
 ghost use Rattle.actor_world.specs.Worlds.{IsExhausted};
 ghost use Rattle.seqsim.specs.Committed.{after};
@@ -42,13 +39,13 @@ impl Replay {
         ensures replayed { IfOk result (λ replay. IsReplayed replay []) }
         ensures counted { IfOk result (λ replay. replay.did + replay.not_enabled + replay.refused ≡ 0) }
         ensures memory { IfErr result (λ fault. fault ≡ OutOfMemory) }
-        ensures safe { (steps : List Stepped) → Safe (simulation_of network) (after network steps) }
-        ensures rises { (steps more : List Stepped) → (after network steps).gvt ≤ (after network (steps ++ more)).gvt }
-        ensures never_undone { (steps more : List Stepped) (p : ℕ) →
-            earlier (simulation_of network).rules (after network steps).gvt (history (simulation_of network) (after network (steps ++ more)) p)
-            ≡ earlier (simulation_of network).rules (after network steps).gvt (history (simulation_of network) (after network steps) p) }
-        ensures whole { (steps : List Stepped) → IsFinished (simulation_of network) (after network steps) → IsWhole (simulation_of network) (after network steps) }
-        ensures balances { (steps : List Stepped) (m : Message) → CountLaw (simulation_of network) (after network steps) m }
+        ensures safe { (steps : List Step) → Safe (simulation_of network) (after network steps) }
+        ensures rises { (steps more : List Step) → (after network steps).gvt ≤ (after network (steps ++ more)).gvt }
+        ensures never_undone { (steps more : List Step) (p : ℕ) →
+            earlier (simulation_of network).rules.order (after network steps).gvt (history (simulation_of network) (after network (steps ++ more)) p)
+            ≡ earlier (simulation_of network).rules.order (after network steps).gvt (history (simulation_of network) (after network steps) p) }
+        ensures whole { (steps : List Step) → IsFinished (simulation_of network) (after network steps) → IsWhole (simulation_of network) (after network steps) }
+        ensures balances { (steps : List Step) (m : Message) → CountLaw (simulation_of network) (after network steps) m }
     {
         world_laws(&network);
         let world = World::new(alloc, network)?;
@@ -66,16 +63,16 @@ impl Replay {
     /// counts as they were.
     pub fn do_step(&mut self, step: Step) -> Result<(), StepFault>
         requires { self.old.did + self.old.not_enabled + self.old.refused < 2 ^ 63 }
-        ensures replayed { OnOk result ((steps : List Noted) → IsReplayed self.old steps → IsReplayed self.new (steps ++ step ∷ [])) }
+        ensures replayed { OnOk result ((steps : List Step) → IsReplayed self.old steps → IsReplayed self.new (steps ++ step ∷ [])) }
         ensures counted { OnOk result (self.new.did + self.new.not_enabled + self.new.refused ≡ self.old.did + self.old.not_enabled + self.old.refused + 1) }
         ensures network { self.new.world.plan ≡ self.old.world.plan }
-        ensures refused { OnErr result ((steps : List Noted) → IsReplayed self.old steps → IsReplayed self.new steps) }
+        ensures refused { OnErr result ((steps : List Step) → IsReplayed self.old steps → IsReplayed self.new steps) }
         ensures known { result ≢ Err NoProcess }
-        ensures exhausted { (steps : List Noted) → IsReplayed self.old steps → (result ≡ Err Exhausted)
-            ↔ IsExhausted (simulation_of self.old.world.plan) (step_of step) (after self.old.world.plan (map step_of steps)) }
-        ensures memory { result ≡ Err OutOfMemory → (steps : List Noted) → IsReplayed self.old steps →
-            is_enabled (simulation_of self.old.world.plan) (step_of step) (after self.old.world.plan (map step_of steps)) ≡ true }
-        ensures gvt { step ≡ NotedGvt → IsOk result }
+        ensures exhausted { (steps : List Step) → IsReplayed self.old steps → (result ≡ Err Exhausted)
+            ↔ IsExhausted (simulation_of self.old.world.plan) step (after self.old.world.plan steps) }
+        ensures memory { result ≡ Err OutOfMemory → (steps : List Step) → IsReplayed self.old steps →
+            is_enabled (simulation_of self.old.world.plan) step (after self.old.world.plan steps) ≡ true }
+        ensures gvt { step ≡ Gvt → IsOk result }
     {
         match self.world.step(step) {
             Ok(Done::Did) => {

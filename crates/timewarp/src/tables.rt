@@ -1,8 +1,8 @@
 //! The tables of what is committed.
 ghost use Rattle.std.specs.Prelude.{◌≡◌, ℕ, List, map, IfOk, IfErr};
-ghost use Rattle.vlink.specs.declared.note.Row.{Row as Noted};
-ghost use Rattle.virtual_time.specs.World.{Step as Stepped};
-ghost use Rattle.virtual_time.specs.Safe.{IsFinished};
+ghost use Rattle.vlink.specs.Letters.{Row};
+ghost use Rattle.virtual_time.specs.declared.step.Step.{Step};
+ghost use Rattle.virtual_time.specs.Law.{IsFinished};
 ghost use Rattle.nodes.specs.rules.Simulation.{simulation_of};
 ghost use Rattle.trace_tables.specs.Tables.{tables_of};
 ghost use Rattle.seqsim.specs.Networks.{AreRowsOf};
@@ -20,8 +20,8 @@ use trace_tables::{Tables, TablesSoFar, tables_by_place};
 impl World {
     /// The tables of the rows of all committed events, counted process by process.
     fn committed_tables(&self, alloc: Global) -> Result<Tables, AllocError>
-        ensures { IfOk result (λ tables. (rows : List Noted) × (tables ≡ tables_of self.now.plan rows) ×
-            ((steps : List Stepped) → IsAfter self.now steps → AreCommittedRows self.now.plan steps rows)) }
+        ensures { IfOk result (λ tables. (rows : List Row) × (tables ≡ tables_of self.now.plan rows) ×
+            ((steps : List Step) → IsAfter self.now steps → AreCommittedRows self.now.plan steps rows)) }
     {
         network_layout(&self.network);
         network_laws(&self.network);
@@ -35,11 +35,11 @@ impl World {
     /// The tables of the committed events. In a finished world they are those of the one-thread run. It fails only where memory is
     /// refused.
     pub fn tables(&self, alloc: Global) -> Result<Tables, StepFault>
-        ensures sealed { IfOk result (λ tables. (steps : List Stepped) → IsAfter self.now steps → (rows : List Noted) →
+        ensures sealed { IfOk result (λ tables. (steps : List Step) → IsAfter self.now steps → (rows : List Row) →
             AreCommittedRows self.now.plan steps rows → tables ≡ tables_of self.now.plan rows) }
-        ensures rows { (steps : List Stepped) → IsAfter self.now steps → IfOk result (λ tables. (rows : List Noted) × AreCommittedRows self.now.plan steps rows) }
-        ensures whole { IfOk result (λ tables. (steps : List Stepped) → IsAfter self.now steps →
-            IsFinished (simulation_of self.now.plan) (after self.now.plan steps) → (rows : List Noted) → AreRowsOf self.now.plan rows →
+        ensures rows { (steps : List Step) → IsAfter self.now steps → IfOk result (λ tables. (rows : List Row) × AreCommittedRows self.now.plan steps rows) }
+        ensures whole { IfOk result (λ tables. (steps : List Step) → IsAfter self.now steps →
+            IsFinished (simulation_of self.now.plan) (after self.now.plan steps) → (rows : List Row) → AreRowsOf self.now.plan rows →
             tables ≡ tables_of self.now.plan rows) }
         ensures memory { IfErr result (λ fault. fault ≡ OutOfMemory) }
     {

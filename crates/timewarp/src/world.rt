@@ -1,13 +1,10 @@
 //! The world of a network.
 ghost use Rattle.std.specs.Prelude.{◌≡◌, ◌≢◌, ◌↔◌, ◌≤◌, ◌<◌, ℕ, true, [], ◌∷◌, ◌++◌, List, length, slice_get, None, Ok, Err, IsTrue, IsNone, IfOk, IfErr, OnOk, OnErr, IfSome};
 ghost use Rattle.std.specs.Option.{option_map};
-ghost use Rattle.vlink.specs.declared.step.Step.TheVariants.{Gvt as NotedGvt};
-ghost use Rattle.virtual_time.specs.OneThread.{IsLeft};
-ghost use Rattle.virtual_time.specs.Part.{undo_all};
-ghost use Rattle.virtual_time.specs.World.{Step as Stepped, is_enabled};
-ghost use Rattle.virtual_time.specs.Safe.{IsFinished};
-ghost use Rattle.antimessages.specs.Letters.{signed};
-ghost use Rattle.antimessages.specs.Steps.{step_of, names_none};
+ghost use Rattle.virtual_time.specs.declared.step.Step.TheVariants.{Gvt};
+ghost use Rattle.virtual_time.specs.Law.{IsLeft, undo_all, is_enabled, IsFinished};
+ghost use Rattle.virtual_time.specs.declared.step.Step.{Step};
+ghost use Rattle.antimessages.specs.Steps.{names_none};
 ghost use Rattle.netdesc.specs.Faults.{process_count};
 ghost use Rattle.nodes.specs.rules.Opening.{opening};
 ghost use Rattle.nodes.specs.rules.Simulation.{simulation_of};
@@ -38,7 +35,7 @@ pub struct World {
 
 impl Model for World {
     ghost use Rattle.std.specs.Prelude.{List};
-    ghost use Rattle.virtual_time.specs.World.{Step};
+    ghost use Rattle.virtual_time.specs.declared.step.Step.{Step};
     ghost use Rattle.timewarp.specs.Networks.{NetworkWorld, IsAfter};
 
     ghost Value = { NetworkWorld };
@@ -70,17 +67,17 @@ impl World {
     /// not enough numbers left for what one event can send.
     pub fn step(&mut self, step: Step) -> Result<Done, StepFault>
         ensures network { self.new.plan ≡ self.old.plan }
-        ensures after { OnOk result ((steps : List Stepped) → IsAfter self.old steps → IsAfter self.new (steps ++ step_of step ∷ [])) }
-        ensures refused { OnErr result ((steps : List Stepped) → IsAfter self.old steps → IsAfter self.new steps) }
-        ensures enabled { IfOk result (λ done. (steps : List Stepped) → IsAfter self.old steps →
-            (done ≡ Did) ↔ (is_enabled (simulation_of self.old.plan) (step_of step) (after self.old.plan steps) ≡ true)) }
+        ensures after { OnOk result ((steps : List Step) → IsAfter self.old steps → IsAfter self.new (steps ++ step ∷ [])) }
+        ensures refused { OnErr result ((steps : List Step) → IsAfter self.old steps → IsAfter self.new steps) }
+        ensures enabled { IfOk result (λ done. (steps : List Step) → IsAfter self.old steps →
+            (done ≡ Did) ↔ (is_enabled (simulation_of self.old.plan) step (after self.old.plan steps) ≡ true)) }
         ensures unchanged { result ≢ Ok Did → HoldsTheSame self.old.held self.new.held }
         ensures no_process { (result ≡ Err NoProcess) ↔ (names_none (process_count self.old.plan) step ≡ true) }
-        ensures exhausted { (steps : List Stepped) → IsAfter self.old steps →
-            (result ≡ Err Exhausted) ↔ IsExhausted (simulation_of self.old.plan) (step_of step) (after self.old.plan steps) }
-        ensures memory { result ≡ Err OutOfMemory → (steps : List Stepped) → IsAfter self.old steps →
-            is_enabled (simulation_of self.old.plan) (step_of step) (after self.old.plan steps) ≡ true }
-        ensures gvt { step ≡ NotedGvt → result ≡ Ok Did }
+        ensures exhausted { (steps : List Step) → IsAfter self.old steps →
+            (result ≡ Err Exhausted) ↔ IsExhausted (simulation_of self.old.plan) step (after self.old.plan steps) }
+        ensures memory { result ≡ Err OutOfMemory → (steps : List Step) → IsAfter self.old steps →
+            is_enabled (simulation_of self.old.plan) step (after self.old.plan steps) ≡ true }
+        ensures gvt { step ≡ Gvt → result ≡ Ok Did }
     {
         network_layout(&self.network);
         self.actors.step(step)
@@ -89,7 +86,7 @@ impl World {
     /// The law of a world: what is held is the world of its network after some steps, so that a caller who was handed one can use the
     /// clauses on a world after steps. A call does nothing: its caller learns what the clause says.
     pub fn lawful(&self)
-        ensures { (steps : List Stepped) × IsAfter self.now steps }
+        ensures { (steps : List Step) × IsAfter self.now steps }
     {
         let _ = &self.network;
     }
@@ -103,14 +100,14 @@ impl World {
 
     /// GVT: the moment below which nothing is undone any more.
     pub fn gvt(&self) -> Time
-        ensures { (steps : List Stepped) → IsAfter self.now steps → result ≡ (after self.now.plan steps).gvt }
+        ensures { (steps : List Step) → IsAfter self.now steps → result ≡ (after self.now.plan steps).gvt }
     {
         self.actors.gvt()
     }
 
     /// Whether the run is finished: GVT is past the end, and every done event is committed.
     pub fn is_finished(&self) -> bool
-        ensures { (steps : List Stepped) → IsAfter self.now steps → IsTrue result ↔ IsFinished (simulation_of self.now.plan) (after self.now.plan steps) }
+        ensures { (steps : List Step) → IsAfter self.now steps → IsTrue result ↔ IsFinished (simulation_of self.now.plan) (after self.now.plan steps) }
     {
         network_layout(&self.network);
         let is_over = self.gvt().ns() == self.network.until().ns() + 1;
@@ -120,8 +117,8 @@ impl World {
     /// The letter number `place`, from 0, of the mail of process `process`: the one that the step Take would take. None where there is
     /// none, or no such process.
     pub fn look(&self, process: u32, place: u32) -> Option<Letter>
-        ensures letter { process < process_count self.now.plan → (steps : List Stepped) → IsAfter self.now steps →
-            option_map signed result ≡ slice_get ((after self.now.plan steps).mail process) place }
+        ensures letter { process < process_count self.now.plan → (steps : List Step) → IsAfter self.now steps →
+            result ≡ slice_get ((after self.now.plan steps).mail process) place }
         ensures none { process_count self.now.plan ≤ process → result ≡ None }
     {
         network_layout(&self.network);
@@ -133,9 +130,9 @@ impl World {
     /// that were committed.
     pub fn undo_all(self, process: u32) -> Option<Node>
         ensures none { IsNone result ↔ (process_count self.plan ≤ process) }
-        ensures undone { IfSome result (λ node. (steps : List Stepped) → IsAfter self steps →
+        ensures undone { IfSome result (λ node. (steps : List Step) → IsAfter self steps →
             node ≡ undo_all (simulation_of self.plan).rules (opening self.plan process) ((after self.plan steps).parts process)) }
-        ensures left { IfSome result (λ node. (steps : List Stepped) → IsAfter self steps →
+        ensures left { IfSome result (λ node. (steps : List Step) → IsAfter self steps →
             IsLeft (simulation_of self.plan) process (length ((after self.plan steps).parts process).committed) node) }
     {
         network_layout(&self.network);

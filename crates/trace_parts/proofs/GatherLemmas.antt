@@ -5,8 +5,9 @@ use Rattle.std.proofs.lemmas.Bool.{cases_lt}
 use Rattle.std.proofs.lemmas.List.{append-nil}
 use Rattle.std.proofs.lemmas.List.Elements.{filter-append, filter_passes, recursion_from_All, All-weaker, All-same}
 use Rattle.std.proofs.lemmas.Map.Views.{exact_unsigned_eq}
-use Rattle.vlink.specs.declared.note.Row.{Row}
-use Rattle.trace_parts.specs.Places.{rows_at, gathered}
+use Rattle.virtual_time.specs.Law.{rows_at}
+use Rattle.vlink.specs.Letters.{Row}
+use Rattle.trace_parts.specs.Places.{gathered}
 
 -- the rows are of this process
 abbrev pub AreAt : ℕ → List Row → Type 0

@@ -4,7 +4,7 @@ use Rattle.std.specs.Prelude.{nat_lt, slice_set, map, drop}
 use Rattle.std.specs.List.{flat_map, range_with_len, repeat}
 use Rattle.std.proofs.lemmas.Bool.{cases_lt}
 use Rattle.std.proofs.lemmas.List.{length-map, length-set}
-use Rattle.vlink.specs.declared.note.Row.{Row}
+use Rattle.vlink.specs.Letters.{Row}
 use Rattle.trace_parts.specs.Places.{gathered}
 use Rattle.trace_parts.specs.Gathered.{parts_from, AreOfRows}
 use Rattle.trace_parts.specs.Gathering.{parts_at, with_part, are_all_there, first_of, first_rows}

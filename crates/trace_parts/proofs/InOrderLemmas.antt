@@ -9,10 +9,11 @@ use Rattle.std.specs.Ordering.{is_eq, is_lt}
 use Rattle.std.proofs.lemmas.Bool.{cases_lt}
 use Rattle.std.proofs.lemmas.List.Kept.{IsSortedBy-filter}
 use Rattle.std.proofs.lemmas.List.Sorted.{ranks_by, sorted_far}
+use Rattle.virtual_time.specs.Law.{rows_at}
 use Rattle.vlink.specs.declared.message.Message.{Message}
-use Rattle.vlink.specs.declared.note.Row.{Row}
 use Rattle.vlink.specs.Order.{message_cmp}
-use Rattle.trace_parts.specs.Places.{rows_at, gathered}
+use Rattle.vlink.specs.Letters.{Row}
+use Rattle.trace_parts.specs.Places.{gathered}
 use Rattle.trace_parts.specs.Intervals.{cut, interval_count, rows_within, rows_before, rows_from}
 use Rattle.trace_parts.specs.Ordered.{AreInMessageOrder, AreAtReceivers, IsInOrder, rows_of_event}
 use Rattle.trace_parts.proofs.GatherLemmas.{filter-gathered, same-gathered}

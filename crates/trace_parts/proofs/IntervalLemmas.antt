@@ -2,8 +2,8 @@
 use Rattle.std.proofs.Common.{◌≡◌, ℕ, ◌+◌, ◌*◌, ◌<◌, ◌≤◌, ◌==◌, Bool, true, false, cond, List, [], ◌∷◌, refl, ap, arith}
 use Rattle.std.specs.Prelude.{◌&&◌, nat_le, nat_lt}
 use Rattle.std.specs.List.{filter}
-use Rattle.vlink.specs.declared.note.Row.{Row}
-use Rattle.trace_parts.specs.Places.{rows_at}
+use Rattle.virtual_time.specs.Law.{rows_at}
+use Rattle.vlink.specs.Letters.{Row}
 use Rattle.trace_parts.specs.Intervals.{interval_width, interval_count, cut, HasInterval, rows_within}
 use Rattle.trace_parts.specs.Parts.{is_at_within}
 

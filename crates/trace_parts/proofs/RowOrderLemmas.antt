@@ -14,11 +14,11 @@ use Rattle.std.proofs.lemmas.Fn.{always_returns_same}
 use Rattle.std.proofs.lemmas.List.Elements.{recursion_from_All, filter_agree}
 use Rattle.std.proofs.lemmas.List.Kept.{IsSortedBy-filter}
 use Rattle.std.proofs.lemmas.List.Sorted.{ranks_by}
+use Rattle.virtual_time.specs.Law.{rows_at}
 use Rattle.vlink.specs.declared.message.Message.{Message}
 use Rattle.vlink.specs.declared.note.Note.TheVariants.{Delivered}
-use Rattle.vlink.specs.declared.note.Row.{Row}
 use Rattle.vlink.specs.Order.{message_cmp}
-use Rattle.trace_parts.specs.Places.{rows_at}
+use Rattle.vlink.specs.Letters.{Row}
 use Rattle.trace_parts.specs.Ordered.{AreInMessageOrder, rows_of_event, AreAtReceivers}
 use Rattle.trace_parts.proofs.SortedLemmas.{filters-swap, filter-narrower, one-sorted}
 

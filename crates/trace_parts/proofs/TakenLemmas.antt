@@ -3,7 +3,7 @@ use Rattle.std.proofs.Common.{◌≡◌, ◌∙◌, ℕ, ◌+◌, ◌<◌, ◌==
 use Rattle.std.specs.Prelude.{◌||◌, nat_le, Option, Some, None}
 use Rattle.std.proofs.lemmas.Grind.{common_steps}
 use Rattle.std.proofs.lemmas.List.{length-set}
-use Rattle.vlink.specs.declared.note.Row.{Row}
+use Rattle.vlink.specs.Letters.{Row}
 use Rattle.trace_parts.specs.declared.part_fault.PartFault.{PartFault}
 use Rattle.trace_parts.specs.declared.part_fault.PartFault.TheVariants.{Stranger}
 use Rattle.trace_parts.specs.Places.{gathered}

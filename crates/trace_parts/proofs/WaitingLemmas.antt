@@ -5,7 +5,7 @@ use Rattle.std.specs.List.{flat_map, repeat}
 use Rattle.std.proofs.lemmas.List.{append-nil, take_more}
 use Rattle.std.proofs.lemmas.Grind.{flat_map-append}
 use Rattle.std.proofs.Math.Seq.{take-append_seam}
-use Rattle.vlink.specs.declared.note.Row.{Row}
+use Rattle.vlink.specs.Letters.{Row}
 use Rattle.trace_parts.specs.Gathering.{parts_at, with_part, are_all_there, AreFew}
 
 -- one more of the same

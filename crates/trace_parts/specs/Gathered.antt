@@ -1,7 +1,7 @@
 -- Parts that wait, where each process's parts have the rows that it has.
 use Rattle.std.specs.Prelude.{◌≡◌, ℕ, ◌+◌, ◌<◌, List, length, map}
 use Rattle.std.specs.List.{range_with_len}
-use Rattle.vlink.specs.declared.note.Row.{Row}
+use Rattle.vlink.specs.Letters.{Row}
 use Rattle.trace_parts.specs.Gathering.{Gathering, parts_at}
 use Rattle.trace_parts.specs.Intervals.{cut, rows_within}
 

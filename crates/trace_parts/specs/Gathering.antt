@@ -3,7 +3,7 @@ use Rattle.std.specs.Prelude.{◌≡◌, ℕ, zero, suc, ◌+◌, ◌==◌, ◌|
 use Rattle.std.specs.List.{flat_map, list_all, repeat}
 use Rattle.std.specs.declared.alloc.Global.{Global}
 use Rattle.std.specs.declared.vec.Vec.{Vec}
-use Rattle.vlink.specs.declared.note.Row.{Row}
+use Rattle.vlink.specs.Letters.{Row}
 use Rattle.trace_parts.specs.declared.part_fault.PartFault.{PartFault}
 use Rattle.trace_parts.specs.declared.part_fault.PartFault.TheVariants.{Gap, Double, Stranger}
 use Rattle.trace_parts.specs.Intervals.{cut}

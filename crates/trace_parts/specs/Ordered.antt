@@ -4,8 +4,8 @@ use Rattle.std.specs.List.{All, filter}
 use Rattle.std.specs.List.Sorted.{IsSortedByKey}
 use Rattle.std.specs.Ordering.{is_eq}
 use Rattle.vlink.specs.declared.message.Message.{Message}
-use Rattle.vlink.specs.declared.note.Row.{Row}
 use Rattle.vlink.specs.Order.{message_cmp}
+use Rattle.vlink.specs.Letters.{Row}
 
 -- no row's message comes before that of the row before it
 abbrev pub AreInMessageOrder : List Row → Type 0

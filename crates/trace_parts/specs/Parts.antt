@@ -1,7 +1,7 @@
 -- A part of a trace: the rows of one process in one interval; and a batch: the rows of all processes in one. Times are in ns.
 use Rattle.std.specs.Prelude.{ℕ, ◌+◌, ◌==◌, ◌&&◌, nat_le, nat_lt, Bool, List}
-use Rattle.vlink.specs.declared.note.Row.{Row}
-use Rattle.trace_parts.specs.Places.{rows_at}
+use Rattle.virtual_time.specs.Law.{rows_at}
+use Rattle.vlink.specs.Letters.{Row}
 use Rattle.trace_parts.specs.Intervals.{cut, rows_within}
 
 -- the rows of a process of a run, from a moment on and before another

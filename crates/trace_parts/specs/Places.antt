@@ -1,11 +1,7 @@
 -- The rows of each process.
 use Rattle.std.specs.Prelude.{ℕ, ◌==◌, List}
 use Rattle.std.specs.List.{filter, flat_map, range_with_len}
-use Rattle.vlink.specs.declared.note.Row.{Row}
-
--- the rows of a process, in their order
-abbrev pub rows_at : ℕ → List Row → List Row
-rows_at p rows = filter (λ row. row.place == p) rows
+use Rattle.vlink.specs.Letters.{Row}
 
 -- lists of rows one after another, those of the processes from 0 on
 abbrev pub gathered : ℕ → (ℕ → List Row) → List Row

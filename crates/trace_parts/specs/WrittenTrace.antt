@@ -1,7 +1,7 @@
 -- A trace that is written batch by batch. Times are in ns.
 use Rattle.std.specs.Prelude.{ℕ, ◌+◌, ◌==◌, ◌&&◌, cond, not, nat_lt, Bool, List, Option, Some, None}
 use Rattle.std.specs.List.{flat_map}
-use Rattle.vlink.specs.declared.note.Row.{Row}
+use Rattle.vlink.specs.Letters.{Row}
 use Rattle.netdesc.specs.Plan.{Plan}
 use Rattle.netdesc.specs.Faults.{process_count}
 use Rattle.trace_parts.specs.declared.fault.OutFault.TheVariants.{Device}

@@ -1,6 +1,6 @@
 //! What the parts of a gathering and its batches are, where the parts have the rows of their processes.
 ghost use Rattle.std.specs.Prelude.{ℕ, ◌≡◌, None, List, length};
-ghost use Rattle.vlink.specs.declared.note.Row.{Row};
+ghost use Rattle.vlink.specs.Letters.{Row};
 ghost use Rattle.trace_parts.specs.Places.{gathered};
 ghost use Rattle.trace_parts.specs.Gathered.{IsOfRows};
 ghost use Rattle.trace_parts.specs.Gathering.{Gathering, no_parts, part_fault, Waits, Gives};

@@ -1,8 +1,10 @@
 //! What the batches of a trace are, one after another.
 ghost use Rattle.std.specs.Prelude.{ℕ, ◌≡◌, ◌+◌, ◌<◌, ◌≤◌, ◌++◌, [], List, All};
 ghost use Rattle.std.specs.List.{flat_map, range_with_len};
-ghost use Rattle.vlink.specs.declared.note.Row.{Row};
-ghost use Rattle.trace_parts.specs.Places.{rows_at, gathered};
+ghost use Rattle.virtual_time.specs.Law.{rows_at};
+ghost use Rattle.vlink.specs.Order.{message_order};
+ghost use Rattle.vlink.specs.Letters.{Row};
+ghost use Rattle.trace_parts.specs.Places.{gathered};
 ghost use Rattle.trace_parts.specs.Intervals.{cut, interval_count, rows_within, rows_before, rows_from};
 ghost use Rattle.trace_parts.specs.Ordered.{AreInMessageOrder, AreAtReceivers, IsInOrder};
 

@@ -1,9 +1,10 @@
 //! Rows of all processes in one order, that of their messages.
 ghost use Rattle.std.specs.Prelude.{ℕ, ◌≡◌, OnOk, OnErr};
 ghost use Rattle.std.specs.List.Sorted.{IsPermutation};
+ghost use Rattle.virtual_time.specs.Law.{rows_at};
+ghost use Rattle.vlink.specs.Order.{message_order};
 ghost use Rattle.vlink.specs.declared.message.Message.{Message};
 ghost use Rattle.vlink.specs.Order.{message_cmp};
-ghost use Rattle.trace_parts.specs.Places.{rows_at};
 ghost use Rattle.trace_parts.specs.Ordered.{AreInMessageOrder, rows_of_event};
 
 use std::alloc::AllocError;

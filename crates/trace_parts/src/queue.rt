@@ -17,7 +17,7 @@ pub(crate) struct PartQueue {
 
 impl Model for PartQueue {
     ghost use Rattle.std.specs.Prelude.{List, map};
-    ghost use Rattle.vlink.specs.declared.note.Row.{Row};
+    ghost use Rattle.vlink.specs.Letters.{Row};
     ghost use Rattle.trace_parts.specs.Gathering.{rows_in};
 
     ghost Value = { List (List Row) };

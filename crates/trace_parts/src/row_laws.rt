@@ -1,8 +1,9 @@
 //! That rows in message order depend on the rows of each process alone.
 ghost use Rattle.std.specs.Prelude.{ℕ, ◌≡◌, List};
+ghost use Rattle.virtual_time.specs.Law.{rows_at};
+ghost use Rattle.vlink.specs.Order.{message_order};
 ghost use Rattle.vlink.specs.declared.message.Message.{Message};
-ghost use Rattle.vlink.specs.declared.note.Row.{Row};
-ghost use Rattle.trace_parts.specs.Places.{rows_at};
+ghost use Rattle.vlink.specs.Letters.{Row};
 ghost use Rattle.trace_parts.specs.Ordered.{AreInMessageOrder, AreAtReceivers, rows_of_event};
 
 use vlink::message_order;

@@ -7,7 +7,7 @@ use Rattle.std.proofs.lemmas.List.Elements.{All-from_recursion, Contains-append_
 use Rattle.std.proofs.lemmas.List.Sums.{sum_by-cons}
 use Rattle.vlink.specs.declared.note.Note.{Note}
 use Rattle.vlink.specs.declared.note.Note.TheVariants.{Delivered, Dropped}
-use Rattle.vlink.specs.declared.note.Row.{Row}
+use Rattle.vlink.specs.Letters.{Row}
 use Rattle.trace_tables.specs.Counting.{is_delivery, times_delivered}
 use Rattle.trace_tables.specs.Latencies.{least_from, least_of, greatest_from, latency_in, latency_at, latencies_of}
 use Rattle.trace_tables.proofs.ListLemmas.{one_if}

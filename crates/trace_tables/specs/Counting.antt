@@ -3,7 +3,7 @@ use Rattle.std.specs.Prelude.{ℕ, ◌==◌, ◌&&◌, Bool, false, List}
 use Rattle.std.specs.List.{count_by}
 use Rattle.vlink.specs.declared.note.Note.{Note}
 use Rattle.vlink.specs.declared.note.Note.TheVariants.{Delivered, Dropped}
-use Rattle.vlink.specs.declared.note.Row.{Row}
+use Rattle.vlink.specs.Letters.{Row}
 use Rattle.netdesc.specs.Plan.{Plan}
 use Rattle.trace_tables.specs.declared.loss.Loss.{Loss}
 use Rattle.trace_tables.specs.Losses.{cause_number}

@@ -9,7 +9,7 @@ use Rattle.vlink.specs.declared.note.Cause.{Cause}
 use Rattle.vlink.specs.declared.note.Cause.TheVariants.{QueueFull, PortFull, Outage, Unknown, TooLong, Policed, Integrity, Duplicate}
 use Rattle.vlink.specs.declared.note.Note.{Note}
 use Rattle.vlink.specs.declared.note.Note.TheVariants.{Delivered, Dropped}
-use Rattle.vlink.specs.declared.note.Row.{Row}
+use Rattle.vlink.specs.Letters.{Row}
 use Rattle.trace_tables.specs.declared.loss.Loss.{Loss}
 
 -- the causes in their order

@@ -1,7 +1,7 @@
 -- The tables of a run: latencies by virtual link and destination, and what was dropped.
 use Rattle.std.specs.Prelude.{ℕ, cond, List, [], map}
 use Rattle.std.specs.List.{flat_map}
-use Rattle.vlink.specs.declared.note.Row.{Row}
+use Rattle.vlink.specs.Letters.{Row}
 use Rattle.netdesc.specs.Plan.{Plan, VlPlan}
 use Rattle.trace_parts.specs.Known.{is_known}
 use Rattle.trace_tables.specs.declared.destination.Destination.{Destination}

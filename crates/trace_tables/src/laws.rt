@@ -3,10 +3,11 @@ ghost use Rattle.std.specs.Prelude.{ℕ, ◌≡◌, ◌<◌, ◌≤◌, [], List
 ghost use Rattle.std.specs.List.{All, Contains};
 ghost use Rattle.std.specs.List.Sorted.{IsStrictlySortedBy};
 ghost use Rattle.std.specs.Map.{keys_of, values_of};
-ghost use Rattle.vlink.specs.declared.note.Row.{Row};
+ghost use Rattle.virtual_time.specs.Law.{rows_at};
+ghost use Rattle.vlink.specs.Letters.{Row};
 ghost use Rattle.netdesc.specs.Plan.{Plan};
 ghost use Rattle.trace_tables.specs.declared.loss.Loss.{Loss};
-ghost use Rattle.trace_parts.specs.Places.{rows_at, gathered};
+ghost use Rattle.trace_parts.specs.Places.{gathered};
 ghost use Rattle.trace_tables.specs.Counting.{times_lost, times_delivered};
 ghost use Rattle.trace_tables.specs.Latencies.{counts_of, latencies_of};
 ghost use Rattle.trace_tables.specs.Losses.{loss_cmp, count_in};

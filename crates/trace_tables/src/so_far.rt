@@ -1,6 +1,6 @@
 //! Tables that are counted while rows come.
 ghost use Rattle.std.specs.Prelude.{◌≡◌, ◌+◌, ◌-◌, ◌^◌, ◌<◌, ◌++◌, ◌∷◌, [], List, length, IfOk, OnOk};
-ghost use Rattle.vlink.specs.declared.note.Row.{Row};
+ghost use Rattle.vlink.specs.Letters.{Row};
 ghost use Rattle.trace_tables.specs.SoFar.{AreInTables, IsSoFar};
 ghost use Rattle.trace_tables.specs.Tables.{tables_of};
 

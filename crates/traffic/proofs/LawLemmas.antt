@@ -7,9 +7,7 @@ use Rattle.std.proofs.lemmas.Bool.{cases_Bool, cases_lt, leb-true}
 use Rattle.std.proofs.lemmas.List.Elements.{recursion_from_All}
 use Rattle.std.proofs.lemmas.List.Kept.{AllPairs-from_increasing}
 use Rattle.vlink.specs.declared.message.Message.{Message}
-use Rattle.virtual_time.specs.Rules.{Rules, IsOrder}
-use Rattle.virtual_time.specs.Lists.{IsNumbered, times_in, IsIn}
-use Rattle.virtual_time.specs.Simulation.{Simulation}
+use Rattle.virtual_time.specs.Law.{Rules, IsOrder, IsNumbered, times_in, IsIn, Simulation}
 use Rattle.virtual_time.proofs.Lists.{times-append, times-none, times-filter, times-filter_out, in-append, in-cons, in-filter}
 use Rattle.virtual_time.proofs.Numbers.{numbered-once}
 use Rattle.network_rows.specs.declared.rows.VirtualLink.{VirtualLink}
@@ -36,67 +34,67 @@ abbrev AreRising : List VlPlan → Type 0
 AreRising [] = Unit {0}
 AreRising (vl ∷ vls) = AllByRecursion (λ later. id_of vl < id_of later) vls × AreRising vls
 
-module _ {S K N : Type 0} (r : Rules Message S K N) (O : IsOrder r) (number : (m : Message) → r.number m ≡ m.number) (plan : Plan) where
+module _ {S K N : Type 0} (r : Rules Message S K N) (O : IsOrder r.order) (number : (m : Message) → r.order.number m ≡ m.number) (plan : Plan) where
   -- ---- the offers of one virtual link
 
-  range-numbered : (link : VirtualLink) (source n k : ℕ) → IsNumbered r.number k (map (offer_of plan.seed link source) (range_with_len k n))
+  range-numbered : (link : VirtualLink) (source n k : ℕ) → IsNumbered r.order.number k (map (offer_of plan.seed link source) (range_with_len k n))
   range-numbered link source zero k = tt
   range-numbered link source (suc n) k =
-      let later : IsNumbered r.number (k + 1) (map (offer_of plan.seed link source) (range_with_len (k + 1) n)) = range-numbered link source n (k + 1) in
+      let later : IsNumbered r.order.number (k + 1) (map (offer_of plan.seed link source) (range_with_len (k + 1) n)) = range-numbered link source n (k + 1) in
       let next : k + 1 ≡ suc k = omega arith in
-      (number _, subst (λ (i : ℕ). IsNumbered r.number i (map (offer_of plan.seed link source) (range_with_len (k + 1) n))) next later)
+      (number _, subst (λ (i : ℕ). IsNumbered r.order.number i (map (offer_of plan.seed link source) (range_with_len (k + 1) n))) next later)
 
-  in-range : (link : VirtualLink) (source n k : ℕ) (m : Message) → IsIn r m (map (offer_of plan.seed link source) (range_with_len k n)) → (i : ℕ) × (m ≡ offer_of plan.seed link source i)
+  in-range : (link : VirtualLink) (source n k : ℕ) (m : Message) → IsIn r.order m (map (offer_of plan.seed link source) (range_with_len k n)) → (i : ℕ) × (m ≡ offer_of plan.seed link source i)
   in-range link source zero k m there = absurd (omega arith)
   in-range link source (suc n) k m there =
-      elim (in-cons r O m _ _ there) [ inl here ↦ (k, here) | inr later ↦ in-range link source n (k + 1) m later ]
+      elim (in-cons r.order O m _ _ there) [ inl here ↦ (k, here) | inr later ↦ in-range link source n (k + 1) m later ]
 
-  from-once : (link : VirtualLink) (source : ℕ) (m : Message) → times_in r m (offers_from plan.seed plan.until link source) ≤ 1
+  from-once : (link : VirtualLink) (source : ℕ) (m : Message) → times_in r.order m (offers_from plan.seed plan.until link source) ≤ 1
   from-once link source m =
       let due = map (offer_of plan.seed link source) (range_with_len 0 (due_count plan.until link)) in
-      let once : times_in r m due ≤ 1 = numbered-once r O 0 due (range-numbered link source (due_count plan.until link) 0) m in
+      let once : times_in r.order m due ≤ 1 = numbered-once r O 0 due (range-numbered link source (due_count plan.until link) 0) m in
       elim (cases_Bool (nat_le m.time plan.until)) [
-        | inl comes ↦ let e = times-filter r O (λ x. nat_le x.time plan.until) m due comes in omega arith
-        | inr late ↦ let e = times-filter_out r O (λ x. nat_le x.time plan.until) m due late in omega arith
+        | inl comes ↦ let e = times-filter r.order O (λ x. nat_le x.time plan.until) m due comes in omega arith
+        | inr late ↦ let e = times-filter_out r.order O (λ x. nat_le x.time plan.until) m due late in omega arith
       ]
 
-  at-once : (link : VirtualLink) (at : Option ℕ) (m : Message) → times_in r m (flat_map (offers_from plan.seed plan.until link) (option_to_list at)) ≤ 1
+  at-once : (link : VirtualLink) (at : Option ℕ) (m : Message) → times_in r.order m (flat_map (offers_from plan.seed plan.until link) (option_to_list at)) ≤ 1
   at-once link None m = omega arith
-  at-once link (Some source) m = subst (λ (ms : List Message). times_in r m ms ≤ 1) (sym (append-nil _)) (from-once link source m)
+  at-once link (Some source) m = subst (λ (ms : List Message). times_in r.order m ms ≤ 1) (sym (append-nil _)) (from-once link source m)
 
-  in-at : (vl : VlPlan) (at : Option ℕ) (m : Message) → source_of vl ≡ at → IsIn r m (flat_map (offers_from plan.seed plan.until vl.link) (option_to_list at)) → IsOffered plan vl m
+  in-at : (vl : VlPlan) (at : Option ℕ) (m : Message) → source_of vl ≡ at → IsIn r.order m (flat_map (offers_from plan.seed plan.until vl.link) (option_to_list at)) → IsOffered plan vl m
   in-at vl None m begins there = absurd (omega arith)
   in-at vl (Some source) m begins there =
       let due = map (offer_of plan.seed vl.link source) (range_with_len 0 (due_count plan.until vl.link)) in
-      let (comes, drawn) = in-filter r O (λ x. nat_le x.time plan.until) m due (subst (IsIn r m) (append-nil _) there) in
+      let (comes, drawn) = in-filter r.order O (λ x. nat_le x.time plan.until) m due (subst (IsIn r.order m) (append-nil _) there) in
       let (k, is) = in-range vl.link source (due_count plan.until vl.link) 0 m drawn in
       record { source = source; k = k; begins = begins; is = is; in_time = leb-true m.time plan.until comes }
 
   -- ---- the offers of all
 
-  in-all : (P : VlPlan → Type 0) (vls : List VlPlan) (m : Message) → AllByRecursion P vls → IsIn r m (flat_map (offers_of_vl plan) vls) → (vl : VlPlan) × P vl × IsOffered plan vl m
+  in-all : (P : VlPlan → Type 0) (vls : List VlPlan) (m : Message) → AllByRecursion P vls → IsIn r.order m (flat_map (offers_of_vl plan) vls) → (vl : VlPlan) × P vl × IsOffered plan vl m
   in-all P [] m all there = absurd (omega arith)
   in-all P (vl ∷ vls) m all there =
-      elim (in-append r O m _ _ there) [ inl here ↦ (vl, all.0, in-at vl (source_of vl) m refl here) | inr later ↦ in-all P vls m all.1 later ]
+      elim (in-append r.order O m _ _ there) [ inl here ↦ (vl, all.0, in-at vl (source_of vl) m refl here) | inr later ↦ in-all P vls m all.1 later ]
 
   -- no message is an offer of a virtual link and of a later one
-  apart : (vl : VlPlan) (vls : List VlPlan) (m : Message) → AllByRecursion (λ other. id_of vl < id_of other) vls → IsIn r m (flat_map (offers_of_vl plan) vls) → IsIn r m (offers_of_vl plan vl) → ⊥
+  apart : (vl : VlPlan) (vls : List VlPlan) (m : Message) → AllByRecursion (λ other. id_of vl < id_of other) vls → IsIn r.order m (flat_map (offers_of_vl plan) vls) → IsIn r.order m (offers_of_vl plan vl) → ⊥
   apart vl vls m above later here =
       let (other, less, offered) = in-all (λ other. id_of vl < id_of other) vls m above later in
       let own = in-at vl (source_of vl) m refl here in
       let same : sender_of (id_of other) ≡ sender_of (id_of vl) = sym (ap (λ (x : Message). x.sender) offered.is) ∙ ap (λ (x : Message). x.sender) own.is in
       omega arith
 
-  all-once : (vls : List VlPlan) (m : Message) → AreRising vls → times_in r m (flat_map (offers_of_vl plan) vls) ≤ 1
+  all-once : (vls : List VlPlan) (m : Message) → AreRising vls → times_in r.order m (flat_map (offers_of_vl plan) vls) ≤ 1
   all-once [] m rising = omega arith
   all-once (vl ∷ vls) m rising =
       let own = offers_of_vl plan vl in
       let others = flat_map (offers_of_vl plan) vls in
-      let sum = times-append r O m own others in
-      let once : times_in r m own ≤ 1 = at-once vl.link (source_of vl) m in
-      let rest : times_in r m others ≤ 1 = all-once vls m rising.1 in
-      elim (cases_lt 0 (times_in r m others)) [
-        | inl later ↦ let none = times-none r O m own (apart vl vls m rising.0 later) in omega arith
+      let sum = times-append r.order O m own others in
+      let once : times_in r.order m own ≤ 1 = at-once vl.link (source_of vl) m in
+      let rest : times_in r.order m others ≤ 1 = all-once vls m rising.1 in
+      elim (cases_lt 0 (times_in r.order m others)) [
+        | inl later ↦ let none = times-none r.order O m own (apart vl vls m rising.0 later) in omega arith
         | inr none ↦ omega arith
       ]
 
@@ -115,23 +113,23 @@ are-rising (vl ∷ vls) pairs =
 
 module _ {S K N : Type 0} (plan : Plan) (f : Simulation Message S K N) (accepted : IsAccepted plan) (few : process_count plan ≤ GREATEST_PROCESSES) (of : IsOfNetwork plan f) where
   -- an offer is one of a virtual link that has a source
-  found : (m : Message) → IsIn f.rules m f.offers → (vl : VlPlan) × HasSource plan.nodes vl × IsOffered plan vl m
+  found : (m : Message) → IsIn f.rules.order m f.offers → (vl : VlPlan) × HasSource plan.nodes vl × IsOffered plan vl m
   found m there =
       let all = recursion_from_All (HasSource plan.nodes) plan.vls (all-have plan accepted) in
-      in-all f.rules of.order of.number plan (HasSource plan.nodes) plan.vls m all (subst (IsIn f.rules m) of.offers there)
+      in-all f.rules of.order of.number plan (HasSource plan.nodes) plan.vls m all (subst (IsIn f.rules.order m) of.offers there)
 
-  once : (m : Message) → times_in f.rules m f.offers ≤ 1
+  once : (m : Message) → times_in f.rules.order m f.offers ≤ 1
   once m =
       let rising : AreRising plan.vls = are-rising plan.vls (AllPairs-from_increasing (ids_of plan.vls) (ids-rise plan accepted)) in
-      subst (λ (ms : List Message). times_in f.rules m ms ≤ 1) (sym of.offers) (all-once f.rules of.order of.number plan plan.vls m rising)
+      subst (λ (ms : List Message). times_in f.rules.order m ms ≤ 1) (sym of.offers) (all-once f.rules of.order of.number plan plan.vls m rising)
 
-  from : (m : Message) → IsIn f.rules m f.offers → f.processes ≤ f.rules.sender m
+  from : (m : Message) → IsIn f.rules.order m f.offers → f.processes ≤ f.rules.order.sender m
   from m there =
       let (vl, has, offered) = found m there in
       let sender : m.sender ≡ sender_of (id_of vl) = ap (λ (x : Message). x.sender) offered.is in
       omega (arith, of.sender m, of.processes)
 
-  to : (m : Message) → IsIn f.rules m f.offers → f.rules.receiver m < f.processes
+  to : (m : Message) → IsIn f.rules.order m f.offers → f.rules.order.receiver m < f.processes
   to m there =
       let (vl, has, offered) = found m there in
       let receiver : m.receiver ≡ offered.source = ap (λ (x : Message). x.receiver) offered.is in
@@ -139,7 +137,7 @@ module _ {S K N : Type 0} (plan : Plan) (f : Simulation Message S K N) (accepted
       let below = end-system-below plan.nodes has.node has.end_system in
       omega (arith, of.receiver m, of.processes)
 
-  in_time : (m : Message) → IsIn f.rules m f.offers → f.rules.time m ≤ f.until
+  in_time : (m : Message) → IsIn f.rules.order m f.offers → f.rules.order.time m ≤ f.until
   in_time m there =
       let (vl, has, offered) = found m there in
       let within = offered.in_time in

@@ -14,7 +14,7 @@ module _ {M S K N : Type 0} (r : Rules M S K N) where
 
   pub rowed-append : (s : S) (xs ys : List M) → rowed r s (xs ++ ys) ≡ rowed r s xs ++ rowed r (reached r s xs) ys
   rowed-append s [] ys = refl
-  rowed-append s (x ∷ xs) ys = ap (λ z. rows_of r x (r.notes s x) ++ z) (rowed-append (r.after s x) xs ys) ∙ sym (append_assoc (rows_of r x (r.notes s x)) _ _)
+  rowed-append s (x ∷ xs) ys = ap (λ z. rows_of r.order x (r.notes s x) ++ z) (rowed-append (r.after s x) xs ys) ∙ sym (append_assoc (rows_of r.order x (r.notes s x)) _ _)
 
   -- a fact of each state in which one of two lists' messages was handled
 

@@ -2,13 +2,17 @@
 use Rattle.std.proofs.Common.{◌≡◌, ℕ, ◌<◌, ◌≤◌, ◌==◌, ◌⊎◌, inl, inr, min, Bool, true, false, cond, nat_lt, List, [], ◌∷◌, ◌++◌, map, length, replicate, remove, Some, refl, sym, ap, ◌∙◌, subst, arith, append_assoc, append-nil, slice_get, eq-eqb, ne_eqb, eqb-true}
 use Rattle.std.proofs.lemmas.Bool.{cases_eq, lt-ltb, ltb-true, and_parts}
 use Rattle.virtual_time.specs.Simulation.{Simulation, put}
-use Rattle.virtual_time.specs.Letters.{Letter, lowest, times_of, received_by}
+use Rattle.virtual_time.specs.Letters.{lowest, times_of, received_by}
+use Rattle.virtual_time.specs.declared.letter.Letter.{Letter}
 use Rattle.virtual_time.specs.Part.{Part, opened, delivered, emptied, floor_of, arrive, run_one, seal_oldest}
-use Rattle.virtual_time.specs.World.{World, Step, start, taken, with_part, gvt_over, is_early, is_enabled, effect, step, run}
-use Rattle.virtual_time.specs.World.Step.{Take, Post}
-use Rattle.virtual_time.specs.Own.{Act, acted, local}
-use Rattle.virtual_time.specs.Own.Act.{Deliver, Emptying}
-use Rattle.virtual_time.specs.Journal.{Move, Arrived, Ran, Sealed, Posted, Published, Entry, step_by, act_by, steps_of, steps, acts_of, own_in, reach, after_own, can_move, AreEnabled, fetched, delivered_block}
+use Rattle.virtual_time.specs.World.{World, start, taken, with_part, gvt_over, is_early, is_enabled, effect, step, run}
+use Rattle.virtual_time.specs.declared.step.Step.{Step}
+use Rattle.virtual_time.specs.declared.step.Step.TheVariants.{Take, Post}
+use Rattle.virtual_time.specs.Own.{Act, acted, local, after_moves}
+use Rattle.virtual_time.specs.Own.Act.{Deliver, Emptying, Moves}
+use Rattle.virtual_time.specs.Journal.{Posted, Published, Entry, step_by, steps_of, steps, acts_of, own_in, reach, after_own, can_move, AreEnabled, fetched, delivered_block}
+use Rattle.virtual_time.specs.declared.moved.Move.{Move}
+use Rattle.virtual_time.specs.declared.moved.Move.TheVariants.{Arrived, Ran, Sealed}
 
 -- one place of a function
 pub put_here : {X : Type 0} (p : ℕ) (x : X) (g : ℕ → X) → put p x g p ≡ x
@@ -67,7 +71,7 @@ module _ {M S K N : Type 0} (f : Simulation M S K N) where
       (λ j. record {
         parts = put p (delivered x (w.parts p)) w.parts;
         mail = put p (remove (e j) 0) w.mail;
-        floors = put p (min (f.rules.time x.message) (w.floors p)) w.floors;
+        floors = put p (min (f.rules.order.time x.message) (w.floors p)) w.floors;
         gvt = w.gvt;
       })))
 
@@ -83,38 +87,38 @@ module _ {M S K N : Type 0} (f : Simulation M S K N) where
   takes p i (x ∷ xs) rest w e =
       let v = fetched f p (x ∷ []) (xs ++ rest) w in
       let part : v.parts p ≡ delivered x (w.parts p) = put_here p (delivered x (w.parts p)) w.parts in
-      let floor : v.floors p ≡ min (f.rules.time x.message) (w.floors p) = put_here p (min (f.rules.time x.message) (w.floors p)) w.floors in
+      let floor : v.floors p ≡ min (f.rules.order.time x.message) (w.floors p) = put_here p (min (f.rules.order.time x.message) (w.floors p)) w.floors in
       ap (run f (replicate (length xs) (Take p 0))) (take-first p i x (xs ++ rest) w e) ∙
       (takes p i xs rest v (put_here p (xs ++ rest) w.mail) ∙
       (λ j. record {
         parts = (ap (λ z. put p (local f.rules (f.opening p) (map (λ l. Deliver l) xs) z) v.parts) part ∙ put_twice p (delivered x (w.parts p)) (local f.rules (f.opening p) (map (λ l. Deliver l) (x ∷ xs)) (w.parts p)) w.parts) j;
         mail = put_twice p (xs ++ rest) rest w.mail j;
-        floors = (ap (λ z. put p (lowest z (times_of f.rules xs)) v.floors) floor ∙
-            (put_twice p (min (f.rules.time x.message) (w.floors p)) (lowest (min (f.rules.time x.message) (w.floors p)) (times_of f.rules xs)) w.floors ∙
-            ap (λ z. put p z w.floors) (lowest-min (f.rules.time x.message) (w.floors p) (times_of f.rules xs)))) j;
+        floors = (ap (λ z. put p (lowest z (times_of f.rules.order xs)) v.floors) floor ∙
+            (put_twice p (min (f.rules.order.time x.message) (w.floors p)) (lowest (min (f.rules.order.time x.message) (w.floors p)) (times_of f.rules.order xs)) w.floors ∙
+            ap (λ z. put p z w.floors) (lowest-min (f.rules.order.time x.message) (w.floors p) (times_of f.rules.order xs)))) j;
         gvt = w.gvt;
       }))
 
   -- one step of a process alone
   move-does : (p : ℕ) → p < f.processes → (m : Move) (w : World M S) → can_move f w.gvt m (w.parts p) ≡ true →
-      step f (step_by p m) w ≡ with_part f p (acted f.rules (f.opening p) (act_by m) (w.parts p)) w
+      step f (step_by p m) w ≡ with_part f p (acted f.rules (f.opening p) (Moves m) (w.parts p)) w
   unfolding step is_enabled effect
   move-does p i Arrived w e = rw (lt-ltb p f.processes i) (ap (λ b. cond b (with_part f p (arrive f.rules (f.opening p) (w.parts p)) w) w) e)
   move-does p i Ran w e = rw (lt-ltb p f.processes i) (ap (λ b. cond b (with_part f p (run_one f.rules (w.parts p)) w) w) e)
   move-does p i Sealed w e = rw (lt-ltb p f.processes i) (ap (λ b. cond b (with_part f p (seal_oldest f.rules (w.parts p)) w) w) e)
 
   pub moves : (p : ℕ) → p < f.processes → (ms : List Move) (w : World M S) → AreEnabled f (f.opening p) w.gvt ms (w.parts p) →
-      run f (map (step_by p) ms) w ≡ with_part f p (local f.rules (f.opening p) (map act_by ms) (w.parts p)) w
+      run f (map (step_by p) ms) w ≡ with_part f p (after_moves f.rules (f.opening p) ms (w.parts p)) w
   unfolding run
   moves p i [] w h = λ j. record { parts = sym (put_kept p w.parts) j; mail = w.mail; floors = w.floors; gvt = w.gvt }
   moves p i (m ∷ ms) w h =
-      let part' = acted f.rules (f.opening p) (act_by m) (w.parts p) in
+      let part' = acted f.rules (f.opening p) (Moves m) (w.parts p) in
       let v = with_part f p part' w in
       let here : v.parts p ≡ part' = put_here p part' w.parts in
       ap (run f (map (step_by p) ms)) (move-does p i m w h.0) ∙
       (moves p i ms v (subst (λ z. AreEnabled f (f.opening p) w.gvt ms z) (sym here) h.1) ∙
       (λ j. record {
-        parts = (ap (λ z. put p (local f.rules (f.opening p) (map act_by ms) z) v.parts) here ∙ put_twice p part' (local f.rules (f.opening p) (map act_by ms) part') w.parts) j;
+        parts = (ap (λ z. put p (after_moves f.rules (f.opening p) ms z) v.parts) here ∙ put_twice p part' (after_moves f.rules (f.opening p) ms part') w.parts) j;
         mail = w.mail;
         floors = w.floors;
         gvt = w.gvt;
@@ -124,7 +128,7 @@ module _ {M S K N : Type 0} (f : Simulation M S K N) where
       run f (steps_of {M = M} p (Posted ms)) w ≡ delivered_block f p ms w
   unfolding run step is_enabled effect
   posts p i ms w h =
-      let part = local f.rules (f.opening p) (map act_by ms) (w.parts p) in
+      let part = after_moves f.rules (f.opening p) ms (w.parts p) in
       let v = with_part f p part w in
       let here : v.parts p ≡ part = put_here p part w.parts in
       run-then (map (step_by p) ms) (Post p ∷ []) w ∙
@@ -132,8 +136,8 @@ module _ {M S K N : Type 0} (f : Simulation M S K N) where
       (rw (lt-ltb p f.processes i)
       (λ j. record {
         parts = (ap (λ z. put p (emptied z) v.parts) here ∙ put_twice p part (emptied part) w.parts) j;
-        mail = λ q. w.mail q ++ received_by f.rules q (here j).outbox;
-        floors = put p (floor_of f.rules f.until (here j)) w.floors;
+        mail = λ q. w.mail q ++ received_by f.rules.order q (here j).outbox;
+        floors = put p (floor_of f.rules.order f.until (here j)) w.floors;
         gvt = w.gvt;
       })))
 
@@ -175,5 +179,5 @@ module _ {M S K N : Type 0} (f : Simulation M S K N) where
       (sym (local-append f (f.opening q) (own_in q ls) (cond (q == l.process) (acts_of l.deed) []) (opened (f.opening q))) ∙
       ap (after_own f q) (sym (own-push q ls l)))))
 
-  pub emptied-last : (o : S) (ms : List Move) (part : Part M S) → local f.rules o (acts_of (Posted ms)) part ≡ emptied (local f.rules o (map act_by ms) part)
-  emptied-last o ms part = local-append f o (map act_by ms) (Emptying ∷ []) part
+  pub emptied-last : (o : S) (ms : List Move) (part : Part M S) → local f.rules o (acts_of (Posted ms)) part ≡ emptied (after_moves f.rules o ms part)
+  emptied-last o ms part = local-append f o (map (λ m. Moves m) ms) (Emptying ∷ []) part

@@ -32,8 +32,8 @@ module _ {M S K N : Type 0} (f : Simulation M S K N) (L : Laws f) where
   -- what every step keeps
   pub record IsKept (w : World M S) : Type 0 where
     pub sound : (p : ℕ) → p < f.processes → IsSound f L w.gvt (w.floors p) p (w.parts p)
-    pub mail_late : (p : ℕ) → p < f.processes → (m : M) → IsNamed f.rules m (w.mail p) → w.gvt ≤ f.rules.time m
-    pub mail_here : (p : ℕ) (m : M) → IsNamed f.rules m (w.mail p) → f.rules.receiver m ≡ p
+    pub mail_late : (p : ℕ) → p < f.processes → (m : M) → IsNamed f.rules.order m (w.mail p) → w.gvt ≤ f.rules.order.time m
+    pub mail_here : (p : ℕ) (m : M) → IsNamed f.rules.order m (w.mail p) → f.rules.order.receiver m ≡ p
     pub law : (m : M) → CountLaw f w m
     -- no process past the last has done or sent anything
     pub outside : (p : ℕ) → f.processes ≤ p → history f w p ≡ []
@@ -55,8 +55,8 @@ module _ {M S K N : Type 0} (f : Simulation M S K N) (L : Laws f) where
     where
       law_next : (m : M) → CountLaw f (with_part f p new w) m
       law_next m =
-          let a = put_elim (λ q z. InHandKept f L (w.parts q) z m) p new w.parts (s.in_hand m) (λ q n. refl) (f.rules.receiver m) in
-          let b = put_elim (λ q z. SendsKept f.rules (f.opening q) (w.parts q) z m) p new w.parts (s.sends m) (λ q n. refl) (f.rules.sender m) in
+          let a = put_elim (λ q z. InHandKept f L (w.parts q) z m) p new w.parts (s.in_hand m) (λ q n. refl) (f.rules.order.receiver m) in
+          let b = put_elim (λ q z. SendsKept f.rules (f.opening q) (w.parts q) z m) p new w.parts (s.sends m) (λ q n. refl) (f.rules.order.sender m) in
           let c = k.law m in
           omega arith
 
@@ -78,12 +78,12 @@ module _ {M S K N : Type 0} (f : Simulation M S K N) (L : Laws f) where
       low = omega arith;
     };
     mail_late = λ p i m h. omega arith;
-    mail_here = λ p m h. received-here f.rules L.order p m (map plus_of f.offers) h;
+    mail_here = λ p m h. received-here f.rules.order L.order p m (map plus_of f.offers) h;
     law = λ m.
-        let a = received-mine f.rules L.order (f.rules.receiver m) m refl (map plus_of f.offers) in
+        let a = received-mine f.rules.order L.order (f.rules.order.receiver m) m refl (map plus_of f.offers) in
         let a0 = a.0 in let a1 = a.1 in
-        let b = pluses-plus f.rules L.order m f.offers in
-        let c = minuses-plus f.rules L.order m f.offers in
+        let b = pluses-plus f.rules.order L.order m f.offers in
+        let c = minuses-plus f.rules.order L.order m f.offers in
         omega arith;
     outside = λ p i. refl;
     outside_outbox = λ p i. refl;

@@ -10,20 +10,20 @@ use Rattle.virtual_time.proofs.Kept.{IsKept}
 module _ {M S K N : Type 0} (f : Simulation M S K N) (L : Laws f) where
   gvt_over-top : (n : ℕ) (w : World M S) → gvt_over f n w ≤ suc f.until
   gvt_over-top zero w = omega arith
-  gvt_over-top (suc p) w = let a = gvt_over-top p w in let b = lowest-top f.rules L.order (gvt_over f p w) (times_of f.rules (w.mail p)) in omega arith
+  gvt_over-top (suc p) w = let a = gvt_over-top p w in let b = lowest-top f.rules.order L.order (gvt_over f p w) (times_of f.rules.order (w.mail p)) in omega arith
 
   gvt_over-bounds : (n : ℕ) (w : World M S) (p : ℕ) → p < n →
-      (gvt_over f n w ≤ w.floors p) × ((m : M) → IsNamed f.rules m (w.mail p) → gvt_over f n w ≤ f.rules.time m)
+      (gvt_over f n w ≤ w.floors p) × ((m : M) → IsNamed f.rules.order m (w.mail p) → gvt_over f n w ≤ f.rules.order.time m)
   gvt_over-bounds zero w p i = absurd (omega arith)
   gvt_over-bounds (suc n) w p i = go (cases_eq p n) (λ j. gvt_over-bounds n w p j)
     where
       below : gvt_over f (suc n) w ≤ gvt_over f n w
-      below = let b = lowest-top f.rules L.order (gvt_over f n w) (times_of f.rules (w.mail n)) in omega arith
+      below = let b = lowest-top f.rules.order L.order (gvt_over f n w) (times_of f.rules.order (w.mail n)) in omega arith
 
-      go : (p ≡ n) ⊎ (p ≡ n → ⊥) → (p < n → (gvt_over f n w ≤ w.floors p) × ((m : M) → IsNamed f.rules m (w.mail p) → gvt_over f n w ≤ f.rules.time m)) →
-          (gvt_over f (suc n) w ≤ w.floors p) × ((m : M) → IsNamed f.rules m (w.mail p) → gvt_over f (suc n) w ≤ f.rules.time m)
-      go (inl e) r = subst (λ q. (gvt_over f (suc n) w ≤ w.floors q) × ((m : M) → IsNamed f.rules m (w.mail q) → gvt_over f (suc n) w ≤ f.rules.time m)) (sym e)
-          (omega arith, λ m h. let a = lowest-letter f.rules L.order (gvt_over f n w) (w.mail n) m h in omega arith)
+      go : (p ≡ n) ⊎ (p ≡ n → ⊥) → (p < n → (gvt_over f n w ≤ w.floors p) × ((m : M) → IsNamed f.rules.order m (w.mail p) → gvt_over f n w ≤ f.rules.order.time m)) →
+          (gvt_over f (suc n) w ≤ w.floors p) × ((m : M) → IsNamed f.rules.order m (w.mail p) → gvt_over f (suc n) w ≤ f.rules.order.time m)
+      go (inl e) r = subst (λ q. (gvt_over f (suc n) w ≤ w.floors q) × ((m : M) → IsNamed f.rules.order m (w.mail q) → gvt_over f (suc n) w ≤ f.rules.order.time m)) (sym e)
+          (omega arith, λ m h. let a = lowest-letter f.rules.order L.order (gvt_over f n w) (w.mail n) m h in omega arith)
       go (inr d) r = let a = r (omega arith) in
           (let b = a.0 in let c = below in omega arith, λ m h. let b = a.1 m h in let c = below in omega arith)
 
@@ -31,7 +31,7 @@ module _ {M S K N : Type 0} (f : Simulation M S K N) (L : Laws f) where
   gvt_over-rises w k zero h = k.in_time
   gvt_over-rises w k (suc p) h =
       let a = (k.sound p (omega arith)).low in
-      let b = lowest-letters f.rules L.order w.gvt (gvt_over f p w) (w.mail p) (gvt_over-rises w k p (omega arith)) (k.mail_late p (omega arith)) in
+      let b = lowest-letters f.rules.order L.order w.gvt (gvt_over f p w) (w.mail p) (gvt_over-rises w k p (omega arith)) (k.mail_late p (omega arith)) in
       omega arith
 
   abbrev at_gvt : World M S → World M S

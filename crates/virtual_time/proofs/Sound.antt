@@ -9,25 +9,25 @@ use Rattle.virtual_time.specs.Well.{IsWell, SendsKept}
 module _ {M S K N : Type 0} (f : Simulation M S K N) (L : Laws f) where
   pub record IsSound (g floor p : ℕ) (part : Part M S) : Type 0 where
     pub well : IsWell f.rules (IsReached f p) (f.opening p) part
-    pub ascending : IsAscending f.rules (part.committed ++ part.done)
-    pub here : (m : M) → IsIn f.rules m (part.committed ++ part.done) → f.rules.receiver m ≡ p
+    pub ascending : IsAscending f.rules.order (part.committed ++ part.done)
+    pub here : (m : M) → IsIn f.rules.order m (part.committed ++ part.done) → f.rules.order.receiver m ≡ p
     -- committed events are earlier than GVT, and their count is used up
-    pub committed_low : (m : M) → IsIn f.rules m part.committed → f.rules.time m < g
-    pub committed_none : (m : M) → IsIn f.rules m part.committed → pluses f.rules m part.tally ≡ minuses f.rules m part.tally
+    pub committed_low : (m : M) → IsIn f.rules.order m part.committed → f.rules.order.time m < g
+    pub committed_none : (m : M) → IsIn f.rules.order m part.committed → pluses f.rules.order m part.tally ≡ minuses f.rules.order m part.tally
     -- nothing that is still to be handled, counted or posted is earlier than the floor, nor the floor than GVT
-    pub unhandled_late : (m : M) → IsPresent f.rules part.tally m → times_in f.rules m part.done ≡ 0 → floor ≤ f.rules.time m
-    pub tray_late : (m : M) → IsNamed f.rules m part.tray → floor ≤ f.rules.time m
-    pub outbox_late : (m : M) → IsNamed f.rules m part.outbox → floor ≤ f.rules.time m
+    pub unhandled_late : (m : M) → IsPresent f.rules.order part.tally m → times_in f.rules.order m part.done ≡ 0 → floor ≤ f.rules.order.time m
+    pub tray_late : (m : M) → IsNamed f.rules.order m part.tray → floor ≤ f.rules.order.time m
+    pub outbox_late : (m : M) → IsNamed f.rules.order m part.outbox → floor ≤ f.rules.order.time m
     pub low : g ≤ floor
-    pub tally_here : (m : M) → IsNamed f.rules m part.tally → f.rules.receiver m ≡ p
-    pub tray_here : (m : M) → IsNamed f.rules m part.tray → f.rules.receiver m ≡ p
-    pub outbox_from : (m : M) → IsNamed f.rules m part.outbox → (f.rules.sender m ≡ p) × (f.rules.receiver m < f.processes)
+    pub tally_here : (m : M) → IsNamed f.rules.order m part.tally → f.rules.order.receiver m ≡ p
+    pub tray_here : (m : M) → IsNamed f.rules.order m part.tray → f.rules.order.receiver m ≡ p
+    pub outbox_from : (m : M) → IsNamed f.rules.order m part.outbox → (f.rules.order.sender m ≡ p) × (f.rules.order.receiver m < f.processes)
 
   -- the signed count of m in tally and tray, and one if it is committed, stay the same
   abbrev pub InHandKept : Part M S → Part M S → M → Type 0
   InHandKept old new m =
-      (pluses f.rules m new.tally + pluses f.rules m new.tray + times_in f.rules m new.committed) + (minuses f.rules m old.tally + minuses f.rules m old.tray)
-      ≡ (pluses f.rules m old.tally + pluses f.rules m old.tray + times_in f.rules m old.committed) + (minuses f.rules m new.tally + minuses f.rules m new.tray)
+      (pluses f.rules.order m new.tally + pluses f.rules.order m new.tray + times_in f.rules.order m new.committed) + (minuses f.rules.order m old.tally + minuses f.rules.order m old.tray)
+      ≡ (pluses f.rules.order m old.tally + pluses f.rules.order m old.tray + times_in f.rules.order m old.committed) + (minuses f.rules.order m new.tally + minuses f.rules.order m new.tray)
 
   -- what each step of one process keeps
   pub record IsStep (g floor p : ℕ) (old new : Part M S) : Type 0 where

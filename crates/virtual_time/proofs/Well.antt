@@ -4,25 +4,26 @@ use Rattle.virtual_time.specs.Rules.{Rules, IsOrder}
 use Rattle.virtual_time.specs.Part.{Part}
 use Rattle.virtual_time.specs.Well.{IsWell, SendsKept}
 use Rattle.virtual_time.specs.Own.{Act, acted}
-use Rattle.virtual_time.specs.Own.Act.{Deliver, Arriving, Running, Sealing, Emptying}
+use Rattle.virtual_time.specs.Own.Act.{Deliver, Emptying, Moves}
 use Rattle.virtual_time.proofs.WellStep.{delivered-well, emptied-well}
 use Rattle.virtual_time.proofs.WellArrive.{arrive-well}
 use Rattle.virtual_time.proofs.WellRun.{run-well}
 use Rattle.virtual_time.proofs.WellSeal.{seal-well}
+use Rattle.virtual_time.specs.declared.moved.Move.TheVariants.{Arrived, Ran, Sealed}
 
-module _ {M S K N : Type 0} (r : Rules M S K N) (O : IsOrder r) (Good : S → Type 0)
+module _ {M S K N : Type 0} (r : Rules M S K N) (O : IsOrder r.order) (Good : S → Type 0)
     (law : (s : S) (e : M) → Good s → r.undo (r.after s e) e (r.kept s e) ≡ s) (opening : S) where
-  pub act-well : (a : Act M) (part : Part M S) → IsWell r Good opening part → (a ≡ Running → Good part.state) → IsWell r Good opening (acted r opening a part)
+  pub act-well : (a : Act M) (part : Part M S) → IsWell r Good opening part → (a ≡ Moves Ran → Good part.state) → IsWell r Good opening (acted r opening a part)
   act-well (Deliver l) part w g = delivered-well r Good opening l part w
-  act-well Arriving part w g = (arrive-well r O Good law opening part w).well
-  act-well Running part w g = (run-well r O Good law opening part w (g refl)).well
-  act-well Sealing part w g = (seal-well r O Good law opening part w).well
+  act-well (Moves Arrived) part w g = (arrive-well r O Good law opening part w).well
+  act-well (Moves Ran) part w g = (run-well r O Good law opening part w (g refl)).well
+  act-well (Moves Sealed) part w g = (seal-well r O Good law opening part w).well
   act-well Emptying part w g = emptied-well r Good opening part w
 
-  pub act-sends : (a : Act M) (part : Part M S) → IsWell r Good opening part → (a ≡ Running → Good part.state) → (a ≡ Emptying → ⊥) →
+  pub act-sends : (a : Act M) (part : Part M S) → IsWell r Good opening part → (a ≡ Moves Ran → Good part.state) → (a ≡ Emptying → ⊥) →
       (m : M) → SendsKept r opening part (acted r opening a part) m
   act-sends (Deliver l) part w g n m = refl
-  act-sends Arriving part w g n m = (arrive-well r O Good law opening part w).sends m
-  act-sends Running part w g n m = (run-well r O Good law opening part w (g refl)).sends m
-  act-sends Sealing part w g n m = (seal-well r O Good law opening part w).sends m
+  act-sends (Moves Arrived) part w g n m = (arrive-well r O Good law opening part w).sends m
+  act-sends (Moves Ran) part w g n m = (run-well r O Good law opening part w (g refl)).sends m
+  act-sends (Moves Sealed) part w g n m = (seal-well r O Good law opening part w).sends m
   act-sends Emptying part w g n m = absurd (n refl)

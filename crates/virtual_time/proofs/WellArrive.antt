@@ -2,7 +2,8 @@
 use Rattle.std.proofs.Common.{◌≡◌, ◌⊎◌, inl, inr, Bool, true, false, not, cond, List, [], ◌∷◌, ◌++◌, map, reverse, refl, sym, ap, ◌∙◌, subst, arith}
 use Rattle.virtual_time.specs.Rules.{Rules, IsOrder, reached, sent, undone}
 use Rattle.virtual_time.specs.Lists.{times_in, IsIn, before, from_on}
-use Rattle.virtual_time.specs.Letters.{Letter, minus_of, IsPresent, is_present}
+use Rattle.virtual_time.specs.Letters.{minus_of, IsPresent, is_present}
+use Rattle.virtual_time.specs.declared.letter.Letter.{Letter}
 use Rattle.virtual_time.specs.Part.{Part, rolled_back, counted, arrived, arrive}
 use Rattle.virtual_time.specs.Well.{IsWell, SendsKept, HoldsAlong}
 use Rattle.virtual_time.proofs.Order.{less-different, less-not_less}
@@ -14,52 +15,52 @@ use Rattle.virtual_time.proofs.Handling.{reached-append, sent-append, along-part
 use Rattle.virtual_time.proofs.Rolling.{roll-split, roll-history, roll-stays, roll-unhandled}
 use Rattle.virtual_time.proofs.WellStep.{IsWellStep, no_step-well}
 
-module _ {M S K N : Type 0} (r : Rules M S K N) (O : IsOrder r) (Good : S → Type 0)
+module _ {M S K N : Type 0} (r : Rules M S K N) (O : IsOrder r.order) (Good : S → Type 0)
     (law : (s : S) (e : M) → Good s → r.undo (r.after s e) e (r.kept s e) ≡ s) (opening : S) where
   module _ (part : Part M S) (w : IsWell r Good opening part) (l : Letter M) (rest : List (Letter M)) where
     -- where presence stays, nothing is undone
-    counted-well : is_present r part.tally l.message ≡ is_present r (l ∷ part.tally) l.message → IsWellStep r Good opening part (counted r l rest part)
+    counted-well : is_present r.order part.tally l.message ≡ is_present r.order (l ∷ part.tally) l.message → IsWellStep r Good opening part (counted r l rest part)
     counted-well e = record {
       well = record {
         state_is = w.state_is;
         good = w.good;
         ascending = w.ascending;
-        done_present = λ m j. present-true r O _ m (sym (same_presence m) ∙ present-from r O _ m (w.done_present m j));
-        done_first = λ m h z d j. w.done_first m (present-true r O _ m (same_presence m ∙ present-from r O _ m h)) z d j;
+        done_present = λ m j. present-true r.order O _ m (sym (same_presence m) ∙ present-from r.order O _ m (w.done_present m j));
+        done_first = λ m h z d j. w.done_first m (present-true r.order O _ m (same_presence m ∙ present-from r.order O _ m h)) z d j;
       };
       sends = λ m. refl;
     }
       where
-        same_presence : (m : M) → is_present r part.tally m ≡ is_present r (l ∷ part.tally) m
-        same_presence = present-same r O l part.tally e
+        same_presence : (m : M) → is_present r.order part.tally m ≡ is_present r.order (l ∷ part.tally) m
+        same_presence = present-same r.order O l part.tally e
 
     abbrev base : S
-    base = reached r opening (part.committed ++ before r l.message part.done)
+    base = reached r opening (part.committed ++ before r.order l.message part.done)
 
-    history-is : part.committed ++ part.done ≡ (part.committed ++ before r l.message part.done) ++ from_on r l.message part.done
+    history-is : part.committed ++ part.done ≡ (part.committed ++ before r.order l.message part.done) ++ from_on r.order l.message part.done
     history-is = roll-history r O l.message part.committed part.done w.ascending
 
-    along-both : HoldsAlong r Good (reached r opening part.committed) (before r l.message part.done)
-        × HoldsAlong r Good (reached r (reached r opening part.committed) (before r l.message part.done)) (from_on r l.message part.done)
-    along-both = along-parts r Good (reached r opening part.committed) (before r l.message part.done) (from_on r l.message part.done)
+    along-both : HoldsAlong r Good (reached r opening part.committed) (before r.order l.message part.done)
+        × HoldsAlong r Good (reached r (reached r opening part.committed) (before r.order l.message part.done)) (from_on r.order l.message part.done)
+    along-both = along-parts r Good (reached r opening part.committed) (before r.order l.message part.done) (from_on r.order l.message part.done)
         (subst (λ z. HoldsAlong r Good (reached r opening part.committed) z) (sym (roll-split r O l.message part.done w.ascending)) w.good)
 
-    state-base : undone r base (from_on r l.message part.done) part.state ≡ base
+    state-base : undone r base (from_on r.order l.message part.done) part.state ≡ base
     state-base =
-        ap (λ z. undone r base (from_on r l.message part.done) z)
-        (w.state_is ∙ (ap (reached r opening) history-is ∙ reached-append r opening (part.committed ++ before r l.message part.done) (from_on r l.message part.done)))
-        ∙ undone-along r Good law base (from_on r l.message part.done)
-        (subst (λ z. HoldsAlong r Good z (from_on r l.message part.done)) (sym (reached-append r opening part.committed (before r l.message part.done))) along-both.1)
+        ap (λ z. undone r base (from_on r.order l.message part.done) z)
+        (w.state_is ∙ (ap (reached r opening) history-is ∙ reached-append r opening (part.committed ++ before r.order l.message part.done) (from_on r.order l.message part.done)))
+        ∙ undone-along r Good law base (from_on r.order l.message part.done)
+        (subst (λ z. HoldsAlong r Good z (from_on r.order l.message part.done)) (sym (reached-append r opening part.committed (before r.order l.message part.done))) along-both.1)
 
     rolled-well : IsWellStep r Good opening part (rolled_back r opening l.message (counted r l rest part))
     rolled-well = record {
       well = record {
         state_is = state-base;
         good = along-both.0;
-        ascending = ascending-filter r O (λ x. r.less x l.message) part.done w.ascending;
+        ascending = ascending-filter r.order O (λ x. r.order.less x l.message) part.done w.ascending;
         done_present = λ m j.
             let k = roll-stays r O l.message part.done m j in
-            let a = counts-other r O m l part.tally (less-different r O m l.message k.0) in
+            let a = counts-other r.order O m l part.tally (less-different r.order O m l.message k.0) in
             let b = w.done_present m k.1 in
             let c = a.0 in let d = a.1 in
             omega arith;
@@ -68,28 +69,28 @@ module _ {M S K N : Type 0} (r : Rules M S K N) (O : IsOrder r) (Good : S → Ty
       sends = moved;
     }
       where
-        first : (m d : M) → IsIn r d (before r l.message part.done) →
-            (m ≡ l.message) ⊎ ((IsPresent r part.tally m × (times_in r m part.done ≡ 0)) ⊎ (r.less m l.message ≡ false)) → r.less d m ≡ true
-        first m d j (inl k) = subst (λ x. r.less d x ≡ true) (sym k) (roll-stays r O l.message part.done d j).0
+        first : (m d : M) → IsIn r.order d (before r.order l.message part.done) →
+            (m ≡ l.message) ⊎ ((IsPresent r.order part.tally m × (times_in r.order m part.done ≡ 0)) ⊎ (r.order.less m l.message ≡ false)) → r.order.less d m ≡ true
+        first m d j (inl k) = subst (λ x. r.order.less d x ≡ true) (sym k) (roll-stays r O l.message part.done d j).0
         first m d j (inr (inl k)) = w.done_first m k.0 k.1 d (roll-stays r O l.message part.done d j).1
-        first m d j (inr (inr k)) = less-not_less r O d l.message m (roll-stays r O l.message part.done d j).0 k
+        first m d j (inr (inr k)) = less-not_less r.order O d l.message m (roll-stays r O l.message part.done d j).0 k
 
         moved : (m : M) → SendsKept r opening part (rolled_back r opening l.message (counted r l rest part)) m
         moved m =
-            let u = sent r base (from_on r l.message part.done) in
-            let a = pluses-append r O m part.outbox (map minus_of (reverse u)) in
-            let b = minuses-append r O m part.outbox (map minus_of (reverse u)) in
-            let c = pluses-minus r O m (reverse u) in
-            let d = minuses-minus r O m (reverse u) in
-            let h = times-reverse r O m u in
-            let j = ap (times_in r m) (ap (sent r opening) history-is ∙ sent-append r opening (part.committed ++ before r l.message part.done) (from_on r l.message part.done)) in
-            let k = times-append r O m (sent r opening (part.committed ++ before r l.message part.done)) u in
+            let u = sent r base (from_on r.order l.message part.done) in
+            let a = pluses-append r.order O m part.outbox (map minus_of (reverse u)) in
+            let b = minuses-append r.order O m part.outbox (map minus_of (reverse u)) in
+            let c = pluses-minus r.order O m (reverse u) in
+            let d = minuses-minus r.order O m (reverse u) in
+            let h = times-reverse r.order O m u in
+            let j = ap (times_in r.order m) (ap (sent r opening) history-is ∙ sent-append r opening (part.committed ++ before r.order l.message part.done) (from_on r.order l.message part.done)) in
+            let k = times-append r.order O m (sent r opening (part.committed ++ before r.order l.message part.done)) u in
             omega arith
 
     arrived-well : IsWellStep r Good opening part (arrived r opening part (l ∷ rest))
-    arrived-well = go (is_present r part.tally l.message) refl (is_present r (l ∷ part.tally) l.message) refl
+    arrived-well = go (is_present r.order part.tally l.message) refl (is_present r.order (l ∷ part.tally) l.message) refl
       where
-        go : (b : Bool) → is_present r part.tally l.message ≡ b → (c : Bool) → is_present r (l ∷ part.tally) l.message ≡ c →
+        go : (b : Bool) → is_present r.order part.tally l.message ≡ b → (c : Bool) → is_present r.order (l ∷ part.tally) l.message ≡ c →
             IsWellStep r Good opening part (cond (cond b (not c) c) (rolled_back r opening l.message (counted r l rest part)) (counted r l rest part))
         go true x true y = counted-well (x ∙ sym y)
         go true x false y = rolled-well

@@ -1,18 +1,16 @@
 -- The journal of a run by workers: the steps in the order in which they were done, put together by what one process did at one go.
 use Rattle.std.specs.Prelude.{◌≡◌, ℕ, ◌==◌, Bool, true, false, ◌&&◌, suc, Some, None, nat_lt, if◌then◌else◌, List, [], ◌∷◌, ◌++◌, map, length, replicate, is_some, Option, ⊤}
+use Rattle.virtual_time.specs.declared.moved.Move.{Move}
+use Rattle.virtual_time.specs.declared.moved.Move.TheVariants.{Arrived, Ran, Sealed}
 use Rattle.virtual_time.specs.Simulation.{Simulation, put}
-use Rattle.virtual_time.specs.Letters.{Letter, lowest, received_by, times_of}
+use Rattle.virtual_time.specs.Letters.{lowest, received_by, times_of}
+use Rattle.virtual_time.specs.declared.letter.Letter.{Letter}
 use Rattle.virtual_time.specs.Part.{Part, next_of, can_seal, opened, emptied, floor_of}
-use Rattle.virtual_time.specs.World.{World, Step, start, run, is_early}
-use Rattle.virtual_time.specs.World.Step.{Take, Arrive, Run, Post, Gvt, Commit}
-use Rattle.virtual_time.specs.Own.{Act, acted, local}
-use Rattle.virtual_time.specs.Own.Act.{Deliver, Arriving, Running, Sealing, Emptying}
-
--- a step that a process does alone
-pub data Move : Type 0 where
-  Arrived : Move
-  Ran : Move
-  Sealed : Move
+use Rattle.virtual_time.specs.World.{World, start, run, is_early}
+use Rattle.virtual_time.specs.declared.step.Step.{Step}
+use Rattle.virtual_time.specs.declared.step.Step.TheVariants.{Take, Arrive, Run, Post, Gvt, Commit}
+use Rattle.virtual_time.specs.Own.{Act, acted, local, after_moves}
+use Rattle.virtual_time.specs.Own.Act.{Deliver, Emptying, Moves}
 
 -- what an entry tells: these letters were taken from the front of the mail, one after another; these steps were done and then the outbox
 -- was posted; or GVT was set
@@ -32,11 +30,6 @@ step_by p Arrived = Arrive p
 step_by p Ran = Run p
 step_by p Sealed = Commit p
 
-abbrev pub act_by : {M : Type 0} → Move → Act M
-act_by Arrived = Arriving
-act_by Ran = Running
-act_by Sealed = Sealing
-
 -- the steps for which an entry stands
 abbrev pub steps_of : {M : Type 0} → ℕ → Deed M → List Step
 steps_of p (Took ls) = replicate (length ls) (Take p 0)
@@ -50,7 +43,7 @@ steps (l ∷ ls) = steps_of l.process l.deed ++ steps ls
 -- what the process of an entry did or had done to it
 abbrev pub acts_of : {M : Type 0} → Deed M → List (Act M)
 acts_of (Took ls) = map (λ l. Deliver l) ls
-acts_of (Posted ms) = map act_by ms ++ Emptying ∷ []
+acts_of (Posted ms) = map (λ m. Moves m) ms ++ Emptying ∷ []
 acts_of Published = []
 
 -- the own part of process p: what its entries tell
@@ -70,13 +63,13 @@ module _ {M S K N : Type 0} (f : Simulation M S K N) where
   -- a step can be done by a process that sees GVT at g
   abbrev pub can_move : ℕ → Move → Part M S → Bool
   can_move g Arrived part = nat_lt 0 (length part.tray)
-  can_move g Ran part = is_some (next_of f.rules part)
-  can_move g Sealed part = is_early f g part.done && can_seal f.rules part part.done
+  can_move g Ran part = is_some (next_of f.rules.order part)
+  can_move g Sealed part = is_early f g part.done && can_seal f.rules.order part part.done
 
   -- each of these steps can be done when its turn comes
   abbrev pub AreEnabled : S → ℕ → List Move → Part M S → Type 0
   AreEnabled opening g [] part = ⊤
-  AreEnabled opening g (m ∷ ms) part = (can_move g m part ≡ true) × AreEnabled opening g ms (acted f.rules opening (act_by m) part)
+  AreEnabled opening g (m ∷ ms) part = (can_move g m part ≡ true) × AreEnabled opening g ms (acted f.rules opening (Moves m) part)
 
   -- the letters at the front of the mail were taken
   abbrev pub fetched : ℕ → List (Letter M) → List (Letter M) → World M S → World M S
@@ -84,18 +77,18 @@ module _ {M S K N : Type 0} (f : Simulation M S K N) where
       record {
         parts = put p (local f.rules (f.opening p) (map (λ l. Deliver l) xs) (w.parts p)) w.parts;
         mail = put p rest w.mail;
-        floors = put p (lowest (w.floors p) (times_of f.rules xs)) w.floors;
+        floors = put p (lowest (w.floors p) (times_of f.rules.order xs)) w.floors;
         gvt = w.gvt;
       }
 
   -- a block was done and posted
   abbrev pub delivered_block : ℕ → List Move → World M S → World M S
   delivered_block p ms w =
-      let part = local f.rules (f.opening p) (map act_by ms) (w.parts p) in
+      let part = after_moves f.rules (f.opening p) ms (w.parts p) in
       record {
         parts = put p (emptied part) w.parts;
-        mail = λ q. w.mail q ++ received_by f.rules q part.outbox;
-        floors = put p (floor_of f.rules f.until part) w.floors;
+        mail = λ q. w.mail q ++ received_by f.rules.order q part.outbox;
+        floors = put p (floor_of f.rules.order f.until part) w.floors;
         gvt = w.gvt;
       }
 

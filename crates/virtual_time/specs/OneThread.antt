@@ -1,7 +1,8 @@
 -- The one-thread run: at each turn the first waiting message is handled. It knows no sign, no undoing and no GVT.
 -- Then what is said by means of it: the first events of a process, the state that they leave, and its events below a moment.
 use Rattle.std.specs.Prelude.{◌≡◌, ℕ, zero, suc, ◌≤◌, ◌==◌, List, [], ◌∷◌, ◌++◌, filter, length, take, Option, Some, None}
-use Rattle.virtual_time.specs.Rules.{Row, reached, rows_of}
+use Rattle.virtual_time.specs.Rules.{reached, rows_of}
+use Rattle.virtual_time.specs.declared.row.Row.{Row}
 use Rattle.virtual_time.specs.Lists.{IsIn, least, earlier, without, events_at}
 use Rattle.virtual_time.specs.Simulation.{Simulation, put}
 
@@ -17,30 +18,26 @@ module _ {M S K N : Type 0} (f : Simulation M S K N) where
   abbrev pub handle : OneThread M S N → Option M → OneThread M S N
   handle t None = t
   handle t (Some m) =
-      let p = f.rules.receiver m in
+      let p = f.rules.order.receiver m in
       record {
         states = put p (f.rules.after (t.states p) m) t.states;
-        waiting = without f.rules m t.waiting ++ f.rules.sends (t.states p) m;
+        waiting = without f.rules.order m t.waiting ++ f.rules.sends (t.states p) m;
         handled = t.handled ++ m ∷ [];
-        rows = t.rows ++ rows_of f.rules m (f.rules.notes (t.states p) m);
+        rows = t.rows ++ rows_of f.rules.order m (f.rules.notes (t.states p) m);
       }
 
   -- the run after n events; where nothing waits, a turn changes nothing
   unfoldable pub one : ℕ → OneThread M S N
   one zero = record { states = f.opening; waiting = f.offers; handled = []; rows = [] }
-  one (suc n) = handle (one n) (least f.rules (one n).waiting)
+  one (suc n) = handle (one n) (least f.rules.order (one n).waiting)
 
   -- the events at process p, of the first n
   abbrev pub events : ℕ → ℕ → List M
-  events n p = events_at f.rules p (one n).handled
-
-  -- the rows of process p
-  abbrev pub rows_at : ℕ → List (Row M N) → List (Row M N)
-  rows_at p rs = filter (λ x. x.place == p) rs
+  events n p = events_at f.rules.order p (one n).handled
 
   -- after n events nothing that waits is earlier than g
   abbrev pub NoneWaits : ℕ → ℕ → Type 0
-  NoneWaits g n = (m : M) → IsIn f.rules m (one n).waiting → g ≤ f.rules.time m
+  NoneWaits g n = (m : M) → IsIn f.rules.order m (one n).waiting → g ≤ f.rules.order.time m
 
   -- first: ms are the first c events at p in any one-thread run that has so many, and there is one
   pub record IsFirst (p c : ℕ) (ms : List M) : Type 0 where
@@ -57,4 +54,4 @@ module _ {M S K N : Type 0} (f : Simulation M S K N) where
   -- below: ms are the events at p earlier than g, in any one-thread run where nothing that waits is earlier, and there is one
   pub record IsBelow (p g : ℕ) (ms : List M) : Type 0 where
     pub some : (n : ℕ) × NoneWaits g n
-    pub each : (n : ℕ) → NoneWaits g n → earlier f.rules g (events n p) ≡ ms
+    pub each : (n : ℕ) → NoneWaits g n → earlier f.rules.order g (events n p) ≡ ms

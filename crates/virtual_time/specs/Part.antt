@@ -1,8 +1,9 @@
 -- One process, which runs ahead and rolls back: what it has in hand, and each thing that it does alone.
 use Rattle.std.specs.Prelude.{ℕ, suc, ◌+◌, ◌==◌, Bool, false, not, ◌&&◌, cond, if◌then◌else◌, List, [], ◌∷◌, ◌++◌, map, filter, reverse, length, Option, Some, None}
-use Rattle.virtual_time.specs.Rules.{Rules, reached, sent, undone}
+use Rattle.virtual_time.specs.Rules.{Order, Rules, reached, sent, undone}
 use Rattle.virtual_time.specs.Lists.{times_in, least, before, from_on}
-use Rattle.virtual_time.specs.Letters.{Letter, plus_of, minus_of, lowest, pluses, minuses, is_present, times_of}
+use Rattle.virtual_time.specs.Letters.{plus_of, minus_of, lowest, pluses, minuses, is_present, times_of}
+use Rattle.virtual_time.specs.declared.letter.Letter.{Letter}
 
 -- the committed events and then the done ones, each oldest first, and the state after them all
 pub record Part (M S : Type 0) : Type 0 where
@@ -44,27 +45,46 @@ emptied part =
       outbox = [];
     }
 
-module _ {M S K N : Type 0} (r : Rules M S K N) where
+module _ {M : Type 0} (o : Order M) where
   -- the present messages that are not done
   unfoldable pub unhandled : List (Letter M) → List M → List M
-  unhandled tally done = filter (λ m. is_present r tally m && (times_in r m done == 0)) (map (λ l. l.message) tally)
+  unhandled tally done = filter (λ m. is_present o tally m && (times_in o m done == 0)) (map (λ l. l.message) tally)
 
   -- the least time of the letters in the tray and of the unhandled messages, or the moment after the end
-  abbrev pub floor_of : ℕ → Part M S → ℕ
-  floor_of until part = lowest (lowest (suc until) (map r.time (unhandled part.tally part.done))) (times_of r part.tray)
+  abbrev pub floor_of : {S : Type 0} → ℕ → Part M S → ℕ
+  floor_of until part = lowest (lowest (suc until) (map o.time (unhandled part.tally part.done))) (times_of o part.tray)
 
+  -- by this letter its message becomes present or absent
+  abbrev pub is_turned : Letter M → List (Letter M) → Bool
+  is_turned l tally = cond (is_present o tally l.message) (not (is_present o (l ∷ tally) l.message)) (is_present o (l ∷ tally) l.message)
+
+  -- how many events the first of these letters undoes
+  abbrev pub undone_by : {S : Type 0} → Part M S → List (Letter M) → ℕ
+  undone_by part [] = 0
+  undone_by part (l ∷ rest) = if is_turned l part.tally then length (from_on o l.message part.done) else 0
+
+  -- the message that is handled next: the first unhandled one
+  abbrev pub next_of : {S : Type 0} → Part M S → Option M
+  next_of part = least o (unhandled part.tally part.done)
+
+  -- of these done events the oldest can be sealed: its signed count is just 1
+  abbrev pub can_seal : {S : Type 0} → Part M S → List M → Bool
+  can_seal part [] = false
+  can_seal part (m ∷ rest) = pluses o m part.tally == minuses o m part.tally + 1
+
+module _ {M S K N : Type 0} (r : Rules M S K N) where
   -- rollback: every done event that does not come before m is undone, the newest first, and the messages
   -- that they sent go to the outbox as antimessages, the last sent first
   abbrev pub rolled_back : S → M → Part M S → Part M S
   rolled_back opening m part =
-      let base = reached r opening (part.committed ++ before r m part.done) in
+      let base = reached r opening (part.committed ++ before r.order m part.done) in
       record {
         committed = part.committed;
-        done = before r m part.done;
-        state = undone r base (from_on r m part.done) part.state;
+        done = before r.order m part.done;
+        state = undone r base (from_on r.order m part.done) part.state;
         tally = part.tally;
         tray = part.tray;
-        outbox = part.outbox ++ map minus_of (reverse (sent r base (from_on r m part.done)));
+        outbox = part.outbox ++ map minus_of (reverse (sent r base (from_on r.order m part.done)));
       }
 
   -- the letter enters the tally, and rest is left in the tray
@@ -79,28 +99,15 @@ module _ {M S K N : Type 0} (r : Rules M S K N) where
         outbox = part.outbox;
       }
 
-  -- by this letter its message becomes present or absent
-  abbrev pub is_turned : Letter M → List (Letter M) → Bool
-  is_turned l tally = cond (is_present r tally l.message) (not (is_present r (l ∷ tally) l.message)) (is_present r (l ∷ tally) l.message)
-
   -- the first of these letters arrives: where that turns its message, the process rolls back to it
   abbrev pub arrived : S → Part M S → List (Letter M) → Part M S
   arrived opening part [] = part
   arrived opening part (l ∷ rest) =
-      if is_turned l part.tally then rolled_back opening l.message (counted l rest part) else counted l rest part
+      if is_turned r.order l part.tally then rolled_back opening l.message (counted l rest part) else counted l rest part
 
   -- the first letter of the tray arrives
   abbrev pub arrive : S → Part M S → Part M S
   arrive opening part = arrived opening part part.tray
-
-  -- how many events the first of these letters undoes
-  abbrev pub undone_by : Part M S → List (Letter M) → ℕ
-  undone_by part [] = 0
-  undone_by part (l ∷ rest) = if is_turned l part.tally then length (from_on r l.message part.done) else 0
-
-  -- the message that is handled next: the first unhandled one
-  abbrev pub next_of : Part M S → Option M
-  next_of part = least r (unhandled part.tally part.done)
 
   -- the message is handled: it joins the done events, and what is sent goes to the outbox
   abbrev pub handled : Part M S → Option M → Part M S
@@ -117,12 +124,7 @@ module _ {M S K N : Type 0} (r : Rules M S K N) where
 
   -- the next message is handled, if there is one
   abbrev pub run_one : Part M S → Part M S
-  run_one part = handled part (next_of part)
-
-  -- of these done events the oldest can be sealed: its signed count is just 1
-  abbrev pub can_seal : Part M S → List M → Bool
-  can_seal part [] = false
-  can_seal part (m ∷ rest) = pluses r m part.tally == minuses r m part.tally + 1
+  run_one part = handled part (next_of r.order part)
 
   -- of these done events the oldest is committed, and its count falls from 1 to 0
   abbrev pub sealed : Part M S → List M → Part M S
@@ -139,7 +141,7 @@ module _ {M S K N : Type 0} (r : Rules M S K N) where
 
   -- the oldest done event is committed, if its signed count is just 1
   abbrev pub seal_oldest : Part M S → Part M S
-  seal_oldest part = if can_seal part part.done then sealed part part.done else part
+  seal_oldest part = if can_seal r.order part part.done then sealed part part.done else part
 
   -- undo all: the state that is left when the done events are undone, the newest first, each with its record
   abbrev pub undo_all : S → Part M S → S

@@ -13,8 +13,8 @@ HoldsAlong r Good s (m ∷ ms) = Good s × HoldsAlong r Good (r.after s m) ms
 -- the signed count of m in the outbox has changed as the times that the committed and done events sent it
 abbrev pub SendsKept : {M S K N : Type 0} → Rules M S K N → S → Part M S → Part M S → M → Type 0
 SendsKept r opening old new m =
-    pluses r m new.outbox + minuses r m old.outbox + times_in r m (sent r opening (old.committed ++ old.done))
-    ≡ pluses r m old.outbox + minuses r m new.outbox + times_in r m (sent r opening (new.committed ++ new.done))
+    pluses r.order m new.outbox + minuses r.order m old.outbox + times_in r.order m (sent r opening (old.committed ++ old.done))
+    ≡ pluses r.order m old.outbox + minuses r.order m new.outbox + times_in r.order m (sent r opening (new.committed ++ new.done))
 
 -- a process that opened in this state is well. A good state is one on which undoing gives back the state before.
 pub record IsWell {M S K N : Type 0} (r : Rules M S K N) (Good : S → Type 0) (opening : S) (part : Part M S) : Type 0 where
@@ -23,7 +23,7 @@ pub record IsWell {M S K N : Type 0} (r : Rules M S K N) (Good : S → Type 0) (
   -- each done event was handled in a good state
   pub good : HoldsAlong r Good (reached r opening part.committed) part.done
   -- the done events ascend, are present, and come before each present message that is not done
-  pub ascending : IsAscending r part.done
-  pub done_present : (m : M) → IsIn r m part.done → IsPresent r part.tally m
-  pub done_first : (m : M) → IsPresent r part.tally m → times_in r m part.done ≡ 0 →
-      (d : M) → IsIn r d part.done → r.less d m ≡ true
+  pub ascending : IsAscending r.order part.done
+  pub done_present : (m : M) → IsIn r.order m part.done → IsPresent r.order part.tally m
+  pub done_first : (m : M) → IsPresent r.order part.tally m → times_in r.order m part.done ≡ 0 →
+      (d : M) → IsIn r.order d part.done → r.order.less d m ≡ true

@@ -1,7 +1,10 @@
 -- The world: all processes with their mail, their floors and GVT; and the six steps, done in any order.
 use Rattle.std.specs.Prelude.{ℕ, zero, suc, min, Bool, true, false, ◌&&◌, if◌then◌else◌, nat_lt, List, [], ◌∷◌, ◌++◌, map, length, is_some, slice_get, remove, Option, Some, None}
+use Rattle.virtual_time.specs.declared.step.Step.{Step}
+use Rattle.virtual_time.specs.declared.step.Step.TheVariants.{Take, Arrive, Run, Post, Gvt, Commit}
 use Rattle.virtual_time.specs.Simulation.{Simulation, put}
-use Rattle.virtual_time.specs.Letters.{Letter, plus_of, lowest, received_by, times_of}
+use Rattle.virtual_time.specs.Letters.{plus_of, lowest, received_by, times_of}
+use Rattle.virtual_time.specs.declared.letter.Letter.{Letter}
 use Rattle.virtual_time.specs.Part.{Part, opened, delivered, emptied, floor_of, arrive, run_one, next_of, can_seal, seal_oldest}
 
 pub record World (M S : Type 0) : Type 0 where
@@ -13,27 +16,13 @@ pub record World (M S : Type 0) : Type 0 where
   -- global virtual time, the moment below which nothing is undone any more
   pub gvt : ℕ
 
-pub data Step : Type 0 where
-  -- the letter at this place of its mail comes to the process
-  Take : (process : ℕ) → (place : ℕ) → Step
-  -- the first letter of the tray is counted, with a rollback where its message becomes present or absent
-  Arrive : (process : ℕ) → Step
-  -- the first unhandled message is handled
-  Run : (process : ℕ) → Step
-  -- the outbox is posted, and the floor is set anew
-  Post : (process : ℕ) → Step
-  -- GVT is set anew
-  Gvt : Step
-  -- the oldest done event is committed
-  Commit : (process : ℕ) → Step
-
 module _ {M S K N : Type 0} (f : Simulation M S K N) where
   -- at the start the offers are in the mail as plus letters, in their order, and nothing is done
   abbrev pub start : World M S
   start =
       record {
         parts = λ p. opened (f.opening p);
-        mail = λ p. received_by f.rules p (map plus_of f.offers);
+        mail = λ p. received_by f.rules.order p (map plus_of f.offers);
         floors = λ p. suc f.until;
         gvt = 0;
       }
@@ -41,7 +30,7 @@ module _ {M S K N : Type 0} (f : Simulation M S K N) where
   -- the least time of the floors and of the letters in the mail, of the first n processes, or the moment after the end
   abbrev pub gvt_over : ℕ → World M S → ℕ
   gvt_over zero w = suc f.until
-  gvt_over (suc p) w = min (w.floors p) (lowest (gvt_over p w) (times_of f.rules (w.mail p)))
+  gvt_over (suc p) w = min (w.floors p) (lowest (gvt_over p w) (times_of f.rules.order (w.mail p)))
 
   -- process p is as given, and all else stays
   abbrev pub with_part : ℕ → Part M S → World M S → World M S
@@ -54,7 +43,7 @@ module _ {M S K N : Type 0} (f : Simulation M S K N) where
       record {
         parts = put p (delivered l (w.parts p)) w.parts;
         mail = put p (remove (w.mail p) i) w.mail;
-        floors = put p (min (f.rules.time l.message) (w.floors p)) w.floors;
+        floors = put p (min (f.rules.order.time l.message) (w.floors p)) w.floors;
         gvt = w.gvt;
       }
 
@@ -63,24 +52,24 @@ module _ {M S K N : Type 0} (f : Simulation M S K N) where
   posted p w =
       record {
         parts = put p (emptied (w.parts p)) w.parts;
-        mail = λ q. w.mail q ++ received_by f.rules q (w.parts p).outbox;
-        floors = put p (floor_of f.rules f.until (w.parts p)) w.floors;
+        mail = λ q. w.mail q ++ received_by f.rules.order q (w.parts p).outbox;
+        floors = put p (floor_of f.rules.order f.until (w.parts p)) w.floors;
         gvt = w.gvt;
       }
 
   -- the oldest of these done events is earlier than g
   abbrev pub is_early : ℕ → List M → Bool
   is_early g [] = false
-  is_early g (m ∷ ms) = nat_lt (f.rules.time m) g
+  is_early g (m ∷ ms) = nat_lt (f.rules.order.time m) g
 
   -- a step can be done
   unfoldable pub is_enabled : Step → World M S → Bool
   is_enabled (Take p i) w = nat_lt p f.processes && nat_lt i (length (w.mail p))
   is_enabled (Arrive p) w = nat_lt p f.processes && nat_lt 0 (length (w.parts p).tray)
-  is_enabled (Run p) w = nat_lt p f.processes && is_some (next_of f.rules (w.parts p))
+  is_enabled (Run p) w = nat_lt p f.processes && is_some (next_of f.rules.order (w.parts p))
   is_enabled (Post p) w = nat_lt p f.processes
   is_enabled Gvt w = true
-  is_enabled (Commit p) w = nat_lt p f.processes && (is_early w.gvt (w.parts p).done && can_seal f.rules (w.parts p) (w.parts p).done)
+  is_enabled (Commit p) w = nat_lt p f.processes && (is_early w.gvt (w.parts p).done && can_seal f.rules.order (w.parts p) (w.parts p).done)
 
   -- what an enabled step does
   unfoldable pub effect : Step → World M S → World M S

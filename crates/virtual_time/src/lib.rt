@@ -11,21 +11,35 @@
 //! are also for code that stands for a process.
 #![tactic(auto)]
 
+mod letter;
+mod moved;
+mod row;
+mod step;
+
+pub use letter::{Letter, Sign};
+pub use moved::Move;
+pub use row::Row;
+pub use step::Step;
+
 ghost use Rattle.std.specs.Prelude.{ℕ, ◌+◌, ◌≡◌, ◌<◌, ◌≤◌, Bool, true, false, List, ◌++◌, [], ◌∷◌, length, replicate};
-ghost use Rattle.virtual_time.specs.Rules.{Rules, IsOrder, reached, sent, rowed};
+ghost use Rattle.virtual_time.specs.Rules.{Rules, IsOrder, reached, sent, rowed, rows_at};
 ghost use Rattle.virtual_time.specs.Lists.{IsNumbered, IsAscending, IsIn, times_in, earlier};
 ghost use Rattle.virtual_time.specs.Simulation.{Simulation, Laws, made, put};
-ghost use Rattle.virtual_time.specs.OneThread.{IsBelow, one, events, rows_at};
-ghost use Rattle.virtual_time.specs.Letters.{Letter, IsNamed};
+ghost use Rattle.virtual_time.specs.OneThread.{IsBelow, one, events};
+ghost use Rattle.virtual_time.specs.Letters.{IsNamed};
+ghost use Rattle.virtual_time.specs.declared.letter.Letter.{Letter};
 ghost use Rattle.virtual_time.specs.Part.{Part, opened, undo_all};
-ghost use Rattle.virtual_time.specs.World.{World, Step, start, step, run, gvt_over, is_enabled};
-ghost use Rattle.virtual_time.specs.World.Step.{Take};
+ghost use Rattle.virtual_time.specs.World.{World, start, step, run, gvt_over, is_enabled};
+ghost use Rattle.virtual_time.specs.declared.step.Step.{Step};
+ghost use Rattle.virtual_time.specs.declared.step.Step.TheVariants.{Take};
 ghost use Rattle.virtual_time.specs.Safe.{Safe, history, CountLaw, NothingBefore, IsFinished, IsWhole};
 ghost use Rattle.virtual_time.specs.Own.{Act, acted, local, own};
-ghost use Rattle.virtual_time.specs.Own.Act.{Running, Emptying};
+ghost use Rattle.virtual_time.specs.Own.Act.{Emptying, Moves};
 ghost use Rattle.virtual_time.specs.Well.{IsWell, SendsKept};
 ghost use Rattle.virtual_time.specs.SafePart.{IsSafePart, MayAct};
-ghost use Rattle.virtual_time.specs.Journal.{Move, Entry, Posted, Published, steps_of, acts_of, own_in, reach, after_own, AreEnabled, fetched, delivered_block};
+ghost use Rattle.virtual_time.specs.Journal.{Entry, Posted, Published, steps_of, acts_of, own_in, reach, after_own, AreEnabled, fetched, delivered_block};
+ghost use Rattle.virtual_time.specs.declared.moved.Move.{Move};
+ghost use Rattle.virtual_time.specs.declared.moved.Move.TheVariants.{Ran};
 
 /// The headline: whatever steps are done, in whatever order and however many, for every simulation that meets its laws.
 /// It says nothing of how soon anything comes: GVT need not rise, and a run need not finish.
@@ -58,23 +72,23 @@ pub fn headline<M, S, K, N>()
     ensures counts { (f : Simulation M S K N) → Laws f → (steps : List Step) (m : M) → CountLaw f (run f steps (start f)) m }
     ensures once { (f : Simulation M S K N) → Laws f → (steps : List Step) (m : M) → made f (history f (run f steps (start f))) m ≤ 1 }
     ensures handled_once { (f : Simulation M S K N) → Laws f → (steps : List Step) (p : ℕ) (m : M) →
-        times_in f.rules m (history f (run f steps (start f)) p) ≤ 1 }
+        times_in f.rules.order m (history f (run f steps (start f)) p) ≤ 1 }
     ensures seen { (f : Simulation M S K N) → Laws f → (steps : List Step) (g : ℕ) → g ≤ (run f steps (start f)).gvt → (p : ℕ) →
-        IsBelow f p g (earlier f.rules g (history f (run f steps (start f)) p)) }
+        IsBelow f p g (earlier f.rules.order g (history f (run f steps (start f)) p)) }
     ensures rises { (f : Simulation M S K N) → Laws f → (steps more : List Step) → (run f steps (start f)).gvt ≤ (run f (steps ++ more) (start f)).gvt }
     ensures never_undone { (f : Simulation M S K N) → Laws f → (steps more : List Step) (p : ℕ) →
-        earlier f.rules (run f steps (start f)).gvt (history f (run f (steps ++ more) (start f)) p)
-        ≡ earlier f.rules (run f steps (start f)).gvt (history f (run f steps (start f)) p) }
-    ensures ascend { (f : Simulation M S K N) → Laws f → (steps : List Step) (p : ℕ) → IsAscending f.rules (history f (run f steps (start f)) p) }
+        earlier f.rules.order (run f steps (start f)).gvt (history f (run f (steps ++ more) (start f)) p)
+        ≡ earlier f.rules.order (run f steps (start f)).gvt (history f (run f steps (start f)) p) }
+    ensures ascend { (f : Simulation M S K N) → Laws f → (steps : List Step) (p : ℕ) → IsAscending f.rules.order (history f (run f steps (start f)) p) }
     ensures committed_early { (f : Simulation M S K N) → Laws f → (steps : List Step) (p : ℕ) (m : M) →
-        IsIn f.rules m ((run f steps (start f)).parts p).committed → f.rules.time m < (run f steps (start f)).gvt }
+        IsIn f.rules.order m ((run f steps (start f)).parts p).committed → f.rules.order.time m < (run f steps (start f)).gvt }
     ensures floors { (f : Simulation M S K N) → Laws f → (steps : List Step) (p : ℕ) → p < f.processes →
         NothingBefore f ((run f steps (start f)).floors p) ((run f steps (start f)).parts p) }
     ensures gvt_low { (f : Simulation M S K N) → Laws f → (steps : List Step) (p : ℕ) → p < f.processes →
         (run f steps (start f)).gvt ≤ (run f steps (start f)).floors p }
     ensures outboxes { (f : Simulation M S K N) → Laws f → (steps : List Step) (p : ℕ) (m : M) →
-        IsNamed f.rules m ((run f steps (start f)).parts p).outbox → f.rules.receiver m < f.processes }
-    ensures rows { (f : Simulation M S K N) → Laws f → (turns p : ℕ) → rows_at f p (one f turns).rows ≡ rowed f.rules (f.opening p) (events f turns p) }
+        IsNamed f.rules.order m ((run f steps (start f)).parts p).outbox → f.rules.order.receiver m < f.processes }
+    ensures rows { (f : Simulation M S K N) → Laws f → (turns p : ℕ) → rows_at p (one f turns).rows ≡ rowed f.rules (f.opening p) (events f turns p) }
     ensures whole { (f : Simulation M S K N) → Laws f → (steps : List Step) → IsFinished f (run f steps (start f)) → IsWhole f (run f steps (start f)) }
     ensures alone { (f : Simulation M S K N) (steps : List Step) (p : ℕ) →
         (run f steps (start f)).parts p ≡ local f.rules (f.opening p) (own f p steps (start f)) (opened (f.opening p)) }
@@ -94,17 +108,17 @@ pub fn headline<M, S, K, N>()
 /// - `sent_once`: where an actor numbers its messages on and on, no message is sent twice, so that the times of `sends` are 1 or 0.
 pub fn process_law<M, S, K, N>()
     ensures opened { (r : Rules M S K N) (good : S → Bool) (opening : S) → IsWell r (λ s. good s ≡ true) opening (opened opening) }
-    ensures acts { (r : Rules M S K N) → IsOrder r → (good : S → Bool) → ((s : S) (e : M) → good s ≡ true → r.undo (r.after s e) e (r.kept s e) ≡ s) →
-        (opening : S) (part : Part M S) (a : Act M) → IsWell r (λ s. good s ≡ true) opening part → (a ≡ Running → good part.state ≡ true) →
+    ensures acts { (r : Rules M S K N) → IsOrder r.order → (good : S → Bool) → ((s : S) (e : M) → good s ≡ true → r.undo (r.after s e) e (r.kept s e) ≡ s) →
+        (opening : S) (part : Part M S) (a : Act M) → IsWell r (λ s. good s ≡ true) opening part → (a ≡ Moves Ran → good part.state ≡ true) →
         IsWell r (λ s. good s ≡ true) opening (acted r opening a part) }
-    ensures sends { (r : Rules M S K N) → IsOrder r → (good : S → Bool) → ((s : S) (e : M) → good s ≡ true → r.undo (r.after s e) e (r.kept s e) ≡ s) →
-        (opening : S) (part : Part M S) (a : Act M) → IsWell r (λ s. good s ≡ true) opening part → (a ≡ Running → good part.state ≡ true) → (a ≡ Emptying → ⊥) →
+    ensures sends { (r : Rules M S K N) → IsOrder r.order → (good : S → Bool) → ((s : S) (e : M) → good s ≡ true → r.undo (r.after s e) e (r.kept s e) ≡ s) →
+        (opening : S) (part : Part M S) (a : Act M) → IsWell r (λ s. good s ≡ true) opening part → (a ≡ Moves Ran → good part.state ≡ true) → (a ≡ Emptying → ⊥) →
         (m : M) → SendsKept r opening part (acted r opening a part) m }
     ensures undone { (r : Rules M S K N) (good : S → Bool) → ((s : S) (e : M) → good s ≡ true → r.undo (r.after s e) e (r.kept s e) ≡ s) →
         (opening : S) (part : Part M S) → IsWell r (λ s. good s ≡ true) opening part → undo_all r opening part ≡ reached r opening part.committed }
-    ensures sent_once { (r : Rules M S K N) → IsOrder r → ((s : S) (e : M) → IsNumbered r.number (r.counter s) (r.sends s e)) →
+    ensures sent_once { (r : Rules M S K N) → IsOrder r.order → ((s : S) (e : M) → IsNumbered r.order.number (r.counter s) (r.sends s e)) →
         ((s : S) (e : M) → r.counter (r.after s e) ≡ r.counter s + length (r.sends s e)) →
-        (opening : S) (events : List M) (m : M) → times_in r m (sent r opening events) ≤ 1 }
+        (opening : S) (events : List M) (m : M) → times_in r.order m (sent r opening events) ≤ 1 }
 {}
 
 /// The law of one process that has seen GVT at some moment, and goes on with that moment while GVT rises.

@@ -1,8 +1,9 @@
 -- The order of messages: by time, receiver, sender, number and body; bodies by kind and then by their fields.
 use Rattle.std.specs.Prelude.{ℕ}
-use Rattle.std.specs.Ordering.{nat_cmp, ordering_then}
+use Rattle.std.specs.Ordering.{nat_cmp, ordering_then, is_lt}
 use Rattle.std.specs.declared.cmp.Ordering.{Ordering}
 use Rattle.std.specs.declared.cmp.Ordering.TheVariants.{Less, Equal, Greater}
+use Rattle.virtual_time.specs.Law.{Order}
 use Rattle.vlink.specs.declared.frame.Frame.{Frame}
 use Rattle.vlink.specs.declared.comparing.FrameKey.{FrameKey}
 use Rattle.vlink.specs.declared.frame.Net.{Net}
@@ -70,3 +71,14 @@ message_cmp m n =
     ordering_then (nat_cmp m.sender n.sender) (
     ordering_then (nat_cmp m.number n.number) (
     body_cmp m.body n.body))))
+
+-- messages with their fields, in this order
+abbrev pub message_order : Order Message
+message_order =
+    record {
+      time = λ m. m.time;
+      receiver = λ m. m.receiver;
+      sender = λ m. m.sender;
+      number = λ m. m.number;
+      less = λ a b. is_lt (message_cmp a b);
+    }

@@ -43,14 +43,5 @@ pub struct Message {
     pub body: Body,
 }
 
-#[derive(Clone, Copy, Debug, PartialEq, Eq, Hash)]
-pub enum Sign {
-    Plus,
-    Minus,
-}
-
-#[derive(Clone, Copy, Debug, PartialEq, Eq, Hash)]
-pub struct Letter {
-    pub message: Message,
-    pub sign: Sign,
-}
+/// A message with a sign.
+pub type Letter = virtual_time::Letter<Message>;

@@ -44,9 +44,4 @@ impl Default for Note {
 }
 
 /// A note with the message whose event gave it and the process where that happened.
-#[derive(Clone, Copy, Debug, PartialEq, Eq, Hash)]
-pub struct Row {
-    pub message: Message,
-    pub place: u16,
-    pub note: Note,
-}
+pub type Row = virtual_time::Row<Message, Note>;

@@ -2,11 +2,12 @@
 ghost use Rattle.std.specs.Prelude.{◌≡◌, ◌<◌};
 ghost use Rattle.std.specs.Cmp.{IsTotalOrder};
 ghost use Rattle.std.specs.declared.cmp.Ordering.TheVariants.{Less, Equal};
+ghost use Rattle.virtual_time.specs.Law.{IsOrder};
 ghost use Rattle.vlink.specs.declared.frame.Net.{Net};
 ghost use Rattle.vlink.specs.declared.frame.Frame.{Frame};
 ghost use Rattle.vlink.specs.declared.message.Body.{Body};
 ghost use Rattle.vlink.specs.declared.message.Message.{Message};
-ghost use Rattle.vlink.specs.Order.{net_cmp, frame_cmp, body_cmp, message_cmp};
+ghost use Rattle.vlink.specs.Order.{net_cmp, frame_cmp, body_cmp, message_cmp, message_order};
 
 use crate::frame::{Frame, Net};
 use crate::message::{Body, Message};
@@ -24,6 +25,15 @@ pub fn message_order()
 {
     total_of::<Message>();
     body_order();
+}
+
+/// The order of messages is one that the law of virtual time asks for.
+///
+/// A call does nothing: its caller learns what the clause says.
+pub fn lawful_order()
+    ensures { IsOrder message_order }
+{
+    message_order();
 }
 
 /// Compares two messages as `cmp` does. Only messages of one moment are compared whole: most are of two, and need no call.

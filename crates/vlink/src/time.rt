@@ -1,5 +1,5 @@
 //! Moments, in ns.
-ghost use Rattle.std.specs.Prelude.{◌≡◌, ℕ, ◌≤◌, ◌↔◌, IsSome, IfSome};
+ghost use Rattle.std.specs.Prelude.{◌≡◌, ℕ, ◌≤◌, ◌↔◌, IsSome, IfSome, min};
 ghost use Rattle.vlink.specs.Moment.{latest_end, greatest_moment};
 
 use std::marker::Model;
@@ -79,6 +79,14 @@ impl Time {
     {
         self.ns
     }
+}
+
+/// The earlier of two moments.
+#[inline(always)]
+pub fn earlier(first: Time, second: Time) -> Time
+    ensures { result ≡ min first second }
+{
+    if first.ns <= second.ns { first } else { second }
 }
 
 impl Default for Time {

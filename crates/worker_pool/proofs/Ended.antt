@@ -1,27 +1,20 @@
 -- What holds of a run that is ended.
-use Rattle.std.proofs.Common.{◌≡◌, ◌≤◌, ◌∙◌, ℕ, suc, ◌+◌, List, [], ◌++◌, filter, map, length, slice_get, sym, ap, subst, arith}
+use Rattle.std.proofs.Common.{◌≡◌, ◌≤◌, ◌∙◌, refl, ℕ, suc, ◌+◌, List, [], ◌++◌, filter, map, length, slice_get, sym, ap, subst, arith}
 use Rattle.std.specs.Prelude.{Some}
 use Rattle.std.proofs.lemmas.List.{nil_from_length}
 use Rattle.vlink.specs.declared.message.Message.{Message}
-use Rattle.vlink.specs.declared.note.Row.{Row as Noted}
-use Rattle.virtual_time.specs.Rules.{rowed}
-use Rattle.virtual_time.specs.Simulation.{Laws}
-use Rattle.virtual_time.specs.OneThread.{one, rows_at}
-use Rattle.virtual_time.specs.Part.{Part}
-use Rattle.virtual_time.specs.Own.{local}
-use Rattle.virtual_time.specs.Safe.{IsWhole}
-use Rattle.virtual_time.specs.Journal.{Move, Entry, act_by, steps, reach}
+use Rattle.vlink.specs.Letters.{Row}
+use Rattle.virtual_time.specs.Law.{rowed, Laws, one, Part, local, after_moves, IsWhole, Entry, steps, reach}
+use Rattle.virtual_time.specs.declared.moved.Move.{Move}
 use Rattle.netdesc.specs.Plan.{Plan}
 use Rattle.netdesc.specs.Faults.{process_count}
 use Rattle.nodes.specs.rules.Node.{NodeState}
 use Rattle.nodes.specs.rules.Opening.{opening}
 use Rattle.nodes.specs.rules.Simulation.{simulation_of}
 use Rattle.exchange.specs.Views.{InShare}
-use Rattle.actor_run.specs.Running.{seen_row}
 use Rattle.seqsim.specs.Committed.{after, AreCommittedRows}
 use Rattle.seqsim.specs.Networks.{AreRowsOf}
 use Rattle.seqsim.proofs.CommittedRows.{AreRowsBelow, rows-more, rows-all, rows-whole}
-use Rattle.seqsim.proofs.SeenRows.{unseen, forth}
 use Rattle.worker_pool.specs.Runs.{IsOfWorld, IsEnded}
 use Rattle.worker_pool.proofs.PartRows.{AreAsInRun, is_inside}
 use Rattle.worker_pool.proofs.Places.{some-at}
@@ -35,20 +28,20 @@ abbrev pub HasGoneBy : ℕ → ℕ → InShare NodeState → Type 0
 HasGoneBy moment p share = share.gone ≤ moment
 
 -- at the first n processes the rows are those that are committed in the world that the journal reaches, and at no other process is a row
-abbrev pub AreCommittedBelow : Plan → List (Entry Message) → ℕ → List Noted → Type 0
+abbrev pub AreCommittedBelow : Plan → List (Entry Message) → ℕ → List Row → Type 0
 AreCommittedBelow plan entries n rows = AreRowsBelow (simulation_of plan) (after plan (steps entries)) n rows
 
 module _ (plan : Plan) (entries : List (Entry Message)) where
   -- with no step that is not in the journal, what fits is what the journal reaches
   pub of-world : (n : ℕ) (share : InShare NodeState) → share.number ≡ n → length share.block ≡ 0 →
-      share.part ≡ local (simulation_of plan).rules (opening plan share.number) (map act_by share.block)
+      share.part ≡ after_moves (simulation_of plan).rules (opening plan share.number) share.block
       ((reach (simulation_of plan) entries).parts share.number) →
       IsOfWorld plan entries n share
   of-world n share number none part =
       let f = simulation_of plan in
       let parts = (reach f entries).parts in (
         number,
-        part ∙ (ap (λ (b : List Move). local f.rules (opening plan share.number) (map act_by b) (parts share.number))
+        part ∙ (ap (λ (b : List Move). after_moves f.rules (opening plan share.number) b (parts share.number))
             (nil_from_length share.block none) ∙ ap parts number),
       )
 
@@ -71,8 +64,8 @@ module _ (plan : Plan) (entries : List (Entry Message)) where
 
     module _ (E : IsEnded plan entries shares) (L : Laws (simulation_of plan)) where
       -- the rows of one process more
-      pub rows-next : (n : ℕ) (share : InShare NodeState) → slice_get shares n ≡ Some share → (rows more longer : List Noted) →
-          longer ≡ rows ++ more → map seen_row more ≡ rowed (simulation_of plan).rules (opening plan share.number) share.part.committed →
+      pub rows-next : (n : ℕ) (share : InShare NodeState) → slice_get shares n ≡ Some share → (rows more longer : List Row) →
+          longer ≡ rows ++ more → more ≡ rowed (simulation_of plan).rules (opening plan share.number) share.part.committed →
           AreCommittedBelow plan entries n rows → AreCommittedBelow plan entries (n + 1) longer
       rows-next n share at rows more longer is e below =
           let f = simulation_of plan in
@@ -82,7 +75,7 @@ module _ (plan : Plan) (entries : List (Entry Message)) where
           subst (AreCommittedBelow plan entries (n + 1)) (sym is) (rows-more f L (steps entries) n rows more below (e ∙ (numbered ∙ reached)))
 
       -- and of all
-      pub rows-complete : (n : ℕ) → n ≡ length shares → (rows : List Noted) → AreCommittedBelow plan entries n rows →
+      pub rows-complete : (n : ℕ) → n ≡ length shares → (rows : List Row) → AreCommittedBelow plan entries n rows →
           AreCommittedRows plan (steps entries) rows
       rows-complete n k rows below =
           rows-all (simulation_of plan) L (steps entries) rows
@@ -90,18 +83,16 @@ module _ (plan : Plan) (entries : List (Entry Message)) where
 
       module _ (W : IsWhole (simulation_of plan) (after plan (steps entries))) where
         -- there are rows of the one-thread run
-        pub some-rows : (rows : List Noted) × AreRowsOf plan rows
-        some-rows = let f = simulation_of plan in (unseen (one f W.turns).rows, (W.turns, W.none_waits, forth (one f W.turns).rows))
+        pub some-rows : (rows : List Row) × AreRowsOf plan rows
+        some-rows = ((one (simulation_of plan) W.turns).rows, (W.turns, W.none_waits, refl))
 
         -- in any interval the rows of a process are those that the one-thread run has of it
-        pub as-in-run : (n : ℕ) (share : InShare NodeState) → slice_get shares n ≡ Some share → (from to : ℕ) (rows : List Noted) →
-            map seen_row rows ≡ filter (is_inside plan n from to) (rowed (simulation_of plan).rules (opening plan share.number) share.part.committed) →
+        pub as-in-run : (n : ℕ) (share : InShare NodeState) → slice_get shares n ≡ Some share → (from to : ℕ) (rows : List Row) →
+            rows ≡ filter (is_inside plan n from to) (rowed (simulation_of plan).rules (opening plan share.number) share.part.committed) →
             AreAsInRun plan n from to rows
         as-in-run n share at from to rows is turns none =
             let f = simulation_of plan in
             let here = E.each n share at in
             let numbered = ap (λ (p : ℕ). rowed f.rules (opening plan p) share.part.committed) here.0 in
             let reached = ap (λ (part : Part Message NodeState). rowed f.rules (opening plan n) part.committed) here.1 in
-            let run = (one f turns).rows in
-            let whole = rows-whole f L (steps entries) W (unseen run) turns none (forth run) n in
-            is ∙ ap (filter (is_inside plan n from to)) (numbered ∙ (reached ∙ (sym whole ∙ ap (rows_at f n) (forth run))))
+            is ∙ ap (filter (is_inside plan n from to)) (numbered ∙ (reached ∙ sym (rows-whole f L (steps entries) W turns none n)))

@@ -8,7 +8,8 @@ use Rattle.std.proofs.Props.{props}
 use Rattle.std.proofs.lemmas.Bool.{eq-eqb}
 use Rattle.std.proofs.lemmas.Grind.{common_steps}
 use Rattle.std.proofs.lemmas.List.{length-append, length-take-le}
-use Rattle.vlink.specs.declared.note.Row.{Row as Noted}
+use Rattle.virtual_time.specs.Law.{rows_at}
+use Rattle.vlink.specs.Letters.{Row}
 use Rattle.netdesc.specs.Plan.{Plan}
 use Rattle.netdesc.specs.Faults.{process_count}
 use Rattle.trace_parts.specs.declared.fault.OutFault.{OutFault}
@@ -16,7 +17,6 @@ use Rattle.trace_parts.specs.declared.fault.OutFault.TheVariants.{Device, OutOfM
 use Rattle.trace_parts.specs.declared.part_fault.PartFault.TheVariants.{Gap}
 use Rattle.trace_parts.specs.declared.trace_fault.TraceFault.{TraceFault}
 use Rattle.trace_parts.specs.declared.trace_fault.TraceFault.TheVariants.{Part, Out}
-use Rattle.trace_parts.specs.Places.{rows_at}
 use Rattle.trace_parts.specs.Intervals.{rows_before, rows_from}
 use Rattle.trace_parts.specs.Sinking.{IsBeginning}
 use Rattle.trace_parts.specs.Text.{trace_line, trace_text}
@@ -45,7 +45,7 @@ told-other : (trace : WrittenTrace) → trace.broken ≡ false → end_fault tra
 told-other trace whole told = grind (arith, common_steps)
 
 -- a network without a process has no rows
-no-rows : (plan : Plan) (rows : List Noted) → AreLawfulRows plan rows → process_count plan ≡ 0 → rows ≡ []
+no-rows : (plan : Plan) (rows : List Row) → AreLawfulRows plan rows → process_count plan ≡ 0 → rows ≡ []
 no-rows plan [] lawful none = refl
 no-rows plan (x ∷ xs) lawful none =
     absurd (
@@ -121,7 +121,7 @@ module _ (plan : Plan) (start : Option (List ℕ)) (failures : ℕ) (H : HasLawf
   unfailed : old.broken ≡ false → old.failures ≡ failures
   unfailed whole = T.failures_are ∙ ap (λ b. cond b (failures + 1) failures) whole
 
-  module _ (rows : List Noted) (r : AreRowsOf plan rows) where
+  module _ (rows : List Row) (r : AreRowsOf plan rows) where
     abbrev whole_text : List ℕ
     whole_text = trace_text plan rows
 
@@ -213,10 +213,10 @@ module _ (plan : Plan) (start : Option (List ℕ)) (failures : ℕ) (H : HasLawf
 module _ (plan : Plan) (start : Option (List ℕ)) (failures : ℕ) (splits : Splits) (old : WrittenTrace)
     (lawful : ∥ HasLawfulRows plan ∥₁) (T : ∥ IsTraceOfRun plan start failures old ∥₁)
     {X : Type 0} (res : Result X TraceFault) (taken : Option (List ℕ)) (failed : ℕ) (F : Finishes old res taken failed) where
-  pub finished-whole : (rows : List Noted) → AreRowsOf plan rows → OnOk res (taken ≡ append_known start (trace_text plan rows))
+  pub finished-whole : (rows : List Row) → AreRowsOf plan rows → OnOk res (taken ≡ append_known start (trace_text plan rows))
   finished-whole rows r = from-both lawful T (hlevel props) (λ h t. finish-whole plan start failures h splits old t rows r taken failed res F)
 
-  pub finished-beginning : (rows : List Noted) → AreRowsOf plan rows → IsBeginning start taken (trace_text plan rows)
+  pub finished-beginning : (rows : List Row) → AreRowsOf plan rows → IsBeginning start taken (trace_text plan rows)
   finished-beginning rows r =
       a-beginning start taken (trace_text plan rows) (∥∥₁_map₂ lawful T (λ h t. finish-beginning plan start failures h splits old t rows r taken failed res F))
 

@@ -3,10 +3,10 @@ use Rattle.std.proofs.Common.{◌≡◌, ◌∙◌, ℕ, zero, suc, List, [], �
 use Rattle.std.specs.Prelude.{Result, Ok, Err, IfOk, OnErr, IfSome, IfNone}
 use Rattle.std.specs.List.{repeat}
 use Rattle.std.proofs.lemmas.List.{length-map, length-set}
-use Rattle.vlink.specs.declared.note.Row.{Row as Noted}
+use Rattle.virtual_time.specs.Law.{rows_at}
+use Rattle.vlink.specs.Letters.{Row}
 use Rattle.netdesc.specs.Plan.{Plan}
 use Rattle.netdesc.specs.Faults.{process_count}
-use Rattle.trace_parts.specs.Places.{rows_at}
 use Rattle.trace_parts.specs.Gathered.{IsOfRows}
 use Rattle.trace_parts.specs.declared.part_fault.PartFault.{PartFault}
 use Rattle.trace_parts.specs.Gathering.{Gathering, no_parts, part_fault, with_part, Waits, Gives}
@@ -30,7 +30,7 @@ repeat-count x (suc n) = let rest = repeat-count x n in omega arith
 module _ (plan : Plan) where
   -- what waits has the rows of the run at each process
   abbrev pub HasRowsOfRun : Gathering → Type 0
-  HasRowsOfRun g = (rows : List Noted) → AreRowsOf plan rows → IsOfRows g (λ p. rows_at p rows)
+  HasRowsOfRun g = (rows : List Row) → AreRowsOf plan rows → IsOfRows g (λ p. rows_at p rows)
 
   -- no part waits at first
   pub none-gathered : (processes until : ℕ) → processes ≡ process_count plan → until ≡ plan.until → HasRowsOfRun (no_parts 0 processes until) →
@@ -44,7 +44,7 @@ module _ (plan : Plan) where
       })
 
   -- a part of the run has the rows of its process and interval
-  pub own-rows : (part : PartRows) → (k : ℕ) × IsPartOfRun plan part.process k part → (rows : List Noted) → AreRowsOf plan rows →
+  pub own-rows : (part : PartRows) → (k : ℕ) × IsPartOfRun plan part.process k part → (rows : List Row) → AreRowsOf plan rows →
       part.rows ≡ rows_within part.from part.to (rows_at part.process rows)
   own-rows part of_run rows r =
       subst (λ (q : PartRows). q.rows ≡ rows_within q.from q.to (rows_at q.process rows)) (sym (of_run.1 rows r)) refl
@@ -75,7 +75,7 @@ module _ (plan : Plan) where
           }
 
       -- which ends no earlier than it begins
-      pub given-batch : ((rows : List Noted) → AreRowsOf plan rows → batch.rows ≡ rows_within batch.from batch.to rows) → IsBatchOfRun plan batch
+      pub given-batch : ((rows : List Row) → AreRowsOf plan rows → batch.rows ≡ rows_within batch.from batch.to rows) → IsBatchOfRun plan batch
       given-batch rows_are =
           record {
             ordered = let first = gives.from in let last = gives.to in let up = cut-rises old.until old.given in omega arith;

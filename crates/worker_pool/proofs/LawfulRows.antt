@@ -6,12 +6,9 @@ use Rattle.std.proofs.lemmas.List.{get_or-map, length-map}
 use Rattle.std.proofs.lemmas.List.Elements.{All-append, All-nil, All-map, All-get_or}
 use Rattle.vlink.specs.declared.message.Message.{Message}
 use Rattle.vlink.specs.declared.note.Note.{Note}
-use Rattle.vlink.specs.declared.note.Row.{Row as Noted}
 use Rattle.vlink.specs.Order.{message_cmp}
-use Rattle.virtual_time.specs.Rules.{Row, rows_of, rowed}
-use Rattle.virtual_time.specs.Lists.{least}
-use Rattle.virtual_time.specs.Simulation.{Simulation, Laws}
-use Rattle.virtual_time.specs.OneThread.{one, handle, rows_at}
+use Rattle.vlink.specs.Letters.{Row}
+use Rattle.virtual_time.specs.Law.{rows_of, rowed, rows_at, least, Simulation, Laws, one, handle}
 use Rattle.virtual_time.proofs.Least.{least-some}
 use Rattle.virtual_time.proofs.OneThread.{right, nothing_outside}
 use Rattle.netdesc.specs.Plan.{Plan}
@@ -19,56 +16,48 @@ use Rattle.netdesc.specs.Faults.{process_count}
 use Rattle.nodes.specs.declared.node.NodeRecord.{NodeRecord}
 use Rattle.nodes.specs.rules.Node.{NodeState}
 use Rattle.nodes.specs.rules.Simulation.{simulation_of}
-use Rattle.actor_run.specs.Running.{seen_row}
-use Rattle.trace_parts.specs.Places.{rows_at as noted_at}
+use Rattle.trace_parts.specs.Ordered.{AreInMessageOrder, AreAtReceivers}
 use Rattle.seqsim.specs.Networks.{AreRowsOf}
 use Rattle.seqsim.proofs.OneThreadRows.{one-here, one-ordered}
-use Rattle.seqsim.proofs.SeenRows.{unseen, back}
 use Rattle.worker_pool.specs.Traces.{HasLawfulRows}
-use Rattle.worker_pool.proofs.PartRows.{seen-filter}
 
 module _ (plan : Plan) (L : Laws (simulation_of plan)) where
   abbrev f : Simulation Message NodeState NodeRecord Note
   f = simulation_of plan
 
-  abbrev IsInTime : Row Message Note → Type 0
+  abbrev IsInTime : Row → Type 0
   IsInTime row = row.message.time ≤ plan.until
 
   -- after each turn no row is later than the end
   in-time : (n : ℕ) → All IsInTime (one f n).rows
   unfolding one
   in-time zero = All-nil IsInTime
-  in-time (suc n) = go (least f.rules (one f n).waiting) refl (in-time n)
+  in-time (suc n) = go (least f.rules.order (one f n).waiting) refl (in-time n)
     where
-      go : (o : Option Message) → least f.rules (one f n).waiting ≡ o → All IsInTime (one f n).rows → All IsInTime (handle f (one f n) o).rows
+      go : (o : Option Message) → least f.rules.order (one f n).waiting ≡ o → All IsInTime (one f n).rows → All IsInTime (handle f (one f n) o).rows
       go None e h = h
       go (Some m) e h =
           let t = one f n in
-          let notes = f.rules.notes (t.states (f.rules.receiver m)) m in
-          let early : m.time ≤ plan.until = (right f L n).in_time m (least-some f.rules L.order t.waiting m e).inside in
-          All-append IsInTime t.rows (rows_of f.rules m notes) h
-          (All-map IsInTime (λ note. record { message = m; place = f.rules.receiver m; note = note }) notes (λ k d i. early))
+          let notes = f.rules.notes (t.states (f.rules.order.receiver m)) m in
+          let early : m.time ≤ plan.until = (right f L n).in_time m (least-some f.rules.order L.order t.waiting m e).inside in
+          All-append IsInTime t.rows (rows_of f.rules.order m notes) h
+          (All-map IsInTime (λ note. record { message = m; place = f.rules.order.receiver m; note = note }) notes (λ k d i. early))
 
-  module _ (rows : List Noted) (r : AreRowsOf plan rows) where
+  module _ (rows : List Row) (r : AreRowsOf plan rows) where
     seen-in-time : All (λ row. row.message.time ≤ plan.until) rows
-    seen-in-time k d i =
-        let all : All IsInTime (map seen_row rows) = subst (All IsInTime) (sym r.2) (in-time r.0) in
-        let here = All-get_or IsInTime (map seen_row rows) k (seen_row d) (let l = length-map rows seen_row in omega arith) all in
-        subst IsInTime (get_or-map seen_row rows k d (seen_row d) i) here
+    seen-in-time = subst (All IsInTime) (sym r.2) (in-time r.0)
 
     -- a process that the network lacks has none
-    none-outside : (p : ℕ) → process_count plan ≤ p → noted_at p rows ≡ []
+    none-outside : (p : ℕ) → process_count plan ≤ p → rows_at p rows ≡ []
     none-outside p i =
-        let none : rows_at f p (map seen_row rows) ≡ [] =
-        ap (rows_at f p) r.2 ∙ ((right f L r.0).rows_are p
-        ∙ ap (rowed f.rules (f.opening p)) (nothing_outside f L (one f r.0).handled (right f L r.0).handled_here p i)) in
-        sym (back (noted_at p rows)) ∙ (ap unseen (sym (seen-filter (λ row. row.place == p) rows) ∙ none) ∙ back [])
+        ap (rows_at p) r.2 ∙ ((right f L r.0).rows_are p
+        ∙ ap (rowed f.rules (f.opening p)) (nothing_outside f L (one f r.0).handled (right f L r.0).handled_here p i))
 
   pub lawful-rows : IsTotalOrder message_cmp → HasLawfulRows plan
   lawful-rows O rows r =
       record {
-        ordered = one-ordered f L O (λ a b. refl) (λ m. refl) r.0 rows r.2;
-        received = one-here f L O (λ a b. refl) (λ m. refl) r.0 rows r.2;
+        ordered = subst AreInMessageOrder (sym r.2) (one-ordered f L O (λ a b. refl) (λ m. refl) r.0);
+        received = subst AreAtReceivers (sym r.2) (one-here f L O (λ a b. refl) (λ m. refl) r.0);
         none_outside = none-outside rows r;
         in_time = seen-in-time rows r;
       }

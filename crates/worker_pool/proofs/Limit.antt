@@ -2,14 +2,13 @@
 use Rattle.std.proofs.Common.{◌≡◌, ℕ, List, [], ◌∷◌, take, ap}
 use Rattle.vlink.specs.declared.message.Message.{Message}
 use Rattle.vlink.specs.declared.note.Note.{Note}
-use Rattle.virtual_time.specs.Letters.{Letter}
-use Rattle.virtual_time.specs.Simulation.{Simulation}
-use Rattle.virtual_time.specs.Journal.{reach}
+use Rattle.vlink.specs.Letters.{Letter}
+use Rattle.virtual_time.specs.Law.{Simulation, reach}
 use Rattle.exchange.specs.Views.{Ledger, InShare}
 use Rattle.exchange.specs.Effects.{collects, Collects}
 
 module _ {S K : Type 0} (f : Simulation Message S K Note) where
-  with-letters : (letters : List (Letter Message)) (x : Ledger) (h : InShare S) (y : Ledger) (k : InShare S) → collects f letters x h y k → y.limit ≡ x.limit
+  with-letters : (letters : List Letter) (x : Ledger) (h : InShare S) (y : Ledger) (k : InShare S) → collects f letters x h y k → y.limit ≡ x.limit
   with-letters [] x h y k C = ap (λ (l : Ledger). l.limit) C.0
   with-letters (a ∷ more) x h y k C = ap (λ (l : Ledger). l.limit) C.0
 

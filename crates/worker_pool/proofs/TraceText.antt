@@ -8,7 +8,7 @@ use Rattle.std.proofs.lemmas.List.{append-nil, append_assoc, length-append, take
 use Rattle.std.proofs.lemmas.List.Concat.{flat_map-append}
 use Rattle.std.proofs.lemmas.List.Elements.{filter-append}
 use Rattle.std.proofs.Math.Seq.{take-append_seam, take-append-add}
-use Rattle.vlink.specs.declared.note.Row.{Row as Noted}
+use Rattle.vlink.specs.Letters.{Row}
 use Rattle.netdesc.specs.Plan.{Plan}
 use Rattle.trace_parts.specs.Intervals.{rows_within, rows_before, rows_from}
 use Rattle.trace_parts.specs.Sinking.{IsBeginning}
@@ -54,23 +54,23 @@ begins-behind known new xs ys b =
 
 -- ---- rows before moments
 -- what passes both tests
-filter-both : (p q r : Noted → Bool) → ((x : Noted) → r x ≡ (p x && q x)) → (xs : List Noted) → filter q (filter p xs) ≡ filter r xs
+filter-both : (p q r : Row → Bool) → ((x : Row) → r x ≡ (p x && q x)) → (xs : List Row) → filter q (filter p xs) ≡ filter r xs
 filter-both p q r both [] = refl
 filter-both p q r both (x ∷ xs) = go (p x) (filter-both p q r both xs) ∙ ap (λ b. cond b (x ∷ filter r xs) (filter r xs)) (sym (both x))
   where
     go : (b : Bool) → filter q (filter p xs) ≡ filter r xs → filter q (cond b (x ∷ filter p xs) (filter p xs)) ≡ cond (b && q x) (x ∷ filter r xs) (filter r xs)
-    go true rest = ap (λ (ys : List Noted). cond (q x) (x ∷ ys) ys) rest
+    go true rest = ap (λ (ys : List Row). cond (q x) (x ∷ ys) ys) rest
     go false rest = rest
 
-module _ (rows : List Noted) (splits : (moment : ℕ) → rows ≡ rows_before moment rows ++ rows_from moment rows) where
+module _ (rows : List Row) (splits : (moment : ℕ) → rows ≡ rows_before moment rows ++ rows_from moment rows) where
   -- the rows before a moment, and those within it and a later one, are those before the later one
   pub before-more : (from to : ℕ) → from ≤ to → rows_before from rows ++ rows_within from to rows ≡ rows_before to rows
   before-more from to le =
       sym (ap (rows_before to) (splits from)
       ∙ (filter-append (λ row. nat_lt row.message.time to) (rows_before from rows) (rows_from from rows)
-      ∙ (ap (λ (xs : List Noted). xs ++ rows_before to (rows_from from rows))
+      ∙ (ap (λ (xs : List Row). xs ++ rows_before to (rows_from from rows))
       (filter-both (λ row. nat_lt row.message.time from) (λ row. nat_lt row.message.time to) (λ row. nat_lt row.message.time from) (λ row. earlier row.message.time) rows)
-      ∙ ap (λ (xs : List Noted). rows_before from rows ++ xs)
+      ∙ ap (λ (xs : List Row). rows_before from rows ++ xs)
       (filter-both (λ row. nat_le from row.message.time) (λ row. nat_lt row.message.time to) (λ row. nat_le from row.message.time && nat_lt row.message.time to) (λ row. refl) rows))))
     where
       earlier : (t : ℕ) → nat_lt t from ≡ (nat_lt t from && nat_lt t to)
@@ -80,10 +80,10 @@ module _ (rows : List Noted) (splits : (moment : ℕ) → rows ≡ rows_before m
       ]
 
   module _ (plan : Plan) where
-    abbrev lines : List Noted → List ℕ
+    abbrev lines : List Row → List ℕ
     lines xs = flat_map (trace_line plan) xs
 
-    text-more : (xs ys : List Noted) → trace_text plan (xs ++ ys) ≡ trace_text plan xs ++ lines ys
+    text-more : (xs ys : List Row) → trace_text plan (xs ++ ys) ≡ trace_text plan xs ++ lines ys
     text-more xs ys = ap (λ (z : List ℕ). trace_head ++ z) (flat_map-append (trace_line plan) xs ys) ∙ sym (append_assoc trace_head (lines xs) (lines ys))
 
     -- the text of the rows before a moment is a beginning of the whole
@@ -91,11 +91,11 @@ module _ (rows : List Noted) (splits : (moment : ℕ) → rows ≡ rows_before m
     text-splits moment = ap (trace_text plan) (splits moment) ∙ text-more (rows_before moment rows) (rows_from moment rows)
 
     -- the text of a batch comes behind what is written, and then that of the rows before its end is
-    pub text-next : (begun : Bool) (end to : ℕ) → (begun ≡ false → end ≡ 0) → end ≤ to → (batch : List Noted) → batch ≡ rows_within end to rows →
+    pub text-next : (begun : Bool) (end to : ℕ) → (begun ≡ false → end ≡ 0) → end ≤ to → (batch : List Row) → batch ≡ rows_within end to rows →
         text_before plan begun end rows ++ next_text plan begun batch ≡ trace_text plan (rows_before to rows)
     text-next true end to opening le batch is =
         sym (text-more (rows_before end rows) batch)
-        ∙ (ap (λ (xs : List Noted). trace_text plan (rows_before end rows ++ xs)) is ∙ ap (trace_text plan) (before-more end to le))
+        ∙ (ap (λ (xs : List Row). trace_text plan (rows_before end rows ++ xs)) is ∙ ap (trace_text plan) (before-more end to le))
     text-next false end to opening le batch is =
         let none : rows_before end rows ≡ [] = none-before end rows (λ i d below. let first = opening refl in omega arith) in
-        ap (trace_text plan) (is ∙ (ap (λ (xs : List Noted). xs ++ rows_within end to rows) (sym none) ∙ before-more end to le))
+        ap (trace_text plan) (is ∙ (ap (λ (xs : List Row). xs ++ rows_within end to rows) (sym none) ∙ before-more end to le))

@@ -3,7 +3,7 @@ use Rattle.std.proofs.Common.{◌≡◌, ◌≢◌, ℕ, ◌+◌, ◌<◌, ◌==
 use Rattle.std.specs.Prelude.{⊤, IfSome}
 use Rattle.std.specs.Io.KnownBytes.{append_known}
 use Rattle.std.proofs.lemmas.Grind.{common_steps}
-use Rattle.vlink.specs.declared.note.Row.{Row as Noted}
+use Rattle.vlink.specs.Letters.{Row}
 use Rattle.netdesc.specs.Plan.{Plan}
 use Rattle.trace_parts.specs.declared.fault.OutFault.{OutFault}
 use Rattle.trace_parts.specs.declared.fault.OutFault.TheVariants.{Device}
@@ -22,8 +22,8 @@ use Rattle.worker_pool.specs.Written.{outcome_of, IsPlaceFault, IsFaultOfTrace, 
 module _ (plan : Plan) (start : Option (List ℕ)) (failed : ℕ) (taken : Option (List ℕ)) (failures : ℕ) where
   pub is-written : (batches : Result ⊤ TraceFault) (part : Option PartFault) (end : Result ⊤ TraceFault) →
       (batches ≡ Err (Out Device) → failures ≡ failed + 1) → IfErr batches IsFaultOfTrace → IfSome part IsPlaceFault →
-      ((rows : List Noted) → AreRowsOf plan rows → OnOk end (taken ≡ append_known start (trace_text plan rows))) →
-      ((rows : List Noted) → AreRowsOf plan rows → IsBeginning start taken (trace_text plan rows)) →
+      ((rows : List Row) → AreRowsOf plan rows → OnOk end (taken ≡ append_known start (trace_text plan rows))) →
+      ((rows : List Row) → AreRowsOf plan rows → IsBeginning start taken (trace_text plan rows)) →
       IfErr end (λ fault. fault ≡ Out Device → failures ≡ failed + 1) → OnOk end (failures ≡ failed) →
       IfErr end IsFaultOfTrace → IsWritten plan start failed (outcome_of batches part end) taken failures
   is-written (Err fault) part end device known none whole beginning broken well other =

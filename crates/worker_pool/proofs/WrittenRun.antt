@@ -4,7 +4,7 @@ use Rattle.std.specs.Prelude.{Option, Some, None, Result, Ok, Err, OnOk, IfErr}
 use Rattle.std.specs.Io.KnownBytes.{append_known}
 use Rattle.std.specs.List.{flat_map}
 use Rattle.std.proofs.lemmas.Grind.{common_steps}
-use Rattle.vlink.specs.declared.note.Row.{Row as Noted}
+use Rattle.vlink.specs.Letters.{Row}
 use Rattle.netdesc.specs.Plan.{Plan}
 use Rattle.trace_parts.specs.declared.fault.OutFault.{OutFault}
 use Rattle.trace_parts.specs.declared.fault.OutFault.TheVariants.{Device, OutOfMemory, Layout}
@@ -30,7 +30,7 @@ follows trace batch none = grind (arith, common_steps)
 
 -- the rows before a moment are a beginning of all
 abbrev pub Splits : Type 0
-Splits = (moment : ℕ) (rows : List Noted) → AreInMessageOrder rows → rows ≡ rows_before moment rows ++ rows_from moment rows
+Splits = (moment : ℕ) (rows : List Row) → AreInMessageOrder rows → rows ≡ rows_before moment rows ++ rows_from moment rows
 
 module _ (plan : Plan) (start : Option (List ℕ)) (failures : ℕ) where
   -- nothing is written yet
@@ -47,13 +47,13 @@ module _ (plan : Plan) (start : Option (List ℕ)) (failures : ℕ) where
       })
 
   module _ (H : HasLawfulRows plan) (splits : Splits) where
-    split : (rows : List Noted) → AreRowsOf plan rows → (moment : ℕ) → rows ≡ rows_before moment rows ++ rows_from moment rows
+    split : (rows : List Row) → AreRowsOf plan rows → (moment : ℕ) → rows ≡ rows_before moment rows ++ rows_from moment rows
     split rows r moment = splits moment rows (H rows r).ordered
 
     module _ (old : WrittenTrace) (T : IsTraceOfRun plan start failures old) where
       -- a batch that is taken
       module _ (batch : BatchRows) (B : IsBatchOfRun plan batch) (none : batch_fault old batch ≡ None) where
-        joined : (rows : List Noted) → AreRowsOf plan rows →
+        joined : (rows : List Row) → AreRowsOf plan rows →
             text_before plan old.begun old.end rows ++ next_text old.plan old.begun batch.rows ≡ trace_text plan (rows_before batch.to rows)
         joined rows r =
             let at = follows old batch none in
@@ -62,7 +62,7 @@ module _ (plan : Plan) (start : Option (List ℕ)) (failures : ℕ) where
             ∙ text-next rows (split rows r) plan old.begun old.end batch.to T.opening le batch.rows
             (B.rows_are rows r ∙ ap (λ (from : ℕ). rows_within from batch.to rows) at)
 
-        took : (rows : List Noted) → AreRowsOf plan rows → old.taken ≡ append_known start (text_before plan old.begun old.end rows)
+        took : (rows : List Row) → AreRowsOf plan rows → old.taken ≡ append_known start (text_before plan old.begun old.end rows)
         took rows r = T.sound (not-broken old batch none) rows r
 
         -- is written

@@ -1,7 +1,7 @@
 -- The parts of a trace that a process of a run gives, one for each interval.
 use Rattle.std.specs.Prelude.{◌≡◌, ℕ, ◌+◌, ◌≤◌, List, []}
-use Rattle.vlink.specs.declared.note.Row.{Row as Noted}
-use Rattle.virtual_time.specs.Lists.{earlier}
+use Rattle.vlink.specs.Letters.{Row}
+use Rattle.virtual_time.specs.Law.{earlier}
 use Rattle.netdesc.specs.Plan.{Plan}
 use Rattle.nodes.specs.rules.Node.{NodeState}
 use Rattle.nodes.specs.rules.Simulation.{simulation_of}
@@ -16,11 +16,11 @@ pub record IsIntervalSealed (plan : Plan) (k : ℕ) (share : InShare NodeState) 
   pub inside : HasInterval plan.until k
   pub next : share.gone ≡ cut plan.until k
   pub seen : cut plan.until (k + 1) ≤ share.share.seen
-  pub none_done : earlier (simulation_of plan).rules (cut plan.until (k + 1)) share.part.done ≡ []
+  pub none_done : earlier (simulation_of plan).rules.order (cut plan.until (k + 1)) share.part.done ≡ []
 
 -- the part has just the rows that the one-thread run has of the process and of interval k
 abbrev pub IsPartOfRun : Plan → ℕ → ℕ → PartRows → Type 0
-IsPartOfRun plan process k part = (rows : List Noted) → AreRowsOf plan rows → part ≡ part_of 0 process k plan.until rows
+IsPartOfRun plan process k part = (rows : List Row) → AreRowsOf plan rows → part ≡ part_of 0 process k plan.until rows
 
 -- the part is that of the next interval of the process
 pub record IsNextPart (plan : Plan) (share : InShare NodeState) (part : PartRows) : Type 0 where

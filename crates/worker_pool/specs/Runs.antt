@@ -1,10 +1,8 @@
 -- A run that nobody picked, and a run that is ended.
 use Rattle.std.specs.Prelude.{◌≡◌, ◌≤◌, ℕ, Bool, true, false, List, [], map, length, slice_get, Some}
-use Rattle.vlink.specs.declared.step.Step.{Step as Noting}
+use Rattle.virtual_time.specs.declared.step.Step.{Step}
 use Rattle.vlink.specs.declared.message.Message.{Message}
-use Rattle.virtual_time.specs.Journal.{Entry, reach}
-use Rattle.virtual_time.specs.Safe.{IsFinished}
-use Rattle.antimessages.specs.Steps.{step_of}
+use Rattle.virtual_time.specs.Law.{Entry, reach, IsFinished}
 use Rattle.netdesc.specs.Plan.{Plan}
 use Rattle.netdesc.specs.Faults.{process_count}
 use Rattle.nodes.specs.rules.Node.{NodeState}
@@ -35,10 +33,10 @@ abbrev pub HaveGoneBy : ℕ → List (InShare NodeState) → Type 0
 HaveGoneBy moment shares = (p : ℕ) (share : InShare NodeState) → slice_get shares p ≡ Some share → share.gone ≤ moment
 
 -- after these steps the world of the network is finished
-abbrev pub IsJournalOf : Plan → List Noting → Type 0
-IsJournalOf plan steps = IsFinished (simulation_of plan) (after plan (map step_of steps))
+abbrev pub IsJournalOf : Plan → List Step → Type 0
+IsJournalOf plan steps = IsFinished (simulation_of plan) (after plan steps)
 
 -- these are the steps of a run, where they are asked for; where they are not, there are none
-abbrev pub IsJournalAsked : Plan → Bool → List Noting → Type 0
+abbrev pub IsJournalAsked : Plan → Bool → List Step → Type 0
 IsJournalAsked plan true steps = IsJournalOf plan steps
 IsJournalAsked plan false steps = steps ≡ []

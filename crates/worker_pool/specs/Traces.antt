@@ -3,10 +3,10 @@
 use Rattle.std.specs.Prelude.{◌≡◌, ℕ, ◌+◌, ◌≤◌, Bool, true, false, cond, List, [], Option, length}
 use Rattle.std.specs.Io.KnownBytes.{append_known}
 use Rattle.std.specs.List.{All}
-use Rattle.vlink.specs.declared.note.Row.{Row as Noted}
+use Rattle.virtual_time.specs.Law.{rows_at}
+use Rattle.vlink.specs.Letters.{Row}
 use Rattle.netdesc.specs.Plan.{Plan}
 use Rattle.netdesc.specs.Faults.{process_count}
-use Rattle.trace_parts.specs.Places.{rows_at}
 use Rattle.trace_parts.specs.Gathered.{IsOfRows}
 use Rattle.trace_parts.specs.Gathering.{Gathering}
 use Rattle.trace_parts.specs.Intervals.{rows_within, rows_before}
@@ -19,7 +19,7 @@ use Rattle.seqsim.specs.Networks.{AreRowsOf}
 
 -- rows in message order, each of the process that received its message, none of a process that the network lacks, and none later than the
 -- end of the run
-pub record AreLawfulRows (plan : Plan) (rows : List Noted) : Type 0 where
+pub record AreLawfulRows (plan : Plan) (rows : List Row) : Type 0 where
   pub ordered : AreInMessageOrder rows
   pub received : AreAtReceivers rows
   pub none_outside : (p : ℕ) → process_count plan ≤ p → rows_at p rows ≡ []
@@ -27,22 +27,22 @@ pub record AreLawfulRows (plan : Plan) (rows : List Noted) : Type 0 where
 
 -- such are the rows of the one-thread run of the network
 abbrev pub HasLawfulRows : Plan → Type 0
-HasLawfulRows plan = (rows : List Noted) → AreRowsOf plan rows → AreLawfulRows plan rows
+HasLawfulRows plan = (rows : List Row) → AreRowsOf plan rows → AreLawfulRows plan rows
 
 -- the batch has the rows of the run in its interval
 pub record IsBatchOfRun (plan : Plan) (batch : BatchRows) : Type 0 where
   pub ordered : batch.from ≤ batch.to
-  pub rows_are : (rows : List Noted) → AreRowsOf plan rows → batch.rows ≡ rows_within batch.from batch.to rows
+  pub rows_are : (rows : List Row) → AreRowsOf plan rows → batch.rows ≡ rows_within batch.from batch.to rows
 
 -- the parts are gathered of run 0, of all processes and up to the end of the network, and those that wait have the rows of the run
 pub record IsGatheringOfRun (plan : Plan) (gathering : Gathering) : Type 0 where
   pub run_is : gathering.run ≡ 0
   pub until_is : gathering.until ≡ plan.until
   pub count : length gathering.waiting ≡ process_count plan
-  pub rows_are : (rows : List Noted) → AreRowsOf plan rows → IsOfRows gathering (λ p. rows_at p rows)
+  pub rows_are : (rows : List Row) → AreRowsOf plan rows → IsOfRows gathering (λ p. rows_at p rows)
 
 -- what is written of the trace of these rows: nothing before the first batch, and then that of the rows before the end of the last one
-abbrev pub text_before : Plan → Bool → ℕ → List Noted → List ℕ
+abbrev pub text_before : Plan → Bool → ℕ → List Row → List ℕ
 text_before plan begun end rows = cond begun (trace_text plan (rows_before end rows)) []
 
 -- the trace is that of the run, where its sink had taken `start` and had so many failures before. Where the sink has not failed, it took
@@ -50,7 +50,7 @@ text_before plan begun end rows = cond begun (trace_text plan (rows_before end r
 pub record IsTraceOfRun (plan : Plan) (start : Option (List ℕ)) (failures : ℕ) (trace : WrittenTrace) : Type 0 where
   pub plan_is : trace.plan ≡ plan
   pub opening : trace.begun ≡ false → trace.end ≡ 0
-  pub sound : trace.broken ≡ false → (rows : List Noted) → AreRowsOf plan rows →
+  pub sound : trace.broken ≡ false → (rows : List Row) → AreRowsOf plan rows →
       trace.taken ≡ append_known start (text_before plan trace.begun trace.end rows)
-  pub broken : trace.broken ≡ true → (rows : List Noted) → AreRowsOf plan rows → IsBeginning start trace.taken (trace_text plan rows)
+  pub broken : trace.broken ≡ true → (rows : List Row) → AreRowsOf plan rows → IsBeginning start trace.taken (trace_text plan rows)
   pub failures_are : trace.failures ≡ cond trace.broken (failures + 1) failures

@@ -1,7 +1,7 @@
 -- What was written of the trace of a run.
 use Rattle.std.specs.Prelude.{◌≡◌, ◌≢◌, ℕ, ◌+◌, List, Option, Some, None, Result, Ok, Err, OnOk, IfErr, ⊤}
 use Rattle.std.specs.Io.KnownBytes.{append_known}
-use Rattle.vlink.specs.declared.note.Row.{Row as Noted}
+use Rattle.vlink.specs.Letters.{Row}
 use Rattle.netdesc.specs.Plan.{Plan}
 use Rattle.trace_parts.specs.declared.fault.OutFault.TheVariants.{Device}
 use Rattle.trace_parts.specs.declared.part_fault.PartFault.{PartFault}
@@ -35,9 +35,9 @@ outcome_of (Ok _) None end = end
 -- `taken`, and `failures` writes failed
 pub record IsWritten (plan : Plan) (start : Option (List ℕ)) (failed : ℕ) (written : Result ⊤ TraceFault) (taken : Option (List ℕ)) (failures : ℕ) : Type 0 where
   -- where it went well, the sink took the whole trace of the rows of the one-thread run
-  pub whole : OnOk written ((rows : List Noted) → AreRowsOf plan rows → taken ≡ append_known start (trace_text plan rows))
+  pub whole : OnOk written ((rows : List Row) → AreRowsOf plan rows → taken ≡ append_known start (trace_text plan rows))
   -- in any case it took a beginning of it
-  pub beginning : (rows : List Noted) → AreRowsOf plan rows → IsBeginning start taken (trace_text plan rows)
+  pub beginning : (rows : List Row) → AreRowsOf plan rows → IsBeginning start taken (trace_text plan rows)
   -- just one write failed, where the fault says so; none, where it went well
   pub device : IfErr written (λ fault. fault ≡ Out Device → failures ≡ failed + 1)
   pub went_well : OnOk written (failures ≡ failed)

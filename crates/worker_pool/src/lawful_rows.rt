@@ -1,4 +1,5 @@
 //! What a trace rests on: the rows of a run are lawful.
+ghost use Rattle.vlink.specs.Order.{message_order};
 ghost use Rattle.worker_pool.specs.Traces.{HasLawfulRows};
 
 use netdesc::Network;

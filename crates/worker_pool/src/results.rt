@@ -1,7 +1,7 @@
 //! What an ended run has found.
 ghost use Rattle.std.specs.Prelude.{◌≡◌, List, IfOk, IfErr};
-ghost use Rattle.vlink.specs.declared.note.Row.{Row as Noted};
-ghost use Rattle.virtual_time.specs.Journal.{steps};
+ghost use Rattle.vlink.specs.Letters.{Row};
+ghost use Rattle.virtual_time.specs.Law.{steps};
 ghost use Rattle.journal.specs.declared.fault.PoolFault.TheVariants.{OutOfMemory};
 ghost use Rattle.trace_tables.specs.Tables.{tables_of};
 ghost use Rattle.seqsim.specs.Committed.{AreCommittedRows};
@@ -71,8 +71,8 @@ impl<'a, J: NetworkRun> Unlocked<'a, J> {
         requires network { network.now ≡ J.plan }
         requires ended { IsEnded J.plan self.now.exchange.entries self.now.helds.items }
         requires counted { HaveGoneBy counted.end self.now.helds.items }
-        ensures whole { IfOk result (λ tables. (rows : List Noted) × AreRowsOf J.plan rows × (tables ≡ tables_of J.plan rows)) }
-        ensures each { IfOk result (λ tables. (rows : List Noted) → AreRowsOf J.plan rows → tables ≡ tables_of J.plan rows) }
+        ensures whole { IfOk result (λ tables. (rows : List Row) × AreRowsOf J.plan rows × (tables ≡ tables_of J.plan rows)) }
+        ensures each { IfOk result (λ tables. (rows : List Row) → AreRowsOf J.plan rows → tables ≡ tables_of J.plan rows) }
     {
         network_laws(network);
         lawful_rows(network);

@@ -1,6 +1,6 @@
 //! The exchange that all workers of a run share.
 ghost use Rattle.std.specs.Prelude.{◌≡◌, ◌≢◌, ◌+◌, ◌<◌, ◌≤◌, length, IfErr, Err};
-ghost use Rattle.virtual_time.specs.Journal.{steps, reach};
+ghost use Rattle.virtual_time.specs.Law.{steps, reach};
 ghost use Rattle.netdesc.specs.Faults.{process_count};
 ghost use Rattle.nodes.specs.rules.Simulation.{simulation_of};
 ghost use Rattle.journal.specs.declared.fault.PoolFault.TheVariants.{JournalFull, Spawn};

@@ -1,6 +1,6 @@
 //! What is asked of a run beside its trace: its tables, and its steps where they are wanted. No row is listed for it.
 ghost use Rattle.std.specs.Prelude.{◌≡◌, List, length, IfOk, IfErr};
-ghost use Rattle.vlink.specs.declared.note.Row.{Row as Noted};
+ghost use Rattle.vlink.specs.Letters.{Row};
 ghost use Rattle.netdesc.specs.Faults.{process_count};
 ghost use Rattle.journal.specs.declared.fault.PoolFault.TheVariants.{OutOfMemory, Spawn};
 ghost use Rattle.journal.specs.Names.{names};
@@ -43,8 +43,8 @@ impl<'a, J: NetworkRun> Unlocked<'a, J> {
         requires network { network.now ≡ J.plan }
         requires ended { IsEnded J.plan self.now.exchange.entries self.now.helds.items }
         requires counted { HaveGoneBy counted.end self.now.helds.items }
-        ensures tables { IfOk result (λ s. (rows : List Noted) × AreRowsOf J.plan rows × (s.tables ≡ tables_of J.plan rows)) }
-        ensures each { IfOk result (λ s. (rows : List Noted) → AreRowsOf J.plan rows → s.tables ≡ tables_of J.plan rows) }
+        ensures tables { IfOk result (λ s. (rows : List Row) × AreRowsOf J.plan rows × (s.tables ≡ tables_of J.plan rows)) }
+        ensures each { IfOk result (λ s. (rows : List Row) → AreRowsOf J.plan rows → s.tables ≡ tables_of J.plan rows) }
         ensures journal { IfOk result (λ s. IsJournalAsked J.plan with_steps s.journal.items) }
         ensures memory { IfErr result (λ fault. fault ≡ OutOfMemory) }
     {
@@ -81,8 +81,8 @@ fn summary_named<J: NetworkRun + Send + Sync, G: Gate + Sync, T: Threads + Wait 
     requires table { names table.now.pages.items ≡ J.pages }
     requires names { pairs ≡ J.names }
     requires each_name { length J.names ≡ process_count network.now }
-    ensures tables { IfOk result (λ s. (rows : List Noted) × AreRowsOf J.plan rows × (s.tables ≡ tables_of J.plan rows)) }
-    ensures each { IfOk result (λ s. (rows : List Noted) → AreRowsOf J.plan rows → s.tables ≡ tables_of J.plan rows) }
+    ensures tables { IfOk result (λ s. (rows : List Row) × AreRowsOf J.plan rows × (s.tables ≡ tables_of J.plan rows)) }
+    ensures each { IfOk result (λ s. (rows : List Row) → AreRowsOf J.plan rows → s.tables ≡ tables_of J.plan rows) }
     ensures journal { IfOk result (λ s. IsJournalAsked J.plan with_steps s.journal.items) }
     ensures spawn { IfErr result (λ fault. fault ≡ Spawn → CanWantWorkers pace.now.workers (process_count network.now)) }
 {
@@ -101,8 +101,8 @@ pub fn run_summary<G: Gate + Sync, T: Threads + Wait + Sync>(
     with_steps: bool,
     gate: &G,
 ) -> Result<Summary, PoolFault>
-    ensures tables { IfOk result (λ s. (rows : List Noted) × AreRowsOf network.now rows × (s.tables ≡ tables_of network.now rows)) }
-    ensures each { IfOk result (λ s. (rows : List Noted) → AreRowsOf network.now rows → s.tables ≡ tables_of network.now rows) }
+    ensures tables { IfOk result (λ s. (rows : List Row) × AreRowsOf network.now rows × (s.tables ≡ tables_of network.now rows)) }
+    ensures each { IfOk result (λ s. (rows : List Row) → AreRowsOf network.now rows → s.tables ≡ tables_of network.now rows) }
     ensures journal { IfOk result (λ s. IsJournalAsked network.now with_steps s.journal.items) }
     ensures spawn { IfErr result (λ fault. fault ≡ Spawn → CanWantWorkers pace.workers (process_count network.now)) }
 {

@@ -1,7 +1,7 @@
 //! The run of a network by workers whose trace is written while it goes on.
 ghost use Rattle.std.specs.Prelude.{◌≡◌, ◌+◌, List, length, IfOk, IfErr, IfSome, OnOk};
 ghost use Rattle.std.specs.Io.KnownBytes.{append_known};
-ghost use Rattle.vlink.specs.declared.note.Row.{Row as Noted};
+ghost use Rattle.vlink.specs.Letters.{Row};
 ghost use Rattle.netdesc.specs.Faults.{process_count};
 ghost use Rattle.journal.specs.Names.{names};
 ghost use Rattle.trace_parts.specs.declared.fault.OutFault.TheVariants.{Device};
@@ -68,8 +68,8 @@ fn traced_named<
     requires each_name { length J.names ≡ process_count network.now }
     requires taken { S.taken sink ≡ K.taken }
     requires failures { S.failures sink ≡ K.failures }
-    ensures tables { IfOk result (λ t. (rows : List Noted) × AreRowsOf J.plan rows × (t.outcome.tables ≡ tables_of J.plan rows)) }
-    ensures each { IfOk result (λ t. (rows : List Noted) → AreRowsOf J.plan rows → t.outcome.tables ≡ tables_of J.plan rows) }
+    ensures tables { IfOk result (λ t. (rows : List Row) × AreRowsOf J.plan rows × (t.outcome.tables ≡ tables_of J.plan rows)) }
+    ensures each { IfOk result (λ t. (rows : List Row) → AreRowsOf J.plan rows → t.outcome.tables ≡ tables_of J.plan rows) }
     ensures journal { IfOk result (λ t. IsJournalAsked J.plan with_steps t.outcome.journal.items) }
     ensures written { IfOk result (λ t. IsWritten J.plan K.taken K.failures t.written (S.taken t.sink) (S.failures t.sink)) }
 {
@@ -86,8 +86,8 @@ fn traced_named<
             requires names { pairs ≡ J.names }
             requires each_name { length J.names ≡ process_count network.now }
             requires counted { IfSome counted.tables (AreCountedBefore J.plan counted.end) }
-            ensures tables { IfOk result (λ t. (rows : List Noted) × AreRowsOf J.plan rows × (t.outcome.tables ≡ tables_of J.plan rows)) }
-            ensures each { IfOk result (λ t. (rows : List Noted) → AreRowsOf J.plan rows → t.outcome.tables ≡ tables_of J.plan rows) }
+            ensures tables { IfOk result (λ t. (rows : List Row) × AreRowsOf J.plan rows × (t.outcome.tables ≡ tables_of J.plan rows)) }
+            ensures each { IfOk result (λ t. (rows : List Row) → AreRowsOf J.plan rows → t.outcome.tables ≡ tables_of J.plan rows) }
             ensures journal { IfOk result (λ t. IsJournalAsked J.plan with_steps t.outcome.journal.items) }
             ensures written { IfOk result (λ t. IsWritten J.plan K.taken K.failures t.written (S.taken t.sink) (S.failures t.sink)) }
         {
@@ -136,12 +136,12 @@ pub fn run_traced<S: Sink + Drop + Send, G: Gate + Sync, T: Threads + Wait + Syn
     gate: &G,
     sink: S,
 ) -> Result<Traced<S>, PoolFault>
-    ensures tables { IfOk result (λ t. (rows : List Noted) × AreRowsOf network.now rows × (t.outcome.tables ≡ tables_of network.now rows)) }
-    ensures each { IfOk result (λ t. (rows : List Noted) → AreRowsOf network.now rows → t.outcome.tables ≡ tables_of network.now rows) }
+    ensures tables { IfOk result (λ t. (rows : List Row) × AreRowsOf network.now rows × (t.outcome.tables ≡ tables_of network.now rows)) }
+    ensures each { IfOk result (λ t. (rows : List Row) → AreRowsOf network.now rows → t.outcome.tables ≡ tables_of network.now rows) }
     ensures journal { IfOk result (λ t. IsJournalAsked network.now with_steps t.outcome.journal.items) }
-    ensures whole { IfOk result (λ t. OnOk t.written ((rows : List Noted) → AreRowsOf network.now rows →
+    ensures whole { IfOk result (λ t. OnOk t.written ((rows : List Row) → AreRowsOf network.now rows →
         S.taken t.sink ≡ append_known (S.taken sink) (trace_text network.now rows))) }
-    ensures beginning { IfOk result (λ t. (rows : List Noted) → AreRowsOf network.now rows →
+    ensures beginning { IfOk result (λ t. (rows : List Row) → AreRowsOf network.now rows →
         IsBeginning (S.taken sink) (S.taken t.sink) (trace_text network.now rows)) }
     ensures device { IfOk result (λ t. IfErr t.written (λ fault. fault ≡ Out Device → S.failures t.sink ≡ S.failures sink + 1)) }
     ensures went_well { IfOk result (λ t. OnOk t.written (S.failures t.sink ≡ S.failures sink)) }

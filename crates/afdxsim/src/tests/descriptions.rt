@@ -10,7 +10,7 @@ use keys::{KINDS, LIMITS, LIMITS_OF_LINKS, LIMITS_OF_VIRTUAL_LINKS, MISSING, SYN
 use netdesc::{DescFault, read};
 use order::{KEYS, NUMBERS, SECTIONS};
 use rules::{ACCEPTED, DOUBLE, LINKS, SIZES, TREES, UNKNOWN};
-use seqsim::run;
+use seqsim::{Unwatched, run};
 use std::alloc::{AllocError, Global};
 use std::process::Abort;
 use std::sync::Wait;
@@ -298,7 +298,7 @@ fn is_read_and_written(rt: &(impl Abort + Eprint), alloc: Global) -> bool {
             return true;
         }
     };
-    let Ok(finished) = run(alloc, &network) else {
+    let Ok(finished) = run(alloc, &network, &mut Unwatched) else {
         return false;
     };
     let Ok(mut page) = Page::with_room(alloc, 128) else {

@@ -4,7 +4,7 @@ use super::networks::network;
 use super::stage::{Word, word_of};
 use crate::workers::Open;
 use netdesc::{Network, read};
-use seqsim::run;
+use seqsim::{Unwatched, run};
 use std::alloc::Global;
 use std::sync::Wait;
 use std::test::Fail;
@@ -56,7 +56,7 @@ fn tell_width(word: Word<'_>, told: &mut String) -> Result<(), Fail> {
 fn tell_cut(alloc: Global, word: Word<'_>, told: &mut String) -> Result<(), Fail> {
     let net = network(alloc, "n1")?;
     let network = read(alloc, net.as_str())?;
-    let found = run(alloc, &network)?;
+    let found = run(alloc, &network, &mut Unwatched)?;
     let rows = found.rows.as_slice();
     match part_of(alloc, rows, 0, word.first, word.second, network.until())? {
         Some(part) => tell_rows(part.from(), part.to(), part.rows(), told),
@@ -163,7 +163,7 @@ pub fn is_cut_at_each_write<T: Threads + Wait + Sync>(
 
 // The trace of the one-thread run.
 fn trace_of(alloc: Global, network: &Network) -> Result<Vec<u8>, Fail> {
-    let found = run(alloc, network)?;
+    let found = run(alloc, network, &mut Unwatched)?;
     let mut page = Page::new(alloc);
     write_trace(alloc, network, found.rows.as_slice(), &mut page)?;
     Ok(page.bytes)

@@ -3,7 +3,7 @@ use super::changes::{changed, lines_of};
 use super::host::{MemoryHost, Page, says, status_of};
 use super::parts;
 use netdesc::read;
-use seqsim::run;
+use seqsim::{Unwatched, run};
 use std::alloc::Global;
 use std::sync::Wait;
 use std::test::Fail;
@@ -275,7 +275,7 @@ fn is_told_for(alloc: Global, one: &str, other: &str) -> Result<bool, Fail> {
     let one = format!(in alloc; "{one}=> ")?;
     let (one, _) = changed(alloc, one.as_str())?;
     let (other, told) = changed(alloc, other)?;
-    let finished = run(alloc, &read(alloc, one.as_str())?)?;
+    let finished = run(alloc, &read(alloc, one.as_str())?, &mut Unwatched)?;
     let mut page = Page::new(alloc);
     write_csv(
         alloc,

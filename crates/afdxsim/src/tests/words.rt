@@ -89,14 +89,14 @@ n1 => replay --help => 0 => Usage: afdxsim replay <NET> <STEPS>
 
 /// Each row has words and the order that they make, of which the tables do not tell.
 const RUNS: &str = r#"
-run x => Run(Run { net: "x", workers: 4, turn: 16, window_ns: 1000000, journal: None, trace: None })
-run x --workers 1 => Run(Run { net: "x", workers: 1, turn: 16, window_ns: 1000000, journal: None, trace: None })
-run x --workers 64 => Run(Run { net: "x", workers: 64, turn: 16, window_ns: 1000000, journal: None, trace: None })
-run x --turn 1 => Run(Run { net: "x", workers: 4, turn: 1, window_ns: 1000000, journal: None, trace: None })
-run x --turn 256 => Run(Run { net: "x", workers: 4, turn: 256, window_ns: 1000000, journal: None, trace: None })
-run x --window 1 => Run(Run { net: "x", workers: 4, turn: 16, window_ns: 1, journal: None, trace: None })
-run x --window 1000000000000000 => Run(Run { net: "x", workers: 4, turn: 16, window_ns: 1000000000000000, journal: None, trace: None })
-run n.toml --workers 8 --turn 32 --window 500 --journal j.txt --trace t.csv => Run(Run { net: "n.toml", workers: 8, turn: 32, window_ns: 500, journal: Some("j.txt"), trace: Some("t.csv") })
+run x => Run(Run { net: "x", workers: 4, turn: 16, window_ns: 1000000, journal: None, trace: None, progress: false })
+run x --workers 1 => Run(Run { net: "x", workers: 1, turn: 16, window_ns: 1000000, journal: None, trace: None, progress: false })
+run x --workers 64 => Run(Run { net: "x", workers: 64, turn: 16, window_ns: 1000000, journal: None, trace: None, progress: false })
+run x --turn 1 => Run(Run { net: "x", workers: 4, turn: 1, window_ns: 1000000, journal: None, trace: None, progress: false })
+run x --turn 256 => Run(Run { net: "x", workers: 4, turn: 256, window_ns: 1000000, journal: None, trace: None, progress: false })
+run x --window 1 => Run(Run { net: "x", workers: 4, turn: 16, window_ns: 1, journal: None, trace: None, progress: false })
+run x --window 1000000000000000 => Run(Run { net: "x", workers: 4, turn: 16, window_ns: 1000000000000000, journal: None, trace: None, progress: false })
+run n.toml --workers 8 --turn 32 --window 500 --journal j.txt --trace t.csv => Run(Run { net: "n.toml", workers: 8, turn: 32, window_ns: 500, journal: Some("j.txt"), trace: Some("t.csv"), progress: false })
 "#;
 
 #[test]

@@ -3,7 +3,7 @@ use Rattle.std.proofs.Common.{◌≡◌, ℕ, ◌+◌, ◌≤◌, nat_le, List, 
 use Rattle.std.proofs.lemmas.Bool.{leb-true, cond_both}
 use Rattle.std.proofs.lemmas.List.Elements.{All-nil, All-cons, All-head, All-tail}
 use Rattle.vlink.specs.declared.message.Message.{Message}
-use Rattle.virtual_time.specs.Lists.{IsNumbered}
+use Rattle.virtual_time.specs.Law.{IsNumbered}
 use Rattle.reverse.specs.Sending.{Wish, Sender, message_of, sent}
 
 -- the sender once a message is sent

@@ -2,7 +2,7 @@
 use Rattle.vlink.specs.declared.message.Message.{Message}
 use Rattle.vlink.specs.declared.note.Note.{Note}
 use Rattle.reverse.specs.Rules.{rules_of}
-use Rattle.virtual_time.specs.Simulation.{Simulation}
+use Rattle.virtual_time.specs.Law.{Simulation}
 use Rattle.netdesc.specs.Plan.{Plan}
 use Rattle.netdesc.specs.Faults.{process_count}
 use Rattle.traffic.specs.Offers.{offers_of}

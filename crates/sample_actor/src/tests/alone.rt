@@ -3,7 +3,7 @@ ghost use Rattle.std.specs.Prelude.{◌<◌};
 
 use super::player::moment;
 use crate::Summing;
-use actor_run::{SimFault, run_actors};
+use actor_run::{SimFault, Unwatched, run_actors};
 use process_queues::ProcFault;
 use reverse::{actor_laws, actor_rules};
 use std::alloc::Global;
@@ -42,6 +42,6 @@ fn rows(alloc: Global, actor: Summing) -> Result<usize, SimFault>
     };
     let mut actors = Vec::new(alloc);
     actors.push(actor)?;
-    let rows = run_actors(alloc, &mut actors, &[offer])?;
+    let rows = run_actors(alloc, &mut actors, &[offer], &mut Unwatched)?;
     Ok(rows.len())
 }

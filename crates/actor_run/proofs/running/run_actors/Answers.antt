@@ -2,7 +2,7 @@ use Rattle.std.proofs.Common.{◌≡◌, inl, inr, refl, subst, sym, List, [], E
 use Rattle.reverse.specs.Rules.{rules_of}
 use Rattle.std.proofs.lemmas.Result.{err_from_is_err_and}
 use Rattle.actor_run.specs.declared.fault.SimFault.TheVariants.{OutOfMemory, Exhausted}
-use Rattle.vlink.specs.declared.note.Row.{Row as Noted}
+use Rattle.vlink.specs.Letters.{Row}
 use Rattle.reverse.specs.Setting.{simulation_of}
 use Rattle.actor_run.specs.Running.{IsWholeRun}
 use Rattle.actor_run.proofs.Turning.{begun, started}
@@ -44,7 +44,7 @@ returns-clause-whole g c = λ x o L.
     let f = simulation_of (rules_of g.A.Reversible.plain g.A.Actor.counter) x in
     let whole = c.in_ok-take_all_turns.ensures.whole [] c.none-all.ensures x L 0
     (started (rules_of g.A.Reversible.plain g.A.Actor.counter) x _ c.args.offers.now _ [] o c.in_ok-waiting.ensures.offered refl) in
-    subst (λ (rows : List Noted). IsWholeRun f rows c.take_all_turns.new.actors) (sym whole.1) whole.2
+    subst (λ (rows : List Row). IsWholeRun f rows c.take_all_turns.new.actors) (sym whole.1) whole.2
 
 pub returns-in_err-waiting-clause-memory : goal.returns-in_err-waiting-clause-memory
 returns-in_err-waiting-clause-memory g c = λ e x o L. inl refl

@@ -1,4 +1,4 @@
-use Rattle.std.proofs.Common.{◌≡◌, ◌∙◌, refl, suc, true, false, Ok, Err}
+use Rattle.std.proofs.Common.{◌≡◌, ◌∙◌, refl, suc, true, false, Ok, Err, arith}
 use Rattle.std.proofs.lemmas.Result.{err_from_is_err_and}
 use Rattle.actor_run.specs.declared.fault.SimFault.TheVariants.{OutOfMemory, Exhausted}
 use Rattle.reverse.specs.Rules.{rules_of}
@@ -8,7 +8,7 @@ use Rattle.actor_run.proofs.Turning.{none-yet, one-more, never}
 use Rattle.actor_run.proofs.running.take_all_turns.Goals as goal
 
 pub turns-init : goal.turns-init
-turns-init g c = record { stands = λ rows taken x L n h. (n, rows, taken, h, none-yet (simulation_of (rules_of g.A.Reversible.plain g.A.Actor.counter) x) n); purpose = refl }
+turns-init g c = record { stands = λ rows taken x L n h. (n, rows, taken, h, none-yet (simulation_of (rules_of g.A.Reversible.plain g.A.Actor.counter) x) n); purpose = refl; unseen = omega arith; watched = g.met.W.Watch.stays c.args.watch.now }
 
 pub take_turn-requires : goal.take_turn-requires
 take_turn-requires g c =
@@ -48,6 +48,8 @@ turns-preserved g c =
             one-more f n now.0 now.4 (λ z. let u : c.take_turn.result ≡ Err Exhausted = c.take_turn.ensures.used_up now.1 now.2 x L now.0 now.3 z in cc),
           );
       purpose = c.in_ok-take_turn.ensures.purpose ∙ c.turns.invariant.purpose;
+      unseen = c.show_event-unseen.ensures.few;
+      watched = g.met.W.Watch.goes_on _ _ _ c.turns.invariant.watched c.show_event-unseen.ensures.watched;
     }
 
 pub returns-clause-whole : goal.returns-clause-whole

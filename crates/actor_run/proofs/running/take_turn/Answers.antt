@@ -1,11 +1,12 @@
 use Rattle.std.proofs.Common.{refl, suc, ◌++◌, ◌∙◌, ap, sym, subst, length, List, IsPermutation, arith}
+use Rattle.virtual_time.specs.Law.{rows_of}
 use Rattle.vlink.specs.declared.message.Message.{Message}
 use Rattle.vlink.specs.declared.time.TheConstants.{GREATEST_NS}
+use Rattle.vlink.specs.Order.{message_order}
 use Rattle.reverse.specs.Rules.{rules_of}
-use Rattle.actor_run.specs.Recording.{noted_at}
 use Rattle.reverse.specs.Setting.{simulation_of}
 use Rattle.actor_run.specs.Running.{StandsAt}
-use Rattle.actor_run.proofs.Turning.{over, over-numbers, has-numbers, is_next, receiver_is, receiver_within, states_after, noted-behind, turned}
+use Rattle.actor_run.proofs.Turning.{over, over-numbers, has-numbers, is_next, receiver_is, receiver_within, states_after, turned}
 use Rattle.actor_run.proofs.Errors.{after-error}
 use Rattle.actor_run.proofs.Loading.{load-falls}
 use Rattle.actor_run.proofs.running.take_turn.Goals as goal
@@ -71,7 +72,7 @@ returns-clause-turned g c =
     λ e rows taken x L n h.
     let f = simulation_of (rules_of g.A.Reversible.plain g.A.Actor.counter) x in
     let r = receiver_is f L n _ _ _ h c.in-Some.message c.pop.new.self one first in
-    let later = rows ++ noted_at c.in-Some.message c.notes.result.now in (
+    let later = rows ++ rows_of message_order c.in-Some.message c.notes.result.now in (
       later,
       c.in_ok-record.ensures.taken rows taken,
       turned f L n _ _ _ h c.in-Some.message c.pop.new.self one first
@@ -80,7 +81,7 @@ returns-clause-turned g c =
           (c.messages.ensures.messages ∙ c.if-not-act.ensures.messages refl _ r)
           (c.notes.ensures.notes ∙ c.if-not-act.ensures.notes refl _ r)
           c.in_ok-push_all.ensures.more
-          (noted-behind rows c.in-Some.message c.notes.result.now),
+          refl,
     )
 
 pub returns-clause-smaller : goal.returns-clause-smaller

@@ -1,11 +1,10 @@
 use Rattle.std.proofs.Common.{map, string_bytes}
-use Rattle.antimessages.specs.Steps.{step_of}
 use Rattle.afdxsim.proofs.Accounts.{summary}
 use Rattle.afdxsim.proofs.account.summary_of.Goals as goal
 
 pub returns : goal.returns
 returns c steps is =
     summary c.args.found.now steps c.ns-gvt.result c.is_finished-is_finished.result (string_bytes c.in_ok-line.line) is
-    (let a = c.ns-gvt.ensures.value in let b = c.gvt.ensures (map step_of steps) is.after in cc)
-    (c.is_finished-is_finished.ensures (map step_of steps) is.after)
+    (let a = c.ns-gvt.ensures.value in let b = c.gvt.ensures steps is.after in cc)
+    (c.is_finished-is_finished.ensures steps is.after)
     c.in_ok-line.ensures

@@ -1,7 +1,7 @@
 use Rattle.std.proofs.Common.{refl, sym, ap, ◌∙◌}
 use Rattle.std.specs.Option.{option_map}
 use Rattle.std.specs.List.{find}
-use Rattle.antimessages.specs.Letters.{is_plus}
+use Rattle.virtual_time.specs.Law.{is_plus}
 use Rattle.antimessages.proofs.First.{plus-head, minus-head}
 use Rattle.antimessages.proofs.occurrences.first_plus.Goals as goal
 

@@ -1,7 +1,7 @@
 use Rattle.std.proofs.Common.{◌≡◌}
 use Rattle.std.specs.Option.{option_map}
 use Rattle.std.specs.List.{find}
-use Rattle.antimessages.specs.Letters.{is_plus}
+use Rattle.virtual_time.specs.Law.{is_plus}
 use Rattle.antimessages.proofs.occurrences.first_plus.Given as goal
 
 abbrev pub invariant-loop-occurrence : goal.invariant-loop-occurrence

@@ -8,9 +8,9 @@ use Rattle.std.specs.Map.{lookup}
 use Rattle.std.specs.BTreeMap.{is_at, keys}
 use Rattle.std.specs.BTreeMap.Range.{entries_between}
 use Rattle.std.proofs.lemmas.Map.Entries.{btree_map_get_place}
-use Rattle.vlink.specs.declared.message.Sign.{Sign}
+use Rattle.virtual_time.specs.declared.letter.Sign.{Sign}
 use Rattle.antimessages.specs.declared.occurrence.Occurrence.{Occurrence}
-use Rattle.antimessages.specs.Letters.{is_plus}
+use Rattle.virtual_time.specs.Law.{is_plus}
 use Rattle.antimessages.specs.Occurrences.{occurrence_cmp}
 use Rattle.antimessages.proofs.First.{found, found-head}
 use Rattle.antimessages.proofs.occurrences.next_after.Goals as goal

@@ -3,8 +3,8 @@ use Rattle.std.specs.List.Sorted.{IsStrictlySortedBy}
 use Rattle.std.specs.declared.cmp.Ordering.{Ordering}
 use Rattle.std.specs.Map.{lookup}
 use Rattle.std.specs.BTreeMap.{is_at, keys}
-use Rattle.vlink.specs.declared.message.Sign.{Sign}
-use Rattle.vlink.specs.declared.message.Sign.TheVariants.{Plus}
+use Rattle.virtual_time.specs.declared.letter.Sign.{Sign}
+use Rattle.virtual_time.specs.declared.letter.Sign.TheVariants.{Plus}
 use Rattle.antimessages.specs.declared.occurrence.Occurrence.{Occurrence}
 use Rattle.antimessages.specs.Occurrences.{occurrence_of, occurrence_cmp}
 use Rattle.antimessages.proofs.Beginning.{begins-one, begins-first, first-more}

@@ -1,5 +1,5 @@
 use Rattle.std.proofs.Common.{◌≡◌, map, take}
-use Rattle.virtual_time.specs.Letters.{plus_of}
+use Rattle.virtual_time.specs.Law.{plus_of}
 use Rattle.antimessages.proofs.outbox.plus_letters.Given as goal
 
 abbrev pub invariant-loop-message : goal.invariant-loop-message

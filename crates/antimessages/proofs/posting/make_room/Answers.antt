@@ -1,6 +1,6 @@
 use Rattle.std.proofs.Common.{◌==◌, not, refl, arith}
 use Rattle.std.proofs.lemmas.List.Filters.{length-filter_both}
-use Rattle.vlink.specs.declared.message.Letter.{Letter}
+use Rattle.vlink.specs.Letters.{Letter}
 use Rattle.antimessages.proofs.posting.make_room.Goals as goal
 
 pub returns-then-letters-capacity-clause-ok : goal.returns-then-letters-capacity-clause-ok

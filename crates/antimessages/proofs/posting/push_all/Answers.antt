@@ -1,8 +1,8 @@
 use Rattle.std.proofs.Common.{◌<◌, ◌++◌, length, map, refl, sym, ap, ◌∙◌, append-nil, arith}
 use Rattle.std.proofs.Math.ListN.{length-set}
 use Rattle.std.proofs.lemmas.List.{take_all}
-use Rattle.virtual_time.specs.Letters.{received_by}
-use Rattle.antimessages.specs.Letters.{message_rules, signed}
+use Rattle.virtual_time.specs.Law.{received_by}
+use Rattle.vlink.specs.Order.{message_order}
 use Rattle.antimessages.specs.Mailing.{letters_for, store_of}
 use Rattle.antimessages.proofs.Boxes.{receiver-within, put-letters}
 use Rattle.antimessages.proofs.posting.push_all.Goals as goal
@@ -34,4 +34,4 @@ loop-letter-preserved c =
 pub returns-clause-put : goal.returns-clause-put
 returns-clause-put c = λ p.
     c.loop-letter.invariant.put p ∙
-    ap (λ z. letters_for p (map store_of c.args.boxes.now.items) ++ received_by message_rules p (map signed z)) (take_all c.loop-letter.letter-index c.args.letters.now c.loop-letter-test.false)
+    ap (λ z. letters_for p (map store_of c.args.boxes.now.items) ++ received_by message_order p z) (take_all c.loop-letter.letter-index c.args.letters.now c.loop-letter-test.false)

@@ -2,8 +2,8 @@ use Rattle.std.proofs.Common.{◌<◌, inl, inr, length, map, refl, ap, ◌∙�
 use Rattle.std.proofs.Math.ListN.{length-set}
 use Rattle.std.proofs.lemmas.Bool.{cases_lt}
 use Rattle.std.proofs.lemmas.List.{take_all}
-use Rattle.virtual_time.specs.Letters.{received_by}
-use Rattle.antimessages.specs.Letters.{message_rules, signed}
+use Rattle.virtual_time.specs.Law.{received_by}
+use Rattle.vlink.specs.Order.{message_order}
 use Rattle.antimessages.proofs.Boxes.{receiver-within, same-letters, more-room, reserve-room, refused-next}
 use Rattle.antimessages.proofs.posting.reserve_by_letters.Goals as goal
 
@@ -69,8 +69,8 @@ returns-clause-same c = c.loop-letter.invariant.same
 
 pub returns-clause-room : goal.returns-clause-room
 returns-clause-room c = λ p.
-    let all = ap (λ z. length (received_by message_rules p (map signed z))) (take_all c.loop-letter.letter-index c.args.letters.now c.loop-letter-test.false) in
-    elim (cases_lt 0 (length (received_by message_rules p (map signed c.args.letters.now)))) [
+    let all = ap (λ z. length (received_by message_order p z)) (take_all c.loop-letter.letter-index c.args.letters.now c.loop-letter-test.false) in
+    elim (cases_lt 0 (length (received_by message_order p c.args.letters.now))) [
       | inl some ↦ c.loop-letter.invariant.room p (omega arith)
       | inr none ↦ omega arith
     ]

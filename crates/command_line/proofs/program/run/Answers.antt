@@ -1,9 +1,9 @@
-use Rattle.std.proofs.Common.{◌∙◌, rules, ap, codes}
+use Rattle.std.proofs.Common.{◌∙◌, ap, codes}
 use Rattle.std.proofs.lemmas.Result.{IfOk-weaker}
 use Rattle.clap.specs.Words.{App, new_app, with_rule}
 use Rattle.clap.specs.Simple.{app_of_fields}
 use Rattle.vlink.specs.declared.time.TheConstants.{LATEST_NS}
-use Rattle.command_line.specs.Program.{file_rule, number_rule, path_rule}
+use Rattle.command_line.specs.Program.{file_rule, flag_rule, number_rule, path_rule}
 use Rattle.command_line.proofs.Adding.{Grows, grows}
 use Rattle.command_line.proofs.program.run.Goals as goal
 
@@ -15,10 +15,11 @@ returns c =
     let window = number_rule (codes "window") LATEST_NS in
     let journal = file_rule (codes "journal") in
     let trace = file_rule (codes "trace") in
+    let progress = flag_rule (codes "progress") in
     let bare : App = new_app (codes "run") in
     let first : Grows c.after_help.result bare = record {
       app = ap app_of_fields c.after_help.ensures ∙ (ap app_of_fields c.about.ensures ∙ c.new.ensures.app);
-      local = search rules;
+      local = ap (λ f. f.has_globals) c.after_help.ensures ∙ (ap (λ f. f.has_globals) c.about.ensures ∙ c.new.ensures.local);
     } in
     let one = with_rule bare net in
     let second : Grows c.in_ok-arg.field-0 one =
@@ -35,9 +36,12 @@ returns c =
     let five = with_rule four journal in
     let sixth : Grows c.in_ok-arg-5.field-0 five =
     grows c.in_ok-arg-4.field-0 c.in_ok-arg-5.field-0 c.file.result four journal c.in_ok-arg-5.ensures fifth c.file.ensures.rule c.file.ensures.local in
+    let six = with_rule five trace in
+    let seventh : Grows c.in_ok-arg-6.field-0 six =
+    grows c.in_ok-arg-5.field-0 c.in_ok-arg-6.field-0 c.file-2.result five trace c.in_ok-arg-6.ensures sixth c.file-2.ensures.rule c.file-2.ensures.local in
     record {
-      app = IfOk-weaker c.arg-6.result _ _
-          (λ command h. (grows c.in_ok-arg-5.field-0 command c.file-2.result five trace h sixth c.file-2.ensures.rule c.file-2.ensures.local).app) c.arg-6.ensures;
-      local = IfOk-weaker c.arg-6.result _ _
-          (λ command h. (grows c.in_ok-arg-5.field-0 command c.file-2.result five trace h sixth c.file-2.ensures.rule c.file-2.ensures.local).local) c.arg-6.ensures;
+      app = IfOk-weaker c.arg-7.result _ _
+          (λ command h. (grows c.in_ok-arg-6.field-0 command c.flag.result six progress h seventh c.flag.ensures.rule c.flag.ensures.local).app) c.arg-7.ensures;
+      local = IfOk-weaker c.arg-7.result _ _
+          (λ command h. (grows c.in_ok-arg-6.field-0 command c.flag.result six progress h seventh c.flag.ensures.rule c.flag.ensures.local).local) c.arg-7.ensures;
     }

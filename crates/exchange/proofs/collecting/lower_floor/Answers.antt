@@ -1,6 +1,4 @@
 use Rattle.std.proofs.Common.{◌≡◌, ◌<◌, length, slice_get, Some, sym, ap, ◌∙◌, arith}
-use Rattle.std.specs.Option.{option_map}
-use Rattle.antimessages.specs.Letters.{signed}
 use Rattle.antimessages.specs.Mailing.{letters_for}
 use Rattle.gvt.specs.Horizon.{Floors}
 use Rattle.exchange.proofs.Lists.{slice_get-none}
@@ -16,15 +14,15 @@ loop-place-preserved c =
     let old = c.loop-place.invariant in
     elim c.match-look.branch [
       | in-Some w ↦
-          let at : slice_get ls i ≡ Some (signed w.in-Some.letter) = sym c.look.ensures ∙ ap (option_map signed) w.in-Some.is in
+          let at : slice_get ls i ≡ Some (w.in-Some.letter) = sym c.look.ensures ∙ w.in-Some.is in
           let here : i < length ls = omega arith in
           record {
-            floor = floor-more ls i (signed w.in-Some.letter) here at _ _ _ old.floor (ap (λ (f : Floors). slice_get f.floors p) w.floors-is ∙ w.lower.ensures.lowered);
+            floor = floor-more ls i (w.in-Some.letter) here at _ _ _ old.floor (ap (λ (f : Floors). slice_get f.floors p) w.floors-is ∙ w.lower.ensures.lowered);
             others = λ q n. ap (λ (f : Floors). slice_get f.floors q) w.floors-is ∙ (w.lower.ensures.others q n ∙ old.others q n);
             processes = ap (λ (f : Floors). length f.floors) w.floors-is ∙ (w.lower.ensures.processes ∙ old.processes);
             until = ap (λ (f : Floors). f.until) w.floors-is ∙ (w.lower.ensures.until ∙ old.until);
           }
       | in_default w ↦
-          let past = slice_get-none ls i (sym c.look.ensures ∙ ap (option_map signed) w.in_default.is) in
+          let past = slice_get-none ls i (sym c.look.ensures ∙ w.in_default.is) in
           absurd (omega arith)
     ]

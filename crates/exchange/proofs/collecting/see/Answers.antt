@@ -1,6 +1,5 @@
 use Rattle.std.proofs.Common.{List, [], refl, sym, ap, ◌∙◌, subst, arith, map, set}
-use Rattle.virtual_time.specs.Own.{local}
-use Rattle.virtual_time.specs.Journal.{act_by, after_own}
+use Rattle.virtual_time.specs.Law.{local, after_moves, after_own}
 use Rattle.reverse.specs.Rules.{rules_of}
 use Rattle.reverse.specs.Setting.{simulation_of}
 use Rattle.process_queues.specs.Queues.{StandsFor}
@@ -43,10 +42,10 @@ invariant_of-held g c =
     let share-place = ap (λ (z : Mark). z.place) (rw (sym c.held.view_is) at c.share.ensures) in
     let base = after_own (simulation_of r x) p (own_of c.held.inside.last) in (
       holds-at (holds-seen k (c.actor_laws.ensures x k.laid) g.R.Reversible.is_value p h.number_is c.held.inside.last h.last_is mine c.held.inside.process.queues
-          (subst (λ b. StandsFor r g.R.Reversible.is_value (x.opening p) (local r (x.opening p) (map act_by b) base) c.held.inside.process.queues) none h.stands)
+          (subst (λ b. StandsFor r g.R.Reversible.is_value (x.opening p) (after_moves r (x.opening p) b base) c.held.inside.process.queues) none h.stands)
           c.held.inside.gone
-          (gone-stays r (x.opening p) (local r (x.opening p) (map act_by c.held.inside.block) base) c.held.inside.process.queues h.stands c.held.inside.gone h.gone_early [] base
-          (sym (ap (λ b. local r (x.opening p) (map act_by b) base) none)) c.held.inside.process.queues refl)
+          (gone-stays r (x.opening p) (after_moves r (x.opening p) c.held.inside.block base) c.held.inside.process.queues h.stands c.held.inside.gone h.gone_early [] base
+          (sym (ap (λ b. after_moves r (x.opening p) b base) none)) c.held.inside.process.queues refl)
           c.held.inside.block none) (names c.held.inside.table.now.pages.items) h.same,
       record { name = c.tell_both.ensures.name ∙ c.held.invariant.1.name; value = c.tell_both.ensures.share ∙ (λ i. record { place = share-place i; seen = c.exchange.inside.gvt }) },
     )

@@ -1,9 +1,6 @@
 use Rattle.std.proofs.Common.{◌≡◌, ◌<◌, All, map, set, length, ◌++◌, Some, refl, sym, ap, ◌∙◌, subst, arith}
 use Rattle.std.proofs.lemmas.List.{length-map}
-use Rattle.virtual_time.specs.Letters.{received_by}
-use Rattle.virtual_time.specs.Part.{emptied, floor_of}
-use Rattle.virtual_time.specs.Own.{local}
-use Rattle.virtual_time.specs.Journal.{Posted, act_by, acts_of, own_in, after_own}
+use Rattle.virtual_time.specs.Law.{received_by, emptied, floor_of, local, after_moves, Posted, acts_of, own_in, after_own}
 use Rattle.reverse.specs.Rules.{rules_of}
 use Rattle.reverse.specs.Setting.{simulation_of}
 use Rattle.journal.specs.Deeds.{seen_entry}
@@ -92,7 +89,7 @@ invariant_of-exchange-in-Ok g c =
     let is-ok = c.post-posted.ensures.reserved room in
     let did = when-ok c.post-posted.result is-ok c.post-posted.ensures.emptied in
     let posted = when-ok c.post-posted.result is-ok c.post-posted.ensures.posted in
-    let part = local r (x.opening p) (map act_by block) (after_own (simulation_of r x) p (own_of c.held.inside.last)) in
+    let part = after_moves r (x.opening p) block (after_own (simulation_of r x) p (own_of c.held.inside.last)) in
     let stands = did (x.opening p) part h.stands in
     let books = c.exchange.inside.books.items in
     let end = end-told r g.R.Reversible.is_value (x.opening p) (emptied part) c.post-posted.new.self.queues stands L.order g.R.Actor.end (λ s m. g.met.R.Actor.end_stays s m) x.until (k.laid.end_is p h.number_is) in (
@@ -100,9 +97,9 @@ invariant_of-exchange-in-Ok g c =
       c.exchange.invariant.1,
       kept-posted k L p h.number_is block enabled part part-is new
           c.post-posted.new.mail (c.post-posted.ensures.processes ∙ c.reserve_post.ensures.processes)
-          (λ q. posted q ∙ (λ j. c.reserve_post.ensures.same q j ++ received_by r q (h.stands.outbox j)))
+          (λ q. posted q ∙ (λ j. c.reserve_post.ensures.same q j ++ received_by r.order q (h.stands.outbox j)))
           c.set.new.self c.set.ensures.processes c.set.ensures.until
-          c.floor.result (c.floor.ensures (x.opening p) (emptied part) stands ∙ ap (λ n. floor_of r n (emptied part)) end) c.set.ensures.here c.set.ensures.others
+          c.floor.result (c.floor.ensures (x.opening p) (emptied part) stands ∙ ap (λ n. floor_of r.order n (emptied part)) end) c.set.ensures.here c.set.ensures.others
           c.write.new.journal.items wrote.journal _ (omega arith)
           c.held.inside.seen (seen-low k p h.number_is (mark (place_in c.held.inside.last) c.held.inside.seen) fits)
           _ (c.tell_both.ensures.books ∙ (λ j. set (map (λ (b : Book Mark). b.value) books) p (mark (Some (place j)) c.held.inside.seen))),

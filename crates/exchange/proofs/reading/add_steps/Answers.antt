@@ -1,8 +1,7 @@
 use Rattle.std.proofs.Common.{◌<◌, length, sym, ap, ◌∙◌, arith}
 use Rattle.std.specs.Option.{option_map}
 use Rattle.vlink.specs.declared.message.Message.{Message}
-use Rattle.virtual_time.specs.Journal.{steps_of}
-use Rattle.antimessages.specs.Steps.{step_of}
+use Rattle.virtual_time.specs.Law.{steps_of}
 use Rattle.journal.specs.Deeds.{seen_deed}
 use Rattle.exchange.proofs.Listed.{listed-more, some-step}
 use Rattle.exchange.proofs.reading.add_steps.Goals as goal
@@ -15,5 +14,5 @@ loop-at-preserved c =
     elim c.match-step_in.branch [
       | in-Some+in_ok-push w ↦ listed-more ss c.loop-at.at w.in-Some.step c.args.list.now.items c.loop-at.list.items c.match-step_in.list.items w.in-Some.ensures c.loop-at.invariant
           (let pushed = w.in_ok-push.ensures.items in let same = w.list-is in cc)
-      | in_default w ↦ let within : c.loop-at.at < length ss = omega arith in absurd (some-step ss c.loop-at.at within (sym c.step_in.ensures ∙ ap (option_map step_of) w.in_default.is))
+      | in_default w ↦ let within : c.loop-at.at < length ss = omega arith in absurd (some-step ss c.loop-at.at within (sym c.step_in.ensures ∙ w.in_default.is))
     ]

@@ -1,9 +1,8 @@
 use Rattle.std.proofs.Common.{◌≡◌, ◌++◌, map, take}
 use Rattle.vlink.specs.declared.message.Message.{Message}
-use Rattle.virtual_time.specs.Journal.{steps_of}
-use Rattle.antimessages.specs.Steps.{step_of}
+use Rattle.virtual_time.specs.Law.{steps_of}
 use Rattle.journal.specs.Deeds.{seen_deed}
 use Rattle.exchange.proofs.reading.add_steps.Given as goal
 
 abbrev pub invariant-loop-at : goal.invariant-loop-at
-invariant-loop-at l = map step_of l.list.items ≡ map step_of l.initial.list.items ++ take l.at (steps_of {M = Message} l.entry.process (seen_deed l.entry.process l.entry.deed))
+invariant-loop-at l = l.list.items ≡ l.initial.list.items ++ take l.at (steps_of {M = Message} l.entry.process (seen_deed l.entry.process l.entry.deed))

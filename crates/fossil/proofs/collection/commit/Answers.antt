@@ -1,5 +1,5 @@
 use Rattle.std.proofs.Common.{◌≡◌, ◌<◌, sym, ap, ◌∙◌, subst, arith}
-use Rattle.virtual_time.specs.Part.{seal_oldest}
+use Rattle.virtual_time.specs.Law.{seal_oldest}
 use Rattle.reverse.specs.Rules.{rules_of}
 use Rattle.process_queues.specs.Queues.{StandsFor, Does}
 use Rattle.fossil.specs.Committed.{sealed_times, committed_below}

@@ -1,16 +1,15 @@
 use Rattle.std.proofs.Common.{◌≡◌, ◌+◌, drop, length, sym, ap, ◌∙◌, subst, arith}
-use Rattle.std.proofs.lemmas.List.{length-map, length-drop}
-use Rattle.virtual_time.specs.Rules.{rowed}
+use Rattle.std.proofs.lemmas.List.{length-drop}
+use Rattle.virtual_time.specs.Law.{rowed}
 use Rattle.reverse.specs.Rules.{rules_of}
-use Rattle.process_queues.specs.Past.{seen_row}
 use Rattle.fossil.specs.Within.{AreFirstBefore, AreFrom}
-use Rattle.fossil.proofs.Between.{seen-in-time, next-early, first-early, rest-late}
+use Rattle.fossil.proofs.Between.{rest-in-time, next-early, first-early, rest-late}
 use Rattle.fossil.proofs.rows.let_rows_go.Goals as goal
 
 pub count_before-count-requires : goal.count_before-count-requires
 count_before-count-requires g c =
     let i = c.requires in
-    seen-in-time c.sealed.result.now c.args.process.now.queues.left _ (c.sealed.ensures i.0 i.1 i.2) i.3
+    rest-in-time c.sealed.result.now c.args.process.now.queues.left _ (c.sealed.ensures i.0 i.1 i.2) i.3
 
 pub returns-clause-gone : goal.returns-clause-gone
 returns-clause-gone g c opening part h =
@@ -37,7 +36,7 @@ returns-clause-late g c opening part h few =
     let there = c.sealed.ensures opening part h in
     let all : c.let_rows_go-gone.new.self.queues.left ≡ old + c.count_before-count.result =
     let a = h.sealed in
-    let b = sym (length-map c.sealed.result.now seen_row) ∙ (ap length there ∙ length-drop old rows) in
+    let b = ap length there ∙ length-drop old rows in
     let n = c.let_rows_go-gone.ensures.count in
     let m = c.let_rows_go-gone.ensures.left in
     let w = c.count_before-count.ensures.within in

@@ -1,20 +1,19 @@
-use Rattle.std.proofs.Common.{map, sym, ap, ◌∙◌}
-use Rattle.virtual_time.specs.Rules.{rowed}
+use Rattle.std.proofs.Common.{sym, ap, ◌∙◌}
+use Rattle.virtual_time.specs.Law.{rowed}
 use Rattle.reverse.specs.Rules.{rules_of}
-use Rattle.process_queues.specs.Past.{seen_row}
 use Rattle.fossil.specs.Within.{is_within, rows_within}
-use Rattle.fossil.proofs.Between.{window, seen-in-time, seen-filter, rows-kept}
+use Rattle.fossil.proofs.Between.{window, rest-in-time, rows-kept}
 use Rattle.fossil.proofs.rows.rows_between.Goals as goal
 
 pub count_before-begin-requires : goal.count_before-begin-requires
 count_before-begin-requires g c =
     let i = c.requires in
-    seen-in-time c.sealed-rows.result.now c.args.process.now.queues.left _ (c.sealed-rows.ensures i.0 i.1 i.2) i.3
+    rest-in-time c.sealed-rows.result.now c.args.process.now.queues.left _ (c.sealed-rows.ensures i.0 i.1 i.2) i.3
 
 pub count_before-requires : goal.count_before-requires
 count_before-requires g c =
     let i = c.requires in
-    seen-in-time c.sealed-rows.result.now c.args.process.now.queues.left _ (c.sealed-rows.ensures i.0 i.1 i.2) i.3
+    rest-in-time c.sealed-rows.result.now c.args.process.now.queues.left _ (c.sealed-rows.ensures i.0 i.1 i.2) i.3
 
 pub returns-clause-there : goal.returns-clause-there
 returns-clause-there g c opening part stands =
@@ -22,8 +21,7 @@ returns-clause-there g c opening part stands =
     let rows = c.sealed-rows.result.now in
     let here = window (λ row. row.message.time) c.args.from c.args.to rows c.count_before-begin.result c.count_before.result c.max-end.result
     c.count_before-begin.ensures.point c.count_before.ensures.point c.count_before.ensures.within c.max-end.ensures in
-    ap (map seen_row) (sym here) ∙ (sym (seen-filter (is_within r c.args.from c.args.to) rows)
-    ∙ ap (rows_within r c.args.from c.args.to) (c.sealed-rows.ensures opening part stands))
+    sym here ∙ ap (rows_within r c.args.from c.args.to) (c.sealed-rows.ensures opening part stands)
 
 pub returns-clause-whole : goal.returns-clause-whole
 returns-clause-whole g c opening part stands early =

@@ -1,5 +1,5 @@
 use Rattle.std.proofs.Common.{◌≡◌, ◌+◌, take}
-use Rattle.virtual_time.specs.Letters.{lowest}
+use Rattle.virtual_time.specs.Law.{lowest}
 use Rattle.gvt.proofs.least.earliest_floor.Given as goal
 
 abbrev pub invariant-loop-process : goal.invariant-loop-process

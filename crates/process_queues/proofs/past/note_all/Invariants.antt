@@ -1,9 +1,10 @@
 use Rattle.std.proofs.Common.{◌≡◌, ◌+◌, ◌≤◌, ◌++◌, map, take, length, vec_len, vec_capacity}
-use Rattle.process_queues.specs.Past.{seen_row, rows_by}
+use Rattle.virtual_time.specs.Law.{rows_of}
+use Rattle.vlink.specs.Order.{message_order}
 use Rattle.process_queues.proofs.past.note_all.Given as goal
 
 abbrev pub invariant-loop-note : goal.invariant-loop-note
 invariant-loop-note l = record {
-  noted : map seen_row l.rows.items ≡ map seen_row l.initial.rows.items ++ rows_by l.message (take l.note-index l.notes);
+  noted : l.rows.items ≡ l.initial.rows.items ++ rows_of message_order l.message (take l.note-index l.notes);
   room : vec_len l.rows + length l.notes ≤ vec_capacity l.rows + l.note-index;
 }

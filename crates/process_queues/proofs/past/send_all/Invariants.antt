@@ -1,6 +1,6 @@
 use Rattle.std.proofs.Common.{◌≡◌, ◌+◌, ◌≤◌, ◌++◌, map, take, length}
 use Rattle.std.specs.VecDeque.{deque_len, deque_capacity}
-use Rattle.virtual_time.specs.Letters.{plus_of}
+use Rattle.virtual_time.specs.Law.{plus_of}
 use Rattle.process_queues.proofs.past.send_all.Given as goal
 
 abbrev pub invariant-loop-message : goal.invariant-loop-message

@@ -1,6 +1,6 @@
 use Rattle.std.proofs.Common.{◌++◌, min, [], ◌∷◌, map, take, sym, ap, ◌∙◌, arith}
 use Rattle.std.proofs.lemmas.List.{take_more, map-append}
-use Rattle.virtual_time.specs.Letters.{lowest}
+use Rattle.virtual_time.specs.Law.{lowest}
 use Rattle.process_queues.proofs.Reading.{lowest-push}
 use Rattle.process_queues.proofs.process.floor_of_tray.Goals as goal
 

@@ -1,5 +1,5 @@
 use Rattle.std.proofs.Common.{◌≡◌, map, take}
-use Rattle.virtual_time.specs.Letters.{lowest}
+use Rattle.virtual_time.specs.Law.{lowest}
 use Rattle.process_queues.proofs.process.floor_of_tray.Given as goal
 
 abbrev pub invariant-loop-place : goal.invariant-loop-place

@@ -1,5 +1,4 @@
 use Rattle.std.proofs.Common.{◌++◌, map, take, drop, ap, ◌∙◌, append_assoc, length, length-drop, arith}
-use Rattle.antimessages.specs.Letters.{signed}
 use Rattle.antimessages.specs.Mailing.{letters_for}
 use Rattle.process_queues.proofs.Taking.{take-next, drop-next}
 use Rattle.process_queues.proofs.process.take_letters.Goals as goal
@@ -11,9 +10,9 @@ loop-taken-preserved g c =
     record {
       tray_is = c.take_letter.ensures.tray ∙
           (ap (λ z. z ++ take 1 (letters_for c.args.process c.loop-taken.mail)) i.tray_is ∙
-          (ap (λ z. (map signed c.args.tray.now.items ++ take c.loop-taken.taken letters) ++ take 1 z) i.left ∙
-          (append_assoc (map signed c.args.tray.now.items) (take c.loop-taken.taken letters) _ ∙
-          ap (λ z. map signed c.args.tray.now.items ++ z) (take-next letters c.loop-taken.taken))));
+          (ap (λ z. (c.args.tray.now.items ++ take c.loop-taken.taken letters) ++ take 1 z) i.left ∙
+          (append_assoc c.args.tray.now.items (take c.loop-taken.taken letters) _ ∙
+          ap (λ z. c.args.tray.now.items ++ z) (take-next letters c.loop-taken.taken))));
       left = c.take_letter.ensures.left ∙ (ap (drop 1) i.left ∙ drop-next letters c.loop-taken.taken);
       others = λ q n. c.take_letter.ensures.others q n ∙ i.others q n;
       processes = c.take_letter.ensures.processes ∙ i.processes;

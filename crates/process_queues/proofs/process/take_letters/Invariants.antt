@@ -1,13 +1,12 @@
 use Rattle.std.proofs.Common.{◌≡◌, ℕ, ◌+◌, ◌≤◌, ◌++◌, map, take, drop, length}
 use Rattle.std.specs.Prelude.{◌≢◌}
 use Rattle.std.specs.VecDeque.{deque_len, deque_capacity}
-use Rattle.antimessages.specs.Letters.{signed}
 use Rattle.antimessages.specs.Mailing.{letters_for}
 use Rattle.process_queues.proofs.process.take_letters.Given as goal
 
 abbrev pub invariant-loop-taken : goal.invariant-loop-taken
 invariant-loop-taken g l = record {
-  tray_is : map signed l.tray.items ≡ map signed l.initial.tray.items ++ take l.taken (letters_for l.process l.initial.mail);
+  tray_is : l.tray.items ≡ l.initial.tray.items ++ take l.taken (letters_for l.process l.initial.mail);
   left : letters_for l.process l.mail ≡ drop l.taken (letters_for l.process l.initial.mail);
   others : (q : ℕ) → q ≢ l.process → letters_for q l.mail ≡ letters_for q l.initial.mail;
   processes : length l.mail ≡ length l.initial.mail;

@@ -1,5 +1,5 @@
 use Rattle.std.proofs.Common.{◌≡◌, ◌+◌, ◌-◌, ◌≤◌, ◌++◌, map, drop, reverse}
-use Rattle.virtual_time.specs.Letters.{minus_of}
+use Rattle.virtual_time.specs.Law.{minus_of}
 use Rattle.process_queues.proofs.rollback.take_back.Given as goal
 
 abbrev pub invariant-loop-taken : goal.invariant-loop-taken

@@ -1,6 +1,5 @@
 use Rattle.std.proofs.Common.{◌≡◌, ℕ, ◌∙◌, sym, subst, arith}
-use Rattle.virtual_time.specs.Rules.{Rules, IsOrder}
-use Rattle.virtual_time.specs.Simulation.{IsReached}
+use Rattle.virtual_time.specs.Law.{Rules, IsOrder, IsReached}
 use Rattle.virtual_time.proofs.Reading.{reached-keeps}
 use Rattle.vlink.specs.declared.message.Message.{Message}
 use Rattle.vlink.specs.declared.note.Note.{Note}
@@ -9,7 +8,7 @@ use Rattle.reverse.specs.Setting.{Setting, simulation_of}
 use Rattle.reverse.proofs.laws.actor_laws.Goals as goal
 
 -- what the opening state of p has and each message keeps, each reached state has
-reached-has : {S K : Type 0} (r : Rules Message S K Note) (O : IsOrder r) (x : Setting S) (p : ℕ) (s : S) (Good : S → Type 0) →
+reached-has : {S K : Type 0} (r : Rules Message S K Note) (O : IsOrder r.order) (x : Setting S) (p : ℕ) (s : S) (Good : S → Type 0) →
     ((s : S) (m : Message) → Good s → Good (r.after s m)) → Good (x.opening p) → IsReached (simulation_of r x) p s → Good s
 reached-has r O x p s Good step g h = subst Good (sym h.1) (reached-keeps r O Good step (x.opening p) h.0 g)
 

@@ -1,6 +1,7 @@
-use Rattle.std.proofs.Common.{refl, arith}
+use Rattle.std.proofs.Common.{refl, sym, subst, arith}
 use Rattle.nodes.specs.rules.Simulation.{simulation_of}
 use Rattle.trace_parts.specs.Places.{gathered}
+use Rattle.trace_parts.specs.Ordered.{AreInMessageOrder}
 use Rattle.seqsim.proofs.CommittedRows.{rows-gathered, rows-all}
 use Rattle.seqsim.proofs.OneThreadRows.{one-ordered}
 use Rattle.seqsim.proofs.RowsByProcess.{ordered-rows, ordered-committed}
@@ -8,7 +9,7 @@ use Rattle.seqsim.proofs.rows.rows_by_process.Goals as goal
 
 pub returns-clause-in_order : goal.returns-clause-in_order
 returns-clause-in_order c rows r =
-    one-ordered (simulation_of c.args.network.now) c.network_laws.ensures c.message_order.ensures.total (λ a b. refl) (λ m. refl) r.0 rows r.2
+    subst AreInMessageOrder (sym r.2) (one-ordered (simulation_of c.args.network.now) c.network_laws.ensures c.message_order.ensures.total (λ a b. refl) (λ m. refl) r.0)
 
 pub returns-clause-by_process : goal.returns-clause-by_process
 returns-clause-by_process c n ended rows up here =

@@ -6,14 +6,14 @@ use Rattle.seqsim.proofs.NetworkLemmas.{opened}
 use Rattle.seqsim.proofs.simulating.run.Goals as goal
 
 pub run_actors-requires : goal.run_actors-requires
-run_actors-requires c = (
+run_actors-requires g c = (
   setting_of c.args.network.now,
   opened c.args.network.now _ _ _ _ c.deref_mut.ensures.value c.deref.ensures.value c.in_ok-nodes.ensures c.in_ok-offers.ensures,
   c.network_laws.ensures,
 )
 
 pub returns-in_err-rows-clause-exhausted : goal.returns-in_err-rows-clause-exhausted
-returns-in_err-rows-clause-exhausted c = λ e.
+returns-in_err-rows-clause-exhausted g c = λ e.
     let p = err_from_is_err_and c.from_residual-in_err-rows.result c.from_residual-in_err-rows.ensures.1 in
     let q : p.0 ≡ c.in_err-rows.field-0.0 = p.2 in
     let w : c.run_actors.result ≡ Err c.in_err-rows.field-0.0 = c.in_err-rows.was in
@@ -23,12 +23,12 @@ returns-in_err-rows-clause-exhausted c = λ e.
     c.network_laws.ensures
 
 pub returns-clause-whole : goal.returns-clause-whole
-returns-clause-whole c =
+returns-clause-whole g c =
     let (n, ended, rows, states) = c.in_ok-rows.ensures.whole (setting_of c.args.network.now)
     (opened c.args.network.now _ _ _ _ c.deref_mut.ensures.value c.deref.ensures.value c.in_ok-nodes.ensures c.in_ok-offers.ensures) c.network_laws.ensures in
     (n, ended, rows)
 
 pub returns-clause-numbers : goal.returns-clause-numbers
-returns-clause-numbers c =
+returns-clause-numbers g c =
     c.in_ok-rows.ensures.numbers (setting_of c.args.network.now)
     (opened c.args.network.now _ _ _ _ c.deref_mut.ensures.value c.deref.ensures.value c.in_ok-nodes.ensures c.in_ok-offers.ensures) c.network_laws.ensures

@@ -1,7 +1,7 @@
 use Rattle.std.proofs.Common.{◌≡◌, ◌∙◌, List, [], Result, Ok, Err, IfOk, refl, ap}
 use Rattle.actor_run.specs.declared.fault.SimFault.{SimFault}
-use Rattle.vlink.specs.declared.note.Row.{Row as Noted}
-use Rattle.virtual_time.specs.Simulation.{Laws}
+use Rattle.vlink.specs.Letters.{Row}
+use Rattle.virtual_time.specs.Law.{Laws}
 use Rattle.netdesc.specs.Plan.{Plan}
 use Rattle.nodes.specs.rules.Simulation.{simulation_of}
 use Rattle.trace_tables.specs.Tables.{TableLists, tables_of}
@@ -12,21 +12,21 @@ use Rattle.actor_run.proofs.Turning.{started}
 use Rattle.seqsim.proofs.tables.run_tables.Goals as goal
 
 pub count_all_turns-requires : goal.count_all_turns-requires
-count_all_turns-requires c =
+count_all_turns-requires g c =
     let plan = c.args.network.now in
     started (simulation_of plan).rules (setting_of plan) c.deref_mut.result.now c.in_ok-offers.offers.items c.in_ok-waiting.waiting []
     (opened plan _ _ _ _ c.deref_mut.ensures.value refl c.in_ok-nodes.ensures c.in_ok-offers.ensures) c.in_ok-waiting.ensures.offered refl
 
 -- tables of rows of the run are those of all such rows
 abbrev AreTablesOfSome : Plan → TableLists → Type 0
-AreTablesOfSome plan tables = (rows : List Noted) × AreRowsOf plan rows × (tables ≡ tables_of plan rows)
+AreTablesOfSome plan tables = (rows : List Row) × AreRowsOf plan rows × (tables ≡ tables_of plan rows)
 
 abbrev AreTablesOfEach : Plan → TableLists → Type 0
-AreTablesOfEach plan tables = (rows : List Noted) → AreRowsOf plan rows → tables ≡ tables_of plan rows
+AreTablesOfEach plan tables = (rows : List Row) → AreRowsOf plan rows → tables ≡ tables_of plan rows
 
 each-of : (plan : Plan) → Laws (simulation_of plan) → (result : Result TableLists SimFault) → IfOk result (AreTablesOfSome plan) → IfOk result (AreTablesOfEach plan)
 each-of plan L (Ok tables) some = λ rows r. some.2 ∙ ap (tables_of plan) (same-rows plan L some.0 rows some.1 r)
 each-of plan L (Err fault) some = some
 
 pub returns-clause-each : goal.returns-clause-each
-returns-clause-each c = each-of c.args.network.now c.network_laws.ensures c.count_all_turns.result c.count_all_turns.ensures.whole
+returns-clause-each g c = each-of c.args.network.now c.network_laws.ensures c.count_all_turns.result c.count_all_turns.ensures.whole

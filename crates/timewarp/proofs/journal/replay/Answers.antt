@@ -1,13 +1,12 @@
 use Rattle.std.proofs.Common.{◌≡◌, ◌∙◌, inl, inr, List, Some, Err, map, slice_get, take, get_or, sym, subst, arith}
 use Rattle.std.proofs.lemmas.Bool.{cases_lt}
-use Rattle.std.proofs.lemmas.List.{take_more, take-map}
+use Rattle.std.proofs.lemmas.List.{take_more}
 use Rattle.std.proofs.lemmas.Option.{slice_get-get_or, slice_get_within, get_or_from_slice_get}
 use Rattle.std.proofs.lemmas.Result.{err_from_is_err_and}
-use Rattle.vlink.specs.declared.step.Step.TheVariants.{Take as NotedTake}
-use Rattle.virtual_time.specs.World.{Step}
+use Rattle.virtual_time.specs.declared.step.Step.TheVariants.{Take}
+use Rattle.virtual_time.specs.declared.step.Step.{Step}
 use Rattle.netdesc.specs.Plan.{Plan}
 use Rattle.nodes.specs.rules.Simulation.{simulation_of}
-use Rattle.antimessages.specs.Steps.{step_of}
 use Rattle.actor_world.specs.declared.fault.StepFault.TheVariants.{Exhausted}
 use Rattle.seqsim.specs.Committed.{after}
 use Rattle.timewarp.specs.Replayed.{IsReplayed}
@@ -16,22 +15,22 @@ use Rattle.timewarp.proofs.Beginnings.{beginnings-rise, beginnings-stay}
 use Rattle.timewarp.proofs.journal.replay.Goals as goal
 
 pub returns-in_err-replay-clause-rises : goal.returns-in_err-replay-clause-rises
-returns-in_err-replay-clause-rises c = beginnings-rise c.args.network c.world_laws.ensures.rises (map step_of c.args.steps.now)
+returns-in_err-replay-clause-rises c = beginnings-rise c.args.network c.world_laws.ensures.rises c.args.steps.now
 
 pub returns-in_err-replay-clause-never_undone : goal.returns-in_err-replay-clause-never_undone
-returns-in_err-replay-clause-never_undone c = beginnings-stay c.args.network c.world_laws.ensures.never_undone (map step_of c.args.steps.now)
+returns-in_err-replay-clause-never_undone c = beginnings-stay c.args.network c.world_laws.ensures.never_undone c.args.steps.now
 
 pub returns-in_err-do_step-clause-rises : goal.returns-in_err-do_step-clause-rises
-returns-in_err-do_step-clause-rises c = beginnings-rise c.args.network c.world_laws.ensures.rises (map step_of c.args.steps.now)
+returns-in_err-do_step-clause-rises c = beginnings-rise c.args.network c.world_laws.ensures.rises c.args.steps.now
 
 pub returns-in_err-do_step-clause-never_undone : goal.returns-in_err-do_step-clause-never_undone
-returns-in_err-do_step-clause-never_undone c = beginnings-stay c.args.network c.world_laws.ensures.never_undone (map step_of c.args.steps.now)
+returns-in_err-do_step-clause-never_undone c = beginnings-stay c.args.network c.world_laws.ensures.never_undone c.args.steps.now
 
 pub returns-clause-rises : goal.returns-clause-rises
-returns-clause-rises c = beginnings-rise c.args.network c.world_laws.ensures.rises (map step_of c.args.steps.now)
+returns-clause-rises c = beginnings-rise c.args.network c.world_laws.ensures.rises c.args.steps.now
 
 pub returns-clause-never_undone : goal.returns-clause-never_undone
-returns-clause-never_undone c = beginnings-stay c.args.network c.world_laws.ensures.never_undone (map step_of c.args.steps.now)
+returns-clause-never_undone c = beginnings-stay c.args.network c.world_laws.ensures.never_undone c.args.steps.now
 
 pub returns-in_err-do_step-clause-exhausted : goal.returns-in_err-do_step-clause-exhausted
 returns-in_err-do_step-clause-exhausted c = λ e.
@@ -41,13 +40,12 @@ returns-in_err-do_step-clause-exhausted c = λ e.
     let k : c.do_step.result ≡ Err Exhausted = cc in
     let steps = c.args.steps.now in
     let i = c.loop-step.step-index in
-    let x = get_or steps i (NotedTake 0 0) in (
+    let x = get_or steps i (Take 0 0) in (
       i,
       x,
-      slice_get-get_or steps i (NotedTake 0 0) (omega (arith, c.loop-step-test.true)),
-      subst (λ (ys : List Step). IsExhausted (simulation_of c.args.network) (step_of x) (after c.args.network ys)) (sym (take-map step_of i steps))
-          (subst (λ (plan : Plan). IsExhausted (simulation_of plan) (step_of x) (after plan (map step_of (take i steps)))) c.loop-step.invariant.network
-          ((c.do_step.ensures.exhausted (take i steps) c.loop-step.invariant.replayed).0 k)),
+      slice_get-get_or steps i (Take 0 0) (omega (arith, c.loop-step-test.true)),
+      subst (λ (plan : Plan). IsExhausted (simulation_of plan) x (after plan (take i steps))) c.loop-step.invariant.network
+          ((c.do_step.ensures.exhausted (take i steps) c.loop-step.invariant.replayed).0 k),
     )
 
 pub loop-step-preserved : goal.loop-step-preserved
@@ -55,7 +53,7 @@ loop-step-preserved c =
     let steps = c.args.steps.now in
     let i = c.loop-step.step-index in
     record {
-      replayed = subst (IsReplayed c.do_step.new.self) (sym (take_more steps i (NotedTake 0 0) (omega (arith, c.loop-step-test.true))))
+      replayed = subst (IsReplayed c.do_step.new.self) (sym (take_more steps i (Take 0 0) (omega (arith, c.loop-step-test.true))))
           (c.in_ok-do_step.ensures.replayed (take i steps) c.loop-step.invariant.replayed);
       network = c.do_step.ensures.network ∙ c.loop-step.invariant.network;
       counted = let a = c.in_ok-do_step.ensures.counted in let b = c.loop-step.invariant.counted in omega arith;
@@ -63,13 +61,12 @@ loop-step-preserved c =
           elim (cases_lt n i) [
             | inl before ↦ c.loop-step.invariant.numbered n x before here exhausted
             | inr from ↦
-                let y = get_or steps i (NotedTake 0 0) in
+                let y = get_or steps i (Take 0 0) in
                 let same : n ≡ i = omega (arith, near, from) in
-                let is : y ≡ x = get_or_from_slice_get steps i x (NotedTake 0 0) (subst (λ k. slice_get steps k ≡ Some x) same here) in
-                let now = subst (λ k. IsExhausted (simulation_of c.args.network) (step_of x) (after c.args.network (take k (map step_of steps)))) same exhausted in
-                let of_it = subst (λ z. IsExhausted (simulation_of c.args.network) (step_of z) (after c.args.network (take i (map step_of steps)))) (sym is) now in
-                let taken = subst (λ (ys : List Step). IsExhausted (simulation_of c.args.network) (step_of y) (after c.args.network ys)) (take-map step_of i steps) of_it in
-                let met = subst (λ (plan : Plan). IsExhausted (simulation_of plan) (step_of y) (after plan (map step_of (take i steps)))) (sym c.loop-step.invariant.network) taken in
+                let is : y ≡ x = get_or_from_slice_get steps i x (Take 0 0) (subst (λ k. slice_get steps k ≡ Some x) same here) in
+                let now = subst (λ k. IsExhausted (simulation_of c.args.network) x (after c.args.network (take k steps))) same exhausted in
+                let of_it = subst (λ z. IsExhausted (simulation_of c.args.network) z (after c.args.network (take i steps))) (sym is) now in
+                let met = subst (λ (plan : Plan). IsExhausted (simulation_of plan) y (after plan (take i steps))) (sym c.loop-step.invariant.network) of_it in
                 let told = (c.do_step.ensures.exhausted (take i steps) c.loop-step.invariant.replayed).1 met in
                 let went = c.in_ok-do_step.was in cc
           ];

@@ -1,7 +1,6 @@
 use Rattle.std.proofs.Common.{◌≡◌, ◌+◌, ◌<◌, ℕ, Some, map, slice_get, take}
-use Rattle.vlink.specs.declared.step.Step.{Step as Noted}
+use Rattle.virtual_time.specs.declared.step.Step.{Step}
 use Rattle.nodes.specs.rules.Simulation.{simulation_of}
-use Rattle.antimessages.specs.Steps.{step_of}
 use Rattle.actor_world.specs.Worlds.{IsExhausted}
 use Rattle.seqsim.specs.Committed.{after}
 use Rattle.timewarp.specs.Replayed.{IsReplayed}
@@ -13,6 +12,6 @@ invariant-loop-step l =
       replayed : IsReplayed l.replay (take l.step-index l.steps);
       network : l.replay.world.plan ≡ l.fn.network;
       counted : l.replay.did + l.replay.not_enabled + l.replay.refused ≡ l.step-index;
-      numbered : (n : ℕ) (x : Noted) → n < l.step-index → slice_get l.steps n ≡ Some x →
-          ¬ (IsExhausted (simulation_of l.fn.network) (step_of x) (after l.fn.network (take n (map step_of l.steps))));
+      numbered : (n : ℕ) (x : Step) → n < l.step-index → slice_get l.steps n ≡ Some x →
+          ¬ (IsExhausted (simulation_of l.fn.network) x (after l.fn.network (take n l.steps)));
     }

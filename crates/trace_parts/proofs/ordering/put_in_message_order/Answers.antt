@@ -1,6 +1,6 @@
 use Rattle.std.proofs.Common.{rules, ap}
 use Rattle.std.proofs.lemmas.Result.{on_ok_weaker}
-use Rattle.trace_parts.specs.Places.{rows_at}
+use Rattle.virtual_time.specs.Law.{rows_at}
 use Rattle.trace_parts.proofs.RowOrderLemmas.{sorted-rows, stable-rows, ordered-at, same-at, by-result}
 use Rattle.trace_parts.proofs.ordering.put_in_message_order.Goals as goal
 

@@ -1,7 +1,6 @@
-use Rattle.std.proofs.Common.{ap, sym}
+use Rattle.std.proofs.Common.{ap, sym, take}
 use Rattle.std.specs.List.{flat_map}
 use Rattle.std.proofs.lemmas.List.{take_all}
-use Rattle.std.proofs.Common.{take}
 use Rattle.trace_parts.specs.Text.{trace_line}
 use Rattle.trace_parts.proofs.WritingLemmas.{adds-more, adds-same, flat_map-more}
 use Rattle.trace_parts.proofs.trace.push_rows.Goals as goal

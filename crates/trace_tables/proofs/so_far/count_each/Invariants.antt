@@ -1,5 +1,5 @@
 use Rattle.std.proofs.Common.{List, ◌++◌, take}
-use Rattle.vlink.specs.declared.note.Row.{Row}
+use Rattle.vlink.specs.Letters.{Row}
 use Rattle.trace_tables.specs.SoFar.{AreInTables}
 use Rattle.trace_tables.proofs.so_far.count_each.Given as goal
 

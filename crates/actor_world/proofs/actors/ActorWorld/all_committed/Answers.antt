@@ -3,7 +3,7 @@ use Rattle.std.specs.Prelude.{is_some}
 use Rattle.std.proofs.lemmas.Bool.{cases_eq}
 use Rattle.std.proofs.lemmas.List.{get_or_default}
 use Rattle.vlink.specs.declared.message.Message.{Message}
-use Rattle.virtual_time.specs.World.{start, run}
+use Rattle.virtual_time.specs.Law.{start, run}
 use Rattle.reverse.specs.Rules.{rules_of}
 use Rattle.reverse.specs.Setting.{simulation_of}
 use Rattle.process_queues.specs.Queues.{InHand}

@@ -1,6 +1,6 @@
 use Rattle.std.proofs.Common.{◌<◌, length, Ok, Err, sym, ap, ◌∙◌, subst, arith}
 use Rattle.std.proofs.lemmas.Result.{err_from_is_err_and}
-use Rattle.virtual_time.specs.World.Step.{Arrive}
+use Rattle.virtual_time.specs.declared.step.Step.TheVariants.{Arrive}
 use Rattle.reverse.specs.Rules.{rules_of}
 use Rattle.process_queues.specs.Queues.{Queues}
 use Rattle.actor_world.specs.declared.done.Done.TheVariants.{NotEnabled}

@@ -1,5 +1,5 @@
 use Rattle.std.proofs.Common.{◌<◌, length, refl, sym, subst}
-use Rattle.virtual_time.specs.World.{start, run}
+use Rattle.virtual_time.specs.Law.{start, run}
 use Rattle.reverse.specs.Rules.{rules_of}
 use Rattle.reverse.specs.Setting.{simulation_of}
 use Rattle.actor_world.specs.Worlds.{Holdings, StandsForWorld}

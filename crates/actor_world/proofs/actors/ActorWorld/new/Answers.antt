@@ -1,7 +1,7 @@
 use Rattle.std.proofs.Common.{◌∙◌, sym, ap, arith, Some}
 use Rattle.reverse.specs.Rules.{rules_of}
-use Rattle.antimessages.specs.Letters.{message_rules}
-use Rattle.virtual_time.specs.Letters.{received_by}
+use Rattle.vlink.specs.Order.{message_order}
+use Rattle.virtual_time.specs.Law.{received_by}
 use Rattle.actor_world.proofs.Opening.{offers-go, opens}
 use Rattle.actor_world.proofs.actors.ActorWorld.new.Goals as goal
 
@@ -17,7 +17,7 @@ returns-clause-opens g c = λ x o e.
     opens (rules_of g.R.Reversible.plain g.R.Actor.counter) g.R.Reversible.is_value x c.args.actors.items c.args.offers.now o
     _ c.in_ok-processes.ensures.processes
     c.in_ok-mail.mail (omega (arith, c.len-count.ensures, c.in_ok-mail.ensures.processes, c.args.actors.ok.0))
-    (λ p. c.in_ok-mail.ensures.letters p ∙ ap (received_by message_rules p) c.in_ok-letters.ensures)
+    (λ p. c.in_ok-mail.ensures.letters p ∙ ap (received_by message_order p) c.in_ok-letters.ensures)
     c.in_ok-floors.floors.floors (omega (arith, floors.processes, c.len-count.ensures, c.args.actors.ok.0))
     (λ p i. floors.each p (omega (arith, i, c.len-count.ensures, c.args.actors.ok.0)) ∙ ap (λ z. Some z) (omega (arith, e)))
     c.default.result c.default.ensures c.in_ok-floors.floors.until (floors.until ∙ sym e)

@@ -1,8 +1,8 @@
 use Rattle.std.proofs.Common.{◌≡◌, ◌<◌, length, Err, sym, ap, ◌∙◌, subst, arith}
 use Rattle.std.proofs.lemmas.Result.{err_from_is_err_and}
 use Rattle.vlink.specs.declared.message.Message.{Message}
-use Rattle.virtual_time.specs.Part.{Part, floor_of}
-use Rattle.virtual_time.specs.World.Step.{Post}
+use Rattle.virtual_time.specs.Law.{Part, floor_of}
+use Rattle.virtual_time.specs.declared.step.Step.TheVariants.{Post}
 use Rattle.reverse.specs.Rules.{rules_of}
 use Rattle.process_queues.specs.Queues.{Queues, InHand, StandsFor}
 use Rattle.actor_world.specs.Worlds.{Holdings, IsAWorld}
@@ -54,7 +54,7 @@ returns g c =
     let now = queues-at vs p c.from.result c.index_mut.result.now c.from.ensures there c.index_mut.ensures.value in
     let read = read-written vs p c.from.result c.from-2.result c.index.result.now c.post.new.self c.from.ensures c.from-2.ensures there c.index.ensures in
     let floor = subst (λ (u : InHand g.row.R.Denot g.row.R-Record.Denot). (opening : g.row.R.Denot) (part : Part Message g.row.R.Denot) →
-    StandsFor r g.R.Reversible.is_value opening part u.queues → c.floor-floor.result ≡ floor_of r (g.R.Actor.end u.queues.past.state) part) read c.floor-floor.ensures in
+    StandsFor r g.R.Reversible.is_value opening part u.queues → c.floor-floor.result ≡ floor_of r.order (g.R.Actor.end u.queues.past.state) part) read c.floor-floor.ensures in
     seen-as r g.R.Actor.number g.R.Actor.end g.R.Actor.is_placed g.R.Reversible.is_value (Post p) _ _ _ _ c.self.view_is
     (post-did r g.R.Actor.number g.R.Actor.end g.R.Actor.is_placed g.R.Reversible.is_value _ p _ now c.post.new.self.queues _ (queues-set vs p c.from.result c.post.new.self c.from.ensures)
     c.post.new.mail c.in_ok-post.ensures.processes

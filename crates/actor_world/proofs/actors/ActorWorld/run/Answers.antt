@@ -1,6 +1,6 @@
 use Rattle.std.proofs.Common.{◌<◌, length, Ok, Err, sym, ap, ◌∙◌, subst}
 use Rattle.std.proofs.lemmas.Result.{err_from_is_err_and}
-use Rattle.virtual_time.specs.World.Step.{Run}
+use Rattle.virtual_time.specs.declared.step.Step.TheVariants.{Run}
 use Rattle.reverse.specs.Rules.{rules_of}
 use Rattle.process_queues.proofs.Counting.{of-messages}
 use Rattle.actor_world.specs.Worlds.{Holdings}

@@ -1,6 +1,5 @@
 use Rattle.std.proofs.Common.{◌<◌, drop, length, refl, sym, ap, ◌∙◌, subst}
-use Rattle.virtual_time.specs.Rules.{rowed}
-use Rattle.virtual_time.specs.World.{start, run}
+use Rattle.virtual_time.specs.Law.{rowed, start, run}
 use Rattle.reverse.specs.Rules.{rules_of}
 use Rattle.reverse.specs.Setting.{simulation_of}
 use Rattle.actor_world.specs.Worlds.{Holdings, StandsForWorld}

@@ -1,8 +1,8 @@
 use Rattle.std.proofs.Common.{refl, sym, ◌∙◌}
-use Rattle.virtual_time.specs.World.Step.{Gvt}
+use Rattle.virtual_time.specs.declared.step.Step.TheVariants.{Gvt}
 use Rattle.reverse.specs.Rules.{rules_of}
 use Rattle.reverse.specs.Setting.{simulation_of}
-use Rattle.virtual_time.specs.World.{start, run}
+use Rattle.virtual_time.specs.Law.{start, run}
 use Rattle.actor_world.proofs.Holding.{seen-as}
 use Rattle.actor_world.proofs.Exchanging.{gvt-did}
 use Rattle.actor_world.proofs.actors.ActorWorld.set_gvt.Goals as goal

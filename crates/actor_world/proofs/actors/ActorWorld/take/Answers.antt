@@ -1,9 +1,8 @@
 use Rattle.std.proofs.Common.{◌<◌, min, length, slice_get, Ok, Err, sym, ap, ◌∙◌, subst, arith}
 use Rattle.std.specs.Option.{option_map}
 use Rattle.std.proofs.lemmas.Result.{err_from_is_err_and}
-use Rattle.virtual_time.specs.World.Step.{Take}
+use Rattle.virtual_time.specs.declared.step.Step.TheVariants.{Take}
 use Rattle.reverse.specs.Rules.{rules_of}
-use Rattle.antimessages.specs.Letters.{signed}
 use Rattle.process_queues.specs.Queues.{Queues}
 use Rattle.actor_world.specs.declared.done.Done.TheVariants.{NotEnabled}
 use Rattle.actor_world.specs.Worlds.{Holdings, IsAWorld}
@@ -33,7 +32,7 @@ returns-in_err-deliver g c =
     let e = err_from_is_err_and c.from_residual.result c.from_residual.ensures.1 in
     let unchanged = queues-same vs c.from.result c.index_mut.result.now c.deliver.new.self c.index_mut.ensures.value c.in_err-deliver.ensures.unchanged in
     seen-as r g.R.Actor.number g.R.Actor.end g.R.Actor.is_placed g.R.Reversible.is_value (Take p c.args.place) _ _ _ _ c.self.view_is
-    (take-refused r g.R.Actor.number g.R.Actor.end g.R.Actor.is_placed g.R.Reversible.is_value _ p _ now c.args.place (signed c.in-Some.letter) (sym c.in-Some.ensures) _ unchanged _
+    (take-refused r g.R.Actor.number g.R.Actor.end g.R.Actor.is_placed g.R.Reversible.is_value _ p _ now c.args.place (c.in-Some.letter) (sym c.in-Some.ensures) _ unchanged _
     (e.1 ∙ ap (λ z. Err z) (e.2 ∙ ap fault_of c.in_err-deliver.ensures.memory)))
 
 pub lower-requires : goal.lower-requires
@@ -58,5 +57,5 @@ returns g c =
     c.take-taken.new.self c.take-taken.ensures.processes
     c.lower.new.self.floors c.lower.ensures.processes c.lower.ensures.others
     c.lower.new.self.until c.lower.ensures.until
-    c.args.place (signed c.in-Some.letter) (sym c.in-Some.ensures) c.in_ok-deliver.ensures.delivered (ap (λ (z : Queues g.row.R.Denot g.row.R-Record.Denot). z.left) c.in_ok-deliver.ensures.tray) c.take-taken.ensures.left c.take-taken.ensures.others
+    c.args.place (c.in-Some.letter) (sym c.in-Some.ensures) c.in_ok-deliver.ensures.delivered (ap (λ (z : Queues g.row.R.Denot g.row.R-Record.Denot). z.left) c.in_ok-deliver.ensures.tray) c.take-taken.ensures.left c.take-taken.ensures.others
     (c.lower.ensures.lowered ∙ ap (λ t. option_map (min t) (slice_get c.self.inside.floors.floors p)) c.time_of-time.ensures))

@@ -1,6 +1,6 @@
 use Rattle.std.proofs.Common.{◌<◌, length, map, refl, sym, subst, arith}
 use Rattle.std.proofs.lemmas.List.{length-map}
-use Rattle.virtual_time.specs.World.{start, run}
+use Rattle.virtual_time.specs.Law.{start, run}
 use Rattle.reverse.specs.Rules.{rules_of}
 use Rattle.reverse.specs.Setting.{simulation_of}
 use Rattle.process_queues.specs.Queues.{InHand}

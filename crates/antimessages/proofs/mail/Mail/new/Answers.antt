@@ -1,15 +1,14 @@
 use Rattle.std.proofs.Common.{◌≡◌, ℕ, zero, suc, List, [], ◌∷◌, ◌++◌, map, Global, refl, ap, ◌∙◌, arith}
 use Rattle.std.specs.declared.collections.VecDeque.{VecDeque}
 use Rattle.std.proofs.lemmas.List.{length-map}
-use Rattle.vlink.specs.declared.message.Letter.{Letter}
-use Rattle.antimessages.specs.Letters.{signed}
+use Rattle.vlink.specs.Letters.{Letter}
 use Rattle.antimessages.specs.Mailing.{store_of, letters_for}
 use Rattle.antimessages.proofs.mail.Mail.new.Goals as goal
 
 -- one process more, with no letter
 none-more : (boxes : List (VecDeque Letter Global)) (new : VecDeque Letter Global) → new.items ≡ [] →
     ((p : ℕ) → letters_for p (map store_of boxes) ≡ []) → (p : ℕ) → letters_for p (map store_of (boxes ++ new ∷ [])) ≡ []
-none-more [] new e h zero = ap (map signed) e
+none-more [] new e h zero = e
 none-more [] new e h (suc p) = refl
 none-more (b ∷ bs) new e h zero = h zero
 none-more (b ∷ bs) new e h (suc p) = none-more bs new e (λ q. h (suc q)) p

@@ -1,5 +1,4 @@
 use Rattle.std.proofs.Common.{◌<◌, length, map, slice_set, sym, ap, ◌∙◌, arith}
-use Rattle.antimessages.specs.Letters.{signed}
 use Rattle.antimessages.specs.Mailing.{store_of, letters_for}
 use Rattle.antimessages.proofs.Boxes.{new-letters, other-letters}
 use Rattle.antimessages.proofs.mail.Mail.take_all.Goals as goal
@@ -13,7 +12,7 @@ returns-clause-left c =
     let h : i < length boxes = omega (arith, c.self.inside.boxes.ok.0) in
     ap (λ p. letters_for p (map store_of (slice_set boxes i new))) (sym c.from-2.ensures) ∙
     (new-letters boxes i old new h c.index_mut.ensures.value ∙
-    (ap (λ z. map signed z.items) c.swap.ensures.x_after ∙ ap (map signed) c.requires))
+    (ap (λ z. z.items) c.swap.ensures.x_after ∙ c.requires))
 
 pub returns-clause-others : goal.returns-clause-others
 returns-clause-others c = λ q n.

@@ -1,19 +1,16 @@
 use Rattle.std.proofs.Common.{◌≡◌, Bool, List, nat_lt, sym, ap, ◌∙◌}
 use Rattle.std.specs.List.{list_all}
 use Rattle.std.proofs.lemmas.Bool.{ltb-true, lt-ltb}
-use Rattle.std.proofs.lemmas.List.Folds.{list_all-map}
 use Rattle.std.proofs.lemmas.List.Sums.{AllPass-from_list_all, list_all-from_AllPass}
-use Rattle.vlink.specs.declared.message.Message.{Message}
-use Rattle.virtual_time.specs.Letters.{Letter as Signed}
-use Rattle.antimessages.specs.Letters.{signed}
+use Rattle.vlink.specs.Letters.{Letter}
 use Rattle.antimessages.proofs.outbox.Outbox.goes_within.Goals as goal
 
 pub returns : goal.returns
 returns c =
-    let test : Signed Message → Bool = λ l. nat_lt l.message.receiver c.args.processes in
-    let letters : List (Signed Message) = c.args.self.now.letters in
-    let is : c.are_within.result ≡ list_all test letters = c.are_within.ensures ∙ (ap (list_all (λ l. test (signed l))) c.deref.ensures.value ∙
-    (sym (list_all-map test signed c.self.inside.letters.items) ∙ ap (λ b. list_all test b.letters) c.self.view_is)) in (
+    let test : Letter → Bool = λ l. nat_lt l.message.receiver c.args.processes in
+    let letters : List Letter = c.args.self.now.letters in
+    let is : c.are_within.result ≡ list_all test letters = c.are_within.ensures ∙ (ap (list_all (λ l. test l)) c.deref.ensures.value ∙
+    ap (λ b. list_all test b.letters) c.self.view_is) in (
       λ t k d n. ltb-true _ _ (AllPass-from_list_all test letters (sym is ∙ t) k d n),
       λ h. is ∙ list_all-from_AllPass test letters (λ k d n. lt-ltb _ _ (h k d n)),
     )

@@ -3,7 +3,7 @@ use Rattle.std.specs.List.Sorted.{IsStrictlySortedBy}
 use Rattle.std.specs.declared.cmp.Ordering.{Ordering}
 use Rattle.std.specs.BTreeMap.{keys}
 use Rattle.antimessages.specs.declared.occurrence.Occurrence.{Occurrence}
-use Rattle.antimessages.specs.Letters.{message_rules}
+use Rattle.vlink.specs.Order.{message_order}
 use Rattle.antimessages.specs.Counting.{signed_count}
 use Rattle.antimessages.specs.Occurrences.{letters_of}
 use Rattle.antimessages.proofs.Told.{one-tally}
@@ -14,4 +14,4 @@ returns-clause-told c = λ other t h.
     let w = c.occurrence_order.ensures in
     let up = subst (λ (f : Occurrence → Occurrence → Ordering). IsStrictlySortedBy f (keys c.self.inside.signs)) w.written c.len-len.ensures.ordered in
     sym c.self.view_is ∙ (ap letters_of (one-tally w.occurrences w.exact c.self.inside.signs t.0 up t.2 c.self.invariant t.3
-    (λ m. ap (signed_count message_rules m) c.self.view_is ∙ (h m ∙ ap (signed_count message_rules m) (sym t.1)))) ∙ t.1)
+    (λ m. ap (signed_count message_order m) c.self.view_is ∙ (h m ∙ ap (signed_count message_order m) (sym t.1)))) ∙ t.1)

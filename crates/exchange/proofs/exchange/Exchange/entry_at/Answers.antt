@@ -2,7 +2,7 @@ use Rattle.std.proofs.Common.{◌<◌, ◌≤◌, length, Some, refl, sym, ap, �
 use Rattle.std.proofs.lemmas.List.{length-map}
 use Rattle.std.proofs.lemmas.Option.{slice_get_read}
 use Rattle.vlink.specs.declared.message.Message.{Message}
-use Rattle.virtual_time.specs.Journal.{steps_of}
+use Rattle.virtual_time.specs.Law.{steps_of}
 use Rattle.journal.specs.Deeds.{seen_deed, seen_entry}
 use Rattle.journal.specs.Places.{IsAt}
 use Rattle.journal.specs.declared.entry.Entry.{Entry}

@@ -1,5 +1,5 @@
 use Rattle.std.proofs.Common.{◌≡◌, suc, ◌+◌, ◌<◌, All, length, map, replicate, Some, sym, ap, ◌∙◌, subst, arith}
-use Rattle.virtual_time.specs.Letters.{plus_of, received_by}
+use Rattle.virtual_time.specs.Law.{plus_of, received_by}
 use Rattle.reverse.specs.Rules.{rules_of}
 use Rattle.std.proofs.lemmas.List.{length-map}
 use Rattle.book_share.specs.declared.Book.{Book}
@@ -27,7 +27,7 @@ invariant_of-exchange g c =
       omega arith,
       c.requires.most,
       kept-opened c.requires.layout c.requires.table
-          c.in_ok-mail.mail (c.in_ok-mail.ensures.processes ∙ count) (λ p. c.in_ok-mail.ensures.letters p ∙ ap (received_by r p) (c.in_ok-letters.ensures ∙ ap (map plus_of) c.requires.opens.offered))
+          c.in_ok-mail.mail (c.in_ok-mail.ensures.processes ∙ count) (λ p. c.in_ok-mail.ensures.letters p ∙ ap (received_by r.order p) (c.in_ok-letters.ensures ∙ ap (map plus_of) c.requires.opens.offered))
           c.in_ok-floors.floors (c.in_ok-floors.ensures.processes ∙ count) (c.in_ok-floors.ensures.until ∙ c.requires.until)
           (λ p i. c.in_ok-floors.ensures.each p (subst (λ n. p < n) (sym count) i) ∙ ap (λ n. Some n) (let e : c.args.until + 1 ≡ suc x.until = omega arith in e))
           (map (λ (b : Book Mark). b.value) c.pairs.inside.books.items) books c.new-2.result.items c.new-2.ensures.items c.default.result c.default.ensures,

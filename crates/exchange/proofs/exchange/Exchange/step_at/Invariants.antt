@@ -1,5 +1,5 @@
 use Rattle.std.proofs.Common.{◌≡◌, drop, slice_get}
-use Rattle.virtual_time.specs.Journal.{steps}
+use Rattle.virtual_time.specs.Law.{steps}
 use Rattle.exchange.proofs.exchange.Exchange.step_at.Given as goal
 
 abbrev pub invariant-loop-at : goal.invariant-loop-at

@@ -1,6 +1,6 @@
 use Rattle.std.proofs.Common.{sym}
 use Rattle.std.proofs.lemmas.Bool.{lt-ltb}
-use Rattle.virtual_time.specs.Journal.{Arrived}
+use Rattle.virtual_time.specs.declared.moved.Move.TheVariants.{Arrived}
 use Rattle.reverse.specs.Rules.{rules_of}
 use Rattle.reverse.specs.Setting.{simulation_of}
 use Rattle.exchange.proofs.Holding.{holds-moved}

@@ -1,5 +1,5 @@
 use Rattle.std.proofs.Common.{◌≡◌, ◌+◌, length, replicate}
-use Rattle.virtual_time.specs.Journal.{Arrived}
+use Rattle.virtual_time.specs.declared.moved.Move.TheVariants.{Arrived}
 use Rattle.reverse.specs.Rules.{rules_of}
 use Rattle.reverse.specs.Setting.{simulation_of}
 use Rattle.exchange.specs.Effects.{moved_by}

@@ -1,6 +1,6 @@
 use Rattle.std.proofs.Common.{◌≡◌, ◌<◌, ◌≤◌, arith, true, false, sym, ◌∙◌, subst, map}
-use Rattle.virtual_time.specs.Own.{local}
-use Rattle.virtual_time.specs.Journal.{Sealed, act_by, after_own}
+use Rattle.virtual_time.specs.Law.{local, after_moves, after_own}
+use Rattle.virtual_time.specs.declared.moved.Move.TheVariants.{Sealed}
 use Rattle.reverse.specs.Rules.{rules_of}
 use Rattle.reverse.specs.Setting.{simulation_of}
 use Rattle.process_queues.specs.Queues.{StandsFor}
@@ -20,7 +20,7 @@ invariant_of-self-in-Ok-true g c =
     let f = simulation_of r x in
     let p = c.self.inside.number in
     let seen = c.self.inside.seen in
-    let part = local r (x.opening p) (map act_by c.self.inside.block) (after_own f p (own_of c.self.inside.last)) in
+    let part = after_moves r (x.opening p) c.self.inside.block (after_own f p (own_of c.self.inside.last)) in
     let ready : is_ready r seen part ≡ true = sym (c.in-Ok-true.ensures.answer _ _ h.stands) ∙ c.in-Ok-true.field-0-test in (
       holds-moved h (c.actor_laws.ensures x h.laid) Sealed (ready-moves f seen part ready) c.commit_oldest.new.process.queues
           (subst (λ z. StandsFor r g.R.Reversible.is_value (x.opening p) z c.commit_oldest.new.process.queues) (ready-commits f seen part ready) (c.in-Ok-true.ensures.committed _ _ h.stands))
@@ -41,7 +41,7 @@ returns-in-Ok-true-clause-fewer g c = λ yes.
     let f = simulation_of r x in
     let p = c.self.inside.number in
     let seen = c.self.inside.seen in
-    let part = local r (x.opening p) (map act_by c.self.inside.block) (after_own f p (own_of c.self.inside.last)) in
+    let part = after_moves r (x.opening p) c.self.inside.block (after_own f p (own_of c.self.inside.last)) in
     let ready : is_ready r seen part ≡ true = sym (c.in-Ok-true.ensures.answer _ _ h.stands) ∙ c.in-Ok-true.field-0-test in
     commit-takes f c.args.self.now (in_hand f p c.self.inside.last seen c.self.inside.gone c.push.new.self) seen (subst (λ (z : InShare g.row.R.Denot). is_ready r seen z.part ≡ true) c.self.view_is ready)
     (moved-view f p c.self.inside.last seen c.self.inside.gone c.self.inside.block Sealed c.args.self.now c.self.view_is c.push.new.self c.in_ok-push.ensures.pushed)
@@ -54,7 +54,7 @@ returns-in-Ok-false-clause-none g c = λ no.
     let f = simulation_of r x in
     let p = c.self.inside.number in
     let seen = c.self.inside.seen in
-    let part = local r (x.opening p) (map act_by c.self.inside.block) (after_own f p (own_of c.self.inside.last)) in
+    let part = after_moves r (x.opening p) c.self.inside.block (after_own f p (own_of c.self.inside.last)) in
     let not_ready : is_ready r seen part ≡ false = sym (c.in-Ok-false.ensures.answer _ _ h.stands) ∙ c.in-Ok-false.field-0-test in
     rw (sym c.self.view_is) (none-early f (c.actor_laws.ensures x h.laid) p seen part h.safe not_ready)
 
@@ -66,7 +66,7 @@ returns-in_default-clause-none g c = λ no.
     let f = simulation_of r x in
     let p = c.self.inside.number in
     let seen = c.self.inside.seen in
-    let part = local r (x.opening p) (map act_by c.self.inside.block) (after_own f p (own_of c.self.inside.last)) in
+    let part = after_moves r (x.opening p) c.self.inside.block (after_own f p (own_of c.self.inside.last)) in
     rw (sym c.self.view_is) (none-oldest f seen part.done (sym (c.oldest.ensures _ _ h.stands) ∙ c.in_default.is))
 
 pub returns-then-ns-clause-none : goal.returns-then-ns-clause-none
@@ -77,7 +77,7 @@ returns-then-ns-clause-none g c = λ no.
     let f = simulation_of r x in
     let p = c.self.inside.number in
     let seen = c.self.inside.seen in
-    let part = local r (x.opening p) (map act_by c.self.inside.block) (after_own f p (own_of c.self.inside.last)) in
+    let part = after_moves r (x.opening p) c.self.inside.block (after_own f p (own_of c.self.inside.last)) in
     let late : seen ≤ c.in-Some.oldest = omega arith in
     rw (sym c.self.view_is) (none-early f (c.actor_laws.ensures x h.laid) p seen part h.safe (late-oldest f seen c.in-Some.oldest part (sym (c.in-Some.ensures _ _ h.stands)) late))
 
@@ -89,7 +89,7 @@ returns-in_err-push-clause-left g c =
     let f = simulation_of r x in
     let p = c.self.inside.number in
     let seen = c.self.inside.seen in
-    let part = local r (x.opening p) (map act_by c.self.inside.block) (after_own f p (own_of c.self.inside.last)) in
+    let part = after_moves r (x.opening p) c.self.inside.block (after_own f p (own_of c.self.inside.last)) in
     let early : c.in-Some.oldest < seen = omega arith in
     on-err c.from_residual.result
     (rw (sym c.self.view_is) (early-oldest f seen c.in-Some.oldest part.done (sym (c.in-Some.ensures _ _ h.stands)) early))

@@ -1,5 +1,5 @@
 use Rattle.std.proofs.Common.{None, refl, sym, ◌∙◌, subst}
-use Rattle.virtual_time.specs.Part.{opened}
+use Rattle.virtual_time.specs.Law.{opened}
 use Rattle.reverse.specs.Rules.{rules_of}
 use Rattle.process_queues.specs.Queues.{StandsFor}
 use Rattle.exchange.proofs.Opened.{holds-opened}

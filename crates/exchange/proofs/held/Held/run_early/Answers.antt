@@ -1,5 +1,5 @@
 use Rattle.std.proofs.Common.{◌+◌, ◌<◌, ap, subst}
-use Rattle.virtual_time.specs.Journal.{Ran}
+use Rattle.virtual_time.specs.declared.moved.Move.TheVariants.{Ran}
 use Rattle.reverse.specs.Rules.{rules_of}
 use Rattle.reverse.specs.Setting.{simulation_of}
 use Rattle.exchange.specs.Views.{InShare}

@@ -1,7 +1,5 @@
 use Rattle.std.proofs.Common.{map, drop, sym, ap, ◌∙◌, subst, arith}
-use Rattle.virtual_time.specs.Rules.{rowed}
-use Rattle.virtual_time.specs.Own.{local}
-use Rattle.virtual_time.specs.Journal.{act_by, after_own}
+use Rattle.virtual_time.specs.Law.{rowed, local, after_moves, after_own}
 use Rattle.reverse.specs.Rules.{rules_of}
 use Rattle.reverse.specs.Setting.{simulation_of}
 use Rattle.fossil.specs.Within.{AreFirstBefore}
@@ -15,7 +13,7 @@ returns g c =
     let r = rules_of g.R.Reversible.plain g.R.Actor.counter in
     let x = g.J.ActorRun.setting in
     let p = c.self.inside.number in
-    let part = local r (x.opening p) (map act_by c.self.inside.block) (after_own (simulation_of r x) p (own_of c.self.inside.last)) in
+    let part = after_moves r (x.opening p) c.self.inside.block (after_own (simulation_of r x) p (own_of c.self.inside.last)) in
     let rows = rowed r (x.opening p) part.committed in
     rw (sym c.self.view_is) (λ none.
     let whole = gone-zero r c.self.inside.process.queues.left rows (let a = h.stands.sealed in omega arith)

@@ -1,6 +1,6 @@
 use Rattle.std.proofs.Common.{◌≡◌, ◌++◌, map, drop, sym, ◌∙◌, subst, arith}
-use Rattle.virtual_time.specs.Letters.{plus_of}
-use Rattle.antimessages.specs.Letters.{message_rules, signed}
+use Rattle.virtual_time.specs.Law.{plus_of}
+use Rattle.vlink.specs.Order.{message_order}
 use Rattle.antimessages.specs.Counting.{HaveSameCounts}
 use Rattle.antimessages.proofs.Agreeing.{added-same_counts, same_counts-cons}
 use Rattle.process_queues.proofs.Counting.{of-messages}
@@ -14,15 +14,15 @@ returns-in-Ok-clause-counts g c = λ m.
     let old = c.count_back-counted.new.tally in
     let t = c.if-counted-place.true in
     let place : c.count_back-counted.result ≡ c.args.place = omega arith in
-    added-same_counts message_rules R.messages l c.add.new.self old c.in-Ok.ensures.count c.in-Ok.ensures.others m ∙
-    same_counts-cons message_rules (signed l) old (map (λ e. plus_of e.message) (drop c.args.place c.args.self.now.done) ++ c.args.tally.now)
-    (subst (λ i. HaveSameCounts message_rules old (map (λ e. plus_of e.message) (drop i c.args.self.now.done) ++ c.args.tally.now)) place c.count_back-counted.ensures.counts) m
+    added-same_counts message_order R.messages l c.add.new.self old c.in-Ok.ensures.count c.in-Ok.ensures.others m ∙
+    same_counts-cons message_order l old (map (λ e. plus_of e.message) (drop c.args.place c.args.self.now.done) ++ c.args.tally.now)
+    (subst (λ i. HaveSameCounts message_order old (map (λ e. plus_of e.message) (drop i c.args.self.now.done) ++ c.args.tally.now)) place c.count_back-counted.ensures.counts) m
 
 pub returns-clause-unchanged : goal.returns-clause-unchanged
 returns-clause-unchanged g c =
     let all = map (λ e. plus_of e.message) (drop c.count_back-counted.result c.args.self.now.done) ++ c.args.tally.now in
-    let counts : HaveSameCounts message_rules c.if-counted-place.tally all = elim c.if-counted-place.branch [
-      | then-counted-place+in-Err w ↦ subst (λ t. HaveSameCounts message_rules t all) (sym (w.tally-is ∙ w.in-Err.ensures.unchanged)) c.count_back-counted.ensures.counts
-      | else-counted-place w ↦ subst (λ t. HaveSameCounts message_rules t all) (sym w.tally-is) c.count_back-counted.ensures.counts
+    let counts : HaveSameCounts message_order c.if-counted-place.tally all = elim c.if-counted-place.branch [
+      | then-counted-place+in-Err w ↦ subst (λ t. HaveSameCounts message_order t all) (sym (w.tally-is ∙ w.in-Err.ensures.unchanged)) c.count_back-counted.ensures.counts
+      | else-counted-place w ↦ subst (λ t. HaveSameCounts message_order t all) (sym w.tally-is) c.count_back-counted.ensures.counts
     ] in
     c.told_by_counts-2.ensures.told c.args.tally.now c.told_by_counts.ensures.tally (c.take_out.ensures c.args.tally.now counts c.requires.not_owed)

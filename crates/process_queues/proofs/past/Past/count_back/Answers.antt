@@ -1,9 +1,9 @@
 use Rattle.std.proofs.Common.{◌≡◌, suc, ◌+◌, ◌-◌, ◌∷◌, ◌++◌, length, map, drop, slice_index_or, sym, ap, ◌∙◌, subst, arith}
 use Rattle.std.proofs.lemmas.List.{drop_all}
-use Rattle.vlink.specs.declared.message.Letter.{Letter}
-use Rattle.vlink.specs.declared.message.Sign.TheVariants.{Plus}
-use Rattle.virtual_time.specs.Letters.{plus_of}
-use Rattle.antimessages.specs.Letters.{message_rules, signed}
+use Rattle.virtual_time.specs.declared.letter.Sign.TheVariants.{Plus}
+use Rattle.virtual_time.specs.Law.{plus_of}
+use Rattle.vlink.specs.Order.{message_order}
+use Rattle.vlink.specs.Letters.{Letter}
 use Rattle.antimessages.specs.Counting.{signed_count}
 use Rattle.antimessages.proofs.Agreeing.{added-same_counts, same_counts-cons}
 use Rattle.process_queues.specs.Past.{Past}
@@ -13,7 +13,7 @@ use Rattle.process_queues.proofs.past.Past.count_back.Goals as goal
 
 pub loop-counted-init : goal.loop-counted-init
 loop-counted-init g c = λ m.
-    ap (λ es. signed_count message_rules m (map (λ e. plus_of e.message) es ++ c.args.tally.now)) (sym (drop_all _ c.args.self.now.done (let l = c.len-all.ensures in let d = ap (λ p. length p.done) c.self.view_is in omega arith)))
+    ap (λ es. signed_count message_order m (map (λ e. plus_of e.message) es ++ c.args.tally.now)) (sym (drop_all _ c.args.self.now.done (let l = c.len-all.ensures in let d = ap (λ p. length p.done) c.self.view_is in omega arith)))
 
 pub loop-counted-preserved : goal.loop-counted-preserved
 loop-counted-preserved g c = λ m.
@@ -30,6 +30,6 @@ loop-counted-preserved g c = λ m.
     let next : suc k ≡ c.len-all.result - c.loop-counted.counted = omega arith in
     let at = subst (λ (p : Past g.row.R.Denot g.row.R-Record.Denot). e ≡ slice_index_or p.done (c.len-all.result - 1 - c.loop-counted.counted) e) c.self.view_is c.index.ensures in
     let one = drop-one done k e (omega arith) (subst (λ i. e ≡ slice_index_or done i e) place at) in
-    added-same_counts message_rules R.messages letter c.add.new.self old c.in-Ok.ensures.count c.in-Ok.ensures.others m ∙
-    (same_counts-cons message_rules (signed letter) old (map (λ x. plus_of x.message) (drop (c.len-all.result - c.loop-counted.counted) done) ++ c.args.tally.now) c.loop-counted.invariant m ∙
-    ap (λ es. signed_count message_rules m (map (λ x. plus_of x.message) es ++ c.args.tally.now)) (ap (λ i. e ∷ drop i done) (sym next) ∙ sym one))
+    added-same_counts message_order R.messages letter c.add.new.self old c.in-Ok.ensures.count c.in-Ok.ensures.others m ∙
+    (same_counts-cons message_order letter old (map (λ x. plus_of x.message) (drop (c.len-all.result - c.loop-counted.counted) done) ++ c.args.tally.now) c.loop-counted.invariant m ∙
+    ap (λ es. signed_count message_order m (map (λ x. plus_of x.message) es ++ c.args.tally.now)) (ap (λ i. e ∷ drop i done) (sym next) ∙ sym one))

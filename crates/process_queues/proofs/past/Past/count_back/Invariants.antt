@@ -1,8 +1,8 @@
 use Rattle.std.proofs.Common.{◌-◌, ◌++◌, map, drop}
-use Rattle.virtual_time.specs.Letters.{plus_of}
-use Rattle.antimessages.specs.Letters.{message_rules}
+use Rattle.virtual_time.specs.Law.{plus_of}
+use Rattle.vlink.specs.Order.{message_order}
 use Rattle.antimessages.specs.Counting.{HaveSameCounts}
 use Rattle.process_queues.proofs.past.Past.count_back.Given as goal
 
 abbrev pub invariant-loop-counted : goal.invariant-loop-counted
-invariant-loop-counted g l = HaveSameCounts message_rules l.tally (map (λ e. plus_of e.message) (drop (l.all - l.counted) l.self.done) ++ l.initial.tally)
+invariant-loop-counted g l = HaveSameCounts message_order l.tally (map (λ e. plus_of e.message) (drop (l.all - l.counted) l.self.done) ++ l.initial.tally)

@@ -1,5 +1,5 @@
 use Rattle.std.proofs.Common.{reverse, refl, sym, ap, ◌∙◌, subst, arith}
-use Rattle.virtual_time.specs.Part.{rolled_back}
+use Rattle.virtual_time.specs.Law.{rolled_back}
 use Rattle.reverse.specs.Rules.{rules_of}
 use Rattle.process_queues.specs.Past.{BelongsTo, sent_since}
 use Rattle.process_queues.proofs.Rolls.{rolls-none, rolls-more, rolls-end, is-late, late-last}

@@ -1,6 +1,6 @@
 use Rattle.std.proofs.Common.{◌≤◌, length, reverse}
 use Rattle.vlink.specs.declared.message.Message.{Message}
-use Rattle.virtual_time.specs.Part.{Part}
+use Rattle.virtual_time.specs.Law.{Part}
 use Rattle.reverse.specs.Rules.{rules_of}
 use Rattle.process_queues.specs.Past.{Rows, BelongsTo, sent_since}
 use Rattle.process_queues.proofs.Rolls.{Rolls}

@@ -1,7 +1,7 @@
 use Rattle.std.proofs.Common.{◌≡◌, ◌++◌, length, map, slice_index_or, ap, ◌∙◌, subst, arith}
 use Rattle.std.proofs.lemmas.List.{drop_all}
-use Rattle.virtual_time.specs.Letters.{plus_of}
-use Rattle.antimessages.specs.Letters.{message_rules}
+use Rattle.virtual_time.specs.Law.{plus_of}
+use Rattle.vlink.specs.Order.{message_order}
 use Rattle.antimessages.specs.Counting.{signed_count}
 use Rattle.process_queues.specs.Past.{Past}
 use Rattle.process_queues.proofs.Beside.{taken-next}
@@ -21,5 +21,5 @@ loop-taken-preserved g c = λ before counts not_owed.
 pub returns : goal.returns
 returns g c = λ before counts not_owed m.
     c.loop-taken.invariant before counts not_owed m ∙
-    ap (λ es. signed_count message_rules m (map (λ e. plus_of e.message) es ++ before)) (drop_all c.loop-taken.taken c.args.self.now.done
+    ap (λ es. signed_count message_order m (map (λ e. plus_of e.message) es ++ before)) (drop_all c.loop-taken.taken c.args.self.now.done
     (let l = c.len-taken-end.ensures in let d = ap (λ p. length p.done) c.self.view_is in let t = c.loop-taken-test.false in omega arith))

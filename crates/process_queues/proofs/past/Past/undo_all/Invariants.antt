@@ -1,7 +1,7 @@
 use Rattle.std.proofs.Common.{List, []}
 use Rattle.std.specs.VecDeque.{deque_len}
 use Rattle.vlink.specs.declared.message.Message.{Message}
-use Rattle.virtual_time.specs.Rules.{sent, rowed}
+use Rattle.virtual_time.specs.Law.{sent, rowed}
 use Rattle.reverse.specs.Rules.{rules_of}
 use Rattle.process_queues.specs.Past.{Rows, IsPastOf}
 use Rattle.process_queues.proofs.past.Past.undo_all.Given as goal

@@ -1,8 +1,7 @@
 use Rattle.std.proofs.Common.{◌≡◌, [], ◌∷◌, ◌++◌, map, take, drop, reverse, refl, sym, ap, ◌∙◌, subst, arith, vec_len}
-use Rattle.std.proofs.lemmas.List.{take-map, length-map}
-use Rattle.virtual_time.specs.Letters.{minus_of}
+use Rattle.virtual_time.specs.Law.{minus_of}
 use Rattle.reverse.specs.Rules.{rules_of}
-use Rattle.process_queues.specs.Past.{IsPastOf, seen_row}
+use Rattle.process_queues.specs.Past.{IsPastOf}
 use Rattle.process_queues.proofs.Pasts.{came-last, gives-last, past-less, some-done}
 use Rattle.process_queues.proofs.Taking.{snoc-parts}
 use Rattle.process_queues.proofs.past.Past.undo_newest.Goals as goal
@@ -44,7 +43,6 @@ overflow_sub-rows g c =
     let l = came-last r v i.0 i.1 i.3 i.2 _ c.pop_back.new.self.items c.in-Some.event c.in-Some.ensures.items (subst (IsPastOf r v i.0 (i.1 ++ i.2 ∷ []) i.3) (sym c.self.view_is) i.4) in
     let b = (gives-last r v i.0 i.1 i.3 i.2 _ c.pop_back.new.self.items c.in-Some.event l).noted in
     let n : c.from-in-Some.result ≡ c.in-Some.event.noted = c.from-in-Some.ensures in
-    let m = length-map c.self.inside.rows.items seen_row in
     let k : c.len.result ≡ vec_len c.self.inside.rows = c.len.ensures in
     omega arith
 
@@ -53,14 +51,12 @@ returns-in-Some-clause-undone g c start ms e earlier h =
     let r = rules_of g.R.Reversible.plain g.R.Actor.counter in
     let v = g.R.Reversible.is_value in
     let l = came-last r v start ms earlier e _ c.pop_back.new.self.items c.in-Some.event c.in-Some.ensures.items (subst (IsPastOf r v start (ms ++ e ∷ []) earlier) (sym c.self.view_is) h) in
-    let m = length-map c.self.inside.rows.items seen_row in
     let k : c.len.result ≡ vec_len c.self.inside.rows = c.len.ensures in
     let n : c.from-in-Some.result ≡ c.in-Some.event.noted = c.from-in-Some.ensures in
     let s : c.from.result ≡ c.in-Some.event.sent = c.from.ensures in
     past-less r v start ms earlier e _ _ c.pop_back.new.self.items c.in-Some.event l (λ z. c.actor_rules.ensures.undoes z e) c.undo.ensures refl
     (c.take_back.ensures.sends ∙ ap (λ x. take x c.self.inside.sends.items) (omega arith))
-    (ap (map seen_row) c.truncate.ensures.items ∙ (sym (take-map seen_row _ c.self.inside.rows.items) ∙
-    ap (λ x. take x (map seen_row c.self.inside.rows.items)) (omega arith)))
+    (c.truncate.ensures.items ∙ ap (λ x. take x c.self.inside.rows.items) (omega arith))
 
 pub returns-in-Some-clause-sent : goal.returns-in-Some-clause-sent
 returns-in-Some-clause-sent g c start ms e earlier h =

@@ -1,11 +1,10 @@
 use Rattle.std.proofs.Common.{rules, ◌≡◌, inl, inr, false, [], ◌∷◌, map, drop, slice_get, Some, refl, sym, ap, ◌∙◌, subst}
-use Rattle.virtual_time.specs.Rules.{rowed}
-use Rattle.virtual_time.specs.Part.{arrive, counted}
+use Rattle.virtual_time.specs.Law.{rowed, arrive, counted}
 use Rattle.reverse.specs.Rules.{rules_of}
-use Rattle.antimessages.specs.Letters.{message_rules, signed}
+use Rattle.vlink.specs.Order.{message_order}
 use Rattle.antimessages.specs.Counting.{change_by, is_after, present_after}
 use Rattle.antimessages.specs.declared.tally.Change.TheVariants.{Same}
-use Rattle.antimessages.proofs.Agreeing.{added-same_counts, after-messages}
+use Rattle.antimessages.proofs.Agreeing.{added-same_counts}
 use Rattle.antimessages.proofs.Following.{next-same}
 use Rattle.process_queues.specs.Past.{newest_of}
 use Rattle.process_queues.specs.Queues.{StandsFor, with_done}
@@ -39,15 +38,15 @@ returns-then-is_before-clause-arrived g c opening part h =
     let k = subst (λ q. StandsFor r v opening part q.queues) (sym c.self.view_is) h in
     let l = c.in-Some.letter in
     let first : slice_get c.self.inside.tray.items 0 ≡ Some l = search rules in
-    let rest = map signed (drop 1 c.self.inside.tray.items) in
+    let rest = (drop 1 c.self.inside.tray.items) in
     let tray = front-split c.self.inside.tray.items l first in
     let done = c.self.inside.past.done in
     let all = with_done c.self.inside.tally done in
-    arrived-still r v opening part _ _ k R (signed l) rest (with_done c.add.new.self done) tray
+    arrived-still r v opening part _ _ k R l rest (with_done c.add.new.self done) tray
     (stays-put r R v opening part _ k l all refl (inr (sym c.if-is_before.ensures)))
     (counts-with r R v opening part _ k l all refl (with_done c.add.new.self done)
-    (with_done-same R.messages c.add.new.self (signed l ∷ c.self.inside.tally) done
-    (added-same_counts message_rules R.messages l c.add.new.self c.self.inside.tally c.in_ok-change.ensures.count c.in_ok-change.ensures.others)))
+    (with_done-same R.messages c.add.new.self (l ∷ c.self.inside.tally) done
+    (added-same_counts message_order R.messages l c.add.new.self c.self.inside.tally c.in_ok-change.ensures.count c.in_ok-change.ensures.others)))
     (rw c.pop_front.ensures refl)
 
 pub invariant_of-self-then-is_before : goal.invariant_of-self-then-is_before
@@ -59,15 +58,15 @@ invariant_of-self-then-is_before g c =
     let l = c.in-Some.letter in
     let t = c.self.inside.tally in
     let newest = c.newest.ensures in
-    let counts = added-same_counts message_rules R.messages l c.add.new.self t c.in_ok-change.ensures.count c.in_ok-change.ensures.others in
+    let counts = added-same_counts message_order R.messages l c.add.new.self t c.in_ok-change.ensures.count c.in_ok-change.ensures.others in
     let stands = returns-then-is_before-clause-arrived g c i.0 i.1 (subst (λ q. StandsFor r v i.0 i.1 q.queues) c.self.view_is i.2) in (
       i.0,
       arrive r i.0 i.1,
       stands,
       c.next_with-self-inside.ensures t counts c.in_ok-change.ensures.change
-          (λ n. ap (λ o. is_after message_rules o l.message) newest ∙ (sym (after-messages r R.less_one _ l.message) ∙ sym c.if-is_before.ensures))
-          (i.3 ∙ (next-beside r R v i.0 i.1 _ i.2 t refl ∙ ap (λ o. present_after message_rules o t) (sym newest))) ∙
-          (ap (λ o. present_after message_rules o c.add.new.self) newest ∙ sym (next-beside r R v i.0 (arrive r i.0 i.1) _ stands c.add.new.self refl)),
+          (λ n. ap (λ o. is_after message_order o l.message) newest ∙ sym c.if-is_before.ensures)
+          (i.3 ∙ (next-beside r R v i.0 i.1 _ i.2 t refl ∙ ap (λ o. present_after message_order o t) (sym newest))) ∙
+          (ap (λ o. present_after message_order o c.add.new.self) newest ∙ sym (next-beside r R v i.0 (arrive r i.0 i.1) _ stands c.add.new.self refl)),
     )
 
 pub returns-then-is_before-clause-answer : goal.returns-then-is_before-clause-answer
@@ -78,10 +77,10 @@ returns-then-is_before-clause-answer g c opening part h =
     let k = subst (λ q. StandsFor r v opening part q.queues) (sym c.self.view_is) h in
     let l = c.in-Some.letter in
     let first : slice_get c.self.inside.tray.items 0 ≡ Some l = search rules in
-    let rest = map signed (drop 1 c.self.inside.tray.items) in
+    let rest = (drop 1 c.self.inside.tray.items) in
     let tray = front-split c.self.inside.tray.items l first in (
-      λ none. let bad : signed l ∷ rest ≡ [] = sym tray ∙ (k.tray ∙ none) in cc,
-      sym (undone-none r v opening part _ k R (signed l) rest tray
+      λ none. let bad : l ∷ rest ≡ [] = sym tray ∙ (k.tray ∙ none) in cc,
+      sym (undone-none r v opening part _ k R l rest tray
           (stays-put r R v opening part _ k l (with_done c.self.inside.tally c.self.inside.past.done) refl (inr (sym c.if-is_before.ensures)))),
     )
 
@@ -90,7 +89,7 @@ returns-then-is_before-clause-answer g c opening part h =
 pub is_turned-requires : goal.is_turned-requires
 is_turned-requires g c =
     let r = rules_of g.R.Reversible.plain g.R.Actor.counter in
-    subst (λ q. is_after r (newest_of (map (λ e. e.message) q.queues.past.done)) c.in-Some.letter.message ≡ false) c.self.view_is (sym c.if-is_before.ensures)
+    subst (λ q. is_after r.order (newest_of (map (λ e. e.message) q.queues.past.done)) c.in-Some.letter.message ≡ false) c.self.view_is (sym c.if-is_before.ensures)
 
 pub returns-then-not-is_turned-clause-arrived : goal.returns-then-not-is_turned-clause-arrived
 returns-then-not-is_turned-clause-arrived g c opening part h =
@@ -100,14 +99,14 @@ returns-then-not-is_turned-clause-arrived g c opening part h =
     let k = subst (λ q. StandsFor r v opening part q.queues) (sym c.self.view_is) h in
     let l = c.in-Some.letter in
     let first : slice_get c.self.inside.tray.items 0 ≡ Some l = search rules in
-    let rest = map signed (drop 1 c.self.inside.tray.items) in
+    let rest = (drop 1 c.self.inside.tray.items) in
     let tray = front-split c.self.inside.tray.items l first in
     let done = c.self.inside.past.done in
-    arrived-still r v opening part _ _ k R (signed l) rest (with_done c.add-then-not-is_turned.new.self done) tray
+    arrived-still r v opening part _ _ k R l rest (with_done c.add-then-not-is_turned.new.self done) tray
     (stays-put r R v opening part _ h l _ refl (inl (c.if-not-is_turned.ensures.same refl)))
     (counts-with r R v opening part _ k l (with_done c.self.inside.tally done) refl (with_done c.add-then-not-is_turned.new.self done)
-    (with_done-same R.messages c.add-then-not-is_turned.new.self (signed l ∷ c.self.inside.tally) done
-    (added-same_counts message_rules R.messages l c.add-then-not-is_turned.new.self c.self.inside.tally c.in_ok-add.ensures.count c.in_ok-add.ensures.others)))
+    (with_done-same R.messages c.add-then-not-is_turned.new.self (l ∷ c.self.inside.tally) done
+    (added-same_counts message_order R.messages l c.add-then-not-is_turned.new.self c.self.inside.tally c.in_ok-add.ensures.count c.in_ok-add.ensures.others)))
     (rw c.pop_front-then-not-is_turned.ensures refl)
 
 pub invariant_of-self-then-not-is_turned : goal.invariant_of-self-then-not-is_turned
@@ -119,13 +118,13 @@ invariant_of-self-then-not-is_turned g c =
     let l = c.in-Some.letter in
     let done = c.self.inside.past.done in
     let all = with_done c.self.inside.tally done in
-    let counts = with_done-same R.messages c.add-then-not-is_turned.new.self (signed l ∷ c.self.inside.tally) done
-    (added-same_counts message_rules R.messages l c.add-then-not-is_turned.new.self c.self.inside.tally c.in_ok-add.ensures.count c.in_ok-add.ensures.others) in
-    let same = subst (λ q. change_by message_rules (signed l) q.queues.tally ≡ Same) (sym c.self.view_is) (c.if-not-is_turned.ensures.same refl) in (
+    let counts = with_done-same R.messages c.add-then-not-is_turned.new.self (l ∷ c.self.inside.tally) done
+    (added-same_counts message_order R.messages l c.add-then-not-is_turned.new.self c.self.inside.tally c.in_ok-add.ensures.count c.in_ok-add.ensures.others) in
+    let same = subst (λ q. change_by message_order l q.queues.tally ≡ Same) (sym c.self.view_is) (c.if-not-is_turned.ensures.same refl) in (
       i.0,
       arrive r i.0 i.1,
       returns-then-not-is_turned-clause-arrived g c i.0 i.1 (subst (λ q. StandsFor r v i.0 i.1 q.queues) c.self.view_is i.2),
-      i.3 ∙ next-same message_rules R.messages (newest_of (map (λ e. e.message) done)) (signed l) all (with_done c.add-then-not-is_turned.new.self done) counts same,
+      i.3 ∙ next-same message_order R.messages (newest_of (map (λ e. e.message) done)) l all (with_done c.add-then-not-is_turned.new.self done) counts same,
     )
 
 pub returns-then-not-is_turned-clause-answer : goal.returns-then-not-is_turned-clause-answer
@@ -136,10 +135,10 @@ returns-then-not-is_turned-clause-answer g c opening part h =
     let k = subst (λ q. StandsFor r v opening part q.queues) (sym c.self.view_is) h in
     let l = c.in-Some.letter in
     let first : slice_get c.self.inside.tray.items 0 ≡ Some l = search rules in
-    let rest = map signed (drop 1 c.self.inside.tray.items) in
+    let rest = (drop 1 c.self.inside.tray.items) in
     let tray = front-split c.self.inside.tray.items l first in (
-      λ none. let bad : signed l ∷ rest ≡ [] = sym tray ∙ (k.tray ∙ none) in cc,
-      sym (undone-none r v opening part _ k R (signed l) rest tray
+      λ none. let bad : l ∷ rest ≡ [] = sym tray ∙ (k.tray ∙ none) in cc,
+      sym (undone-none r v opening part _ k R l rest tray
           (stays-put r R v opening part _ h l _ refl (inl (c.if-not-is_turned.ensures.same refl)))),
     )
 
@@ -183,22 +182,22 @@ returns-clause-arrived g c opening part h =
     let k = subst (λ q. StandsFor r v opening part q.queues) (sym c.self.view_is) h in
     let l = c.in-Some.letter in
     let first : slice_get c.self.inside.tray.items 0 ≡ Some l = search rules in
-    let rest = map signed (drop 1 c.self.inside.tray.items) in
+    let rest = (drop 1 c.self.inside.tray.items) in
     let tray = front-split c.self.inside.tray.items l first in
     let there = drop c.self.inside.left (rowed r opening part.committed) in
-    let b = counted-belongs r v opening part _ k R (signed l) rest in
-    let rolled = c.roll_back-undone.ensures.rolled opening there (counted r (signed l) rest part) b in
+    let b = counted-belongs r v opening part _ k R l rest in
+    let rolled = c.roll_back-undone.ensures.rolled opening there (counted r l rest part) b in
     let done = c.self.inside.past.done in
     let left = c.roll_back-undone.new.self.done in
     let split = undone-split r R.order l.message part.done done left c.done_before-place.result (done-messages r v opening there part c.self.inside.past k.past) k.past.ascending
     (done-messages r v opening there _ c.roll_back-undone.new.self rolled) c.done_before-place.ensures in
-    arrived-back r v opening part _ _ k R (signed l) rest (with_done c.count_again.new.tally left) tray
+    arrived-back r v opening part _ _ k R l rest (with_done c.count_again.new.tally left) tray
     (turns r R v opening part _ h l _ refl (c.if-not-is_turned.ensures.turned refl))
     (counts-with r R v opening part _ k l (with_done c.self.inside.tally done) refl (with_done c.count_again.new.tally left)
-    (with_done-undone R.messages (signed l) c.done_before-place.result c.self.inside.tally c.count_again.new.tally done left c.in_ok-count_again.ensures.counts split))
+    (with_done-undone R.messages l c.done_before-place.result c.self.inside.tally c.count_again.new.tally done left c.in_ok-count_again.ensures.counts split))
     rolled
-    refl refl refl refl (ap (map signed) c.pop_front-2.ensures)
-    (c.roll_back-undone.ensures.posted opening there (counted r (signed l) rest part) b (c.in_ok-reserve.ensures.same ∙ k.outbox))
+    refl refl refl refl (c.pop_front-2.ensures)
+    (c.roll_back-undone.ensures.posted opening there (counted r l rest part) b (c.in_ok-reserve.ensures.same ∙ k.outbox))
 
 pub invariant_of-self-2 : goal.invariant_of-self-2
 invariant_of-self-2 g c =
@@ -210,7 +209,7 @@ invariant_of-self-2 g c =
       i.0,
       arrive r i.0 i.1,
       stands,
-      c.next_after-self-inside.ensures ∙ (ap (λ o. present_after message_rules o c.count_again.new.tally) c.newest-2.ensures ∙
+      c.next_after-self-inside.ensures ∙ (ap (λ o. present_after message_order o c.count_again.new.tally) c.newest-2.ensures ∙
           sym (next-beside r R v i.0 (arrive r i.0 i.1) _ stands c.count_again.new.tally refl)),
     )
 
@@ -222,11 +221,11 @@ returns-clause-answer g c opening part h =
     let k = subst (λ q. StandsFor r v opening part q.queues) (sym c.self.view_is) h in
     let l = c.in-Some.letter in
     let first : slice_get c.self.inside.tray.items 0 ≡ Some l = search rules in
-    let rest = map signed (drop 1 c.self.inside.tray.items) in
+    let rest = (drop 1 c.self.inside.tray.items) in
     let tray = front-split c.self.inside.tray.items l first in
-    let b = counted-belongs r v opening part _ k R (signed l) rest in (
-      λ none. let bad : signed l ∷ rest ≡ [] = sym tray ∙ (k.tray ∙ none) in cc,
-      undone-back r v opening part _ k R (signed l) rest c.roll_back-undone.new.self c.roll_back-undone.result tray
+    let b = counted-belongs r v opening part _ k R l rest in (
+      λ none. let bad : l ∷ rest ≡ [] = sym tray ∙ (k.tray ∙ none) in cc,
+      undone-back r v opening part _ k R l rest c.roll_back-undone.new.self c.roll_back-undone.result tray
           (turns r R v opening part _ h l _ refl (c.if-not-is_turned.ensures.turned refl))
-          (c.roll_back-undone.ensures.rolled opening (drop c.self.inside.left (rowed r opening part.committed)) (counted r (signed l) rest part) b) c.roll_back-undone.ensures.count,
+          (c.roll_back-undone.ensures.rolled opening (drop c.self.inside.left (rowed r opening part.committed)) (counted r l rest part) b) c.roll_back-undone.ensures.count,
     )

@@ -1,7 +1,7 @@
 use Rattle.std.proofs.Common.{◌≤◌, ap, ◌∙◌, refl, sym, subst, map, take}
-use Rattle.virtual_time.specs.Lists.{IsAscending}
+use Rattle.virtual_time.specs.Law.{IsAscending}
 use Rattle.reverse.specs.Rules.{rules_of}
-use Rattle.antimessages.specs.Letters.{message_rules}
+use Rattle.vlink.specs.Order.{message_order}
 use Rattle.process_queues.specs.Committing.{committable}
 use Rattle.process_queues.specs.Queues.{StandsFor, with_done}
 use Rattle.process_queues.proofs.Rolls.{done-ascending}
@@ -11,18 +11,18 @@ use Rattle.process_queues.proofs.process.Process.committable.Goals as goal
 pub returns-clause-within : goal.returns-clause-within
 returns-clause-within g c =
     subst (λ n. n ≤ c.args.most) (sym c.committable_of.ensures)
-    (committable-within message_rules c.args.moment (with_done c.self.inside.tally c.done.result.now.items) c.args.most (map (λ e. e.message) c.done.result.now.items))
+    (committable-within message_order c.args.moment (with_done c.self.inside.tally c.done.result.now.items) c.args.most (map (λ e. e.message) c.done.result.now.items))
 
 pub returns-clause-stands : goal.returns-clause-stands
 returns-clause-stands g c opening part h =
     let r = rules_of g.R.Reversible.plain g.R.Actor.counter in
     let v = g.R.Reversible.is_value in
     c.committable_of.ensures ∙
-    (ap (λ es. committable message_rules c.args.moment (with_done c.self.inside.tally es) (take c.args.most (map (λ e. e.message) es))) c.done.ensures ∙
-    committable-stands r (λ m. refl) v opening part _ (subst (λ q. StandsFor r v opening part q.queues) (sym c.self.view_is) h) c.args.moment c.args.most)
+    (ap (λ es. committable message_order c.args.moment (with_done c.self.inside.tally es) (take c.args.most (map (λ e. e.message) es))) c.done.ensures ∙
+    committable-stands r refl v opening part _ (subst (λ q. StandsFor r v opening part q.queues) (sym c.self.view_is) h) c.args.moment c.args.most)
 
 pub committable_of-requires : goal.committable_of-requires
 committable_of-requires g c =
     let r = rules_of g.R.Reversible.plain g.R.Actor.counter in
     let i = c.self.invariant in
-    subst (λ es. IsAscending r (map (λ e. e.message) es)) (sym c.done.ensures) (done-ascending r g.R.Reversible.is_value i.0 _ i.1 _ i.2.past)
+    subst (λ es. IsAscending r.order (map (λ e. e.message) es)) (sym c.done.ensures) (done-ascending r g.R.Reversible.is_value i.0 _ i.1 _ i.2.past)

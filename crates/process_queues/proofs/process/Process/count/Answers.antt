@@ -18,7 +18,7 @@ returns g c = λ opening part h.
     let v = g.R.Reversible.is_value in
     let R = of-messages g.R.Reversible.plain g.R.Actor.counter c.actor_rules.ensures.order c.actor_rules.ensures.undoes in
     let k = subst (λ q. StandsFor r v opening part q.queues) (sym c.self.view_is) h in
-    let count : c.count_with.result ≡ signed_count r c.args.message.now part.tally =
+    let count : c.count_with.result ≡ signed_count r.order c.args.message.now part.tally =
     count-stands r R v opening part _ k c.args.message.now c.self.inside.tally refl c.has_done.result c.count_with.result
     c.has_done.ensures.done c.has_done.ensures.not_done c.count_with.ensures.done c.count_with.ensures.not_done in
     search rules

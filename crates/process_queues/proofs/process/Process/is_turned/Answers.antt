@@ -1,7 +1,7 @@
 use Rattle.std.proofs.Common.{◌≡◌, false, not, map, refl, sym, ap, ◌∙◌, subst}
-use Rattle.virtual_time.specs.Lists.{one_if, times_in}
+use Rattle.virtual_time.specs.Law.{one_if, times_in, is_plus}
 use Rattle.reverse.specs.Rules.{rules_of}
-use Rattle.antimessages.specs.Letters.{message_rules, is_plus, signed}
+use Rattle.vlink.specs.Order.{message_order}
 use Rattle.antimessages.specs.Counting.{change_by, is_after}
 use Rattle.antimessages.specs.declared.tally.Change.TheVariants.{Same}
 use Rattle.process_queues.specs.Past.{newest_of}
@@ -27,15 +27,15 @@ returns-then-is_other-clause-turned g c = λ zero.
     let R = of-messages g.R.Reversible.plain g.R.Actor.counter c.actor_rules.ensures.order c.actor_rules.ensures.undoes in
     let i = c.self.invariant in
     let l = c.args.letter.now in
-    let n = times_in r l.message (map (λ e. e.message) c.self.inside.past.done) in
+    let n = times_in r.order l.message (map (λ e. e.message) c.self.inside.past.done) in
     let times : n ≡ one_if (not (is_plus l.sign)) = elim c.match-letter.branch [
       | in-Plus w ↦ (other-times l.sign w.has_done.result c.match-letter.is_other n w.has_done.ensures.done w.has_done.ensures.not_done
           (w.is_other-is ∙ ap (λ s. is_other s w.has_done.result) (sym w.in-Plus.is))).0 c.if-is_other.true
       | in-Minus w ↦ (other-times l.sign w.has_done-is_other.result c.match-letter.is_other n w.has_done-is_other.ensures.done w.has_done-is_other.ensures.not_done
           (w.is_other-is ∙ ap (λ s. is_other s w.has_done-is_other.result) (sym w.in-Minus.is))).0 c.if-is_other.true
     ] in
-    λ same. turns-it r R g.R.Reversible.is_value i.0 i.1 _ i.2 (signed l) c.self.inside.tally refl times (c.is_zero.ensures.0 zero)
-    (subst (λ q. change_by message_rules (signed l) q.queues.tally ≡ Same) (sym c.self.view_is) same)
+    λ same. turns-it r R g.R.Reversible.is_value i.0 i.1 _ i.2 l c.self.inside.tally refl times (c.is_zero.ensures.0 zero)
+    (subst (λ q. change_by message_order l q.queues.tally ≡ Same) (sym c.self.view_is) same)
 
 pub returns-then-is_other-clause-same : goal.returns-then-is_other-clause-same
 returns-then-is_other-clause-same g c = λ some.
@@ -43,16 +43,16 @@ returns-then-is_other-clause-same g c = λ some.
     let R = of-messages g.R.Reversible.plain g.R.Actor.counter c.actor_rules.ensures.order c.actor_rules.ensures.undoes in
     let i = c.self.invariant in
     let l = c.args.letter.now in
-    let n = times_in r l.message (map (λ e. e.message) c.self.inside.past.done) in
+    let n = times_in r.order l.message (map (λ e. e.message) c.self.inside.past.done) in
     let times : n ≡ one_if (not (is_plus l.sign)) = elim c.match-letter.branch [
       | in-Plus w ↦ (other-times l.sign w.has_done.result c.match-letter.is_other n w.has_done.ensures.done w.has_done.ensures.not_done
           (w.is_other-is ∙ ap (λ s. is_other s w.has_done.result) (sym w.in-Plus.is))).0 c.if-is_other.true
       | in-Minus w ↦ (other-times l.sign w.has_done-is_other.result c.match-letter.is_other n w.has_done-is_other.ensures.done w.has_done-is_other.ensures.not_done
           (w.is_other-is ∙ ap (λ s. is_other s w.has_done-is_other.result) (sym w.in-Minus.is))).0 c.if-is_other.true
     ] in
-    let late = subst (λ q. is_after r (newest_of (map (λ e. e.message) q.queues.past.done)) l.message ≡ false) (sym c.self.view_is) c.requires in
-    subst (λ q. change_by message_rules (signed l) q.queues.tally ≡ Same) c.self.view_is
-    (keeps-it r R g.R.Reversible.is_value i.0 i.1 _ i.2 (signed l) c.self.inside.tally refl late times (λ z. let t = c.is_zero.ensures.1 z in cc))
+    let late = subst (λ q. is_after r.order (newest_of (map (λ e. e.message) q.queues.past.done)) l.message ≡ false) (sym c.self.view_is) c.requires in
+    subst (λ q. change_by message_order l q.queues.tally ≡ Same) c.self.view_is
+    (keeps-it r R g.R.Reversible.is_value i.0 i.1 _ i.2 l c.self.inside.tally refl late times (λ z. let t = c.is_zero.ensures.1 z in cc))
 
 pub returns-else-is_other-clause-same : goal.returns-else-is_other-clause-same
 returns-else-is_other-clause-same g c = λ other.
@@ -60,13 +60,13 @@ returns-else-is_other-clause-same g c = λ other.
     let R = of-messages g.R.Reversible.plain g.R.Actor.counter c.actor_rules.ensures.order c.actor_rules.ensures.undoes in
     let i = c.self.invariant in
     let l = c.args.letter.now in
-    let n = times_in r l.message (map (λ e. e.message) c.self.inside.past.done) in
+    let n = times_in r.order l.message (map (λ e. e.message) c.self.inside.past.done) in
     let times : n ≡ one_if (is_plus l.sign) = elim c.match-letter.branch [
       | in-Plus w ↦ (other-times l.sign w.has_done.result c.match-letter.is_other n w.has_done.ensures.done w.has_done.ensures.not_done
           (w.is_other-is ∙ ap (λ s. is_other s w.has_done.result) (sym w.in-Plus.is))).1 other
       | in-Minus w ↦ (other-times l.sign w.has_done-is_other.result c.match-letter.is_other n w.has_done-is_other.ensures.done w.has_done-is_other.ensures.not_done
           (w.is_other-is ∙ ap (λ s. is_other s w.has_done-is_other.result) (sym w.in-Minus.is))).1 other
     ] in
-    let late = subst (λ q. is_after r (newest_of (map (λ e. e.message) q.queues.past.done)) l.message ≡ false) (sym c.self.view_is) c.requires in
-    subst (λ q. change_by message_rules (signed l) q.queues.tally ≡ Same) c.self.view_is
-    (keeps-done r R g.R.Reversible.is_value i.0 i.1 _ i.2 (signed l) c.self.inside.tally refl late times)
+    let late = subst (λ q. is_after r.order (newest_of (map (λ e. e.message) q.queues.past.done)) l.message ≡ false) (sym c.self.view_is) c.requires in
+    subst (λ q. change_by message_order l q.queues.tally ≡ Same) c.self.view_is
+    (keeps-done r R g.R.Reversible.is_value i.0 i.1 _ i.2 l c.self.inside.tally refl late times)

@@ -1,5 +1,5 @@
 use Rattle.std.proofs.Common.{rules}
-use Rattle.virtual_time.specs.Part.{opened}
+use Rattle.virtual_time.specs.Law.{opened}
 use Rattle.reverse.specs.Rules.{rules_of}
 use Rattle.process_queues.proofs.Standing.{opened-stands}
 use Rattle.process_queues.proofs.process.Process.new.Goals as goal

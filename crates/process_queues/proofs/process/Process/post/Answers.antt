@@ -1,5 +1,5 @@
 use Rattle.std.proofs.Common.{refl}
-use Rattle.virtual_time.specs.Part.{emptied}
+use Rattle.virtual_time.specs.Law.{emptied}
 use Rattle.reverse.specs.Rules.{rules_of}
 use Rattle.process_queues.proofs.Standing.{emptied-stands}
 use Rattle.process_queues.proofs.process.Process.post.Goals as goal

@@ -1,8 +1,8 @@
 use Rattle.std.proofs.Common.{◌≡◌, None, Some, refl, sym, ap, ◌∙◌, subst}
 use Rattle.std.specs.Prelude.{IsSome}
-use Rattle.virtual_time.specs.Part.{run_one, handled, next_of}
+use Rattle.virtual_time.specs.Law.{run_one, handled, next_of}
 use Rattle.reverse.specs.Rules.{rules_of}
-use Rattle.antimessages.specs.Letters.{message_rules}
+use Rattle.vlink.specs.Order.{message_order}
 use Rattle.antimessages.specs.Counting.{present_after}
 use Rattle.process_queues.specs.Queues.{StandsFor, with_done}
 use Rattle.process_queues.proofs.Beside.{with_done-handled}
@@ -16,7 +16,7 @@ use Rattle.process_queues.proofs.process.Process.run_with.Goals as goal
 pub returns-in_default-clause-ran : goal.returns-in_default-clause-ran
 returns-in_default-clause-ran g c = λ opening part h.
     let r = rules_of g.R.Reversible.plain g.R.Actor.counter in
-    let next : None ≡ next_of r part = sym c.in_default.is ∙ c.next.ensures.stands opening part h in
+    let next : None ≡ next_of r.order part = sym c.in_default.is ∙ c.next.ensures.stands opening part h in
     subst (λ z. StandsFor r g.R.Reversible.is_value opening z c.args.self.now.queues) (ap (handled r part) next) h
 
 pub returns-in_default-clause-handled : goal.returns-in_default-clause-handled
@@ -39,7 +39,7 @@ returns-clause-ran g c = λ opening part h.
     let R = of-messages g.R.Reversible.plain g.R.Actor.counter c.actor_rules.ensures.order c.actor_rules.ensures.undoes in
     let k = subst (λ q. StandsFor r v opening part q.queues) (sym c.self.view_is) h in
     let m = c.in-Some.message in
-    let next : next_of r part ≡ Some m = sym (c.next.ensures.stands opening part h) ∙ c.in-Some.is in
+    let next : next_of r.order part ≡ Some m = sym (c.next.ensures.stands opening part h) ∙ c.in-Some.is in
     let t = c.self.inside.tally in
     let done = c.self.inside.past.done in
     let ran = ran-stands r v opening part _ _ k R m next c.in_ok-handle.ensures.valid refl in
@@ -61,6 +61,6 @@ invariant_of-self-2 g c =
       i.0,
       run_one r i.1,
       stands,
-      c.next_after-self-inside.ensures ∙ (ap (λ o. present_after message_rules o c.take_present.new.self) c.newest.ensures ∙
+      c.next_after-self-inside.ensures ∙ (ap (λ o. present_after message_order o c.take_present.new.self) c.newest.ensures ∙
           sym (next-beside r R v i.0 (run_one r i.1) _ stands c.take_present.new.self refl)),
     )

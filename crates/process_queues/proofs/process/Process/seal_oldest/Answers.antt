@@ -3,10 +3,9 @@ use Rattle.std.specs.Prelude.{◌≢◌}
 use Rattle.std.proofs.lemmas.Int.{ints}
 use Rattle.std.proofs.lemmas.List.{length-append}
 use Rattle.std.specs.Option.{option_copied}
-use Rattle.virtual_time.specs.Rules.{reached, rowed}
-use Rattle.virtual_time.specs.Part.{can_seal, seal_oldest}
+use Rattle.virtual_time.specs.Law.{reached, rowed, can_seal, seal_oldest}
 use Rattle.reverse.specs.Rules.{rules_of}
-use Rattle.antimessages.specs.Letters.{message_rules}
+use Rattle.vlink.specs.Order.{message_order}
 use Rattle.antimessages.specs.Counting.{signed_count}
 use Rattle.process_queues.specs.Past.{IsPastOf}
 use Rattle.process_queues.specs.Queues.{StandsFor, with_done}
@@ -32,7 +31,7 @@ returns-in_err-reserve_if_zero-clause-refused g c = err-gives c.from_residual.re
     let k = subst (λ q. StandsFor r v opening part q.queues) (sym c.self.view_is) h in
     let m = c.in-Some.event.now.message in
     let f = first-done r v opening part _ k c.in-Some.event.now (sym c.oldest.ensures ∙ ap option_copied c.in-Some.is) in
-    ap (can_seal r part) f.1 ∙ one-left r R m part.tally (with_done c.self.inside.tally c.self.inside.past.done) k.counts
+    ap (can_seal r.order part) f.1 ∙ one-left r R m part.tally (with_done c.self.inside.tally c.self.inside.past.done) k.counts
     (oldest-more r R v opening part _ k m f.0 f.1 c.self.inside.tally ∙ ap (λ n. n +ℤ pos 1) c.in_err-reserve_if_zero.ensures.zero))
 
 pub invariant_of-self-then-not-is_zero : goal.invariant_of-self-then-not-is_zero
@@ -47,9 +46,9 @@ returns-then-not-is_zero-clause-answer g c = λ opening part h.
     let m = c.in-Some.event.now.message in
     let f = first-done r v opening part _ k c.in-Some.event.now (sym c.oldest.ensures ∙ ap option_copied c.in-Some.is) in
     let more = oldest-more r R v opening part _ k m f.0 f.1 c.self.inside.tally in
-    let other : signed_count message_rules m (with_done c.self.inside.tally c.self.inside.past.done) ≢ pos 1 =
+    let other : signed_count message_order m (with_done c.self.inside.tally c.self.inside.past.done) ≢ pos 1 =
     λ one. let bad = c.if-not-is_zero.ensures.1 (omega (arith, ints)) in cc in
-    sym (ap (can_seal r part) f.1 ∙ not-one-left r R m part.tally (with_done c.self.inside.tally c.self.inside.past.done) k.counts other)
+    sym (ap (can_seal r.order part) f.1 ∙ not-one-left r R m part.tally (with_done c.self.inside.tally c.self.inside.past.done) k.counts other)
 
 pub returns-then-not-is_zero-clause-sealed : goal.returns-then-not-is_zero-clause-sealed
 returns-then-not-is_zero-clause-sealed g c = λ opening part h.
@@ -77,7 +76,7 @@ returns-clause-answer g c opening part h =
     let k = subst (λ q. StandsFor r v opening part q.queues) (sym c.self.view_is) h in
     let m = c.in-Some.event.now.message in
     let f = first-done r v opening part _ k c.in-Some.event.now (sym c.oldest.ensures ∙ ap option_copied c.in-Some.is) in
-    sym (ap (can_seal r part) f.1 ∙ one-left r R m part.tally (with_done c.self.inside.tally c.self.inside.past.done) k.counts
+    sym (ap (can_seal r.order part) f.1 ∙ one-left r R m part.tally (with_done c.self.inside.tally c.self.inside.past.done) k.counts
     (oldest-more r R v opening part _ k m f.0 f.1 c.self.inside.tally ∙ ap (λ n. n +ℤ pos 1) (c.if-not-is_zero.ensures.0 refl)))
 
 pub returns-clause-sealed : goal.returns-clause-sealed
@@ -103,7 +102,7 @@ returns-clause-sealed g c opening part h =
     let now = ap (map (λ e. e.message)) forgotten.done ∙ messages-of r (r.after b m) f.0 in
     sealed-stands r v opening part _ _ k R m f.0 c.forget_oldest-noted.new.self (with_done t left) f.1 seals
     forgotten c.forget_oldest-noted.ensures.state
-    (counts-less r R m part.tally all (with_done t left) k.counts (with_done-committed R.messages m f.0 t c.self.inside.past.done left was now))
+    (counts-less m part.tally all (with_done t left) k.counts (with_done-committed R.messages m f.0 t c.self.inside.past.done left was now))
     (rw (noted, more) refl)
 
 pub invariant_of-self-2 : goal.invariant_of-self-2

@@ -3,7 +3,7 @@ use Rattle.std.specs.Prelude.{is_ok}
 use Rattle.std.proofs.lemmas.Bool.{false≢true, false_from_ne_true}
 use Rattle.nodes.specs.rules.Simulation.{simulation_of}
 use Rattle.netdesc.specs.Plan.{Plan}
-use Rattle.antimessages.specs.Steps.{step_of, names_none}
+use Rattle.antimessages.specs.Steps.{names_none}
 use Rattle.timewarp.specs.declared.replaying.Replay.{Replay}
 use Rattle.actor_world.specs.declared.done.Done.TheVariants.{Did, NotEnabled}
 use Rattle.actor_world.specs.declared.fault.StepFault.{StepFault}
@@ -18,8 +18,8 @@ returns-in-Ok-Did-clause-replayed c = λ steps h.
     let old = c.args.self.now in
     let new : Replay = record { world = c.step.new.self; did = old.did + 1; not_enabled = old.not_enabled; refused = old.refused } in
     replayed old new c.args.step steps true false c.step.ensures.network h
-    (c.in-Ok-Did.ensures.after (map step_of steps) h.after)
-    ((c.in-Ok-Did.ensures.enabled (map step_of steps) h.after).0 c.in-Ok-Did.field-0-is)
+    (c.in-Ok-Did.ensures.after steps h.after)
+    ((c.in-Ok-Did.ensures.enabled steps h.after).0 c.in-Ok-Did.field-0-is)
     (false_from_ne_true _ (λ e. false≢true (sym (ap is_ok (c.in-Ok-Did.ensures.no_process.1 e)))))
     refl (omega arith) (omega arith)
 
@@ -28,9 +28,9 @@ returns-in-Ok-NotEnabled-clause-replayed c = λ steps h.
     let old = c.args.self.now in
     let new : Replay = record { world = c.step.new.self; did = old.did; not_enabled = old.not_enabled + 1; refused = old.refused } in
     replayed old new c.args.step steps false false c.step.ensures.network h
-    (c.in-Ok-NotEnabled.ensures.after (map step_of steps) h.after)
+    (c.in-Ok-NotEnabled.ensures.after steps h.after)
     (false_from_ne_true _ (λ e.
-    let k : NotEnabled ≡ Did = sym c.in-Ok-NotEnabled.field-0-is ∙ (c.in-Ok-NotEnabled.ensures.enabled (map step_of steps) h.after).1 e in absurd cc))
+    let k : NotEnabled ≡ Did = sym c.in-Ok-NotEnabled.field-0-is ∙ (c.in-Ok-NotEnabled.ensures.enabled steps h.after).1 e in absurd cc))
     (false_from_ne_true _ (λ e. false≢true (sym (ap is_ok (c.in-Ok-NotEnabled.ensures.no_process.1 e)))))
     (omega arith) refl (omega arith)
 
@@ -43,10 +43,10 @@ returns-in-Err-NoProcess-clause-replayed c = λ steps h.
     let there : names_none (simulation_of new.world.plan).processes c.args.step ≡ true =
     subst (λ (plan : Plan). names_none (simulation_of plan).processes c.args.step ≡ true) (sym c.step.ensures.network) unknown in
     replayed old new c.args.step steps false true c.step.ensures.network h
-    (stepped-same new.world.plan new.world.held (map step_of steps) (step_of c.args.step)
-    (step-not (simulation_of new.world.plan) (step_of c.args.step) (after new.world.plan (map step_of steps))
-    (unknown-not-enabled (simulation_of new.world.plan) c.args.step (after new.world.plan (map step_of steps)) there))
-    (c.in-Err-NoProcess.ensures.refused (map step_of steps) h.after))
-    (unknown-not-enabled (simulation_of old.world.plan) c.args.step (after old.world.plan (map step_of steps)) unknown)
+    (stepped-same new.world.plan new.world.held steps c.args.step
+    (step-not (simulation_of new.world.plan) c.args.step (after new.world.plan steps)
+    (unknown-not-enabled (simulation_of new.world.plan) c.args.step (after new.world.plan steps) there))
+    (c.in-Err-NoProcess.ensures.refused steps h.after))
+    (unknown-not-enabled (simulation_of old.world.plan) c.args.step (after old.world.plan steps) unknown)
     unknown
     (omega arith) (omega arith) refl

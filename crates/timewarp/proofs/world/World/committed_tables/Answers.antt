@@ -1,8 +1,7 @@
 use Rattle.std.proofs.Common.{◌≡◌, ◌++◌, ◌+◌, ℕ, List, [], map, sym, subst, arith}
-use Rattle.vlink.specs.declared.note.Row.{Row as Noted}
-use Rattle.virtual_time.specs.Rules.{rowed}
-use Rattle.virtual_time.specs.Simulation.{Laws}
-use Rattle.virtual_time.specs.World.{Step}
+use Rattle.vlink.specs.Letters.{Row}
+use Rattle.virtual_time.specs.Law.{rowed, Laws}
+use Rattle.virtual_time.specs.declared.step.Step.{Step}
 use Rattle.netdesc.specs.Plan.{Plan}
 use Rattle.netdesc.specs.Faults.{process_count}
 use Rattle.nodes.specs.undoing.Node.{IsNodeValue}
@@ -10,7 +9,6 @@ use Rattle.nodes.specs.rules.Placed.{IsPlaced}
 use Rattle.nodes.specs.rules.Simulation.{simulation_of}
 use Rattle.trace_tables.specs.SoFar.{SoFarLists, IsSoFar}
 use Rattle.trace_tables.specs.Tables.{TableLists, tables_of}
-use Rattle.actor_run.specs.Running.{seen_row}
 use Rattle.seqsim.specs.Networks.{setting_of}
 use Rattle.actor_run.proofs.Errors.{ok-weaker}
 use Rattle.actor_world.specs.Worlds.{AtEachWorld}
@@ -21,31 +19,31 @@ use Rattle.timewarp.proofs.NetworkWorlds.{IsLayout}
 use Rattle.timewarp.proofs.world.World.committed_tables.Goals as goal
 
 -- at the first n processes the rows are those that are committed, in each world that it stands for
-abbrev AreFound : NetworkWorld → ℕ → List Noted → Type 0
+abbrev AreFound : NetworkWorld → ℕ → List Row → Type 0
 AreFound w n rows = (steps : List Step) → IsAfter w steps → AreRowsBelow (simulation_of w.plan) (after w.plan steps) n rows
 
 -- they are counted
-counted : (w now : NetworkWorld) → w ≡ now → (tables : SoFarLists) (rows : List Noted) → IsSoFar w.plan tables rows → IsSoFar now.plan tables rows
+counted : (w now : NetworkWorld) → w ≡ now → (tables : SoFarLists) (rows : List Row) → IsSoFar w.plan tables rows → IsSoFar now.plan tables rows
 counted w now e tables rows = subst (λ (z : NetworkWorld). IsSoFar z.plan tables rows) e
 
-counting : (w now : NetworkWorld) → w ≡ now → (tables : SoFarLists) (rows : List Noted) → IsSoFar now.plan tables rows → IsSoFar w.plan tables rows
+counting : (w now : NetworkWorld) → w ≡ now → (tables : SoFarLists) (rows : List Row) → IsSoFar now.plan tables rows → IsSoFar w.plan tables rows
 counting w now e tables rows = subst (λ (z : NetworkWorld). IsSoFar z.plan tables rows) (sym e)
 
-next : (w now : NetworkWorld) → w ≡ now → IsLayout w.plan → Laws (simulation_of w.plan) → (n : ℕ) (rows more : List Noted) →
+next : (w now : NetworkWorld) → w ≡ now → IsLayout w.plan → Laws (simulation_of w.plan) → (n : ℕ) (rows more : List Row) →
     AtEachWorld (simulation_of w.plan).rules (λ s. s.sender.number) (λ s. s.sender.until) IsPlaced IsNodeValue w.held
-    (λ f v. map seen_row more ≡ rowed f.rules (f.opening n) (v.parts n).committed) →
+    (λ f v. more ≡ rowed f.rules (f.opening n) (v.parts n).committed) →
     AreFound now n rows → AreFound now (n + 1) (rows ++ more)
 next w now e layout L n rows more s =
     subst (λ (z : NetworkWorld). AreFound z n rows → AreFound z (n + 1) (rows ++ more)) e (λ found steps h.
     rows-more (simulation_of w.plan) L steps n rows more (found steps h) (s (setting_of w.plan) layout steps h))
 
-last : (w now : NetworkWorld) → w ≡ now → Laws (simulation_of w.plan) → (n : ℕ) (rows : List Noted) → n ≡ process_count w.plan →
+last : (w now : NetworkWorld) → w ≡ now → Laws (simulation_of w.plan) → (n : ℕ) (rows : List Row) → n ≡ process_count w.plan →
     AreFound now n rows → (steps : List Step) → IsAfter now steps → AreCommittedRows now.plan steps rows
 last w now e L n rows k =
     subst (λ (z : NetworkWorld). AreFound z n rows → (steps : List Step) → IsAfter z steps → AreCommittedRows z.plan steps rows) e (λ found steps h.
     rows-all (simulation_of w.plan) L steps rows (subst (λ (m : ℕ). AreRowsBelow (simulation_of w.plan) (after w.plan steps) m rows) k (found steps h)))
 
-told : (w now : NetworkWorld) → w ≡ now → (tables : TableLists) (rows : List Noted) → tables ≡ tables_of w.plan rows → tables ≡ tables_of now.plan rows
+told : (w now : NetworkWorld) → w ≡ now → (tables : TableLists) (rows : List Row) → tables ≡ tables_of w.plan rows → tables ≡ tables_of now.plan rows
 told w now e tables rows = subst (λ (z : NetworkWorld). tables ≡ tables_of z.plan rows) e
 
 pub loop-process-init : goal.loop-process-init
@@ -76,10 +74,10 @@ tables-requires c =
 
 -- the tables of all rows that are counted, and of rows that are committed
 abbrev AreOfCounted : Plan → SoFarLists → TableLists → Type 0
-AreOfCounted plan so_far tables = (rows : List Noted) → IsSoFar plan so_far rows → tables ≡ tables_of plan rows
+AreOfCounted plan so_far tables = (rows : List Row) → IsSoFar plan so_far rows → tables ≡ tables_of plan rows
 
 abbrev AreOfCommitted : NetworkWorld → TableLists → Type 0
-AreOfCommitted w tables = (rows : List Noted) × (tables ≡ tables_of w.plan rows) × ((steps : List Step) → IsAfter w steps → AreCommittedRows w.plan steps rows)
+AreOfCommitted w tables = (rows : List Row) × (tables ≡ tables_of w.plan rows) × ((steps : List Step) → IsAfter w steps → AreCommittedRows w.plan steps rows)
 
 pub returns : goal.returns
 returns c =

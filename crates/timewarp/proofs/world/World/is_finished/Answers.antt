@@ -1,6 +1,6 @@
 use Rattle.std.proofs.Common.{◌≡◌, ◌↔◌, ◌+◌, ◌<◌, ℕ, suc, Bool, List, [], IsTrue, subst, arith}
-use Rattle.virtual_time.specs.Safe.{IsFinished}
-use Rattle.virtual_time.specs.World.{Step}
+use Rattle.virtual_time.specs.Law.{IsFinished}
+use Rattle.virtual_time.specs.declared.step.Step.{Step}
 use Rattle.nodes.specs.undoing.Node.{IsNodeValue}
 use Rattle.nodes.specs.rules.Simulation.{simulation_of}
 use Rattle.seqsim.specs.Networks.{setting_of}

@@ -1,5 +1,5 @@
 use Rattle.std.proofs.Common.{List, subst}
-use Rattle.virtual_time.specs.World.{Step}
+use Rattle.virtual_time.specs.declared.step.Step.{Step}
 use Rattle.timewarp.specs.Networks.{NetworkWorld, IsAfter}
 use Rattle.timewarp.proofs.world.World.lawful.Goals as goal
 

@@ -1,6 +1,6 @@
 use Rattle.std.proofs.Common.{◌≡◌, ◌∙◌, List, [], sym}
 use Rattle.vlink.specs.declared.message.Message.{Message}
-use Rattle.virtual_time.specs.World.{run, start}
+use Rattle.virtual_time.specs.Law.{run, start}
 use Rattle.reverse.specs.Setting.{AreInStates, Opens}
 use Rattle.netdesc.specs.Faults.{process_count}
 use Rattle.netdesc.specs.Plan.{Plan}

@@ -1,8 +1,7 @@
 use Rattle.std.proofs.Common.{◌≡◌, List, length, subst}
 use Rattle.std.specs.Prelude.{IfSome}
-use Rattle.virtual_time.specs.OneThread.{IsLeft}
-use Rattle.virtual_time.specs.Part.{undo_all}
-use Rattle.virtual_time.specs.World.{Step}
+use Rattle.virtual_time.specs.Law.{IsLeft, undo_all}
+use Rattle.virtual_time.specs.declared.step.Step.{Step}
 use Rattle.nodes.specs.rules.Opening.{opening}
 use Rattle.nodes.specs.rules.Simulation.{simulation_of}
 use Rattle.seqsim.specs.Committed.{after}

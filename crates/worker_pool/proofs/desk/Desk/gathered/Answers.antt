@@ -2,10 +2,11 @@ use Rattle.std.proofs.Common.{◌∙◌, ◌≢◌, ◌<◌, ℕ, rules, sym, su
 use mathlib.Core.Logic.{∥∥₁_elim, ∥∥₁_map, ∥∥₁_map₂}
 use Rattle.std.proofs.Props.{props}
 use Rattle.std.specs.Prelude.{Option, Result, IfSome, IfErr}
+use Rattle.virtual_time.specs.Law.{rows_at}
 use Rattle.netdesc.specs.Faults.{process_count}
 use Rattle.trace_parts.specs.declared.part_fault.PartFault.{PartFault}
 use Rattle.trace_parts.specs.declared.part_fault.PartFault.TheVariants.{OutOfMemory}
-use Rattle.trace_parts.specs.Places.{rows_at, gathered}
+use Rattle.trace_parts.specs.Places.{gathered}
 use Rattle.trace_parts.specs.Gathering.{part_fault, Gives}
 use Rattle.trace_parts.specs.Intervals.{rows_within}
 use Rattle.trace_parts.specs.Ordered.{IsInOrder}

@@ -1,7 +1,7 @@
 use Rattle.std.proofs.Common.{◌∙◌, ap, subst}
+use Rattle.virtual_time.specs.Law.{rows_at}
 use Rattle.netdesc.specs.Plan.{Plan}
 use Rattle.netdesc.specs.Faults.{process_count}
-use Rattle.trace_parts.specs.Places.{rows_at}
 use Rattle.worker_pool.specs.Traces.{HasLawfulRows}
 use Rattle.worker_pool.proofs.GatheredRun.{none-gathered}
 use Rattle.worker_pool.proofs.desk.Desk.new.Goals as goal

@@ -1,6 +1,5 @@
 use Rattle.std.proofs.Common.{sym, subst, arith}
-use Rattle.virtual_time.specs.Journal.{steps}
-use Rattle.virtual_time.specs.Simulation.{Laws}
+use Rattle.virtual_time.specs.Law.{steps, Laws}
 use Rattle.nodes.specs.rules.Simulation.{simulation_of}
 use Rattle.seqsim.specs.Committed.{after}
 use Rattle.seqsim.proofs.CommittedRows.{rows-none}

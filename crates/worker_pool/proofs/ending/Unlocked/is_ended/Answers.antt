@@ -1,5 +1,5 @@
 use Rattle.std.proofs.Common.{◌≡◌, subst, arith}
-use Rattle.virtual_time.specs.Journal.{reach}
+use Rattle.virtual_time.specs.Law.{reach}
 use Rattle.nodes.specs.rules.Simulation.{simulation_of}
 use Rattle.exchange.specs.Views.{Ledger}
 use Rattle.worker_pool.proofs.Ended.{ended}

@@ -1,9 +1,8 @@
 use Rattle.std.proofs.Common.{◌≡◌, List, subst}
 use Rattle.vlink.specs.declared.message.Message.{Message}
-use Rattle.vlink.specs.declared.note.Row.{Row as Noted}
-use Rattle.virtual_time.specs.Journal.{steps}
-use Rattle.virtual_time.specs.Safe.{IsFinished}
-use Rattle.virtual_time.specs.World.{Step}
+use Rattle.vlink.specs.Letters.{Row}
+use Rattle.virtual_time.specs.Law.{steps, IsFinished}
+use Rattle.virtual_time.specs.declared.step.Step.{Step}
 use Rattle.netdesc.specs.Plan.{Plan}
 use Rattle.nodes.specs.rules.Simulation.{simulation_of}
 use Rattle.trace_parts.specs.Ordered.{AreInMessageOrder, rows_of_event}
@@ -14,7 +13,7 @@ use Rattle.worker_pool.proofs.ending.Unlocked.rows.Goals as goal
 -- committed rows of a finished world, in message order, are those of the one-thread run
 abbrev AreOrdered : Plan → Type 0
 AreOrdered plan =
-    (steps : List Step) → IsFinished (simulation_of plan) (after plan steps) → (rows ordered : List Noted) → AreCommittedRows plan steps rows →
+    (steps : List Step) → IsFinished (simulation_of plan) (after plan steps) → (rows ordered : List Row) → AreCommittedRows plan steps rows →
     AreInMessageOrder ordered → ((m : Message) → rows_of_event m ordered ≡ rows_of_event m rows) → AreRowsOf plan ordered
 
 pub returns : goal.returns

@@ -1,7 +1,6 @@
 use Rattle.std.proofs.Common.{◌≡◌, ◌∙◌, ℕ, ◌+◌, refl, sym, ap, subst, arith}
 use Rattle.std.specs.Prelude.{Option, IfSome}
-use Rattle.virtual_time.specs.Journal.{steps}
-use Rattle.virtual_time.specs.Simulation.{Laws}
+use Rattle.virtual_time.specs.Law.{steps, Laws}
 use Rattle.netdesc.specs.Plan.{Plan}
 use Rattle.nodes.specs.rules.Simulation.{simulation_of}
 use Rattle.trace_tables.specs.SoFar.{SoFarLists, IsSoFar}

@@ -1,5 +1,5 @@
 //! The steps of a parallel run.
-/// One step of a parallel run, as its journal has it. Processes are told by their numbers; a number that no process has names none.
+/// One step of a parallel run. Processes are told by their numbers; a number that no process has names none.
 #[derive(Clone, Copy, Debug, PartialEq, Eq)]
 pub enum Step {
     /// The letter number `place`, from 0, of the process's mail goes to the back of its tray.

@@ -1,7 +1,7 @@
-//! The steps that a process does alone.
+//! What a process does alone.
 /// A step that a process does alone.
 #[derive(Clone, Copy, Debug, PartialEq, Eq)]
-pub enum Moved {
+pub enum Move {
     /// The front letter of its tray arrived.
     Arrived,
     /// Its first unhandled message was handled.

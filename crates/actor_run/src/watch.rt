@@ -1,0 +1,54 @@
+//! Who is shown how far a run is.
+ghost use Rattle.std.specs.Prelude.{◌<◌};
+ghost use Rattle.actor_run.specs.declared.watch.TheConstants.{EVENTS_PER_LOOK};
+
+use vlink::Time;
+
+/// A watch is shown how far a run is once in so many events.
+const EVENTS_PER_LOOK: u32 = 65_536;
+
+/// Is shown, now and then, how far a run is. It may tell that to somebody; the run goes on as it would without.
+pub trait Watch {
+    /// What looks alone may make of a watch.
+    ghost becomes: { Self → Self → Type 0 };
+
+    /// A look more: the run has come to this moment of simulated time, and handled so many events since the last look.
+    fn look(&mut self, moment: Time, events: u32)
+        ensures { becomes self.old self.new };
+
+    /// No look at all is one such case.
+    ghost stays: { (watch : Self) → becomes watch watch };
+
+    /// Some looks and then some more are such looks.
+    ghost goes_on: { (first next last : Self) → becomes first next → becomes next last → becomes first last };
+}
+
+/// One event more is handled, at this moment, behind so many that the watch has not seen. The answer is how many it has not seen now.
+#[inline(always)]
+pub(crate) fn show_event<W: Watch>(watch: &mut W, moment: Time, unseen: u32) -> u32
+    requires { unseen < EVENTS_PER_LOOK }
+    ensures few { result < EVENTS_PER_LOOK }
+    ensures watched { W.becomes watch.old watch.new }
+{
+    let unseen = unseen + 1;
+    if unseen < EVENTS_PER_LOOK {
+        return unseen;
+    }
+    watch.look(moment, unseen);
+    0
+}
+
+/// Nobody watches.
+#[derive(Drop)]
+pub struct Unwatched;
+
+impl Watch for Unwatched {
+    ghost becomes = { λ _ _. Unit {0} };
+
+    #[inline(always)]
+    fn look(&mut self, _moment: Time, _events: u32) {}
+
+    ghost stays = { λ _. tt };
+
+    ghost goes_on = { λ _ _ _ _ _. tt };
+}

@@ -1,0 +1,8 @@
+//! Rows: what events note.
+/// A note, with the message and the process that it is from.
+#[derive(Clone, Copy, Debug, PartialEq, Eq, Hash)]
+pub struct Row<M, N> {
+    pub message: M,
+    pub place: u16,
+    pub note: N,
+}
