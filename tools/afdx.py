@@ -47,7 +47,7 @@ class Fault(Exception):
 
 
 def whole(least, greatest):
-    """The kind of a word of the command line: a whole number within these limits."""
+    """The type of a word of the command line: a whole number within these limits."""
 
     def read(text):
         number = int(text)
@@ -120,12 +120,12 @@ def is_same_file(one, other):
 # ---- the keys of a description ----
 
 
-class Key(namedtuple("Key", "name kind least greatest choices needed usual says")):
-    """A key of a section: its kind (integer, text, name or paths), its limits or the values that it may have, which
+class Key(namedtuple("Key", "name value_type least greatest choices needed usual says")):
+    """A key of a section: its type (integer, text, name or paths), its limits or the values that it may have, which
     rows must have it (all, switches, or none), what it means where it is absent, and what it says."""
 
-    def python_kind(self):
-        return {"integer": int, "paths": toml_lines.Array}.get(self.kind, str)
+    def python_type(self):
+        return {"integer": int, "paths": toml_lines.Array}.get(self.value_type, str)
 
     def is_needed(self, row):
         return self.needed == "all" or self.needed == "switches" and row.get("kind") == "switch"
@@ -136,8 +136,8 @@ def number_key(name, least, greatest, says, needed="all", usual=None):
 
 
 def choice_key(name, choices, says, needed="all", usual=None):
-    kind = "integer" if type(choices[0]) is int else "text"
-    return Key(name, kind, None, None, choices, needed, usual, says)
+    value_type = "integer" if type(choices[0]) is int else "text"
+    return Key(name, value_type, None, None, choices, needed, usual, says)
 
 
 def name_key(name, says):
@@ -302,12 +302,12 @@ Node = namedtuple("Node", "name kind net latency_ns port_bytes")
 Link = namedtuple("Link", "a b mbit propagation_ns")
 Outage = namedtuple("Outage", "line from_ns to_ns")
 # Of a virtual link: `row` is its row in the description; `policing_ns` the jitter that its accounts allow; `paths` has
-# the paths of each network as lists of names; `sinks` for each destination the networks (a, b) by which it comes;
+# the paths of each network as lists of names; `destinations` for each destination the networks (a, b) by which it comes;
 # `lines` the lines that it goes over, each once; `places` the nodes and lines where it may be.
 VirtualLink = namedtuple(
     "VirtualLink",
     "id row bag_ns smax priority policing_ns policing skew_ns depth sub size offset_ns period_ns jitter_ns source "
-    "paths sinks lines places",
+    "paths destinations lines places",
 )
 
 
@@ -344,19 +344,19 @@ class Network:
             if row["id"] in self.vls:
                 self.refuse("vl", i, "id", f"{row['id']} was there before")
             self.vls[row["id"]] = self.virtual_link(i, row)
-        self.destinations = {(vl.id, where) for vl in self.vls.values() for where in vl.sinks}
+        self.destinations = {(vl.id, where) for vl in self.vls.values() for where in vl.destinations}
         self.load, self.users = self.loads()
 
     def refuse(self, section, row, key, text):
         raise self.description.fault(section, row, key, text)
 
     def value(self, table, section, row, key):
-        """The value of a key of a row, which has to be there where it is needed, and of its kind."""
+        """The value of a key of a row, which has to be there where it is needed, and of its type."""
         if key.name not in table:
             if key.is_needed(table):
                 self.refuse(section, row, key.name, "is missing")
             return key.usual
-        if type(table[key.name]) is not key.python_kind():
+        if type(table[key.name]) is not key.python_type():
             self.refuse(section, row, key.name, "has another kind than it must have")
         return table[key.name]
 
@@ -409,7 +409,7 @@ class Network:
         return Outage(line, row["from_ns"], row["to_ns"])
 
     def virtual_link(self, i, row):
-        sinks, lines, places = {}, {}, set()
+        destinations, lines, places = {}, {}, set()
         for key in "ab":
             for way in row[key]:
                 if type(way) is not toml_lines.Array or len(way) < 3 or not all(type(name) is str for name in way):
@@ -418,23 +418,23 @@ class Network:
                     if line not in self.mbit:
                         self.refuse("vl", i, key, f"has a path over {line}, which is no line")
                     lines[line] = None
-                sinks.setdefault(way[-1], set()).add(key)
+                destinations.setdefault(way[-1], set()).add(key)
                 places.update(way)
-        if not sinks:
+        if not destinations:
             self.refuse("vl", i, "a", "has no path")
         self.check_numbers(i, row)
         source = (row["a"] or row["b"])[0][0]
         return VirtualLink(
             row["id"], i, row["bag_ms"] * 10**6, row["smax"], row["priority"], row["policing_jitter_ns"],
             row["policing"], row["skew_max_ns"], row["depth"], row["sub"], row["size"], row["offset_ns"],
-            row["period_ns"], row["jitter_ns"], source, {"A": row["a"], "B": row["b"]}, sinks, list(lines),
+            row["period_ns"], row["jitter_ns"], source, {"A": row["a"], "B": row["b"]}, destinations, list(lines),
             places | set(lines),
         )
 
     def check_numbers(self, i, row):
         """What would make a number of a page, a bound or a draw meaningless."""
         for key in KEYS["vl"]:
-            if key.kind == "integer":
+            if key.value_type == "integer":
                 least = min(key.choices) if key.choices else min(key.least, 1)
                 if row[key.name] < least:
                     self.refuse("vl", i, key.name, f"is less than {least}")
@@ -469,8 +469,8 @@ def words(seed, stream):
     state = ((seed + increment) * 6364136223846793005 + increment) & mask
     while True:
         shifted = ((state >> 18 ^ state) >> 27) & 0xFFFFFFFF
-        turn = state >> 59
-        yield (shifted >> turn | shifted << (32 - turn)) & 0xFFFFFFFF
+        rotation = state >> 59
+        yield (shifted >> rotation | shifted << (32 - rotation)) & 0xFFFFFFFF
         state = (state * 6364136223846793005 + increment) & mask
 
 
@@ -504,7 +504,7 @@ class Tables:
                 raise Fault(path, i, f"has {len(fields)} fields in place of {8 + self.merged}")
             self.add(i, *fields[:8], fields[8] if self.merged else "")
         for vl in net.vls.values():
-            for where in vl.sinks:
+            for where in vl.destinations:
                 if (vl.id, where) not in self.latencies:
                     text = (
                         f"the file ends without the latencies of virtual link {vl.id} at {where}, as {net.path} has it"
@@ -530,7 +530,7 @@ class Tables:
     def latency(self, i, vl, where, cause, numbers, seed):
         if cause:
             raise Fault(self.path, i, f"has the cause {cause!r}, and latencies have none")
-        if where not in vl.sinks:
+        if where not in vl.destinations:
             raise Fault(self.path, i, f"{where!r} is no destination of virtual link {vl.id} in {self.net.path}")
         count, least, greatest, total = map(self.number, [i] * 4, TABLES_HEAD.split(",")[4:], numbers)
         if not count * least <= total <= count * greatest or (count == 0) != (greatest == 0):

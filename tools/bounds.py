@@ -150,9 +150,9 @@ class BehindHigh:
         piece = self.low[place]
         begin = self.lasts[place - 1] if place else 0
         moments = {begin, begin + 1}
-        turn = bisect_left(self.high, True, key=lambda high: piece.slope + high.slope <= self.speed)
-        if turn:
-            meets = (self.ends[turn - 1] + frame - piece.at) // piece.slope
+        bend = bisect_left(self.high, True, key=lambda high: piece.slope + high.slope <= self.speed)
+        if bend:
+            meets = (self.ends[bend - 1] + frame - piece.at) // piece.slope
             moments.update((meets, meets + 1, meets + 2))
         if piece.last is not None:
             moments = {t for t in moments if t < piece.last} | {piece.last}

@@ -25,7 +25,7 @@ PATIENCE, PATIENCE_FOR_WORKERS = 30, 120
 
 
 def address(text):
-    """The kind of a word of the command line: where a scheduler is."""
+    """The type of a word of the command line: where a scheduler is."""
     if not re.fullmatch(r"(tcp|tls)://\S+:[0-9]+", text):
         raise ValueError
     return text

@@ -19,11 +19,11 @@ MOST_ON_THE_PAGE = 30
 
 
 # What is out: a link or a switch, with the lines that go with it.
-Element = namedtuple("Element", "kind names lines")
+Element = namedtuple("Element", "what names lines")
 
 
 def name_of(element):
-    return " ".join((element.kind, *element.names))
+    return " ".join((element.what, *element.names))
 
 
 def elements_of(net):
@@ -239,15 +239,15 @@ footer { margin-top: 2rem; color: #6b7280; font-size: .9em; }
 
 
 def row(cells, tag="td"):
-    return "<tr>" + "".join(f"<{tag}{kind}>{text}</{tag}>" for kind, text in cells) + "</tr>"
+    return "<tr>" + "".join(f"<{tag}{look}>{text}</{tag}>" for look, text in cells) + "</tr>"
 
 
 def plain(*texts):
     return [("", html.escape(str(text))) for text in texts]
 
 
-def tile(name, value, kind=""):
-    return f'<div class="tile {kind}"><b>{html.escape(str(value))}</b>{html.escape(name)}</div>'
+def tile(name, value, look=""):
+    return f'<div class="tile {look}"><b>{html.escape(str(value))}</b>{html.escape(name)}</div>'
 
 
 def changes_table(changes):
@@ -285,7 +285,7 @@ def page(found, path):
     summaries = found.summaries()
     losing = sum(it.lost().most > 0 for it in summaries)
     late = sum(bool(it.late()) for it in summaries)
-    links, switches = (sum(it.course.element.kind == kind for it in summaries) for kind in ("link", "switch"))
+    links, switches = (sum(it.course.element.what == what for it in summaries) for what in ("link", "switch"))
     unused = len(found.elements) - (len(found.courses) - 1) if not found.failure else None
     tiles = [tile("links and switches out in turn", f"{links} and {switches}")]
     tiles.append(tile("outages that cost frames end to end", losing, "bad" if losing else "good"))

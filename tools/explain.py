@@ -92,11 +92,11 @@ def allowed(key):
     """What a key may have, in words."""
     if key.choices:
         return among(key.choices)
-    if key.kind == "integer":
+    if key.value_type == "integer":
         return f"a whole number from {limit(key.least)} to {limit(key.greatest)}"
-    if key.kind == "paths":
+    if key.value_type == "paths":
         return 'a list of paths, each a list of 3 to 32 names, as [["ES1", "SW1", "ES2"]]; or []'
-    if key.kind == "name":
+    if key.value_type == "name":
         return "the name of a node, in quotes"
     return f"a text of {key.least} to {key.greatest} letters, digits, _ and -"
 
@@ -113,8 +113,8 @@ def shown(value):
     return text if len(text) <= 44 else text[:40] + '.."'
 
 
-def kind_of(value):
-    for kind, words in (
+def type_of(value):
+    for value_type, words in (
         (bool, "true or false"),
         (int, "a whole number"),
         (float, "a number with a point"),
@@ -122,7 +122,7 @@ def kind_of(value):
         (str, "a text"),
         (list, "a list"),
     ):
-        if isinstance(value, kind):
+        if isinstance(value, value_type):
             return words
     return "a table"
 
@@ -154,7 +154,7 @@ def is_path(value):
 
 
 class Judge:
-    """All faults of a document, in no order. What cannot be judged, since a value is absent or of another kind, is not
+    """All faults of a document, in no order. What cannot be judged, since a value is absent or of another type, is not
     judged: it is a fault already."""
 
     def __init__(self, description):
@@ -209,14 +209,14 @@ class Judge:
         if not isinstance(rows, list):
             is_table = isinstance(rows, toml_lines.Table)
             how = f"it is written [[{section}]], with two brackets" if is_table else f"each row is written [[{section}]]"
-            self.add(3, section, 0, None, f"this section is {kind_of(rows)}, and must be a list of tables: {how}")
+            self.add(3, section, 0, None, f"this section is {type_of(rows)}, and must be a list of tables: {how}")
             return []
         found = []
         for i, row in enumerate(rows, 1):
             if isinstance(row, toml_lines.Table):
                 found.append((i, row))
             elif row is not UNREAD:
-                self.add(3, section, i, None, f"the row is {kind_of(row)}, {shown(row)}, and must be a table")
+                self.add(3, section, i, None, f"the row is {type_of(row)}, {shown(row)}, and must be a table")
         return found
 
     # ---- 2 to 4: one key of one row ----
@@ -231,30 +231,30 @@ class Judge:
         value = row[key.name]
         if value is UNREAD:
             return
-        if not self.has_kind(key, value):
+        if not self.has_type(key, value):
             wanted = self.wanted(key, value)
-            self.add(3, section, i, key.name, f"is {kind_of(value)}, {shown(value)}, and must be {wanted}")
+            self.add(3, section, i, key.name, f"is {type_of(value)}, {shown(value)}, and must be {wanted}")
             return
         self.limits(section, i, row, key, value)
 
     @staticmethod
-    def has_kind(key, value):
-        if key.kind == "paths":
+    def has_type(key, value):
+        if key.value_type == "paths":
             return isinstance(value, list) and all(map(is_path, value))
-        return type(value) is key.python_kind()
+        return type(value) is key.python_type()
 
     @staticmethod
     def wanted(key, value):
-        if key.kind == "integer":
+        if key.value_type == "integer":
             is_text = type(value) is str and re.fullmatch("[0-9_]+", value)
             hint = ", without quotes" if is_text else ", without a point" if type(value) is float else ""
             return allowed(key) + hint
-        if key.kind == "paths":
+        if key.value_type == "paths":
             return allowed(key) + (": a pair of brackets more" if is_path(value) and value else "")
         return allowed(key) if not key.choices else f"{allowed(key)}, in quotes"
 
     def limits(self, section, i, row, key, value):
-        if key.kind == "paths":
+        if key.value_type == "paths":
             for number, path in enumerate(value, 1):
                 if not key.least <= len(path) <= key.greatest:
                     text = f"it has {len(path)} names, and must have {key.least} to {key.greatest}: "
@@ -263,7 +263,7 @@ class Judge:
         elif key.choices and value not in key.choices:
             near = self.near_choice(key, value)
             self.add(4, section, i, key.name, f"is {shown(value)}, and must be {allowed(key)}{near}")
-        elif key.kind == "integer" and not key.choices:
+        elif key.value_type == "integer" and not key.choices:
             if not key.least <= value <= key.greatest:
                 self.add(4, section, i, key.name, f"is {value}, and must be {allowed(key)}")
             elif key.name == "to_ns" and type(row.get("from_ns")) is int and 0 <= value <= row["from_ns"]:
@@ -413,7 +413,7 @@ class Judge:
         paths = {key: row.get(key) for key in "ab"}
         judged = {}
         for key, net in (("a", "A"), ("b", "B")):
-            if self.has_kind(KEYS["vl"][-1], paths[key]):
+            if self.has_type(KEYS["vl"][-1], paths[key]):
                 judged[key] = [self.path(i, key, number, path, net) for number, path in enumerate(paths[key], 1)]
                 self.tree_of_paths(i, key, paths[key], judged[key])
         if paths["a"] == [] and paths["b"] == []:
@@ -581,10 +581,10 @@ def accepted(path):
 
 def line_of(path, finding):
     """A finding in one line, without what the program answers."""
-    kind = "warning: " if finding.number == 0 else "no TOML: " if finding.number == 1 else ""
+    begin = "warning: " if finding.number == 0 else "no TOML: " if finding.number == 1 else ""
     who = f"{finding.who}" if finding.who else ""
     joint = "" if not who else " " if finding.text.startswith(("is ", "has ")) else ": "
-    return f"{path}:{finding.line}: {kind}{who}{joint}{finding.text}"
+    return f"{path}:{finding.line}: {begin}{who}{joint}{finding.text}"
 
 
 # ---- warnings ----
@@ -642,7 +642,7 @@ class Warnings:
             if not vl.paths[key.upper()]:
                 add(key, f"is empty: no destination has a second copy, by network {key.upper()}")
                 continue
-            alone = [where for where, nets in vl.sinks.items() if nets == {key}]
+            alone = [where for where, nets in vl.destinations.items() if nets == {key}]
             if alone and vl.paths[other.upper()]:
                 names = ", ".join(alone[:4]) + (" .." if len(alone) > 4 else "")
                 add(other, f"has no path to {names}: reached by network {key.upper()} alone, without a second copy")

@@ -216,7 +216,7 @@ class Maker:
         time = unit_of(column, section)
         if time:
             return self.time(line, column, text, time[1])
-        if column in ("length_m", "payload") or any(it.name == column and it.kind == "integer" for it in KEYS[section]):
+        if column in ("length_m", "payload") or any(it.name == column and it.value_type == "integer" for it in KEYS[section]):
             plain = text.replace("_", "")
             if re.fullmatch("[0-9]+", plain):
                 return int(plain)
@@ -241,7 +241,7 @@ class Maker:
 
     def row_of(self, line, section, usual):
         """The values of the keys of a section that a line has, or else usual ones."""
-        row, own = {}, [it.name for it in KEYS[section] if it.kind != "paths"]
+        row, own = {}, [it.name for it in KEYS[section] if it.value_type != "paths"]
         for column in line.cells:
             key = (unit_of(column, section) or [column])[0]
             if key in own:
@@ -499,7 +499,7 @@ def fault_of(finding, maker, paths):
 
 
 def cell_of(key, value):
-    if key.kind == "paths":
+    if key.value_type == "paths":
         return " | ".join(" ".join(path) for path in value) or "-"
     return str(value)
 

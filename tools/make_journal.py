@@ -5,7 +5,7 @@
 
 The processes take turns. In a turn a process commits its done events that are earlier than GVT, takes all letters of its mail, lets them
 arrive, handles messages, the first of them first, and posts what it sends. It handles so many messages at most, and only those that are
-earlier than GVT plus the window. Once no process has such a message left, GVT is set anew. At the end GVT is past the end, and every event
+earlier than GVT plus the window. Once no process has such a message left, GVT is set anew. At the end GVT is beyond the end, and every event
 is committed, so that the run is finished. The two words mean what they are to mean for `afdxsim run`, where
 the window is longer unless told.
 
@@ -46,9 +46,9 @@ class Journal(Simulation):
         events = []
         self.cause.clear()
         while self.heap and self.heap[0][0] < limit:
-            time, process, sender, number, kind, fields = heapq.heappop(self.heap)
+            time, process, sender, number, variant, fields = heapq.heappop(self.heap)
             self.sent = []
-            self.handle(time, process, BODIES[kind], fields)
+            self.handle(time, process, BODIES[variant], fields)
             for _, by, counted in self.sent:
                 self.cause[by, counted] = len(events)
             events.append((process, self.cause.get((sender, number)), [receiver for receiver, _, _ in self.sent]))

@@ -128,8 +128,8 @@ class Tree:
         path = "specs/" + source.path.replace(".", "/") + ".antt"
         if source.crate in self.order and not source.path.startswith("declared."):
             for line in self.text(source.crate, path).splitlines():
-                if line.startswith("pub use "):
-                    ((crate, home, names, _),) = USE.findall(line)
+                if line.startswith(("pub use ", "unfoldable pub use ")):
+                    ((crate, home, names, _),) = USE.findall(line.removeprefix("unfoldable "))
                     if source.name in map(str.strip, names.split(",")):
                         return self.passed_on(Source(crate, home, source.name))
         return source

@@ -11,7 +11,7 @@ two workers the same request comes at another place each time, and so it is with
 where the run ended well, by `replay`.
 
 A run has two minutes. So those of two workers show too that the fault of one ends the other, which else would look for work
-for ever. Where a trace is written some 80 requests more are refused: for the parts at the desk, their rows, the batches and
+for ever. Where a trace is written some 80 requests more are refused: for the segments at the desk, their rows, the batches and
 their text, and the channel to the writer's thread.
 
 Tests that are made for it are run so too, and have to pass: the scripts of processes (crate `sample_actor`), those of the

@@ -206,14 +206,14 @@ End = namedtuple("End", "offered delivered again under_way missing copies lost")
 def through_regulator(vl, offers, until_ns):
     """What the regulator of a virtual link does with its offers, numbers with moments in ns. At one moment a release
     comes before an offer."""
-    lists, turn, last = [deque() for _ in range(vl.sub)], 0, None
+    lists, pointer, last = [deque() for _ in range(vl.sub)], 0, None
     offered, refused, released = 0, 0, []
 
     def release(moment):
-        nonlocal turn, last
-        place = next(place % vl.sub for place in range(turn, turn + vl.sub) if lists[place % vl.sub])
+        nonlocal pointer, last
+        place = next(place % vl.sub for place in range(pointer, pointer + vl.sub) if lists[place % vl.sub])
         released.append((lists[place].popleft(), moment))
-        turn, last = (place + 1) % vl.sub, moment
+        pointer, last = (place + 1) % vl.sub, moment
 
     for number, moment in sorted(offers, key=lambda it: (it[1], it[0])):
         offered += 1
@@ -325,7 +325,7 @@ class Ends:
         self.of = {}
         for vl, runs in self.all_sent(seeds, draws_offsets):
             self.compare(vl, sum(sent.refused for sent in runs))
-            for where in vl.sinks:
+            for where in vl.destinations:
                 journey = Journey(self.net, vl, where, self.losses.get(vl.id, ()))
                 self.of[vl.id, where] = self.end(journey, runs)
 
@@ -348,7 +348,7 @@ class Ends:
         """Refuses tables of runs in which other frames were offered."""
         loss = self.tables.losses.get((vl.id, vl.source, "queue_full"))
         if refused != (loss.count if loss else 0):
-            line = loss.line if loss else self.tables.latencies[vl.id, next(iter(vl.sinks))].line
+            line = loss.line if loss else self.tables.latencies[vl.id, next(iter(vl.destinations))].line
             told = f"{refused} frames of virtual link {vl.id} would be lost as queue_full"
             self.refuse(line, f"{told}, and the tables have {loss.count if loss else 0}")
 
@@ -488,15 +488,15 @@ class Bounds(Rows):
 # ---- the tables of the page ----
 
 
-def column(key, kind, name, unit="", hint="", tone=""):
-    """A column of a table of the page: where its values stand, what kind they are of, its name and unit, what more
+def column(key, look, name, unit="", hint="", tone=""):
+    """A column of a table of the page: where its values stand, how they look, its name and unit, what more
     there is to know of it, and where it stands how a cell is marked."""
-    found = {"key": key, "kind": kind, "name": name, "unit": unit, "hint": hint, "tone": tone}
+    found = {"key": key, "look": look, "name": name, "unit": unit, "hint": hint, "tone": tone}
     return {name: value for name, value in found.items() if value}
 
 
-def count_column(key, name, hint="", tone="", unit="frames", kind="count"):
-    return column(key, kind, name, unit, hint, tone)
+def count_column(key, name, hint="", tone="", unit="frames", look="count"):
+    return column(key, look, name, unit, hint, tone)
 
 
 def time_column(key, name, hint="", tone=""):
@@ -691,8 +691,8 @@ class Drawing:
             lanes.append((left, right, lane))
         return lanes
 
-    def text(self, x, y, words, anchor="middle", kind="load"):
-        self.out.append(f'<text class="{kind}" x="{x:.1f}" y="{y:.1f}" text-anchor="{anchor}">{esc(words)}</text>')
+    def text(self, x, y, words, anchor="middle", look="load"):
+        self.out.append(f'<text class="{look}" x="{x:.1f}" y="{y:.1f}" text-anchor="{anchor}">{esc(words)}</text>')
 
     def line(self, line, path, tip, label, mark):
         """One direction of a link: its stroke along a path, the arrow at its end, its load, and its outages. The tip is
@@ -722,18 +722,18 @@ class Drawing:
     def head(self, name, place, y, above):
         """A switch: its box, and the bar along its end systems."""
         node, x = self.net.nodes[name], place.left
-        kind = node.net.lower()
+        look = node.net.lower()
         reach = self.rows * self.ROW + 10
         bar_x, bar_y = (x, y + self.HEAD - 6) if above else (x + self.column - self.COMB, y - reach)
         told = f"switch {name} of network {node.net}, latency {span(node.latency_ns)}"
-        self.out.append(f'<g class="switch {kind}" data-node="{esc(name)}"><title>{esc(told)}</title>')
+        self.out.append(f'<g class="switch {look}" data-node="{esc(name)}"><title>{esc(told)}</title>')
         if place.end_systems:
             self.out.append(
                 f'<rect x="{bar_x:.1f}" y="{bar_y:.1f}" width="{self.COMB}" height="{reach + 6:.1f}" rx="3"/>'
             )
         self.out.append(f'<rect x="{x:.1f}" y="{y:.1f}" width="{self.column:.1f}" height="{self.HEAD}" rx="6"/>')
-        self.text(x + self.column / 2, y + 15, name, kind="name")
-        self.text(x + self.column / 2, y + 29, f"network {node.net} · {span(node.latency_ns)}", kind="sub")
+        self.text(x + self.column / 2, y + 15, name, look="name")
+        self.text(x + self.column / 2, y + 29, f"network {node.net} · {span(node.latency_ns)}", look="sub")
         self.out.append("</g>")
 
     def access(self, es, switch, x_es, x_switch, y):
@@ -741,13 +741,13 @@ class Drawing:
         side = 1 if x_switch > x_es else -1
         middle, near = (x_es + x_switch) / 2, x_es + side * 1.5
         there, here = x_switch - side * 1.5, near
-        for line, dy, begin, end, turn, drop in (
+        for line, dy, begin, end, toward, drop in (
             (es + ">" + switch, -3.5, here, there, side, -8),
             (switch + ">" + es, 3.5, there, here, -side, 15),
         ):
-            path = f"M{begin:.1f} {y + dy:.1f}H{end - turn * 5:.1f}"
-            mark = (end - turn * 16, y + dy)
-            self.line(line, path, (end, y + dy, turn, 0), (middle, y + drop, "middle"), mark)
+            path = f"M{begin:.1f} {y + dy:.1f}H{end - toward * 5:.1f}"
+            mark = (end - toward * 16, y + dy)
+            self.line(line, path, (end, y + dy, toward, 0), (middle, y + drop, "middle"), mark)
 
     def end_system(self, place, row, es):
         left = place.left + self.COMB + self.reach
@@ -765,7 +765,7 @@ class Drawing:
                     f'<g class="tag {net.lower()}">'
                     f'<rect x="{x:.1f}" y="{y - 8:.1f}" width="{wide:.1f}" height="16" rx="3"/>'
                 )
-                self.text(x + wide / 2, y + 3.5, switch, kind="sub")
+                self.text(x + wide / 2, y + 3.5, switch, look="sub")
                 self.out.append("</g>")
             if switch:
                 self.access(es, switch, x_es, x_switch, y)
@@ -774,7 +774,7 @@ class Drawing:
             f'<rect x="{left:.1f}" y="{y - self.BOX / 2:.1f}" '
             f'width="{self.box:.1f}" height="{self.BOX}" rx="5"/>'
         )
-        self.text(left + self.box / 2, y + 4, es, kind="name")
+        self.text(left + self.box / 2, y + 4, es, look="name")
         self.out.append("</g>")
 
     def stubs(self, net):
@@ -799,17 +799,17 @@ class Drawing:
         for left, right, lane in sorted(self.lanes[net], key=lambda it: -it[2]):
             x1, x2, y = stubs[left, right], stubs[right, left], edge + up * (lane * self.LANE + 21)
             # The line to the right goes outside, the line to the left inside of it.
-            for line, out, begin, end, turn in (
+            for line, out, begin, end, toward in (
                 (left + ">" + right, 3.5, x1 - 3.5, x2 + 3.5, 1),
                 (right + ">" + left, -3.5, x2 - 3.5, x1 + 3.5, -1),
             ):
                 level = y + up * out
                 path = (
-                    f"M{begin:.1f} {edge:.1f}V{level - up * 6:.1f}q0 {up * 6} {turn * 6} {up * 6}"
-                    f"H{end - turn * 6:.1f}q{turn * 6} 0 {turn * 6} {-up * 6}V{edge + up * 6:.1f}"
+                    f"M{begin:.1f} {edge:.1f}V{level - up * 6:.1f}q0 {up * 6} {toward * 6} {up * 6}"
+                    f"H{end - toward * 6:.1f}q{toward * 6} 0 {toward * 6} {-up * 6}V{edge + up * 6:.1f}"
                 )
-                drop = -6 if (turn > 0) == (net == "A") else 13
-                label = (begin + turn * 10, level + drop, "start" if turn > 0 else "end")
+                drop = -6 if (toward > 0) == (net == "A") else 13
+                label = (begin + toward * 10, level + drop, "start" if toward > 0 else "end")
                 self.line(line, path, (end, edge + up, 0, -up), label, ((begin + end) / 2, level))
 
     def svg(self):
@@ -938,9 +938,9 @@ def comparison(given):
 # ---- the tiles ----
 
 
-def tile(name, value, more="", kind=""):
+def tile(name, value, more="", look=""):
     said = f"<span>{esc(name)}</span><b>{esc(value)}</b><small>{esc(more)}</small>"
-    return f'<div class="tile {kind}" data-name="{esc(name)}">{said}</div>'
+    return f'<div class="tile {look}" data-name="{esc(name)}">{said}</div>'
 
 
 def tiles(given, ends):
@@ -957,8 +957,8 @@ def tile_of_lost(given, ends):
         missing, under_way = missing + end.missing, under_way + end.under_way
     offered = sum(ends["offered"])
     more = f"of {offered:,} offered, counted at each destination; {frames_of(under_way)} under way at the end"
-    kind = "bad" if missing.least else "warn" if missing.most or 0 in ends["count"] else "good"
-    return tile("lost end to end", frames_of(missing), more, kind)
+    look = "bad" if missing.least else "warn" if missing.most or 0 in ends["count"] else "good"
+    return tile("lost end to end", frames_of(missing), more, look)
 
 
 def tile_of_copies_lost(tables):
@@ -966,8 +966,8 @@ def tile_of_copies_lost(tables):
     for row in tables.losses.values():
         lost[row.cause] += row.count
     del lost["duplicate"]
-    kinds = ", ".join(f"{cause} {frames(count)}" for cause, count in lost.most_common())
-    return tile("copies lost", frames(lost.total()), kinds or "no copy was lost", "" if lost else "good")
+    causes = ", ".join(f"{cause} {frames(count)}" for cause, count in lost.most_common())
+    return tile("copies lost", frames(lost.total()), causes or "no copy was lost", "" if lost else "good")
 
 
 def tiles_of_limits(given, ends):
@@ -980,9 +980,9 @@ def tiles_of_limits(given, ends):
     told = [f"{broken} broken"] if broken else []
     told += [f"{below} below the bound"] if below else []
     told += [f"nothing was delivered at {silent}"] if silent else []
-    kind = "bad" if broken else "warn" if below or silent else "good"
+    look = "bad" if broken else "warn" if below or silent else "good"
     kept = f"{len(found) - broken - silent:,} of {len(found):,}"
-    yield tile("limits kept", kept, ", ".join(told) or "none is broken", kind)
+    yield tile("limits kept", kept, ", ".join(told) or "none is broken", look)
 
 
 def tile_of_few(given, ends):
@@ -1246,7 +1246,7 @@ const toLine = (name, text) => `<a href="#line-${encodeURIComponent(name)}">${es
 
 const stand = ns => ns <= 0 ? 0 : Math.max(0, 100 * (Math.log10(ns) - data.low) / (data.high - data.low));
 const at = ns => stand(ns).toFixed(1) + "%";
-const mark = (kind, ns) => ns ? `<rect class="${kind}" x="${at(ns)}"/>` : "";
+const mark = (look, ns) => ns ? `<rect class="${look}" x="${at(ns)}"/>` : "";
 const range = i => {
   let marks = mark("bag", ends.bag[i]) + mark("jit", ends.jitter[i]) + mark("pol", ends.policing[i]);
   if (ends.count[i]) {
@@ -1293,9 +1293,9 @@ const heat = (count, top) => {
   return `style="background:rgba(178,34,34,${part.toFixed(2)});color:${part > 0.6 ? "#fff" : "#3b0d0d"}"`;
 };
 
-// ---- kinds of columns: how a value is shown, and whether it is a number ----
+// ---- looks of columns: how a value is shown, and whether it is a number ----
 
-const KINDS = {
+const LOOKS = {
   vl: {number: true, show: value => toVl(value)},
   line: {show: value => toLine(value)},
   text: {show: esc},
@@ -1325,8 +1325,8 @@ class Grid {
     this.numbers = spec.only ?? Array.from(this.rows[this.columns[0].key] ?? [], (_, i) => i);
     this.rank = [];
     this.numbers.forEach((i, rank) => { this.rank[i] = rank; });
-    this.columns = this.columns.map(column => ({...KINDS[column.kind], ...column}));
-    this.top = Math.max(1, ...this.columns.filter(it => it.kind === "heat").flatMap(it => this.rows[it.key]));
+    this.columns = this.columns.map(column => ({...LOOKS[column.look], ...column}));
+    this.top = Math.max(1, ...this.columns.filter(it => it.look === "heat").flatMap(it => this.rows[it.key]));
     this.wants = "";
     this.isAll = this.numbers.length <= FOLD_ABOVE;
     this.build(place);
@@ -1338,7 +1338,7 @@ class Grid {
     const asked = `<p class="asked"><button type="button" class="all"></button><label>Only
       <input type="search" class="only" placeholder="number or name"></label></p>`;
     const head = this.columns.map(column => this.head(column)).join("");
-    const wide = column => `<td class="${this.kind(column)}${column.tone ? " warn" : ""}">${this.widest(column)}`;
+    const wide = column => `<td class="${this.look(column)}${column.tone ? " warn" : ""}">${this.widest(column)}`;
     const widest = this.columns.map(wide).join("");
     place.innerHTML = `${folds ? asked : ""}<div class="box"><table id="${this.name}">
       <thead><tr>${head}</tr></thead><tbody class="space" aria-hidden="true"></tbody><tbody></tbody>
@@ -1361,12 +1361,12 @@ class Grid {
     place.querySelector(".only")?.addEventListener("input", event => this.filter(event.target.value.trim()));
   }
 
-  kind(column) { return [column.number ? "n" : "", column.more ?? ""].join(" ").trim(); }
+  look(column) { return [column.number ? "n" : "", column.more ?? ""].join(" ").trim(); }
 
   head(column) {
     const unit = column.unit ? `<small>${esc(column.unit)}</small>` : "";
-    const words = `class="${this.kind(column).replace("rg", "")}"${column.hint ? ` title="${esc(column.hint)}"` : ""}`;
-    if (column.kind === "range") return `<th>${column.name}${axis()}</th>`;
+    const words = `class="${this.look(column).replace("rg", "")}"${column.hint ? ` title="${esc(column.hint)}"` : ""}`;
+    if (column.look === "range") return `<th>${column.name}${axis()}</th>`;
     if (column.fixed) return `<th ${words}>${esc(column.name)}</th>`;
     return `<th ${words}><button type="button">${esc(column.name)}${unit}</button></th>`;
   }
@@ -1405,7 +1405,7 @@ class Grid {
   // Which rows are asked for, in their order.
   ask() {
     const isNumber = /^[0-9]+$/.test(this.wants);
-    const texts = this.columns.filter(it => ["text", "line"].includes(it.kind)).map(it => this.rows[it.key]);
+    const texts = this.columns.filter(it => ["text", "line"].includes(it.look)).map(it => this.rows[it.key]);
     const has = i => isNumber && this.rows.vl ? this.rows.vl[i] === Number(this.wants)
       : texts.some(values => String(values[i]).toLowerCase().includes(this.wants));
     this.asked = this.wants ? this.numbers.filter(has) : this.numbers;
@@ -1417,10 +1417,10 @@ class Grid {
       const value = this.rows[column.key]?.[i] ?? null;
       const tone = column.tone ? TONES[this.rows[column.tone]?.[i] ?? 0] : "";
       const none = column.none && !value ? "none" : "";
-      const kind = [this.kind(column), tone, none].filter(Boolean).join(" ");
+      const look = [this.look(column), tone, none].filter(Boolean).join(" ");
       const words = column.words && value !== null ? " " + column.words(value, i, this) : "";
       const shown = value === null && !column.fixed ? "–" : column.show(value, i, this);
-      return `<td${kind ? ` class="${kind}"` : ""}${words}>${shown}`;
+      return `<td${look ? ` class="${look}"` : ""}${words}>${shown}`;
     });
     return "<tr>" + cells.join("");
   }
@@ -1477,9 +1477,9 @@ for (const vl of data.vls) {
 }
 const share = (vl, line) => (vl.size + 20) * 8e5 / Math.max(vl.bag_ns, vl.period_ns) / lines.mbit[line];
 const table = (id, columns, rows) => {
-  const kind = ([, unit]) => unit === undefined ? "" : "n";
-  const heads = columns.map(it => `<th class="${kind(it)}">${it[0]}<small>${it[1] ?? ""}</small></th>`);
-  const cells = row => row.map((cell, i) => `<td class="${kind(columns[i])}">${cell}`).join("");
+  const look = ([, unit]) => unit === undefined ? "" : "n";
+  const heads = columns.map(it => `<th class="${look(it)}">${it[0]}<small>${it[1] ?? ""}</small></th>`);
+  const cells = row => row.map((cell, i) => `<td class="${look(columns[i])}">${cell}`).join("");
   return `<div class="box"><table id="${id}"><thead><tr>${heads.join("")}</tr></thead>
     <tbody>${rows.map(row => "<tr>" + cells(row)).join("")}</tbody></table></div>`;
 };
@@ -1626,8 +1626,8 @@ const light = (lit, nodes, source, targets, hopOf) => {
 };
 
 const choose = () => {
-  const hash = decodeURIComponent(location.hash.slice(1)), [, kind, name] = /^(vl|line)-(.*)$/.exec(hash) ?? [];
-  const vl = kind === "vl" ? vls.get(Number(name)) : null, line = kind === "line" ? lines.name.indexOf(name) : -1;
+  const hash = decodeURIComponent(location.hash.slice(1)), [, table, name] = /^(vl|line)-(.*)$/.exec(hash) ?? [];
+  const vl = table === "vl" ? vls.get(Number(name)) : null, line = table === "line" ? lines.name.indexOf(name) : -1;
   const chosen = element("chosen"), one = element("one");
   chosen.hidden = one.hidden = !vl && line < 0;
   element("found").hidden = true;
@@ -1720,7 +1720,7 @@ def panel(name, title, words, *pieces):
 
 
 def legend(*items):
-    keys = "".join(f'<span><b class="k {kind}"></b> {words}</span>' for kind, words in items)
+    keys = "".join(f'<span><b class="k {look}"></b> {words}</span>' for look, words in items)
     return f'<div class="legend">{keys}</div>'
 
 
@@ -1822,7 +1822,7 @@ class Page:
                 "<code>--first</code> and <code>--offsets</code> where the campaign had them."
             )
             return panel("ends", "End to end", words)
-        wide = {"kind": "range_of_counts"}
+        wide = {"look": "range_of_counts"}
         columns = [
             VL_COLUMN,
             DESTINATION_COLUMN,
@@ -1934,7 +1934,7 @@ class Page:
         rows = {cause: [places[where][cause] for where in order] for cause in causes}
         rows |= {"where": order, "together": [places[where].total() for where in order]}
         columns = [column("where", "text", "place")]
-        columns += [count_column(cause, cause, kind="heat") for cause in causes]
+        columns += [count_column(cause, cause, look="heat") for cause in causes]
         columns.append(count_column("together", "together"))
         return self.grid("heat", columns, "together", rows, what="places")
 
@@ -1971,7 +1971,7 @@ class Page:
         """The second copies, which are ordinary, by destination."""
         found = {}
         for row in self.tables.latencies.values():
-            both = len(self.net.vls[row.vl].sinks[row.where]) == 2
+            both = len(self.net.vls[row.vl].destinations[row.where]) == 2
             copies = self.tables.losses.get((row.vl, row.where, "duplicate"))
             sums = found.setdefault(row.where, [0, 0, 0])
             sums[0] += row.count if both else 0
@@ -2006,7 +2006,7 @@ class Page:
             only = [i for i, value in enumerate(rows[key]) if (value or 0) > 0]
             pieces.append(f"<h3>{title} ({len(only):,})</h3>")
             if only:
-                times = BEFORE_AND_NOW if change["kind"] == "us" else []
+                times = BEFORE_AND_NOW if change["look"] == "us" else []
                 columns = [VL_COLUMN, DESTINATION_COLUMN, change, *times, *self.counts_of_both()]
                 pieces.append(self.grid(name, columns, key, "against", only))
         words = f"This run against that of <code>{esc(os.path.basename(other.path))}</code>, worst first."
@@ -2020,8 +2020,8 @@ class Page:
     def counts_of_both(self):
         yield from (count_column("count_before", "delivered before"), count_column("count", "delivered now"))
         if self.given.ends and self.given.other.ends:
-            yield count_column("missing_before", "missing before", kind="range_of_counts")
-            yield count_column("missing", "missing now", kind="range_of_counts")
+            yield count_column("missing_before", "missing before", look="range_of_counts")
+            yield count_column("missing", "missing now", look="range_of_counts")
 
     # ---- what the script needs ----
 

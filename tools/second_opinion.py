@@ -61,12 +61,12 @@ class Simulation:
                 self.out = getattr(self, "out", {})
                 self.out[self.place[here], out] = process
         self.vls = {row["id"]: row for row in net.get("vl", [])}
-        self.inputs, self.outputs, self.sinks, self.source = {}, {}, {}, {}
+        self.inputs, self.outputs, self.destinations, self.source = {}, {}, {}, {}
         for vl, row in self.vls.items():
             for side, key in (("A", "a"), ("B", "b")):
                 for path in row[key]:
                     self.source[vl] = self.place[path[0]]
-                    self.sinks.setdefault((vl, self.place[path[-1]]), set()).add(side)
+                    self.destinations.setdefault((vl, self.place[path[-1]]), set()).add(side)
                     for before, here, after in zip(path, path[1:], path[2:]):
                         self.inputs[vl, self.place[here]] = self.port_of[here, before]
                         self.outputs.setdefault((vl, self.place[here]), set()).add(self.port_of[here, after])
@@ -84,14 +84,14 @@ class Simulation:
             for k, time in drawn:
                 self.push(time, self.source[vl], 4096 + vl, k, "Offer", (vl, row["size"], k % row.get("sub", 1)))
 
-    def push(self, time, receiver, sender, number, kind, fields):
-        heapq.heappush(self.heap, (time, receiver, sender, number, BODIES.index(kind), fields))
+    def push(self, time, receiver, sender, number, variant, fields):
+        heapq.heappush(self.heap, (time, receiver, sender, number, BODIES.index(variant), fields))
 
-    def send(self, time, sender, receiver, kind, fields):
+    def send(self, time, sender, receiver, variant, fields):
         if time <= self.until:
             number = self.counters.get(sender, 0)
             self.counters[sender] = number + 1
-            self.push(time, receiver, sender, number, kind, fields)
+            self.push(time, receiver, sender, number, variant, fields)
 
     def note(self, time, place, vl, what, value):
         self.rows.append((time, place, vl, what, value))
@@ -116,7 +116,7 @@ class Simulation:
             self.lose(t, p, frame, "port_full")
 
     def release(self, t, vl, q, frame):
-        """The regulator lets a frame of the sub-virtual link q go; the one after q has the next turn."""
+        """The regulator lets a frame of the sub-virtual link q go; the one after q is served next."""
         g = self.regulators[vl]
         out = (vl, g["sn"], frame[2], frame[3], t)
         g["last"], g["sn"] = t, 1 if g["sn"] == 255 else g["sn"] + 1
@@ -128,7 +128,7 @@ class Simulation:
             if self.vls[vl][key]:
                 self.put(t, p, "AB".index(net), frame + (net,), False)
 
-    def handle(self, t, p, kind, fields):
+    def handle(self, t, p, variant, fields):
         if p >= len(self.nodes):
             here, there, port, _, propagation = self.lines[p - len(self.nodes)]
             (frame,) = fields
@@ -137,7 +137,7 @@ class Simulation:
                 self.lose(t, p, frame, "outage")
             else:
                 self.send(t + propagation, p, self.place[there], "Arrive", (port, frame))
-        elif kind == "PortFree":
+        elif variant == "PortFree":
             (q,) = fields
             port = self.ports[p, q]
             for level in ("high", "low"):
@@ -146,15 +146,15 @@ class Simulation:
                     return
             port["busy"] = False
         elif self.nodes[p]["kind"] == "es":
-            self.at_end_system(t, p, kind, fields)
+            self.at_end_system(t, p, variant, fields)
         else:
-            self.at_switch(t, p, kind, fields)
+            self.at_switch(t, p, variant, fields)
 
-    def at_end_system(self, t, p, kind, fields):
-        if kind == "Offer":
+    def at_end_system(self, t, p, variant, fields):
+        if variant == "Offer":
             return self.offer(t, p, *fields)
-        if kind == "Release":
-            return self.next_turn(t, p, *fields)
+        if variant == "Release":
+            return self.next_served(t, p, *fields)
         _, frame = fields
         vl, number, net = frame[0], frame[1], frame[5]
         before = self.checks.get((vl, p, net))
@@ -189,8 +189,8 @@ class Simulation:
         else:
             self.lose(t, p, frame, "queue_full")
 
-    def next_turn(self, t, p, vl):
-        """The regulator's turn: the first sub-virtual link from the pointer on, going round, that has a frame."""
+    def next_served(self, t, p, vl):
+        """The round robin of the regulator: the first sub-virtual link from the pointer on, going round, that has a frame."""
         g = self.regulators[vl]
         if not (any(g["waiting"]) and self.is_due(t, vl)):
             return
@@ -201,11 +201,11 @@ class Simulation:
             self.send(t + self.vls[vl]["bag_ms"] * 10**6, p, p, "Release", (vl,))
         self.copies(t, p, vl, out)
 
-    def at_switch(self, t, p, kind, fields):
+    def at_switch(self, t, p, variant, fields):
         q, frame = fields
         vl = frame[0]
         row = self.vls[vl]
-        if kind == "Enqueue":
+        if variant == "Enqueue":
             return self.put(t, p, q, frame, row["priority"] == "high")
         if frame[2] > row["smax"]:
             return self.lose(t, p, frame, "too_long")
@@ -223,8 +223,8 @@ class Simulation:
 
     def run(self):
         while self.heap:
-            time, receiver, _, _, kind, fields = heapq.heappop(self.heap)
-            self.handle(time, receiver, BODIES[kind], fields)
+            time, receiver, _, _, variant, fields = heapq.heappop(self.heap)
+            self.handle(time, receiver, BODIES[variant], fields)
             self.handled += 1
 
     def trace(self):
@@ -240,7 +240,7 @@ class Simulation:
         for _, place, vl, what, value in self.rows:
             if what == "delivered":
                 latencies.setdefault((vl, place), []).append(value)
-        for vl, place in sorted(self.sinks):
+        for vl, place in sorted(self.destinations):
             found = latencies.get((vl, place), [])
             numbers = (len(found), min(found, default=0), max(found, default=0), sum(found))
             yield "latency,%d,%s,,%d,%d,%d,%d" % (vl, self.names[place], *numbers)

@@ -57,15 +57,15 @@ def rows_of(path, seed=None):
     simulation = Simulation(net if seed is None else net | {"seed": seed})
     simulation.run()
     names = simulation.names
-    sinks = [(vl, names[place]) for vl, place in sorted(simulation.sinks)]
-    return [(vl, names[place], what, value) for _, place, vl, what, value in simulation.rows], sinks, names
+    destinations = [(vl, names[place]) for vl, place in sorted(simulation.destinations)]
+    return [(vl, names[place], what, value) for _, place, vl, what, value in simulation.rows], destinations, names
 
 
 def merged_by_hand(runs):
     """The merged tables of runs, lists of pairs of a seed and its notes, from the notes alone."""
-    (_, (_, sinks, names)), *_ = runs
+    (_, (_, destinations, names)), *_ = runs
     lines = ["table,vl,where,cause,count,least_ns,greatest_ns,sum_ns,seed"]
-    for vl, where in sinks:
+    for vl, where in destinations:
         found = [
             (value, -seed)
             for seed, (rows, _, _) in runs

@@ -34,7 +34,7 @@ def settled(tree):
     rows = {row["id"]: row for row in tree["vl"]}
     assert copies == sum(offered[vl] * (len(row["a"]) + len(row["b"])) for vl, row in rows.items()), "all has come to an end"
     answers = {}
-    for vl, place in sorted(simulation.sinks):
+    for vl, place in sorted(simulation.destinations):
         values = found.get((vl, simulation.names[place]), [])
         assert len({moment for moment, _ in values}) == len(values)
         greatest = max((value for _, value in values), default=0)

@@ -83,9 +83,9 @@ class Program:
         return run.stderr.strip().removeprefix("afdxsim: description: ")
 
 
-# ---- texts of all kinds ----
+# ---- texts of all sorts ----
 
-OTHER_KINDS = ['"x"', "1", "1.0", "true", "1979-05-27", "[]", "{}", '[["a"]]', "-1"]
+OTHER_TYPES = ['"x"', "1", "1.0", "true", "1979-05-27", "[]", "{}", '[["a"]]', "-1"]
 
 
 def lines_of_keys(text):
@@ -103,15 +103,15 @@ def limits_of(key):
     if key.choices:
         numbers = [value + d for value in key.choices for d in (-1, 0, 1)] if type(key.choices[0]) is int else []
         return list(map(str, numbers)) or ['""', f'"{key.choices[0].upper()}"', f'"{key.choices[1]}"']
-    if key.kind == "integer":
+    if key.value_type == "integer":
         return [str(value + d) for value in (key.least, key.greatest) for d in (-1, 0, 1)]
-    if key.kind == "paths":
+    if key.value_type == "paths":
         return ["[[" + ", ".join(['"ES1"'] * count) + "]]" for count in (0, 1, 2, 3, 32, 33)]
     return ['""', '"' + "a" * 32 + '"', '"' + "a" * 33 + '"', '"a b"', '"ä"']
 
 
 def changes_of_each_key(text):
-    """A text with each key that has a line of its own removed, doubled, of another kind, and around its limits."""
+    """A text with each key that has a line of its own removed, doubled, of another type, and around its limits."""
     keys = {key.name: key for section in ("top", *afdx.SECTIONS) for key in afdx.KEYS[section]}
     lines = text.split("\n")
     put = lambda i, *new: "\n".join(lines[:i] + list(new) + lines[i + 1 :])
@@ -120,7 +120,7 @@ def changes_of_each_key(text):
         yield put(i, lines[i], lines[i])
         if name not in keys:
             continue
-        for value in OTHER_KINDS + limits_of(keys[name]):
+        for value in OTHER_TYPES + limits_of(keys[name]):
             yield put(i, f"{name} = {value}")
 
 
@@ -132,34 +132,34 @@ def mutated(text, draw):
     for _ in range(draw.choice([1, 1, 1, 2, 3])):
         place, lines = draw.randrange(len(text) + 1), text.split("\n")
         here, there = draw.randrange(len(lines)), draw.randrange(len(lines))
-        kind = draw.choice([0, 1, 2, 3, 4, 5, 6, 6, 7, 7, 7, 8, 9, 9, 9, 9, 10, 10])
-        if kind == 0:
+        case = draw.choice([0, 1, 2, 3, 4, 5, 6, 6, 7, 7, 7, 8, 9, 9, 9, 9, 10, 10])
+        if case == 0:
             text = text[:place] + text[place + 1 :]
-        elif kind == 1:
+        elif case == 1:
             text = text[:place] + draw.choice(PIECES) + text[place:]
-        elif kind == 2:
+        elif case == 2:
             text = text[:place] + draw.choice(PIECES) + text[place + 1 :]
-        elif kind == 3:
+        elif case == 3:
             text = "\n".join(lines[:here] + lines[here + 1 :])
-        elif kind == 4:
+        elif case == 4:
             text = "\n".join(lines[:here] + [lines[there]] + lines[here:])
-        elif kind == 5:
+        elif case == 5:
             lines[here], lines[there] = lines[there], lines[here]
             text = "\n".join(lines)
-        elif kind == 6:
+        elif case == 6:
             words = list(re.finditer(r'[\w-]+|"[^"\n]*"', text))
             if len(words) > 1:
                 old, new = draw.choice(words), draw.choice(words)
                 text = text[: old.start()] + new[0] + text[old.end() :]
-        elif kind == 7:
+        elif case == 7:
             numbers = list(re.finditer(r"\d[\d_]*", text))
             if numbers:
                 old = draw.choice(numbers)
                 new = draw.choice(["0", "-1", "1", "10", str(10**15), str(10**15 + 1), str(2**63), "64", "1518", "1519"])
                 text = text[: old.start()] + new + text[old.end() :]
-        elif kind == 8:
+        elif case == 8:
             text = text[:place]
-        elif kind == 9:
+        elif case == 9:
             names = list(re.finditer(r'"[\w-]+"', text))
             if names:
                 old, new = draw.choice(names), draw.choice(names)
@@ -186,7 +186,7 @@ def hold_mutated(count, seed):
 
 
 class WithTheProgram(unittest.TestCase):
-    def test_each_key_removed_doubled_of_another_kind_and_around_its_limits(self):
+    def test_each_key_removed_doubled_of_another_type_and_around_its_limits(self):
         """On the smallest example all of them, on the others a drawn part; by hand all of them (`each`)."""
         program, draw = Program(), random.Random(1)
         for name, text in examples().items():
@@ -296,7 +296,7 @@ b = 1
 
 
 def repr_of(value):
-    """A value as a text that tells kinds apart, with dates and times as one kind."""
+    """A value as a text that tells types apart, with dates and times as one type."""
     if isinstance(value, dict):
         return {key: repr_of(one) for key, one in value.items()}
     if isinstance(value, list):

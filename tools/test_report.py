@@ -74,7 +74,7 @@ class Followed(Simulation):
         for vl in net.vls.values():
             refused = sum(frame[0] == vl.id and frame[4] == "queue_full" for frame in self.died)
             released, offered = self.released.get(vl.id, []), len(net.offers(vl))
-            for where in vl.sinks:
+            for where in vl.destinations:
                 paths = {side: path for side in "AB" for path in vl.paths[side] if path[-1] == where}
                 dead = {side: set() for side in paths}
                 for number, frame, side, place, cause in self.died:
@@ -148,9 +148,9 @@ def drawn_network(seed):
         begin = draw.randrange(10**7)
         text.append(OUTAGE.format(*draw.sample([a, b], 2), begin, begin + draw.randrange(1, 10**6)))
     for number in range(draw.choice([2, 6])):
-        source, *sinks = draw.sample(range(5), draw.choice([2, 2, 4]))
-        paths = {side: [way(side, source, sink) for sink in sinks if draw.random() < 0.9] for side in sides}
-        paths = paths if any(paths.values()) else {side: [way(side, source, sink) for sink in sinks] for side in sides}
+        source, *destinations = draw.sample(range(5), draw.choice([2, 2, 4]))
+        paths = {side: [way(side, source, destination) for destination in destinations if draw.random() < 0.9] for side in sides}
+        paths = paths if any(paths.values()) else {side: [way(side, source, destination) for destination in destinations] for side in sides}
         bag = draw.choice([1, 1, 2])
         text.append(
             f"[[vl]]\nid = {number}\nbag_ms = {bag}\nsmax = 700\npriority = \"{draw.choice(['high', 'low'])}\"\n"
@@ -163,9 +163,9 @@ def drawn_network(seed):
     return "\n".join(text) + "\n"
 
 
-def way(side, source, sink):
-    switches = [f"{side}{source % 2 + 1}", f"{side}{sink % 2 + 1}"]
-    return [f"E{source}", *dict.fromkeys(switches), f"E{sink}"]
+def way(side, source, destination):
+    switches = [f"{side}{source % 2 + 1}", f"{side}{destination % 2 + 1}"]
+    return [f"E{source}", *dict.fromkeys(switches), f"E{destination}"]
 
 
 def make(*words):
@@ -197,7 +197,7 @@ class Page(HTMLParser):
             self.hidden = len(self.open)
         if self.hidden is not None:
             return
-        kind = (found.get("class") or "").split()
+        classes = (found.get("class") or "").split()
         if tag == "html":
             self.words = found
         elif tag == "table":
@@ -208,19 +208,19 @@ class Page(HTMLParser):
             self.marks[self.table].append([])
         elif tag in ("td", "th"):
             self.tables[self.table][-1].append("")
-            self.marks[self.table][-1].append(next((it for it in kind if it in ("good", "warn", "bad")), ""))
+            self.marks[self.table][-1].append(next((it for it in classes if it in ("good", "warn", "bad")), ""))
             self.cell = tag
             if tag == "th":
-                self.heads[self.table].append(["n" in kind, ""])
-        elif tag == "span" and self.cell and set(kind) & {"warn", "bad"}:
-            self.marks[self.table][-1][-1] = kind[0]
+                self.heads[self.table].append(["n" in classes, ""])
+        elif tag == "span" and self.cell and set(classes) & {"warn", "bad"}:
+            self.marks[self.table][-1][-1] = classes[0]
         elif "data-name" in found:
             self.tile = found["data-name"]
-            self.tiles[self.tile], self.tile_marks[self.tile] = [], " ".join(kind[1:])
+            self.tiles[self.tile], self.tile_marks[self.tile] = [], " ".join(classes[1:])
         elif "data-line" in found:
             self.line = found["data-line"]
             self.loads[self.line], self.labels[self.line] = found["data-load"], []
-            self.lit |= {self.line} if "on" in kind else set()
+            self.lit |= {self.line} if "on" in classes else set()
 
     def handle_endtag(self, tag):
         while self.open and self.open.pop() != tag:
@@ -573,9 +573,9 @@ class InTheBrowser(unittest.TestCase):
             document.documentElement.dataset.told = JSON.stringify(told);
         """
         page = self.browser.open(self.page, script % json.dumps([it[:2] for it in clicks]))
-        for (buttons, at, kind, down), texts in zip(clicks, json.loads(page.words["data-told"])):
+        for (buttons, at, parse, down), texts in zip(clicks, json.loads(page.words["data-told"])):
             with self.subTest(column=at, down=down):
-                few, whole = ([kind(text) for text in found] for found in texts)
+                few, whole = ([parse(text) for text in found] for found in texts)
                 self.assertEqual(whole, sorted(whole, reverse=down))
                 self.assertEqual((len(whole), few), (24, whole[:10]))
 
@@ -763,7 +763,7 @@ class InTheBrowser(unittest.TestCase):
         ):
             self.made(path, words[0], "--against", words[1])
             page = self.browser.open(self.page, UNFOLD)
-            for name, column, found, kind in (
+            for name, column, found, parse in (
                 ("slower", "slower by", change, ns_of),
                 ("faster", "faster by", {key: -it for key, it in change.items()}, ns_of),
                 ("more-lost", "more missing", fewer, number_of),
@@ -772,8 +772,8 @@ class InTheBrowser(unittest.TestCase):
                 found = {key: it for key, it in found.items() if it > 0}
                 rows = page.columns(name) if found else []
                 self.assertEqual(name in page.tables, bool(found))
-                self.assertEqual({(int(row["VL"]), row["destination"]): kind(row[column]) for row in rows}, found)
-                values = [kind(row[column]) for row in rows]
+                self.assertEqual({(int(row["VL"]), row["destination"]): parse(row[column]) for row in rows}, found)
+                values = [parse(row[column]) for row in rows]
                 self.assertEqual(values, sorted(values, reverse=True))
 
     def test_against_a_run_of_another_network(self):
@@ -865,7 +865,7 @@ class WithoutABrowser(unittest.TestCase):
 
     def test_ends_of_drawn_networks(self):
         """What is said of each destination holds of the frames that a run followed; with the trace little is open."""
-        open_counts, kinds = {True: 0, False: 0}, Counter()
+        open_counts, cases = {True: 0, False: 0}, Counter()
         for seed in range(60):
             text = drawn_network(seed)
             net = report.Network(self.file("net.toml", text))
@@ -886,12 +886,12 @@ class WithoutABrowser(unittest.TestCase):
                         self.assertLessEqual(end.again.least, again)
                         self.assertLessEqual(again, end.again.most)
                         open_counts[bool(trace)] += end.missing.least < end.missing.most
-                        kinds["all"] += 1
-                        kinds.update(name for name, count in (("missing", missing), ("under way", under_way)) if count)
-                        kinds["again"] += again > 0
+                        cases["all"] += 1
+                        cases.update(name for name, count in (("missing", missing), ("under way", under_way)) if count)
+                        cases["again"] += again > 0
         self.assertLess(open_counts[True], open_counts[False])
-        self.assertLess(open_counts[True], kinds["all"] / 10)
-        self.assertGreater(min(kinds.values()), 10)
+        self.assertLess(open_counts[True], cases["all"] / 10)
+        self.assertGreater(min(cases.values()), 10)
 
     def test_ends_of_merged_tables(self):
         """Those of several seeds, with drawn offsets too, once it is told which seeds they are."""

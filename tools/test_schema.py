@@ -1,5 +1,5 @@
 """Tests of the two tables of keys that stand beside that of the program: docs/afdxsim.schema.json, for editors, and that of
-tools/afdx.py. Both must be the table of crates/network_rows/src/table.rt: the same keys, kinds, limits and order, and the
+tools/afdx.py. Both must be the table of crates/network_rows/src/table.rt: the same keys, types, limits and order, and the
 same ones that may be absent."""
 import glob
 import json
@@ -24,7 +24,7 @@ def read(*parts):
 
 
 class ProgramTable:
-    """The table of the program: for each section its keys, each with its presence and its kind as they are written."""
+    """The table of the program: for each section its keys, each with its presence and its type as they are written."""
 
     def __init__(self):
         self.text = re.sub(r"//.*", "", read(CRATES, "network_rows", "src", "table.rt"))
@@ -45,29 +45,29 @@ class ProgramTable:
         self.keys = {section.lower(): [rules[name] for name in re.findall(r"\w+", names)] for section, names in lists}
 
     def rule(self, text):
-        """The key of a rule, its presence, and its kind with what stands in brackets behind."""
-        text = re.sub(r"\s+", " ", text).replace("Key::", "").replace("Presence::", "").replace("Kind::", "")
-        found = re.search(r"key: (\w+), presence: (\w+(?:\(\w+\))?), kind: (\w+)(?:\((.*?)\))?,? }", text)
+        """The key of a rule, its presence, and its type with what stands in brackets behind."""
+        text = re.sub(r"\s+", " ", text).replace("Key::", "").replace("Presence::", "").replace("ValueType::", "")
+        found = re.search(r"key: (\w+), presence: (\w+(?:\(\w+\))?), value_type: (\w+)(?:\((.*?)\))?,? }", text)
         found = found or re.fullmatch(r"rule!\( ?(\w+), (\w+(?:\(\w+\))?), (\w+)(?:\((.*?)\))?,? ?\)", text)
-        key, presence, kind, limits = found.groups()
-        return self.names[key], presence, kind, [it.strip() for it in (limits or "").split(",") if it.strip()]
+        key, presence, value_type, limits = found.groups()
+        return self.names[key], presence, value_type, [it.strip() for it in (limits or "").split(",") if it.strip()]
 
     def number(self, text):
         plain = text.removesuffix(" as u64").replace("_", "")
         return int(plain) if plain.isdigit() else self.numbers[text.removesuffix(" as u64")]
 
-    def limits(self, kind, words):
-        """The kind of the values, the least and the greatest, and the choices."""
-        if kind == "OneOf":
+    def limits(self, value_type, words):
+        """The type of the values, the least and the greatest, and the choices."""
+        if value_type == "OneOf":
             return "integer", None, None, self.bags
-        if kind == "EitherInteger":
+        if value_type == "EitherInteger":
             return "integer", None, None, tuple(map(self.number, words))
-        if kind == "EitherWord":
+        if value_type == "EitherWord":
             return "text", None, None, tuple(self.words[word.split("::")[-1]] for word in words)
-        if kind == "Reference":
+        if value_type == "Reference":
             return "name", None, None, None
         least, greatest = map(self.number, words[-2:])
-        return {"NodeName": "text", "Paths": "paths"}.get(kind, "integer"), least, greatest, None
+        return {"NodeName": "text", "Paths": "paths"}.get(value_type, "integer"), least, greatest, None
 
     def usual(self, presence):
         """Which rows need the key, and what it is where it is absent."""
@@ -87,11 +87,11 @@ class Schema:
 
     def key(self, section, name):
         found = self.tables[section]["properties"][name]
-        kind = {"integer": "integer", "array": "paths", "string": "text"}[found["type"]]
-        if kind == "text" and not {"enum", "pattern"} & set(found):
-            kind = "name"
+        value_type = {"integer": "integer", "array": "paths", "string": "text"}[found["type"]]
+        if value_type == "text" and not {"enum", "pattern"} & set(found):
+            value_type = "name"
         least, greatest = found.get("minimum"), found.get("maximum")
-        if kind == "paths":
+        if value_type == "paths":
             least, greatest = found["items"]["minItems"], found["items"]["maxItems"]
             assert found["items"]["items"] == {"type": "string"}
         if "pattern" in found:
@@ -99,7 +99,7 @@ class Schema:
             assert signs == "A-Za-z0-9_-"
             least, greatest = int(least), int(greatest)
         choices = tuple(found["enum"]) if "enum" in found else None
-        return kind, least, greatest, choices, self.needed(section, name), found.get("default")
+        return value_type, least, greatest, choices, self.needed(section, name), found.get("default")
 
     def needed(self, section, name):
         table = self.tables[section]
@@ -115,15 +115,15 @@ class Keys(unittest.TestCase):
 
     def each(self):
         for section, keys in self.program.keys.items():
-            for name, presence, kind, words in keys:
-                yield section, name, (*self.program.limits(kind, words), *self.program.usual(presence))
+            for name, presence, value_type, words in keys:
+                yield section, name, (*self.program.limits(value_type, words), *self.program.usual(presence))
 
     def test_the_table_of_the_tools_is_that_of_the_program(self):
         for section, keys in self.program.keys.items():
             self.assertEqual([key.name for key in afdx.KEYS[section]], [name for name, *_ in keys])
         for section, name, wanted in self.each():
             (key,) = [key for key in afdx.KEYS[section] if key.name == name]
-            found = (key.kind, key.least, key.greatest, key.choices, key.needed, key.usual)
+            found = (key.value_type, key.least, key.greatest, key.choices, key.needed, key.usual)
             self.assertEqual(found, wanted, f"{section} {name}")
 
     def test_the_schema_is_that_of_the_program(self):
@@ -174,18 +174,18 @@ def faults_by(schema, value, place):
     """What is wrong with a value by a schema, of those words of JSON Schema that ours has."""
     if schema is False:
         return [f"{place} may not be"]
-    kind = schema.get("type")
-    kinds = {"object": dict, "array": list, "string": str, "integer": int}
-    if kind and (not isinstance(value, kinds[kind]) or type(value) is bool):
-        return [f"{place} is no {kind}"]
+    value_type = schema.get("type")
+    value_types = {"object": dict, "array": list, "string": str, "integer": int}
+    if value_type and (not isinstance(value, value_types[value_type]) or type(value) is bool):
+        return [f"{place} is no {value_type}"]
     found = []
     if "enum" in schema and value not in schema["enum"] or "const" in schema and value != schema["const"]:
         found.append(f"{place} is {value}")
-    if not schema.get("minimum", value) <= value <= schema.get("maximum", value) if kind == "integer" else False:
+    if not schema.get("minimum", value) <= value <= schema.get("maximum", value) if value_type == "integer" else False:
         found.append(f"{place} is {value}")
-    if kind == "string" and not re.search(schema.get("pattern", ""), value):
+    if value_type == "string" and not re.search(schema.get("pattern", ""), value):
         found.append(f"{place} is {value}")
-    if kind == "array":
+    if value_type == "array":
         if not schema.get("minItems", 0) <= len(value) <= schema.get("maxItems", len(value)):
             found.append(f"{place} has {len(value)} items")
         for i, item in enumerate(value):

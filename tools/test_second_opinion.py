@@ -64,7 +64,7 @@ class Rules(unittest.TestCase):
         simulation = Simulation(toml_lines.read(changed(("depth = 16", f"depth = {depth}\nsub = {sub}"))))
         simulation.heap.clear()
         told = []
-        simulation.send = lambda time, _sender, _to, kind, _fields: told.append((kind, time))
+        simulation.send = lambda time, _sender, _to, variant, _fields: told.append((variant, time))
         simulation.copies = lambda time, _at, _vl, out: told.append(("released", out[1], out[3]))
         simulation.lose = lambda time, _at, _frame, cause: told.append((cause, time))
         for moment, q in offers:
@@ -76,8 +76,8 @@ class Rules(unittest.TestCase):
         self.assertEqual(told, [("released", 0, 0), ("Release", 10**6), ("queue_full", 40)])
         told.clear()
         for moment in (10**6, 2 * 10**6, 3 * 10**6):
-            simulation.next_turn(moment, 0, 1)
-        # The frame of 10 has the next turn, then that of 20, and behind them that of 30, after which none waits.
+            simulation.next_served(moment, 0, 1)
+        # The frame of 10 is served next, then that of 20, and behind them that of 30, after which none waits.
         released = [("Release", 2 * 10**6), ("released", 1, 10), ("Release", 3 * 10**6), ("released", 2, 20)]
         self.assertEqual(told, [*released, ("released", 3, 30)])
         self.assertEqual(simulation.regulators[1]["pointer"], 1)

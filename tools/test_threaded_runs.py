@@ -86,7 +86,7 @@ class ThreadedRuns(unittest.TestCase):
             self.assertTrue(min(found) <= most**0.25 and max(found) > most / 4)
 
     def test_networks_are_accepted_and_have_what_is_told(self):
-        """Sub-virtual links and kinds of policing of each sort and none, moments at both ends, and frames that wait and
+        """Sub-virtual links and sorts of policing of each sort and none, moments at both ends, and frames that wait and
         are lost."""
         nets = [toml_lines.read(threaded_runs.Drawn(number).network) for number in range(100)]
         for number, net in enumerate(nets):

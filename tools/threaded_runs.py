@@ -3,7 +3,7 @@
 against the second opinion.
 
 Each run has a network of its own, drawn by large_network.py: 2 to 6 end systems, 1 to 3 switches on each of the two
-networks, 1 to 12 virtual links with 1 to 4 sub-virtual links and both kinds of policing, 1 to 20 ms of simulated time.
+networks, 1 to 12 virtual links with 1 to 4 sub-virtual links and both sorts of policing, 1 to 20 ms of simulated time.
 Half of the networks are bent, so that frames wait and are lost: short BAGs and periods from a tenth of them on, long
 frames, depths of 1 to 3, jitters up to the BAG, frames above Smax, little jitter for policing, lines of 10 Mbit/s,
 outages; and half of these lie at the latest end of a run, 10^15 ns.

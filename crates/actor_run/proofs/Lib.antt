@@ -1,5 +1,5 @@
 pub mod Counting
-pub mod Turning
+pub mod Handling
 pub mod Loading
 pub mod Errors
 pub mod Waits

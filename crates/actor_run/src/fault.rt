@@ -8,7 +8,7 @@ pub enum SimFault {
     /// A growth was refused.
     #[error("out of memory")]
     OutOfMemory,
-    /// The actor whose turn it is has not enough numbers left for what one event can send.
+    /// The actor that is next has not enough numbers left for what one event can send.
     #[error("numbers used up")]
     Exhausted,
 }

@@ -12,6 +12,6 @@ mod watch;
 
 pub use fault::SimFault;
 pub use recorder::Recorder;
-pub use running::{run_actors, take_all_turns};
+pub use running::{handle_all, run_actors};
 pub use waiting::Waiting;
 pub use watch::{Unwatched, Watch};

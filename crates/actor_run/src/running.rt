@@ -57,7 +57,7 @@ fn act<A: Actor>(actors: &mut [A], message: &Message, out: &mut Outbound) -> boo
 /// The first waiting message, if there is one, is handled by its receiver: what it sends waits, and `recorder` takes a row of each note.
 /// `out` is room for what it sends and notes, and `moment` gets the moment of it. The answer is whether there was one.
 #[inline(always)]
-fn take_turn<A: Actor, R: Recorder>(
+fn handle_first<A: Actor, R: Recorder>(
     actors: &mut [A],
     waiting: &mut Waiting,
     recorder: &mut R,
@@ -65,7 +65,7 @@ fn take_turn<A: Actor, R: Recorder>(
     moment: &mut Time,
 ) -> Result<bool, SimFault>
     requires { (rows : List Row) × R.has_taken recorder.old rows × IsRunning (rules_of A.plain A.counter) actors.old waiting.old rows }
-    ensures turned { result ≡ Ok true → (rows : List Row) → R.has_taken recorder.old rows → AtEach (rules_of A.plain A.counter) actors.old waiting.old rows
+    ensures handled { result ≡ Ok true → (rows : List Row) → R.has_taken recorder.old rows → AtEach (rules_of A.plain A.counter) actors.old waiting.old rows
         (λ f n. (later : List Row) × R.has_taken recorder.new later × StandsAt f (suc n) actors.new waiting.new later) }
     ensures smaller { result ≡ Ok true → load GREATEST_NS waiting.new < load GREATEST_NS waiting.old }
     ensures over { result ≡ Ok false → (rows : List Row) → R.has_taken recorder.old rows → AtEach (rules_of A.plain A.counter) actors.old waiting.old rows
@@ -96,12 +96,12 @@ fn take_turn<A: Actor, R: Recorder>(
 /// its receiver, until none waits. `recorder` takes a row for each note, in the order in which the messages are handled. `watch` is shown how
 /// far the run is, once in 65,536 events and at the end of a run that is not given up.
 ///
-/// `OutOfMemory` comes only where a growth was refused, and `Exhausted` exactly where the actor whose turn it is has not enough numbers
+/// `OutOfMemory` comes only where a growth was refused, and `Exhausted` exactly where the actor that is next has not enough numbers
 /// left. Either leaves the actors in the states of the run after some number of events.
 ///
-/// All that one turn does becomes a part of it.
+/// All that one event does becomes a part of it.
 #[inline(never)]
-pub fn take_all_turns<A: Actor, R: Recorder, W: Watch>(
+pub fn handle_all<A: Actor, R: Recorder, W: Watch>(
     actors: &mut [A],
     waiting: &mut Waiting,
     recorder: &mut R,
@@ -124,7 +124,7 @@ pub fn take_all_turns<A: Actor, R: Recorder, W: Watch>(
     let mut out = Outbound::new(0, Time::default(), 0);
     let mut moment = Time::default();
     let mut unseen = 0;
-    'turns: while take_turn(actors, waiting, recorder, &mut out, &mut moment)? {
+    'events: while handle_first(actors, waiting, recorder, &mut out, &mut moment)? {
         unseen = show_event(watch, moment, unseen);
     }
     watch.look(moment, unseen);
@@ -134,9 +134,9 @@ pub fn take_all_turns<A: Actor, R: Recorder, W: Watch>(
 /// Runs the simulation of these actors, where actor p is process p, from these offers on: the first of all waiting messages is handled
 /// by its receiver, until none waits. The answer has a row for each note, in the order in which the messages were handled. The order of
 /// messages is the derived one: by time in ns, receiver, sender, number and body (profile). `watch` is shown how far the run is, as by
-/// `take_all_turns`.
+/// `handle_all`.
 ///
-/// `OutOfMemory` comes only where a growth was refused, and `Exhausted` exactly where the actor whose turn it is has not enough numbers
+/// `OutOfMemory` comes only where a growth was refused, and `Exhausted` exactly where the actor that is next has not enough numbers
 /// left. Either leaves the actors in the states of the run after some number of events.
 pub fn run_actors<A: Actor, W: Watch>(
     alloc: Global,
@@ -155,6 +155,6 @@ pub fn run_actors<A: Actor, W: Watch>(
 {
     let mut waiting = Waiting::with_offers(alloc, offers, actors.len())?;
     let mut all = AllRows::none(alloc);
-    take_all_turns(actors, &mut waiting, &mut all, watch)?;
+    handle_all(actors, &mut waiting, &mut all, watch)?;
     Ok(all.rows)
 }

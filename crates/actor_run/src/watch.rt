@@ -38,6 +38,22 @@ pub(crate) fn show_event<W: Watch>(watch: &mut W, moment: Time, unseen: u32) -> 
     0
 }
 
+impl<W: Watch> Watch for &mut W {
+    ghost use Rattle.std.specs.Prelude.{◌≡◌};
+    ghost use Rattle.std.proofs.Common.{refl, ◌∙◌};
+
+    ghost becomes = { λ old new. (new.ghost_name ≡ old.ghost_name) × W.becomes old.now new.now };
+
+    #[inline(always)]
+    fn look(&mut self, moment: Time, events: u32) {
+        (**self).look(moment, events);
+    }
+
+    ghost stays = { λ watch. (refl, W.stays watch.now) };
+
+    ghost goes_on = { λ first next last some more. (more.0 ∙ some.0, W.goes_on first.now next.now last.now some.1 more.1) };
+}
+
 /// Nobody watches.
 #[derive(Drop)]
 pub struct Unwatched;

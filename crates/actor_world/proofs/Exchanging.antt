@@ -30,8 +30,8 @@ use Rattle.actor_world.specs.Stepping.{IsStepped}
 use Rattle.actor_world.proofs.Holding.{process-within, parts-set, whole-set, when-did, when-not_enabled, when-no_memory, the_same, the_same-when}
 
 -- no letter at this place: there are not so many
-none-past : {X : Type 0} (xs : List X) (i : ℕ) → slice_get xs i ≡ None → length xs ≤ i
-none-past xs i e = elim (slice_get_cases xs i).1 [ inl h ↦ (let d = h.2 in absurd cc) | inr h ↦ h.0 ]
+none-beyond : {X : Type 0} (xs : List X) (i : ℕ) → slice_get xs i ≡ None → length xs ≤ i
+none-beyond xs i e = elim (slice_get_cases xs i).1 [ inl h ↦ (let d = h.2 in absurd cc) | inr h ↦ h.0 ]
 
 module _ {S K : Type 0} (f : Simulation Message S K Note) (is_value : S → Message → Type 0) (w : World Message S) (old : Holdings S K) (h : StandsForWorld f is_value w old)
     (p : ℕ) (q : Queues S K) (here : slice_get old.processes p ≡ Some q) where
@@ -102,7 +102,7 @@ take-not : {S K : Type 0} (f : Simulation Message S K Note) (is_value : S → Me
     (p : ℕ) → p < f.processes → (i : ℕ) → slice_get (letters_for p old.mail) i ≡ None → is_enabled f (Take p i) w ≡ false
 unfolding is_enabled
 take-not f is_value w old h p within i e =
-    rw (lt-ltb p f.processes within, le-ltb i (length (w.mail p)) (subst (λ ls. length ls ≤ i) (h.mail p within) (none-past (letters_for p old.mail) i e))) refl
+    rw (lt-ltb p f.processes within, le-ltb i (length (w.mail p)) (subst (λ ls. length ls ≤ i) (h.mail p within) (none-beyond (letters_for p old.mail) i e))) refl
 
 -- letters to processes of which there are so many
 letters-go : {S K : Type 0} (r : Rules Message S K Note) (O : IsOrder r.order) (n : ℕ) (ls : List Letter) → ((m : Message) → IsNamed r.order m ls → r.order.receiver m < n) →

@@ -81,7 +81,7 @@ impl<R: Actor> ActorWorld<R> {
         Ok(Done::Did)
     }
 
-    /// The front letter of the process's tray is counted, with a rollback where its message becomes present or absent.
+    /// The front letter of the process's tray is tallied, with a rollback where its message becomes present or absent.
     fn arrive(&mut self, process: u16) -> Result<Done, StepFault>
         requires world { IsAWorld (rules_of R.plain R.counter) R.number R.end R.is_placed R.is_value self.old }
         requires there { process < length self.old.processes }

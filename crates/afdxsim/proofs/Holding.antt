@@ -1,4 +1,4 @@
--- A text that goes out in parts: what has gone out, and what is still held.
+-- A text that goes out in pieces: what has gone out, and what is still held.
 use Rattle.std.proofs.Common.{◌≡◌, ◌∙◌, ℕ, ◌+◌, ◌<◌, List, [], ◌∷◌, ◌++◌, length, take, drop, get_or, Option, Some, None, Result, Ok, Err, refl, sym, ap, subst, append_assoc, length-append, arith}
 use Rattle.std.specs.Prelude.{IfErr}
 use Rattle.std.specs.Io.KnownBytes.{append_known}
@@ -6,9 +6,9 @@ use Rattle.std.specs.List.{flat_map}
 use Rattle.std.proofs.Math.Seq.{take-append-add}
 use Rattle.std.proofs.lemmas.List.{append-nil, take-append-drop, take-append-le, take_more}
 use Rattle.std.proofs.lemmas.Grind.{flat_map-append}
-use Rattle.trace_parts.specs.Sinking.{IsBeginning}
+use Rattle.trace_segments.specs.Sinking.{IsBeginning}
 
--- of this text, put behind what a sink had taken, a part has gone out, and the rest is held
+-- of this text, put behind what a sink had taken, a piece has gone out, and the rest is held
 pub record IsHeld (old now : Option (List ℕ)) (held text : List ℕ) : Type 0 where
   pub sent : List ℕ
   pub took : now ≡ append_known old sent
@@ -63,9 +63,9 @@ pub first-ones : {X : Type 0} (f : X → List ℕ) (xs : List X) (i : ℕ) → f
 first-ones f xs i = sym (flat_map-append f (take i xs) (drop i xs)) ∙ ap (flat_map f) (take-append-drop i xs)
 
 -- where a write of what was held fails, a beginning of all went out
-pub part-out : {A E X : Type 0} (IsDevice : E → Type 0) (r : Result A E) (f : X → List ℕ) (xs : List X) (i : ℕ) (old now later : Option (List ℕ)) (held bytes : List ℕ) →
+pub piece-out : {A E X : Type 0} (IsDevice : E → Type 0) (r : Result A E) (f : X → List ℕ) (xs : List X) (i : ℕ) (old now later : Option (List ℕ)) (held bytes : List ℕ) →
     IsHeld old now held (flat_map f (take i xs)) → bytes ≡ held → IsBeginning now later bytes → IfErr r (λ fault. IsDevice fault → IsBeginning old later (flat_map f xs))
-part-out IsDevice (Ok x) f xs i old now later held bytes h same begins = tt
-part-out IsDevice (Err fault) f xs i old now later held bytes h same begins = λ is.
+piece-out IsDevice (Ok x) f xs i old now later held bytes h same begins = tt
+piece-out IsDevice (Err fault) f xs i old now later held bytes h same begins = λ is.
     subst (IsBeginning old later) (first-ones f xs i)
     (held-beginning old now later held (flat_map f (take i xs)) (flat_map f (drop i xs)) h (subst (IsBeginning now later) same begins))

@@ -1,4 +1,4 @@
-pub mod Accounts
+pub mod Conclusions
 pub mod Running
 pub mod Statuses
 pub mod Unwritten

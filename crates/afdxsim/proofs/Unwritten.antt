@@ -5,12 +5,12 @@ use Rattle.vlink.specs.Letters.{Row}
 use Rattle.virtual_time.specs.declared.step.Step.{Step}
 use Rattle.netdesc.specs.Plan.{Plan}
 use Rattle.seqsim.specs.Networks.{AreRowsOf}
-use Rattle.trace_parts.specs.Sinking.{IsBeginning}
-use Rattle.trace_parts.specs.Text.{trace_text}
-use Rattle.trace_parts.specs.declared.trace_fault.TraceFault.{TraceFault}
-use Rattle.trace_parts.specs.declared.trace_fault.TraceFault.TheVariants.{Part, Out}
-use Rattle.trace_parts.specs.declared.fault.OutFault.TheVariants as out
-use Rattle.trace_parts.specs.declared.part_fault.PartFault.TheVariants as part
+use Rattle.trace_segments.specs.Sinking.{IsBeginning}
+use Rattle.trace_segments.specs.Text.{trace_text}
+use Rattle.trace_segments.specs.declared.trace_fault.TraceFault.{TraceFault}
+use Rattle.trace_segments.specs.declared.trace_fault.TraceFault.TheVariants.{Segment, Out}
+use Rattle.trace_segments.specs.declared.fault.OutFault.TheVariants as out
+use Rattle.trace_segments.specs.declared.segment_fault.SegmentFault.TheVariants as segment
 use Rattle.journal.specs.declared.fault.PoolFault.TheVariants as pool
 use Rattle.std.specs.Borrow.{Bor}
 use Rattle.std.specs.Io.KnownBytes.{append_known}
@@ -112,10 +112,10 @@ run_fault {File = File} taken failures plan path file full tables why fault name
     Told f = IsFaultOfPool f ⊎ IsFaultOfTrace (λ made. made ≡ true) ((full : File) × (text : List ℕ) × IsTraceText plan text × TookSome taken failures file full text) path.now f
 
     of : (w : TraceFault) → (w ≡ Out out.Device → failures full ≡ failures file + 1) → Told (fault_of_trace path w)
-    of (Part part.Gap) f = inl (pool.Torn, refl)
-    of (Part part.Double) f = inl (pool.Torn, refl)
-    of (Part part.Stranger) f = inl (pool.Torn, refl)
-    of (Part part.OutOfMemory) f = inl (pool.OutOfMemory, refl)
+    of (Segment segment.Gap) f = inl (pool.Torn, refl)
+    of (Segment segment.Double) f = inl (pool.Torn, refl)
+    of (Segment segment.Stranger) f = inl (pool.Torn, refl)
+    of (Segment segment.OutOfMemory) f = inl (pool.OutOfMemory, refl)
     of (Out out.OutOfMemory) f = inl (pool.OutOfMemory, refl)
     of (Out out.Layout) f = inr refl
     of (Out out.Device) f = inr (refl, inr (refl, (full, trace_text plan run.0, (run.0, run.1, refl), (begins run.0 run.1, f refl))))
@@ -126,7 +126,7 @@ asked plan steps true is h = h
 asked plan steps false is h = absurd (let bad : false ≡ true = is in cc)
 
 module _ {S F O E : Type 0} (outside : Outside S F O E) where
-  -- texts of another kind
+  -- texts of another sort
   some_of : (P Q : List ℕ → Type 0) → ((text : List ℕ) → P text → Q text) → WritesSome outside P → WritesSome outside Q
   some_of P Q f some = (some.0, some.1, some.2, some.3, f some.2 some.4, some.5)
 

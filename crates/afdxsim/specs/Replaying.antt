@@ -15,7 +15,7 @@ use Rattle.seqsim.specs.Networks.{AreRowsOf}
 use Rattle.timewarp.specs.Worlds.{IsExhausted}
 use Rattle.seqsim.specs.Committed.{after, AreCommittedRows}
 use Rattle.timewarp.specs.Replaying.{did, not_enabled, refused}
-use Rattle.afdxsim.specs.declared.account.Account.{Account}
+use Rattle.afdxsim.specs.declared.conclusion.Conclusion.{Conclusion}
 use Rattle.afdxsim.specs.declared.fault.Fault.{Fault}
 use Rattle.afdxsim.specs.declared.fault.Fault.TheVariants.{Description, JournalLine, JournalFull, CannotRead, CannotWriteFile, CannotWrite, Layout, OutOfMemory, Exhausted, Spawn, Torn}
 use Rattle.afdxsim.specs.Reading.{IsFaultOfFile}
@@ -25,8 +25,8 @@ abbrev pub most_lines : ℕ
 most_lines = 67108864
 
 -- how many steps were done, were not enabled and were refused, and GVT in ns
-abbrev pub counted_text : ℕ → ℕ → ℕ → ℕ → List ℕ
-counted_text did not_enabled refused gvt =
+abbrev pub counts_text : ℕ → ℕ → ℕ → ℕ → List ℕ
+counts_text did not_enabled refused gvt =
     codes "replay: " ++ (decimal did ++ (codes " did, " ++ (decimal not_enabled ++ (codes " not enabled, " ++ (decimal refused ++ (codes " refused, gvt " ++ (decimal gvt ++ codes ", ")))))))
 
 -- whether a run is finished, as the end of a line
@@ -37,7 +37,7 @@ finish_text false = codes "unfinished\n"
 -- the line that tells this of a replay
 abbrev pub summary_text : ℕ → ℕ → ℕ → ℕ → Bool → List ℕ
 summary_text did not_enabled refused gvt is_finished =
-    counted_text did not_enabled refused gvt ++ finish_text is_finished
+    counts_text did not_enabled refused gvt ++ finish_text is_finished
 
 -- this is the line of these steps, done on this network from the start on
 abbrev pub IsSummary : Plan → List Step → List ℕ → Type 0
@@ -54,12 +54,12 @@ IsSummary plan steps text =
 abbrev pub AreCommittedTables : Plan → List Step → TableLists → Type 0
 AreCommittedTables plan steps tables = (rows : List Row) × AreCommittedRows plan steps rows × (tables ≡ tables_of plan rows)
 
--- the account tells of these steps, done on this network
-pub record TellsOfSteps (plan : Plan) (steps : List Step) (account : Account) : Type 0 where
-  pub tables : AreCommittedTables plan steps account.tables
+-- the conclusion tells of these steps, done on this network
+pub record TellsOfSteps (plan : Plan) (steps : List Step) (conclusion : Conclusion) : Type 0 where
+  pub tables : AreCommittedTables plan steps conclusion.tables
   -- where the run is finished they are the tables of the one-thread run
-  pub whole : IsFinished (simulation_of plan) (after plan steps) → (rows : List Row) → AreRowsOf plan rows → account.tables ≡ tables_of plan rows
-  pub line : IsSummary plan steps (string_bytes account.line)
+  pub whole : IsFinished (simulation_of plan) (after plan steps) → (rows : List Row) → AreRowsOf plan rows → conclusion.tables ≡ tables_of plan rows
+  pub line : IsSummary plan steps (string_bytes conclusion.line)
 
 -- a text with these steps as its lines, and with at most as many lines as are allowed
 pub record IsJournal (text : List ℕ) (steps : List Step) : Type 0 where
@@ -67,9 +67,9 @@ pub record IsJournal (text : List ℕ) (steps : List Step) : Type 0 where
   pub fits : All Fits steps
   pub within : length (lines text) ≤ most_lines
 
--- the account tells of the journal with this text, done on this network
-abbrev pub TellsOfJournal : Plan → List ℕ → Account → Type 0
-TellsOfJournal plan text account = (steps : List Step) × IsJournal text steps × TellsOfSteps plan steps account
+-- the conclusion tells of the journal with this text, done on this network
+abbrev pub TellsOfJournal : Plan → List ℕ → Conclusion → Type 0
+TellsOfJournal plan text conclusion = (steps : List Step) × IsJournal text steps × TellsOfSteps plan steps conclusion
 
 -- why a text was not read as a journal, as a fault of the program
 abbrev pub fault_of_lines : LinesFault → Fault
@@ -99,8 +99,8 @@ IsFaultOfJournal plan text Torn = ⊥
 -- a read of a file may give a journal, and of what comes of it on this network this is the text of the tables, and this the line
 abbrev pub GivesTexts : Plan → (Option (List ℕ) → Type 0) → List ℕ → List ℕ → Type 0
 GivesTexts plan gives tables line =
-    (bytes : List ℕ) × (account : Account) × gives (Some bytes) × TellsOfJournal plan bytes account ×
-    (tables ≡ tables_text plan account.tables) × (line ≡ string_bytes account.line)
+    (bytes : List ℕ) × (conclusion : Conclusion) × gives (Some bytes) × TellsOfJournal plan bytes conclusion ×
+    (tables ≡ tables_text plan conclusion.tables) × (line ≡ string_bytes conclusion.line)
 
 -- why a journal in the file with this path was not done on this network: the file was not read, or the journal was not done
 abbrev pub IsFaultOfSteps : Plan → (Option (List ℕ) → Type 0) → List ℕ → Fault → Type 0

@@ -7,7 +7,7 @@ use Rattle.actor_run.specs.Running.{IsExhaustedAt}
 use Rattle.actor_run.specs.declared.fault.SimFault.{SimFault}
 use Rattle.actor_run.specs.declared.fault.SimFault.TheVariants as sim
 use Rattle.trace_tables.specs.Tables.{tables_of}
-use Rattle.trace_parts.specs.Text.{trace_text}
+use Rattle.trace_segments.specs.Text.{trace_text}
 use Rattle.trace_tables.specs.Text.{tables_text}
 use Rattle.seqsim.specs.Networks.{AreRowsOf}
 use Rattle.afdxsim.specs.declared.fault.Fault.{Fault}
@@ -26,7 +26,7 @@ IsTablesText plan text = (rows : List Row) × AreRowsOf plan rows × (text ≡ t
 abbrev pub IsTraceText : Plan → List ℕ → Type 0
 IsTraceText plan text = (rows : List Row) × AreRowsOf plan rows × (text ≡ trace_text plan rows)
 
--- why the one-thread run of a network was given up: after some events the process whose turn it is has not enough numbers left, or a growth
+-- why the one-thread run of a network was given up: after some events the process that is next has not enough numbers left, or a growth
 -- was refused
 abbrev pub IsFaultOfRun : Plan → Fault → Type 0
 IsFaultOfRun plan (Description fault) = ⊥

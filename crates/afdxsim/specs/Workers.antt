@@ -6,10 +6,10 @@ use Rattle.netdesc.specs.Plan.{Plan}
 use Rattle.journal_text.specs.Text.{steps_text}
 use Rattle.journal.specs.declared.fault.PoolFault.{PoolFault}
 use Rattle.journal.specs.declared.fault.PoolFault.TheVariants as pool
-use Rattle.trace_parts.specs.declared.fault.OutFault.TheVariants as out
-use Rattle.trace_parts.specs.declared.part_fault.PartFault.TheVariants as part
-use Rattle.trace_parts.specs.declared.trace_fault.TraceFault.{TraceFault}
-use Rattle.trace_parts.specs.declared.trace_fault.TraceFault.TheVariants.{Part, Out}
+use Rattle.trace_segments.specs.declared.fault.OutFault.TheVariants as out
+use Rattle.trace_segments.specs.declared.segment_fault.SegmentFault.TheVariants as segment
+use Rattle.trace_segments.specs.declared.trace_fault.TraceFault.{TraceFault}
+use Rattle.trace_segments.specs.declared.trace_fault.TraceFault.TheVariants.{Segment, Out}
 use Rattle.worker_pool.specs.Runs.{IsJournalOf}
 use Rattle.afdxsim.specs.declared.fault.Fault.{Fault}
 use Rattle.afdxsim.specs.declared.fault.Fault.TheVariants.{Description, JournalLine, JournalFull, CannotRead, CannotWriteFile, CannotWrite, Layout, OutOfMemory, Exhausted, Spawn, Torn}
@@ -30,11 +30,11 @@ fault_of_pool pool.Torn = Torn
 abbrev pub IsFaultOfPool : Fault → Type 0
 IsFaultOfPool fault = (why : PoolFault) × (fault ≡ fault_of_pool why)
 
--- why a run by workers did not write its trace, as a fault of the program, where the file has this path. Parts that are missing or come twice
+-- why a run by workers did not write its trace, as a fault of the program, where the file has this path. Segments that are missing or come twice
 -- are no fault of the file
 abbrev pub fault_of_trace : Bor (List ℕ) → TraceFault → Fault
-fault_of_trace path (Part part.OutOfMemory) = OutOfMemory
-fault_of_trace path (Part why) = Torn
+fault_of_trace path (Segment segment.OutOfMemory) = OutOfMemory
+fault_of_trace path (Segment why) = Torn
 fault_of_trace path (Out out.OutOfMemory) = OutOfMemory
 fault_of_trace path (Out out.Device) = CannotWriteFile path
 fault_of_trace path (Out out.Layout) = Layout

@@ -27,7 +27,7 @@ fn fault_of(fault: LinesFault) -> Fault<'static>
 }
 
 /// The steps of the journal with this text.
-#[tactic(auto, using(crate::proofs::Accounts::few_lines, crate::proofs::Accounts::lines_fault))]
+#[tactic(auto, using(crate::proofs::Conclusions::few_lines, crate::proofs::Conclusions::lines_fault))]
 pub fn steps_of(alloc: Global, text: &[u8]) -> Result<Vec<Step>, Fault<'static>>
     ensures steps { IfOk result (λ steps. IsJournal text.now steps.items) }
     ensures fault { (plan : Plan) → IfErr result (IsFaultOfJournal plan text.now) }
@@ -39,7 +39,7 @@ pub fn steps_of(alloc: Global, text: &[u8]) -> Result<Vec<Step>, Fault<'static>>
 }
 
 /// Does these steps on a network.
-#[tactic(auto, using(crate::proofs::Accounts::replayed))]
+#[tactic(auto, using(crate::proofs::Conclusions::replayed))]
 pub fn done(alloc: Global, network: Network, steps: &[Step]) -> Result<Replay, Fault<'static>>
     ensures replayed { IfOk result (λ found. IsReplayed found steps.now) }
     ensures network { IfOk result (λ found. found.world.plan ≡ network) }

@@ -1,9 +1,9 @@
 //! The program: a simulator of AFDX networks.
 #![tactic(auto)]
 
-mod account;
 mod answering;
 mod check;
+mod conclusion;
 mod fault;
 mod host;
 mod journal_steps;

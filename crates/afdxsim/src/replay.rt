@@ -8,7 +8,7 @@ ghost use Rattle.afdxsim.specs.Files.{ShowsBoth};
 ghost use Rattle.afdxsim.specs.Orders.{DoneOn, IsFaultOn, IsQuiet, Says, Shows};
 ghost use Rattle.afdxsim.specs.Replaying.{IsFaultOfSteps, TellsOfJournal};
 
-use crate::account::{Account, account_of};
+use crate::conclusion::{Conclusion, conclusion_of};
 use crate::fault::Fault;
 use crate::host::Host;
 use crate::reading::bytes_of;
@@ -19,29 +19,29 @@ use netdesc::Network;
 use std::alloc::Global;
 
 /// Does the journal in the file with this path on a network, and tells what it came to.
-fn account_in<'a, H: Host>(
+fn conclusion_in<'a, H: Host>(
     alloc: Global,
     network: Network,
     steps: &'a str,
     host: &mut H,
-) -> Result<Account, Fault<'a>>
-    ensures told { IfOk result (λ account. (bytes : List ℕ) × H.outside.gives host.old steps.entry.now (Some bytes) × TellsOfJournal network bytes account) }
-    ensures network { IfOk result (λ account. account.world.plan ≡ network) }
+) -> Result<Conclusion, Fault<'a>>
+    ensures told { IfOk result (λ conclusion. (bytes : List ℕ) × H.outside.gives host.old steps.entry.now (Some bytes) × TellsOfJournal network bytes conclusion) }
+    ensures network { IfOk result (λ conclusion. conclusion.world.plan ≡ network) }
     ensures fault { IfErr result (IsFaultOfSteps network (H.outside.gives host.old steps.entry.now) steps.entry.now) }
     ensures host { host.new ≡ host.old }
 {
     let text = bytes_of(alloc, steps, host)?;
-    account_of(alloc, network, text.as_slice())
+    conclusion_of(alloc, network, text.as_slice())
 }
 
 /// Writes what a journal came to: its tables on standard output, and then its line on error output.
-fn show_account<H: Host>(
+fn show_conclusion<H: Host>(
     alloc: Global,
-    account: &Account,
+    conclusion: &Conclusion,
     host: &mut H,
 ) -> Result<(), Fault<'static>>
-    ensures tables { OnOk result (Shows H.outside host.old host.new (tables_text account.now.world.plan account.now.tables)) }
-    ensures line { OnOk result (Says H.outside host.old host.new (string_bytes account.now.line)) }
+    ensures tables { OnOk result (Shows H.outside host.old host.new (tables_text conclusion.now.world.plan conclusion.now.tables)) }
+    ensures line { OnOk result (Says H.outside host.old host.new (string_bytes conclusion.now.line)) }
     ensures fault { IfErr result (IsFaultOfOutput H.outside.unshown (H.outside.output host.old) (H.outside.output host.new)) }
     ensures kept { IfErr result (λ fault. fault ≢ CannotWrite → H.outside.output host.new ≡ H.outside.output host.old) }
     ensures left { OnOk result (ShowsBoth H.outside host.old host.new) }
@@ -49,11 +49,11 @@ fn show_account<H: Host>(
 {
     show_tables(
         alloc,
-        account.world.network(),
-        &account.tables,
+        conclusion.world.network(),
+        &conclusion.tables,
         host.output(),
     )?;
-    say(account.line.as_str(), host.errors());
+    say(conclusion.line.as_str(), host.errors());
     Ok(())
 }
 
@@ -70,6 +70,6 @@ pub fn replay<'a, H: Host>(
     ensures kept { IfErr result (λ fault. fault ≢ CannotWrite → H.outside.output host.new ≡ H.outside.output host.old) }
     ensures quiet { OnErr result (IsQuiet H.outside host.old host.new) }
 {
-    let account = account_in(alloc, network, order.steps.as_str(), host)?;
-    show_account(alloc, &account, host)
+    let conclusion = conclusion_in(alloc, network, order.steps.as_str(), host)?;
+    show_conclusion(alloc, &conclusion, host)
 }

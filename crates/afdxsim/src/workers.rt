@@ -1,10 +1,10 @@
 //! A run by workers: its tables, and what else is asked for.
 ghost use Rattle.std.specs.Prelude.{◌≡◌, ◌⊎◌, ◌+◌, ℕ, true, List, IfErr, IfOk, OnOk};
 ghost use Rattle.vlink.specs.Letters.{Row};
-ghost use Rattle.trace_parts.specs.declared.fault.OutFault.TheVariants.{Device};
-ghost use Rattle.trace_parts.specs.declared.trace_fault.TraceFault.TheVariants.{Out};
-ghost use Rattle.trace_parts.specs.Sinking.{IsBeginning};
-ghost use Rattle.trace_parts.specs.Text.{trace_text};
+ghost use Rattle.trace_segments.specs.declared.fault.OutFault.TheVariants.{Device};
+ghost use Rattle.trace_segments.specs.declared.trace_fault.TraceFault.TheVariants.{Out};
+ghost use Rattle.trace_segments.specs.Sinking.{IsBeginning};
+ghost use Rattle.trace_segments.specs.Text.{trace_text};
 ghost use Rattle.trace_tables.specs.Text.{tables_text};
 ghost use Rattle.seqsim.specs.Networks.{AreRowsOf};
 ghost use Rattle.worker_pool.specs.Runs.{IsJournalAsked};
@@ -19,7 +19,7 @@ use netdesc::Network;
 use std::alloc::Global;
 use std::sync::Wait;
 use std::thread::Threads;
-use trace_tables::{OutFault, PartFault, Sink, TraceFault};
+use trace_tables::{OutFault, SegmentFault, Sink, TraceFault};
 use worker_pool::{Gate, Pace, Summary, Traced, run_summary, run_traced};
 
 /// A gate that is told of each message and does nothing.
@@ -85,8 +85,8 @@ fn fault_of_trace<'a>(path: &'a str, why: TraceFault) -> Fault<'a>
     ensures { result ≡ fault_of_trace path.entry why }
 {
     match why {
-        TraceFault::Part(PartFault::OutOfMemory) => Fault::OutOfMemory,
-        TraceFault::Part(_) => Fault::Torn,
+        TraceFault::Segment(SegmentFault::OutOfMemory) => Fault::OutOfMemory,
+        TraceFault::Segment(_) => Fault::Torn,
         TraceFault::Out(OutFault::OutOfMemory) => Fault::OutOfMemory,
         TraceFault::Out(OutFault::Device) => Fault::CannotWriteFile(path),
         TraceFault::Out(OutFault::Layout) => Fault::Layout,

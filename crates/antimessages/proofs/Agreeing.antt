@@ -1,17 +1,16 @@
 -- Lists of letters with the same signed counts agree in all that matters of a tally. For code above, whose part of the law has a list of
 -- letters of its own.
-use Rattle.std.proofs.Common.{◌≡◌, ℕ, ◌+◌, ◌≤◌, inl, inr, Bool, true, false, not, ◌&&◌, cond, nat_lt, List, [], ◌∷◌, map, filter, ℤ, pos, ◌+ℤ◌, ◌-ℤ◌, Option, Some, None, refl, sym, ap, ◌∙◌, subst, arith}
+use Rattle.std.proofs.Common.{◌≡◌, ℕ, ◌+◌, ◌≤◌, inl, inr, Bool, true, false, not, ◌&&◌, cond, nat_lt, List, ◌∷◌, pos, ◌+ℤ◌, ◌-ℤ◌, refl, sym, ap, ◌∙◌, subst, arith}
 use Rattle.std.specs.Prelude.{◌≢◌}
 use Rattle.std.proofs.lemmas.Bool.{cases_lt, lt-ltb, ltb-true, false_from_ne_true, both_ways}
 use Rattle.std.proofs.lemmas.Int.{ints}
 use Rattle.vlink.specs.declared.message.Message.{Message}
 use Rattle.virtual_time.specs.declared.letter.Letter.{Letter}
-use Rattle.virtual_time.specs.Law.{Order, IsOrder, one_if, same, lesser, least, is_plus, pluses, minuses, is_present, is_turned}
+use Rattle.virtual_time.specs.Law.{Order, IsOrder, one_if, same, is_plus, pluses, minuses, is_present, is_toggled}
 use Rattle.virtual_time.proofs.Order.{same_cases, same-refl}
 use Rattle.virtual_time.proofs.Letters.{counts-other}
 use Rattle.antimessages.specs.Letters.{weight}
-use Rattle.vlink.specs.Order.{message_order}
-use Rattle.antimessages.specs.Counting.{signed_count, change_by, change_between, is_turn, is_after, present_after, HaveSameCounts}
+use Rattle.antimessages.specs.Counting.{signed_count, change_by, change_between, is_toggle, HaveSameCounts}
 use Rattle.antimessages.proofs.Counts.{count-mine}
 
 -- more plus letters than minus letters, by the difference of their numbers
@@ -43,11 +42,11 @@ module _ {M : Type 0} (order : Order M) where
       ap (λ b. change_between b (is_present order (l ∷ xs) l.message)) (present-same_count l.message xs ys (h l.message)) ∙
       ap (λ b. change_between (is_present order ys l.message) b) (present-same_count l.message (l ∷ xs) (l ∷ ys) (same_counts-cons l xs ys h l.message))
 
-  -- a letter turns its message just where it makes it present or absent
-  pub turned-is : (l : Letter M) (tally : List (Letter M)) → is_turned order l tally ≡ is_turn (change_by order l tally)
-  turned-is l tally = go (is_present order tally l.message) (is_present order (l ∷ tally) l.message)
+  -- a letter toggles its message just where it makes it present or absent
+  pub toggled-is : (l : Letter M) (tally : List (Letter M)) → is_toggled order l tally ≡ is_toggle (change_by order l tally)
+  toggled-is l tally = go (is_present order tally l.message) (is_present order (l ∷ tally) l.message)
     where
-      go : (b c : Bool) → cond b (not c) c ≡ is_turn (change_between b c)
+      go : (b c : Bool) → cond b (not c) c ≡ is_toggle (change_between b c)
       go true true = refl
       go true false = refl
       go false true = refl

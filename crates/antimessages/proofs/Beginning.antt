@@ -19,7 +19,7 @@ use Rattle.vlink.specs.Order.{message_cmp, message_order}
 use Rattle.virtual_time.specs.Law.{pluses, minuses}
 use Rattle.antimessages.specs.declared.occurrence.Occurrence.{Occurrence}
 use Rattle.antimessages.specs.Counting.{signed_count}
-use Rattle.antimessages.specs.Occurrences.{occurrence_of, occurrence_cmp, letters_of, count_with, sign_at, AreCounted, BeginsWithOne, IsNextOther}
+use Rattle.antimessages.specs.Occurrences.{occurrence_of, occurrence_cmp, letters_of, count_with, sign_at, AreTallied, BeginsWithOne, IsNextOther}
 use Rattle.antimessages.proofs.Last.{at-zero, at-last}
 use Rattle.antimessages.proofs.Entering.{IsOneMore}
 
@@ -42,7 +42,7 @@ none-with Plus = refl
 none-with Minus = omega (arith, ints)
 
 -- no letter of the message counts where none stands at ordinal 0
-pub none-counts : (m : Message) (es : List (Occurrence × Sign)) → AreCounted es → lookup (is_at (occurrence_cmp (occurrence_of m 0))) es ≡ None →
+pub none-counts : (m : Message) (es : List (Occurrence × Sign)) → AreTallied es → lookup (is_at (occurrence_cmp (occurrence_of m 0))) es ≡ None →
     signed_count message_order m (letters_of es) ≡ pos 0
 none-counts m es st h = at-zero (pluses message_order m (letters_of es)) (minuses message_order m (letters_of es)) (sym (st.signs m 0) ∙ h)
 
@@ -65,7 +65,7 @@ module _ (T : IsTotalOrder message_cmp) (U : IsTotalOrder occurrence_cmp) (X : (
   not-there q e es up l = lookup-none (is_at (occurrence_cmp q)) (e ∷ es) (none_below_head U q e es up l)
 
   -- a message that comes before that of the first letter does not count
-  pub before-first : (o : Occurrence) (s : Sign) (es : List (Occurrence × Sign)) → AreCounted es → IsStrictlySortedBy occurrence_cmp (keys_of es) →
+  pub before-first : (o : Occurrence) (s : Sign) (es : List (Occurrence × Sign)) → AreTallied es → IsStrictlySortedBy occurrence_cmp (keys_of es) →
       slice_get es 0 ≡ Some (o, s) → message_order.less m o.message ≡ true → signed_count message_order m (letters_of es) ≡ pos 0
   before-first o s [] st up at less = cc
   before-first o s (e ∷ es) st up at less =
@@ -78,7 +78,7 @@ module _ (T : IsTotalOrder message_cmp) (U : IsTotalOrder occurrence_cmp) (X : (
       go Equal h = cc
       go Greater h = cc
 
-  module _ (k : ℕ) (rest : List (Occurrence × Sign)) (st : AreCounted ((occurrence_of m k, Plus) ∷ rest))
+  module _ (k : ℕ) (rest : List (Occurrence × Sign)) (st : AreTallied ((occurrence_of m k, Plus) ∷ rest))
       (up : IsStrictlySortedBy occurrence_cmp (keys_of ((occurrence_of m k, Plus) ∷ rest))) where
     abbrev all : List (Occurrence × Sign)
     all = (occurrence_of m k, Plus) ∷ rest
@@ -117,35 +117,35 @@ module _ (T : IsTotalOrder message_cmp) (U : IsTotalOrder occurrence_cmp) (X : (
         let z = first-ordinal in
         at-last Plus (pluses message_order m (letters_of all)) (minuses message_order m (letters_of all)) 0
         (subst (λ j. sign_at (pluses message_order m (letters_of all)) (minuses message_order m (letters_of all)) j ≡ Some Plus) z sign-here)
-        (sym (st.signs m 1) ∙ (past z ∙ next-none z n))
+        (sym (st.signs m 1) ∙ (beyond z ∙ next-none z n))
       where
-        past : k ≡ 0 → lookup (is_at (occurrence_cmp (occurrence_of m 1))) all ≡ lookup (is_at (occurrence_cmp (occurrence_of m 1))) rest
-        past z = rw (z, tied_itself T m) refl
+        beyond : k ≡ 0 → lookup (is_at (occurrence_cmp (occurrence_of m 1))) all ≡ lookup (is_at (occurrence_cmp (occurrence_of m 1))) rest
+        beyond z = rw (z, tied_itself T m) refl
 
   is-one : (e : Occurrence × Sign) → e.0.message ≡ m → e.1 ≡ Plus → e ≡ (occurrence_of m e.0.ordinal, Plus)
   is-one e h k = λ i. (record { message = h i; ordinal = e.0.ordinal }, k i)
 
-  module _ (es : List (Occurrence × Sign)) (st : AreCounted es) (up : IsStrictlySortedBy occurrence_cmp (keys_of es)) (h : BeginsWithOne m es) where
+  module _ (es : List (Occurrence × Sign)) (st : AreTallied es) (up : IsStrictlySortedBy occurrence_cmp (keys_of es)) (h : BeginsWithOne m es) where
     -- the count of the message is 1
     pub begins-one : signed_count message_order m (letters_of es) ≡ pos 1
     begins-one = go es st up h
       where
-        go : (es : List (Occurrence × Sign)) → AreCounted es → IsStrictlySortedBy occurrence_cmp (keys_of es) → BeginsWithOne m es → signed_count message_order m (letters_of es) ≡ pos 1
+        go : (es : List (Occurrence × Sign)) → AreTallied es → IsStrictlySortedBy occurrence_cmp (keys_of es) → BeginsWithOne m es → signed_count message_order m (letters_of es) ≡ pos 1
         go [] st up h = absurd h
         go (e ∷ rest) st up h =
             let same : e ≡ (occurrence_of m e.0.ordinal, Plus) = is-one e h.0 h.1 in
             subst (λ x. signed_count message_order m (letters_of (x ∷ rest)) ≡ pos 1) (sym same)
-            (one-there e.0.ordinal rest (subst (λ x. AreCounted (x ∷ rest)) same st) (subst (λ x. IsStrictlySortedBy occurrence_cmp (keys_of (x ∷ rest))) same up) h.2)
+            (one-there e.0.ordinal rest (subst (λ x. AreTallied (x ∷ rest)) same st) (subst (λ x. IsStrictlySortedBy occurrence_cmp (keys_of (x ∷ rest))) same up) h.2)
 
     -- its letter is the first one
     pub begins-first : (p : Occurrence × Sign) (rest : List (Occurrence × Sign)) → es ≡ p ∷ rest → p ≡ (occurrence_of m 0, Plus)
     begins-first p rest e = go es st up h e
       where
-        go : (es : List (Occurrence × Sign)) → AreCounted es → IsStrictlySortedBy occurrence_cmp (keys_of es) → BeginsWithOne m es → es ≡ p ∷ rest → p ≡ (occurrence_of m 0, Plus)
+        go : (es : List (Occurrence × Sign)) → AreTallied es → IsStrictlySortedBy occurrence_cmp (keys_of es) → BeginsWithOne m es → es ≡ p ∷ rest → p ≡ (occurrence_of m 0, Plus)
         go [] st up h e = absurd h
         go (x ∷ xs) st up h e =
             let same : x ≡ (occurrence_of m x.0.ordinal, Plus) = is-one x h.0 h.1 in
-            let z = first-ordinal x.0.ordinal xs (subst (λ y. AreCounted (y ∷ xs)) same st) (subst (λ y. IsStrictlySortedBy occurrence_cmp (keys_of (y ∷ xs))) same up) in
+            let z = first-ordinal x.0.ordinal xs (subst (λ y. AreTallied (y ∷ xs)) same st) (subst (λ y. IsStrictlySortedBy occurrence_cmp (keys_of (y ∷ xs))) same up) in
             let here : x ≡ p = cc in
             sym here ∙ (same ∙ ap (λ k. (occurrence_of m k, Plus)) z)
 

@@ -17,7 +17,7 @@ use Rattle.virtual_time.proofs.Order.{same-refl, same_cases}
 use Rattle.virtual_time.proofs.Letters.{counts-other}
 use Rattle.antimessages.specs.declared.occurrence.Occurrence.{Occurrence}
 use Rattle.antimessages.specs.Counting.{signed_count}
-use Rattle.antimessages.specs.Occurrences.{occurrence_of, occurrence_cmp, letter_at, letters_of, count_with, sign_at, AreCounted}
+use Rattle.antimessages.specs.Occurrences.{occurrence_of, occurrence_cmp, letter_at, letters_of, count_with, sign_at, AreTallied}
 
 not-lt : (a b : ℕ) → (a < b → ⊥) → nat_lt a b ≡ false
 not-lt a b h = false_from_ne_true _ (λ t. h (ltb-true a b t))
@@ -152,9 +152,9 @@ module _ (T : IsTotalOrder message_cmp) (X : (a b : Message) → message_cmp a b
         let q = h.minuses_are x ∙ a.1 in
         λ i. sign_at (p i) (q i) j
 
-    pub put-counted : AreCounted es → signed_count message_order m (letters_of es) ≡ count_with s k → IsOneMore (occurrence_of m k, s) es fs →
-        ((q : Occurrence) → lookup (is_at (occurrence_cmp q)) fs ≡ cond (is_at (occurrence_cmp (occurrence_of m k)) q) (Some s) (lookup (is_at (occurrence_cmp q)) es)) → AreCounted fs
-    put-counted st c h u = record { signs = λ x j. go x j (same_cases message_order O x m) }
+    pub put-tallied : AreTallied es → signed_count message_order m (letters_of es) ≡ count_with s k → IsOneMore (occurrence_of m k, s) es fs →
+        ((q : Occurrence) → lookup (is_at (occurrence_cmp q)) fs ≡ cond (is_at (occurrence_cmp (occurrence_of m k)) q) (Some s) (lookup (is_at (occurrence_cmp q)) es)) → AreTallied fs
+    put-tallied st c h u = record { signs = λ x j. go x j (same_cases message_order O x m) }
       where
         here : (j : ℕ) → lookup (is_at (occurrence_cmp (occurrence_of m j))) fs ≡ sign_at (pluses message_order m (letters_of fs)) (minuses message_order m (letters_of fs)) j
         here j =
@@ -172,9 +172,9 @@ module _ (T : IsTotalOrder message_cmp) (X : (a b : Message) → message_cmp a b
             (ap (λ b. cond b (Some s) (lookup (is_at (occurrence_cmp (occurrence_of x j))) es)) (at-other m x k j n) ∙
             (st.signs x j ∙ sym (other-signs h x j n)))
 
-    pub take-counted : AreCounted fs → signed_count message_order m (letters_of fs) ≡ count_with s (k + 1) → IsOneMore (occurrence_of m k, s) es fs →
-        ((q : Occurrence) → lookup (is_at (occurrence_cmp q)) es ≡ cond (is_at (occurrence_cmp (occurrence_of m k)) q) None (lookup (is_at (occurrence_cmp q)) fs)) → AreCounted es
-    take-counted st c h u = record { signs = λ x j. go x j (same_cases message_order O x m) }
+    pub take-tallied : AreTallied fs → signed_count message_order m (letters_of fs) ≡ count_with s (k + 1) → IsOneMore (occurrence_of m k, s) es fs →
+        ((q : Occurrence) → lookup (is_at (occurrence_cmp q)) es ≡ cond (is_at (occurrence_cmp (occurrence_of m k)) q) None (lookup (is_at (occurrence_cmp q)) fs)) → AreTallied es
+    take-tallied st c h u = record { signs = λ x j. go x j (same_cases message_order O x m) }
       where
         here : (j : ℕ) → lookup (is_at (occurrence_cmp (occurrence_of m j))) es ≡ sign_at (pluses message_order m (letters_of es)) (minuses message_order m (letters_of es)) j
         here j =
@@ -192,8 +192,8 @@ module _ (T : IsTotalOrder message_cmp) (X : (a b : Message) → message_cmp a b
             (ap (λ b. cond b None (lookup (is_at (occurrence_cmp (occurrence_of x j))) fs)) (at-other m x k j n) ∙
             (st.signs x j ∙ other-signs h x j n))
 
-    pub nothing-on_top : AreCounted es → signed_count message_order m (letters_of es) ≡ count_with s k → lookup (is_at (occurrence_cmp (occurrence_of m k))) es ≡ None
+    pub nothing-on_top : AreTallied es → signed_count message_order m (letters_of es) ≡ count_with s k → lookup (is_at (occurrence_cmp (occurrence_of m k))) es ≡ None
     nothing-on_top st c = st.signs m k ∙ (sign-count_with s _ _ k k c ∙ ap (λ b. cond b (Some s) None) (not-lt k k (λ t. omega arith)))
 
-    pub last-stands : AreCounted fs → signed_count message_order m (letters_of fs) ≡ count_with s (k + 1) → lookup (is_at (occurrence_cmp (occurrence_of m k))) fs ≡ Some s
+    pub last-stands : AreTallied fs → signed_count message_order m (letters_of fs) ≡ count_with s (k + 1) → lookup (is_at (occurrence_cmp (occurrence_of m k))) fs ≡ Some s
     last-stands st c = st.signs m k ∙ (sign-count_with s _ _ (k + 1) k c ∙ ap (λ b. cond b (Some s) None) (lt-ltb k (k + 1) (omega arith)))

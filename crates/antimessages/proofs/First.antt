@@ -21,7 +21,7 @@ use Rattle.virtual_time.specs.Law.{IsOrder, IsPresent, pluses, minuses, is_plus}
 use Rattle.virtual_time.proofs.Order.{less-asym}
 use Rattle.antimessages.specs.declared.occurrence.Occurrence.{Occurrence}
 use Rattle.antimessages.specs.Counting.{is_after, present_after}
-use Rattle.antimessages.specs.Occurrences.{occurrence_of, occurrence_cmp, letters_of, sign_at, behind, AreCounted}
+use Rattle.antimessages.specs.Occurrences.{occurrence_of, occurrence_cmp, letters_of, sign_at, behind, AreTallied}
 use Rattle.antimessages.proofs.After.{first_after-is, first_after-from}
 use Rattle.antimessages.proofs.Entering.{first-equal}
 use Rattle.antimessages.proofs.Last.{within, at-most}
@@ -135,7 +135,7 @@ lies-after (Some m) o h = go (message_cmp m o.message) (nat_lt 18446744073709551
     go Equal false true e = refl
     go Equal false false e = refl
 
-module _ (X : (a b : Message) → message_cmp a b ≡ Equal → a ≡ b) (O : IsOrder message_order) (es : List (Occurrence × Sign)) (st : AreCounted es)
+module _ (X : (a b : Message) → message_cmp a b ≡ Equal → a ≡ b) (O : IsOrder message_order) (es : List (Occurrence × Sign)) (st : AreTallied es)
     (up : IsStrictlySortedBy occurrence_cmp (keys_of es)) (small : length es < 9223372036854775808) (newest : Option Message) where
   -- the entries there
   abbrev pub there : List (Occurrence × Sign)

@@ -1,4 +1,4 @@
--- The first present message after another one, once one letter more is counted.
+-- The first present message after another one, once one letter more is tallied.
 use Rattle.std.proofs.Common.{◌≡◌, inl, inr, Bool, true, false, cond, List, ◌∷◌, Option, Some, None, pos, ◌-ℤ◌, refl, sym, ◌∙◌, subst}
 use Rattle.std.proofs.lemmas.Bool.{both_ways, cases_Bool, false_from_ne_true}
 use Rattle.virtual_time.specs.Law.{Order, IsOrder, same, lesser, IsPresent, is_present}
@@ -114,11 +114,11 @@ module _ {M : Type 0} (order : Order M) (O : IsOrder order) (newest : Option M) 
 
     pub next-more : change_by order l a ≡ BecamePresent → is_after order newest l.message ≡ true → present_after order newest b ≡ lesser order l.message (present_after order newest a)
     next-more e behind =
-        let t = turned (is_present order a l.message) (is_present order (l ∷ a) l.message) e in
+        let t = toggled (is_present order a l.message) (is_present order (l ∷ a) l.message) e in
         after-more l.message a b others t.0 (here-now ∙ t.1) behind
       where
-        turned : (c d : Bool) → change_between c d ≡ BecamePresent → (c ≡ false) × (d ≡ true)
-        turned true true e = absurd (let z : ⊥ = cc in z)
-        turned true false e = absurd (let z : ⊥ = cc in z)
-        turned false true e = (refl, refl)
-        turned false false e = absurd (let z : ⊥ = cc in z)
+        toggled : (c d : Bool) → change_between c d ≡ BecamePresent → (c ≡ false) × (d ≡ true)
+        toggled true true e = absurd (let z : ⊥ = cc in z)
+        toggled true false e = absurd (let z : ⊥ = cc in z)
+        toggled false true e = (refl, refl)
+        toggled false false e = absurd (let z : ⊥ = cc in z)

@@ -17,7 +17,7 @@ use Rattle.virtual_time.specs.Law.{pluses, minuses, is_plus, one_if, same}
 use Rattle.virtual_time.proofs.Order.{one_if-le}
 use Rattle.antimessages.specs.declared.occurrence.Occurrence.{Occurrence}
 use Rattle.antimessages.specs.Counting.{signed_count}
-use Rattle.antimessages.specs.Occurrences.{occurrence_of, occurrence_cmp, letters_of, count_with, sign_at, AreCounted}
+use Rattle.antimessages.specs.Occurrences.{occurrence_of, occurrence_cmp, letters_of, count_with, sign_at, AreTallied}
 
 some-of : (o : Option Sign) → (IsSome o → ⊥) → o ≡ None
 some-of None h = refl
@@ -73,7 +73,7 @@ at-most m (e ∷ es) = go (is_plus e.1) (at-most m es)
     go true i = let a = one_if-le (same message_order m e.0.message) in omega arith
     go false i = let a = one_if-le (same message_order m e.0.message) in omega arith
 
-module _ (T : IsTotalOrder message_cmp) (X : (a b : Message) → message_cmp a b ≡ Equal → a ≡ b) (m : Message) (top : ℕ) (es : List (Occurrence × Sign)) (st : AreCounted es) where
+module _ (T : IsTotalOrder message_cmp) (X : (a b : Message) → message_cmp a b ≡ Equal → a ≡ b) (m : Message) (top : ℕ) (es : List (Occurrence × Sign)) (st : AreTallied es) where
   -- the places of the message are not beyond the greatest one
   up_to : (k : ℕ) → k ≤ top → is_gt (occurrence_cmp (occurrence_of m k) (occurrence_of m top)) ≡ false
   up_to k h = rw (tied_itself T m) (go (nat_lt k top) (k == top) refl refl)

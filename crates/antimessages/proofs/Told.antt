@@ -1,5 +1,5 @@
 -- The letters of a tally, told by their counts.
-use Rattle.std.proofs.Common.{◌≡◌, ℕ, ◌-◌, List, pos, ◌-ℤ◌, refl, sym, ap, ◌∙◌, arith}
+use Rattle.std.proofs.Common.{◌≡◌, ℕ, ◌-◌, pos, ◌-ℤ◌, refl, sym, ◌∙◌, arith}
 use Rattle.std.specs.Ordering.{nat_cmp, ordering_then}
 use Rattle.std.specs.declared.cmp.Ordering.{Ordering}
 use Rattle.std.specs.declared.cmp.Ordering.TheVariants.{Less, Equal, Greater}
@@ -10,11 +10,9 @@ use Rattle.std.proofs.lemmas.Map.Lookups.{exact_unsigned, btree_map_from_get}
 use Rattle.vlink.specs.declared.message.Message.{Message}
 use Rattle.virtual_time.specs.declared.letter.Sign.{Sign}
 use Rattle.vlink.specs.Order.{message_cmp, message_order}
-use Rattle.virtual_time.specs.Law.{pluses, minuses}
-use Rattle.virtual_time.specs.declared.letter.Letter.{Letter}
 use Rattle.antimessages.specs.declared.occurrence.Occurrence.{Occurrence}
 use Rattle.antimessages.specs.Counting.{HaveSameCounts}
-use Rattle.antimessages.specs.Occurrences.{occurrence_cmp, letters_of, sign_at, AreCounted, IsTally}
+use Rattle.antimessages.specs.Occurrences.{occurrence_cmp, letters_of, sign_at, AreTallied}
 
 -- occurrences that are equal in their order are one
 exact : ((a b : Message) → message_cmp a b ≡ Equal → a ≡ b) → (x y : Occurrence) → occurrence_cmp x y ≡ Equal → x ≡ y
@@ -37,7 +35,7 @@ same-sign p n q o k h =
 
 -- two tallies with the same counts
 pub one-tally : IsTotalOrder occurrence_cmp → ((a b : Message) → message_cmp a b ≡ Equal → a ≡ b) → (m n : BTreeMap Occurrence Sign) →
-    IsOrdered occurrence_cmp m → IsOrdered occurrence_cmp n → AreCounted m.entries → AreCounted n.entries →
+    IsOrdered occurrence_cmp m → IsOrdered occurrence_cmp n → AreTallied m.entries → AreTallied n.entries →
     HaveSameCounts message_order (letters_of m.entries) (letters_of n.entries) → m.entries ≡ n.entries
 one-tally U X m n up up' st st' h = btree_map_from_get U m n up up'
     (λ q. st.signs q.message q.ordinal ∙ (same-sign _ _ _ _ q.ordinal (h q.message) ∙ sym (st'.signs q.message q.ordinal))) (exact X)

@@ -12,10 +12,10 @@ change_between true false = BecameAbsent
 change_between _ _ = Same
 
 -- it became present or absent
-abbrev pub is_turn : Change → Bool
-is_turn BecamePresent = true
-is_turn BecameAbsent = true
-is_turn Same = false
+abbrev pub is_toggle : Change → Bool
+is_toggle BecamePresent = true
+is_toggle BecameAbsent = true
+is_toggle Same = false
 
 module _ {M : Type 0} (o : Order M) where
   -- the signed count of m: its plus letters less its minus letters

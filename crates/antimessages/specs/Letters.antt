@@ -1,11 +1,8 @@
--- Letters as the law of virtual time sees them, and where letters are kept.
-use Rattle.std.specs.Prelude.{ℕ, ℤ, pos, negsuc, Bool, true, false, List, []}
-use Rattle.std.specs.Ordering.{is_lt}
+-- What a letter adds to the count of its message, and where letters are kept.
+use Rattle.std.specs.Prelude.{ℕ, ℤ, pos, negsuc, List}
 use Rattle.virtual_time.specs.declared.letter.Sign.{Sign}
 use Rattle.virtual_time.specs.declared.letter.Sign.TheVariants.{Plus, Minus}
-use Rattle.vlink.specs.Order.{message_cmp}
 use Rattle.vlink.specs.Letters.{Letter}
-use Rattle.virtual_time.specs.Law.{Rules}
 
 -- what a letter of this sign adds to the count of its message: 1 or -1
 abbrev pub weight : Sign → ℤ

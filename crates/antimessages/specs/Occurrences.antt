@@ -1,4 +1,4 @@
--- How signed counts are kept: the letters of a message that are counted and not taken back have the ordinals 0, 1 and so on, all with
+-- How signed counts are kept: the letters of a message that are tallied and not taken back have the ordinals 0, 1 and so on, all with
 -- one sign.
 use Rattle.std.specs.Prelude.{◌≡◌, ℕ, ◌-◌, ℤ, pos, ◌-ℤ◌, ◌≢◌, cond, nat_lt, List, [], ◌∷◌, map, Option, Some, None, ⊤}
 use Rattle.std.specs.Ordering.{nat_cmp, ordering_then}
@@ -12,7 +12,7 @@ use Rattle.virtual_time.specs.declared.letter.Sign.{Sign}
 use Rattle.virtual_time.specs.declared.letter.Sign.TheVariants.{Plus, Minus}
 use Rattle.vlink.specs.Order.{message_cmp, message_order}
 use Rattle.vlink.specs.Letters.{Letter}
-use Rattle.virtual_time.specs.Law.{pluses, minuses, is_plus}
+use Rattle.virtual_time.specs.Law.{pluses, minuses}
 use Rattle.antimessages.specs.declared.occurrence.Occurrence.{Occurrence}
 
 abbrev pub occurrence_of : Message → ℕ → Occurrence
@@ -48,13 +48,13 @@ abbrev pub sign_at : ℕ → ℕ → ℕ → Option Sign
 sign_at p n k = cond (nat_lt k (p - n)) (Some Plus) (cond (nat_lt k (n - p)) (Some Minus) None)
 
 -- at each ordinal of each message stands the sign that its count tells
-pub record AreCounted (es : List (Occurrence × Sign)) : Type 0 where
+pub record AreTallied (es : List (Occurrence × Sign)) : Type 0 where
   pub signs : (m : Message) (k : ℕ) → lookup (is_at (occurrence_cmp (occurrence_of m k))) es
       ≡ sign_at (pluses message_order m (letters_of es)) (minuses message_order m (letters_of es)) k
 
 -- letters as a tally has them: in the order of their messages, and without opposite pairs
 abbrev pub IsTally : List Letter → Type 0
-IsTally ls = (signs : BTreeMap Occurrence Sign) × (letters_of signs.entries ≡ ls) × IsOrdered occurrence_cmp signs × AreCounted signs.entries
+IsTally ls = (signs : BTreeMap Occurrence Sign) × (letters_of signs.entries ≡ ls) × IsOrdered occurrence_cmp signs × AreTallied signs.entries
 
 -- the first of these letters, if there is one, is of another message than m
 abbrev pub IsNextOther : Message → List (Occurrence × Sign) → Type 0

@@ -1,4 +1,4 @@
--- The steps of a journal, as the law of virtual time has them.
+-- Which process a step names.
 use Rattle.std.specs.Prelude.{ℕ, Bool, false, not, nat_lt, Option, Some, None}
 use Rattle.virtual_time.specs.declared.step.Step.{Step}
 use Rattle.virtual_time.specs.declared.step.Step.TheVariants.{Take, Arrive, Run, Post, Gvt, Commit}

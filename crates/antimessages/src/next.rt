@@ -1,4 +1,4 @@
-//! The message that comes next, kept as letters are counted.
+//! The message that comes next, kept as letters are tallied.
 ghost use Rattle.std.specs.Prelude.{◌≡◌, ◌≢◌, ◌∷◌, List, true};
 ghost use Rattle.std.specs.Option.{option_copied};
 ghost use Rattle.virtual_time.specs.Law.{lesser};
@@ -13,7 +13,7 @@ use std::cmp::Ordering;
 use vlink::{Letter, Message, compare, message_order};
 
 impl Tally {
-    /// What `next_after` answers once this letter is counted, where `next` was its answer before: the counts are looked through only where
+    /// What `next_after` answers once this letter is tallied, where `next` was its answer before: the counts are looked through only where
     /// the letter took its message away. `change` is what the letter made of its message, which comes after `newest` where that is not `Same`.
     pub fn next_with(
         &self,

@@ -1,4 +1,4 @@
-//! The counted letters: for each occurrence its sign.
+//! The tallied letters: for each occurrence its sign.
 ghost use Rattle.std.specs.Prelude.{◌≡◌, ◌+◌, ◌<◌, ◌^◌, pos, ◌∷◌, false, Option, IsSome, IsTrue, IfSome, IfOk, OnOk, OnErr};
 ghost use Rattle.std.specs.Option.{MatchOption, option_copied, option_map};
 ghost use Rattle.std.specs.List.{find};
@@ -9,7 +9,7 @@ ghost use Rattle.virtual_time.specs.declared.letter.Sign.TheVariants.{Plus};
 ghost use Rattle.virtual_time.specs.Law.{IsPresent, plus_of, is_plus};
 ghost use Rattle.vlink.specs.Order.{message_order};
 ghost use Rattle.antimessages.specs.Counting.{signed_count, HaveSameCounts, is_after, present_after};
-ghost use Rattle.antimessages.specs.Occurrences.{AreCounted, letters_of, letter_at, occurrence_of, occurrence_cmp, count_with, behind, BeginsWithOne};
+ghost use Rattle.antimessages.specs.Occurrences.{AreTallied, letters_of, letter_at, occurrence_of, occurrence_cmp, count_with, behind, BeginsWithOne};
 
 use crate::fault::OutOfMemory;
 use crate::occurrence::{Occurrence, is_before, is_same, occurrence_order};
@@ -20,7 +20,7 @@ use vlink::{Message, Sign};
 
 /// The last ordinal of a message and the sign of its letters, if any of them count.
 pub(crate) fn last_of(signs: &BTreeMap<Occurrence, Sign>, message: &Message) -> Option<(u64, Sign)>
-    requires { AreCounted signs.now.entries }
+    requires { AreTallied signs.now.entries }
     ensures count { MatchOption result (signed_count message_order message.now (letters_of signs.now.entries) ≡ pos 0)
         (λ x. signed_count message_order message.now (letters_of signs.now.entries) ≡ count_with x.1 (x.0 + 1)) }
     ensures room { IfSome result (λ x. x.0 + 1 < 2 ^ 63) }
@@ -46,8 +46,8 @@ pub(crate) fn put_first(
     message: &Message,
     sign: Sign,
 ) -> Result<bool, OutOfMemory>
-    requires { AreCounted signs.old.entries }
-    ensures counted { AreCounted signs.new.entries }
+    requires { AreTallied signs.old.entries }
+    ensures tallied { AreTallied signs.new.entries }
     ensures none { IfOk result (λ first. IsTrue first → signed_count message_order message.now (letters_of signs.old.entries) ≡ pos 0) }
     ensures counts { IfOk result (λ first. IsTrue first →
         HaveSameCounts message_order (letters_of signs.new.entries) (letter_at (occurrence_of message.now 0, sign) ∷ letters_of signs.old.entries)) }
@@ -61,8 +61,8 @@ pub(crate) fn put_first(
     };
     match signs.insert(first, sign)? {
         None => Ok(true),
-        Some(counted) => {
-            put_back(signs, message, counted);
+        Some(tallied) => {
+            put_back(signs, message, tallied);
             Ok(false)
         }
     }
@@ -88,9 +88,9 @@ pub(crate) fn put(
     ordinal: u64,
     sign: Sign,
 ) -> Result<(), OutOfMemory>
-    requires counted { AreCounted signs.old.entries }
+    requires tallied { AreTallied signs.old.entries }
     requires last { signed_count message_order message.now (letters_of signs.old.entries) ≡ count_with sign ordinal }
-    ensures counted { AreCounted signs.new.entries }
+    ensures tallied { AreTallied signs.new.entries }
     ensures counts { OnOk result (HaveSameCounts message_order (letters_of signs.new.entries) (letter_at (occurrence_of message.now ordinal, sign) ∷ letters_of signs.old.entries)) }
     ensures unchanged { OnErr result (signs.new.entries ≡ signs.old.entries) }
 {
@@ -110,9 +110,9 @@ pub(crate) fn take(
     ordinal: u64,
     sign: Sign,
 )
-    requires counted { AreCounted signs.old.entries }
+    requires tallied { AreTallied signs.old.entries }
     requires last { signed_count message_order message.now (letters_of signs.old.entries) ≡ count_with sign (ordinal + 1) }
-    ensures counted { AreCounted signs.new.entries }
+    ensures tallied { AreTallied signs.new.entries }
     ensures counts { HaveSameCounts message_order (letters_of signs.old.entries) (letter_at (occurrence_of message.now ordinal, sign) ∷ letters_of signs.new.entries) }
 {
     occurrence_order();
@@ -126,8 +126,8 @@ pub(crate) fn take(
 /// Where the first letters that count are those of the message, and these are one plus letter, it counts no more. The answer is whether
 /// they are; where they are not, nothing changes.
 pub(crate) fn take_first(signs: &mut BTreeMap<Occurrence, Sign>, message: &Message) -> bool
-    requires { AreCounted signs.old.entries }
-    ensures counted { AreCounted signs.new.entries }
+    requires { AreTallied signs.old.entries }
+    ensures tallied { AreTallied signs.new.entries }
     ensures counts { IsTrue result →
         HaveSameCounts message_order (letters_of signs.old.entries) (letter_at (occurrence_of message.now 0, Plus) ∷ letters_of signs.new.entries) }
     ensures one { IsTrue result → signed_count message_order message.now (letters_of signs.old.entries) ≡ pos 1 }
@@ -163,8 +163,8 @@ fn begins_with_one(signs: &BTreeMap<Occurrence, Sign>, message: &Message) -> boo
 
 /// The last letter of a message counts no more, where that is a plus. Else nothing changes.
 pub(crate) fn take_last(signs: &mut BTreeMap<Occurrence, Sign>, message: &Message)
-    requires { AreCounted signs.old.entries }
-    ensures counted { AreCounted signs.new.entries }
+    requires { AreTallied signs.old.entries }
+    ensures tallied { AreTallied signs.new.entries }
     ensures counts { IsPresent message_order (letters_of signs.old.entries) message.now →
         HaveSameCounts message_order (letters_of signs.old.entries) (plus_of message.now ∷ letters_of signs.new.entries) }
     ensures unchanged { (IsPresent message_order (letters_of signs.old.entries) message.now → ⊥) → signs.new.entries ≡ signs.old.entries }
@@ -178,7 +178,7 @@ pub(crate) fn take_last(signs: &mut BTreeMap<Occurrence, Sign>, message: &Messag
 
 /// Whether all letters that count are of messages that come after this one.
 pub(crate) fn begins_after(signs: &BTreeMap<Occurrence, Sign>, message: &Message) -> bool
-    requires { AreCounted signs.now.entries }
+    requires { AreTallied signs.now.entries }
     ensures { IsTrue result → signed_count message_order message.now (letters_of signs.now.entries) ≡ pos 0 }
 {
     occurrence_order();
@@ -194,7 +194,7 @@ pub(crate) fn next_after(
     signs: &BTreeMap<Occurrence, Sign>,
     newest: Option<&Message>,
 ) -> Option<Message>
-    requires { AreCounted signs.now.entries }
+    requires { AreTallied signs.now.entries }
     ensures { result ≡ present_after message_order (option_copied newest.entry) (letters_of signs.now.entries) }
 {
     occurrence_order();

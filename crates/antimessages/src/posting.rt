@@ -67,7 +67,7 @@ fn reserve_by_letters(
     Ok(())
 }
 
-/// Makes room in the mail of one receiver for those of the letters that it receives. They are counted only where there might be
+/// Makes room in the mail of one receiver for those of the letters that it receives. They are tallied only where there might be
 /// too little room.
 fn make_room(
     mailbox: &mut VecDeque<Letter>,

@@ -44,13 +44,13 @@ impl Model for Tally {
     ghost use Rattle.std.specs.Prelude.{List};
     ghost use Rattle.vlink.specs.Letters.{Letter};
     ghost use Rattle.vlink.specs.declared.message.Message.{Message};
-    ghost use Rattle.antimessages.specs.Occurrences.{letters_of, AreCounted};
+    ghost use Rattle.antimessages.specs.Occurrences.{letters_of, AreTallied};
 
     ghost Value = { List Letter };
 
     ghost view = { λ t. letters_of t.signs.entries };
 
-    ghost invariant = { λ t. AreCounted t.signs.entries };
+    ghost invariant = { λ t. AreTallied t.signs.entries };
 }
 
 impl Tally {
@@ -75,7 +75,7 @@ impl Tally {
         }
     }
 
-    /// Whether the signed count of a message is 0. Where the message comes before all others that are counted, none is looked for.
+    /// Whether the signed count of a message is 0. Where the message comes before all others that are tallied, none is looked for.
     pub fn is_zero(&self, message: &Message) -> bool
         ensures { IsTrue result ↔ (signed_count message_order message.now self.now ≡ pos 0) }
     {
@@ -90,7 +90,7 @@ impl Tally {
         next_after(&self.signs, newest)
     }
 
-    /// The letter is counted: its message's count rises by 1 for a plus and falls by 1 for a minus, also below 0. The answer tells
+    /// The letter is tallied: its message's count rises by 1 for a plus and falls by 1 for a minus, also below 0. The answer tells
     /// whether the message became present or absent by that. A refusal changes nothing.
     pub fn add(&mut self, letter: Letter) -> Result<Change, OutOfMemory>
         ensures count { OnOk result (signed_count message_order letter.message self.new
@@ -123,18 +123,18 @@ impl Tally {
         let change = change_at(last, sign);
         match last {
             None => put(&mut self.signs, message, 0, sign)?,
-            Some((ordinal, counted)) => {
-                if is_equal(counted, sign) {
+            Some((ordinal, tallied)) => {
+                if is_equal(tallied, sign) {
                     put(&mut self.signs, message, ordinal + 1, sign)?;
                 } else {
-                    take(&mut self.signs, message, ordinal, counted);
+                    take(&mut self.signs, message, ordinal, tallied);
                 }
             }
         }
         Ok(change)
     }
 
-    /// A present message is counted once less. Where it is not present nothing changes. It takes no memory.
+    /// A present message is tallied once less. Where it is not present nothing changes. It takes no memory.
     pub fn take_present(&mut self, message: &Message)
         ensures present { IsPresent message_order self.old message.now → HaveSameCounts message_order self.old (plus_of message.now ∷ self.new) }
         ensures absent { (IsPresent message_order self.old message.now → ⊥) → self.new ≡ self.old }

@@ -59,8 +59,8 @@ no_value (suc l) m n a b none = cc
 pub version_keeps : (again : Bool) (Q : Row → Type 0) (a : Rule) → action_of a ≡ Version → Keeps again Q a
 version_keeps again Q a asks = record {
   kept = λ values rows none good.
-      let parts = neither (range_kinds (unwrap_or_range a.range).start_inclusive (most_values a) (length values)) _ none in
-      let asked = subst (λ x. action_fault x again a (values_or_missing a values) rows ≡ []) asks parts.1 in
+      let both = neither (range_kinds (unwrap_or_range a.range).start_inclusive (most_values a) (length values)) _ none in
+      let asked = subst (λ x. action_fault x again a (values_or_missing a values) rows ≡ []) asks both.1 in
       cc;
 }
 
@@ -68,8 +68,8 @@ version_keeps again Q a asks = record {
 pub help_keeps : (again : Bool) (Q : Row → Type 0) (a : Rule) → action_of a ≡ Help → Keeps again Q a
 help_keeps again Q a asks = record {
   kept = λ values rows none good.
-      let parts = neither (range_kinds (unwrap_or_range a.range).start_inclusive (most_values a) (length values)) _ none in
-      let asked = subst (λ x. action_fault x again a (values_or_missing a values) rows ≡ []) asks parts.1 in
+      let both = neither (range_kinds (unwrap_or_range a.range).start_inclusive (most_values a) (length values)) _ none in
+      let asked = subst (λ x. action_fault x again a (values_or_missing a values) rows ≡ []) asks both.1 in
       cc;
 }
 
@@ -110,8 +110,8 @@ module _ (limits : Text → Option (ℕ × ℕ)) where
       → Reads a → Keeps again IsFilled a
   set_keeps again a sets empty reads = record {
     kept = λ values rows none good.
-        let parts = neither (range_kinds (unwrap_or_range a.range).start_inclusive (most_values a) (length values)) _ none in
-        go rows good values parts.0 (subst (λ x. action_fault x again a (values_or_missing a values) rows ≡ []) sets parts.1);
+        let both = neither (range_kinds (unwrap_or_range a.range).start_inclusive (most_values a) (length values)) _ none in
+        go rows good values both.0 (subst (λ x. action_fault x again a (values_or_missing a values) rows ≡ []) sets both.1);
   }
     where
       go : (rows : List Row) → Each IsFilled rows → (vs : List Text) → range_kinds (unwrap_or_range a.range).start_inclusive (most_values a) (length vs) ≡ [] → action_fault Set again a (values_or_missing a vs) rows ≡ []
@@ -133,8 +133,8 @@ module _ (limits : Text → Option (ℕ × ℕ)) where
       → (unwrap_or_range a.range).start_inclusive ≡ 0 → most_values a ≡ 0 → limits a.id ≡ None → Keeps again IsFilled a
   flag_keeps again a named sets missing least most none = record {
     kept = λ values rows fits good.
-        let parts = neither (range_kinds (unwrap_or_range a.range).start_inclusive (most_values a) (length values)) _ fits in
-        go rows good values parts.0 (subst (λ x. action_fault x again a (values_or_missing a values) rows ≡ []) sets parts.1);
+        let both = neither (range_kinds (unwrap_or_range a.range).start_inclusive (most_values a) (length values)) _ fits in
+        go rows good values both.0 (subst (λ x. action_fault x again a (values_or_missing a values) rows ≡ []) sets both.1);
   }
     where
       go : (rows : List Row) → Each IsFilled rows → (vs : List Text) → range_kinds (unwrap_or_range a.range).start_inclusive (most_values a) (length vs) ≡ [] → action_fault SetTrue again a (values_or_missing a vs) rows ≡ []

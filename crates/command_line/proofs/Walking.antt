@@ -49,8 +49,8 @@ module _ (c : List Rule) (again : Bool) (Q : Row → Type 0) (each : Each (Keeps
 
   react : (a : Rule) → Keeps again Q a → (values : List Text) (h : Held) → react_fault c again a values h ≡ [] → Each Q h.rows → Each Q (reacted c a values h).rows
   react a keeps values h none good =
-      let parts = neither (settle_fault c again h) (use_fault again a values (settled c h).rows) none in
-      keeps.kept values (settled c h).rows parts.1 (settle h parts.0 good)
+      let both = neither (settle_fault c again h) (use_fault again a values (settled c h).rows) none in
+      keeps.kept values (settled c h).rows both.1 (settle h both.0 good)
 
   with_option : (a : Rule) → Keeps again Q a → (v : Option Text) (h : Held) → option_fault c again a v h ≡ [] → Each Q h.rows → Each Q (option_met c a v h).0.rows
   with_option a keeps (Some v) h none good = react a keeps (v ∷ []) h none good
@@ -81,8 +81,8 @@ module _ (c : List Rule) (again : Bool) (Q : Row → Type 0) (each : Each (Keeps
           → Each Q (cond b (option_met c a (attached_value rest) h) (then (reacted c a [] h))).0.rows
       go true none = with_option a (keeps a refl) (attached_value rest) h none good
       go false none =
-          let parts = neither (react_fault c again a [] h) (fault (reacted c a [] h)) none in
-          on (reacted c a [] h) parts.1 (react a (keeps a refl) [] h parts.0 good)
+          let both = neither (react_fault c again a [] h) (fault (reacted c a [] h)) none in
+          on (reacted c a [] h) both.1 (react a (keeps a refl) [] h both.0 good)
 
   with_character : (x : Option ℕ) (flags : Text) (skip : ℕ) (so_far : Outcome) (h : Held) (then : Text → ℕ → Outcome → Held → Held × Outcome) (fault : Text → ℕ → Held → Kinds)
       → ((t : Text) (n : ℕ) (o : Outcome) (later : Held) → fault t n later ≡ [] → Each Q later.rows → Each Q (then t n o later).0.rows)
@@ -109,24 +109,24 @@ module _ (c : List Rule) (again : Bool) (Q : Row → Type 0) (each : Each (Keeps
       go None = good
       go (Some a) = good
 
-  past_flag : (waiting : Waiting) (word : Text) (h : Held) (o : Outcome) → Each Q h.rows → Each Q (after_flag c waiting word h o).0.rows
-  past_flag waiting word h done good = good
-  past_flag waiting word h (waits id) good = good
-  past_flag waiting word h plain good = with_plain waiting word h good
-  past_flag waiting word h refused good = with_plain waiting word h good
+  behind_flag : (waiting : Waiting) (word : Text) (h : Held) (o : Outcome) → Each Q h.rows → Each Q (after_flag c waiting word h o).0.rows
+  behind_flag waiting word h done good = good
+  behind_flag waiting word h (waits id) good = good
+  behind_flag waiting word h plain good = with_plain waiting word h good
+  behind_flag waiting word h refused good = with_plain waiting word h good
 
   with_shorts : (f : Option Text) (waiting : Waiting) (word : Text) (h : Held) → option_map_or (λ flags. bundle_fault c again flags h) f [] ≡ [] → Each Q h.rows
       → Each Q (short_or_plain c waiting word f h).0.rows
   with_shorts None waiting word h none good = with_plain waiting word h good
   with_shorts (Some flags) waiting word h none good =
-      past_flag waiting word (bundle c flags h).0 (bundle c flags h).1 (with_bundle (length flags) flags h.skip plain (record h { skip = 0 }) none good)
+      behind_flag waiting word (bundle c flags h).0 (bundle c flags h).1 (with_bundle (length flags) flags h.skip plain (record h { skip = 0 }) none good)
 
   with_flag_word : (l : Option (Text × Option Text)) (waiting : Waiting) (word : Text) (h : Held) → flag_word_fault c again l word h ≡ [] → Each Q h.rows
       → Each Q (long_or_other c waiting word l h).0.rows
   with_flag_word None waiting word h none good = with_shorts (short_of word) waiting word h none good
   with_flag_word (Some p) waiting word h none good =
       let met = long_met c (arg_by_long c p.0) p.1 h in
-      past_flag waiting word met.0 met.1 (with_long (arg_by_long c p.0) (λ a. each_found (Keeps again Q) _ c a each) p.1 h none good)
+      behind_flag waiting word met.0 met.1 (with_long (arg_by_long c p.0) (λ a. each_found (Keeps again Q) _ c a each) p.1 h none good)
 
 -- the word that stops a walk is no call for help where the command has that subcommand
 abbrev pub IsNoHelp : Shape → Text → Type 0
@@ -200,15 +200,15 @@ module _ (s : Shape) (names : Names) (Q : Row → Type 0) (each : Each (Keeps s.
   with_step (subcommand name) word w h none known well good = (good, well)
   with_step value word w h none known well good = with_positional (arg_by_index s.rules w.position) word w h none known good
 
-  with_turn : (stop : Option (Text × List Text)) (w : Walk) (word : Text) → turn_fault s names (record w { stopped = stop }) word ≡ [] → Each Q w.held.rows → Stopped s stop
+  with_walked : (stop : Option (Text × List Text)) (w : Walk) (word : Text) → turn_fault s names (record w { stopped = stop }) word ≡ [] → Each Q w.held.rows → Stopped s stop
       → Each Q (walked s.rules names (record w { stopped = stop }) word).held.rows × Stopped s (walked s.rules names (record w { stopped = stop }) word).stopped
   unfolding walked
-  with_turn (Some p) w word none good known = (good, known)
-  with_turn None w word none good known =
+  with_walked (Some p) w word none good known = (good, known)
+  with_walked None w word none good known =
       let met = word_met s.rules names w.is_trailing w.waiting w.position word w.held in
-      let parts = neither (word_fault s names w.is_trailing w.waiting word w.held) (step_fault s w.position met.0 met.1) none in
-      let here = with_word w.is_trailing w.waiting w.position word w.held parts.0 good in
-      with_step met.1 word (record w { stopped = None }) met.0 parts.1 tt here.1 here.0
+      let both = neither (word_fault s names w.is_trailing w.waiting word w.held) (step_fault s w.position met.0 met.1) none in
+      let here = with_word w.is_trailing w.waiting w.position word w.held both.0 good in
+      with_step met.1 word (record w { stopped = None }) met.0 both.1 tt here.1 here.0
 
   -- the whole walk
   pub with_words : (words : List Text) (w : Walk) → walk_fault s names w words ≡ [] → Each Q w.held.rows → Stopped s w.stopped
@@ -216,9 +216,9 @@ module _ (s : Shape) (names : Names) (Q : Row → Type 0) (each : Each (Keeps s.
   unfolding walk_fault
   with_words [] w none good known = (good, known)
   with_words (word ∷ rest) w none good known =
-      let parts = neither (turn_fault s names w word) (walk_fault s names (walked s.rules names w word) rest) none in
-      let here = with_turn w.stopped w word parts.0 good known in
-      with_words rest (walked s.rules names w word) parts.1 here.0 here.1
+      let both = neither (turn_fault s names w word) (walk_fault s names (walked s.rules names w word) rest) none in
+      let here = with_walked w.stopped w word both.0 good known in
+      with_words rest (walked s.rules names w word) both.1 here.0 here.1
 
 -- the default of the argument keeps what holds of each row
 pub record KeepsByDefault (Q : Row → Type 0) (a : Rule) : Type 0 where

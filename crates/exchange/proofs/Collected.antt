@@ -83,7 +83,7 @@ module _ {S K : Type 0} {r : Rules Message S K Note} {number end : S → ℕ} {i
     laid = k.laid;
     same = k.same;
     placed = k.placed;
-    counted = k.counted;
+    within_mail = k.within_mail;
     boxes = boxes ∙ k.boxes;
     floor_count = k.floor_count;
     until = k.until;

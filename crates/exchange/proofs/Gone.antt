@@ -5,7 +5,7 @@ use Rattle.std.proofs.lemmas.List.Elements.{All-nil}
 use Rattle.vlink.specs.declared.message.Message.{Message}
 use Rattle.vlink.specs.declared.note.Note.{Note}
 use Rattle.vlink.specs.Letters.{Letter, Row}
-use Rattle.virtual_time.specs.Law.{Rules, rowed, reached, Part, next_of, handled, arrived, is_turned, rolled_back, counted, can_seal, sealed, Act, acted, local, Deliver, Emptying, Moves}
+use Rattle.virtual_time.specs.Law.{Rules, rowed, reached, Part, next_of, handled, arrived, is_toggled, rolled_back, tallied, can_seal, sealed, Act, acted, local, Deliver, Emptying, Moves}
 use Rattle.virtual_time.proofs.Handling.{rowed-append}
 use Rattle.virtual_time.specs.declared.moved.Move.TheVariants.{Arrived, Ran, Sealed}
 use Rattle.process_queues.specs.Queues.{Queues, StandsFor}
@@ -36,9 +36,9 @@ module _ {S K : Type 0} (r : Rules Message S K Note) where
 
     arriving-grows : (part : Part Message S) (ls : List Letter) → Grows part.committed (arrived r o part ls).committed
     arriving-grows part [] = stays part.committed
-    arriving-grows part (l ∷ rest) = go (is_turned r.order l part.tally)
+    arriving-grows part (l ∷ rest) = go (is_toggled r.order l part.tally)
       where
-        go : (b : Bool) → Grows part.committed (cond b (rolled_back r o l.message (counted r l rest part)) (counted r l rest part)).committed
+        go : (b : Bool) → Grows part.committed (cond b (rolled_back r o l.message (tallied r l rest part)) (tallied r l rest part)).committed
         go true = stays part.committed
         go false = stays part.committed
 

@@ -11,13 +11,13 @@ use Rattle.reverse.specs.Setting.{Setting, simulation_of}
 use Rattle.antimessages.specs.Letters.{Store}
 use Rattle.antimessages.specs.Mailing.{letters_for}
 use Rattle.gvt.specs.Horizon.{Floors}
-use Rattle.journal.specs.Deeds.{seen_deed, past_own, place_of, seen_entry, entry_own}
+use Rattle.journal.specs.Deeds.{seen_deed, prior_own, place_of, seen_entry, entry_own}
 use Rattle.journal.specs.Places.{IsAt}
 use Rattle.journal.specs.declared.entry.Entry.{Entry as Told}
 use Rattle.journal.specs.declared.tokens.Tokens.{Tokens}
 use Rattle.exchange.specs.declared.mark.Mark.{Mark}
 use Rattle.exchange.specs.Views.{blank, book_of}
-use Rattle.exchange.specs.Keeps.{entries_of, IsBooked, AreBooked, IsCountedDeed, IsCounted, IsRecorded}
+use Rattle.exchange.specs.Keeps.{entries_of, IsBooked, AreBooked, IsDeedWithinMail, IsEntryWithinMail, IsRecorded}
 use Rattle.exchange.specs.Effects.{told, mark}
 use Rattle.exchange.proofs.Lists.{slice_get-last, slice_get-more, slice_get-push}
 
@@ -40,17 +40,17 @@ pub record Fresh (pages : List ℕ) (ts : List Tokens) (e : Entry Message) (own 
   pub at : IsAt pages (length ts) t
   pub tells : seen_entry t.cell.value ≡ e
   pub own_is : entry_own t.cell.value ≡ own ++ acts_of e.deed
-  pub counted : IsCounted t.cell.value
+  pub within_mail : IsEntryWithinMail t.cell.value
 
 -- the tokens of an entry that was just written
 pub entry-fresh : {pages table : List ℕ} {ts : List Tokens} {p : ℕ} {prior : Option ℕ} {d : Deed Message} {own : List (Act Message)} {e : Told} {t : Tokens} →
-    table ≡ pages → IsAt table (length ts) t → t.cell.value ≡ e → e.process ≡ p → place_of e.past ≡ prior → past_own e.past ≡ own → seen_deed p e.deed ≡ d → IsCountedDeed p e.deed →
+    table ≡ pages → IsAt table (length ts) t → t.cell.value ≡ e → e.process ≡ p → place_of e.prior ≡ prior → prior_own e.prior ≡ own → seen_deed p e.deed ≡ d → IsDeedWithinMail p e.deed →
     Fresh pages ts (told p prior d) own t
-entry-fresh {ts = ts} {p = p} {d = d} {own = own} {e = e} {t = t} same at is process prior past deed counted = record {
+entry-fresh {ts = ts} {p = p} {d = d} {own = own} {e = e} {t = t} same at is process prior-is own-is deed within_mail = record {
   at = subst (λ ps. IsAt ps (length ts) t) same at;
-  tells = ap seen_entry is ∙ (λ i. told (process i) (prior i) ((ap (λ q. seen_deed q e.deed) process ∙ deed) i));
-  own_is = ap entry_own is ∙ (λ i. past i ++ acts_of ((ap (λ q. seen_deed q e.deed) process ∙ deed) i));
-  counted = subst (λ (z : Told). IsCounted z) (sym is) (subst (λ q. IsCountedDeed q e.deed) (sym process) counted);
+  tells = ap seen_entry is ∙ (λ i. told (process i) (prior-is i) ((ap (λ q. seen_deed q e.deed) process ∙ deed) i));
+  own_is = ap entry_own is ∙ (λ i. own-is i ++ acts_of ((ap (λ q. seen_deed q e.deed) process ∙ deed) i));
+  within_mail = subst (λ (z : Told). IsEntryWithinMail z) (sym is) (subst (λ q. IsDeedWithinMail q e.deed) (sym process) within_mail);
 }
 
 module _ {pages : List ℕ} {ts : List Tokens} {e : Entry Message} {own : List (Act Message)} {t : Tokens} (new : Fresh pages ts e own t) where
@@ -84,9 +84,9 @@ module _ {pages : List ℕ} {ts : List Tokens} {e : Entry Message} {own : List (
   placed-more old k u h =
       elim (slice_get-push ts t u k h) [ inl d ↦ old k u d | inr d ↦ subst (λ z. IsAt pages z u) (sym d.0) (subst (λ z. IsAt pages (length ts) z) d.1 new.at) ]
 
-  counted-more : ((k : ℕ) (u : Tokens) → slice_get ts k ≡ Some u → IsCounted u.cell.value) → (k : ℕ) (u : Tokens) → slice_get (ts ++ t ∷ []) k ≡ Some u → IsCounted u.cell.value
-  counted-more old k u h =
-      elim (slice_get-push ts t u k h) [ inl d ↦ old k u d | inr d ↦ subst (λ (z : Tokens). IsCounted z.cell.value) d.1 new.counted ]
+  within_mail-more : ((k : ℕ) (u : Tokens) → slice_get ts k ≡ Some u → IsEntryWithinMail u.cell.value) → (k : ℕ) (u : Tokens) → slice_get (ts ++ t ∷ []) k ≡ Some u → IsEntryWithinMail u.cell.value
+  within_mail-more old k u h =
+      elim (slice_get-push ts t u k h) [ inl d ↦ old k u d | inr d ↦ subst (λ (z : Tokens). IsEntryWithinMail z.cell.value) d.1 new.within_mail ]
 
 module _ {processes gvt : ℕ} {pages : List ℕ} {ts : List Tokens} {e : Entry Message} {own : List (Act Message)} {t : Tokens} {books : List Mark}
     (new : Fresh pages ts e own t) (old : AreBooked processes ts gvt books) where
@@ -162,7 +162,7 @@ module _ {S K : Type 0} {r : Rules Message S K Note} {number end : S → ℕ} {i
         laid = k.laid;
         same = k.same;
         placed = placed-more new k.placed;
-        counted = counted-more new k.counted;
+        within_mail = within_mail-more new k.within_mail;
         boxes = boxes ∙ k.boxes;
         floor_count = floor_count ∙ k.floor_count;
         until = until ∙ k.until;

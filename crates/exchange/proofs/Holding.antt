@@ -24,7 +24,7 @@ module _ {S K : Type 0} (f : Simulation Message S K Note) where
   -- some steps and then others
   pub moved-then : (o : S) (ms ns : List Move) (part : Part Message S) → after_moves f.rules o (ms ++ ns) part ≡ after_moves f.rules o ns (after_moves f.rules o ms part)
   moved-then o ms ns part =
-      ap (λ z. local f.rules o z part) (map-append (λ (m : Move). Moves {M = Message} m) ms ns) ∙ local-append f o (map (λ m. Moves m) ms) (map (λ m. Moves m) ns) part
+      ap (λ z. local f.rules o z part) (map-append (λ (m : Move). Moves m) ms ns) ∙ local-append f o (map (λ m. Moves m) ms) (map (λ m. Moves m) ns) part
 
   enabled-push : (o : S) (g : ℕ) (ms : List Move) (m : Move) (part : Part Message S) → AreEnabled f o g ms part → can_move f g m (after_moves f.rules o ms part) ≡ true →
       AreEnabled f o g (ms ++ m ∷ []) part

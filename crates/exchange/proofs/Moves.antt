@@ -1,5 +1,5 @@
 -- What a process does alone, one step after another.
-use Rattle.std.proofs.Common.{◌≡◌, ℕ, zero, suc, ◌+◌, ◌<◌, ◌≤◌, inl, inr, Bool, true, false, ◌&&◌, cond, nat_lt, List, [], ◌∷◌, ◌++◌, map, length, replicate, slice_get, Option, Some, None, refl, sym, ap, ◌∙◌, subst, arith, append_assoc, append-nil, eq-eqb}
+use Rattle.std.proofs.Common.{◌≡◌, ℕ, zero, suc, ◌+◌, ◌<◌, ◌≤◌, inl, inr, Bool, true, false, ◌&&◌, cond, nat_lt, List, [], ◌∷◌, ◌++◌, length, replicate, slice_get, Option, Some, None, refl, sym, ap, ◌∙◌, subst, arith, append_assoc, append-nil, eq-eqb}
 use Rattle.std.specs.Prelude.{◌≢◌}
 use Rattle.std.specs.Option.{option_map}
 use Rattle.std.proofs.lemmas.Bool.{lt-ltb, le-ltb, cases_lt, false≢true, and_parts}
@@ -7,7 +7,7 @@ use Rattle.std.proofs.lemmas.List.{replicate_more}
 use Rattle.vlink.specs.declared.message.Message.{Message}
 use Rattle.vlink.specs.declared.note.Note.{Note}
 use Rattle.vlink.specs.Letters.{Letter}
-use Rattle.virtual_time.specs.Law.{IsIn, IsAscending, earlier, pluses, minuses, Simulation, Laws, Part, next_of, can_seal, sealed, seal_oldest, counted, is_turned, rolled_back, arrived, is_early, local, after_moves, IsSafePart, after_own, can_move}
+use Rattle.virtual_time.specs.Law.{IsIn, IsAscending, earlier, pluses, minuses, Simulation, Laws, Part, next_of, can_seal, sealed, seal_oldest, tallied, is_toggled, rolled_back, arrived, is_early, after_moves, IsSafePart, after_own, can_move}
 use Rattle.virtual_time.specs.declared.moved.Move.{Move}
 use Rattle.virtual_time.specs.declared.moved.Move.TheVariants.{Arrived, Ran, Sealed}
 use Rattle.virtual_time.proofs.Lists.{filter-none, in-head}
@@ -57,9 +57,9 @@ module _ {S K : Type 0} (f : Simulation Message S K Note) where
   -- each arrival takes one letter from the tray
   tray-less : (o : S) (part : Part Message S) (ls : List Letter) → 0 < length ls → length (arrived f.rules o part ls).tray + 1 ≡ length ls
   tray-less o part [] h = absurd (omega arith)
-  tray-less o part (l ∷ rest) h = go (is_turned f.rules.order l part.tally)
+  tray-less o part (l ∷ rest) h = go (is_toggled f.rules.order l part.tally)
     where
-      go : (b : Bool) → length (cond b (rolled_back f.rules o l.message (counted f.rules l rest part)) (counted f.rules l rest part)).tray + 1 ≡ length (l ∷ rest)
+      go : (b : Bool) → length (cond b (rolled_back f.rules o l.message (tallied f.rules l rest part)) (tallied f.rules l rest part)).tray + 1 ≡ length (l ∷ rest)
       go true = omega arith
       go false = omega arith
 
@@ -108,8 +108,8 @@ module _ {S K : Type 0} (f : Simulation Message S K Note) where
         | inl k ↦
             (let one = s.counts_one m (subst (λ z. IsIn f.rules.order m z) (sym e) (in-head f.rules.order L.order m ms)) k in
             let early = lt-ltb (f.rules.order.time m) g k in
-            let counted = eq-eqb (pluses f.rules.order m part.tally) (minuses f.rules.order m part.tally + 1) one in
-            absurd (false≢true (sym n ∙ (λ i. early i && counted i))))
+            let tallied = eq-eqb (pluses f.rules.order m part.tally) (minuses f.rules.order m part.tally + 1) one in
+            absurd (false≢true (sym n ∙ (λ i. early i && tallied i))))
         | inr k ↦
             (let up = subst (λ z. IsAscending f.rules.order z) e s.well.ascending in
             rw (le-ltb (f.rules.order.time m) g k)

@@ -67,7 +67,7 @@ module _ {S K : Type 0} {r : Rules Message S K Note} {number end : S → ℕ} {i
           laid = laid;
           same = same;
           placed = λ k t h. absurd (cc);
-          counted = λ k t h. absurd (cc);
+          within_mail = λ k t h. absurd (cc);
           boxes = boxes;
           floor_count = floor_count;
           until = until;

@@ -6,7 +6,7 @@ use Rattle.std.proofs.lemmas.List.Elements.{All-nil, All-cons}
 use Rattle.vlink.specs.declared.message.Message.{Message}
 use Rattle.vlink.specs.declared.note.Note.{Note}
 use Rattle.vlink.specs.Letters.{Letter}
-use Rattle.virtual_time.specs.Law.{Rules, IsOrder, Simulation, Laws, put, IsNamed, received_by, Part, opened, emptied, floor_of, World, start, run, Act, local, after_moves, Posted, step_by, acts_of, steps_of, steps, own_in, reach, after_own, AreEnabled, delivered_block}
+use Rattle.virtual_time.specs.Law.{Rules, IsOrder, Simulation, Laws, put, IsNamed, received_by, Part, opened, emptied, floor_of, World, start, run, Act, after_moves, Posted, step_by, acts_of, steps_of, steps, own_in, reach, after_own, AreEnabled, delivered_block}
 use Rattle.virtual_time.specs.declared.step.Step.{Step}
 use Rattle.virtual_time.specs.declared.moved.Move.{Move}
 use Rattle.virtual_time.proofs.Letters.{named-head}

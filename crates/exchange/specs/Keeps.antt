@@ -2,7 +2,7 @@
 use Rattle.std.specs.Prelude.{◌≡◌, ℕ, ◌<◌, ◌≤◌, ◌^◌, List, [], map, length, Option, Some, None, slice_get, slice_index, ⊤}
 use Rattle.vlink.specs.declared.message.Message.{Message}
 use Rattle.vlink.specs.declared.note.Note.{Note}
-use Rattle.virtual_time.specs.Law.{Rules, rowed, Act, local, after_moves, IsSafePart, Entry, steps, own_in, last_place, reach, after_own, AreEnabled}
+use Rattle.virtual_time.specs.Law.{Rules, rowed, Act, after_moves, IsSafePart, Entry, steps, own_in, last_place, reach, after_own, AreEnabled}
 use Rattle.virtual_time.specs.declared.moved.Move.{Move}
 use Rattle.reverse.specs.Setting.{Setting, simulation_of, IsLaidOut}
 use Rattle.antimessages.specs.Letters.{Store}
@@ -48,13 +48,13 @@ pub record AreBooked (processes : ℕ) (ts : List Tokens) (gvt : ℕ) (books : L
   pub seen_low : (p : ℕ) → p < processes → (book_of books p).seen ≤ gvt
 
 -- where so many letters were taken from the mail, it had so many for this process
-abbrev pub IsCountedDeed : ℕ → Deed → Type 0
-IsCountedDeed p (Collect count mail) = count ≤ length (letters_for p mail.value)
-IsCountedDeed p (Post block) = ⊤
-IsCountedDeed p Publish = ⊤
+abbrev pub IsDeedWithinMail : ℕ → Deed → Type 0
+IsDeedWithinMail p (Collect count mail) = count ≤ length (letters_for p mail.value)
+IsDeedWithinMail p (Post block) = ⊤
+IsDeedWithinMail p Publish = ⊤
 
-abbrev pub IsCounted : Told → Type 0
-IsCounted entry = IsCountedDeed entry.process entry.deed
+abbrev pub IsEntryWithinMail : Told → Type 0
+IsEntryWithinMail entry = IsDeedWithinMail entry.process entry.deed
 
 -- the tokens are of the cell of that number
 abbrev pub IsLast : List ℕ → Option EntryPlace → Type 0
@@ -73,7 +73,7 @@ module _ {S K : Type 0} (r : Rules Message S K Note) (number end : S → ℕ) (i
     pub laid : IsLaidOut r number end is_placed x
     pub same : table ≡ pages
     pub placed : (k : ℕ) (t : Tokens) → slice_get ts k ≡ Some t → IsAt pages k t
-    pub counted : (k : ℕ) (t : Tokens) → slice_get ts k ≡ Some t → IsCounted t.cell.value
+    pub within_mail : (k : ℕ) (t : Tokens) → slice_get ts k ≡ Some t → IsEntryWithinMail t.cell.value
     pub boxes : length mail ≡ x.processes
     pub floor_count : length floors.floors ≡ x.processes
     pub until : floors.until ≡ x.until

@@ -7,8 +7,8 @@ ghost use Rattle.reverse.specs.Setting.{simulation_of};
 ghost use Rattle.vlink.specs.Order.{message_order};
 ghost use Rattle.antimessages.specs.Mailing.{letters_for};
 ghost use Rattle.journal.specs.declared.fault.PoolFault.TheVariants.{OutOfMemory, JournalFull, Torn};
-ghost use Rattle.journal.specs.Deeds.{seen_deed, past_own, place_of};
-ghost use Rattle.exchange.specs.Keeps.{IsCountedDeed};
+ghost use Rattle.journal.specs.Deeds.{seen_deed, prior_own, place_of};
+ghost use Rattle.exchange.specs.Keeps.{IsDeedWithinMail};
 ghost use Rattle.exchange.specs.Effects.{Collects, mark};
 
 use crate::exchange::Exchange;
@@ -103,13 +103,13 @@ fn see<'a, R: Actor, J: ActorRun<R>>(held: &mut Held<'a, R, J>, exchange: &mut E
 fn entry_of<'a, R: Actor, J: ActorRun<R>>(held: &Held<'a, R, J>, mail: &Mail, count: u32) -> Entry
     requires enough { count ≤ length (letters_for held.now.number mail.now) }
     ensures process { result.process ≡ held.now.number }
-    ensures place { place_of result.past ≡ held.now.share.place }
-    ensures own { past_own result.past ≡ held.now.own }
+    ensures place { place_of result.prior ≡ held.now.share.place }
+    ensures own { prior_own result.prior ≡ held.now.own }
     ensures deed { seen_deed held.now.number result.deed ≡ Took (take count (letters_for held.now.number mail.now)) }
-    ensures counted { IsCountedDeed held.now.number result.deed }
+    ensures within_mail { IsDeedWithinMail held.now.number result.deed }
 {
     Entry {
-        past: held.past(),
+        prior: held.prior(),
         deed: Deed::Collect(count, Snapshot::of(mail)),
         process: held.number,
     }

@@ -3,12 +3,12 @@ ghost use Rattle.std.specs.Prelude.{◌≡◌, ◌↔◌, ◌<◌, [], length, m
 ghost use Rattle.vlink.specs.Order.{message_order};
 ghost use Rattle.virtual_time.specs.Law.{rowed, next_of};
 ghost use Rattle.reverse.specs.Rules.{rules_of};
-ghost use Rattle.journal.specs.Deeds.{past_own, place_of};
+ghost use Rattle.journal.specs.Deeds.{prior_own, place_of};
 
 use crate::mark::Mark;
 use crate::run_of::ActorRun;
 use book_share::Share;
-use journal::{Block, Entries, EntryPlace, Past};
+use journal::{Block, Entries, EntryPlace, Prior};
 use process_queues::Process;
 use reverse::{Actor, Outbound};
 use std::alloc::Global;
@@ -129,16 +129,16 @@ impl<'a, R: Actor, J: ActorRun<R>> Held<'a, R, J> {
     }
 
     /// The entry that its next one follows.
-    pub(crate) fn past(&self) -> Past
-        ensures own { past_own result ≡ self.now.own }
+    pub(crate) fn prior(&self) -> Prior
+        ensures own { prior_own result ≡ self.now.own }
         ensures place { place_of result ≡ self.now.share.place }
     {
         match &self.last {
-            Some(last) => Past::After(
+            Some(last) => Prior::After(
                 last.number,
                 Snapshot::of(self.table.get(last.number as usize, &last.tokens)),
             ),
-            None => Past::Opening,
+            None => Prior::Opening,
         }
     }
 }

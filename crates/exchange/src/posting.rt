@@ -46,7 +46,7 @@ pub fn post<'a, R: Actor, J: ActorRun<R>>(
         return Err(PoolFault::OutOfMemory);
     }
     let entry = Entry {
-        past: held.past(),
+        prior: held.prior(),
         deed: Deed::Post(mem::replace(&mut held.block, Block::new())),
         process: held.number,
     };

@@ -9,7 +9,7 @@ ghost use Rattle.exchange.specs.Effects.{Publishes, IsHeldBack};
 use crate::exchange::Exchange;
 use crate::run_of::ActorRun;
 use gvt::{gvt_law, horizon};
-use journal::{Deed, Entry, Past, PoolFault};
+use journal::{Deed, Entry, PoolFault, Prior};
 use reverse::{Actor, actor_laws};
 use vlink::{Note, Time};
 
@@ -37,7 +37,7 @@ pub fn publish<'a, R: Actor, J: ActorRun<R>>(
         return Err(PoolFault::JournalFull);
     }
     let entry = Entry {
-        past: Past::Opening,
+        prior: Prior::Opening,
         deed: Deed::Publish,
         process: 0,
     };

@@ -5,7 +5,7 @@ ghost use Rattle.vlink.specs.declared.message.Message.{Message};
 ghost use Rattle.virtual_time.specs.Law.{steps, steps_of, step_by};
 ghost use Rattle.journal.specs.Deeds.{seen_deed, seen_entry};
 ghost use Rattle.journal.specs.declared.fault.PoolFault.TheVariants.{OutOfMemory};
-ghost use Rattle.exchange.specs.Keeps.{IsCounted};
+ghost use Rattle.exchange.specs.Keeps.{IsEntryWithinMail};
 
 use crate::exchange::Exchange;
 use crate::run_of::ActorRun;
@@ -63,7 +63,7 @@ impl<'a, R: Actor, J: ActorRun<R>> Exchange<'a, R, J> {
     fn entry_at(&self, at: usize) -> &Entry
         requires { at < length self.now.entries }
         ensures told { slice_get self.now.entries at ≡ Some (seen_entry result.now) }
-        ensures counted { IsCounted result.now }
+        ensures within_mail { IsEntryWithinMail result.now }
         ensures few { length (steps_of {M = Message} result.now.process (seen_deed result.now.process result.now.deed)) ≤ 67108864 }
     {
         let tokens = &self.journal[at];
@@ -73,7 +73,7 @@ impl<'a, R: Actor, J: ActorRun<R>> Exchange<'a, R, J> {
 
 /// The steps for which an entry stands join the list, in order.
 fn add_steps(list: &mut Vec<Step>, entry: &Entry) -> Result<(), AllocError>
-    requires counted { IsCounted entry.now }
+    requires within_mail { IsEntryWithinMail entry.now }
     requires few { length (steps_of {M = Message} entry.now.process (seen_deed entry.now.process entry.now.deed)) ≤ 67108864 }
     ensures { OnOk result (list.new.items ≡ list.old.items ++ steps_of {M = Message} entry.now.process (seen_deed entry.now.process entry.now.deed)) }
 {
@@ -87,7 +87,7 @@ fn add_steps(list: &mut Vec<Step>, entry: &Entry) -> Result<(), AllocError>
 
 /// For how many steps an entry stands.
 fn count_of(entry: &Entry) -> u64
-    requires counted { IsCounted entry.now }
+    requires within_mail { IsEntryWithinMail entry.now }
     requires few { length (steps_of {M = Message} entry.now.process (seen_deed entry.now.process entry.now.deed)) ≤ 67108864 }
     ensures { result ≡ length (steps_of {M = Message} entry.now.process (seen_deed entry.now.process entry.now.deed)) }
 {
@@ -100,7 +100,7 @@ fn count_of(entry: &Entry) -> u64
 
 /// The step number `at`, from 0, of those for which an entry stands. None: there are no more.
 fn step_in(entry: &Entry, at: u64) -> Option<Step>
-    requires { IsCounted entry.now }
+    requires { IsEntryWithinMail entry.now }
     ensures { result ≡ slice_get (steps_of {M = Message} entry.now.process (seen_deed entry.now.process entry.now.deed)) at }
 {
     let process = u32::from(entry.process);

@@ -33,9 +33,9 @@ impl<'a, R: Actor, J: ActorRun<R>> Held<'a, R, J> {
         ensures rows { result.now
             ≡ rows_within (rules_of R.plain R.counter) from to (rowed (rules_of R.plain R.counter) (J.setting.opening self.now.number) self.now.part.committed) }
         ensures whole { to ≤ self.now.share.seen → earlier message_order to self.now.part.done ≡ [] →
-            (turns : ℕ) → (one (simulation_of (rules_of R.plain R.counter) J.setting) turns).waiting ≡ [] → result.now
-            ≡ rows_within (rules_of R.plain R.counter) from to (rows_at (simulation_of (rules_of R.plain R.counter) J.setting) self.now.number
-            (one (simulation_of (rules_of R.plain R.counter) J.setting) turns).rows) }
+            (event_count : ℕ) → (one (simulation_of (rules_of R.plain R.counter) J.setting) event_count).waiting ≡ [] → result.now
+            ≡ rows_within (rules_of R.plain R.counter) from to (rows_at self.now.number
+            (one (simulation_of (rules_of R.plain R.counter) J.setting) event_count).rows) }
     {
         actor_laws::<R>();
         rows_between(&self.process, from, to)

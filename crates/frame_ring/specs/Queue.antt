@@ -16,9 +16,9 @@ abbrev pub IsWithinLimits : Frame → Type 0
 IsWithinLimits frame = (64 ≤ frame.size) × (frame.size ≤ 1518)
 
 -- what holds of the frames in a buffer for `capacity` frames, of which `room` may be used, with a counter of their bytes
-pub record IsCounted (frames : List Frame) (room capacity bytes : ℕ) : Type 0 where
+pub record IsRing (frames : List Frame) (room capacity bytes : ℕ) : Type 0 where
   pub within : length frames ≤ room
   pub small : room < 2 ^ 32
   pub reserved : room ≤ capacity
-  pub counted : bytes ≡ bytes_of frames
+  pub sum : bytes ≡ bytes_of frames
   pub limits : All IsWithinLimits frames

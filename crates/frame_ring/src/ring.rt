@@ -20,13 +20,13 @@ pub struct FrameRing {
 
 impl Model for FrameRing {
     ghost use Rattle.std.specs.VecDeque.{deque_capacity};
-    ghost use Rattle.frame_ring.specs.Queue.{Queue, IsCounted};
+    ghost use Rattle.frame_ring.specs.Queue.{Queue, IsRing};
 
     ghost Value = { Queue };
 
     ghost view = { λ r. record { frames = r.frames.items; room = r.room } };
 
-    ghost invariant = { λ r. IsCounted r.frames.items r.room (deque_capacity r.frames) r.bytes };
+    ghost invariant = { λ r. IsRing r.frames.items r.room (deque_capacity r.frames) r.bytes };
 }
 
 impl FrameRing {

@@ -5,7 +5,7 @@ use Rattle.virtual_time.specs.Law.{Deed as SeenDeed, Took, Posted, Published, En
 use Rattle.antimessages.specs.Mailing.{letters_for}
 use Rattle.journal.specs.declared.entry.Deed.{Deed}
 use Rattle.journal.specs.declared.entry.Deed.TheVariants.{Collect, Post, Publish}
-use Rattle.journal.specs.declared.entry.Past.{Past, Opening, After'}
+use Rattle.journal.specs.declared.entry.Prior.{Prior, Opening, After'}
 use Rattle.journal.specs.declared.entry.Entry.{Entry}
 
 -- what process p did, as the laws of virtual time see it
@@ -15,17 +15,17 @@ seen_deed p (Post block) = Posted block
 seen_deed p Publish = Published
 
 -- what the process of the entries that lead here did or had done to it, oldest first
-abbrev pub past_own : Past → List (Act Message)
-past_own Opening = []
-past_own (After' place entry past deed process) = past_own past ++ acts_of (seen_deed process deed)
+abbrev pub prior_own : Prior → List (Act Message)
+prior_own Opening = []
+prior_own (After' place entry prior deed process) = prior_own prior ++ acts_of (seen_deed process deed)
 
 abbrev pub entry_own : Entry → List (Act Message)
-entry_own entry = past_own entry.past ++ acts_of (seen_deed entry.process entry.deed)
+entry_own entry = prior_own entry.prior ++ acts_of (seen_deed entry.process entry.deed)
 
-abbrev pub place_of : Past → Option ℕ
+abbrev pub place_of : Prior → Option ℕ
 place_of Opening = None
-place_of (After' place entry past deed process) = Some place
+place_of (After' place entry prior deed process) = Some place
 
 -- an entry, as the laws of virtual time see it
 abbrev pub seen_entry : Entry → SeenEntry Message
-seen_entry entry = record { process = entry.process; prior = place_of entry.past; deed = seen_deed entry.process entry.deed }
+seen_entry entry = record { process = entry.process; prior = place_of entry.prior; deed = seen_deed entry.process entry.deed }

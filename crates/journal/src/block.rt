@@ -2,13 +2,13 @@
 ghost use Rattle.std.specs.Prelude.{◌≡◌, ◌↔◌, List, IsTrue, [], ◌∷◌, ◌++◌, length, slice_get, OnOk, OnErr, IfOk};
 ghost use Rattle.std.specs.Option.{option_map};
 ghost use Rattle.virtual_time.specs.declared.moved.Move.{Move};
-ghost use Rattle.journal.specs.Moves.{counted, longer};
+ghost use Rattle.journal.specs.Moves.{turn_moves, longer};
 
-use virtual_time::Move;
 use crate::turn::Turn;
 use antimessages::OutOfMemory;
 use std::alloc::Global;
 use std::marker::Model;
+use virtual_time::Move;
 
 /// A turn, and the steps behind it that no count of it takes.
 #[derive(Drop)]
@@ -19,15 +19,15 @@ pub(crate) struct Longer {
 
 /// How the steps are kept: a turn takes no allocation.
 #[derive(Drop)]
-pub(crate) enum Kind {
-    Counted(Turn),
+pub(crate) enum MoveList {
+    OneTurn(Turn),
     Listed(Box<Longer>),
 }
 
 /// The steps that a process did alone and that are not in the journal yet, in order.
 #[derive(Drop)]
 pub struct Block {
-    kind: Kind,
+    list: MoveList,
 }
 
 impl Model for Block {
@@ -37,7 +37,7 @@ impl Model for Block {
 
     ghost Value = { List Move };
 
-    ghost view = { λ b. moves_of b.kind };
+    ghost view = { λ b. moves_of b.list };
 }
 
 impl Block {
@@ -46,7 +46,7 @@ impl Block {
         ensures { result ≡ [] }
     {
         Block {
-            kind: Kind::Counted(Turn {
+            list: MoveList::OneTurn(Turn {
                 arrivals: 0,
                 runs: 0,
                 commits: 0,
@@ -58,9 +58,9 @@ impl Block {
     pub fn len(&self) -> usize
         ensures { result ≡ length self.now }
     {
-        match &self.kind {
-            Kind::Counted(turn) => turn.len(),
-            Kind::Listed(longer) => longer.turn.len() + longer.rest.len(),
+        match &self.list {
+            MoveList::OneTurn(turn) => turn.len(),
+            MoveList::Listed(longer) => longer.turn.len() + longer.rest.len(),
         }
     }
 
@@ -75,9 +75,9 @@ impl Block {
     pub fn get(&self, at: usize) -> Option<Move>
         ensures { result ≡ slice_get self.now at }
     {
-        match &self.kind {
-            Kind::Counted(turn) => turn.get(at),
-            Kind::Listed(longer) => longer.get(at),
+        match &self.list {
+            MoveList::OneTurn(turn) => turn.get(at),
+            MoveList::Listed(longer) => longer.get(at),
         }
     }
 
@@ -86,15 +86,15 @@ impl Block {
         ensures pushed { OnOk result (self.new ≡ self.old ++ moved ∷ []) }
         ensures unchanged { OnErr result (self.new ≡ self.old) }
     {
-        match &mut self.kind {
-            Kind::Counted(turn) => {
+        match &mut self.list {
+            MoveList::OneTurn(turn) => {
                 if turn.add(moved) {
                     return Ok(());
                 }
                 let longer = Longer::new(alloc, *turn, moved)?;
-                self.kind = Kind::Listed(Box::new(alloc, longer)?);
+                self.list = MoveList::Listed(Box::new(alloc, longer)?);
             }
-            Kind::Listed(longer) => longer.rest.push(moved)?,
+            MoveList::Listed(longer) => longer.rest.push(moved)?,
         }
         Ok(())
     }
@@ -103,9 +103,9 @@ impl Block {
     pub fn pop(&mut self)
         ensures { (moves : List Move) (last : Move) → self.old ≡ moves ++ last ∷ [] → self.new ≡ moves }
     {
-        match &mut self.kind {
-            Kind::Counted(turn) => turn.pop(),
-            Kind::Listed(longer) => {
+        match &mut self.list {
+            MoveList::OneTurn(turn) => turn.pop(),
+            MoveList::Listed(longer) => {
                 if longer.rest.pop().is_none() {
                     longer.turn.pop();
                 }
@@ -116,7 +116,7 @@ impl Block {
 
 impl Longer {
     fn new(alloc: Global, turn: Turn, moved: Move) -> Result<Longer, OutOfMemory>
-        ensures { IfOk result (λ l. longer l ≡ counted turn ++ moved ∷ []) }
+        ensures { IfOk result (λ l. longer l ≡ turn_moves turn ++ moved ∷ []) }
     {
         let mut rest = Vec::new(alloc);
         rest.push(moved)?;
@@ -126,10 +126,10 @@ impl Longer {
     fn get(&self, at: usize) -> Option<Move>
         ensures { result ≡ slice_get (longer self.now) at }
     {
-        let counted = self.turn.len();
-        if at < counted {
+        let first = self.turn.len();
+        if at < first {
             return self.turn.get(at);
         }
-        self.rest.get(at - counted).copied()
+        self.rest.get(at - first).copied()
     }
 }

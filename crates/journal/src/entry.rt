@@ -18,7 +18,7 @@ pub enum Deed {
 /// The entry of the same process before this one, with its place in the journal.
 #[cycle(entry)]
 #[derive(Drop)]
-pub enum Past {
+pub enum Prior {
     /// There is none.
     Opening,
     /// It has this place, from 0.
@@ -30,7 +30,7 @@ pub enum Past {
 #[derive(Drop)]
 pub struct Entry {
     /// The entry of the process before it.
-    pub past: Past,
+    pub prior: Prior,
     /// What was done.
     pub deed: Deed,
     /// The process that did it; for `Publish` it is 0 and means nothing.

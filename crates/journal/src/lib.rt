@@ -9,7 +9,7 @@ mod tokens;
 mod turn;
 
 pub use block::Block;
-pub use entry::{Deed, Entry, Past};
+pub use entry::{Deed, Entry, Prior};
 pub use fault::PoolFault;
 pub use table::{AnyEntry, CELLS, Entries, PAGES, Page};
 pub use tokens::{EntryPlace, Tokens};

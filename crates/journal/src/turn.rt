@@ -2,7 +2,7 @@
 ghost use Rattle.std.specs.Prelude.{◌≡◌, ◌<◌, ◌^◌, ℕ, List, true, false, [], ◌∷◌, ◌++◌, length, slice_get};
 ghost use Rattle.std.specs.Option.{option_map};
 ghost use Rattle.virtual_time.specs.declared.moved.Move.{Move};
-ghost use Rattle.journal.specs.Moves.{counted};
+ghost use Rattle.journal.specs.Moves.{turn_moves};
 
 use virtual_time::Move;
 
@@ -17,7 +17,7 @@ pub(crate) struct Turn {
 impl Turn {
     /// How many steps there are.
     pub(crate) fn len(self) -> usize
-        ensures count { result ≡ length (counted self) }
+        ensures count { result ≡ length (turn_moves self) }
         ensures few { result < 2 ^ 34 }
     {
         self.arrivals as usize + self.runs as usize + self.commits as usize
@@ -25,7 +25,7 @@ impl Turn {
 
     /// The step number `at`, from 0.
     pub(crate) fn get(self, at: usize) -> Option<Move>
-        ensures { result ≡ slice_get (counted self) at }
+        ensures { result ≡ slice_get (turn_moves self) at }
     {
         let ran = self.arrivals as usize;
         let sealed = ran + self.runs as usize;
@@ -42,7 +42,7 @@ impl Turn {
 
     /// Counts one step more. `false`: it does not go behind the steps that are counted, or its count is at its greatest.
     pub(crate) fn add(&mut self, moved: Move) -> bool
-        ensures added { result ≡ true → counted self.new ≡ counted self.old ++ moved ∷ [] }
+        ensures added { result ≡ true → turn_moves self.new ≡ turn_moves self.old ++ moved ∷ [] }
         ensures unchanged { result ≡ false → self.new ≡ self.old }
     {
         match moved {
@@ -70,7 +70,7 @@ impl Turn {
 
     /// The last step goes.
     pub(crate) fn pop(&mut self)
-        ensures { (moves : List Move) (last : Move) → counted self.old ≡ moves ++ last ∷ [] → counted self.new ≡ moves }
+        ensures { (moves : List Move) (last : Move) → turn_moves self.old ≡ moves ++ last ∷ [] → turn_moves self.new ≡ moves }
     {
         if self.commits > 0 {
             self.commits -= 1;

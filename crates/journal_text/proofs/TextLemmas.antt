@@ -50,7 +50,7 @@ first_line text (l ∷ ls) is some none (s, fits, e) = none s (concat ls) fits (
 pub bad_behind : (steps : List Step) (rest text : List ℕ) → All Fits steps → steps_text steps ++ rest ≡ text → 0 < length rest → BeginsWithNone Fits step_line rest →
     IsFirstBad text (length steps + 1)
 bad_behind steps rest text fits is some none = record {
-  counted = omega arith;
+  from_one = omega arith;
   there = omega (arith, ap length split, length-append (map step_line steps) (lines rest), long, more);
   before = subst (All IsStepLine) (sym front) (all_step_lines steps fits);
   bad = λ line. first_line rest (lines rest) (concat-lines rest) more none (subst IsStepLine at line);
@@ -79,14 +79,14 @@ bad_behind steps rest text fits is some none = record {
 pub none_bad : (steps : List Step) (text : List ℕ) (n : ℕ) → All Fits steps → steps_text steps ≡ text → IsFirstBad text n → ⊥
 none_bad steps text n fits is first =
     let good : All IsStepLine (lines text) = subst (All IsStepLine) (sym (lines-of steps text fits is)) (all_step_lines steps fits) in
-    let low : n - 1 < length (lines text) = omega (arith, first.counted, first.there) in
+    let low : n - 1 < length (lines text) = omega (arith, first.from_one, first.there) in
     first.bad (All-get_or IsStepLine (lines text) (n - 1) [] low good)
 
 -- only one line is the first bad one
 not_before : (text : List ℕ) (m n : ℕ) → IsFirstBad text m → IsFirstBad text n → m < n → ⊥
 not_before text m n first second lt =
-    let low : m - 1 < n - 1 = omega (arith, first.counted, lt) in
-    let short : m - 1 < length (take (n - 1) (lines text)) = omega (arith, length-take (n - 1) (lines text), first.counted, first.there, low) in
+    let low : m - 1 < n - 1 = omega (arith, first.from_one, lt) in
+    let short : m - 1 < length (take (n - 1) (lines text)) = omega (arith, length-take (n - 1) (lines text), first.from_one, first.there, low) in
     first.bad (subst IsStepLine (get_or-take (n - 1) (lines text) (m - 1) [] low) (All-get_or IsStepLine (take (n - 1) (lines text)) (m - 1) [] short second.before))
 
 pub one_first_bad : (text : List ℕ) (m n : ℕ) → IsFirstBad text m → IsFirstBad text n → m ≡ n

@@ -18,7 +18,7 @@ IsStepLine line = (step : Step) × Fits step × (line ≡ step_line step)
 
 -- line n, from 1, is the first that is the line of no step
 pub record IsFirstBad (text : List ℕ) (n : ℕ) : Type 0 where
-  pub counted : 1 ≤ n
+  pub from_one : 1 ≤ n
   pub there : n ≤ length (lines text)
   pub before : All IsStepLine (take (n - 1) (lines text))
   pub bad : ¬ (IsStepLine (slice_index_or (lines text) (n - 1) []))

@@ -12,7 +12,7 @@ use Rattle.network_rows.specs.declared.rows.NodeKind.{NodeKind}
 use Rattle.network_rows.specs.declared.rows.NodeKind.TheVariants.{EndSystem, Switch}
 use Rattle.network_rows.specs.declared.rows.NodeRow.{NodeRow}
 use Rattle.network_rows.specs.declared.rows.VlRow.{VlRow}
-use Rattle.network_rows.specs.Kinds.{is_within}
+use Rattle.network_rows.specs.ValueTypes.{is_within}
 use Rattle.network_rows.specs.Within.{IsNodeWithin, IsNodeKindWithin, IsVirtualLinkWithin, IsVlWithin}
 use Rattle.network_rows.specs.declared.rows.VirtualLink.{VirtualLink}
 use Rattle.netdesc.specs.Names.{names_of}
@@ -81,9 +81,9 @@ all-kinds : (rows : List NodeRow) → AllByRecursion IsNodeWithin rows → AllBy
 all-kinds [] within = tt
 all-kinds (row ∷ rows) within = (kind-limits row.kind within.0.kind, all-kinds rows within.1)
 
--- what holds of a part of all items holds of the part that is read
-read-part : {X Y : Type 0} (P : Y → Type 0) (f : X → Y) (xs : List X) (i : ℕ) (y : Y) → All (λ x. P (f x)) xs → option_map f (slice_get xs i) ≡ Some y → P y
-read-part {X} {Y} P f xs i y all read = go (slice_get xs i) refl read
+-- what holds of a field of all items holds of the field that is read
+read-field : {X Y : Type 0} (P : Y → Type 0) (f : X → Y) (xs : List X) (i : ℕ) (y : Y) → All (λ x. P (f x)) xs → option_map f (slice_get xs i) ≡ Some y → P y
+read-field {X} {Y} P f xs i y all read = go (slice_get xs i) refl read
   where
     go : (o : Option X) → slice_get xs i ≡ o → option_map f o ≡ Some y → P y
     go (Some x) at found = let same : f x ≡ y = cc in subst P same (read-item (λ (z : X). P (f z)) xs i x all at)
@@ -95,13 +95,13 @@ link-read plan vl link accepted read =
     let rows = accepted.rows in
     let names = names_of rows.nodes in
     let in_rows : All HasLinkInLimits (map (vl_plan names) rows.vls) = All-from_recursion HasLinkInLimits _ (all-links names rows.vls (recursion_from_All IsVlWithin rows.vls accepted.within.vls)) in
-    read-part IsLinkInLimits (λ vl. vl.link) plan.vls vl link (All-permutation HasLinkInLimits _ plan.vls accepted.stands.vls in_rows) read
+    read-field IsLinkInLimits (λ vl. vl.link) plan.vls vl link (All-permutation HasLinkInLimits _ plan.vls accepted.stands.vls in_rows) read
 
 pub kind-read : (plan : Plan) (node : ℕ) (kind : NodeKind) → IsAccepted plan → option_map (λ node. node.kind) (slice_get plan.nodes node) ≡ Some kind → IsKindInLimits kind
 kind-read plan node kind accepted read =
     let rows = accepted.rows in
     let in_rows : All HasKindInLimits (map node_plan rows.nodes) = All-from_recursion HasKindInLimits _ (all-kinds rows.nodes (recursion_from_All IsNodeWithin rows.nodes accepted.within.nodes)) in
-    read-part IsKindInLimits (λ node. node.kind) plan.nodes node kind (subst (All HasKindInLimits) (sym accepted.stands.nodes) in_rows) read
+    read-field IsKindInLimits (λ node. node.kind) plan.nodes node kind (subst (All HasKindInLimits) (sym accepted.stands.nodes) in_rows) read
 
 pub until-within : (plan : Plan) → IsAccepted plan → (1 ≤ plan.until) × (plan.until ≤ LATEST_NS)
 until-within plan accepted = subst (λ until. (1 ≤ until) × (until ≤ LATEST_NS)) (sym accepted.stands.until) (bounds 1 LATEST_NS accepted.rows.until accepted.within.until)

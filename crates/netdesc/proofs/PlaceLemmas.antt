@@ -92,9 +92,9 @@ place_by-before test xs i d o h here place = (early, late)
       | inr f ↦ f
     ]
 
--- a place that is noted only where there is none yet
-pub or_else-noted : {X : Type 0} (p : Option X) (b : Bool) (x : X) → cond (b && is_none p) (Some x) p ≡ or_else p (cond b (Some x) None)
-or_else-noted None true x = refl
-or_else-noted None false x = refl
-or_else-noted (Some y) true x = refl
-or_else-noted (Some y) false x = refl
+-- a place that is stored only where there is none yet
+pub or_else-stored : {X : Type 0} (p : Option X) (b : Bool) (x : X) → cond (b && is_none p) (Some x) p ≡ or_else p (cond b (Some x) None)
+or_else-stored None true x = refl
+or_else-stored None false x = refl
+or_else-stored (Some y) true x = refl
+or_else-stored (Some y) false x = refl

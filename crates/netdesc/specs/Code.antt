@@ -2,5 +2,5 @@
 -- what is accepted needs it.
 pub mod Finding
 pub mod Views
-pub mod Parts
+pub mod RowLists
 pub mod Tables

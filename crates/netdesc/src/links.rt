@@ -61,7 +61,7 @@ fn put(
 /// One more at the place `k`, if there is such a place.
 fn count_up(counts: &mut Vec<usize>, k: usize)
     requires { (j : ℕ) → j < vec_len counts.old → slice_index counts.old.items j + 1 < 2 ^ 64 }
-    ensures counted { (j : ℕ) → j < vec_len counts.old → slice_index counts.new.items j ≡ slice_index counts.old.items j + (if k == j then 1 else 0) }
+    ensures count_is { (j : ℕ) → j < vec_len counts.old → slice_index counts.new.items j ≡ slice_index counts.old.items j + (if k == j then 1 else 0) }
     ensures len { vec_len counts.new ≡ vec_len counts.old }
 {
     if k < counts.len() {
@@ -72,7 +72,7 @@ fn count_up(counts: &mut Vec<usize>, k: usize)
 /// One more for each node that the link names.
 pub fn count_link(counts: &mut Vec<usize>, link: Link)
     requires { (j : ℕ) → j < vec_len counts.old → slice_index counts.old.items j + 2 < 2 ^ 64 }
-    ensures counted { (j : ℕ) → j < vec_len counts.old → slice_index counts.new.items j ≡ slice_index counts.old.items j + (if touches j link then 1 else 0) }
+    ensures count_is { (j : ℕ) → j < vec_len counts.old → slice_index counts.new.items j ≡ slice_index counts.old.items j + (if touches j link then 1 else 0) }
     ensures len { vec_len counts.new ≡ vec_len counts.old }
 {
     count_up(counts, link.a);

@@ -9,7 +9,7 @@ ghost use Rattle.netdesc.specs.Faults.{faults_of, double_names, not_links, not_t
 ghost use Rattle.netdesc.specs.Code.Finding.{Finds};
 ghost use Rattle.netdesc.specs.Accepted.{ids_of, IsPlanOf};
 ghost use Rattle.netdesc.specs.Description.{HasNoFault, TellsFaultOf, Describes};
-ghost use Rattle.netdesc.specs.Code.Parts.{parts_of, parts_in, plan_in};
+ghost use Rattle.netdesc.specs.Code.RowLists.{row_lists_of, row_lists_in, plan_in};
 ghost use Rattle.netdesc.specs.Code.Views.{Gives};
 
 use crate::double;
@@ -66,7 +66,7 @@ fn sort_vls(vls: &mut Vec<Routed>) -> Result<(), DescFault>
 
 /// The rows with numbers in place of names, where they make a network.
 fn checked(alloc: Global, rows: &Rows) -> Result<Numbered, DescFault>
-    ensures { Gives parts_of result (faults_of rows.now) (parts_in rows.now) }
+    ensures { Gives row_lists_of result (faults_of rows.now) (row_lists_in rows.now) }
 {
     let names = Names::new(alloc, rows.nodes.as_slice())?;
     let numbered = number_rows(alloc, &names, rows)?;

@@ -70,7 +70,7 @@ fn reach(places: &mut Vec<Option<usize>>, id: VlId) -> Result<(), DescFault>
 /// The number has this place, if it had none.
 fn note_place(places: &mut Vec<Option<usize>>, id: usize, place: usize)
     requires { id < vec_len places.old }
-    ensures noted { (n : ℕ) → slice_index_or places.new.items n None ≡ (if (id == n) && is_none (slice_index_or places.old.items n None) then Some place else slice_index_or places.old.items n None) }
+    ensures stored { (n : ℕ) → slice_index_or places.new.items n None ≡ (if (id == n) && is_none (slice_index_or places.old.items n None) then Some place else slice_index_or places.old.items n None) }
     ensures len { vec_len places.new ≡ vec_len places.old }
 {
     if places[id].is_none() {

@@ -11,7 +11,7 @@ ghost use Rattle.netdesc.specs.Plan.{byte_ns_of, path_numbers, paths_numbers, li
 ghost use Rattle.netdesc.specs.Faults.{is_unknown, has_unknown, unknown_at_node, unknown_at_link, unknown_at_outage, unknown_at_vl, unknown_names};
 ghost use Rattle.netdesc.specs.Code.Finding.{Finds};
 ghost use Rattle.netdesc.specs.Code.Views.{Gives, items_of, lists_of};
-ghost use Rattle.netdesc.specs.Code.Parts.{parts_of, parts_in};
+ghost use Rattle.netdesc.specs.Code.RowLists.{row_lists_of, row_lists_in};
 
 use crate::each::{Review, check_each, key_at, row_at};
 use crate::names::Names;
@@ -217,7 +217,7 @@ impl<'a, 'b> Review for Vls<'a, 'b> {
 /// The rows with numbers in place of names, where each key and each name is known.
 pub fn number_rows(alloc: Global, names: &Names, rows: &Rows) -> Result<Numbered, DescFault>
     requires { names.now.nodes.now ≡ rows.now.nodes }
-    ensures { Gives parts_of result (unknown_names rows.now) (parts_in rows.now) }
+    ensures { Gives row_lists_of result (unknown_names rows.now) (row_lists_in rows.now) }
 {
     let top = Place {
         section: Section::Top,

@@ -53,7 +53,7 @@ switch : faults_of_text (codes "until_ns = 1\nseed = 1\nnode = [{name = \"a\", k
 unfolding toml_on_literals
 switch = refl
 
--- another text is a broken limit of the kind, a value that is no text is of another kind; neither is a switch
+-- another text is a broken limit of the type, a value that is no text is of another type; neither is a switch
 no_kind : faults_of_text (codes "until_ns = 1\nseed = 1\nnode = [{name = \"a\", kind = \"hub\", port_bytes = 1518}, {name = \"a\", kind = 1, port_bytes = 1518}]\n")
     ≡ WrongKind (at Node 2 (Some Kind)) ∷ OutOfLimit (at Node 1 (Some Kind)) ∷ []
 unfolding toml_on_literals

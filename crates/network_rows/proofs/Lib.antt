@@ -1,6 +1,6 @@
 pub mod Items
 pub mod Removed
-pub mod Noted
+pub mod Stored
 pub mod Names
 pub mod Empty
 pub mod Sound

@@ -5,7 +5,7 @@ use Rattle.std.proofs.lemmas.List.Elements.{All-from_recursion, All-nil}
 use Rattle.std.proofs.lemmas.List.Sums.{AllPass-from_list_all}
 use Rattle.std.specs.List.{AllByRecursion, AllZip}
 use Rattle.toml.specs.Data.{Data, Members}
-use Rattle.network_rows.specs.declared.rule.Kind.{Kind}
+use Rattle.network_rows.specs.declared.rule.ValueType.{ValueType}
 use Rattle.network_rows.specs.declared.rule.Presence.{Presence}
 use Rattle.network_rows.specs.declared.rule.Presence.TheVariants.{Required, ForSwitches, Optional, OptionalWord}
 use Rattle.network_rows.specs.declared.rule.Rule.{Rule}
@@ -19,7 +19,7 @@ use Rattle.network_rows.specs.declared.rows.VlRow.{VlRow}
 use Rattle.network_rows.specs.declared.rows.Rows.{Rows}
 use Rattle.network_rows.specs.Table as keys
 use Rattle.network_rows.specs.Values.{as_number}
-use Rattle.network_rows.specs.Kinds.{allows, allows_text, allows_path, is_above}
+use Rattle.network_rows.specs.ValueTypes.{allows, allows_text, allows_path, is_above}
 use Rattle.network_rows.specs.Rows.{IsAt, IsTextAt, ArePathsAt, IsNumberAt, MeansKind, MeansNode, MeansLink, MeansOutage, MeansVirtualLink, MeansVl, MeansRow, MeansList, MeansRows}
 use Rattle.network_rows.specs.Sound.{IsDefaultWithin, HasNumbers}
 use Rattle.network_rows.specs.Within.{Allows, ArePathsWithin, IsNodeKindWithin, IsNodeWithin, IsLinkWithin, IsOutageWithin, IsVirtualLinkWithin, IsVlWithin, AreWithin}
@@ -27,27 +27,27 @@ use Rattle.network_rows.proofs.Standing.{IsAllowed, number_within, both_true}
 
 -- ---- numbers, texts and paths
 
-default_within : (presence : Presence) (kind : Kind) (n : ℕ) → IsDefaultWithin presence kind → presence ≡ Optional n → allows kind n ≡ true
-default_within Required kind n of e = cc
-default_within ForSwitches kind n of e = cc
-default_within (Optional m) kind n of e = cc
-default_within (OptionalWord w) kind n of e = absurd of
+default_within : (presence : Presence) (value_type : ValueType) (n : ℕ) → IsDefaultWithin presence value_type → presence ≡ Optional n → allows value_type n ≡ true
+default_within Required value_type n of e = cc
+default_within ForSwitches value_type n of e = cc
+default_within (Optional m) value_type n of e = cc
+default_within (OptionalWord w) value_type n of e = absurd of
 
-same_number : (kind : Kind) (d : Data) (n : ℕ) → IsAllowed kind d → as_number d ≡ Some n → allows kind n ≡ true
-same_number kind d n is e = let m = is.is in let allowed = is.allowed in cc
+same_number : (value_type : ValueType) (d : Data) (n : ℕ) → IsAllowed value_type d → as_number d ≡ Some n → allows value_type n ≡ true
+same_number value_type d n is e = let m = is.is in let allowed = is.allowed in cc
 
 allowed : (rule : Rule) (table : Members) (n : ℕ) → HasNumbers rule → IsNumberAt rule table n → Allows rule n
-allowed rule table n of (inl at) = same_number rule.kind at.value n (number_within rule.kind table at.value of.0 at.limit) at.is
-allowed rule table n of (inr default) = default_within rule.presence rule.kind n of.1 default.default
+allowed rule table n of (inl at) = same_number rule.value_type at.value n (number_within rule.value_type table at.value of.0 at.limit) at.is
+allowed rule table n of (inr default) = default_within rule.presence rule.value_type n of.1 default.default
 
-text_within : (table : Members) (text : List ℕ) → IsTextAt keys.name table text → allows_text keys.name.kind text ≡ true
+text_within : (table : Members) (text : List ℕ) → IsTextAt keys.name table text → allows_text keys.name.value_type text ≡ true
 text_within table text at = rw at.is at at.limit
 
 paths_a_within : (table : Members) (paths : List (List (List ℕ))) → ArePathsAt keys.paths_a table paths → ArePathsWithin keys.paths_a paths
-paths_a_within table paths at = AllPass-from_list_all (allows_path keys.paths_a.kind) paths (rw at.is at at.limit)
+paths_a_within table paths at = AllPass-from_list_all (allows_path keys.paths_a.value_type) paths (rw at.is at at.limit)
 
 paths_b_within : (table : Members) (paths : List (List (List ℕ))) → ArePathsAt keys.paths_b table paths → ArePathsWithin keys.paths_b paths
-paths_b_within table paths at = AllPass-from_list_all (allows_path keys.paths_b.kind) paths (rw at.is at at.limit)
+paths_b_within table paths at = AllPass-from_list_all (allows_path keys.paths_b.value_type) paths (rw at.is at at.limit)
 
 -- ---- the rows of each section
 
@@ -71,8 +71,8 @@ number_there rule table n required (inr default) = let e = default.default in cc
 
 begins_before_end : (table : Members) (m n : ℕ) → IsAt as_number keys.from_ns table m → IsAt as_number keys.to_ns table n → m < n
 begins_before_end table m n from to =
-    let both : (allows keys.to_ns.kind n && is_above (Some m) n) ≡ true = rw (to.is, from.there, from.is) at to.limit in
-    ltb-true m n (both_true (allows keys.to_ns.kind n) _ both).1
+    let both : (allows keys.to_ns.value_type n && is_above (Some m) n) ≡ true = rw (to.is, from.there, from.is) at to.limit in
+    ltb-true m n (both_true (allows keys.to_ns.value_type n) _ both).1
 
 outage_within : (table : Members) (row : OutageRow) → MeansOutage table row → IsOutageWithin row
 outage_within table row means = record {

@@ -18,7 +18,7 @@ use Rattle.network_rows.specs.declared.fault.DescFault.{DescFault}
 use Rattle.network_rows.specs.declared.fault.DescFault.TheVariants.{Syntax, Missing, WrongKind, OutOfLimit, OutOfMemory}
 use Rattle.network_rows.specs.Keys.{section_text}
 use Rattle.network_rows.specs.Values.{value_at, has_word, list_of}
-use Rattle.network_rows.specs.Kinds.{has_kind, keeps_limit}
+use Rattle.network_rows.specs.ValueTypes.{has_type, keeps_limit}
 use Rattle.network_rows.specs.Table.{lists, keys_of}
 
 -- ---- one key of one row
@@ -37,11 +37,11 @@ is_needed ForSwitches = true
 is_needed (Optional default) = false
 is_needed (OptionalWord default) = false
 
--- what is wrong with the value at a key: it is absent, of another kind, or outside the limit
+-- what is wrong with the value at a key: it is absent, of another type, or outside the limit
 abbrev pub fault_of_value : Rule → Members → Option Data → Option KeyFault
 fault_of_value rule row None = if is_needed rule.presence then (Some sort.Missing) else None
 fault_of_value rule row (Some d) =
-    if not (has_kind rule.kind d) then (Some sort.WrongKind) else (if not (keeps_limit rule.kind row d) then (Some sort.OutOfLimit) else None)
+    if not (has_type rule.value_type d) then (Some sort.WrongKind) else (if not (keeps_limit rule.value_type row d) then (Some sort.OutOfLimit) else None)
 
 -- what is wrong with a key of a row
 abbrev pub fault_in : Rule → Members → Option KeyFault

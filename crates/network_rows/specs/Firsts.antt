@@ -11,15 +11,15 @@ abbrev pub nowhere : FirstPlaces
 nowhere = record { missing = None; wrong_kind = None; out_of_limit = None }
 
 -- with one more fault, which is the first of its sort unless there was one before
-abbrev pub noted : FirstPlaces → KeyFault → Place → FirstPlaces
-noted firsts sort.Missing place = record firsts { missing = Some (unwrap_or firsts.missing place) }
-noted firsts sort.WrongKind place = record firsts { wrong_kind = Some (unwrap_or firsts.wrong_kind place) }
-noted firsts sort.OutOfLimit place = record firsts { out_of_limit = Some (unwrap_or firsts.out_of_limit place) }
+abbrev pub stored : FirstPlaces → KeyFault → Place → FirstPlaces
+stored firsts sort.Missing place = record firsts { missing = Some (unwrap_or firsts.missing place) }
+stored firsts sort.WrongKind place = record firsts { wrong_kind = Some (unwrap_or firsts.wrong_kind place) }
+stored firsts sort.OutOfLimit place = record firsts { out_of_limit = Some (unwrap_or firsts.out_of_limit place) }
 
 -- with these faults, one after another
-abbrev pub all_noted : FirstPlaces → List (KeyFault × Place) → FirstPlaces
-all_noted firsts [] = firsts
-all_noted firsts (f ∷ fs) = all_noted (noted firsts f.0 f.1) fs
+abbrev pub all_stored : FirstPlaces → List (KeyFault × Place) → FirstPlaces
+all_stored firsts [] = firsts
+all_stored firsts (f ∷ fs) = all_stored (stored firsts f.0 f.1) fs
 
 -- the fault that is told, from the first place of each sort
 abbrev pub told : Option Place → Option Place → Option Place → Option DescFault

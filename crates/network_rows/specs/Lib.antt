@@ -1,6 +1,6 @@
 pub mod Keys
 pub mod Values
-pub mod Kinds
+pub mod ValueTypes
 pub mod Table
 pub mod Faults
 pub mod Firsts

@@ -30,17 +30,17 @@ use Rattle.network_rows.specs.declared.rows.Rows.{Rows}
 use Rattle.network_rows.specs.Table as keys
 use Rattle.network_rows.specs.Keys.{key_text, section_text, word_text}
 use Rattle.network_rows.specs.Values.{value_at, as_number, as_paths, list_of}
-use Rattle.network_rows.specs.Kinds.{has_kind, keeps_limit}
+use Rattle.network_rows.specs.ValueTypes.{has_type, keeps_limit}
 use Rattle.network_rows.specs.Faults.{applies, faults_of_document}
 
 -- ---- what stands at the key of a line of the table of keys
 
--- the value at the key, which is of the kind and within the limit, is x
+-- the value at the key, which is of the type and within the limit, is x
 pub record IsAt {X : Type 0} (read : Data → Option X) (rule : Rule) (table : Members) (x : X) : Type 0 where
   pub value : Data
   pub there : value_at rule.key table ≡ Some value
-  pub kind : has_kind rule.kind value ≡ true
-  pub limit : keeps_limit rule.kind table value ≡ true
+  pub value_type : has_type rule.value_type value ≡ true
+  pub limit : keeps_limit rule.value_type table value ≡ true
   pub is : read value ≡ Some x
 
 abbrev pub IsTextAt : Rule → Members → List ℕ → Type 0

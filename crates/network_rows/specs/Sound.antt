@@ -3,13 +3,13 @@ use Rattle.std.specs.Prelude.{◌≡◌, true, Option, Some, None, ⊤}
 use Rattle.std.specs.List.{AllByRecursion}
 use Rattle.toml.specs.Data.{Data, Items, Members, as_array, as_table}
 use Rattle.network_rows.specs.declared.key.Section.{Section}
-use Rattle.network_rows.specs.declared.rule.Kind.{Kind}
-use Rattle.network_rows.specs.declared.rule.Kind.TheVariants.{Integer, IntegerAbove, OneOf, EitherInteger, EitherWord, NodeName, Reference, Paths}
+use Rattle.network_rows.specs.declared.rule.ValueType.{ValueType}
+use Rattle.network_rows.specs.declared.rule.ValueType.TheVariants.{Integer, IntegerAbove, OneOf, EitherInteger, EitherWord, NodeName, Reference, Paths}
 use Rattle.network_rows.specs.declared.rule.Presence.{Presence}
 use Rattle.network_rows.specs.declared.rule.Presence.TheVariants.{Required, ForSwitches, Optional, OptionalWord}
 use Rattle.network_rows.specs.declared.rule.Rule.{Rule}
 use Rattle.network_rows.specs.Values.{value_at, list_of}
-use Rattle.network_rows.specs.Kinds.{allows}
+use Rattle.network_rows.specs.ValueTypes.{allows}
 use Rattle.network_rows.specs.Table.{keys_of}
 use Rattle.network_rows.specs.Faults.{fault_of_value, fault_in}
 
@@ -30,8 +30,8 @@ IsSoundList section (Some d) = (items : Items) × (as_array d ≡ Some items) ×
 
 -- ---- lines of numbers
 
--- the kind is one of integers
-abbrev pub IsOfNumbers : Kind → Type 0
+-- the type is one of integers
+abbrev pub IsOfNumbers : ValueType → Type 0
 IsOfNumbers (Integer least greatest) = ⊤
 IsOfNumbers (IntegerAbove key least greatest) = ⊤
 IsOfNumbers (OneOf numbers) = ⊤
@@ -41,13 +41,13 @@ IsOfNumbers (NodeName least greatest) = ⊥
 IsOfNumbers Reference = ⊥
 IsOfNumbers (Paths least greatest) = ⊥
 
--- the default, if there is one, is a number that the kind allows, and no word
-abbrev pub IsDefaultWithin : Presence → Kind → Type 0
-IsDefaultWithin Required kind = ⊤
-IsDefaultWithin ForSwitches kind = ⊤
-IsDefaultWithin (Optional n) kind = allows kind n ≡ true
-IsDefaultWithin (OptionalWord word) kind = ⊥
+-- the default, if there is one, is a number that the type allows, and no word
+abbrev pub IsDefaultWithin : Presence → ValueType → Type 0
+IsDefaultWithin Required value_type = ⊤
+IsDefaultWithin ForSwitches value_type = ⊤
+IsDefaultWithin (Optional n) value_type = allows value_type n ≡ true
+IsDefaultWithin (OptionalWord word) value_type = ⊥
 
 -- the line is one of numbers
 abbrev pub HasNumbers : Rule → Type 0
-HasNumbers rule = IsOfNumbers rule.kind × IsDefaultWithin rule.presence rule.kind
+HasNumbers rule = IsOfNumbers rule.value_type × IsDefaultWithin rule.presence rule.value_type

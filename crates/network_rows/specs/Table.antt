@@ -1,4 +1,4 @@
--- The table of keys: the keys of each section in the order of checks, each with the rows that have it, its kind and its limits. Times are in ns,
+-- The table of keys: the keys of each section in the order of checks, each with the rows that have it, its type and its limits. Times are in ns,
 -- sizes in bytes, and the bandwidth allocation gap (ARINC 664 Part 7) in ms.
 use Rattle.std.specs.Prelude.{List, [], ◌∷◌}
 use Rattle.vlink.specs.declared.time.TheConstants.{LATEST_NS}
@@ -7,14 +7,14 @@ use Rattle.network_rows.specs.declared.key.Section.TheVariants.{Top, Node, Link,
 use Rattle.network_rows.specs.declared.key.Key.{Key}
 use Rattle.network_rows.specs.declared.key.Key.TheVariants as key
 use Rattle.network_rows.specs.declared.key.Word.TheVariants as word
-use Rattle.network_rows.specs.declared.rule.Kind.{Kind}
-use Rattle.network_rows.specs.declared.rule.Kind.TheVariants.{Integer, IntegerAbove, OneOf, EitherInteger, EitherWord, NodeName, Reference, Paths}
+use Rattle.network_rows.specs.declared.rule.ValueType.{ValueType}
+use Rattle.network_rows.specs.declared.rule.ValueType.TheVariants.{Integer, IntegerAbove, OneOf, EitherInteger, EitherWord, NodeName, Reference, Paths}
 use Rattle.network_rows.specs.declared.rule.Presence.{Presence}
 use Rattle.network_rows.specs.declared.rule.Presence.TheVariants.{Required, ForSwitches, Optional, OptionalWord}
 use Rattle.network_rows.specs.declared.rule.Rule.{Rule}
 
-abbrev pub asks : Key → Presence → Kind → Rule
-asks key presence kind = record { key = key; presence = presence; kind = kind }
+abbrev pub asks : Key → Presence → ValueType → Rule
+asks key presence value_type = record { key = key; presence = presence; value_type = value_type }
 
 -- ---- the top table
 

@@ -10,18 +10,18 @@ use Rattle.network_rows.specs.declared.rows.VirtualLink.{VirtualLink}
 use Rattle.network_rows.specs.declared.rows.VlRow.{VlRow}
 use Rattle.network_rows.specs.declared.rows.Rows.{Rows}
 use Rattle.network_rows.specs.Table as keys
-use Rattle.network_rows.specs.Kinds.{allows, allows_text, allows_path}
+use Rattle.network_rows.specs.ValueTypes.{allows, allows_text, allows_path}
 
 -- the line of the table allows the number
 abbrev pub Allows : Rule → ℕ → Type 0
-Allows rule n = allows rule.kind n ≡ true
+Allows rule n = allows rule.value_type n ≡ true
 
 abbrev pub IsNodeKindWithin : NodeKind → Type 0
 IsNodeKindWithin EndSystem = ⊤
 IsNodeKindWithin (Switch net latency_ns) = Allows keys.latency_ns latency_ns
 
 pub record IsNodeWithin (row : NodeRow) : Type 0 where
-  pub name : allows_text keys.name.kind row.name ≡ true
+  pub name : allows_text keys.name.value_type row.name ≡ true
   pub kind : IsNodeKindWithin row.kind
   pub port_bytes : Allows keys.port_bytes row.port_bytes
 
@@ -35,7 +35,7 @@ pub record IsOutageWithin (row : OutageRow) : Type 0 where
 
 -- each path has so many names as the line of the table allows
 abbrev pub ArePathsWithin : Rule → List (List (List ℕ)) → Type 0
-ArePathsWithin rule paths = All (λ path. allows_path rule.kind path ≡ true) paths
+ArePathsWithin rule paths = All (λ path. allows_path rule.value_type path ≡ true) paths
 
 pub record IsVirtualLinkWithin (link : VirtualLink) : Type 0 where
   pub id : Allows keys.id link.id.0

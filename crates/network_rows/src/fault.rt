@@ -18,9 +18,9 @@ pub struct Place {
 pub enum KeyFault {
     /// It is absent, and the row has to have it.
     Missing,
-    /// Its value is of another kind.
+    /// Its value is of another type.
     WrongKind,
-    /// Its value is of the kind, and outside the limit.
+    /// Its value is of the type, and outside the limit.
     OutOfLimit,
 }
 
@@ -33,7 +33,7 @@ pub enum DescFault {
     /// A required key is absent.
     #[error("missing")]
     Missing(Place),
-    /// A section is no list, a row is no table, or a value is not of the kind that its key asks for.
+    /// A section is no list, a row is no table, or a value is not of the type that its key asks for.
     #[error("wrong kind")]
     WrongKind(Place),
     /// A value is outside the limits of its key.

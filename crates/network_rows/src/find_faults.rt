@@ -1,10 +1,10 @@
-//! A document is gone through once, and the first place of each sort of fault is noted.
+//! A document is gone through once, and the first place of each sort of fault is stored.
 ghost use Rattle.std.specs.Prelude.{◌≡◌, Some, map, option_map};
 ghost use Rattle.std.specs.List.{flat_map};
 ghost use Rattle.toml.specs.Data.{as_table};
 ghost use Rattle.toml.specs.View.{view, table_view};
 ghost use Rattle.network_rows.specs.Faults.{faults_at, faults_in_table, fault_of_whole, faults_in_row, faults_in_rows, faults_in_list, faults_in_section, faults_in_document, faults_of_document, first};
-ghost use Rattle.network_rows.specs.Firsts.{all_noted};
+ghost use Rattle.network_rows.specs.Firsts.{all_stored};
 
 use crate::fault::{DescFault, KeyFault, Place};
 use crate::first_places::FirstPlaces;
@@ -25,16 +25,16 @@ pub fn first_fault(document: &Table) -> Option<DescFault>
 
 // Notes the faults of a document.
 fn note_document(firsts: &mut FirstPlaces, document: &Table)
-    ensures { firsts.new ≡ all_noted firsts.old (faults_in_document (table_view document.now)) }
+    ensures { firsts.new ≡ all_stored firsts.old (faults_in_document (table_view document.now)) }
 {
     note_table(firsts, Section::Top, None, document);
     note_lists(firsts, document, &LISTS);
 }
 
 // Notes the faults of these sections of a document.
-#[tactic(auto, using(std::proofs::lemmas::Grind::common_steps, crate::proofs::Noted::all_noted_append))]
+#[tactic(auto, using(std::proofs::lemmas::Grind::common_steps, crate::proofs::Stored::all_stored_append))]
 fn note_lists(firsts: &mut FirstPlaces, document: &Table, sections: &[Section])
-    ensures { firsts.new ≡ all_noted firsts.old (flat_map (faults_in_section (table_view document.now)) sections.now) }
+    ensures { firsts.new ≡ all_stored firsts.old (flat_map (faults_in_section (table_view document.now)) sections.now) }
 {
     for section in sections {
         note_list(firsts, *section, list_at(document, *section));
@@ -43,7 +43,7 @@ fn note_lists(firsts: &mut FirstPlaces, document: &Table, sections: &[Section])
 
 // Notes the faults of what a document has for a section.
 fn note_list(firsts: &mut FirstPlaces, section: Section, value: Option<&Value>)
-    ensures { firsts.new ≡ all_noted firsts.old (faults_in_list section (option_map (λ v. view v.now) value.entry)) }
+    ensures { firsts.new ≡ all_stored firsts.old (faults_in_list section (option_map (λ v. view v.now) value.entry)) }
 {
     match value {
         Some(value) => note_list_value(firsts, section, value),
@@ -53,7 +53,7 @@ fn note_list(firsts: &mut FirstPlaces, section: Section, value: Option<&Value>)
 
 // Notes the faults of the value of a section.
 fn note_list_value(firsts: &mut FirstPlaces, section: Section, value: &Value)
-    ensures { firsts.new ≡ all_noted firsts.old (faults_in_list section (Some (view value.now))) }
+    ensures { firsts.new ≡ all_stored firsts.old (faults_in_list section (Some (view value.now))) }
 {
     match value.as_array() {
         Some(rows) => note_rows(firsts, section, rows.as_slice()),
@@ -62,9 +62,9 @@ fn note_list_value(firsts: &mut FirstPlaces, section: Section, value: &Value)
 }
 
 // Notes the faults of the rows of a section.
-#[tactic(auto, using(std::proofs::lemmas::Grind::common_steps, crate::proofs::Noted::all_noted_append))]
+#[tactic(auto, using(std::proofs::lemmas::Grind::common_steps, crate::proofs::Stored::all_stored_append))]
 fn note_rows(firsts: &mut FirstPlaces, section: Section, rows: &[Value])
-    ensures { firsts.new ≡ all_noted firsts.old (faults_in_rows section 1 (map view rows.now)) }
+    ensures { firsts.new ≡ all_stored firsts.old (faults_in_rows section 1 (map view rows.now)) }
 {
     for (i, value) in rows.iter().enumerate() {
         note_row(firsts, section, i as u64 + 1, value);
@@ -73,7 +73,7 @@ fn note_rows(firsts: &mut FirstPlaces, section: Section, rows: &[Value])
 
 // Notes the faults of a row.
 fn note_row(firsts: &mut FirstPlaces, section: Section, number: u64, value: &Value)
-    ensures { firsts.new ≡ all_noted firsts.old (faults_in_row section number (as_table (view value.now))) }
+    ensures { firsts.new ≡ all_stored firsts.old (faults_in_row section number (as_table (view value.now))) }
 {
     match value.as_table() {
         Some(row) => note_table(firsts, section, Some(number), row),
@@ -83,7 +83,7 @@ fn note_row(firsts: &mut FirstPlaces, section: Section, number: u64, value: &Val
 
 // Notes that a row, or with the number 0 a section, is not what it should be as a whole.
 fn note_whole(firsts: &mut FirstPlaces, section: Section, number: u64)
-    ensures { firsts.new ≡ all_noted firsts.old (fault_of_whole section number) }
+    ensures { firsts.new ≡ all_stored firsts.old (fault_of_whole section number) }
 {
     let place = Place {
         section,
@@ -95,13 +95,13 @@ fn note_whole(firsts: &mut FirstPlaces, section: Section, number: u64)
 
 // Notes the faults of the keys of a table.
 fn note_table(firsts: &mut FirstPlaces, section: Section, number: Option<u64>, row: &Table)
-    ensures { firsts.new ≡ all_noted firsts.old (faults_in_table section number (table_view row.now)) }
+    ensures { firsts.new ≡ all_stored firsts.old (faults_in_table section number (table_view row.now)) }
 {
     note_keys(firsts, section, number, row, keys_of(section));
 }
 
 // Notes the faults of these keys of a table.
-#[tactic(auto, using(std::proofs::lemmas::Grind::common_steps, crate::proofs::Noted::all_noted_append))]
+#[tactic(auto, using(std::proofs::lemmas::Grind::common_steps, crate::proofs::Stored::all_stored_append))]
 fn note_keys(
     firsts: &mut FirstPlaces,
     section: Section,
@@ -109,7 +109,7 @@ fn note_keys(
     row: &Table,
     rules: &[Rule],
 )
-    ensures { firsts.new ≡ all_noted firsts.old (flat_map (faults_at section number (table_view row.now)) rules.now) }
+    ensures { firsts.new ≡ all_stored firsts.old (flat_map (faults_at section number (table_view row.now)) rules.now) }
 {
     for rule in rules {
         note_key(firsts, section, number, row, rule);
@@ -124,7 +124,7 @@ fn note_key(
     row: &Table,
     rule: &Rule,
 )
-    ensures { firsts.new ≡ all_noted firsts.old (faults_at section number (table_view row.now) rule.now) }
+    ensures { firsts.new ≡ all_stored firsts.old (faults_at section number (table_view row.now) rule.now) }
 {
     match rule.fault_in(row) {
         Some(fault) => {

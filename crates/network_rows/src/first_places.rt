@@ -1,6 +1,6 @@
 //! The first fault of a document, sort by sort.
 ghost use Rattle.std.specs.Prelude.{◌≡◌};
-ghost use Rattle.network_rows.specs.Firsts.{nowhere, noted, told};
+ghost use Rattle.network_rows.specs.Firsts.{nowhere, stored, told};
 
 use crate::fault::{DescFault, KeyFault, Place};
 
@@ -24,9 +24,9 @@ impl FirstPlaces {
         }
     }
 
-    /// Notes a fault that comes after those noted before.
+    /// Stores a fault that comes after those stored before.
     pub fn note(&mut self, fault: KeyFault, place: Place)
-        ensures { self.new ≡ noted self.old fault place }
+        ensures { self.new ≡ stored self.old fault place }
     {
         match fault {
             KeyFault::Missing => self.missing = Some(self.missing.unwrap_or(place)),
@@ -35,7 +35,7 @@ impl FirstPlaces {
         }
     }
 
-    /// The fault that is told, if there is one: what is missing before what is of a wrong kind, and this before what is out of its limit.
+    /// The fault that is told, if there is one: what is missing before what is of a wrong type, and this before what is out of its limit.
     pub fn told(&self) -> Option<DescFault>
         ensures { result ≡ told self.now.missing self.now.wrong_kind self.now.out_of_limit }
     {

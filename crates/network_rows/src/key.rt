@@ -2,7 +2,7 @@
 ghost use Rattle.std.specs.Prelude.{◌≡◌};
 ghost use Rattle.network_rows.specs.Keys.{key_text, section_text, word_text};
 
-/// A part of a description: its top table, or one of its lists of tables.
+/// A section of a description: its top table, or one of its lists of tables.
 #[derive(Clone, Copy, Debug, PartialEq, Eq)]
 pub enum Section {
     Top,

@@ -59,9 +59,9 @@ impl Rule {
     fn fault_of_value(&self, row: &Table, value: &Value) -> Option<KeyFault>
         ensures { result ≡ fault_of_value self.now (table_view row.now) (Some (view value.now)) }
     {
-        if !self.kind.has(value) {
+        if !self.value_type.has(value) {
             Some(KeyFault::WrongKind)
-        } else if !self.kind.keeps_limit(row, value) {
+        } else if !self.value_type.keeps_limit(row, value) {
             Some(KeyFault::OutOfLimit)
         } else {
             None

@@ -6,7 +6,6 @@ mod find_faults;
 mod first_places;
 mod key;
 mod key_fault;
-mod kind;
 mod make_row;
 mod name;
 mod paths;
@@ -20,6 +19,7 @@ mod table;
 mod take;
 mod unknown;
 mod value;
+mod value_type;
 
 pub use fault::{DescFault, Place};
 pub use key::{Key, Section};

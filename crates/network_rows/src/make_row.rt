@@ -1,4 +1,4 @@
-//! What each kind of row is made of, where nothing is wrong with its table: numbers and words that are read, names and paths that are moved out of the table.
+//! What the rows of each section are made of, where nothing is wrong with its table: numbers and words that are read, names and paths that are moved out of the table.
 ghost use Rattle.toml.specs.View.{table_view};
 ghost use Rattle.network_rows.specs.declared.key.Section.TheVariants.{Node, Link, Outage, Vl};
 ghost use Rattle.network_rows.specs.Table.{mbit, policing, priority};

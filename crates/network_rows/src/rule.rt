@@ -14,9 +14,9 @@ pub enum Presence {
     OptionalWord(Word),
 }
 
-/// What the value at a key has to be: its kind, and with it the limit.
+/// What the value at a key has to be: its type, and with it the limit.
 #[derive(Clone, Copy, Debug, PartialEq, Eq)]
-pub enum Kind {
+pub enum ValueType {
     /// An integer from the first number to the second.
     Integer(u64, u64),
     /// An integer from the first number to the second, greater than the one at another key of its row.
@@ -42,5 +42,5 @@ pub struct Rule {
     /// Which rows have the key.
     pub presence: Presence,
     /// What its value has to be.
-    pub kind: Kind,
+    pub value_type: ValueType,
 }

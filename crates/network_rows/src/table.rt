@@ -1,23 +1,23 @@
-//! The keys of each section, in the order of checks, with their kinds and limits: the table of specs/Table.antt, line by line.
+//! The keys of each section, in the order of checks, with their types and limits: the table of specs/Table.antt, line by line.
 ghost use Rattle.std.specs.Prelude.{◌≡◌};
 ghost use Rattle.network_rows.specs.Table.{keys_of};
 
 use crate::key::Word::{A, B, Bytes, Es, Frames, High, Low, Switch};
 use crate::key::{Key, Section};
-use crate::rule::Kind::{
-    EitherInteger, EitherWord, Integer, IntegerAbove, NodeName, OneOf, Paths, Reference,
-};
 use crate::rule::Presence::{ForSwitches, Optional, OptionalWord, Required};
 use crate::rule::Rule;
+use crate::rule::ValueType::{
+    EitherInteger, EitherWord, Integer, IntegerAbove, NodeName, OneOf, Paths, Reference,
+};
 use vlink::{FrameSize, LATEST_NS};
 
 // A line of the table: the key, which rows have it, and what its value has to be.
 macro_rules! rule {
-    ($key:ident, $presence:expr, $kind:expr) => {
+    ($key:ident, $presence:expr, $value_type:expr) => {
         Rule {
             key: Key::$key,
             presence: $presence,
-            kind: $kind,
+            value_type: $value_type,
         }
     };
 }

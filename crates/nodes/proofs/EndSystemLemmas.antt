@@ -12,17 +12,17 @@ use Rattle.bag_regulator.specs.declared.event.RegEvent.TheVariants.{Offer, Relea
 use Rattle.bag_regulator.specs.declared.event.RegAnswer.TheVariants.{Released}
 use Rattle.bag_regulator.specs.declared.event.RegRecord.{RegRecord}
 use Rattle.output_port.specs.declared.event.PutRecord.{PutRecord}
-use Rattle.nodes.specs.declared.part_record.PartRecord.TheVariants as kept
+use Rattle.nodes.specs.declared.equipment_record.EquipmentRecord.TheVariants as kept
 use Rattle.nodes.specs.declared.source.Source.{Source}
 use Rattle.reverse.specs.Sending.{silent}
 use Rattle.nodes.specs.rules.Finding.{Found, find}
-use Rattle.nodes.specs.declared.sink.Sink.{Sink}
+use Rattle.nodes.specs.declared.reception.Reception.{Reception}
 use Rattle.nodes.specs.rules.Ports.{exists}
 use Rattle.integrity.specs.Integrity.{integrity}
 use Rattle.nodes.specs.laws.Places.{found-again, found-there}
-use Rattle.nodes.specs.rules.EndSystem.{EndSystemState, asked, full, lost, regulated, source_at, source_number, sink_at, sink_number, ending_on, is_on, check_of, received, taken}
-use Rattle.nodes.specs.laws.EndSystem.{sink-again}
-use Rattle.nodes.specs.undoing.EndSystemParts.{ReceivedCameFrom, RegulatedCameFrom, SendingCameFrom}
+use Rattle.nodes.specs.rules.EndSystem.{EndSystemState, asked, full, lost, regulated, source_at, source_number, reception_at, reception_number, ending_on, is_on, check_of, received, taken}
+use Rattle.nodes.specs.laws.EndSystem.{reception-again}
+use Rattle.nodes.specs.undoing.EndSystemElements.{ReceivedCameFrom, RegulatedCameFrom, SendingCameFrom}
 use Rattle.nodes.specs.undoing.EndSystem.{delivery_kept, regulated_kept, taken_kept, EndSystemCameFrom, IsRegulatedValue}
 
 -- a regulator that releases a frame has room in its queue
@@ -36,21 +36,21 @@ asked-quiet n vl None = refl
 asked-quiet n vl (Some at) = refl
 
 -- a virtual link that ends here: the one that was read at its place
-pub sink-found : (s : EndSystemState) (read : List Sink) (vl : VlId) (net : Net) (i : ℕ) (sink : Sink) → read ≡ s.sinks →
-    Some i ≡ option_map (λ (found : Found Sink). found.place) (sink_at s vl net) → sink ≡ slice_index_or read i sink → sink_at s vl net ≡ Some (record { place = i; entry = sink })
-sink-found s read vl net i sink same placed is = go (find sink_number s.sinks vl.0) refl placed
+pub reception-found : (s : EndSystemState) (read : List Reception) (vl : VlId) (net : Net) (i : ℕ) (reception : Reception) → read ≡ s.receptions →
+    Some i ≡ option_map (λ (found : Found Reception). found.place) (reception_at s vl net) → reception ≡ slice_index_or read i reception → reception_at s vl net ≡ Some (record { place = i; entry = reception })
+reception-found s read vl net i reception same placed is = go (find reception_number s.receptions vl.0) refl placed
   where
-    here : (f : Found Sink) → find sink_number s.sinks vl.0 ≡ Some f → (b : Bool) → Some i ≡ option_map (λ (found : Found Sink). found.place) (cond b (Some f) None) →
-        cond b (Some f) None ≡ Some (record { place = i; entry = sink })
+    here : (f : Found Reception) → find reception_number s.receptions vl.0 ≡ Some f → (b : Bool) → Some i ≡ option_map (λ (found : Found Reception). found.place) (cond b (Some f) None) →
+        cond b (Some f) None ≡ Some (record { place = i; entry = reception })
     here f found true e =
         let place : f.place ≡ i = sym (same_Some i f.place e) in
-        let there = ap (slice_get s.sinks) (sym place) ∙ found-there sink_number s.sinks vl.0 f found in
-        let entry : f.entry ≡ sink = sym (get_or_from_slice_get s.sinks i f.entry sink there) ∙ sym (is ∙ ap (λ sinks. slice_index_or sinks i sink) same) in
+        let there = ap (slice_get s.receptions) (sym place) ∙ found-there reception_number s.receptions vl.0 f found in
+        let entry : f.entry ≡ reception = sym (get_or_from_slice_get s.receptions i f.entry reception there) ∙ sym (is ∙ ap (λ receptions. slice_index_or receptions i reception) same) in
         λ t. Some (record { place = place t; entry = entry t })
     here f found false e = absurd (none-some i (sym e))
 
-    go : (o : Option (Found Sink)) → find sink_number s.sinks vl.0 ≡ o → Some i ≡ option_map (λ (found : Found Sink). found.place) (option_and_then (ending_on net) o) →
-        option_and_then (ending_on net) o ≡ Some (record { place = i; entry = sink })
+    go : (o : Option (Found Reception)) → find reception_number s.receptions vl.0 ≡ o → Some i ≡ option_map (λ (found : Found Reception). found.place) (option_and_then (ending_on net) o) →
+        option_and_then (ending_on net) o ≡ Some (record { place = i; entry = reception })
     go None found e = absurd (none-some i (sym e))
     go (Some f) found e = here f found (is_on f.entry.end net) e
 
@@ -73,22 +73,22 @@ sending-came n t vl e now k a b came found is = go (source_at came.0 vl) refl ca
 
 -- a virtual link whose frame came is found with the checks that saw the frame
 pub receiving-came : (n t q : ℕ) (frame : Frame) (now : EndSystemState) (c : Option ℕ) (d : Option (Option (ℕ × ℕ))) →
-    EndSystemCameFrom n t (body.Arrive q frame) now (kept.Received c d) → (found : Found Sink) → sink_at now frame.vl frame.net ≡ Some found →
+    EndSystemCameFrom n t (body.Arrive q frame) now (kept.Received c d) → (found : Found Reception) → reception_at now frame.vl frame.net ≡ Some found →
     ReceivedCameFrom t frame found.entry.receiving c d
 receiving-came n t q frame now c d came found is = by_port (exists came.0.ports q) came.2 came.3
   where
-    by_sink : (o : Option (Found Sink)) → sink_at came.0 frame.vl frame.net ≡ o → now ≡ (taken t frame came.0 o).state →
+    by_reception : (o : Option (Found Reception)) → reception_at came.0 frame.vl frame.net ≡ o → now ≡ (taken t frame came.0 o).state →
         kept.Received c d ≡ taken_kept frame o → ReceivedCameFrom t frame found.entry.receiving c d
-    by_sink None h is_now is_kept = absurd (cc)
-    by_sink (Some before) h is_now is_kept =
+    by_reception None h is_now is_kept = absurd (cc)
+    by_reception (Some before) h is_now is_kept =
         let r = before.entry.receiving in
-        let again = (sink-again came.0 frame.vl frame.net before (received t frame r) h).1 in
-        let same : record before { entry = record before.entry { receiving = received t frame r } } ≡ found = same_Some _ found (sym again ∙ ap (λ s. sink_at s frame.vl frame.net) (sym is_now) ∙ is) in
+        let again = (reception-again came.0 frame.vl frame.net before (received t frame r) h).1 in
+        let same : record before { entry = record before.entry { receiving = received t frame r } } ≡ found = same_Some _ found (sym again ∙ ap (λ s. reception_at s frame.vl frame.net) (sym is_now) ∙ is) in
         let check : c ≡ check_of frame.net r = cc in
         let delivery : d ≡ delivery_kept r (integrity.out (check_of frame.net r) frame.number) = cc in
-        subst (λ (found : Found Sink). ReceivedCameFrom t frame found.entry.receiving c d) same (r, refl, check, delivery)
+        subst (λ (found : Found Reception). ReceivedCameFrom t frame found.entry.receiving c d) same (r, refl, check, delivery)
 
-    by_port : (b : Bool) → now ≡ (cond b (taken t frame came.0 (sink_at came.0 frame.vl frame.net)) (record { state = came.0; reply = silent })).state →
-        kept.Received c d ≡ cond b (taken_kept frame (sink_at came.0 frame.vl frame.net)) kept.Nothing → ReceivedCameFrom t frame found.entry.receiving c d
-    by_port true is_now is_kept = by_sink (sink_at came.0 frame.vl frame.net) refl is_now is_kept
+    by_port : (b : Bool) → now ≡ (cond b (taken t frame came.0 (reception_at came.0 frame.vl frame.net)) (record { state = came.0; reply = silent })).state →
+        kept.Received c d ≡ cond b (taken_kept frame (reception_at came.0 frame.vl frame.net)) kept.Nothing → ReceivedCameFrom t frame found.entry.receiving c d
+    by_port true is_now is_kept = by_reception (reception_at came.0 frame.vl frame.net) refl is_now is_kept
     by_port false is_now is_kept = absurd (cc)

@@ -16,11 +16,11 @@ use Rattle.netdesc.specs.Trees.{is_none}
 use Rattle.netdesc.proofs.RisingLemmas.{ids-rise}
 use Rattle.nodes.specs.declared.meeting.Side.TheVariants.{Out, In}
 use Rattle.nodes.specs.rules.Meeting.{ways_at, with_ways, ports_by, meeting, meetings}
-use Rattle.nodes.specs.rules.EndSystem.{source_number, sink_number}
+use Rattle.nodes.specs.rules.EndSystem.{source_number, reception_number}
 use Rattle.nodes.specs.rules.Switch.{transit_number}
-use Rattle.nodes.specs.rules.Opening.{source_of, sink_of, transit_of}
+use Rattle.nodes.specs.rules.Opening.{source_of, reception_of, transit_of}
 use Rattle.nodes.specs.rules.Finding.{place_of, found_at}
-use Rattle.nodes.specs.laws.Making.{number_met, ports_among, ports_found, source_met, sink_met, transit_met}
+use Rattle.nodes.specs.laws.Making.{number_met, ports_among, ports_found, source_met, reception_met, transit_met}
 use Rattle.nodes.proofs.GroupLemmas.{below}
 
 -- the ports of the first virtual link, or of a later one
@@ -47,16 +47,16 @@ pub sources-made : (by : VlPlan → List Way) (vls : List VlPlan) → map source
 unfolding ports_by
 sources-made by vls = map-map source_met (meeting by) vls
 
-pub sinks-made : (by : VlPlan → List Way) (vls : List VlPlan) → map sink_met (map (meeting by) vls) ≡ map (sink_of by) vls
+pub receptions-made : (by : VlPlan → List Way) (vls : List VlPlan) → map reception_met (map (meeting by) vls) ≡ map (reception_of by) vls
 unfolding ports_by
-sinks-made by vls = map-map sink_met (meeting by) vls
+receptions-made by vls = map-map reception_met (meeting by) vls
 
 -- the numbers stay
 pub source-numbers : (meetings : List Meeting) → map source_number (map source_met meetings) ≡ map number_met meetings
 source-numbers meetings = map-map source_number source_met meetings
 
-pub sink-numbers : (meetings : List Meeting) → map sink_number (map sink_met meetings) ≡ map number_met meetings
-sink-numbers meetings = map-map sink_number sink_met meetings
+pub reception-numbers : (meetings : List Meeting) → map reception_number (map reception_met meetings) ≡ map number_met meetings
+reception-numbers meetings = map-map reception_number reception_met meetings
 
 pub transit-numbers : (departing meetings : List Meeting) → map transit_number (map (transit_met departing) meetings) ≡ map number_met meetings
 transit-numbers departing meetings = map-map transit_number (transit_met departing) meetings

@@ -22,9 +22,9 @@ use Rattle.netdesc.proofs.BuildLemmas.{line-read, length-lines}
 use Rattle.netdesc.proofs.PortLemmas.{line-within}
 use Rattle.netdesc.proofs.LimitLemmas.{kind-read, link-read}
 use Rattle.nodes.specs.declared.ports.Wire.{Wire}
-use Rattle.nodes.specs.declared.part.Part.TheVariants as part
-use Rattle.nodes.specs.rules.Opening.{leaves_by, wire_among, wires_of, outlet_of, ports_of, source_of, node_opening, part_opening, line_opening, opening}
-use Rattle.nodes.specs.rules.Placed.{AllWires, IsPlacedPart, IsPlaced, IsWiredPart, IsWired}
+use Rattle.nodes.specs.declared.equipment.Equipment.TheVariants as equipment
+use Rattle.nodes.specs.rules.Opening.{leaves_by, wire_among, wires_of, outlet_of, ports_of, source_of, node_opening, equipment_opening, line_opening, opening}
+use Rattle.nodes.specs.rules.Placed.{AllWires, IsPlacedEquipment, IsPlaced, IsWiredEquipment, IsWired}
 
 -- what holds of each line, as the wire of a process behind these, holds of the wire that is found
 wire-holds : (P : Wire → Type 0) (n q process : ℕ) (lines : List Direction) →
@@ -62,10 +62,10 @@ all-passed P Q f test gives (x ∷ xs) all = go (test x) (all-passed P Q f test 
     go false later = later
 
 -- where a list has nothing, it has ended
-none-past : {X : Type 0} (xs : List X) (k : ℕ) → slice_get xs k ≡ None → length xs ≤ k
-none-past [] k e = omega arith
-none-past (x ∷ xs) zero e = absurd (none-some x (sym e))
-none-past (x ∷ xs) (suc k) e = let rest = none-past xs k e in omega arith
+none-beyond : {X : Type 0} (xs : List X) (k : ℕ) → slice_get xs k ≡ None → length xs ≤ k
+none-beyond [] k e = omega arith
+none-beyond (x ∷ xs) zero e = absurd (none-some x (sym e))
+none-beyond (x ∷ xs) (suc k) e = let rest = none-beyond xs k e in omega arith
 
 module _ (plan : Plan) (accepted : IsAccepted plan) where
   wires-hold : (P : Wire → Type 0) → ((k : ℕ) (line : Direction) → slice_get (lines_of plan) k ≡ Some line → P (record { line = length plan.nodes + k; byte_ns = line.byte_ns })) →
@@ -94,32 +94,32 @@ module _ (plan : Plan) (accepted : IsAccepted plan) where
       All-from_recursion (λ (source : Source). 1 ≤ source.regulator.bag) _ (all-passed has-bag (λ source. 1 ≤ source.regulator.bag) (source_of ways) (λ vl. not (is_none (ways vl))) (λ vl h. omega (arith, h)) plan.vls
       (all-read has-bag plan.vls (λ k vl there. (link-read plan k vl.link accepted (ap (option_map (λ vl. vl.link)) there)).least_bag)))
 
-  node-placed : (n : ℕ) (node : NodePlan) → slice_get plan.nodes n ≡ Some node → (k : NodeKind) → node.kind ≡ k → IsPlacedPart (node_opening plan n node.port_bytes k)
+  node-placed : (n : ℕ) (node : NodePlan) → slice_get plan.nodes n ≡ Some node → (k : NodeKind) → node.kind ≡ k → IsPlacedEquipment (node_opening plan n node.port_bytes k)
   node-placed n node there kind.EndSystem e = (slow-wires n 2 node.port_bytes, spaced (ways_at plan n Out))
   node-placed n node there (kind.Switch net latency_ns) e =
       (slow-wires n GREATEST_PORTS node.port_bytes, (kind-read plan n (kind.Switch net latency_ns) accepted (ap (option_map (λ node. node.kind)) there ∙ ap Some e)).0)
 
-  node-wired : (n : ℕ) (node : NodePlan) (k : NodeKind) → IsWiredPart (process_count plan) (node_opening plan n node.port_bytes k)
+  node-wired : (n : ℕ) (node : NodePlan) (k : NodeKind) → IsWiredEquipment (process_count plan) (node_opening plan n node.port_bytes k)
   node-wired n node kind.EndSystem = near-wires n 2 node.port_bytes
   node-wired n node (kind.Switch net latency_ns) = near-wires n GREATEST_PORTS node.port_bytes
 
   -- process p behind the nodes is a line
   behind : (p : ℕ) → p < process_count plan → slice_get plan.nodes p ≡ None → p - length plan.nodes < length (lines_of plan)
-  behind p lt none = omega (arith, none-past plan.nodes p none, length-lines plan.nodes [] plan.links)
+  behind p lt none = omega (arith, none-beyond plan.nodes p none, length-lines plan.nodes [] plan.links)
 
   line-there : (k : ℕ) → k < length (lines_of plan) → (o : Option Direction) → slice_get (lines_of plan) k ≡ o →
-      IsPlacedPart (part.Line (line_opening plan k o)) × IsWiredPart (process_count plan) (part.Line (line_opening plan k o))
+      IsPlacedEquipment (equipment.Line (line_opening plan k o)) × IsWiredEquipment (process_count plan) (equipment.Line (line_opening plan k o))
   line-there k lt (Some line) there =
       ((line-within plan k line accepted there).times.propagation, omega (arith, (line-read plan k line accepted there).1))
-  line-there k lt None there = absurd (omega (arith, none-past (lines_of plan) k there))
+  line-there k lt None there = absurd (omega (arith, none-beyond (lines_of plan) k there))
 
-  part-opens : (p : ℕ) → p < process_count plan → (o : Option NodePlan) → slice_get plan.nodes p ≡ o →
-      IsPlacedPart (part_opening plan p o) × IsWiredPart (process_count plan) (part_opening plan p o)
-  part-opens p lt (Some node) there = (node-placed p node there node.kind refl, node-wired p node node.kind)
-  part-opens p lt None there = let k = p - length plan.nodes in line-there k (behind p lt there) (slice_get (lines_of plan) k) refl
+  equipment-opens : (p : ℕ) → p < process_count plan → (o : Option NodePlan) → slice_get plan.nodes p ≡ o →
+      IsPlacedEquipment (equipment_opening plan p o) × IsWiredEquipment (process_count plan) (equipment_opening plan p o)
+  equipment-opens p lt (Some node) there = (node-placed p node there node.kind refl, node-wired p node node.kind)
+  equipment-opens p lt None there = let k = p - length plan.nodes in line-there k (behind p lt there) (slice_get (lines_of plan) k) refl
 
   pub opening-placed : (p : ℕ) → p < process_count plan → IsPlaced (opening plan p)
-  opening-placed p lt = (part-opens p lt (slice_get plan.nodes p) refl).0
+  opening-placed p lt = (equipment-opens p lt (slice_get plan.nodes p) refl).0
 
   pub opening-wired : (p : ℕ) → p < process_count plan → IsWired (process_count plan) (opening plan p)
-  opening-wired p lt = (lt, (part-opens p lt (slice_get plan.nodes p) refl).1)
+  opening-wired p lt = (lt, (equipment-opens p lt (slice_get plan.nodes p) refl).1)

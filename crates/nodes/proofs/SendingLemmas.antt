@@ -38,9 +38,9 @@ replied-joined o first second =
     let before = sent o.sender first.wishes in
     let behind = sent (after_sending o.sender first.wishes) second.wishes in
     let all = sent-append o.sender first.wishes second.wishes in
-    let counted : o.sender.counter + length before + length behind ≡ o.sender.counter + length (sent o.sender (joined first second).wishes) =
+    let counter_is : o.sender.counter + length before + length behind ≡ o.sender.counter + length (sent o.sender (joined first second).wishes) =
     omega (arith, ap length all, length-append before behind) in
-    ap (λ (n : ℕ). record { sender = record o.sender { counter = n }; messages = (o.messages ++ before) ++ behind; notes = (o.notes ++ first.notes) ++ second.notes }) counted
+    ap (λ (n : ℕ). record { sender = record o.sender { counter = n }; messages = (o.messages ++ before) ++ behind; notes = (o.notes ++ first.notes) ++ second.notes }) counter_is
     ∙ ap (λ (ms : List Message). record (replied o (joined first second)) { messages = ms; notes = (o.notes ++ first.notes) ++ second.notes })
     (append_assoc o.messages before behind ∙ ap (λ (ms : List Message). o.messages ++ ms) (sym all))
     ∙ ap (λ (ns : List Note). record (replied o (joined first second)) { notes = ns }) (append_assoc o.notes first.notes second.notes)

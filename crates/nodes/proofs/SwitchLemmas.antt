@@ -9,7 +9,7 @@ use Rattle.policer.specs.declared.account.Arrival.{Arrival}
 use Rattle.policer.specs.declared.account.AccountRecord.{AccountRecord}
 use Rattle.reverse.specs.Plain.{CameFrom}
 use Rattle.reverse.specs.Sending.{silent}
-use Rattle.nodes.specs.declared.part_record.PartRecord.TheVariants as kept
+use Rattle.nodes.specs.declared.equipment_record.EquipmentRecord.TheVariants as kept
 use Rattle.nodes.specs.declared.transit.Transit.{Transit}
 use Rattle.nodes.specs.rules.Finding.{Found}
 use Rattle.nodes.specs.rules.Ports.{exists}

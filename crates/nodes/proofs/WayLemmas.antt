@@ -28,10 +28,10 @@ use Rattle.nodes.proofs.GroupLemmas.{AreOf, below, groups-flat_map}
 abbrev pub IsFound : List VlPlan → VlPlan → Type 0
 IsFound vls vl = vl_with vls vl.link.id.0 ≡ Some vl
 
--- what holds of each item of each part, holds of all
-all-parts : {X Y : Type 0} (P : Y → Type 0) (f : X → List Y) → ((x : X) → AllByRecursion P (f x)) → (xs : List X) → AllByRecursion P (flat_map f xs)
-all-parts P f each [] = tt
-all-parts {Y = Y} P f each (x ∷ xs) = joined (f x) (each x) (all-parts P f each xs)
+-- what holds of each item of each list, holds of all
+all-of-each : {X Y : Type 0} (P : Y → Type 0) (f : X → List Y) → ((x : X) → AllByRecursion P (f x)) → (xs : List X) → AllByRecursion P (flat_map f xs)
+all-of-each P f each [] = tt
+all-of-each {Y = Y} P f each (x ∷ xs) = joined (f x) (each x) (all-of-each P f each xs)
   where
     joined : (ys : List Y) → AllByRecursion P ys → AllByRecursion P (flat_map f xs) → AllByRecursion P (ys ++ flat_map f xs)
     joined [] all later = later
@@ -39,7 +39,7 @@ all-parts {Y = Y} P f each (x ∷ xs) = joined (f x) (each x) (all-parts P f eac
 
 -- a way is made of a line that there is
 all-ways : (P : Way → Type 0) (way : Direction → Option Way) (lines : List Direction) → ((k : ℕ) (line : Direction) → slice_get lines k ≡ Some line → AllByRecursion P (option_to_list (way line))) → (route : List ℕ) → AllByRecursion P (ways_over way lines route)
-all-ways P way lines each route = all-parts P (λ k. option_to_list (option_and_then way (slice_get lines k))) at route
+all-ways P way lines each route = all-of-each P (λ k. option_to_list (option_and_then way (slice_get lines k))) at route
   where
     at : (k : ℕ) → AllByRecursion P (option_to_list (option_and_then way (slice_get lines k)))
     at k = go (slice_get lines k) refl
@@ -59,7 +59,7 @@ ways-own plan n In vl = all-ways (λ way. way.vl.0 ≡ vl.link.id.0) (in_at n vl
 
 -- their ports are within the limit
 pub ways-within : (plan : Plan) (n : ℕ) (side : Side) → IsAccepted plan → All (λ way. way.port < GREATEST_PORTS) (flat_map (ways_at plan n side) plan.vls)
-ways-within plan n side accepted = All-from_recursion (λ way. way.port < GREATEST_PORTS) _ (all-parts (λ way. way.port < GREATEST_PORTS) (ways_at plan n side) (own side) plan.vls)
+ways-within plan n side accepted = All-from_recursion (λ way. way.port < GREATEST_PORTS) _ (all-of-each (λ way. way.port < GREATEST_PORTS) (ways_at plan n side) (own side) plan.vls)
   where
     own : (side : Side) (vl : VlPlan) → AllByRecursion (λ way. way.port < GREATEST_PORTS) (ways_at plan n side vl)
     own Out vl = all-ways (λ way. way.port < GREATEST_PORTS) (out_at n vl.link.id) (lines_of plan) (λ k line e. passing _ (line.from == n) _ (line-within plan k line accepted e).from_port) (route_over plan.links vl)

@@ -4,7 +4,7 @@ use Rattle.std.specs.Prelude.{slice_get}
 use Rattle.std.proofs.lemmas.List.{length-take-le}
 use Rattle.std.proofs.lemmas.Option.{slice_get_within, get_or_from_slice_get}
 use Rattle.netdesc.specs.declared.wiring.Direction.{Direction}
-use Rattle.netdesc.proofs.PlaceLemmas.{or_else, or_else-noted}
+use Rattle.netdesc.proofs.PlaceLemmas.{or_else, or_else-stored}
 use Rattle.netdesc.proofs.EachLemmas.{take-read}
 use Rattle.nodes.specs.declared.ports.Wire.{Wire}
 use Rattle.nodes.specs.rules.Opening.{leaves_by, wire_among}
@@ -23,16 +23,16 @@ wire_among-push n q process (first ∷ lines) line =
     go true later = refl
     go false later = later
 
--- the line with the place k is noted where there was none yet
+-- the line with the place k is stored where there was none yet
 pub wire_among-more : (n q process k number : ℕ) (lines : List Direction) (line : Direction) (old new : Option Wire) → slice_get lines k ≡ Some line → number ≡ process + k → old ≡ wire_among n q process (take k lines)
     → new ≡ cond (leaves_by n q line && is_none old) (wire_of number line) old → new ≡ wire_among n q process (take (k + 1) lines)
-wire_among-more n q process k number lines line old new read numbered before noted =
+wire_among-more n q process k number lines line old new read numbered before stored =
     let out = leaves_by n q line in
     let lt : k < length lines = slice_get_within lines k line read in
     let all : take (k + 1) lines ≡ take k lines ++ line ∷ [] = take-read lines k line lt (sym (get_or_from_slice_get lines k line line read)) in
     let count : number ≡ process + length (take k lines) = omega (arith, length-take-le k lines (omega arith)) in
-    noted
-    ∙ or_else-noted old out (record { line = number; byte_ns = line.byte_ns })
+    stored
+    ∙ or_else-stored old out (record { line = number; byte_ns = line.byte_ns })
     ∙ ap (λ o. or_else o (cond out (wire_of number line) None)) before
     ∙ ap (λ p. or_else (wire_among n q process (take k lines)) (cond out (wire_of p line) None)) count
     ∙ sym (ap (wire_among n q process) all ∙ wire_among-push n q process (take k lines) line)

@@ -8,18 +8,18 @@ ghost use Rattle.bag_regulator.specs.declared.event.RegEvent.TheVariants.{Offer}
 ghost use Rattle.reverse.specs.Sending.{replied};
 ghost use Rattle.nodes.specs.rules.Finding.{Found, IsRising};
 ghost use Rattle.nodes.specs.declared.source.Source.{Source};
-ghost use Rattle.nodes.specs.declared.sink.Sink.{Sink};
+ghost use Rattle.nodes.specs.declared.reception.Reception.{Reception};
 ghost use Rattle.nodes.specs.rules.Ports.{port_at};
-ghost use Rattle.nodes.specs.rules.EndSystem.{end_system, lost, offered_frame, regulated, taken, sink_at, sink_number, source_at, source_number};
+ghost use Rattle.nodes.specs.rules.EndSystem.{end_system, lost, offered_frame, regulated, taken, reception_at, reception_number, source_at, source_number};
 ghost use Rattle.nodes.specs.undoing.EndSystem.{end_system_kept, end_system_restored, regulated_kept, taken_kept, unfreed, unregulated, untaken, EndSystemCameFrom, IsEndSystemValue, IsRegulatedValue};
-ghost use Rattle.nodes.specs.undoing.EndSystemParts.{RegulatedCameFrom};
+ghost use Rattle.nodes.specs.undoing.EndSystemElements.{RegulatedCameFrom};
 
+use crate::equipment_record::EquipmentRecord;
 use crate::finding::place_of;
 use crate::networks::is_on;
-use crate::part_record::PartRecord;
 use crate::ports::Ports;
+use crate::reception::Reception;
 use crate::sending::{lose_offered, regulate};
-use crate::sink::Sink;
 use crate::source::Source;
 use crate::taking_back::take_back;
 use bag_regulator::{BagRegulator, RegEvent};
@@ -35,39 +35,39 @@ use vlink::{Body, Cause, Frame, FrameSize, Message, Net, Time, VlId};
 #[derive(Debug, Drop)]
 pub struct EndSystem {
     sources: Vec<Source>,
-    sinks: Vec<Sink>,
+    receptions: Vec<Reception>,
     ports: Ports,
 }
 
 impl Model for EndSystem {
     ghost use Rattle.std.specs.Prelude.{map};
     ghost use Rattle.nodes.specs.rules.Finding.{IsRising};
-    ghost use Rattle.nodes.specs.rules.EndSystem.{EndSystemState, source_number, sink_number};
+    ghost use Rattle.nodes.specs.rules.EndSystem.{EndSystemState, source_number, reception_number};
 
     ghost Value = { EndSystemState };
 
-    ghost view = { λ s. record { sources = s.sources.items; sinks = s.sinks.items; ports = s.ports } };
+    ghost view = { λ s. record { sources = s.sources.items; receptions = s.receptions.items; ports = s.ports } };
 
-    ghost invariant = { λ s. IsRising (map source_number s.sources.items) × IsRising (map sink_number s.sinks.items) };
+    ghost invariant = { λ s. IsRising (map source_number s.sources.items) × IsRising (map reception_number s.receptions.items) };
 }
 
 impl EndSystem {
     /// An end system of these parts.
-    pub(crate) fn new(sources: Vec<Source>, sinks: Vec<Sink>, ports: Ports) -> Self
+    pub(crate) fn new(sources: Vec<Source>, receptions: Vec<Reception>, ports: Ports) -> Self
         requires sources { IsRising (map source_number sources.items) }
-        requires sinks { IsRising (map sink_number sinks.items) }
-        ensures { result ≡ record { sources = sources.items; sinks = sinks.items; ports = ports } }
+        requires receptions { IsRising (map reception_number receptions.items) }
+        ensures { result ≡ record { sources = sources.items; receptions = receptions.items; ports = ports } }
     {
         EndSystem {
             sources,
-            sinks,
+            receptions,
             ports,
         }
     }
 
     /// Handles a message, and gives the record by which it is undone.
     #[inline(always)]
-    pub fn handle(&mut self, message: &Message, out: &mut Outbound) -> PartRecord
+    pub fn handle(&mut self, message: &Message, out: &mut Outbound) -> EquipmentRecord
         requires messages { out.old.messages ≡ [] }
         requires notes { out.old.notes ≡ [] }
         requires numbers { out.old.sender.counter + 24 ≤ greatest_number }
@@ -82,14 +82,14 @@ impl EndSystem {
                 self.regulate(at, *vl, &offer(at, *vl, *size, *sub), out)
             }
             Body::Release { vl } => self.regulate(at, *vl, &RegEvent::Release { at }, out),
-            Body::PortFree { port } => PartRecord::Port(self.ports.free(at, *port, out)),
+            Body::PortFree { port } => EquipmentRecord::Port(self.ports.free(at, *port, out)),
             Body::Arrive { port, frame } if self.ports.exists(*port) => self.take(at, frame, out),
-            _ => PartRecord::Nothing,
+            _ => EquipmentRecord::Nothing,
         }
     }
 
     /// Takes a message back by the record that was kept of it.
-    pub fn undo(&mut self, message: &Message, kept: PartRecord)
+    pub fn undo(&mut self, message: &Message, kept: EquipmentRecord)
         requires { (n : ℕ) × EndSystemCameFrom n message.now.time message.now.body self.old kept }
         ensures { self.new ≡ end_system_restored message.now.body kept self.old }
     {
@@ -105,7 +105,13 @@ impl EndSystem {
 
     /// The regulator of a virtual link is asked to do something. A frame of a virtual link that does not begin here is lost.
     #[inline(always)]
-    fn regulate(&mut self, at: Time, vl: VlId, event: &RegEvent, out: &mut Outbound) -> PartRecord
+    fn regulate(
+        &mut self,
+        at: Time,
+        vl: VlId,
+        event: &RegEvent,
+        out: &mut Outbound,
+    ) -> EquipmentRecord
         requires messages { out.old.messages ≡ [] }
         requires notes { out.old.notes ≡ [] }
         requires numbers { out.old.sender.counter + 24 ≤ greatest_number }
@@ -116,18 +122,18 @@ impl EndSystem {
     {
         let Some(place) = place_of(self.sources.as_slice(), vl) else {
             lose_offered(Cause::Unknown, event, out);
-            return PartRecord::Nothing;
+            return EquipmentRecord::Nothing;
         };
         let source = &mut self.sources[place];
         regulate(at, event, source, &mut self.ports, out)
     }
 
     /// Takes back what the regulator of a virtual link was asked to do.
-    fn unregulate(&mut self, vl: VlId, event: &RegEvent, kept: PartRecord)
+    fn unregulate(&mut self, vl: VlId, event: &RegEvent, kept: EquipmentRecord)
         requires { (n t : ℕ) × RegulatedCameFrom n t vl event.now self.old kept }
         ensures { self.new ≡ unregulated vl kept self.old }
     {
-        let PartRecord::Regulated { regulator, a, b } = kept else {
+        let EquipmentRecord::Regulated { regulator, a, b } = kept else {
             return;
         };
         let Some(place) = place_of(self.sources.as_slice(), vl) else {
@@ -138,11 +144,11 @@ impl EndSystem {
     }
 
     /// Takes back that the frame of a port left.
-    fn unfree(&mut self, port: u8, kept: PartRecord)
+    fn unfree(&mut self, port: u8, kept: EquipmentRecord)
         requires { (n t : ℕ) × EndSystemCameFrom n t (body.PortFree port) self.old kept }
         ensures { self.new ≡ unfreed port kept self.old }
     {
-        let PartRecord::Port(kept) = kept else {
+        let EquipmentRecord::Port(kept) = kept else {
             return;
         };
         self.ports.undo(port, &PortEvent::Free, kept);
@@ -150,33 +156,33 @@ impl EndSystem {
 
     /// A frame has come. It is lost where its virtual link does not end here on its network.
     #[inline(always)]
-    fn take(&mut self, at: Time, frame: &Frame, out: &mut Outbound) -> PartRecord
+    fn take(&mut self, at: Time, frame: &Frame, out: &mut Outbound) -> EquipmentRecord
         requires { length out.old.notes < 2 }
-        ensures state { self.new ≡ (taken at frame.now self.old (sink_at self.old frame.now.vl frame.now.net)).state }
-        ensures reply { out.new ≡ replied out.old (taken at frame.now self.old (sink_at self.old frame.now.vl frame.now.net)).reply }
-        ensures kept { result ≡ taken_kept frame.now (sink_at self.old frame.now.vl frame.now.net) }
+        ensures state { self.new ≡ (taken at frame.now self.old (reception_at self.old frame.now.vl frame.now.net)).state }
+        ensures reply { out.new ≡ replied out.old (taken at frame.now self.old (reception_at self.old frame.now.vl frame.now.net)).reply }
+        ensures kept { result ≡ taken_kept frame.now (reception_at self.old frame.now.vl frame.now.net) }
     {
-        let Some(place) = self.sink(frame.vl, frame.net) else {
+        let Some(place) = self.reception(frame.vl, frame.net) else {
             out.lose(Cause::Unknown, frame);
-            return PartRecord::Nothing;
+            return EquipmentRecord::Nothing;
         };
-        let sink = &mut self.sinks[place];
-        sink.receiving.receive(at, frame, out)
+        let reception = &mut self.receptions[place];
+        reception.receiving.receive(at, frame, out)
     }
 
     /// Takes back that a frame came to a port.
-    fn untake(&mut self, at: Time, port: u8, frame: &Frame, kept: PartRecord)
+    fn untake(&mut self, at: Time, port: u8, frame: &Frame, kept: EquipmentRecord)
         requires { (n : ℕ) × EndSystemCameFrom n at (body.Arrive port frame.now) self.old kept }
         ensures { self.new ≡ untaken frame.now kept self.old }
     {
-        let PartRecord::Received { check, delivery } = kept else {
+        let EquipmentRecord::Received { check, delivery } = kept else {
             return;
         };
-        let Some(place) = self.sink(frame.vl, frame.net) else {
+        let Some(place) = self.reception(frame.vl, frame.net) else {
             return;
         };
-        let sink = &mut self.sinks[place];
-        sink.receiving.take_back(at, frame, check, delivery);
+        let reception = &mut self.receptions[place];
+        reception.receiving.take_back(at, frame, check, delivery);
     }
 
     /// The regulator of a virtual link, if the end system sends it.
@@ -196,11 +202,11 @@ impl EndSystem {
 
     /// The place of a virtual link that ends here on this network among those that the end system receives.
     #[inline(always)]
-    fn sink(&self, vl: VlId, net: Net) -> Option<usize>
-        ensures { result ≡ option_map (λ (found : Found Sink). found.place) (sink_at self.now vl net) }
+    fn reception(&self, vl: VlId, net: Net) -> Option<usize>
+        ensures { result ≡ option_map (λ (found : Found Reception). found.place) (reception_at self.now vl net) }
     {
-        let place = place_of(self.sinks.as_slice(), vl)?;
-        if is_on(&self.sinks[place].end, net) {
+        let place = place_of(self.receptions.as_slice(), vl)?;
+        if is_on(&self.receptions[place].end, net) {
             Some(place)
         } else {
             None

@@ -2,6 +2,8 @@
 #![tactic(auto)]
 
 mod end_system;
+mod equipment;
+mod equipment_record;
 mod finding;
 mod line;
 mod making;
@@ -10,12 +12,10 @@ mod networks;
 mod node;
 mod opening;
 mod outputs;
-mod part;
-mod part_record;
 mod ports;
 mod receiving;
+mod reception;
 mod sending;
-mod sink;
 mod source;
 mod switch;
 mod taking_back;
@@ -23,5 +23,5 @@ mod transit;
 mod vl_end;
 mod wiring;
 
+pub use equipment_record::EquipmentRecord;
 pub use node::{Node, NodeRecord};
-pub use part_record::PartRecord;

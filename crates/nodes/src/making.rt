@@ -3,13 +3,13 @@ ghost use Rattle.std.specs.Prelude.{◌≡◌, All, map, IfOk};
 ghost use Rattle.netdesc.specs.Limits.{IsLinkInLimits};
 ghost use Rattle.nodes.specs.rules.Finding.{IsRising};
 ghost use Rattle.nodes.specs.rules.Opening.{regulator_of, receiving_of, account_of, measure_of, port_priority};
-ghost use Rattle.nodes.specs.laws.Making.{number_met, end_met, source_met, sink_met, ports_among, transit_met};
+ghost use Rattle.nodes.specs.laws.Making.{number_met, end_met, source_met, reception_met, ports_among, transit_met};
 
 use crate::finding::place_of;
 use crate::meeting::Meeting;
 use crate::outputs::Outputs;
 use crate::receiving::Receiving;
-use crate::sink::Sink;
+use crate::reception::Reception;
 use crate::source::Source;
 use crate::transit::Transit;
 use crate::vl_end::VlEnd;
@@ -67,18 +67,18 @@ fn receiving_of(link: &VirtualLink) -> Receiving
 }
 
 /// The virtual links that an end system receives.
-pub fn sinks_of(alloc: Global, meetings: &[Meeting]) -> Result<Vec<Sink>, AllocError>
+pub fn receptions_of(alloc: Global, meetings: &[Meeting]) -> Result<Vec<Reception>, AllocError>
     requires { All (λ met. IsLinkInLimits met.link) meetings.now }
-    ensures { IfOk result (λ sinks. sinks.items ≡ map sink_met meetings.now) }
+    ensures { IfOk result (λ receptions. receptions.items ≡ map reception_met meetings.now) }
 {
-    let mut sinks = Vec::new(alloc);
+    let mut receptions = Vec::new(alloc);
     for met in meetings {
-        sinks.push(Sink {
+        receptions.push(Reception {
             end: end_of(met),
             receiving: receiving_of(&met.link),
         })?;
     }
-    Ok(sinks)
+    Ok(receptions)
 }
 
 /// What an account counts, as the virtual link says.

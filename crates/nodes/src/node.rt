@@ -5,10 +5,10 @@ ghost use Rattle.std.specs.Option.{option_copied};
 ghost use Rattle.vlink.specs.Numbering.{greatest_number};
 ghost use Rattle.nodes.specs.rules.Node.{after, sends, notes, port_in, regulator_in};
 ghost use Rattle.nodes.specs.undoing.Node.{node, IsNodeValue};
-ghost use Rattle.nodes.specs.rules.Placed.{IsPlacedPart};
+ghost use Rattle.nodes.specs.rules.Placed.{IsPlacedEquipment};
 
-use crate::part::Part;
-use crate::part_record::PartRecord;
+use crate::equipment::Equipment;
+use crate::equipment_record::EquipmentRecord;
 use bag_regulator::BagRegulator;
 use output_port::Port;
 use reverse::{Actor, Outbound, Reversible, Sends};
@@ -19,7 +19,7 @@ use vlink::{Message, Time, VlId};
 #[derive(Clone, Copy, Debug, PartialEq, Eq)]
 pub struct NodeRecord {
     pub sends: u8,
-    pub part: PartRecord,
+    pub equipment: EquipmentRecord,
 }
 
 /// A node of a network, or one direction of a link, as a process that handles messages.
@@ -30,7 +30,7 @@ pub struct Node {
     number: u16,
     until: Time,
     counter: u64,
-    part: Part,
+    equipment: Equipment,
 }
 
 impl Model for Node {
@@ -41,23 +41,23 @@ impl Model for Node {
 
     ghost Value = { NodeState };
 
-    ghost view = { λ n. record { sender = record { number = n.number; until = n.until; counter = n.counter }; part = n.part } };
+    ghost view = { λ n. record { sender = record { number = n.number; until = n.until; counter = n.counter }; equipment = n.equipment } };
 
-    ghost invariant = { λ n. IsPlaced (record { sender = record { number = n.number; until = n.until; counter = n.counter }; part = n.part }) × (n.until < GREATEST_NS) };
+    ghost invariant = { λ n. IsPlaced (record { sender = record { number = n.number; until = n.until; counter = n.counter }; equipment = n.equipment }) × (n.until < GREATEST_NS) };
 }
 
 impl Node {
     /// A process that has sent nothing yet.
-    pub(crate) fn of_part(number: u16, until: Time, part: Part) -> Self
-        requires placed { IsPlacedPart part }
+    pub(crate) fn of_equipment(number: u16, until: Time, equipment: Equipment) -> Self
+        requires placed { IsPlacedEquipment equipment }
         requires until { until < GREATEST_NS }
-        ensures { result ≡ record { sender = record { number = number; until = until; counter = 0 }; part = part } }
+        ensures { result ≡ record { sender = record { number = number; until = until; counter = 0 }; equipment = equipment } }
     {
         Node {
             number,
             until,
             counter: 0,
-            part,
+            equipment,
         }
     }
 
@@ -73,11 +73,11 @@ impl Node {
         ensures valid { IsNodeValue self.old event.now }
     {
         out.open(self.number, self.until, self.counter);
-        let part = self.part.handle(event, out);
+        let equipment = self.equipment.handle(event, out);
         self.counter = out.counter();
         NodeRecord {
             sends: out.messages().len() as u8,
-            part,
+            equipment,
         }
     }
 
@@ -90,16 +90,16 @@ impl Node {
 
     /// The regulator of a virtual link, if the node is an end system that sends it.
     pub fn regulator(&self, vl: VlId) -> Option<&BagRegulator>
-        ensures { option_copied result ≡ regulator_in self.now.part vl }
+        ensures { option_copied result ≡ regulator_in self.now.equipment vl }
     {
-        self.part.regulator(vl)
+        self.equipment.regulator(vl)
     }
 
     /// The output port with this number, if the node has one. Port 0 of an end system is that of network A, port 1 that of network B.
     pub fn port(&self, port: u8) -> Option<&Port>
-        ensures { option_copied result ≡ port_in self.now.part port }
+        ensures { option_copied result ≡ port_in self.now.equipment port }
     {
-        self.part.port(port)
+        self.equipment.port(port)
     }
 }
 
@@ -131,13 +131,13 @@ impl Reversible for Node {
 
     fn undo(&mut self, event: &Message, kept: NodeRecord) {
         self.counter -= u64::from(kept.sends);
-        self.part.undo(event, kept.part);
+        self.equipment.undo(event, kept.equipment);
     }
 }
 
 impl Actor for Node {
     ghost use Rattle.nodes.specs.rules.Placed.{IsPlaced};
-    ghost use Rattle.nodes.specs.laws.Node.{number-stays, end-stays, sends-own, sends-timely, sends-numbered, sends-counted};
+    ghost use Rattle.nodes.specs.laws.Node.{number-stays, end-stays, sends-own, sends-timely, sends-numbered, counter-grows};
     ghost use Rattle.nodes.specs.laws.NodeSending.{place-stays, sends-later};
 
     ghost number = { λ s. s.sender.number };
@@ -164,7 +164,7 @@ impl Actor for Node {
 
     ghost numbered_sends = { sends-numbered };
 
-    ghost counted_sends = { sends-counted };
+    ghost counter_grows = { counter-grows };
 
     fn id(&self) -> u16 {
         self.number

@@ -3,14 +3,14 @@ ghost use Rattle.std.specs.Prelude.{◌≡◌, ◌<◌, length, slice_get, IfOk}
 ghost use Rattle.netdesc.specs.declared.too_many.TheConstants.{GREATEST_PORTS};
 ghost use Rattle.netdesc.specs.Faults.{process_count};
 ghost use Rattle.netdesc.specs.Lines.{lines_of};
-ghost use Rattle.nodes.specs.rules.Opening.{end_system_opening, switch_opening, line_opening, part_opening, opening};
+ghost use Rattle.nodes.specs.rules.Opening.{end_system_opening, switch_opening, line_opening, equipment_opening, opening};
 
 use crate::end_system::EndSystem;
+use crate::equipment::Equipment;
 use crate::line::Line;
-use crate::making::{sinks_of, sources_of, transits_of};
+use crate::making::{receptions_of, sources_of, transits_of};
 use crate::meeting::{Side, meetings};
 use crate::node::Node;
-use crate::part::Part;
 use crate::switch::Switch;
 use crate::wiring::ports_of;
 use netdesc::{GREATEST_PORTS, Network, NodeKind};
@@ -30,7 +30,7 @@ fn end_system(
     let received = meetings(alloc, network, node, Side::In)?;
     Ok(EndSystem::new(
         sources_of(alloc, &sent)?,
-        sinks_of(alloc, &received)?,
+        receptions_of(alloc, &received)?,
         ports_of(alloc, network, node, 2, bytes)?,
     ))
 }
@@ -67,24 +67,24 @@ fn line(alloc: Global, network: &Network, line: usize) -> Result<Line, AllocErro
 }
 
 /// A node.
-fn node(alloc: Global, network: &Network, node: u16) -> Result<Part, AllocError>
+fn node(alloc: Global, network: &Network, node: u16) -> Result<Equipment, AllocError>
     requires { node < length network.now.nodes }
-    ensures { IfOk result (λ part. part ≡ part_opening network.now node (slice_get network.now.nodes node)) }
+    ensures { IfOk result (λ equipment. equipment ≡ equipment_opening network.now node (slice_get network.now.nodes node)) }
 {
     let place = usize::from(node);
     let bytes = network.port_bytes(place);
     match network.kind(place) {
-        NodeKind::EndSystem => Ok(Part::EndSystem(end_system(alloc, network, node, bytes)?)),
+        NodeKind::EndSystem => Ok(Equipment::EndSystem(end_system(alloc, network, node, bytes)?)),
         NodeKind::Switch { latency_ns, .. } => {
-            Ok(Part::Switch(switch(alloc, network, node, latency_ns, bytes)?))
+            Ok(Equipment::Switch(switch(alloc, network, node, latency_ns, bytes)?))
         }
     }
 }
 
 /// A node, or a line behind them.
-fn part(alloc: Global, network: &Network, process: u16) -> Result<Part, AllocError>
+fn equipment(alloc: Global, network: &Network, process: u16) -> Result<Equipment, AllocError>
     requires { process < process_count network.now }
-    ensures { IfOk result (λ part. part ≡ part_opening network.now process (slice_get network.now.nodes process)) }
+    ensures { IfOk result (λ equipment. equipment ≡ equipment_opening network.now process (slice_get network.now.nodes process)) }
 {
     let nodes = network.node_count();
     if usize::from(process) < nodes {
@@ -93,7 +93,7 @@ fn part(alloc: Global, network: &Network, process: u16) -> Result<Part, AllocErr
     // Its contract says that there are two lines for each link.
     let _lines = network.line_count();
     let place = usize::from(process) - nodes;
-    Ok(Part::Line(line(alloc, network, place)?))
+    Ok(Equipment::Line(line(alloc, network, place)?))
 }
 
 impl Node {
@@ -105,7 +105,7 @@ impl Node {
         ensures { IfOk result (λ node. node ≡ opening network.now process) }
     {
         network.accepted();
-        let part = part(alloc, network, process)?;
-        Ok(Node::of_part(process, network.until(), part))
+        let equipment = equipment(alloc, network, process)?;
+        Ok(Node::of_equipment(process, network.until(), equipment))
     }
 }

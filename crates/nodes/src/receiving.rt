@@ -5,9 +5,9 @@ ghost use Rattle.integrity.specs.declared.checking.Checked.TheVariants.{Passed};
 ghost use Rattle.reverse.specs.Sending.{replied};
 ghost use Rattle.nodes.specs.rules.EndSystem.{check_of, checked, received, received_reply, redundant, with_check};
 ghost use Rattle.nodes.specs.undoing.EndSystem.{delivery_kept, unreceived};
-ghost use Rattle.nodes.specs.undoing.EndSystemParts.{ReceivedCameFrom};
+ghost use Rattle.nodes.specs.undoing.EndSystemElements.{ReceivedCameFrom};
 
-use crate::part_record::PartRecord;
+use crate::equipment_record::EquipmentRecord;
 use integrity::{Checked, Integrity};
 use redundancy::{Delivery, Received, Redundancy};
 use reverse::{Outbound, Reversible};
@@ -26,12 +26,12 @@ impl Receiving {
     /// A frame has come: it is delivered if it passes the check of its network and redundancy management then lets it
     /// through, and lost otherwise.
     #[inline(always)]
-    pub fn receive(&mut self, at: Time, frame: &Frame, out: &mut Outbound) -> PartRecord
+    pub fn receive(&mut self, at: Time, frame: &Frame, out: &mut Outbound) -> EquipmentRecord
         requires { length out.old.notes < 2 }
         ensures state { self.new ≡ received at frame.now self.old }
         ensures reply { out.new ≡ replied out.old (received_reply at frame.now self.old) }
         ensures kept { let check = check_of frame.now.net self.old in
-            result ≡ PartRecord.Received check (delivery_kept self.old (integrity.out check frame.now.number)) }
+            result ≡ EquipmentRecord.Received check (delivery_kept self.old (integrity.out check frame.now.number)) }
     {
         let (verdict, check) = self.check(frame);
         let delivery = match verdict {
@@ -41,7 +41,7 @@ impl Receiving {
                 None
             }
         };
-        PartRecord::Received { check, delivery }
+        EquipmentRecord::Received { check, delivery }
     }
 
     /// Takes back that a frame came, by the records of the check of its network and of redundancy management.

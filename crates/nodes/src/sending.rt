@@ -8,8 +8,8 @@ ghost use Rattle.reverse.specs.Sending.{joined, replied};
 ghost use Rattle.nodes.specs.rules.EndSystem.{asked, copied, copied_reply, full, lost, released_out, released_reply};
 ghost use Rattle.nodes.specs.undoing.EndSystem.{copied_kept, regulated_kept_by, AreCopiesValues, IsCopyValue};
 
+use crate::equipment_record::EquipmentRecord;
 use crate::networks::{is_on, port_of};
-use crate::part_record::PartRecord;
 use crate::ports::Ports;
 use crate::source::Source;
 use crate::vl_end::VlEnd;
@@ -26,7 +26,7 @@ pub fn regulate(
     source: &mut Source,
     ports: &mut Ports,
     out: &mut Outbound,
-) -> PartRecord
+) -> EquipmentRecord
     requires messages { out.old.messages ≡ [] }
     requires notes { out.old.notes ≡ [] }
     requires numbers { out.old.sender.counter + 24 ≤ greatest_number }
@@ -85,7 +85,7 @@ fn release(
     answer: RegAnswer,
     ports: &mut Ports,
     out: &mut Outbound,
-) -> PartRecord
+) -> EquipmentRecord
     requires room { length out.old.messages + 4 ≤ 24 }
     requires notes { (frame : Frame) → answer ≡ Released frame → out.old.notes ≡ [] }
     requires numbers { out.old.sender.counter + 4 ≤ greatest_number }
@@ -95,7 +95,7 @@ fn release(
     ensures valid { AreCopiesValues end.now answer ports.old }
 {
     let RegAnswer::Released(frame) = answer else {
-        return PartRecord::Regulated {
+        return EquipmentRecord::Regulated {
             regulator,
             a: None,
             b: None,
@@ -103,7 +103,7 @@ fn release(
     };
     let a = copy_out(at, end, Net::A, &frame, ports, out);
     let b = copy_out(at, end, Net::B, &frame, ports, out);
-    PartRecord::Regulated { regulator, a, b }
+    EquipmentRecord::Regulated { regulator, a, b }
 }
 
 /// The copy of a frame for this network is put to the network's port, where the virtual link is on it.

@@ -3,7 +3,7 @@ ghost use Rattle.std.specs.Prelude.{◌≡◌, ◌+◌, ◌≤◌, ℕ, [], map}
 ghost use Rattle.std.specs.Option.{option_copied, option_map};
 ghost use Rattle.vlink.specs.Numbering.{greatest_number};
 ghost use Rattle.vlink.specs.declared.message.Body.TheVariants as body;
-ghost use Rattle.nodes.specs.declared.part_record.PartRecord.TheVariants as saved;
+ghost use Rattle.nodes.specs.declared.equipment_record.EquipmentRecord.TheVariants as saved;
 ghost use Rattle.reverse.specs.Sending.{replied};
 ghost use Rattle.nodes.specs.rules.Finding.{Found, IsRising};
 ghost use Rattle.nodes.specs.declared.transit.Transit.{Transit};
@@ -11,8 +11,8 @@ ghost use Rattle.nodes.specs.rules.Ports.{port_at};
 ghost use Rattle.nodes.specs.rules.Switch.{entered, entered_reply, forwarded, judged, outputs_of, switch, taken, put, transit_at, transit_number};
 ghost use Rattle.nodes.specs.undoing.Switch.{entered_kept, taken_kept, put_kept, switch_kept, switch_restored, unported, unpoliced, SwitchCameFrom, IsSwitchValue, IsEnteredValue, IsTakenValue, IsPutValue};
 
+use crate::equipment_record::EquipmentRecord;
 use crate::finding::place_of;
-use crate::part_record::PartRecord;
 use crate::ports::Ports;
 use crate::transit::Transit;
 use output_port::{Port, PortEvent, PortRecord, Priority};
@@ -59,7 +59,7 @@ impl Switch {
 
     /// Handles a message, and gives the record by which it is undone.
     #[inline(always)]
-    pub fn handle(&mut self, message: &Message, out: &mut Outbound) -> PartRecord
+    pub fn handle(&mut self, message: &Message, out: &mut Outbound) -> EquipmentRecord
         requires messages { out.old.messages ≡ [] }
         requires notes { out.old.notes ≡ [] }
         requires numbers { out.old.sender.counter + 24 ≤ greatest_number }
@@ -70,30 +70,30 @@ impl Switch {
     {
         let at = message.time;
         match &message.body {
-            Body::PortFree { port } => PartRecord::Port(self.ports.free(at, *port, out)),
+            Body::PortFree { port } => EquipmentRecord::Port(self.ports.free(at, *port, out)),
             Body::Arrive { port, frame } if self.ports.exists(*port) => {
                 self.take(at, *port, frame, out)
             }
             Body::Enqueue { port, frame } if self.ports.exists(*port) => {
                 self.put(at, *port, frame, out)
             }
-            _ => PartRecord::Nothing,
+            _ => EquipmentRecord::Nothing,
         }
     }
 
     /// Takes a message back by the record that was kept of it.
-    pub fn undo(&mut self, message: &Message, kept: PartRecord)
+    pub fn undo(&mut self, message: &Message, kept: EquipmentRecord)
         requires { (n : ℕ) × SwitchCameFrom n message.now.time message.now.body self.old kept }
         ensures { self.new ≡ switch_restored message.now.time message.now.body kept self.old }
     {
         match (message.body, kept) {
-            (Body::PortFree { port }, PartRecord::Port(kept)) => {
+            (Body::PortFree { port }, EquipmentRecord::Port(kept)) => {
                 self.ports.undo(port, &PortEvent::Free, kept)
             }
-            (Body::Enqueue { port, frame }, PartRecord::Port(kept)) => self.take_back(
+            (Body::Enqueue { port, frame }, EquipmentRecord::Port(kept)) => self.take_back(
                 port, &frame, kept,
             ),
-            (Body::Arrive { port, frame }, PartRecord::Policed(kept)) => {
+            (Body::Arrive { port, frame }, EquipmentRecord::Policed(kept)) => {
                 self.repay(message.time, port, &frame, kept)
             }
             _ => {}
@@ -109,7 +109,7 @@ impl Switch {
 
     /// A frame has come to a port.
     #[inline(always)]
-    fn take(&mut self, at: Time, port: u8, frame: &Frame, out: &mut Outbound) -> PartRecord
+    fn take(&mut self, at: Time, port: u8, frame: &Frame, out: &mut Outbound) -> EquipmentRecord
         requires messages { out.old.messages ≡ [] }
         requires notes { out.old.notes ≡ [] }
         requires numbers { out.old.sender.counter + 24 ≤ greatest_number }
@@ -120,7 +120,7 @@ impl Switch {
     {
         let Some(place) = place_of(self.transits.as_slice(), frame.vl) else {
             out.lose(Cause::Unknown, frame);
-            return PartRecord::Nothing;
+            return EquipmentRecord::Nothing;
         };
         let transit = &mut self.transits[place];
         enter(at, self.latency_ns, port, frame, transit, out)
@@ -128,7 +128,7 @@ impl Switch {
 
     /// A frame is put to a port, with the priority of its virtual link.
     #[inline(always)]
-    fn put(&mut self, at: Time, port: u8, frame: &Frame, out: &mut Outbound) -> PartRecord
+    fn put(&mut self, at: Time, port: u8, frame: &Frame, out: &mut Outbound) -> EquipmentRecord
         requires messages { out.old.messages ≡ [] }
         requires notes { out.old.notes ≡ [] }
         requires numbers { out.old.sender.counter + 24 ≤ greatest_number }
@@ -139,10 +139,10 @@ impl Switch {
     {
         let Some(priority) = self.priority(frame.vl) else {
             out.lose(Cause::Unknown, frame);
-            return PartRecord::Nothing;
+            return EquipmentRecord::Nothing;
         };
         let kept = self.ports.put(at, port, frame, priority, out);
-        PartRecord::Port(kept.map(PortRecord::Put))
+        EquipmentRecord::Port(kept.map(PortRecord::Put))
     }
 
     /// A frame that was put to a port leaves it.
@@ -196,7 +196,7 @@ fn enter(
     frame: &Frame,
     transit: &mut Transit,
     out: &mut Outbound,
-) -> PartRecord
+) -> EquipmentRecord
     requires messages { out.old.messages ≡ [] }
     requires notes { out.old.notes ≡ [] }
     requires numbers { out.old.sender.counter + 24 ≤ greatest_number }
@@ -207,11 +207,11 @@ fn enter(
 {
     if transit.input != port {
         out.lose(Cause::Unknown, frame);
-        return PartRecord::Nothing;
+        return EquipmentRecord::Nothing;
     }
     if frame.size > transit.smax {
         out.lose(Cause::TooLong, frame);
-        return PartRecord::Nothing;
+        return EquipmentRecord::Nothing;
     }
     let arrival = Arrival {
         at,
@@ -220,7 +220,7 @@ fn enter(
     let (verdict, kept) = transit.account.apply(&arrival);
     let ns = at.ns() + u64::from(latency_ns);
     answer_verdict(ns, frame, transit, verdict, out);
-    PartRecord::Policed(kept)
+    EquipmentRecord::Policed(kept)
 }
 
 /// A frame that has passed goes on at the moment `ns`, and one that the account refused is lost.

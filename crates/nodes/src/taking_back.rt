@@ -2,7 +2,7 @@
 ghost use Rattle.std.specs.Prelude.{◌≡◌};
 ghost use Rattle.bag_regulator.specs.Regulator.{undone};
 ghost use Rattle.nodes.specs.undoing.Ports.{unput};
-ghost use Rattle.nodes.specs.undoing.EndSystemParts.{SendingCameFrom};
+ghost use Rattle.nodes.specs.undoing.EndSystemElements.{SendingCameFrom};
 
 use crate::networks::port_of;
 use crate::ports::Ports;

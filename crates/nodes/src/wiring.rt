@@ -22,7 +22,7 @@ fn process_of(network: &Network, line: usize) -> u16
 
 /// Notes the wire of a line at its port, where the line leaves this node and the port has none yet.
 fn note_line(wires: &mut Vec<Option<Wire>>, node: u16, line: Direction, wire: Wire)
-    ensures noted { (q : ℕ) → q < vec_len wires.old →
+    ensures stored { (q : ℕ) → q < vec_len wires.old →
         slice_index_or wires.new.items q None ≡ (if leaves_by node q line && is_none (slice_index_or wires.old.items q None) then Some wire else slice_index_or wires.old.items q None) }
     ensures len { vec_len wires.new ≡ vec_len wires.old }
 {

@@ -8,7 +8,7 @@ use Rattle.policer.specs.Bound.{after_all, passed_frames}
 abbrev frame : ℕ → Arrival
 frame at = record { at = at; size = 64 }
 
--- a frame smaller than the greatest one: where bytes are counted the next one passes sooner
+-- a frame smaller than the greatest one: where bytes are charged the next one passes sooner
 by_bytes : passed_frames (full 100 1000000 0 Bytes) (frame 0 ∷ frame 280000 ∷ []) ≡ 2
 by_bytes = refl
 

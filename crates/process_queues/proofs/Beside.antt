@@ -1,4 +1,4 @@
--- The letters that count, by those that are counted beside the done events.
+-- The letters that count, by those that are tallied beside the done events.
 use Rattle.std.proofs.Common.{◌≡◌, ℕ, suc, ◌+◌, ◌≤◌, ◌<◌, true, not, ◌&&◌, List, [], ◌∷◌, ◌++◌, length, map, take, drop, slice_index_or, pos, ◌+ℤ◌, ◌-ℤ◌, Option, refl, sym, ap, ◌∙◌, arith}
 use Rattle.std.proofs.lemmas.Int.{ints}
 use Rattle.std.proofs.lemmas.List.{map-append, take-append-drop}
@@ -71,7 +71,7 @@ module _ (O : IsOrder message_order) {K : Type 0} where
       let d = ap (times_in message_order x) now in
       omega (arith, ints)
 
-  -- the last done events are undone, and their letters are counted beside the others, and one letter more
+  -- the last done events are undone, and their letters are tallied beside the others, and one letter more
   pub with_done-undone : (l : Letter) (n : ℕ) (t t' : List Letter) (done done' : List (Event K)) →
       HaveSameCounts message_order t' (l ∷ (map (λ (e : Event K). plus_of e.message) (drop n done) ++ t)) →
       map (λ (e : Event K). e.message) done ≡ map (λ (e : Event K). e.message) done' ++ map (λ (e : Event K). e.message) (drop n done) →
@@ -113,9 +113,9 @@ taken-next O {K} es k e h at rest old new counts not_owed less_by m = less (one_
 
     inside : IsIn message_order e.message (map (λ (x : Event K). x.message) es)
     inside =
-        let parts = ap (map (λ (x : Event K). x.message)) (sym (take-append-drop k es)) ∙
+        let halves = ap (map (λ (x : Event K). x.message)) (sym (take-append-drop k es)) ∙
         (map-append (λ (x : Event K). x.message) (take k es) (drop k es) ∙ ap (λ ds. map (λ (x : Event K). x.message) (take k es) ++ map (λ (x : Event K). x.message) ds) there) in
-        let a = ap (times_in message_order e.message) parts ∙
+        let a = ap (times_in message_order e.message) halves ∙
         times-append message_order O e.message (map (λ (x : Event K). x.message) (take k es)) (e.message ∷ map (λ (x : Event K). x.message) behind) in
         let b = in-head message_order O e.message (map (λ (x : Event K). x.message) behind) in
         omega arith
@@ -145,9 +145,9 @@ module _ {S K : Type 0} (r : Rules Message S K Note) (R : OfMessages r) where
       signed_count message_order e.message (with_done t es) ≡ signed_count message_order e.message t +ℤ pos 1
   one-at t es up k e h at =
       let m = e.message in
-      let parts = ap (map (λ (x : Event K). x.message)) (sym (take-append-drop k es)) ∙
+      let halves = ap (map (λ (x : Event K). x.message)) (sym (take-append-drop k es)) ∙
       (map-append (λ (x : Event K). x.message) (take k es) (drop k es) ∙ ap (λ ds. map (λ (x : Event K). x.message) (take k es) ++ map (λ (x : Event K). x.message) ds) (drop-one es k e h at)) in
-      let a = ap (times_in r.order m) parts ∙ times-append r.order R.order m (map (λ (x : Event K). x.message) (take k es)) (m ∷ map (λ (x : Event K). x.message) (drop (suc k) es)) in
+      let a = ap (times_in r.order m) halves ∙ times-append r.order R.order m (map (λ (x : Event K). x.message) (take k es)) (m ∷ map (λ (x : Event K). x.message) (drop (suc k) es)) in
       let b = in-head r.order R.order m (map (λ (x : Event K). x.message) (drop (suc k) es)) in
       let c = ascending-once r.order R.order m (map (λ (x : Event K). x.message) es) up in
       let d = times-messages m (map (λ (x : Event K). x.message) es) in

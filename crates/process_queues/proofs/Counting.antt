@@ -1,20 +1,20 @@
 -- The signed counts of a process, by the rules of its actor and by the order of messages.
-use Rattle.std.proofs.Common.{◌≡◌, ℕ, ◌+◌, ◌==◌, Bool, true, false, not, ◌&&◌, List, ◌∷◌, pos, ◌-ℤ◌, refl, sym, ap, ◌∙◌, arith, eqb-true, eq-eqb}
+use Rattle.std.proofs.Common.{◌≡◌, ℕ, ◌+◌, ◌==◌, Bool, true, false, not, ◌&&◌, List, ◌∷◌, pos, ◌-ℤ◌, refl, ap, ◌∙◌, arith, eqb-true, eq-eqb}
 use Rattle.std.specs.Prelude.{◌≢◌}
 use Rattle.std.proofs.lemmas.Bool.{false_from_ne_true}
 use Rattle.std.proofs.lemmas.Int.{ints}
 use Rattle.vlink.specs.declared.message.Message.{Message}
 use Rattle.vlink.specs.declared.note.Note.{Note}
-use Rattle.virtual_time.specs.Law.{Rules, IsOrder, one_if, same, plus_of, minus_of, pluses, minuses, is_present, is_turned}
+use Rattle.virtual_time.specs.Law.{Rules, IsOrder, one_if, same, plus_of, minus_of, pluses, minuses, is_present, is_toggled}
 use Rattle.reverse.specs.declared.sends.Sends.{Sends}
 use Rattle.reverse.specs.Plain.{Plain, IsReversible}
 use Rattle.reverse.specs.Rules.{rules_of}
 use Rattle.vlink.specs.Order.{message_order}
 use Rattle.vlink.specs.Letters.{Letter}
-use Rattle.antimessages.specs.Counting.{signed_count, change_by, is_turn, HaveSameCounts}
+use Rattle.antimessages.specs.Counting.{signed_count, change_by, is_toggle, HaveSameCounts}
 use Rattle.antimessages.specs.declared.tally.Change.{Change}
 use Rattle.antimessages.specs.declared.tally.Change.TheVariants.{BecamePresent, BecameAbsent, Same}
-use Rattle.antimessages.proofs.Agreeing.{present-same_count, same_counts-cons, change-same_counts, turned-is}
+use Rattle.antimessages.proofs.Agreeing.{present-same_count, same_counts-cons, change-same_counts, toggled-is}
 
 -- rules over messages as they are: in their order, at their places, and undone event by event
 pub record OfMessages {S K : Type 0} (r : Rules Message S K Note) : Type 0 where
@@ -32,11 +32,11 @@ of-messages plain counter O law = record {
   undoes = law;
 }
 
--- each change but none turns a message
-turns : (c : Change) → c ≢ Same → is_turn c ≡ true
-turns BecamePresent n = refl
-turns BecameAbsent n = refl
-turns Same n = absurd (n refl)
+-- each change but none toggles a message
+toggles : (c : Change) → c ≢ Same → is_toggle c ≡ true
+toggles BecamePresent n = refl
+toggles BecameAbsent n = refl
+toggles Same n = absurd (n refl)
 
 -- one letter of a message is taken out: as if an antimessage had come
 pub counts-less : (m : Message) (a b new : List Letter) → HaveSameCounts message_order a b → HaveSameCounts message_order (plus_of m ∷ new) b →
@@ -55,14 +55,14 @@ module _ {S K : Type 0} (r : Rules Message S K Note) (R : OfMessages r) where
   present-agree a b h m = ap (λ o. is_present o a m) R.order_is ∙ present-same_count message_order m a b (h m)
 
   module _ (l : Letter) (a b : List Letter) (h : HaveSameCounts message_order a b) where
-    turned-as : is_turned r.order l a ≡ is_turn (change_by message_order l b)
-    turned-as = ap (λ o. is_turned o l a) R.order_is ∙ (turned-is message_order l a ∙ ap is_turn (change-same_counts message_order l a b h))
+    toggled-as : is_toggled r.order l a ≡ is_toggle (change_by message_order l b)
+    toggled-as = ap (λ o. is_toggled o l a) R.order_is ∙ (toggled-is message_order l a ∙ ap is_toggle (change-same_counts message_order l a b h))
 
-    pub not_turned : change_by message_order l b ≡ Same → is_turned r.order l a ≡ false
-    not_turned e = turned-as ∙ ap is_turn e
+    pub not_toggled : change_by message_order l b ≡ Same → is_toggled r.order l a ≡ false
+    not_toggled e = toggled-as ∙ ap is_toggle e
 
-    pub turned : change_by message_order l b ≢ Same → is_turned r.order l a ≡ true
-    turned n = turned-as ∙ turns _ n
+    pub toggled : change_by message_order l b ≢ Same → is_toggled r.order l a ≡ true
+    toggled n = toggled-as ∙ toggles _ n
 
   -- the count is just 1
   pub one-left : (m : Message) (a b : List Letter) → HaveSameCounts message_order a b → signed_count message_order m b ≡ pos 1 →

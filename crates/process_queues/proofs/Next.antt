@@ -1,4 +1,4 @@
--- The message that is handled next, by the newest done event and the letters that were counted.
+-- The message that is handled next, by the newest done event and the letters that were tallied.
 use Rattle.std.proofs.Common.{◌≡◌, ◌+◌, ◌==◌, inl, inr, Bool, true, false, cond, List, [], ◌∷◌, map, eqb-true, Option, Some, None, refl, sym, ap, ◌∙◌, subst, arith}
 use Rattle.std.proofs.lemmas.Bool.{cases_lt}
 use Rattle.vlink.specs.declared.message.Message.{Message}

@@ -8,7 +8,7 @@ use Rattle.virtual_time.specs.Law.{Rules, reached, sent, rowed, rows_of}
 use Rattle.virtual_time.proofs.Handling.{reached-append, sent-append, rowed-append}
 use Rattle.process_queues.specs.declared.past.Event.{Event}
 use Rattle.process_queues.specs.Past.{Past, Rows, event_of, events_of, AreValues, handled_past, IsPastOf}
-use Rattle.process_queues.proofs.Taking.{snoc-parts, split-last}
+use Rattle.process_queues.proofs.Taking.{snoc-equal, split-last}
 
 -- the front part of a list, and what is behind it
 pub front-of : {A : Type 0} (xs ys : List A) (k : ℕ) → k ≡ length xs → take k (xs ++ ys) ≡ xs
@@ -85,7 +85,7 @@ module _ {S K : Type 0} (r : Rules Message S K Note) where
     pub came-last : (e : Message) (past : Past S K) (front : List (Event K)) (event : Event K) → past.done ≡ front ++ event ∷ [] →
         IsPastOf r is_value start (ms ++ e ∷ []) earlier past → CameLast e past front event
     came-last e past front event d h =
-        let both = snoc-parts front (events_of r start ms) event (event_of r (reached r start ms) e) (sym d ∙ (h.done ∙ events-append start ms (e ∷ []))) in
+        let both = snoc-equal front (events_of r start ms) event (event_of r (reached r start ms) e) (sym d ∙ (h.done ∙ events-append start ms (e ∷ []))) in
         let v = values-last is_value start ms e h.values in
         record {
           state = h.state ∙ reached-append r start ms (e ∷ []);

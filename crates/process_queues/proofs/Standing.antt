@@ -5,7 +5,7 @@ use Rattle.std.proofs.lemmas.List.{length-append, length-drop, drop-drop, drop-a
 use Rattle.std.proofs.lemmas.Bool.{not_from_true}
 use Rattle.vlink.specs.declared.message.Message.{Message}
 use Rattle.vlink.specs.declared.note.Note.{Note}
-use Rattle.virtual_time.specs.Law.{Rules, reached, rowed, rows_of, IsIn, before, from_on, plus_of, minus_of, Part, opened, delivered, emptied, counted, is_turned, rolled_back, arrived, arrive, undone_by, next_of, handled, run_one, can_seal, sealed, seal_oldest, IsWell}
+use Rattle.virtual_time.specs.Law.{Rules, reached, rowed, rows_of, IsIn, before, from_on, plus_of, minus_of, Part, opened, delivered, emptied, tallied, is_toggled, rolled_back, arrived, arrive, undone_by, next_of, handled, run_one, can_seal, sealed, seal_oldest, IsWell}
 use Rattle.virtual_time.proofs.Lists.{filter-none}
 use Rattle.virtual_time.proofs.Handling.{reached-append, rowed-append}
 use Rattle.virtual_time.proofs.Rolling.{roll-none, roll-split}
@@ -48,8 +48,8 @@ module _ {S K : Type 0} (r : Rules Message S K Note) (is_value : S → Message �
     })
 
     -- the letters that count are others, with the same signed counts
-    pub recounted-stands : (tally : List Letter) → HaveSameCounts message_order q.tally tally → q' ≡ record q { tally = tally } → StandsFor r is_value opening part q'
-    recounted-stands tally same e = subst (StandsFor r is_value opening part) (sym e) (record {
+    pub retallied-stands : (tally : List Letter) → HaveSameCounts message_order q.tally tally → q' ≡ record q { tally = tally } → StandsFor r is_value opening part q'
+    retallied-stands tally same e = subst (StandsFor r is_value opening part) (sym e) (record {
       past = record { past_of = h.past.past_of; state = h.past.state; ascending = h.past.ascending };
       sealed = h.sealed;
       committed = h.committed;
@@ -71,43 +71,43 @@ module _ {S K : Type 0} (r : Rules Message S K Note) (is_value : S → Message �
     })
 
   module _ (opening : S) (part : Part Message S) (q : Queues S K) (h : StandsFor r is_value opening part q) (R : OfMessages r) where
-    -- what the arrival of the front letter makes, by whether its message turns
-    arrive-is : (l : Letter) (rest : List Letter) → q.tray ≡ l ∷ rest → (b : Bool) → is_turned r.order l part.tally ≡ b →
-        arrive r opening part ≡ cond b (rolled_back r opening l.message (counted r l rest part)) (counted r l rest part)
+    -- what the arrival of the front letter makes, by whether its message is toggled
+    arrive-is : (l : Letter) (rest : List Letter) → q.tray ≡ l ∷ rest → (b : Bool) → is_toggled r.order l part.tally ≡ b →
+        arrive r opening part ≡ cond b (rolled_back r opening l.message (tallied r l rest part)) (tallied r l rest part)
     arrive-is l rest e b t = ap (arrived r opening part) (sym h.tray ∙ e) ∙
-        ap (λ z. cond z (rolled_back r opening l.message (counted r l rest part)) (counted r l rest part)) t
+        ap (λ z. cond z (rolled_back r opening l.message (tallied r l rest part)) (tallied r l rest part)) t
 
-    undone-is : (l : Letter) (rest : List Letter) → q.tray ≡ l ∷ rest → (b : Bool) → is_turned r.order l part.tally ≡ b →
+    undone-is : (l : Letter) (rest : List Letter) → q.tray ≡ l ∷ rest → (b : Bool) → is_toggled r.order l part.tally ≡ b →
         undone_by r.order part part.tray ≡ cond b (length (from_on r.order l.message part.done)) 0
     undone-is l rest e b t = ap (undone_by r.order part) (sym h.tray ∙ e) ∙ ap (λ z. cond z (length (from_on r.order l.message part.done)) 0) t
 
-    -- the message does not turn, or it comes after all done events: nothing is undone
+    -- the message is not toggled, or it comes after all done events: nothing is undone
     abbrev pub StaysPut : Letter → Type 0
-    StaysPut l = (is_turned r.order l part.tally ≡ false) ⊎ ((d : Message) → IsIn r.order d part.done → r.order.less d l.message ≡ true)
+    StaysPut l = (is_toggled r.order l part.tally ≡ false) ⊎ ((d : Message) → IsIn r.order d part.done → r.order.less d l.message ≡ true)
 
-    arrive-counts : (l : Letter) (rest : List Letter) → q.tray ≡ l ∷ rest → StaysPut l → arrive r opening part ≡ counted r l rest part
+    arrive-counts : (l : Letter) (rest : List Letter) → q.tray ≡ l ∷ rest → StaysPut l → arrive r opening part ≡ tallied r l rest part
     arrive-counts l rest e (inl t) = arrive-is l rest e false t
-    arrive-counts l rest e (inr late) = go (is_turned r.order l part.tally) refl
+    arrive-counts l rest e (inr late) = go (is_toggled r.order l part.tally) refl
       where
-        go : (b : Bool) → is_turned r.order l part.tally ≡ b → arrive r opening part ≡ counted r l rest part
-        go true t = arrive-is l rest e true t ∙ roll-none r R.order opening (counted r l rest part) l.message late
+        go : (b : Bool) → is_toggled r.order l part.tally ≡ b → arrive r opening part ≡ tallied r l rest part
+        go true t = arrive-is l rest e true t ∙ roll-none r R.order opening (tallied r l rest part) l.message late
         go false t = arrive-is l rest e false t
 
     pub undone-none : (l : Letter) (rest : List Letter) → q.tray ≡ l ∷ rest → StaysPut l → undone_by r.order part part.tray ≡ 0
     undone-none l rest e (inl t) = undone-is l rest e false t
-    undone-none l rest e (inr late) = go (is_turned r.order l part.tally) refl
+    undone-none l rest e (inr late) = go (is_toggled r.order l part.tally) refl
       where
-        go : (b : Bool) → is_turned r.order l part.tally ≡ b → undone_by r.order part part.tray ≡ 0
+        go : (b : Bool) → is_toggled r.order l part.tally ≡ b → undone_by r.order part part.tray ≡ 0
         go true t = undone-is l rest e true t ∙ ap length (filter-none r.order R.order (λ x. not (r.order.less x l.message)) part.done (λ x j. not_from_true _ (late x j)))
         go false t = undone-is l rest e false t
 
-    -- the part after the front letter was counted, before the rollback
-    pub counted-belongs : (l : Letter) (rest : List Letter) → BelongsTo r is_value opening (rows_there r opening part q) (counted r l rest part) q.past
-    counted-belongs l rest = record { past_of = h.past.past_of; state = h.past.state; ascending = h.past.ascending }
+    -- the part after the front letter was tallied, before the rollback
+    pub tallied-belongs : (l : Letter) (rest : List Letter) → BelongsTo r is_value opening (rows_there r opening part q) (tallied r l rest part) q.past
+    tallied-belongs l rest = record { past_of = h.past.past_of; state = h.past.state; ascending = h.past.ascending }
 
     -- how many events a rollback undid
-    pub undone-back : (l : Letter) (rest : List Letter) (past' : Past S K) (count : ℕ) → q.tray ≡ l ∷ rest → is_turned r.order l part.tally ≡ true →
-        BelongsTo r is_value opening (rows_there r opening part q) (rolled_back r opening l.message (counted r l rest part)) past' →
+    pub undone-back : (l : Letter) (rest : List Letter) (past' : Past S K) (count : ℕ) → q.tray ≡ l ∷ rest → is_toggled r.order l part.tally ≡ true →
+        BelongsTo r is_value opening (rows_there r opening part q) (rolled_back r opening l.message (tallied r l rest part)) past' →
         count + length past'.done ≡ length q.past.done → count ≡ undone_by r.order part part.tray
     undone-back l rest past' count e t b n =
         let a = ap length b.past_of.done ∙ as_many r (reached r opening part.committed) (before r.order l.message part.done) in
@@ -122,7 +122,7 @@ module _ {S K : Type 0} (r : Rules Message S K Note) (is_value : S → Message �
         q' ≡ record q { tray = rest; tally = tally } → StandsFor r is_value opening (arrive r opening part) q'
     arrived-still l rest tally e still counts f =
         subst (λ z. StandsFor r is_value opening z q') (sym (arrive-counts opening part q h R l rest e still))
-        (subst (StandsFor r is_value opening (counted r l rest part)) (sym f) (record {
+        (subst (StandsFor r is_value opening (tallied r l rest part)) (sym f) (record {
           past = record { past_of = h.past.past_of; state = h.past.state; ascending = h.past.ascending };
           sealed = h.sealed;
           committed = h.committed;
@@ -132,13 +132,13 @@ module _ {S K : Type 0} (r : Rules Message S K Note) (is_value : S → Message �
           well = subst (IsWell r (λ s. ⊤) opening) (arrive-counts opening part q h R l rest e still) (arrive-well r R.order (λ s. ⊤) (λ s m g. R.undoes s m) opening part h.well).well;
         }))
 
-    pub arrived-back : (l : Letter) (rest tally : List Letter) → q.tray ≡ l ∷ rest → is_turned r.order l part.tally ≡ true →
-        HaveSameCounts message_order (l ∷ part.tally) tally → BelongsTo r is_value opening (rows_there r opening part q) (rolled_back r opening l.message (counted r l rest part)) q'.past →
+    pub arrived-back : (l : Letter) (rest tally : List Letter) → q.tray ≡ l ∷ rest → is_toggled r.order l part.tally ≡ true →
+        HaveSameCounts message_order (l ∷ part.tally) tally → BelongsTo r is_value opening (rows_there r opening part q) (rolled_back r opening l.message (tallied r l rest part)) q'.past →
         q'.left ≡ q.left → q'.sealed ≡ q.sealed → q'.committed ≡ q.committed → q'.tally ≡ tally → q'.tray ≡ rest →
-        q'.outbox ≡ (rolled_back r opening l.message (counted r l rest part)).outbox → StandsFor r is_value opening (arrive r opening part) q'
+        q'.outbox ≡ (rolled_back r opening l.message (tallied r l rest part)).outbox → StandsFor r is_value opening (arrive r opening part) q'
     arrived-back l rest tally e t counts b n a c d f o =
         subst (λ z. StandsFor r is_value opening z q') (sym (arrive-is opening part q h R l rest e true t)) (record {
-          past = subst (λ k. BelongsTo r is_value opening (drop k (rowed r opening part.committed)) (rolled_back r opening l.message (counted r l rest part)) q'.past) (sym n) b;
+          past = subst (λ k. BelongsTo r is_value opening (drop k (rowed r opening part.committed)) (rolled_back r opening l.message (tallied r l rest part)) q'.past) (sym n) b;
           sealed = let k = h.sealed in omega arith;
           committed = c ∙ h.committed;
           counts = subst (HaveSameCounts message_order (l ∷ part.tally)) (sym d) counts;

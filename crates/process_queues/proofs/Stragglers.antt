@@ -140,13 +140,13 @@ module _ (O : IsOrder message_order) {K : Type 0} (l : Letter) (t : List Letter)
       (omega (arith, a), omega (arith, b))
 
   -- it brings a message that is not done, or takes back one that is, and nothing else counts
-  pub turned-zero : (b : Bool) → is_plus l.sign ≡ b → times O l.message done ≡ one_if (not b) → signed_count message_order l.message t ≡ pos 0 →
+  pub toggled-zero : (b : Bool) → is_plus l.sign ≡ b → times O l.message done ≡ one_if (not b) → signed_count message_order l.message t ≡ pos 0 →
       change_by message_order l all ≢ Same
-  turned-zero true e d z =
+  toggled-zero true e d z =
       let c = with_done-count O l.message t done in
       let n = brings e in
       change-some l all false (is-absent O all l.message (omega (arith, ints))) (present-from message_order O (l ∷ all) l.message (omega (arith, ints, n.0, n.1)))
-  turned-zero false e d z =
+  toggled-zero false e d z =
       let c = with_done-count O l.message t done in
       let n = takes e in
       change-some l all true (present-from message_order O all l.message (omega (arith, ints))) (is-absent O (l ∷ all) l.message (omega (arith, ints, n.0, n.1)))
@@ -245,8 +245,8 @@ module _ {S K : Type 0} (r : Rules Message S K Note) (R : OfMessages r) (is_valu
       pluses message_order l.message (with_done t q.past.done) ≤ minuses message_order l.message (with_done t q.past.done)
   none-here late d = subst (λ ls. pluses message_order l.message ls ≤ minuses message_order l.message ls) e (late-absent r R is_value opening part q h l.message late d)
 
-  pub turns-it : times_in r.order l.message (map (λ e. e.message) q.past.done) ≡ one_if (not (is_plus l.sign)) → signed_count message_order l.message t ≡ pos 0 → change_by message_order l q.tally ≢ Same
-  turns-it k z = subst (λ ls. change_by message_order l ls ≢ Same) (sym e) (turned-zero R.messages l t q.past.done (is_plus l.sign) refl (by-messages _ k) z)
+  pub toggles-it : times_in r.order l.message (map (λ e. e.message) q.past.done) ≡ one_if (not (is_plus l.sign)) → signed_count message_order l.message t ≡ pos 0 → change_by message_order l q.tally ≢ Same
+  toggles-it k z = subst (λ ls. change_by message_order l ls ≢ Same) (sym e) (toggled-zero R.messages l t q.past.done (is_plus l.sign) refl (by-messages _ k) z)
 
   pub keeps-it : is_after r.order (newest_of (map (λ e. e.message) q.past.done)) l.message ≡ false → times_in r.order l.message (map (λ e. e.message) q.past.done) ≡ one_if (not (is_plus l.sign)) →
       signed_count message_order l.message t ≢ pos 0 → change_by message_order l q.tally ≡ Same

@@ -4,17 +4,17 @@ use Rattle.std.specs.Prelude.{IsOk, OnErr}
 use Rattle.std.proofs.lemmas.List.{map-append, reverse-append}
 use Rattle.std.proofs.Math.Seq.{drop-cons}
 
--- two lists with one element more at the end are equal by their parts
-pub snoc-parts : {A : Type 0} (xs ys : List A) (a b : A) → xs ++ a ∷ [] ≡ ys ++ b ∷ [] → (xs ≡ ys) × (a ≡ b)
-snoc-parts [] [] a b h = (refl, cc)
-snoc-parts [] (y ∷ []) a b h = cc
-snoc-parts [] (y ∷ (z ∷ zs)) a b h = cc
-snoc-parts (x ∷ []) [] a b h = cc
-snoc-parts (x ∷ (z ∷ zs)) [] a b h = cc
-snoc-parts (x ∷ xs) (y ∷ ys) a b h =
+-- two lists with one element more at the end are equal where both are
+pub snoc-equal : {A : Type 0} (xs ys : List A) (a b : A) → xs ++ a ∷ [] ≡ ys ++ b ∷ [] → (xs ≡ ys) × (a ≡ b)
+snoc-equal [] [] a b h = (refl, cc)
+snoc-equal [] (y ∷ []) a b h = cc
+snoc-equal [] (y ∷ (z ∷ zs)) a b h = cc
+snoc-equal (x ∷ []) [] a b h = cc
+snoc-equal (x ∷ (z ∷ zs)) [] a b h = cc
+snoc-equal (x ∷ xs) (y ∷ ys) a b h =
     let front : x ≡ y = cc in
     let rest : xs ++ a ∷ [] ≡ ys ++ b ∷ [] = cc in
-    let e = snoc-parts xs ys a b rest in
+    let e = snoc-equal xs ys a b rest in
     (λ i. front i ∷ e.0 i, e.1)
 
 -- one more from the back, put behind those that were

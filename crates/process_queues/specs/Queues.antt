@@ -9,12 +9,12 @@ use Rattle.antimessages.specs.Counting.{HaveSameCounts, present_after}
 use Rattle.process_queues.specs.declared.past.Event.{Event}
 use Rattle.process_queues.specs.Past.{Past, Rows, BelongsTo, newest_of}
 
--- the letters that count: those that are counted beside the done events, and for each of these the letter that brought its message
+-- the letters that count: those that are tallied beside the done events, and for each of these the letter that brought its message
 abbrev pub with_done : {K : Type 0} → List Letter → List (Event K) → List Letter
 with_done beside done = beside ++ map (λ e. plus_of e.message) done
 
 -- the past, how many rows of committed events have left it and how many are still there, how many events are committed, the letters that
--- were counted, the tray and the outbox
+-- were tallied, the tray and the outbox
 pub record Queues (S K : Type 0) : Type 0 where
   pub past : Past S K
   pub left : ℕ

@@ -19,7 +19,7 @@ use std::collections::VecDeque;
 use vlink::{Letter, Message, Sign, Time};
 
 impl<R: Actor> Process<R> {
-    /// The front letter of the tray is counted. Where its message became present or absent by that, every done event that does not come
+    /// The front letter of the tray is tallied. Where its message became present or absent by that, every done event that does not come
     /// before it is undone, the newest first, and what these events sent goes to the outbox as antimessages, the last sent first. The
     /// answer is how many events that undid, or none where the tray is empty.
     pub fn arrive(&mut self) -> Result<Option<u64>, ProcFault>
@@ -44,7 +44,7 @@ impl<R: Actor> Process<R> {
                 .next_with(self.next, &letter, change, self.past.newest());
             return Ok(Some(0));
         }
-        if !self.is_turned(&letter) {
+        if !self.is_toggled(&letter) {
             self.tally.add(letter)?;
             pop_front(&mut self.tray);
             return Ok(Some(0));
@@ -60,9 +60,9 @@ impl<R: Actor> Process<R> {
 
     /// Whether the letter makes its message, which does not come after all done events, present or absent. Such a message is present just
     /// where it is done.
-    fn is_turned(&self, letter: &Letter) -> bool
+    fn is_toggled(&self, letter: &Letter) -> bool
         requires { is_after message_order (newest_of (map (λ e. e.message) self.now.queues.past.done)) letter.now.message ≡ false }
-        ensures turned { IsTrue result → change_by message_order letter.now self.now.queues.tally ≢ Same }
+        ensures toggled { IsTrue result → change_by message_order letter.now self.now.queues.tally ≢ Same }
         ensures same { result ≡ false → change_by message_order letter.now self.now.queues.tally ≡ Same }
     {
         actor_rules::<R>();

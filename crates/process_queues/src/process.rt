@@ -33,7 +33,7 @@ pub struct Process<R: Actor> {
     pub(crate) sealed: usize,
     /// How many rows each committed event gave.
     pub(crate) committed: Vec<u8>,
-    /// The signed counts of the messages, less 1 for each done event: a done message that is counted once has none here.
+    /// The signed counts of the messages, less 1 for each done event: a done message that is tallied once has none here.
     pub(crate) tally: Tally,
     /// The message that is handled next, if there is one: it is looked for once, and kept until something changes it.
     pub(crate) next: Option<Message>,
@@ -148,7 +148,7 @@ impl<R: Actor> Process<R> {
     }
 
     /// The oldest rows of committed events leave, `count` or all that are still there where these are fewer. The answer is how many. None
-    /// leaves past the greatest number that `left` can tell. It takes no memory.
+    /// leaves beyond the greatest number that `left` can tell. It takes no memory.
     pub fn let_rows_go(&mut self, count: usize) -> usize
         ensures stands { Does (rules_of R.plain R.counter) R.is_value (λ opening part. part) self.old.queues self.new.queues }
         ensures left { self.new.queues.left ≡ self.old.queues.left + result }
@@ -323,8 +323,8 @@ fn count_with(tally: &Tally, message: &Message, is_done: bool) -> i128
     ensures done { IsTrue is_done → result ≡ signed_count message_order message.now tally.now +ℤ pos 1 }
     ensures not_done { is_done ≡ false → result ≡ signed_count message_order message.now tally.now }
 {
-    let counted = tally.count(message);
-    if is_done { counted + 1 } else { counted }
+    let tallied = tally.count(message);
+    if is_done { tallied + 1 } else { tallied }
 }
 
 /// The least time of these letters, or the given moment where that is earlier.

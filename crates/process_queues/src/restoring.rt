@@ -1,4 +1,4 @@
-//! Before done events are undone, their messages are counted again beside the letters that were counted.
+//! Before done events are undone, their messages are tallied again beside the letters that were tallied.
 ghost use Rattle.std.specs.Prelude.{◌≡◌, ◌≤◌, ◌++◌, ◌∷◌, List, map, drop, length, OnOk, OnErr};
 ghost use Rattle.vlink.specs.declared.message.Message.{Message};
 ghost use Rattle.virtual_time.specs.Law.{IsIn, plus_of, pluses, minuses};
@@ -12,7 +12,7 @@ use reverse::{Actor, actor_rules};
 use vlink::{Letter, Sign};
 
 impl<R: Actor> Past<R> {
-    /// The messages of the done events from this place on are counted, and the letter is. A refusal changes nothing: what was counted till
+    /// The messages of the done events from this place on are tallied, and the letter is. A refusal changes nothing: what was tallied till
     /// then is taken out again, which takes no memory.
     pub(crate) fn count_again(
         &self,
@@ -27,20 +27,20 @@ impl<R: Actor> Past<R> {
     {
         actor_rules::<R>();
         tally.told_by_counts();
-        let counted = self.count_back(tally, place);
-        if counted == place {
+        let tallied = self.count_back(tally, place);
+        if tallied == place {
             match tally.add(letter) {
                 Ok(_) => return Ok(()),
                 Err(_) => {}
             }
         }
-        self.take_out(tally, counted);
+        self.take_out(tally, tallied);
         tally.told_by_counts();
         Err(OutOfMemory)
     }
 
-    /// The messages of the done events are counted, from the newest back to this place, or to where memory is refused. The answer is the
-    /// place of the last one that is counted.
+    /// The messages of the done events are tallied, from the newest back to this place, or to where memory is refused. The answer is the
+    /// place of the last one that is tallied.
     fn count_back(&self, tally: &mut Tally, place: usize) -> usize
         requires { place ≤ length self.now.done }
         ensures within { result ≤ length self.now.done }
@@ -48,8 +48,8 @@ impl<R: Actor> Past<R> {
     {
         actor_rules::<R>();
         let all = self.done.len();
-        for counted in 0..all - place {
-            let next = all - 1 - counted;
+        for tallied in 0..all - place {
+            let next = all - 1 - tallied;
             let letter = Letter {
                 message: self.done[next].message,
                 sign: Sign::Plus,

@@ -73,6 +73,6 @@ pub trait Actor: Reversible<Event = Message, Out = Sends> {
     /// The numbers go on from the counter, one for each message.
     ghost numbered_sends: { (s : Self) (e : Message) → IsNumbered (λ m. m.number) (counter s) (Self.plain.out s e).messages.items };
 
-    ghost counted_sends: { (s : Self) (e : Message) →
+    ghost counter_grows: { (s : Self) (e : Message) →
         counter (Self.plain.after s e) ≡ counter s + length (Self.plain.out s e).messages.items };
 }

@@ -15,8 +15,8 @@ use Rattle.sample_actor.specs.declared.summing.Summing.{Summing}
 use Rattle.sample_actor.specs.declared.summing.SumRecord.{SumRecord}
 use Rattle.sample_actor.specs.Summing.{summing, sends}
 
-abbrev counted : Rules Message Summing SumRecord Note
-counted = rules_of summing (λ s. s.counter)
+abbrev summing_rules : Rules Message Summing SumRecord Note
+summing_rules = rules_of summing (λ s. s.counter)
 
 -- one process, this actor, and one offer
 abbrev pub setting : Summing → Message → Setting Summing
@@ -38,8 +38,8 @@ sends-none s e h =
     ap (λ b. cond b (record { time = e.time + 5; receiver = 1; sender = 0; number = s.counter; body = PortFree 0 } ∷ []) []) (lt-leb (e.time + 5) s.until (omega arith))
 
 module _ (O : IsOrder message_order) (actor : Summing) (short : actor.until < 5) (offer : Message) where
-  reached-short : (s : Summing) → (ms : List Message) → s ≡ reached counted actor ms → s.until < 5
-  reached-short s ms e = subst (λ (z : Summing). z.until < 5) (sym e) (reached-keeps counted O (λ (z : Summing). z.until < 5) (λ z m g. g) actor ms short)
+  reached-short : (s : Summing) → (ms : List Message) → s ≡ reached summing_rules actor ms → s.until < 5
+  reached-short s ms e = subst (λ (z : Summing). z.until < 5) (sym e) (reached-keeps summing_rules O (λ (z : Summing). z.until < 5) (λ z m g. g) actor ms short)
 
   the-offer : (m : Message) → IsIn message_order m (offer ∷ []) → m ≡ offer
   the-offer m j = elim (in-cons message_order O m offer [] j) [ inl e ↦ e | inr none ↦ absurd (omega arith) ]
@@ -51,7 +51,7 @@ module _ (O : IsOrder message_order) (actor : Summing) (short : actor.until < 5)
       go true = omega arith
       go false = omega arith
 
-  pub laid-out : offer.receiver ≡ 0 → offer.sender ≡ 1 → offer.time ≡ 0 → IsLaidOut counted (λ s. 0) (λ s. s.until) (λ s. ⊤) (setting actor offer)
+  pub laid-out : offer.receiver ≡ 0 → offer.sender ≡ 1 → offer.time ≡ 0 → IsLaidOut summing_rules (λ s. 0) (λ s. s.until) (λ s. ⊤) (setting actor offer)
   laid-out to from at =
       record {
         number_is = λ p h. omega arith;

@@ -118,7 +118,7 @@ impl Actor for Summing {
 
     ghost numbered_sends = { sends-numbered };
 
-    ghost counted_sends = { λ s e. refl };
+    ghost counter_grows = { λ s e. refl };
 
     fn id(&self) -> u16 {
         0

@@ -11,10 +11,10 @@ use Rattle.virtual_time.specs.Law.{rowed, rows_of, rows_at, IsIn, times_in, Simu
 use Rattle.virtual_time.specs.declared.step.Step.{Step}
 use Rattle.virtual_time.proofs.Lists.{in-head, times-append}
 use Rattle.virtual_time.proofs.OneThread.{right, nothing_outside}
-use Rattle.virtual_time.proofs.Turns.{over-same}
+use Rattle.virtual_time.proofs.OneThreadLater.{over-same}
 use Rattle.virtual_time.proofs.Kept.{IsKept, start-kept}
 use Rattle.virtual_time.proofs.KeptRun.{run-kept}
-use Rattle.trace_parts.specs.Places.{gathered}
+use Rattle.trace_segments.specs.Places.{gathered}
 
 left-nothing : {M : Type 0} → (xs ys : List M) → xs ++ ys ≡ [] → xs ≡ []
 left-nothing [] ys e = refl
@@ -134,8 +134,8 @@ module _ {S K : Type 0} (f : Simulation Message S K Note) (L : Laws f) (steps : 
         sym (ap (rowed f.rules (f.opening p)) (none-outside f L now kept p i)))
   ]
     where
-      same : one f n ≡ one f W.turns
-      same = elim (cases_lt n W.turns) [
-        | inl i ↦ sym (over-same f L n W.turns ended (omega arith))
-        | inr i ↦ over-same f L W.turns n W.none_waits i
+      same : one f n ≡ one f W.event_count
+      same = elim (cases_lt n W.event_count) [
+        | inl i ↦ sym (over-same f L n W.event_count ended (omega arith))
+        | inr i ↦ over-same f L W.event_count n W.none_waits i
       ]

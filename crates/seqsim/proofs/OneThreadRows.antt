@@ -16,7 +16,7 @@ use Rattle.virtual_time.proofs.Order.{less-asym}
 use Rattle.virtual_time.proofs.Least.{least-some}
 use Rattle.virtual_time.proofs.Lists.{times-append, times-one}
 use Rattle.virtual_time.proofs.OneThread.{right}
-use Rattle.trace_parts.specs.Ordered.{AreInMessageOrder, AreAtReceivers}
+use Rattle.trace_segments.specs.Ordered.{AreInMessageOrder, AreAtReceivers}
 
 abbrev is_before : Row → Row → Bool
 is_before x y = is_lt (message_cmp x.message y.message)
@@ -75,7 +75,7 @@ module _ {S K : Type 0} (f : Simulation Message S K Note) (L : Laws f) (O : IsTo
                 (λ row k. sym (less_is m row.message) ∙ less-asym f.rules.order L.order row.message m ((right f L n).above row.message m k.handled waits)) t.rows h.each);
           }
 
-  -- so they are after each turn
+  -- so they are after each event
   pub one-here : (n : ℕ) → AreAtReceivers (one f n).rows
   one-here n k d i = (All-get_or (IsOf (one f n).handled) (one f n).rows k d i (rows-right n).each).here
 

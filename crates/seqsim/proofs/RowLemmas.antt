@@ -3,7 +3,7 @@ use Rattle.std.proofs.Common.{◌≡◌, ◌∙◌, List, sym, ap, inl, inr, ari
 use Rattle.std.proofs.lemmas.Bool.{cases_lt}
 use Rattle.vlink.specs.Letters.{Row}
 use Rattle.virtual_time.specs.Law.{Laws, one}
-use Rattle.virtual_time.proofs.Turns.{over-same}
+use Rattle.virtual_time.proofs.OneThreadLater.{over-same}
 use Rattle.netdesc.specs.Plan.{Plan}
 use Rattle.nodes.specs.rules.Simulation.{simulation_of}
 use Rattle.seqsim.specs.Networks.{AreRowsOf}

@@ -8,7 +8,7 @@ use Rattle.vlink.specs.Order.{message_cmp}
 use Rattle.vlink.specs.Letters.{Row}
 use Rattle.virtual_time.specs.Law.{rowed, rows_at, Simulation, Laws, one, start, run, IsWhole}
 use Rattle.virtual_time.specs.declared.step.Step.{Step}
-use Rattle.trace_parts.specs.Ordered.{AreInMessageOrder, AreAtReceivers, rows_of_event}
+use Rattle.trace_segments.specs.Ordered.{AreInMessageOrder, AreAtReceivers, rows_of_event}
 use Rattle.seqsim.proofs.CommittedRows.{rows-whole}
 use Rattle.seqsim.proofs.OneThreadRows.{one-here, one-ordered}
 
@@ -26,6 +26,6 @@ module _ {S K : Type 0} (f : Simulation Message S K Note) (L : Laws f) (O : IsTo
   -- in a finished world so are the rows of the committed events
   pub ordered-committed : (steps : List Step) (W : IsWhole f (run f steps (start f))) (rows ordered : List Row) →
       ((p : ℕ) → rows_at p rows ≡ rowed f.rules (f.opening p) ((run f steps (start f)).parts p).committed) →
-      AreInMessageOrder ordered → ((m : Message) → rows_of_event m ordered ≡ rows_of_event m rows) → ordered ≡ (one f W.turns).rows
+      AreInMessageOrder ordered → ((m : Message) → rows_of_event m ordered ≡ rows_of_event m rows) → ordered ≡ (one f W.event_count).rows
   ordered-committed steps W rows ordered committed up same =
-      ordered-rows W.turns rows ordered up same (λ p. committed p ∙ sym (rows-whole f L steps W W.turns W.none_waits p))
+      ordered-rows W.event_count rows ordered up same (λ p. committed p ∙ sym (rows-whole f L steps W W.event_count W.none_waits p))

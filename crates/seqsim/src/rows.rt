@@ -7,8 +7,8 @@ ghost use Rattle.virtual_time.specs.declared.step.Step.{Step};
 ghost use Rattle.netdesc.specs.Faults.{process_count};
 ghost use Rattle.nodes.specs.rules.Opening.{opening};
 ghost use Rattle.nodes.specs.rules.Simulation.{simulation_of};
-ghost use Rattle.trace_parts.specs.Places.{gathered};
-ghost use Rattle.trace_parts.specs.Ordered.{AreInMessageOrder, rows_of_event};
+ghost use Rattle.trace_segments.specs.Places.{gathered};
+ghost use Rattle.trace_segments.specs.Ordered.{AreInMessageOrder, rows_of_event};
 ghost use Rattle.seqsim.specs.Committed.{after, AreCommittedRows};
 ghost use Rattle.seqsim.specs.Networks.{AreRowsOf};
 

@@ -39,7 +39,7 @@ pub fn nodes_of(alloc: Global, network: &Network) -> Result<Vec<Node>, AllocErro
 /// Simulates a network on one thread: the first of all waiting messages is handled, until none waits. The rows are those of the
 /// one-thread run of the law of virtual time, and after it nothing waits. `watch` is shown how far the run is.
 ///
-/// `OutOfMemory` comes only where a growth was refused, and `Exhausted` only where the process whose turn it is has not enough numbers
+/// `OutOfMemory` comes only where a growth was refused, and `Exhausted` only where the process that is next has not enough numbers
 /// left for what one event can send. Where that happens anywhere in the run, there is no answer but a fault.
 pub fn run<W: Watch>(alloc: Global, network: &Network, watch: &mut W) -> Result<Finished, SimFault>
     ensures whole { IfOk result (λ finished. AreRowsOf network.now finished.rows.items) }

@@ -10,7 +10,7 @@ ghost use Rattle.seqsim.specs.Networks.{AreRowsOf};
 use crate::counted::Counted;
 use crate::networks::network_laws;
 use crate::simulating::nodes_of;
-use actor_run::{SimFault, Waiting, Watch, take_all_turns};
+use actor_run::{SimFault, Waiting, Watch, handle_all};
 use netdesc::Network;
 use nodes::Node;
 use std::alloc::Global;
@@ -18,7 +18,7 @@ use trace_tables::Tables;
 use traffic::offers;
 
 /// The messages are handled, one after another, until none waits. Their rows are counted, and not kept.
-fn count_all_turns<W: Watch>(
+fn count_all<W: Watch>(
     alloc: Global,
     network: &Network,
     nodes: &mut [Node],
@@ -33,7 +33,7 @@ fn count_all_turns<W: Watch>(
 {
     network_laws(network);
     let mut counted = Counted::none(alloc, network)?;
-    take_all_turns(nodes, waiting, &mut counted, watch)?;
+    handle_all(nodes, waiting, &mut counted, watch)?;
     Ok(counted.into_tables()?)
 }
 
@@ -41,7 +41,7 @@ fn count_all_turns<W: Watch>(
 /// no row of it is kept. The tables are those of the rows of the one-thread run of the law of virtual time, and after it nothing waits.
 /// `watch` is shown how far the run is.
 ///
-/// `OutOfMemory` comes only where a growth was refused, and `Exhausted` only where the process whose turn it is has not enough numbers
+/// `OutOfMemory` comes only where a growth was refused, and `Exhausted` only where the process that is next has not enough numbers
 /// left for what one event can send. Where that happens anywhere in the run, there is no answer but a fault.
 pub fn run_tables<W: Watch>(
     alloc: Global,
@@ -58,5 +58,5 @@ pub fn run_tables<W: Watch>(
     let offers = offers(alloc, network)?;
     let mut nodes = nodes_of(alloc, network)?;
     let mut waiting = Waiting::of_offers(alloc, offers, nodes.len())?;
-    count_all_turns(alloc, network, &mut nodes, &mut waiting, watch)
+    count_all(alloc, network, &mut nodes, &mut waiting, watch)
 }

@@ -52,8 +52,8 @@ pub fn world_laws(network: &Network)
     ensures gvt_low { (steps : List Step) (p : ℕ) → p < process_count network.now → (after network.now steps).gvt ≤ (after network.now steps).floors p }
     ensures outboxes { (steps : List Step) (p : ℕ) (m : Message) →
         IsNamed (simulation_of network.now).rules.order m ((after network.now steps).parts p).outbox → m.receiver < process_count network.now }
-    ensures rows { (turns p : ℕ) → rows_at p (one (simulation_of network.now) turns).rows
-        ≡ rowed (simulation_of network.now).rules (opening network.now p) (events (simulation_of network.now) turns p) }
+    ensures rows { (event_count p : ℕ) → rows_at p (one (simulation_of network.now) event_count).rows
+        ≡ rowed (simulation_of network.now).rules (opening network.now p) (events (simulation_of network.now) event_count p) }
     ensures whole { (steps : List Step) → IsFinished (simulation_of network.now) (after network.now steps) →
         IsWhole (simulation_of network.now) (after network.now steps) }
 {

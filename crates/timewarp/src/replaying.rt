@@ -37,7 +37,7 @@ impl Replay {
     pub fn new(alloc: Global, network: Network) -> Result<Self, StepFault>
         ensures network { IfOk result (λ replay. replay.world.plan ≡ network) }
         ensures replayed { IfOk result (λ replay. IsReplayed replay []) }
-        ensures counted { IfOk result (λ replay. replay.did + replay.not_enabled + replay.refused ≡ 0) }
+        ensures totals { IfOk result (λ replay. replay.did + replay.not_enabled + replay.refused ≡ 0) }
         ensures memory { IfErr result (λ fault. fault ≡ OutOfMemory) }
         ensures safe { (steps : List Step) → Safe (simulation_of network) (after network steps) }
         ensures rises { (steps more : List Step) → (after network steps).gvt ≤ (after network (steps ++ more)).gvt }
@@ -64,7 +64,7 @@ impl Replay {
     pub fn do_step(&mut self, step: Step) -> Result<(), StepFault>
         requires { self.old.did + self.old.not_enabled + self.old.refused < 2 ^ 63 }
         ensures replayed { OnOk result ((steps : List Step) → IsReplayed self.old steps → IsReplayed self.new (steps ++ step ∷ [])) }
-        ensures counted { OnOk result (self.new.did + self.new.not_enabled + self.new.refused ≡ self.old.did + self.old.not_enabled + self.old.refused + 1) }
+        ensures totals { OnOk result (self.new.did + self.new.not_enabled + self.new.refused ≡ self.old.did + self.old.not_enabled + self.old.refused + 1) }
         ensures network { self.new.world.plan ≡ self.old.world.plan }
         ensures refused { OnErr result ((steps : List Step) → IsReplayed self.old steps → IsReplayed self.new steps) }
         ensures known { result ≢ Err NoProcess }

@@ -105,7 +105,7 @@ impl World {
         self.actors.gvt()
     }
 
-    /// Whether the run is finished: GVT is past the end, and every done event is committed.
+    /// Whether the run is finished: GVT is beyond the end, and every done event is committed.
     pub fn is_finished(&self) -> bool
         ensures { (steps : List Step) → IsAfter self.now steps → IsTrue result ↔ IsFinished (simulation_of self.now.plan) (after self.now.plan steps) }
     {

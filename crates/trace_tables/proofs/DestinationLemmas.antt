@@ -29,7 +29,7 @@ use Rattle.trace_tables.proofs.LossOrderLemmas.{then-equal, is_eq-then, is_eq-na
 pub destinations_total : IsTotalOrder destination_cmp
 destinations_total = then_total (on_total (λ (a : Destination). a.vl.0) nat_cmp_total) (on_total (λ (a : Destination). a.place) nat_cmp_total)
 
--- destinations are the same where their two parts are
+-- destinations are the same where their two fields are
 destination-is : (a b : Destination) → a.vl.0 ≡ b.vl.0 → a.place ≡ b.place → a ≡ b
 destination-is a b v p =
     let made = λ (v : ℕ) (p : ℕ). (let vl : VlId = record { 0 = v } in let at : Destination = record { vl = vl; place = p } in at) in

@@ -40,7 +40,7 @@ then-equal Less b e = absurd (cc)
 then-equal Equal b e = (refl, e)
 then-equal Greater b e = absurd (cc)
 
--- losses are the same where their three parts are
+-- losses are the same where their three fields are
 pub loss-is : (a b : Loss) → a.vl.0 ≡ b.vl.0 → a.place ≡ b.place → a.cause ≡ b.cause → a ≡ b
 loss-is a b v p c =
     let made = λ (v : ℕ) (p : ℕ) (c : Cause). (let vl : VlId = record { 0 = v } in let loss : Loss = record { vl = vl; place = p; cause = c } in loss) in
@@ -66,7 +66,7 @@ is_eq-nat x y = go (nat_cmp x y) refl
     go Equal e = let same : x ≡ y = ranked x y Equal e in sym (eq-eqb x y same)
     go Greater e = let lt : y < x = ranked x y Greater e in sym (ne_eqb x y (λ same. omega arith))
 
--- losses compare as equal where their three parts are
+-- losses compare as equal where their three fields are
 pub is_eq-losses : (a b : Loss) → is_eq (loss_cmp a b) ≡ ((a.vl.0 == b.vl.0) && ((a.place == b.place) && (cause_number a.cause == cause_number b.cause)))
 is_eq-losses a b =
     is_eq-then (nat_cmp a.vl.0 b.vl.0) (ordering_then (nat_cmp a.place b.place) (nat_cmp (cause_number a.cause) (cause_number b.cause)))

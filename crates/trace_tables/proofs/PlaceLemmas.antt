@@ -14,7 +14,7 @@ use Rattle.trace_tables.specs.Counting.{is_loss, times_lost}
 use Rattle.trace_tables.specs.Destinations.{destinations_in}
 use Rattle.trace_tables.specs.Latencies.{Counts, counts_of, latency_in, latency_at, latencies_of}
 use Rattle.trace_tables.specs.Losses.{cause_number}
-use Rattle.trace_parts.specs.Known.{is_known}
+use Rattle.trace_segments.specs.Known.{is_known}
 use Rattle.trace_tables.specs.Tables.{TableLists, counted_at, latency_table, drop_table, tables_of}
 use Rattle.trace_tables.proofs.DeliveryLemmas.{map-same}
 use Rattle.trace_tables.proofs.DropCountLemmas.{same-drops}

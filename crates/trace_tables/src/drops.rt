@@ -1,13 +1,13 @@
 //! How often frames were lost.
 ghost use Rattle.std.specs.Prelude.{◌≡◌, ◌∷◌, ◌-◌, ◌^◌, ◌<◌, [], cond, OnOk};
 ghost use Rattle.trace_tables.specs.Losses.{count_in, with_loss, with_losses};
-ghost use Rattle.trace_parts.specs.Known.{is_in_network};
+ghost use Rattle.trace_segments.specs.Known.{is_in_network};
 
 use crate::loss::{Loss, loss_order};
 use netdesc::Network;
 use std::alloc::AllocError;
 use std::collections::BTreeMap;
-use trace_parts::is_in_network;
+use trace_segments::is_in_network;
 
 /// One more of a loss.
 fn add_loss(drops: &mut BTreeMap<Loss, u64>, loss: Loss) -> Result<(), AllocError>

@@ -7,7 +7,7 @@ ghost use Rattle.virtual_time.specs.Law.{rows_at};
 ghost use Rattle.vlink.specs.Letters.{Row};
 ghost use Rattle.netdesc.specs.Plan.{Plan};
 ghost use Rattle.trace_tables.specs.declared.loss.Loss.{Loss};
-ghost use Rattle.trace_parts.specs.Places.{gathered};
+ghost use Rattle.trace_segments.specs.Places.{gathered};
 ghost use Rattle.trace_tables.specs.Counting.{times_lost, times_delivered};
 ghost use Rattle.trace_tables.specs.Latencies.{counts_of, latencies_of};
 ghost use Rattle.trace_tables.specs.Losses.{loss_cmp, count_in};

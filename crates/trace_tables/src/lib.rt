@@ -18,9 +18,9 @@ pub use laws::{drop_counts, latency_counts, tables_by_place};
 pub use loss::Loss;
 pub use so_far::TablesSoFar;
 pub use tables::Tables;
-pub use trace_parts::{
-    Batch, Gather, OutFault, Part, PartFault, Sink, SinkFault, TraceFault, TraceWriter,
-    batches_in_order, cut, parts_of_rows, put_in_message_order, rows_by_place, width, write_all,
+pub use trace_segments::{
+    Batch, Gather, OutFault, Segment, SegmentFault, Sink, SinkFault, TraceFault, TraceWriter,
+    batches_in_order, cut, put_in_message_order, rows_by_place, segments_of_rows, width, write_all,
     write_trace,
 };
 pub use write::write_csv;

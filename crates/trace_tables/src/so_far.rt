@@ -19,7 +19,7 @@ use vlink::{Message, Note, Row};
 /// So many rows are counted at most before all have come. What comes behind them is kept, so that no count of rows passes 64 bits.
 const MOST: u64 = 1 << 63;
 
-/// The tables of rows that come part by part. The rows need not be kept.
+/// The tables of rows that come batch by batch. The rows need not be kept.
 ///
 /// After an error it stands for no rows, and is of no use.
 ///

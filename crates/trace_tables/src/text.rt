@@ -3,7 +3,7 @@ ghost use Rattle.std.specs.Prelude.{map, OnOk};
 ghost use Rattle.std.specs.List.{flat_map};
 ghost use Rattle.trace_tables.specs.Destinations.{destination};
 ghost use Rattle.trace_tables.specs.Text.{tables_head, latency_line, destination_line, latency_text, loss_line, drop_line, drop_text};
-ghost use Rattle.trace_parts.specs.Writing.{Adds};
+ghost use Rattle.trace_segments.specs.Writing.{Adds};
 
 use crate::deliveries::latencies_at;
 use crate::destination::Destination;
@@ -13,8 +13,8 @@ use csv::{Error, Writer};
 use itoa::Buffer;
 use netdesc::Network;
 use std::collections::BTreeMap;
-use trace_parts::line::push;
-use trace_parts::{cause_name, is_in_network, place_name};
+use trace_segments::line::push;
+use trace_segments::{cause_name, is_in_network, place_name};
 use vlink::VlId;
 
 /// The first line of the tables.

@@ -1,16 +1,16 @@
 //! The tables as a whole text, into a sink.
 ghost use Rattle.std.specs.Prelude.{◌≡◌, ◌≢◌, ◌+◌, OnOk, IfOk, IfErr};
 ghost use Rattle.std.specs.Io.KnownBytes.{append_known};
-ghost use Rattle.trace_parts.specs.declared.fault.OutFault.TheVariants.{Device};
-ghost use Rattle.trace_parts.specs.Sinking.{IsBeginning};
+ghost use Rattle.trace_segments.specs.declared.fault.OutFault.TheVariants.{Device};
+ghost use Rattle.trace_segments.specs.Sinking.{IsBeginning};
 ghost use Rattle.trace_tables.specs.Text.{tables_text};
 
 use crate::tables::Tables;
 use crate::text;
 use netdesc::Network;
 use std::alloc::Global;
-use trace_parts::line::{empty, text_of};
-use trace_parts::{OutFault, Sink, write_all};
+use trace_segments::line::{empty, text_of};
+use trace_segments::{OutFault, Sink, write_all};
 
 /// The text of the tables of a network.
 fn csv_text(alloc: Global, network: &Network, tables: &Tables) -> Result<Vec<u8>, OutFault>

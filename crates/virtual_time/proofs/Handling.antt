@@ -18,10 +18,10 @@ module _ {M S K N : Type 0} (r : Rules M S K N) where
 
   -- a fact of each state in which one of two lists' messages was handled
 
-  pub along-parts : (Good : S → Type 0) (s : S) (xs ys : List M) → HoldsAlong r Good s (xs ++ ys) →
+  pub along-halves : (Good : S → Type 0) (s : S) (xs ys : List M) → HoldsAlong r Good s (xs ++ ys) →
       HoldsAlong r Good s xs × HoldsAlong r Good (reached r s xs) ys
-  along-parts Good s [] ys h = (tt, h)
-  along-parts Good s (x ∷ xs) ys h = let a = along-parts Good (r.after s x) xs ys h.1 in ((h.0, a.0), a.1)
+  along-halves Good s [] ys h = (tt, h)
+  along-halves Good s (x ∷ xs) ys h = let a = along-halves Good (r.after s x) xs ys h.1 in ((h.0, a.0), a.1)
 
   pub along-append : (Good : S → Type 0) (s : S) (xs ys : List M) → HoldsAlong r Good s xs → HoldsAlong r Good (reached r s xs) ys →
       HoldsAlong r Good s (xs ++ ys)

@@ -35,7 +35,7 @@ module _ {M S K N : Type 0} (f : Simulation M S K N) (L : Laws f) where
     pub mail_late : (p : ℕ) → p < f.processes → (m : M) → IsNamed f.rules.order m (w.mail p) → w.gvt ≤ f.rules.order.time m
     pub mail_here : (p : ℕ) (m : M) → IsNamed f.rules.order m (w.mail p) → f.rules.order.receiver m ≡ p
     pub law : (m : M) → CountLaw f w m
-    -- no process past the last has done or sent anything
+    -- no process beyond the last has done or sent anything
     pub outside : (p : ℕ) → f.processes ≤ p → history f w p ≡ []
     pub outside_outbox : (p : ℕ) → f.processes ≤ p → (w.parts p).outbox ≡ []
     pub in_time : w.gvt ≤ suc f.until

@@ -36,12 +36,12 @@ module _ {M S K N : Type 0} (r : Rules M S K N) (O : IsOrder r.order) where
   -- where each event in a good state numbers its sends on from the counter and raises it by them, and leaves a good state
   module _ (Good : S → Type 0) (keeps : (s : S) (e : M) → Good s → Good (r.after s e))
       (numbered : (s : S) → Good s → (e : M) → IsNumbered r.order.number (r.counter s) (r.sends s e))
-      (counted : (s : S) → Good s → (e : M) → r.counter (r.after s e) ≡ r.counter s + length (r.sends s e)) where
+      (counter_grows : (s : S) → Good s → (e : M) → r.counter (r.after s e) ≡ r.counter s + length (r.sends s e)) where
     sent-numbered : (s : S) → Good s → (ms : List M) → IsNumbered r.order.number (r.counter s) (sent r s ms)
     sent-numbered s g [] = tt
     sent-numbered s g (e ∷ ms) =
         numbered-append r.order.number (r.counter s) (r.sends s e) _ (numbered s g e)
-        (subst (λ n. IsNumbered r.order.number n (sent r (r.after s e) ms)) (counted s g e) (sent-numbered (r.after s e) (keeps s e g) ms))
+        (subst (λ n. IsNumbered r.order.number n (sent r (r.after s e) ms)) (counter_grows s g e) (sent-numbered (r.after s e) (keeps s e g) ms))
 
     pub sent-once : (s : S) → Good s → (ms : List M) (m : M) → times_in r.order m (sent r s ms) ≤ 1
     sent-once s g ms m = numbered-once (r.counter s) (sent r s ms) (sent-numbered s g ms) m

@@ -21,7 +21,7 @@ pub put_other : {X : Type 0} (p q : ℕ) (x : X) (g : ℕ → X) → (q ≡ p �
 put_other p q x g n = rw (ne_eqb q p n) refl
 
 module _ {M S K N : Type 0} (f : Simulation M S K N) (L : Laws f) where
-  -- what holds after each turn
+  -- what holds after each event
   pub record IsRight (t : OneThread M S N) : Type 0 where
     pub states_are : (p : ℕ) → t.states p ≡ reached f.rules (f.opening p) (events_at f.rules.order p t.handled)
     pub ascending : IsAscending f.rules.order t.handled

@@ -23,7 +23,7 @@ module _ {M : Type 0} (order : Order M) (O : IsOrder order) where
   unfolding is_present
   present-from tally m h = lt-ltb _ _ h
 
-  -- where a letter does not turn its own message, no message turns
+  -- where a letter does not toggle its own message, no message is toggled
   pub present-same : (l : Letter M) (tally : List (Letter M)) → is_present order tally l.message ≡ is_present order (l ∷ tally) l.message →
       (m : M) → is_present order tally m ≡ is_present order (l ∷ tally) m
   unfolding is_present

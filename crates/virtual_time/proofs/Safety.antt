@@ -19,7 +19,7 @@ use Rattle.virtual_time.proofs.WellStep.{undo_all-well}
 use Rattle.virtual_time.proofs.Sound.{law-of}
 use Rattle.virtual_time.proofs.Cut.{IsClosed}
 use Rattle.virtual_time.proofs.OneThread.{right}
-use Rattle.virtual_time.proofs.Turns.{turn, is_below, is_first, is_left}
+use Rattle.virtual_time.proofs.OneThreadLater.{none_waits_from, is_below, is_first, is_left}
 use Rattle.virtual_time.proofs.Kept.{IsKept, start-kept}
 use Rattle.virtual_time.proofs.KeptRun.{run-kept, run-rises, run-append}
 
@@ -150,14 +150,14 @@ module _ {M S K N : Type 0} (f : Simulation M S K N) (L : Laws f) where
 
     pub kept-whole : IsFinished f w → IsWhole f w
     kept-whole d = record {
-      turns = t.0;
+      event_count = t.0;
       none_waits = nothing-in (one f t.0).waiting (λ m h. let a = t.1 m h in let b = (right f L t.0).in_time m h in omega arith);
       same_events = same;
       same_rows = λ p i. ap (rowed f.rules (f.opening p)) (same p i) ∙ sym ((right f L t.0).rows_are p);
     }
       where
         t : (n : ℕ) × NoneWaits f (suc f.until) n
-        t = turn f L (suc f.until)
+        t = none_waits_from f L (suc f.until)
 
         same : (p : ℕ) → p < f.processes → (w.parts p).committed ≡ events f t.0 p
         same p i =

@@ -52,7 +52,7 @@ module _ {M S K N : Type 0} (f : Simulation M S K N) (L : Laws f) where
 
   -- each send has a number of its own
   pub sends-once : (p : ℕ) → p < f.processes → (s : S) → IsReached f p s → (ms : List M) (m : M) → times_in f.rules.order m (sent f.rules s ms) ≤ 1
-  sends-once p i s r ms m = sent-once f.rules L.order (IsReached f p) (λ s e h. IsReached-after p s e h) (L.numbered p i) (L.counted p i) s r ms m
+  sends-once p i s r ms m = sent-once f.rules L.order (IsReached f p) (λ s e h. IsReached-after p s e h) (L.numbered p i) (L.counter_grows p i) s r ms m
 
   -- no message is made twice
   pub made-once : (events : ℕ → List M) → ((p : ℕ) → f.processes ≤ p → events p ≡ []) → (m : M) → made f events m ≤ 1

@@ -14,7 +14,7 @@ module _ {M S K N : Type 0} (f : Simulation M S K N) (L : Laws f) where
     -- committed events are earlier than GVT, and their count is used up
     pub committed_low : (m : M) → IsIn f.rules.order m part.committed → f.rules.order.time m < g
     pub committed_none : (m : M) → IsIn f.rules.order m part.committed → pluses f.rules.order m part.tally ≡ minuses f.rules.order m part.tally
-    -- nothing that is still to be handled, counted or posted is earlier than the floor, nor the floor than GVT
+    -- nothing that is still to be handled, tallied or posted is earlier than the floor, nor the floor than GVT
     pub unhandled_late : (m : M) → IsPresent f.rules.order part.tally m → times_in f.rules.order m part.done ≡ 0 → floor ≤ f.rules.order.time m
     pub tray_late : (m : M) → IsNamed f.rules.order m part.tray → floor ≤ f.rules.order.time m
     pub outbox_late : (m : M) → IsNamed f.rules.order m part.outbox → floor ≤ f.rules.order.time m

@@ -5,7 +5,7 @@ use Rattle.virtual_time.specs.Lists.{same, times_in, IsIn, IsAscending, before, 
 use Rattle.virtual_time.specs.Simulation.{Simulation, Laws, IsReached}
 use Rattle.virtual_time.specs.Letters.{minus_of, pluses, minuses, IsNamed, IsPresent}
 use Rattle.virtual_time.specs.declared.letter.Letter.{Letter}
-use Rattle.virtual_time.specs.Part.{Part, rolled_back, counted, is_turned, arrived, arrive}
+use Rattle.virtual_time.specs.Part.{Part, rolled_back, tallied, is_toggled, arrived, arrive}
 use Rattle.virtual_time.specs.Well.{IsWell}
 use Rattle.virtual_time.proofs.Order.{same_cases, different, not_less-time}
 use Rattle.virtual_time.proofs.Lists.{times-append, times-reverse}
@@ -42,22 +42,22 @@ module _ {M S K N : Type 0} (f : Simulation M S K N) (L : Laws f) where
     tally-here m h = elim (named-cons f.rules.order L.order m l part.tally h)
         [ inl k ↦ s.tray_here m (subst (λ x. IsNamed f.rules.order x part.tray) (sym k) in_tray) | inr k ↦ s.tally_here m k ]
 
-    -- the letter is only counted
+    -- the letter is only tallied
 
-    counted-unhandled : (m : M) → IsPresent f.rules.order (l ∷ part.tally) m → times_in f.rules.order m part.done ≡ 0 → floor ≤ f.rules.order.time m
-    counted-unhandled m h z = elim (same_cases f.rules.order L.order m l.message) [
+    tallied-unhandled : (m : M) → IsPresent f.rules.order (l ∷ part.tally) m → times_in f.rules.order m part.done ≡ 0 → floor ≤ f.rules.order.time m
+    tallied-unhandled m h z = elim (same_cases f.rules.order L.order m l.message) [
       | inl k ↦ subst (λ x. floor ≤ f.rules.order.time x) (sym k) letter-late
       | inr n ↦ (let a = counts-other f.rules.order L.order m l part.tally n in let b = a.0 in let c = a.1 in s.unhandled_late m (omega arith) z)
     ]
 
-    counted-sound : IsWell f.rules (IsReached f p) (f.opening p) (counted f.rules l rest part) → IsSound f L g floor p (counted f.rules l rest part)
-    counted-sound w = record {
+    tallied-sound : IsWell f.rules (IsReached f p) (f.opening p) (tallied f.rules l rest part) → IsSound f L g floor p (tallied f.rules l rest part)
+    tallied-sound w = record {
       well = w;
       ascending = s.ascending;
       here = s.here;
       committed_low = s.committed_low;
       committed_none = committed-none;
-      unhandled_late = counted-unhandled;
+      unhandled_late = tallied-unhandled;
       tray_late = λ m h. s.tray_late m (rest-named m h);
       outbox_late = s.outbox_late;
       low = s.low;
@@ -97,8 +97,8 @@ module _ {M S K N : Type 0} (f : Simulation M S K N) (L : Laws f) where
     rolled-unhandled m (inr (inl k)) = s.unhandled_late m k.0 k.1
     rolled-unhandled m (inr (inr k)) = let a = not_less-time f.rules.order L.order m l.message k in let b = letter-late in omega arith
 
-    rolled-sound : IsWell f.rules (IsReached f p) (f.opening p) (rolled_back f.rules (f.opening p) l.message (counted f.rules l rest part)) →
-        IsSound f L g floor p (rolled_back f.rules (f.opening p) l.message (counted f.rules l rest part))
+    rolled-sound : IsWell f.rules (IsReached f p) (f.opening p) (rolled_back f.rules (f.opening p) l.message (tallied f.rules l rest part)) →
+        IsSound f L g floor p (rolled_back f.rules (f.opening p) l.message (tallied f.rules l rest part))
     rolled-sound w = record {
       well = w;
       ascending = ascending-left f.rules.order L.order (part.committed ++ before f.rules.order l.message part.done) (from_on f.rules.order l.message part.done) (subst (λ z. IsAscending f.rules.order z) history-is s.ascending);
@@ -125,15 +125,15 @@ module _ {M S K N : Type 0} (f : Simulation M S K N) (L : Laws f) where
 
     arrived-step : IsWellStep f.rules (IsReached f p) (f.opening p) part (arrived f.rules (f.opening p) part (l ∷ rest)) →
         IsStep f L g floor p part (arrived f.rules (f.opening p) part (l ∷ rest))
-    arrived-step w = go (is_turned f.rules.order l part.tally) w
+    arrived-step w = go (is_toggled f.rules.order l part.tally) w
       where
-        in-hand : (m : M) → InHandKept f L part (counted f.rules l rest part) m
+        in-hand : (m : M) → InHandKept f L part (tallied f.rules l rest part) m
         in-hand m = let a = ap (pluses f.rules.order m) e in let b = ap (minuses f.rules.order m) e in omega arith
 
-        go : (b : Bool) → IsWellStep f.rules (IsReached f p) (f.opening p) part (cond b (rolled_back f.rules (f.opening p) l.message (counted f.rules l rest part)) (counted f.rules l rest part)) →
-            IsStep f L g floor p part (cond b (rolled_back f.rules (f.opening p) l.message (counted f.rules l rest part)) (counted f.rules l rest part))
+        go : (b : Bool) → IsWellStep f.rules (IsReached f p) (f.opening p) part (cond b (rolled_back f.rules (f.opening p) l.message (tallied f.rules l rest part)) (tallied f.rules l rest part)) →
+            IsStep f L g floor p part (cond b (rolled_back f.rules (f.opening p) l.message (tallied f.rules l rest part)) (tallied f.rules l rest part))
         go true v = record { sound = rolled-sound v.well; in_hand = in-hand; sends = v.sends }
-        go false v = record { sound = counted-sound v.well; in_hand = in-hand; sends = v.sends }
+        go false v = record { sound = tallied-sound v.well; in_hand = in-hand; sends = v.sends }
 
   pub arrive-step : (g floor p : ℕ) → p < f.processes → (part : Part M S) → IsSound f L g floor p part →
       IsStep f L g floor p part (arrive f.rules (f.opening p) part)

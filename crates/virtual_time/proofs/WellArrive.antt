@@ -1,17 +1,17 @@
--- One process alone: a letter arrives, and the process rolls back where the letter turns its message.
+-- One process alone: a letter arrives, and the process rolls back where the letter toggles its message.
 use Rattle.std.proofs.Common.{◌≡◌, ◌⊎◌, inl, inr, Bool, true, false, not, cond, List, [], ◌∷◌, ◌++◌, map, reverse, refl, sym, ap, ◌∙◌, subst, arith}
 use Rattle.virtual_time.specs.Rules.{Rules, IsOrder, reached, sent, undone}
 use Rattle.virtual_time.specs.Lists.{times_in, IsIn, before, from_on}
 use Rattle.virtual_time.specs.Letters.{minus_of, IsPresent, is_present}
 use Rattle.virtual_time.specs.declared.letter.Letter.{Letter}
-use Rattle.virtual_time.specs.Part.{Part, rolled_back, counted, arrived, arrive}
+use Rattle.virtual_time.specs.Part.{Part, rolled_back, tallied, arrived, arrive}
 use Rattle.virtual_time.specs.Well.{IsWell, SendsKept, HoldsAlong}
 use Rattle.virtual_time.proofs.Order.{less-different, less-not_less}
 use Rattle.virtual_time.proofs.Lists.{times-append, times-reverse}
 use Rattle.virtual_time.proofs.Ascending.{ascending-filter}
 use Rattle.virtual_time.proofs.Letters.{counts-other, pluses-append, minuses-append, pluses-minus, minuses-minus}
 use Rattle.virtual_time.proofs.Presence.{present-true, present-from, present-same}
-use Rattle.virtual_time.proofs.Handling.{reached-append, sent-append, along-parts, undone-along}
+use Rattle.virtual_time.proofs.Handling.{reached-append, sent-append, along-halves, undone-along}
 use Rattle.virtual_time.proofs.Rolling.{roll-split, roll-history, roll-stays, roll-unhandled}
 use Rattle.virtual_time.proofs.WellStep.{IsWellStep, no_step-well}
 
@@ -19,8 +19,8 @@ module _ {M S K N : Type 0} (r : Rules M S K N) (O : IsOrder r.order) (Good : S 
     (law : (s : S) (e : M) → Good s → r.undo (r.after s e) e (r.kept s e) ≡ s) (opening : S) where
   module _ (part : Part M S) (w : IsWell r Good opening part) (l : Letter M) (rest : List (Letter M)) where
     -- where presence stays, nothing is undone
-    counted-well : is_present r.order part.tally l.message ≡ is_present r.order (l ∷ part.tally) l.message → IsWellStep r Good opening part (counted r l rest part)
-    counted-well e = record {
+    tallied-well : is_present r.order part.tally l.message ≡ is_present r.order (l ∷ part.tally) l.message → IsWellStep r Good opening part (tallied r l rest part)
+    tallied-well e = record {
       well = record {
         state_is = w.state_is;
         good = w.good;
@@ -42,7 +42,7 @@ module _ {M S K N : Type 0} (r : Rules M S K N) (O : IsOrder r.order) (Good : S 
 
     along-both : HoldsAlong r Good (reached r opening part.committed) (before r.order l.message part.done)
         × HoldsAlong r Good (reached r (reached r opening part.committed) (before r.order l.message part.done)) (from_on r.order l.message part.done)
-    along-both = along-parts r Good (reached r opening part.committed) (before r.order l.message part.done) (from_on r.order l.message part.done)
+    along-both = along-halves r Good (reached r opening part.committed) (before r.order l.message part.done) (from_on r.order l.message part.done)
         (subst (λ z. HoldsAlong r Good (reached r opening part.committed) z) (sym (roll-split r O l.message part.done w.ascending)) w.good)
 
     state-base : undone r base (from_on r.order l.message part.done) part.state ≡ base
@@ -52,7 +52,7 @@ module _ {M S K N : Type 0} (r : Rules M S K N) (O : IsOrder r.order) (Good : S 
         ∙ undone-along r Good law base (from_on r.order l.message part.done)
         (subst (λ z. HoldsAlong r Good z (from_on r.order l.message part.done)) (sym (reached-append r opening part.committed (before r.order l.message part.done))) along-both.1)
 
-    rolled-well : IsWellStep r Good opening part (rolled_back r opening l.message (counted r l rest part))
+    rolled-well : IsWellStep r Good opening part (rolled_back r opening l.message (tallied r l rest part))
     rolled-well = record {
       well = record {
         state_is = state-base;
@@ -75,7 +75,7 @@ module _ {M S K N : Type 0} (r : Rules M S K N) (O : IsOrder r.order) (Good : S 
         first m d j (inr (inl k)) = w.done_first m k.0 k.1 d (roll-stays r O l.message part.done d j).1
         first m d j (inr (inr k)) = less-not_less r.order O d l.message m (roll-stays r O l.message part.done d j).0 k
 
-        moved : (m : M) → SendsKept r opening part (rolled_back r opening l.message (counted r l rest part)) m
+        moved : (m : M) → SendsKept r opening part (rolled_back r opening l.message (tallied r l rest part)) m
         moved m =
             let u = sent r base (from_on r.order l.message part.done) in
             let a = pluses-append r.order O m part.outbox (map minus_of (reverse u)) in
@@ -91,11 +91,11 @@ module _ {M S K N : Type 0} (r : Rules M S K N) (O : IsOrder r.order) (Good : S 
     arrived-well = go (is_present r.order part.tally l.message) refl (is_present r.order (l ∷ part.tally) l.message) refl
       where
         go : (b : Bool) → is_present r.order part.tally l.message ≡ b → (c : Bool) → is_present r.order (l ∷ part.tally) l.message ≡ c →
-            IsWellStep r Good opening part (cond (cond b (not c) c) (rolled_back r opening l.message (counted r l rest part)) (counted r l rest part))
-        go true x true y = counted-well (x ∙ sym y)
+            IsWellStep r Good opening part (cond (cond b (not c) c) (rolled_back r opening l.message (tallied r l rest part)) (tallied r l rest part))
+        go true x true y = tallied-well (x ∙ sym y)
         go true x false y = rolled-well
         go false x true y = rolled-well
-        go false x false y = counted-well (x ∙ sym y)
+        go false x false y = tallied-well (x ∙ sym y)
 
   pub arrive-well : (part : Part M S) → IsWell r Good opening part → IsWellStep r Good opening part (arrive r opening part)
   arrive-well part w = go part.tray

@@ -1,7 +1,6 @@
 -- One process alone: what each step of it keeps, and the steps that neither handle nor undo an event.
 use Rattle.std.proofs.Common.{◌≡◌, refl, ap, ◌∙◌, arith}
 use Rattle.virtual_time.specs.Rules.{Rules, reached, undone}
-
 use Rattle.virtual_time.specs.declared.letter.Letter.{Letter}
 use Rattle.virtual_time.specs.Part.{Part, opened, delivered, emptied, undo_all}
 use Rattle.virtual_time.specs.Well.{IsWell, SendsKept}

@@ -66,7 +66,7 @@ module _ {M S K N : Type 0} (f : Simulation M S K N) where
   can_move g Ran part = is_some (next_of f.rules.order part)
   can_move g Sealed part = is_early f g part.done && can_seal f.rules.order part part.done
 
-  -- each of these steps can be done when its turn comes
+  -- each of these steps can be done when it comes
   abbrev pub AreEnabled : S → ℕ → List Move → Part M S → Type 0
   AreEnabled opening g [] part = ⊤
   AreEnabled opening g (m ∷ ms) part = (can_move g m part ≡ true) × AreEnabled opening g ms (acted f.rules opening (Moves m) part)

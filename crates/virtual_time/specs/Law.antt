@@ -1,14 +1,19 @@
 -- What the law of virtual time speaks of, for the crates that it is the law of: each word from the file that defines it.
 pub use Rattle.virtual_time.specs.Journal.{AreEnabled, Deed, Entry, Posted, Published, Took, acts_of, after_own, can_move, delivered_block, fetched, is_of, last_from, last_place, own_in, reach, step_by, steps, steps_of}
-pub use Rattle.virtual_time.specs.Letters.{IsNamed, IsPresent, is_plus, is_present, lowest, minus_of, minuses, plus_of, pluses, received_by, times_of}
-pub use Rattle.virtual_time.specs.Lists.{IsAscending, IsIn, IsNumbered, before, earlier, from_on, least, lesser, one_if, same, times_in, without}
-pub use Rattle.virtual_time.specs.OneThread.{IsBelow, IsLeft, OneThread, events, handle, one}
+pub use Rattle.virtual_time.specs.Letters.{IsNamed, IsPresent, is_plus, lowest, minus_of, minuses, plus_of, pluses, received_by, times_of}
+unfoldable pub use Rattle.virtual_time.specs.Letters.{is_present}
+pub use Rattle.virtual_time.specs.Lists.{IsAscending, IsIn, IsNumbered, before, earlier, from_on, least, lesser, one_if, times_in, without}
+unfoldable pub use Rattle.virtual_time.specs.Lists.{same}
+pub use Rattle.virtual_time.specs.OneThread.{IsBelow, IsLeft, OneThread, events, handle}
+unfoldable pub use Rattle.virtual_time.specs.OneThread.{one}
 pub use Rattle.virtual_time.specs.Own.{Act, acted, after_moves, local}
 pub use Rattle.virtual_time.specs.Own.Act.{Deliver, Emptying, Moves}
-pub use Rattle.virtual_time.specs.Part.{Part, arrive, arrived, can_seal, counted, delivered, emptied, floor_of, handled, is_turned, next_of, opened, rolled_back, run_one, seal_oldest, sealed, undo_all, undone_by, unhandled}
+pub use Rattle.virtual_time.specs.Part.{Part, arrive, arrived, can_seal, tallied, delivered, emptied, floor_of, handled, is_toggled, next_of, opened, rolled_back, run_one, seal_oldest, sealed, undo_all, undone_by}
+unfoldable pub use Rattle.virtual_time.specs.Part.{unhandled}
 pub use Rattle.virtual_time.specs.Rules.{IsOrder, Order, Rules, reached, rowed, rows_at, rows_of, sent}
 pub use Rattle.virtual_time.specs.Safe.{CountLaw, IsFinished, IsWhole, NothingBefore, Safe, history}
 pub use Rattle.virtual_time.specs.SafePart.{IsSafePart, MayAct}
 pub use Rattle.virtual_time.specs.Simulation.{IsReached, Laws, Simulation, made, put}
 pub use Rattle.virtual_time.specs.Well.{IsWell, SendsKept}
-pub use Rattle.virtual_time.specs.World.{World, effect, gvt_over, is_early, is_enabled, run, start, step, taken, with_part}
+pub use Rattle.virtual_time.specs.World.{World, gvt_over, is_early, start, taken, with_part}
+unfoldable pub use Rattle.virtual_time.specs.World.{effect, is_enabled, run, step}

@@ -1,6 +1,6 @@
--- The one-thread run: at each turn the first waiting message is handled. It knows no sign, no undoing and no GVT.
+-- The one-thread run: at each event the first waiting message is handled. It knows no sign, no undoing and no GVT.
 -- Then what is said by means of it: the first events of a process, the state that they leave, and its events below a moment.
-use Rattle.std.specs.Prelude.{◌≡◌, ℕ, zero, suc, ◌≤◌, ◌==◌, List, [], ◌∷◌, ◌++◌, filter, length, take, Option, Some, None}
+use Rattle.std.specs.Prelude.{◌≡◌, ℕ, zero, suc, ◌≤◌, List, [], ◌∷◌, ◌++◌, length, take, Option, Some, None}
 use Rattle.virtual_time.specs.Rules.{reached, rows_of}
 use Rattle.virtual_time.specs.declared.row.Row.{Row}
 use Rattle.virtual_time.specs.Lists.{IsIn, least, earlier, without, events_at}
@@ -26,7 +26,7 @@ module _ {M S K N : Type 0} (f : Simulation M S K N) where
         rows = t.rows ++ rows_of f.rules.order m (f.rules.notes (t.states p) m);
       }
 
-  -- the run after n events; where nothing waits, a turn changes nothing
+  -- the run after n events; where nothing waits, one event more changes nothing
   unfoldable pub one : ℕ → OneThread M S N
   one zero = record { states = f.opening; waiting = f.offers; handled = []; rows = [] }
   one (suc n) = handle (one n) (least f.rules.order (one n).waiting)

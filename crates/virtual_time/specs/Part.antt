@@ -55,13 +55,13 @@ module _ {M : Type 0} (o : Order M) where
   floor_of until part = lowest (lowest (suc until) (map o.time (unhandled part.tally part.done))) (times_of o part.tray)
 
   -- by this letter its message becomes present or absent
-  abbrev pub is_turned : Letter M → List (Letter M) → Bool
-  is_turned l tally = cond (is_present o tally l.message) (not (is_present o (l ∷ tally) l.message)) (is_present o (l ∷ tally) l.message)
+  abbrev pub is_toggled : Letter M → List (Letter M) → Bool
+  is_toggled l tally = cond (is_present o tally l.message) (not (is_present o (l ∷ tally) l.message)) (is_present o (l ∷ tally) l.message)
 
   -- how many events the first of these letters undoes
   abbrev pub undone_by : {S : Type 0} → Part M S → List (Letter M) → ℕ
   undone_by part [] = 0
-  undone_by part (l ∷ rest) = if is_turned l part.tally then length (from_on o l.message part.done) else 0
+  undone_by part (l ∷ rest) = if is_toggled l part.tally then length (from_on o l.message part.done) else 0
 
   -- the message that is handled next: the first unhandled one
   abbrev pub next_of : {S : Type 0} → Part M S → Option M
@@ -88,8 +88,8 @@ module _ {M S K N : Type 0} (r : Rules M S K N) where
       }
 
   -- the letter enters the tally, and rest is left in the tray
-  abbrev pub counted : Letter M → List (Letter M) → Part M S → Part M S
-  counted l rest part =
+  abbrev pub tallied : Letter M → List (Letter M) → Part M S → Part M S
+  tallied l rest part =
       record {
         committed = part.committed;
         done = part.done;
@@ -99,11 +99,11 @@ module _ {M S K N : Type 0} (r : Rules M S K N) where
         outbox = part.outbox;
       }
 
-  -- the first of these letters arrives: where that turns its message, the process rolls back to it
+  -- the first of these letters arrives: where that toggles its message, the process rolls back to it
   abbrev pub arrived : S → Part M S → List (Letter M) → Part M S
   arrived opening part [] = part
   arrived opening part (l ∷ rest) =
-      if is_turned r.order l part.tally then rolled_back opening l.message (counted l rest part) else counted l rest part
+      if is_toggled r.order l part.tally then rolled_back opening l.message (tallied l rest part) else tallied l rest part
 
   -- the first letter of the tray arrives
   abbrev pub arrive : S → Part M S → Part M S

@@ -46,14 +46,14 @@ module _ {M S K N : Type 0} (f : Simulation M S K N) where
     pub counts_one : (p : ℕ) → p < f.processes → (m : M) → IsIn f.rules.order m (w.parts p).done → f.rules.order.time m < w.gvt →
         pluses f.rules.order m (w.parts p).tally ≡ minuses f.rules.order m (w.parts p).tally + 1
 
-  -- a finished world: GVT is past the end, and every done event is committed
+  -- a finished world: GVT is beyond the end, and every done event is committed
   pub record IsFinished (w : World M S) : Type 0 where
     pub over : w.gvt ≡ suc f.until
     pub all_committed : (p : ℕ) → p < f.processes → (w.parts p).done ≡ []
 
   -- the committed events are those of the whole one-thread run, in which nothing waits any more, and so are their rows
   pub record IsWhole (w : World M S) : Type 0 where
-    pub turns : ℕ
-    pub none_waits : (one f turns).waiting ≡ []
-    pub same_events : (p : ℕ) → p < f.processes → (w.parts p).committed ≡ events f turns p
-    pub same_rows : (p : ℕ) → p < f.processes → rowed f.rules (f.opening p) (w.parts p).committed ≡ rows_at p (one f turns).rows
+    pub event_count : ℕ
+    pub none_waits : (one f event_count).waiting ≡ []
+    pub same_events : (p : ℕ) → p < f.processes → (w.parts p).committed ≡ events f event_count p
+    pub same_rows : (p : ℕ) → p < f.processes → rowed f.rules (f.opening p) (w.parts p).committed ≡ rows_at p (one f event_count).rows

@@ -39,6 +39,6 @@ module _ {M S K N : Type 0} (f : Simulation M S K N) where
     pub in_time : (p : ℕ) → p < f.processes → (s : S) → IsReached p s → (e m : M) → IsIn f.rules.order m (f.rules.sends s e) → f.rules.order.time m ≤ f.until
     -- the messages of one process are numbered on and on, by a counter in its state
     pub numbered : (p : ℕ) → p < f.processes → (s : S) → IsReached p s → (e : M) → IsNumbered f.rules.order.number (f.rules.counter s) (f.rules.sends s e)
-    pub counted : (p : ℕ) → p < f.processes → (s : S) → IsReached p s → (e : M) → f.rules.counter (f.rules.after s e) ≡ f.rules.counter s + length (f.rules.sends s e)
+    pub counter_grows : (p : ℕ) → p < f.processes → (s : S) → IsReached p s → (e : M) → f.rules.counter (f.rules.after s e) ≡ f.rules.counter s + length (f.rules.sends s e)
     -- undoing an event with its record gives back the state before it, the counter with it
     pub undoes : (p : ℕ) → p < f.processes → (s : S) → IsReached p s → (e : M) → f.rules.undo (f.rules.after s e) e (f.rules.kept s e) ≡ s

@@ -5,7 +5,7 @@
 //! (messages with a sign, and signed counts), `Part` (one process, which runs ahead and rolls back), `World` (processes with mail,
 //! floors and GVT, and the six steps), `Safe` (the count law, what floors bound; a safe and a finished world), `Own` (what a process
 //! does alone), `Well` (what holds of it alone), `SafePart` (what holds of it below a GVT that it has seen) and `Journal` (a run put
-//! together from what one process did at one go). In `proofs`, `Cut`, `OneThread` and `Turns` are about the one-thread run; the files
+//! together from what one process did at one go). In `proofs`, `Cut`, `OneThread` and `OneThreadLater` are about the one-thread run; the files
 //! named `Well..` about one process alone, `Sound..` about one process in the world, `Kept..` about the world; `Safety` has the theorem,
 //! `SafePart` and `Journal` the laws of these names, and `Examples` small cases that are computed. `Reading`, `Rolling` and `Handling`
 //! are also for code that stands for a process.
@@ -15,11 +15,6 @@ mod letter;
 mod moved;
 mod row;
 mod step;
-
-pub use letter::{Letter, Sign};
-pub use moved::Move;
-pub use row::Row;
-pub use step::Step;
 
 ghost use Rattle.std.specs.Prelude.{ℕ, ◌+◌, ◌≡◌, ◌<◌, ◌≤◌, Bool, true, false, List, ◌++◌, [], ◌∷◌, length, replicate};
 ghost use Rattle.virtual_time.specs.Rules.{Rules, IsOrder, reached, sent, rowed, rows_at};
@@ -40,6 +35,11 @@ ghost use Rattle.virtual_time.specs.SafePart.{IsSafePart, MayAct};
 ghost use Rattle.virtual_time.specs.Journal.{Entry, Posted, Published, steps_of, acts_of, own_in, reach, after_own, AreEnabled, fetched, delivered_block};
 ghost use Rattle.virtual_time.specs.declared.moved.Move.{Move};
 ghost use Rattle.virtual_time.specs.declared.moved.Move.TheVariants.{Ran};
+
+pub use letter::{Letter, Sign};
+pub use moved::Move;
+pub use row::Row;
+pub use step::Step;
 
 /// The headline: whatever steps are done, in whatever order and however many, for every simulation that meets its laws.
 /// It says nothing of how soon anything comes: GVT need not rise, and a run need not finish.
@@ -88,7 +88,7 @@ pub fn headline<M, S, K, N>()
         (run f steps (start f)).gvt ≤ (run f steps (start f)).floors p }
     ensures outboxes { (f : Simulation M S K N) → Laws f → (steps : List Step) (p : ℕ) (m : M) →
         IsNamed f.rules.order m ((run f steps (start f)).parts p).outbox → f.rules.order.receiver m < f.processes }
-    ensures rows { (f : Simulation M S K N) → Laws f → (turns p : ℕ) → rows_at p (one f turns).rows ≡ rowed f.rules (f.opening p) (events f turns p) }
+    ensures rows { (f : Simulation M S K N) → Laws f → (event_count p : ℕ) → rows_at p (one f event_count).rows ≡ rowed f.rules (f.opening p) (events f event_count p) }
     ensures whole { (f : Simulation M S K N) → Laws f → (steps : List Step) → IsFinished f (run f steps (start f)) → IsWhole f (run f steps (start f)) }
     ensures alone { (f : Simulation M S K N) (steps : List Step) (p : ℕ) →
         (run f steps (start f)).parts p ≡ local f.rules (f.opening p) (own f p steps (start f)) (opened (f.opening p)) }
@@ -136,7 +136,7 @@ pub fn seen_law<M, S, K, N>()
 /// The law of a journal, whose entries tell what one process did at one go: what each makes of the world.
 ///
 /// - `takes`: letters at the front of a process's mail go to its tray, its floor falls to the least of their times, and all else stays.
-/// - `posts`: where each step of a block can be done when its turn comes, the process does them, its outbox goes to the mail, its floor
+/// - `posts`: where each step of a block can be done when it comes, the process does them, its outbox goes to the mail, its floor
 ///   is what it has left, and all other floors and processes stay.
 /// - `publishes`: GVT alone changes: it is the least of the floors and of the times of the letters in the mail.
 /// - `later`: what can be done at one GVT can be done at a later one.

@@ -1,4 +1,4 @@
--- The order of messages: by time, receiver, sender, number and body; bodies by kind and then by their fields.
+-- The order of messages: by time, receiver, sender, number and body; bodies by variant and then by their fields.
 use Rattle.std.specs.Prelude.{ℕ}
 use Rattle.std.specs.Ordering.{nat_cmp, ordering_then, is_lt}
 use Rattle.std.specs.declared.cmp.Ordering.{Ordering}
@@ -41,16 +41,16 @@ frame_cmp f g =
     ordering_then (nat_cmp f.released g.released) (
     net_cmp f.net g.net)))))
 
--- the kinds of bodies in their order
-abbrev pub kind_of : Body → ℕ
-kind_of (Offer vl size sub) = 0
-kind_of (Release vl) = 1
-kind_of (PortFree port) = 2
-kind_of (Arrive port frame) = 3
-kind_of (Enqueue port frame) = 4
-kind_of (Carry frame) = 5
+-- the ranks of the variants of bodies
+abbrev pub body_rank : Body → ℕ
+body_rank (Offer vl size sub) = 0
+body_rank (Release vl) = 1
+body_rank (PortFree port) = 2
+body_rank (Arrive port frame) = 3
+body_rank (Enqueue port frame) = 4
+body_rank (Carry frame) = 5
 
--- two bodies of one kind by their fields, as they are written; of two kinds nothing is told
+-- two bodies of one variant by their fields, as they are written; of two variants nothing is told
 abbrev pub fields_cmp : Body → Body → Ordering
 fields_cmp (Offer vl size sub) (Offer vl' size' sub') = ordering_then (nat_cmp vl.0 vl'.0) (ordering_then (nat_cmp size size') (nat_cmp sub sub'))
 fields_cmp (Release vl) (Release vl') = nat_cmp vl.0 vl'.0
@@ -61,7 +61,7 @@ fields_cmp (Carry frame) (Carry frame') = frame_cmp frame frame'
 fields_cmp _ _ = Equal
 
 abbrev pub body_cmp : Body → Body → Ordering
-body_cmp b c = ordering_then (nat_cmp (kind_of b) (kind_of c)) (fields_cmp b c)
+body_cmp b c = ordering_then (nat_cmp (body_rank b) (body_rank c)) (fields_cmp b c)
 
 -- the order of messages
 unfoldable pub message_cmp : Message → Message → Ordering

@@ -5,7 +5,7 @@ ghost use Rattle.vlink.specs.declared.message.Body.TheVariants.{PortFree};
 use crate::frame::{Frame, FrameSize, VlId};
 use crate::time::Time;
 
-/// What a message says to its receiver. The order of the kinds is part of the order of messages.
+/// What a message says to its receiver. The order of the variants is part of the order of messages.
 #[derive(Clone, Copy, Debug, PartialEq, Eq, Hash, PartialOrd, Ord)]
 pub enum Body {
     /// An application offers a frame of this size to a sub-virtual link, at the source of the virtual link.

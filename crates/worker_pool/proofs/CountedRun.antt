@@ -11,16 +11,16 @@ use Rattle.virtual_time.specs.Law.{rows_at}
 use Rattle.vlink.specs.Letters.{Row}
 use Rattle.netdesc.specs.Plan.{Plan}
 use Rattle.netdesc.specs.Faults.{process_count}
-use Rattle.trace_parts.specs.Intervals.{rows_within, rows_before, rows_from}
-use Rattle.trace_parts.specs.Parts.{BatchRows}
+use Rattle.trace_segments.specs.Intervals.{rows_within, rows_before, rows_from}
+use Rattle.trace_segments.specs.Segments.{BatchRows}
 use Rattle.trace_tables.specs.SoFar.{SoFarLists, AreInTables, IsSoFar}
 use Rattle.trace_tables.specs.Tables.{TableLists, tables_of}
-use Rattle.trace_parts.proofs.SortedLemmas.{filters-swap}
-use Rattle.trace_parts.proofs.TimeLemmas.{none-before}
+use Rattle.trace_segments.proofs.SortedLemmas.{filters-swap}
+use Rattle.trace_segments.proofs.TimeLemmas.{none-before}
 use Rattle.seqsim.specs.Networks.{AreRowsOf}
 use Rattle.worker_pool.specs.Counts.{AreCountedBefore}
 use Rattle.worker_pool.specs.Traces.{AreLawfulRows, HasLawfulRows, IsBatchOfRun}
-use Rattle.worker_pool.proofs.PartRows.{AreAsInRun, same-rows}
+use Rattle.worker_pool.proofs.SegmentRows.{AreAsInRun, same-rows}
 use Rattle.worker_pool.proofs.TraceText.{before-more}
 use Rattle.worker_pool.proofs.WrittenRun.{Splits}
 

@@ -19,7 +19,7 @@ use Rattle.gvt.proofs.floors.Floors.TheSendSync as floors
 use Rattle.process_queues.proofs.process.Process.TheSendSync as process
 use Rattle.journal.specs.contracts.entry.Deed as Deed
 use Rattle.journal.specs.contracts.entry.Entry as Entry
-use Rattle.journal.specs.contracts.entry.Past as Past
+use Rattle.journal.specs.contracts.entry.Prior as Prior
 use Rattle.journal.specs.contracts.table.Entries as Entries
 use Rattle.journal.specs.contracts.table.Page as Page
 use Rattle.journal.proofs.block.Block.TheSendSync as block
@@ -41,11 +41,11 @@ use Rattle.worker_pool.specs.contracts.shared.Shared.TheInside as SharedIn
 use Rattle.worker_pool.proofs.desk.TraceLock.TheSendSync as trace
 
 -- ---- the table of entries
-past-send : IsSend Past.the_row
-past-send = search (sendable, crosses) depth 20
+prior-send : IsSend Prior.the_row
+prior-send = search (sendable, crosses) depth 20
 
-past-sync : IsSync Past.the_row
-past-sync = search (sendable, crosses) depth 20
+prior-sync : IsSync Prior.the_row
+prior-sync = search (sendable, crosses) depth 20
 
 deed-send : IsSend Deed.the_row
 deed-send = search (block.the_send, sendable, crosses) depth 20
@@ -54,10 +54,10 @@ deed-sync : IsSync Deed.the_row
 deed-sync = search (block.the_sync, sendable, crosses) depth 20
 
 entry-send : IsSend Entry.the_row
-entry-send = declared_send Entry.the_type (past-send, (deed-send, (search sendable, tt)))
+entry-send = declared_send Entry.the_type (prior-send, (deed-send, (search sendable, tt)))
 
 entry-sync : IsSync Entry.the_row
-entry-sync = declared_sync Entry.the_type (past-sync, (deed-sync, (search sendable, tt)))
+entry-sync = declared_sync Entry.the_type (prior-sync, (deed-sync, (search sendable, tt)))
 
 page-send : IsSend Page.the_row
 page-send = search (entry-send, slot.the_send, declared_send, sendable, crosses) depth 20

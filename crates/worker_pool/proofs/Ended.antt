@@ -16,7 +16,7 @@ use Rattle.seqsim.specs.Committed.{after, AreCommittedRows}
 use Rattle.seqsim.specs.Networks.{AreRowsOf}
 use Rattle.seqsim.proofs.CommittedRows.{AreRowsBelow, rows-more, rows-all, rows-whole}
 use Rattle.worker_pool.specs.Runs.{IsOfWorld, IsEnded}
-use Rattle.worker_pool.proofs.PartRows.{AreAsInRun, is_inside}
+use Rattle.worker_pool.proofs.SegmentRows.{AreAsInRun, is_inside}
 use Rattle.worker_pool.proofs.Places.{some-at}
 
 -- the process at a place has committed all that it has done
@@ -84,15 +84,15 @@ module _ (plan : Plan) (entries : List (Entry Message)) where
       module _ (W : IsWhole (simulation_of plan) (after plan (steps entries))) where
         -- there are rows of the one-thread run
         pub some-rows : (rows : List Row) × AreRowsOf plan rows
-        some-rows = ((one (simulation_of plan) W.turns).rows, (W.turns, W.none_waits, refl))
+        some-rows = ((one (simulation_of plan) W.event_count).rows, (W.event_count, W.none_waits, refl))
 
         -- in any interval the rows of a process are those that the one-thread run has of it
         pub as-in-run : (n : ℕ) (share : InShare NodeState) → slice_get shares n ≡ Some share → (from to : ℕ) (rows : List Row) →
             rows ≡ filter (is_inside plan n from to) (rowed (simulation_of plan).rules (opening plan share.number) share.part.committed) →
             AreAsInRun plan n from to rows
-        as-in-run n share at from to rows is turns none =
+        as-in-run n share at from to rows is event_count none =
             let f = simulation_of plan in
             let here = E.each n share at in
             let numbered = ap (λ (p : ℕ). rowed f.rules (opening plan p) share.part.committed) here.0 in
             let reached = ap (λ (part : Part Message NodeState). rowed f.rules (opening plan n) part.committed) here.1 in
-            is ∙ ap (filter (is_inside plan n from to)) (numbered ∙ (reached ∙ sym (rows-whole f L (steps entries) W turns none n)))
+            is ∙ ap (filter (is_inside plan n from to)) (numbered ∙ (reached ∙ sym (rows-whole f L (steps entries) W event_count none n)))

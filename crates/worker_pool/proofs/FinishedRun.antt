@@ -12,16 +12,16 @@ use Rattle.virtual_time.specs.Law.{rows_at}
 use Rattle.vlink.specs.Letters.{Row}
 use Rattle.netdesc.specs.Plan.{Plan}
 use Rattle.netdesc.specs.Faults.{process_count}
-use Rattle.trace_parts.specs.declared.fault.OutFault.{OutFault}
-use Rattle.trace_parts.specs.declared.fault.OutFault.TheVariants.{Device, OutOfMemory, Layout}
-use Rattle.trace_parts.specs.declared.part_fault.PartFault.TheVariants.{Gap}
-use Rattle.trace_parts.specs.declared.trace_fault.TraceFault.{TraceFault}
-use Rattle.trace_parts.specs.declared.trace_fault.TraceFault.TheVariants.{Part, Out}
-use Rattle.trace_parts.specs.Intervals.{rows_before, rows_from}
-use Rattle.trace_parts.specs.Sinking.{IsBeginning}
-use Rattle.trace_parts.specs.Text.{trace_line, trace_text}
-use Rattle.trace_parts.specs.WrittenTrace.{WrittenTrace, lacks_head, end_fault}
-use Rattle.trace_parts.proofs.TimeLemmas.{all-before}
+use Rattle.trace_segments.specs.declared.fault.OutFault.{OutFault}
+use Rattle.trace_segments.specs.declared.fault.OutFault.TheVariants.{Device, OutOfMemory, Layout}
+use Rattle.trace_segments.specs.declared.segment_fault.SegmentFault.TheVariants.{Gap}
+use Rattle.trace_segments.specs.declared.trace_fault.TraceFault.{TraceFault}
+use Rattle.trace_segments.specs.declared.trace_fault.TraceFault.TheVariants.{Segment, Out}
+use Rattle.trace_segments.specs.Intervals.{rows_before, rows_from}
+use Rattle.trace_segments.specs.Sinking.{IsBeginning}
+use Rattle.trace_segments.specs.Text.{trace_line, trace_text}
+use Rattle.trace_segments.specs.WrittenTrace.{WrittenTrace, lacks_head, end_fault}
+use Rattle.trace_segments.proofs.TimeLemmas.{all-before}
 use Rattle.seqsim.specs.Networks.{AreRowsOf}
 use Rattle.worker_pool.specs.Traces.{AreLawfulRows, HasLawfulRows, IsTraceOfRun, text_before}
 use Rattle.worker_pool.proofs.GatheredRun.{none-of}
@@ -38,7 +38,7 @@ headless trace lacks = grind (arith, common_steps)
 
 -- a sink that failed is told
 told-broken : (trace : WrittenTrace) → trace.broken ≡ true → end_fault trace ≡ Some (Out Device)
-told-broken trace broken = ap (λ b. cond b (Some (Out Device)) (cond (lacks_head trace) None (cond (trace.end == trace.plan.until + 1) None (Some (Part Gap))))) broken
+told-broken trace broken = ap (λ b. cond b (Some (Out Device)) (cond (lacks_head trace) None (cond (trace.end == trace.plan.until + 1) None (Some (Segment Gap))))) broken
 
 -- and one that did not fail is not
 told-other : (trace : WrittenTrace) → trace.broken ≡ false → end_fault trace ≡ Some (Out Device) → ⊥

@@ -1,4 +1,4 @@
--- The parts of a run that wait, and its batches.
+-- The segments of a run that wait, and its batches.
 use Rattle.std.proofs.Common.{◌≡◌, ◌∙◌, ℕ, zero, suc, List, [], ◌∷◌, Option, Some, None, length, refl, sym, ap, subst, arith}
 use Rattle.std.specs.Prelude.{Result, Ok, Err, IfOk, OnErr, IfSome, IfNone}
 use Rattle.std.specs.List.{repeat}
@@ -7,14 +7,14 @@ use Rattle.virtual_time.specs.Law.{rows_at}
 use Rattle.vlink.specs.Letters.{Row}
 use Rattle.netdesc.specs.Plan.{Plan}
 use Rattle.netdesc.specs.Faults.{process_count}
-use Rattle.trace_parts.specs.Gathered.{IsOfRows}
-use Rattle.trace_parts.specs.declared.part_fault.PartFault.{PartFault}
-use Rattle.trace_parts.specs.Gathering.{Gathering, no_parts, part_fault, with_part, Waits, Gives}
-use Rattle.trace_parts.specs.Intervals.{rows_within}
-use Rattle.trace_parts.specs.Parts.{PartRows, BatchRows}
-use Rattle.trace_parts.proofs.IntervalLemmas.{cut-rises}
+use Rattle.trace_segments.specs.Gathered.{IsOfRows}
+use Rattle.trace_segments.specs.declared.segment_fault.SegmentFault.{SegmentFault}
+use Rattle.trace_segments.specs.Gathering.{Gathering, no_segments, segment_fault, with_segment, Waits, Gives}
+use Rattle.trace_segments.specs.Intervals.{rows_within}
+use Rattle.trace_segments.specs.Segments.{SegmentRows, BatchRows}
+use Rattle.trace_segments.proofs.IntervalLemmas.{cut-rises}
 use Rattle.seqsim.specs.Networks.{AreRowsOf}
-use Rattle.worker_pool.specs.Parts.{IsPartOfRun}
+use Rattle.worker_pool.specs.Segments.{IsSegmentOfRun}
 use Rattle.worker_pool.specs.Traces.{IsBatchOfRun, IsGatheringOfRun}
 
 -- what can be nothing else
@@ -32,9 +32,9 @@ module _ (plan : Plan) where
   abbrev pub HasRowsOfRun : Gathering → Type 0
   HasRowsOfRun g = (rows : List Row) → AreRowsOf plan rows → IsOfRows g (λ p. rows_at p rows)
 
-  -- no part waits at first
-  pub none-gathered : (processes until : ℕ) → processes ≡ process_count plan → until ≡ plan.until → HasRowsOfRun (no_parts 0 processes until) →
-      (g : Gathering) → g ≡ no_parts 0 processes until → IsGatheringOfRun plan g
+  -- no segment waits at first
+  pub none-gathered : (processes until : ℕ) → processes ≡ process_count plan → until ≡ plan.until → HasRowsOfRun (no_segments 0 processes until) →
+      (g : Gathering) → g ≡ no_segments 0 processes until → IsGatheringOfRun plan g
   none-gathered processes until count ends rows_are g is =
       subst (IsGatheringOfRun plan) (sym is) (record {
         run_is = refl;
@@ -43,18 +43,18 @@ module _ (plan : Plan) where
         rows_are = rows_are;
       })
 
-  -- a part of the run has the rows of its process and interval
-  pub own-rows : (part : PartRows) → (k : ℕ) × IsPartOfRun plan part.process k part → (rows : List Row) → AreRowsOf plan rows →
-      part.rows ≡ rows_within part.from part.to (rows_at part.process rows)
-  own-rows part of_run rows r =
-      subst (λ (q : PartRows). q.rows ≡ rows_within q.from q.to (rows_at q.process rows)) (sym (of_run.1 rows r)) refl
+  -- a segment of the run has the rows of its process and interval
+  pub own-rows : (segment : SegmentRows) → (k : ℕ) × IsSegmentOfRun plan segment.process k segment → (rows : List Row) → AreRowsOf plan rows →
+      segment.rows ≡ rows_within segment.from segment.to (rows_at segment.process rows)
+  own-rows segment of_run rows r =
+      subst (λ (q : SegmentRows). q.rows ≡ rows_within q.from q.to (rows_at q.process rows)) (sym (of_run.1 rows r)) refl
 
-  module _ (old new : Gathering) (part : PartRows) (G : IsGatheringOfRun plan old) where
-    put-count : length (with_part part.process part.rows old.waiting) ≡ process_count plan
-    put-count = length-set old.waiting part.process _ ∙ G.count
+  module _ (old new : Gathering) (segment : SegmentRows) (G : IsGatheringOfRun plan old) where
+    put-count : length (with_segment segment.process segment.rows old.waiting) ≡ process_count plan
+    put-count = length-set old.waiting segment.process _ ∙ G.count
 
-    -- a part more, which waits
-    pub waits-gathered : Waits old part new → HasRowsOfRun new → IsGatheringOfRun plan new
+    -- a segment more, which waits
+    pub waits-gathered : Waits old segment new → HasRowsOfRun new → IsGatheringOfRun plan new
     waits-gathered waits rows_are =
         record {
           run_is = ap (λ (g : Gathering). g.run) waits.kept ∙ G.run_is;
@@ -63,7 +63,7 @@ module _ (plan : Plan) where
           rows_are = rows_are;
         }
 
-    module _ (batch : BatchRows) (gives : Gives old part batch new) where
+    module _ (batch : BatchRows) (gives : Gives old segment batch new) where
       -- or with which a batch is given
       pub gives-gathered : HasRowsOfRun new → IsGatheringOfRun plan new
       gives-gathered rows_are =
@@ -82,13 +82,13 @@ module _ (plan : Plan) where
             rows_are = rows_are;
           }
 
-    -- so what waits is of the run, whatever came of the part
-    pub part-gathered : (r : Result (Option BatchRows) PartFault) → ((fault : PartFault) → part_fault old part ≡ Some fault → r ≡ Err fault) →
-        OnErr r (new ≡ old) → IfOk r (λ given. IfNone given (Waits old part new)) → IfOk r (λ given. IfSome given (λ batch. Gives old part batch new)) →
-        (part_fault old part ≡ None → Waits old part new → HasRowsOfRun new) →
-        (part_fault old part ≡ None → (batch : BatchRows) → Gives old part batch new → HasRowsOfRun new) → IsGatheringOfRun plan new
-    part-gathered (Err fault) refused unchanged waits gives when_waits when_gives = subst (IsGatheringOfRun plan) (sym unchanged) G
-    part-gathered (Ok None) refused unchanged waits gives when_waits when_gives =
-        waits-gathered waits (when_waits (none-of (part_fault old part) (λ fault e. let f = refused fault e in absurd (cc))) waits)
-    part-gathered (Ok (Some batch)) refused unchanged waits gives when_waits when_gives =
-        gives-gathered batch gives (when_gives (none-of (part_fault old part) (λ fault e. let f = refused fault e in absurd (cc))) batch gives)
+    -- so what waits is of the run, whatever came of the segment
+    pub segment-gathered : (r : Result (Option BatchRows) SegmentFault) → ((fault : SegmentFault) → segment_fault old segment ≡ Some fault → r ≡ Err fault) →
+        OnErr r (new ≡ old) → IfOk r (λ given. IfNone given (Waits old segment new)) → IfOk r (λ given. IfSome given (λ batch. Gives old segment batch new)) →
+        (segment_fault old segment ≡ None → Waits old segment new → HasRowsOfRun new) →
+        (segment_fault old segment ≡ None → (batch : BatchRows) → Gives old segment batch new → HasRowsOfRun new) → IsGatheringOfRun plan new
+    segment-gathered (Err fault) refused unchanged waits gives when_waits when_gives = subst (IsGatheringOfRun plan) (sym unchanged) G
+    segment-gathered (Ok None) refused unchanged waits gives when_waits when_gives =
+        waits-gathered waits (when_waits (none-of (segment_fault old segment) (λ fault e. let f = refused fault e in absurd (cc))) waits)
+    segment-gathered (Ok (Some batch)) refused unchanged waits gives when_waits when_gives =
+        gives-gathered batch gives (when_gives (none-of (segment_fault old segment) (λ fault e. let f = refused fault e in absurd (cc))) batch gives)

@@ -16,7 +16,7 @@ use Rattle.netdesc.specs.Faults.{process_count}
 use Rattle.nodes.specs.declared.node.NodeRecord.{NodeRecord}
 use Rattle.nodes.specs.rules.Node.{NodeState}
 use Rattle.nodes.specs.rules.Simulation.{simulation_of}
-use Rattle.trace_parts.specs.Ordered.{AreInMessageOrder, AreAtReceivers}
+use Rattle.trace_segments.specs.Ordered.{AreInMessageOrder, AreAtReceivers}
 use Rattle.seqsim.specs.Networks.{AreRowsOf}
 use Rattle.seqsim.proofs.OneThreadRows.{one-here, one-ordered}
 use Rattle.worker_pool.specs.Traces.{HasLawfulRows}
@@ -28,7 +28,7 @@ module _ (plan : Plan) (L : Laws (simulation_of plan)) where
   abbrev IsInTime : Row → Type 0
   IsInTime row = row.message.time ≤ plan.until
 
-  -- after each turn no row is later than the end
+  -- after each event no row is later than the end
   in-time : (n : ℕ) → All IsInTime (one f n).rows
   unfolding one
   in-time zero = All-nil IsInTime

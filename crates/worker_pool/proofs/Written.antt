@@ -1,32 +1,32 @@
--- What was written, whatever came first: the fault of a batch, that of a part, or the end.
+-- What was written, whatever came first: the fault of a batch, that of a segment, or the end.
 use Rattle.std.proofs.Common.{◌≡◌, ◌≢◌, ℕ, ◌+◌, ◌<◌, ◌==◌, Bool, true, false, cond, List, Option, Some, None, Result, Ok, Err, IsOk, OnOk, IfErr, length, refl, sym, ap, subst, arith}
 use Rattle.std.specs.Prelude.{⊤, IfSome}
 use Rattle.std.specs.Io.KnownBytes.{append_known}
 use Rattle.std.proofs.lemmas.Grind.{common_steps}
 use Rattle.vlink.specs.Letters.{Row}
 use Rattle.netdesc.specs.Plan.{Plan}
-use Rattle.trace_parts.specs.declared.fault.OutFault.{OutFault}
-use Rattle.trace_parts.specs.declared.fault.OutFault.TheVariants.{Device}
-use Rattle.trace_parts.specs.declared.part_fault.PartFault.{PartFault}
-use Rattle.trace_parts.specs.declared.part_fault.PartFault.TheVariants.{Gap, Double, Stranger, OutOfMemory}
-use Rattle.trace_parts.specs.declared.trace_fault.TraceFault.{TraceFault}
-use Rattle.trace_parts.specs.declared.trace_fault.TraceFault.TheVariants.{Part, Out}
-use Rattle.trace_parts.specs.Gathering.{Gathering, part_fault}
-use Rattle.trace_parts.specs.Parts.{PartRows, BatchRows}
-use Rattle.trace_parts.specs.Sinking.{IsBeginning}
-use Rattle.trace_parts.specs.Text.{trace_text}
-use Rattle.trace_parts.specs.WrittenTrace.{WrittenTrace, batch_fault, lacks_head, end_fault}
+use Rattle.trace_segments.specs.declared.fault.OutFault.{OutFault}
+use Rattle.trace_segments.specs.declared.fault.OutFault.TheVariants.{Device}
+use Rattle.trace_segments.specs.declared.segment_fault.SegmentFault.{SegmentFault}
+use Rattle.trace_segments.specs.declared.segment_fault.SegmentFault.TheVariants.{Gap, Double, Stranger, OutOfMemory}
+use Rattle.trace_segments.specs.declared.trace_fault.TraceFault.{TraceFault}
+use Rattle.trace_segments.specs.declared.trace_fault.TraceFault.TheVariants.{Segment, Out}
+use Rattle.trace_segments.specs.Gathering.{Gathering, segment_fault}
+use Rattle.trace_segments.specs.Segments.{SegmentRows, BatchRows}
+use Rattle.trace_segments.specs.Sinking.{IsBeginning}
+use Rattle.trace_segments.specs.Text.{trace_text}
+use Rattle.trace_segments.specs.WrittenTrace.{WrittenTrace, batch_fault, lacks_head, end_fault}
 use Rattle.seqsim.specs.Networks.{AreRowsOf}
 use Rattle.worker_pool.specs.Written.{outcome_of, IsPlaceFault, IsFaultOfTrace, IsWritten}
 
 module _ (plan : Plan) (start : Option (List ℕ)) (failed : ℕ) (taken : Option (List ℕ)) (failures : ℕ) where
-  pub is-written : (batches : Result ⊤ TraceFault) (part : Option PartFault) (end : Result ⊤ TraceFault) →
-      (batches ≡ Err (Out Device) → failures ≡ failed + 1) → IfErr batches IsFaultOfTrace → IfSome part IsPlaceFault →
+  pub is-written : (batches : Result ⊤ TraceFault) (segment : Option SegmentFault) (end : Result ⊤ TraceFault) →
+      (batches ≡ Err (Out Device) → failures ≡ failed + 1) → IfErr batches IsFaultOfTrace → IfSome segment IsPlaceFault →
       ((rows : List Row) → AreRowsOf plan rows → OnOk end (taken ≡ append_known start (trace_text plan rows))) →
       ((rows : List Row) → AreRowsOf plan rows → IsBeginning start taken (trace_text plan rows)) →
       IfErr end (λ fault. fault ≡ Out Device → failures ≡ failed + 1) → OnOk end (failures ≡ failed) →
-      IfErr end IsFaultOfTrace → IsWritten plan start failed (outcome_of batches part end) taken failures
-  is-written (Err fault) part end device known none whole beginning broken well other =
+      IfErr end IsFaultOfTrace → IsWritten plan start failed (outcome_of batches segment end) taken failures
+  is-written (Err fault) segment end device known none whole beginning broken well other =
       record { whole = tt; beginning = beginning; device = λ e. device (ap Err e); went_well = tt; fault = known }
   is-written (Ok _) (Some fault) end device known none whole beginning broken well other =
       record { whole = tt; beginning = beginning; device = λ e. absurd cc; went_well = tt; fault = (λ e. none.0 cc, λ e. none.1 cc) }
@@ -40,7 +40,7 @@ module _ {X : Type 0} (old : WrittenTrace) (res : Result X TraceFault) (refused 
   pub failed-once : (failures failed : ℕ) → IfErr res (λ fault. fault ≡ Out Device → failures ≡ failed + 1) → old.broken ≡ true → failures ≡ failed + 1
   failed-once failures failed device broken =
       let told : end_fault old ≡ Some (Out Device) =
-      ap (λ b. cond b (Some (Out Device)) (cond (lacks_head old) None (cond (old.end == old.plan.until + 1) None (Some (Part Gap))))) broken in
+      ap (λ b. cond b (Some (Out Device)) (cond (lacks_head old) None (cond (old.end == old.plan.until + 1) None (Some (Segment Gap))))) broken in
       (subst (λ (r : Result X TraceFault). IfErr r (λ fault. fault ≡ Out Device → failures ≡ failed + 1)) (refused (Out Device) told) device) refl
 
 -- what is told is as said, where each cause that is tried first is, and what comes after
@@ -62,31 +62,31 @@ module _ {X : Type 0} where
   none-told (Ok x) ok = tt
   none-told (Err fault) ok = absurd cc
 
--- a part of the run that is refused, and memory is not the cause
-part-place : (g : Gathering) (part : PartRows) → part.run ≡ g.run → part.process < length g.waiting → (fault : PartFault) → part_fault g part ≡ Some fault →
+-- a segment of the run that is refused, and memory is not the cause
+segment-place : (g : Gathering) (segment : SegmentRows) → segment.run ≡ g.run → segment.process < length g.waiting → (fault : SegmentFault) → segment_fault g segment ≡ Some fault →
     IsPlaceFault fault
-part-place g part run within Gap e = (λ f. cc, λ f. cc)
-part-place g part run within Double e = (λ f. cc, λ f. cc)
-part-place g part run within Stranger e = absurd (grind (arith, common_steps))
-part-place g part run within OutOfMemory e = absurd (grind (arith, common_steps))
+segment-place g segment run within Gap e = (λ f. cc, λ f. cc)
+segment-place g segment run within Double e = (λ f. cc, λ f. cc)
+segment-place g segment run within Stranger e = absurd (grind (arith, common_steps))
+segment-place g segment run within OutOfMemory e = absurd (grind (arith, common_steps))
 
-pub part-told : {X : Type 0} (g : Gathering) (part : PartRows) → part.run ≡ g.run → part.process < length g.waiting → (res : Result X PartFault) →
-    ((fault : PartFault) → part_fault g part ≡ Some fault → res ≡ Err fault) → (part_fault g part ≡ None → IfErr res (λ fault. fault ≡ OutOfMemory)) →
+pub segment-told : {X : Type 0} (g : Gathering) (segment : SegmentRows) → segment.run ≡ g.run → segment.process < length g.waiting → (res : Result X SegmentFault) →
+    ((fault : SegmentFault) → segment_fault g segment ≡ Some fault → res ≡ Err fault) → (segment_fault g segment ≡ None → IfErr res (λ fault. fault ≡ OutOfMemory)) →
     IfErr res (λ fault. fault ≢ OutOfMemory → IsPlaceFault fault)
-part-told {X} g part run within res refused memory =
-    told _ (part_fault g part) res refused (λ fault e other. part-place g part run within fault e) (λ none. go res (memory none))
+segment-told {X} g segment run within res refused memory =
+    told _ (segment_fault g segment) res refused (λ fault e other. segment-place g segment run within fault e) (λ none. go res (memory none))
   where
-    go : (r : Result X PartFault) → IfErr r (λ fault. fault ≡ OutOfMemory) → IfErr r (λ fault. fault ≢ OutOfMemory → IsPlaceFault fault)
+    go : (r : Result X SegmentFault) → IfErr r (λ fault. fault ≡ OutOfMemory) → IfErr r (λ fault. fault ≢ OutOfMemory → IsPlaceFault fault)
     go (Ok x) m = tt
     go (Err fault) m = λ other. absurd (other m)
 
 -- a batch that is refused
 batch-place : (old : WrittenTrace) (batch : BatchRows) (fault : TraceFault) → batch_fault old batch ≡ Some fault → IsFaultOfTrace fault
 batch-place old batch (Out why) e = (λ f. cc, λ f. cc)
-batch-place old batch (Part Gap) e = (λ f. cc, λ f. cc)
-batch-place old batch (Part Double) e = (λ f. cc, λ f. cc)
-batch-place old batch (Part Stranger) e = absurd (grind (arith, common_steps))
-batch-place old batch (Part OutOfMemory) e = absurd (grind (arith, common_steps))
+batch-place old batch (Segment Gap) e = (λ f. cc, λ f. cc)
+batch-place old batch (Segment Double) e = (λ f. cc, λ f. cc)
+batch-place old batch (Segment Stranger) e = absurd (grind (arith, common_steps))
+batch-place old batch (Segment OutOfMemory) e = absurd (grind (arith, common_steps))
 
 pub batch-told : {X : Type 0} (old : WrittenTrace) (batch : BatchRows) (res : Result X TraceFault) →
     ((fault : TraceFault) → batch_fault old batch ≡ Some fault → res ≡ Err fault) →
@@ -97,10 +97,10 @@ batch-told old batch res refused out =
 -- an end that is refused
 end-place : (old : WrittenTrace) (fault : TraceFault) → end_fault old ≡ Some fault → IsFaultOfTrace fault
 end-place old (Out why) e = (λ f. cc, λ f. cc)
-end-place old (Part Gap) e = (λ f. cc, λ f. cc)
-end-place old (Part Double) e = (λ f. cc, λ f. cc)
-end-place old (Part Stranger) e = absurd (grind (arith, common_steps))
-end-place old (Part OutOfMemory) e = absurd (grind (arith, common_steps))
+end-place old (Segment Gap) e = (λ f. cc, λ f. cc)
+end-place old (Segment Double) e = (λ f. cc, λ f. cc)
+end-place old (Segment Stranger) e = absurd (grind (arith, common_steps))
+end-place old (Segment OutOfMemory) e = absurd (grind (arith, common_steps))
 
 pub end-told : {X : Type 0} (old : WrittenTrace) (res : Result X TraceFault) → ((fault : TraceFault) → end_fault old ≡ Some fault → res ≡ Err fault) →
     (end_fault old ≡ None → lacks_head old ≡ false → IsOk res) → (lacks_head old ≡ true → IfErr res (λ fault. (why : OutFault) × (fault ≡ Out why))) →

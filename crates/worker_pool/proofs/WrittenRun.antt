@@ -6,16 +6,16 @@ use Rattle.std.specs.List.{flat_map}
 use Rattle.std.proofs.lemmas.Grind.{common_steps}
 use Rattle.vlink.specs.Letters.{Row}
 use Rattle.netdesc.specs.Plan.{Plan}
-use Rattle.trace_parts.specs.declared.fault.OutFault.{OutFault}
-use Rattle.trace_parts.specs.declared.fault.OutFault.TheVariants.{Device, OutOfMemory, Layout}
-use Rattle.trace_parts.specs.declared.trace_fault.TraceFault.{TraceFault}
-use Rattle.trace_parts.specs.declared.trace_fault.TraceFault.TheVariants.{Out}
-use Rattle.trace_parts.specs.Intervals.{rows_within, rows_before, rows_from}
-use Rattle.trace_parts.specs.Ordered.{AreInMessageOrder}
-use Rattle.trace_parts.specs.Parts.{BatchRows}
-use Rattle.trace_parts.specs.Sinking.{IsBeginning}
-use Rattle.trace_parts.specs.Text.{trace_line, trace_text}
-use Rattle.trace_parts.specs.WrittenTrace.{WrittenTrace, next_text, batch_fault}
+use Rattle.trace_segments.specs.declared.fault.OutFault.{OutFault}
+use Rattle.trace_segments.specs.declared.fault.OutFault.TheVariants.{Device, OutOfMemory, Layout}
+use Rattle.trace_segments.specs.declared.trace_fault.TraceFault.{TraceFault}
+use Rattle.trace_segments.specs.declared.trace_fault.TraceFault.TheVariants.{Out}
+use Rattle.trace_segments.specs.Intervals.{rows_within, rows_before, rows_from}
+use Rattle.trace_segments.specs.Ordered.{AreInMessageOrder}
+use Rattle.trace_segments.specs.Segments.{BatchRows}
+use Rattle.trace_segments.specs.Sinking.{IsBeginning}
+use Rattle.trace_segments.specs.Text.{trace_line, trace_text}
+use Rattle.trace_segments.specs.WrittenTrace.{WrittenTrace, next_text, batch_fault}
 use Rattle.seqsim.specs.Networks.{AreRowsOf}
 use Rattle.worker_pool.specs.Traces.{HasLawfulRows, IsBatchOfRun, IsTraceOfRun, text_before}
 use Rattle.worker_pool.proofs.GatheredRun.{none-of}

@@ -2,7 +2,7 @@
 use Rattle.std.specs.Prelude.{◌≡◌, ℕ, List}
 use Rattle.vlink.specs.Letters.{Row}
 use Rattle.netdesc.specs.Plan.{Plan}
-use Rattle.trace_parts.specs.Intervals.{rows_before}
+use Rattle.trace_segments.specs.Intervals.{rows_before}
 use Rattle.trace_tables.specs.SoFar.{SoFarLists, IsSoFar}
 use Rattle.seqsim.specs.Networks.{AreRowsOf}
 

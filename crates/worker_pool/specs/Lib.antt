@@ -1,6 +1,6 @@
 pub mod Counts
 pub mod Outcomes
-pub mod Parts
+pub mod Segments
 pub mod Runs
 pub mod Traces
 pub mod Written

@@ -1,4 +1,4 @@
--- The trace of a run of a network, and what it is made of: batches, parts that wait for others, and what is written. Their rows are those
+-- The trace of a run of a network, and what it is made of: batches, segments that wait for others, and what is written. Their rows are those
 -- of the one-thread run. Times are in ns.
 use Rattle.std.specs.Prelude.{◌≡◌, ℕ, ◌+◌, ◌≤◌, Bool, true, false, cond, List, [], Option, length}
 use Rattle.std.specs.Io.KnownBytes.{append_known}
@@ -7,14 +7,14 @@ use Rattle.virtual_time.specs.Law.{rows_at}
 use Rattle.vlink.specs.Letters.{Row}
 use Rattle.netdesc.specs.Plan.{Plan}
 use Rattle.netdesc.specs.Faults.{process_count}
-use Rattle.trace_parts.specs.Gathered.{IsOfRows}
-use Rattle.trace_parts.specs.Gathering.{Gathering}
-use Rattle.trace_parts.specs.Intervals.{rows_within, rows_before}
-use Rattle.trace_parts.specs.Ordered.{AreInMessageOrder, AreAtReceivers}
-use Rattle.trace_parts.specs.Parts.{BatchRows}
-use Rattle.trace_parts.specs.Sinking.{IsBeginning}
-use Rattle.trace_parts.specs.Text.{trace_text}
-use Rattle.trace_parts.specs.WrittenTrace.{WrittenTrace}
+use Rattle.trace_segments.specs.Gathered.{IsOfRows}
+use Rattle.trace_segments.specs.Gathering.{Gathering}
+use Rattle.trace_segments.specs.Intervals.{rows_within, rows_before}
+use Rattle.trace_segments.specs.Ordered.{AreInMessageOrder, AreAtReceivers}
+use Rattle.trace_segments.specs.Segments.{BatchRows}
+use Rattle.trace_segments.specs.Sinking.{IsBeginning}
+use Rattle.trace_segments.specs.Text.{trace_text}
+use Rattle.trace_segments.specs.WrittenTrace.{WrittenTrace}
 use Rattle.seqsim.specs.Networks.{AreRowsOf}
 
 -- rows in message order, each of the process that received its message, none of a process that the network lacks, and none later than the
@@ -34,7 +34,7 @@ pub record IsBatchOfRun (plan : Plan) (batch : BatchRows) : Type 0 where
   pub ordered : batch.from ≤ batch.to
   pub rows_are : (rows : List Row) → AreRowsOf plan rows → batch.rows ≡ rows_within batch.from batch.to rows
 
--- the parts are gathered of run 0, of all processes and up to the end of the network, and those that wait have the rows of the run
+-- the segments are gathered of run 0, of all processes and up to the end of the network, and those that wait have the rows of the run
 pub record IsGatheringOfRun (plan : Plan) (gathering : Gathering) : Type 0 where
   pub run_is : gathering.run ≡ 0
   pub until_is : gathering.until ≡ plan.until

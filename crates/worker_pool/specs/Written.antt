@@ -3,32 +3,32 @@ use Rattle.std.specs.Prelude.{◌≡◌, ◌≢◌, ℕ, ◌+◌, List, Option, 
 use Rattle.std.specs.Io.KnownBytes.{append_known}
 use Rattle.vlink.specs.Letters.{Row}
 use Rattle.netdesc.specs.Plan.{Plan}
-use Rattle.trace_parts.specs.declared.fault.OutFault.TheVariants.{Device}
-use Rattle.trace_parts.specs.declared.part_fault.PartFault.{PartFault}
-use Rattle.trace_parts.specs.declared.part_fault.PartFault.TheVariants.{Stranger, OutOfMemory}
-use Rattle.trace_parts.specs.declared.trace_fault.TraceFault.{TraceFault}
-use Rattle.trace_parts.specs.declared.trace_fault.TraceFault.TheVariants.{Part, Out}
-use Rattle.trace_parts.specs.Sinking.{IsBeginning}
-use Rattle.trace_parts.specs.Text.{trace_text}
+use Rattle.trace_segments.specs.declared.fault.OutFault.TheVariants.{Device}
+use Rattle.trace_segments.specs.declared.segment_fault.SegmentFault.{SegmentFault}
+use Rattle.trace_segments.specs.declared.segment_fault.SegmentFault.TheVariants.{Stranger, OutOfMemory}
+use Rattle.trace_segments.specs.declared.trace_fault.TraceFault.{TraceFault}
+use Rattle.trace_segments.specs.declared.trace_fault.TraceFault.TheVariants.{Segment, Out}
+use Rattle.trace_segments.specs.Sinking.{IsBeginning}
+use Rattle.trace_segments.specs.Text.{trace_text}
 use Rattle.seqsim.specs.Networks.{AreRowsOf}
 
--- a part or a batch is missing, or comes twice
-abbrev pub IsPlaceFault : PartFault → Type 0
+-- a segment or a batch is missing, or comes twice
+abbrev pub IsPlaceFault : SegmentFault → Type 0
 IsPlaceFault fault = (fault ≢ Stranger) × (fault ≢ OutOfMemory)
 
 -- why the trace of a run is not whole: that, or its text did not go out
 abbrev pub IsFaultOfTrace : TraceFault → Type 0
-IsFaultOfTrace fault = (fault ≢ Part Stranger) × (fault ≢ Part OutOfMemory)
+IsFaultOfTrace fault = (fault ≢ Segment Stranger) × (fault ≢ Segment OutOfMemory)
 
 -- of faults that come one after another the first
-abbrev pub first_of : Option PartFault → PartFault → Option PartFault
+abbrev pub first_of : Option SegmentFault → SegmentFault → Option SegmentFault
 first_of None fault = Some fault
 first_of (Some first) fault = Some first
 
--- how the writing of a trace went: the fault of a batch; where there is none, that of a part; where there is none either, how the end went
-abbrev pub outcome_of : Result ⊤ TraceFault → Option PartFault → Result ⊤ TraceFault → Result ⊤ TraceFault
-outcome_of (Err fault) part end = Err fault
-outcome_of (Ok _) (Some fault) end = Err (Part fault)
+-- how the writing of a trace went: the fault of a batch; where there is none, that of a segment; where there is none either, how the end went
+abbrev pub outcome_of : Result ⊤ TraceFault → Option SegmentFault → Result ⊤ TraceFault → Result ⊤ TraceFault
+outcome_of (Err fault) segment end = Err fault
+outcome_of (Ok _) (Some fault) end = Err (Segment fault)
 outcome_of (Ok _) None end = end
 
 -- the writing of a run's trace went so, where its sink had taken `start` and `failed` writes had failed there before, and now has taken

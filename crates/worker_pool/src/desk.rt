@@ -1,48 +1,48 @@
-//! The desk of a trace: where the parts of a run are gathered, and from where its batches go to the writer's thread.
+//! The desk of a trace: where the segments of a run are gathered, and from where its batches go to the writer's thread.
 ghost use Rattle.std.specs.Prelude.{◌≡◌, ◌≢◌, ◌<◌, ◌⊎◌, ℕ, None, Some, Ok, Err, IsOk, OnOk, IfOk, IfErr, IfSome, IfNone, OnErr};
 ghost use Rattle.vlink.specs.declared.time.TheConstants.{GREATEST_NS};
 ghost use Rattle.std.proofs.Props.{props};
 ghost use Rattle.netdesc.specs.Faults.{process_count};
 ghost use Rattle.journal.specs.declared.fault.PoolFault.TheVariants as pool;
-ghost use Rattle.trace_parts.specs.declared.part_fault.PartFault.{PartFault};
-ghost use Rattle.trace_parts.specs.declared.part_fault.PartFault.TheVariants.{OutOfMemory};
-ghost use Rattle.trace_parts.specs.Gathering.{no_parts, part_fault, Waits, Gives};
-ghost use Rattle.trace_parts.specs.Parts.{BatchRows};
-ghost use Rattle.worker_pool.specs.Parts.{IsPartOfRun};
+ghost use Rattle.trace_segments.specs.declared.segment_fault.SegmentFault.{SegmentFault};
+ghost use Rattle.trace_segments.specs.declared.segment_fault.SegmentFault.TheVariants.{OutOfMemory};
+ghost use Rattle.trace_segments.specs.Gathering.{no_segments, segment_fault, Waits, Gives};
+ghost use Rattle.trace_segments.specs.Segments.{BatchRows};
+ghost use Rattle.worker_pool.specs.Segments.{IsSegmentOfRun};
 ghost use Rattle.worker_pool.specs.Traces.{HasLawfulRows, IsGatheringOfRun};
 ghost use Rattle.worker_pool.specs.Written.{IsPlaceFault, first_of};
 
 use crate::lawful_rows::lawful_rows;
 use crate::locks::Locked;
 use crate::network_run::NetworkRun;
-use crate::parts::next_part;
 use crate::rounds::schedule::Call;
 use crate::run_batch::RunBatch;
+use crate::segments::next_segment;
 use crossbeam_channel::{SendError, Sender};
 use journal::PoolFault;
 use netdesc::Network;
 use std::alloc::{AllocError, Global};
 use std::sync::{Mutex, Wait};
-use trace_tables::{Gather, Part, PartFault, batches_in_order, cut, parts_of_rows};
+use trace_tables::{Gather, Segment, SegmentFault, batches_in_order, cut, segments_of_rows};
 use vlink::Time;
 
-/// So many intervals a process without a turn stays behind GVT with its parts.
+/// So many intervals a process without a turn stays behind GVT with its segments.
 const BEHIND: u64 = 16;
 
-/// What the lock of the trace keeps: the parts that wait for those of other processes, the end of the channel to the writer's thread, and
-/// the first fault of a part's place. By its type the parts have the rows that the one-thread run of the network has.
+/// What the lock of the trace keeps: the segments that wait for those of other processes, the end of the channel to the writer's thread, and
+/// the first fault of a segment's place. By its type the segments have the rows that the one-thread run of the network has.
 #[derive(Drop)]
 pub(crate) struct Desk<J: NetworkRun> {
     gather: Gather,
     batches: Sender<RunBatch<J>>,
-    pub fault: Option<PartFault>,
+    pub fault: Option<SegmentFault>,
     ghost of_run: { ∥ IsGatheringOfRun J.plan gather ∥₁ },
     ghost lawful: { ∥ HasLawfulRows J.plan ∥₁ },
     pub ghost known: { IfSome fault IsPlaceFault } by { Prim.hlevel props },
 }
 
 impl<J: NetworkRun> Desk<J> {
-    /// No part is there yet, of any process of the network. It is refused for memory alone.
+    /// No segment is there yet, of any process of the network. It is refused for memory alone.
     fn new(
         alloc: Global,
         network: &Network,
@@ -51,7 +51,7 @@ impl<J: NetworkRun> Desk<J> {
         requires { network.now ≡ J.plan }
     {
         lawful_rows(network);
-        parts_of_rows();
+        segments_of_rows();
         let gather = Gather::new(alloc, 0, network.process_count() as u16, network.until())?;
         Ok(Desk {
             gather,
@@ -60,22 +60,22 @@ impl<J: NetworkRun> Desk<J> {
         })
     }
 
-    /// Takes a part. Where it was the last one of its interval, the batch is sent. Want of memory for the part ends the run; of other faults the
+    /// Takes a segment. Where it was the last one of its interval, the batch is sent. Want of memory for the segment ends the run; of other faults the
     /// first is kept, and the run goes on.
-    fn take<T: Wait>(&mut self, rt: &T, part: Part) -> Result<(), PoolFault>
-        requires run { part.run ≡ 0 }
-        requires process { part.process < process_count J.plan }
-        requires of_run { (k : ℕ) × IsPartOfRun J.plan part.process k part }
-        ensures taken { part_fault self.old.gather part ≡ None → OnOk result
-            (Waits self.old.gather part self.new.gather ⊎ ((batch : BatchRows) × Gives self.old.gather part batch self.new.gather)) }
-        ensures refused { (fault : PartFault) → part_fault self.old.gather part ≡ Some fault → IsOk result × (self.new.fault ≡ first_of self.old.fault fault) }
-        ensures kept { part_fault self.old.gather part ≡ None → self.new.fault ≡ self.old.fault }
+    fn take<T: Wait>(&mut self, rt: &T, segment: Segment) -> Result<(), PoolFault>
+        requires run { segment.run ≡ 0 }
+        requires process { segment.process < process_count J.plan }
+        requires of_run { (k : ℕ) × IsSegmentOfRun J.plan segment.process k segment }
+        ensures taken { segment_fault self.old.gather segment ≡ None → OnOk result
+            (Waits self.old.gather segment self.new.gather ⊎ ((batch : BatchRows) × Gives self.old.gather segment batch self.new.gather)) }
+        ensures refused { (fault : SegmentFault) → segment_fault self.old.gather segment ≡ Some fault → IsOk result × (self.new.fault ≡ first_of self.old.fault fault) }
+        ensures kept { segment_fault self.old.gather segment ≡ None → self.new.fault ≡ self.old.fault }
         ensures memory { IfErr result (λ fault. fault ≡ pool.OutOfMemory) }
     {
-        match self.gathered(part) {
+        match self.gathered(segment) {
             Ok(None) => Ok(()),
             Ok(Some(batch)) => self.send(rt, batch),
-            Err(PartFault::OutOfMemory) => Err(PoolFault::OutOfMemory),
+            Err(SegmentFault::OutOfMemory) => Err(PoolFault::OutOfMemory),
             Err(fault) => {
                 self.keep(fault);
                 Ok(())
@@ -83,22 +83,22 @@ impl<J: NetworkRun> Desk<J> {
         }
     }
 
-    /// Takes the next part of a process, which is one of the run. Once the parts of all processes for an interval are there, the batch of the
+    /// Takes the next segment of a process, which is one of the run. Once the segments of all processes for an interval are there, the batch of the
     /// interval is given. Its refusals are those of `Gather::take`, and change nothing.
-    fn gathered(&mut self, part: Part) -> Result<Option<RunBatch<J>>, PartFault>
-        requires run { part.run ≡ 0 }
-        requires process { part.process < process_count J.plan }
-        requires of_run { (k : ℕ) × IsPartOfRun J.plan part.process k part }
-        ensures refused { (fault : PartFault) → part_fault self.old.gather part ≡ Some fault → result ≡ Err fault }
+    fn gathered(&mut self, segment: Segment) -> Result<Option<RunBatch<J>>, SegmentFault>
+        requires run { segment.run ≡ 0 }
+        requires process { segment.process < process_count J.plan }
+        requires of_run { (k : ℕ) × IsSegmentOfRun J.plan segment.process k segment }
+        ensures refused { (fault : SegmentFault) → segment_fault self.old.gather segment ≡ Some fault → result ≡ Err fault }
         ensures place { IfErr result (λ fault. fault ≢ OutOfMemory → IsPlaceFault fault) }
-        ensures memory { part_fault self.old.gather part ≡ None → IfErr result (λ fault. fault ≡ OutOfMemory) }
-        ensures waits { IfOk result (λ given. IfNone given (Waits self.old.gather part self.new.gather)) }
-        ensures gives { IfOk result (λ given. IfSome given (λ batch. Gives self.old.gather part batch.batch self.new.gather)) }
+        ensures memory { segment_fault self.old.gather segment ≡ None → IfErr result (λ fault. fault ≡ OutOfMemory) }
+        ensures waits { IfOk result (λ given. IfNone given (Waits self.old.gather segment self.new.gather)) }
+        ensures gives { IfOk result (λ given. IfSome given (λ batch. Gives self.old.gather segment batch.batch self.new.gather)) }
         ensures fault { self.new.fault ≡ self.old.fault }
     {
-        parts_of_rows();
+        segments_of_rows();
         batches_in_order();
-        match self.gather.take(part)? {
+        match self.gather.take(segment)? {
             Some(batch) => Ok(Some(RunBatch::new(batch))),
             None => Ok(None),
         }
@@ -115,7 +115,7 @@ impl<J: NetworkRun> Desk<J> {
     }
 
     /// Keeps the fault, if it is the first.
-    fn keep(&mut self, fault: PartFault)
+    fn keep(&mut self, fault: SegmentFault)
         requires { IsPlaceFault fault }
         ensures first { self.new.fault ≡ first_of self.old.fault fault }
         ensures gather { self.new.gather ≡ self.old.gather }
@@ -137,7 +137,7 @@ pub(crate) struct TraceLock<J: NetworkRun> {
 }
 
 impl<J: NetworkRun> TraceLock<J> {
-    /// No part is there yet, and batches are sent here. It is refused for memory alone.
+    /// No segment is there yet, and batches are sent here. It is refused for memory alone.
     pub(crate) fn new(
         alloc: Global,
         network: &Network,
@@ -150,22 +150,26 @@ impl<J: NetworkRun> TraceLock<J> {
         Ok(TraceLock { alloc, until, desk })
     }
 
-    /// The next part that a process can give goes to the desk. The answer is whether there was one.
-    fn give_part<'a, T: Wait>(&self, rt: &T, locked: &mut Locked<'a, J>) -> Result<bool, PoolFault>
+    /// The next segment that a process can give goes to the desk. The answer is whether there was one.
+    fn give_segment<'a, T: Wait>(
+        &self,
+        rt: &T,
+        locked: &mut Locked<'a, J>,
+    ) -> Result<bool, PoolFault>
         ensures memory { IfErr result (λ fault. fault ≡ pool.OutOfMemory) }
     {
         // The process is one of the network.
         let _process = locked.number();
-        let Some(part) = next_part(self.alloc, locked, self.until)? else {
+        let Some(segment) = next_segment(self.alloc, locked, self.until)? else {
             return Ok(false);
         };
-        self.desk.lock(rt).take(rt, part)?;
+        self.desk.lock(rt).take(rt, segment)?;
         Ok(true)
     }
 
-    /// The parts that a process can give go to the desk, one after another. The caller has the lock of the process, and not that of the
+    /// The segments that a process can give go to the desk, one after another. The caller has the lock of the process, and not that of the
     /// exchange.
-    pub(crate) fn give_parts<'a, T: Wait>(
+    pub(crate) fn give_segments<'a, T: Wait>(
         &self,
         rt: &T,
         locked: &mut Locked<'a, J>,
@@ -173,15 +177,15 @@ impl<J: NetworkRun> TraceLock<J> {
         ensures memory { IfErr result (λ fault. fault ≡ pool.OutOfMemory) }
     {
         for _ in rt.forever() {
-            if !self.give_part(rt, locked)? {
+            if !self.give_segment(rt, locked)? {
                 return Ok(());
             }
         }
         unreachable!()
     }
 
-    /// A process that gave its parts, and had its turn up to this limit, in ns, is called `BEHIND` intervals further on, though it may have nothing
-    /// else to do: the parts of the others wait for its own. Behind the end of the run it is not called: the end of the run takes what is left.
+    /// A process that gave its segments, and had its turn up to this limit, in ns, is called `BEHIND` intervals further on, though it may have nothing
+    /// else to do: the segments of the others wait for its own. Behind the end of the run it is not called: the end of the run takes what is left.
     pub(crate) fn call<'a>(&self, locked: &Locked<'a, J>, limit_ns: u64) -> Call {
         let behind_ns = cut(self.until, BEHIND).ns();
         let moment_ns = locked.gone().ns().max(limit_ns).saturating_add(behind_ns);
@@ -195,16 +199,16 @@ impl<J: NetworkRun> TraceLock<J> {
         }
     }
 
-    /// The first fault of a part that is not want of memory. No batch is sent from here on.
-    pub(crate) fn into_fault(self) -> Option<PartFault>
+    /// The first fault of a segment that is not want of memory. No batch is sent from here on.
+    pub(crate) fn into_fault(self) -> Option<SegmentFault>
         ensures { IfSome result IsPlaceFault }
     {
         self.desk.into_inner().fault
     }
 }
 
-/// The first fault of a part that is not want of memory, where a trace is written. No batch is sent from here on.
-pub(crate) fn closed<J: NetworkRun>(trace: Option<TraceLock<J>>) -> Option<PartFault>
+/// The first fault of a segment that is not want of memory, where a trace is written. No batch is sent from here on.
+pub(crate) fn closed<J: NetworkRun>(trace: Option<TraceLock<J>>) -> Option<SegmentFault>
     ensures { IfSome result IsPlaceFault }
 {
     match trace {

@@ -61,7 +61,7 @@ impl<'a, J: NetworkRun> Unlocked<'a, J> {
     }
 
     /// Sets GVT and gives each process a turn, once and again until the run is ended, and, where it is asked for, no row has left a process.
-    /// `until` is the end time of the network. In the last turn each process has seen the GVT behind the end, and has no part of the trace left
+    /// `until` is the end time of the network. In the last turn each process has seen the GVT behind the end, and has no segment of the trace left
     /// to give.
     pub(crate) fn end<G: Gate, T: Wait>(
         &mut self,
@@ -86,7 +86,7 @@ impl<'a, J: NetworkRun> Unlocked<'a, J> {
         unreachable!()
     }
 
-    /// Each process gets a turn, and gives the parts of the trace that it can give.
+    /// Each process gets a turn, and gives the segments of the trace that it can give.
     fn take_turns<G: Gate, T: Wait>(
         &mut self,
         rt: &T,
@@ -100,13 +100,13 @@ impl<'a, J: NetworkRun> Unlocked<'a, J> {
             work_to(held, u64::MAX, pace, gate)?;
             self.exchange.give_block(held)?;
             if let Some(trace) = &self.trace {
-                trace.give_parts(rt, held)?;
+                trace.give_segments(rt, held)?;
             }
         }
         Ok(())
     }
 
-    /// Whether GVT is past the end, all processes are there, each in its place and without a block, and each has committed all that it has done.
+    /// Whether GVT is beyond the end, all processes are there, each in its place and without a block, and each has committed all that it has done.
     fn is_ended(&self, until: Time) -> bool
         requires { until ≡ J.plan.until }
         ensures { result ≡ true → IsEnded J.plan self.now.exchange.entries self.now.helds.items }

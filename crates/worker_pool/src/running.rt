@@ -25,7 +25,7 @@ use std::alloc::Global;
 use std::marker::Brand;
 use std::sync::{Mutex, Wait};
 use std::thread::Threads;
-use trace_tables::{PartFault, Tables};
+use trace_tables::{SegmentFault, Tables};
 use vlink::{Row, Step};
 
 /// What a run has found: a row for each frame that was delivered or dropped, in message order, and their tables; and the steps that were
@@ -37,8 +37,8 @@ pub struct Outcome {
     pub journal: Vec<Step>,
 }
 
-/// Runs a network by workers, over this table, until it is ended. The parts of the trace go to its lock, if there is one, and no batch is sent
-/// once the run is ended; without one no row leaves a process. Beside the run is the first fault of a part that is not want of memory.
+/// Runs a network by workers, over this table, until it is ended. The segments of the trace go to its lock, if there is one, and no batch is sent
+/// once the run is ended; without one no row leaves a process. Beside the run is the first fault of a segment that is not want of memory.
 pub(crate) fn run_to_end<'a, J: NetworkRun + Send + Sync, G: Gate + Sync, T: Threads + Wait + Sync>(
     rt: &T,
     alloc: Global,
@@ -48,7 +48,7 @@ pub(crate) fn run_to_end<'a, J: NetworkRun + Send + Sync, G: Gate + Sync, T: Thr
     pace: &Pace,
     gate: &G,
     trace: Option<TraceLock<J>>,
-) -> Result<(Unlocked<'a, J>, Option<PartFault>), PoolFault>
+) -> Result<(Unlocked<'a, J>, Option<SegmentFault>), PoolFault>
     requires network { network.now ≡ J.plan }
     requires table { names table.now.pages.items ≡ J.pages }
     requires names { pairs ≡ J.names }

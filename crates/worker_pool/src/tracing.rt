@@ -4,11 +4,11 @@ ghost use Rattle.std.specs.Io.KnownBytes.{append_known};
 ghost use Rattle.vlink.specs.Letters.{Row};
 ghost use Rattle.netdesc.specs.Faults.{process_count};
 ghost use Rattle.journal.specs.Names.{names};
-ghost use Rattle.trace_parts.specs.declared.fault.OutFault.TheVariants.{Device};
-ghost use Rattle.trace_parts.specs.declared.trace_fault.TraceFault.TheVariants.{Out};
-ghost use Rattle.trace_parts.specs.Sinking.{IsBeginning};
+ghost use Rattle.trace_segments.specs.declared.fault.OutFault.TheVariants.{Device};
+ghost use Rattle.trace_segments.specs.declared.trace_fault.TraceFault.TheVariants.{Out};
+ghost use Rattle.trace_segments.specs.Sinking.{IsBeginning};
 ghost use Rattle.trace_tables.specs.Tables.{tables_of};
-ghost use Rattle.trace_parts.specs.Text.{trace_text};
+ghost use Rattle.trace_segments.specs.Text.{trace_text};
 ghost use Rattle.seqsim.specs.Networks.{AreRowsOf};
 ghost use Rattle.worker_pool.specs.Counts.{AreCountedBefore};
 ghost use Rattle.worker_pool.specs.Runs.{IsJournalAsked};
@@ -112,21 +112,21 @@ fn traced_named<
     )
 }
 
-/// Simulates a network by workers, as `run_summary` does, and writes the trace to the sink while the run goes on: parts of
+/// Simulates a network by workers, as `run_summary` does, and writes the trace to the sink while the run goes on: segments of
 /// it leave the processes in intervals that are the same for all, and a thread of its own counts their rows and writes them in order. No list of
-/// all rows is made: the rows of an interval leave their process with its part, and are dropped once they are counted and written.
+/// all rows is made: the rows of an interval leave their process with its segment, and are dropped once they are counted and written.
 ///
 /// - `whole`: where the writing went well, the sink took the trace of the rows of the one-thread run, as `trace_tables::write_trace` writes it.
 /// - `beginning`: in any case it took a beginning of that text, and nothing else.
 /// - `device`, `went_well`: how many of its writes failed.
-/// - `fault`: a part or a batch is missing or comes twice, or the text did not go out. Want of memory for a part ends the run.
+/// - `fault`: a segment or a batch is missing or comes twice, or the text did not go out. Want of memory for a segment ends the run.
 ///
-/// `written` is the first fault of a batch, and what comes behind it is dropped; where there was none, the first of a part, `Gap` or `Double`;
+/// `written` is the first fault of a batch, and what comes behind it is dropped; where there was none, the first of a segment, `Gap` or `Double`;
 /// where there was none either, the outcome of `TraceWriter::finish`. The run itself goes on after any of them.
 ///
-/// Its refusals are those of `run`, and the sink is dropped then, with a beginning of the trace in it. `OutOfMemory` comes also for a part or
+/// Its refusals are those of `run`, and the sink is dropped then, with a beginning of the trace in it. `OutOfMemory` comes also for a segment or
 /// a batch, or at the end where a growth was refused while rows were counted; `Torn` also where rows that left came in no batch, as behind a
-/// part that was refused; and `Spawn` also where the writer's thread cannot be started.
+/// segment that was refused; and `Spawn` also where the writer's thread cannot be started.
 pub fn run_traced<S: Sink + Drop + Send, G: Gate + Sync, T: Threads + Wait + Sync>(
     rt: &T,
     alloc: Global,

@@ -2,10 +2,10 @@
 ghost use Rattle.std.specs.Prelude.{◌≡◌, true, false, Some, Err, OnOk, OnErr, IfErr, IfSome};
 ghost use Rattle.std.specs.Io.KnownBytes.{append_known};
 ghost use Rattle.std.proofs.Props.{props};
-ghost use Rattle.trace_parts.specs.declared.fault.OutFault.TheVariants.{Device};
-ghost use Rattle.trace_parts.specs.declared.trace_fault.TraceFault.{TraceFault};
-ghost use Rattle.trace_parts.specs.declared.trace_fault.TraceFault.TheVariants.{Out};
-ghost use Rattle.trace_parts.specs.WrittenTrace.{next_text, batch_fault};
+ghost use Rattle.trace_segments.specs.declared.fault.OutFault.TheVariants.{Device};
+ghost use Rattle.trace_segments.specs.declared.trace_fault.TraceFault.{TraceFault};
+ghost use Rattle.trace_segments.specs.declared.trace_fault.TraceFault.TheVariants.{Out};
+ghost use Rattle.trace_segments.specs.WrittenTrace.{next_text, batch_fault};
 ghost use Rattle.worker_pool.specs.Counts.{AreCountedBefore};
 ghost use Rattle.worker_pool.specs.Traces.{HasLawfulRows, IsTraceOfRun};
 ghost use Rattle.worker_pool.specs.Written.{outcome_of, IsPlaceFault, IsFaultOfTrace, IsWritten};
@@ -20,7 +20,7 @@ use netdesc::Network;
 use std::alloc::Global;
 use std::marker::PhantomData;
 use std::sync::Wait;
-use trace_tables::{PartFault, Sink, TraceFault, TraceWriter, batches_in_order};
+use trace_tables::{SegmentFault, Sink, TraceFault, TraceWriter, batches_in_order};
 
 /// The trace of a run, as far as it is written, and the first fault of a batch. By its type the sink took a beginning of the text that the rows
 /// of the one-thread run have.
@@ -71,9 +71,9 @@ impl<'a, J: NetworkRun, K: TraceRun, S: Sink> Writing<'a, J, K, S> {
         }
     }
 
-    /// Ends the trace, and gives the sink back. The outcome is the first fault of a batch; where there was none, that of a part; where there
+    /// Ends the trace, and gives the sink back. The outcome is the first fault of a batch; where there was none, that of a segment; where there
     /// was none either, that of `TraceWriter::finish`.
-    pub(crate) fn finish(self, gathering: Option<PartFault>) -> (Result<(), TraceFault>, S)
+    pub(crate) fn finish(self, gathering: Option<SegmentFault>) -> (Result<(), TraceFault>, S)
         requires { IfSome gathering IsPlaceFault }
         ensures { IsWritten J.plan K.taken K.failures result.0 (S.taken result.1) (S.failures result.1) }
     {
@@ -88,17 +88,17 @@ impl<'a, J: NetworkRun, K: TraceRun, S: Sink> Writing<'a, J, K, S> {
     }
 }
 
-/// How the writing of a trace went: the fault of a batch; where there is none, that of a part; where there is none either, how the end went.
+/// How the writing of a trace went: the fault of a batch; where there is none, that of a segment; where there is none either, how the end went.
 fn outcome_of(
     batches: Result<(), TraceFault>,
-    gathering: Option<PartFault>,
+    gathering: Option<SegmentFault>,
     end: Result<(), TraceFault>,
 ) -> Result<(), TraceFault>
     ensures { result ≡ outcome_of batches gathering end }
 {
     match (batches, gathering) {
         (Err(fault), _) => Err(fault),
-        (Ok(()), Some(fault)) => Err(TraceFault::Part(fault)),
+        (Ok(()), Some(fault)) => Err(TraceFault::Segment(fault)),
         (Ok(()), None) => end,
     }
 }

@@ -1,22 +1,22 @@
 //! What a row begins with: a network of examples/, and what it differs by.
 //!
-//! A row has parts with ` => ` between them. The first names a network: `n1`, `n2`, `n3`, `top` for the first two lines of n1, `endless`
+//! A row has pieces with ` => ` between them. The first names a network: `n1`, `n2`, `n3`, `top` for the first two lines of n1, `endless`
 //! for n2 with more offers than any memory holds, or `empty` for no text. Then come its changes. `OLD -> NEW` puts NEW in the place of the first OLD, and `+ TEXT` puts TEXT at the end.
 //! `+ 3 x TEXT` puts it there three times, with 0, 1 and 2 for each `#` in it and 1, 2 and 3 for each `@`. A `;` stands for the end of
-//! a line. The last part is what the row tells.
+//! a line. The last piece is what the row tells.
 use super::networks::network;
 use std::alloc::Global;
 use std::test::Fail;
 
 /// The text that a row begins with, and what the row tells.
 pub fn changed<'a>(alloc: Global, row: &'a str) -> Result<(String, &'a str), Fail> {
-    let (begin, told) = row.rsplit_once(" => ").ok_or("a row of one part")?;
+    let (begin, told) = row.rsplit_once(" => ").ok_or("a row of one piece")?;
     let mut text = String::new(alloc);
-    for (place, part) in begin.split(" => ").enumerate() {
+    for (place, piece) in begin.split(" => ").enumerate() {
         text = if place == 0 {
-            network(alloc, part)?
+            network(alloc, piece)?
         } else {
-            with_change(alloc, text.as_str(), part)?
+            with_change(alloc, text.as_str(), piece)?
         };
     }
     Ok((text, told))
@@ -30,7 +30,7 @@ fn with_change(alloc: Global, text: &str, change: &str) -> Result<String, Fail> 
     }
     let (old, new) = change.split_once(" -> ").ok_or("no change")?;
     let (old, new) = (lines_of(alloc, old)?, lines_of(alloc, new)?);
-    let (before, after) = text.split_once(old.as_str()).ok_or("no such part")?;
+    let (before, after) = text.split_once(old.as_str()).ok_or("no such piece")?;
     Ok(format!(in alloc; "{before}{new}{after}")?)
 }
 

@@ -1,7 +1,7 @@
 //! What is told, and what stays, where files and streams fail: a file that is not there or cannot be made, and each write in turn.
 use super::host::{MemoryHost, status_of_text};
 use super::networks::network;
-use super::parts::is_cut_at_each_write;
+use super::segments::is_cut_at_each_write;
 use std::alloc::Global;
 use std::sync::Wait;
 use std::test::Fail;

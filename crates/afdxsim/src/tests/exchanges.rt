@@ -4,7 +4,7 @@ ghost use Rattle.netdesc.specs.Faults.{process_count};
 ghost use Rattle.journal.specs.Names.{names};
 
 use super::changes::changed;
-use super::stage::{Counted, Stage};
+use super::stage::{CountingGate, Stage};
 use netdesc::{Network, read};
 use std::alloc::Global;
 use std::marker::Brand;
@@ -39,9 +39,9 @@ fn an_exchange_does_what_scripts_say(rt: HostRuntime) -> Result<(), Fail> {
     Ok(())
 }
 
-// The words of a row tell what it says; which calls are refused memory is noted.
+// The words of a row tell what it says; which calls are refused memory is kept.
 fn is_told(alloc: Global, row: &str, refused: &mut String) -> Result<bool, Fail> {
-    let (begin, told) = row.rsplit_once(" => ").ok_or("a row of one part")?;
+    let (begin, told) = row.rsplit_once(" => ").ok_or("a row of one piece")?;
     let (begin, script) = begin.rsplit_once(" => ").ok_or("no script")?;
     let (net, limit) = changed(alloc, begin)?;
     let limit = limit.parse().map_err(|_| "no limit")?;
@@ -110,7 +110,7 @@ fn stage_of<'a, J: NetworkRun>(
         return Err("no limit")?;
     }
     let (exchange, helds) = open_network::<J>(alloc, network, table, pairs, limit)?;
-    let gate = Counted::new();
+    let gate = CountingGate::new();
     Ok(Stage {
         exchange,
         helds,

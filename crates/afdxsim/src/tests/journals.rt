@@ -21,8 +21,8 @@ const HEAD: &str = "table,vl,where,cause,count,least_ns,greatest_ns,sum_ns\n";
 /// Behind the network and its changes each row has the steps, and then the line of counts and the tables, where `seq` stands for the
 /// tables of `seq`; or the fault alone.
 ///
-/// Steps have parts with ` + ` between them. `3 x STEPS` is that part three times, with 0, 1 and 2 for each `#` in it, and `3 times`
-/// before all parts is all of them three times.
+/// Steps have pieces with ` + ` between them. `3 x STEPS` is that piece three times, with 0, 1 and 2 for each `#` in it, and `3 times`
+/// before all pieces is all of them three times.
 const ROWS: &str = "
 n1 => 0 x G; => 0 did, 0 not enabled, 0 refused, gvt 0, unfinished;latency,1,ES2,,0,0,0,0;
 n1 => G;T 0 0;A 0;R 0;P 0;G;C 0;C 0; => 7 did, 1 not enabled, 0 refused, gvt 5760, unfinished;latency,1,ES2,,0,0,0,0;
@@ -107,7 +107,7 @@ fn a_journal_is_done_or_its_fault_is_told(rt: HostRuntime) -> Result<(), Fail> {
 
 // `replay` tells what the row tells.
 fn is_told<T: Threads + Wait + Sync>(rt: &T, alloc: Global, row: &str) -> Result<bool, Fail> {
-    let (begin, told) = row.rsplit_once(" => ").ok_or("a row of one part")?;
+    let (begin, told) = row.rsplit_once(" => ").ok_or("a row of one piece")?;
     let (net, steps) = changed(alloc, begin)?;
     let steps = steps_of(alloc, steps)?;
     let Some((line, tables)) = told.split_once(';') else {
@@ -138,11 +138,11 @@ fn is_told<T: Threads + Wait + Sync>(rt: &T, alloc: Global, row: &str) -> Result
 
 // The steps that a row writes.
 fn steps_of(alloc: Global, row: &str) -> Result<String, Fail> {
-    let (times, parts) = row.split_once(" times ").unwrap_or(("1", row));
+    let (times, pieces) = row.split_once(" times ").unwrap_or(("1", row));
     let times: u64 = times.parse().map_err(|_| "no number")?;
     let mut once = String::new(alloc);
-    for part in parts.split(" + ") {
-        once.push_str(&repeated(alloc, part)?)?;
+    for piece in pieces.split(" + ") {
+        once.push_str(&repeated(alloc, piece)?)?;
     }
     let mut steps = String::new(alloc);
     for _ in 0..times {
@@ -205,7 +205,7 @@ fn is_refused(alloc: Global, most: u64, told: &str) -> Result<bool, Fail> {
 
 // The program tells of the journal what the steps come to that are read and done at once, and what they leave is what the row tells.
 fn is_kept<T: Threads + Wait + Sync>(rt: &T, alloc: Global, row: &str) -> Result<bool, Fail> {
-    let (begin, told) = row.rsplit_once(" => ").ok_or("a row of one part")?;
+    let (begin, told) = row.rsplit_once(" => ").ok_or("a row of one piece")?;
     let (net, steps) = changed(alloc, begin)?;
     let steps = steps_of(alloc, steps)?;
     let found = all_done(alloc, net.as_str(), steps.as_bytes())?;

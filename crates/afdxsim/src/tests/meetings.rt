@@ -15,7 +15,7 @@ use worker_pool::{Gate, Outcome, Pace, run};
 
 /// How many workers there are, how often a process looks whether the other one has begun, at most, and which process waits for which; then
 /// how many looked in vain, and two steps of which the first one stands in the journal before the second, if that is told. A message of
-/// which the gate is told out of turn counts as one that looked in vain.
+/// which the gate is told out of order counts as one that looked in vain.
 ///
 /// With one worker the process that waits stands in the way of the other one.
 pub const ROWS: &str = "
@@ -65,9 +65,9 @@ impl Meeting {
 
     // The first process of the pair is to wait for the second.
     fn wait(&mut self, pair: &str) -> Result<(), Fail> {
-        let mut parts = pair.split(':');
-        let first = number_of(parts.next())?;
-        let second = number_of(parts.next())?;
+        let mut pieces = pair.split(':');
+        let first = number_of(pieces.next())?;
+        let second = number_of(pieces.next())?;
         let Some(place) = self.places.get_mut(first as usize) else {
             return Err("no place")?;
         };
@@ -75,8 +75,8 @@ impl Meeting {
         Ok(())
     }
 
-    // Counts as one that looked in vain a process of which a message is told out of turn: the number is that of those that it has handled.
-    fn note_turn(&self, process: u16, run: u64) {
+    // Counts as one that looked in vain a process of which a message is told out of order: the number is that of those that it has handled.
+    fn check_number(&self, process: u16, run: u64) {
         let Some(place) = self.places.get(usize::from(process)) else {
             return;
         };
@@ -104,7 +104,7 @@ impl Meeting {
 
 impl Gate for Meeting {
     fn before(&self, process: u16, run: u64) {
-        self.note_turn(process, run);
+        self.check_number(process, run);
         let Some(place) = self.places.get(usize::from(process)) else {
             return;
         };
@@ -120,7 +120,7 @@ impl Gate for Meeting {
     }
 
     fn after(&self, process: u16, run: u64) {
-        self.note_turn(process, run);
+        self.check_number(process, run);
         if let Some(place) = self.places.get(usize::from(process)) {
             place.handled.fetch_add(1, Ordering::SeqCst);
         }
@@ -138,12 +138,12 @@ struct Told<'r> {
 }
 
 fn told_of(row: &str) -> Result<Told<'_>, Fail> {
-    let mut parts = row.split(" => ");
-    let workers = number_of(parts.next())?;
-    let looks = number_of(parts.next())?;
-    let waits = parts.next().unwrap_or("");
-    let missed = number_of(parts.next())?;
-    let order = parts.next().unwrap_or("");
+    let mut pieces = row.split(" => ");
+    let workers = number_of(pieces.next())?;
+    let looks = number_of(pieces.next())?;
+    let waits = pieces.next().unwrap_or("");
+    let missed = number_of(pieces.next())?;
+    let order = pieces.next().unwrap_or("");
     Ok(Told {
         workers,
         looks,

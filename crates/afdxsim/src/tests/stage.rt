@@ -20,29 +20,29 @@ use worker_pool::{
 pub struct Stage<'a, J: NetworkRun> {
     pub exchange: Exchange<'a, Node, Of<J>>,
     pub helds: Vec<Held<'a, Node, Of<J>>>,
-    pub gate: Counted,
+    pub gate: CountingGate,
     /// Which calls were refused memory, a line each.
     pub refused: String,
 }
 
-/// Counts what it is told of, as long as the counts of a process come in turn.
+/// Counts what it is told of, as long as the counts of a process come in order.
 #[derive(Drop)]
-pub struct Counted {
+pub struct CountingGate {
     before: Cell<u64>,
     after: Cell<u64>,
 }
 
-impl Counted {
+impl CountingGate {
     /// It was told of nothing.
     pub fn new() -> Self {
-        Counted {
+        CountingGate {
             before: Cell::new(0),
             after: Cell::new(0),
         }
     }
 }
 
-impl Gate for Counted {
+impl Gate for CountingGate {
     fn before(&self, _process: u16, run: u64) {
         if run == self.before.get() {
             self.before.set(run.saturating_add(1));
@@ -77,11 +77,11 @@ enum Answer {
 
 /// The word that this text writes.
 pub fn word_of(text: &str) -> Result<Word<'_>, Fail> {
-    let mut parts = text.split(':');
-    let name = parts.next().unwrap_or("");
-    let first = number_of(parts.next())?;
-    let second = number_of(parts.next())?;
-    let third = number_of(parts.next())?;
+    let mut pieces = text.split(':');
+    let name = pieces.next().unwrap_or("");
+    let first = number_of(pieces.next())?;
+    let second = number_of(pieces.next())?;
+    let third = number_of(pieces.next())?;
     Ok(Word {
         name,
         first,

@@ -1,7 +1,7 @@
 //! What `seq` tells of a run by its tables and its trace, and how many offers `check` counts. What is expected was worked out by hand.
 use super::changes::{changed, lines_of};
 use super::host::{MemoryHost, Page, says, status_of};
-use super::parts;
+use super::segments;
 use netdesc::read;
 use seqsim::{Unwatched, run};
 use std::alloc::Global;
@@ -227,9 +227,9 @@ fn a_run_is_told_by_its_tables_and_its_trace(rt: HostRuntime) -> Result<(), Fail
     for row in ROWS.split("\n\n") {
         assert!(rt; is_told(&rt, rt.alloc(), row)?, "{row}");
     }
-    for row in parts::ROWS.lines() {
+    for row in segments::ROWS.lines() {
         if !row.is_empty() {
-            assert!(rt; parts::is_told(rt.alloc(), row)?, "{row}");
+            assert!(rt; segments::is_told(rt.alloc(), row)?, "{row}");
         }
     }
     Ok(())

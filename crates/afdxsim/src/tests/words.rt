@@ -8,7 +8,7 @@ use std::sync::Wait;
 use std::test::Fail;
 use std::thread::Threads;
 
-/// Each row has what `net.toml` describes, the words, the status, and what is told, in parts with ` | ` between them: on standard output
+/// Each row has what `net.toml` describes, the words, the status, and what is told, in pieces with ` | ` between them: on standard output
 /// where the status is 0, else on error output. There `;` stands for the end of a line. `''` is an empty word, and `(none)` is no word.
 const ROWS: &str = "
 n1 => check net.toml => 0 => ok: 7 processes, 1 virtual links, 1 offers;
@@ -128,7 +128,7 @@ fn words_order_a_run(rt: HostRuntime) -> Result<(), Fail> {
 pub fn is_told<T: Threads + Wait + Sync>(rt: &T, alloc: Global, row: &str) -> Result<bool, Fail> {
     let (base, row) = row.split_once(" => ").ok_or("no words")?;
     let (words, row) = row.split_once(" => ").ok_or("no status")?;
-    let (status, parts) = row.split_once(" => ").ok_or("nothing told")?;
+    let (status, pieces) = row.split_once(" => ").ok_or("nothing told")?;
     let net = network(alloc, base)?;
     let words = words_of(alloc, words)?;
     let mut host = MemoryHost::new(alloc, net.as_bytes())?;
@@ -139,7 +139,7 @@ pub fn is_told<T: Threads + Wait + Sync>(rt: &T, alloc: Global, row: &str) -> Re
     } else {
         (&host.errors, &host.output)
     };
-    Ok(is_ended && other.holds("") && has_all(alloc, told, parts)?)
+    Ok(is_ended && other.holds("") && has_all(alloc, told, pieces)?)
 }
 
 // The words that a row writes.
@@ -155,12 +155,12 @@ fn words_of<'a>(alloc: Global, row: &'a str) -> Result<Vec<&'a str>, Fail> {
     Ok(words)
 }
 
-// The page has all these parts.
-fn has_all(alloc: Global, page: &Page, parts: &str) -> Result<bool, Fail> {
+// The page has all these pieces.
+fn has_all(alloc: Global, page: &Page, pieces: &str) -> Result<bool, Fail> {
     let text = str::from_utf8(page.bytes.as_slice()).ok().ok_or("no text")?;
-    for part in parts.split(" | ") {
-        let part = part.replace(alloc, ";", "\n")?;
-        if !text.contains(part.as_str()) {
+    for piece in pieces.split(" | ") {
+        let piece = piece.replace(alloc, ";", "\n")?;
+        if !text.contains(piece.as_str()) {
             return Ok(false);
         }
     }

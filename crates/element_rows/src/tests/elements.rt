@@ -81,9 +81,9 @@ fn elements_answer_and_undo_as_the_rows_tell(rt: HostRuntime) -> Result<(), Fail
 
 // What the element that is opened so tells of the script; `none` where its numbers are beyond the limits.
 fn tells(alloc: Global, opening: &str, script: &str) -> Result<String, AllocError> {
-    let (kind, written) = opening.split_once(' ').unwrap_or((opening, ""));
+    let (label, written) = opening.split_once(' ').unwrap_or((opening, ""));
     let fixed = numbers(written);
-    match kind {
+    match label {
         "regulator" => of_regulator(alloc, fixed, script),
         "account" => of_account(alloc, measure_in(written), fixed, script),
         "integrity" => told_by(alloc, Integrity::default(), script),

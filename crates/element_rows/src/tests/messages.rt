@@ -9,22 +9,22 @@ use vlink::{Body, Frame, Message, Net, VlId};
 pub fn message(word: &str) -> Message {
     let (head, event) = word.split_once('/').unwrap_or(("", word));
     let [receiver, sender, number, ..] = numbers(head);
-    let (kind, fields) = event.split_once('@').unwrap_or((event, ""));
+    let (label, fields) = event.split_once('@').unwrap_or((event, ""));
     let [ns, ..] = numbers(fields);
     Message {
         time: moment(ns),
         receiver: short(receiver),
         sender: long(sender),
         number,
-        body: body(kind, fields),
+        body: body(label, fields),
     }
 }
 
-fn body(kind: &str, fields: &str) -> Body {
+fn body(label: &str, fields: &str) -> Body {
     let [_, first, second, third, ..] = numbers(fields);
     let (vl, port) = (VlId(short(first)), byte(first));
     let frame = frame(fields);
-    match kind {
+    match label {
         "offer" => Body::Offer {
             vl,
             size: size(second),

@@ -96,20 +96,20 @@ from_ns = 0
 to_ns = 5760
 [[vl]]"#;
 
-// The text of the network that rows call so: that of network A alone, with one part replaced.
+// The text of the network that rows call so: that of network A alone, with one piece replaced.
 pub fn text_of(alloc: Global, network: &str) -> Result<String, AllocError> {
-    let (part, by) = match network {
+    let (piece, by) = match network {
         "two" => ("b = []\n", SECOND_NETWORK),
         "mixed" => ("b = []\n", SECOND_VL),
         "short" => ("until_ns = 2000000", "until_ns = 6000"),
         "narrow" => ("port_bytes = 65536", "port_bytes = 1518"),
         "shallow" => ("depth = 16", "depth = 1"),
         "shared" => ("period_ns = 1000000000000", "period_ns = 500000\nsub = 2"),
-        "counted" => ("smax = 64", "smax = 100\npolicing = \"frames\""),
+        "by_frames" => ("smax = 64", "smax = 100\npolicing = \"frames\""),
         "outage" => ("[[vl]]", OUTAGE),
         "outage_before" => ("[[vl]]", OUTAGE_BEFORE),
         _ => ("", ""),
     };
-    let (before, after) = ONE.split_once(part).unwrap_or((ONE, ""));
+    let (before, after) = ONE.split_once(piece).unwrap_or((ONE, ""));
     format!(in alloc; "{before}{by}{after}")
 }

@@ -36,7 +36,7 @@ mixed 2, enqueue@0:1:1.1518 enqueue@10:1:1.64 enqueue@20:1:54.64 free@123040:1 f
 mixed offers, => 0.4097.0/offer@0:1.64.0 0.4150.0/offer@326:54.64.0 0.4150.1/offer@1000851:54.64.0 ;
 shared offers, => 0.4097.0/offer@0:1.64.0 0.4097.1/offer@500000:1.64.1 0.4097.2/offer@1000000:1.64.0 0.4097.3/offer@1500000:1.64.1 0.4097.4/offer@2000000:1.64.0 ;
 shared 0, offer@0:1.64.2 => lost 1 QueueFull 64 ; | #0 (0 None) (idle 0) #0 (0 None) (idle 0)
-counted 2, arrive@5860:0:1.64 arrive@645860:0:1.64 => 2.2.0/enqueue@21860:1:1.64.0.0.0.0 ; lost 1 Policed 64 ; | #1 (idle 0) (idle 0) #1 (idle 0) (idle 0) #0 (idle 0) (idle 0)
+by_frames 2, arrive@5860:0:1.64 arrive@645860:0:1.64 => 2.2.0/enqueue@21860:1:1.64.0.0.0.0 ; lost 1 Policed 64 ; | #1 (idle 0) (idle 0) #1 (idle 0) (idle 0) #0 (idle 0) (idle 0)
 shallow 0, offer@0:1.64 offer@10:1.64 offer@20:1.64 free@6720:0 release@1000000:1 => 3.0.0/carry@5760:1.64.0.0.0.0 0.0.1/free@6720:0 ; 0.0.2/release@1000000:1 ; lost 1 QueueFull 64 ; ; 3.0.3/carry@1005760:1.64.1.0.10.1000000 0.0.4/free@1006720:0 ; | #5 (2 Some(1000000)) (busy 0) #3 (1 Some(0)) (idle 0) #3 (1 Some(0)) (busy 0) #3 (1 Some(0)) (busy 0) #2 (1 Some(0)) (busy 0) #0 (0 None) (idle 0)
 one 1, offer@0:1.64 => lost 1 Unknown 64 ; | #0 (idle 0) #0 (idle 0)
 one 0, arrive@27720:0:1.64 => lost 1 Unknown 64 ; | #0 (0 None) (idle 0) #0 (0 None) (idle 0)

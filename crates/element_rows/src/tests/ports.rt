@@ -8,7 +8,7 @@ use vlink::{Frame, busy_ns};
 
 impl Played for Port {
     fn event(word: &str) -> PortEvent {
-        let Some((kind, frame)) = word.split_once(':') else {
+        let Some((label, frame)) = word.split_once(':') else {
             return PortEvent::Free;
         };
         let [number, bytes, ..] = numbers(frame);
@@ -17,7 +17,7 @@ impl Played for Port {
             size: size(bytes),
             ..Frame::default()
         };
-        let priority = if kind == "high" {
+        let priority = if label == "high" {
             Priority::High
         } else {
             Priority::Low

@@ -8,10 +8,10 @@ use vlink::{Frame, Time};
 
 impl Played for BagRegulator {
     fn event(word: &str) -> RegEvent {
-        let (kind, ns) = word.split_once('@').unwrap_or((word, ""));
+        let (label, ns) = word.split_once('@').unwrap_or((word, ""));
         let [ns, sub, ..] = numbers(ns);
         let at = moment(ns);
-        if kind == "release" {
+        if label == "release" {
             return RegEvent::Release { at };
         }
         RegEvent::Offer {

@@ -38,19 +38,19 @@ order free@0:0 free@0:0 => false";
 fn values_are_as_the_rows_tell(rt: HostRuntime) -> Result<(), Fail> {
     for line in ROWS.lines() {
         let (row, wanted) = line.split_once(" => ").ok_or("a row")?;
-        let (kind, given) = row.split_once(' ').ok_or("a word")?;
-        let told = match tells(rt.alloc(), kind, given) {
+        let (label, given) = row.split_once(' ').ok_or("a word")?;
+        let told = match tells(rt.alloc(), label, given) {
             Ok(told) => told,
-            Err(_) => tells(rt.alloc(), kind, given)?,
+            Err(_) => tells(rt.alloc(), label, given)?,
         };
         assert_eq!(rt; told.as_str(), wanted, "{row}");
     }
     Ok(())
 }
 
-fn tells(alloc: Global, kind: &str, given: &str) -> Result<String, AllocError> {
+fn tells(alloc: Global, label: &str, given: &str) -> Result<String, AllocError> {
     let [first, second, ..] = numbers(given);
-    match kind {
+    match label {
         "next" => format!(in alloc; "{}", next_sn(byte(first))),
         "steps" => format!(in alloc; "{}", steps(byte(first), byte(second))),
         "wire" => {

@@ -20,15 +20,15 @@ use Rattle.output_port.specs.declared.event.PutRecord.{PutRecord}
 use Rattle.integrity.specs.Integrity.{integrity}
 use Rattle.integrity.specs.declared.checking.Checked.{Checked}
 use Rattle.integrity.specs.declared.checking.Checked.TheVariants as check
-use Rattle.nodes.specs.declared.part_record.PartRecord.TheVariants as kept
+use Rattle.nodes.specs.declared.equipment_record.EquipmentRecord.TheVariants as kept
 use Rattle.nodes.specs.declared.vl_end.VlEnd.{VlEnd}
 use Rattle.nodes.specs.declared.receiving.Receiving.{Receiving}
 use Rattle.nodes.specs.declared.source.Source.{Source}
-use Rattle.nodes.specs.declared.sink.Sink.{Sink}
+use Rattle.nodes.specs.declared.reception.Reception.{Reception}
 use Rattle.reverse.specs.Sending.{Reply, silent, loss}
 use Rattle.nodes.specs.rules.Ports.{PortsState, changed, exists}
 use Rattle.nodes.specs.rules.Finding.{Found, find}
-use Rattle.nodes.specs.rules.EndSystem.{EndSystemState, source_at, source_number, sink_at, sink_number, ending_on, is_on, port_of, copy, copied, released_out, regulated, offered_frame, check_of, with_check, received, redundant, taken, arrived, end_system}
+use Rattle.nodes.specs.rules.EndSystem.{EndSystemState, source_at, source_number, reception_at, reception_number, ending_on, is_on, port_of, copy, copied, released_out, regulated, offered_frame, check_of, with_check, received, redundant, taken, arrived, end_system}
 use Rattle.nodes.specs.undoing.EndSystem.{copied_kept, regulated_kept, regulated_kept_by, delivery_kept, taken_kept, end_system_kept, end_system_restored, unregulated, unregulated_by, unreceived, untaken, untaken_by}
 use Rattle.nodes.specs.undoing.Ports.{port_put_kept, unput}
 use Rattle.nodes.specs.laws.Places.{found-again, found-back}
@@ -102,51 +102,51 @@ received-undone t frame r = go frame.net (integrity.out (check_of frame.net r) f
     go B check.Refused = refl
 
 -- the virtual link that ends here is found with other checks
-pub sink-again : (s : EndSystemState) (vl : VlId) (net : Net) (found : Found Sink) (r : Receiving) → sink_at s vl net ≡ Some found →
-    (find sink_number s.sinks vl.0 ≡ Some found)
-    × (sink_at (record s { sinks = slice_set s.sinks found.place (record found.entry { receiving = r }) }) vl net ≡ Some (record found { entry = record found.entry { receiving = r } }))
-sink-again s vl net found r h = go (find sink_number s.sinks vl.0) refl h
+pub reception-again : (s : EndSystemState) (vl : VlId) (net : Net) (found : Found Reception) (r : Receiving) → reception_at s vl net ≡ Some found →
+    (find reception_number s.receptions vl.0 ≡ Some found)
+    × (reception_at (record s { receptions = slice_set s.receptions found.place (record found.entry { receiving = r }) }) vl net ≡ Some (record found { entry = record found.entry { receiving = r } }))
+reception-again s vl net found r h = go (find reception_number s.receptions vl.0) refl h
   where
-    new : Sink
+    new : Reception
     new = record found.entry { receiving = r }
 
-    here : (f : Found Sink) (b : Bool) → is_on f.entry.end net ≡ b → cond b (Some f) None ≡ Some found → (f ≡ found) × (is_on found.entry.end net ≡ true)
-    here f true on e = let same = same_Some f found e in (same, ap (λ (f : Found Sink). is_on f.entry.end net) (sym same) ∙ on)
+    here : (f : Found Reception) (b : Bool) → is_on f.entry.end net ≡ b → cond b (Some f) None ≡ Some found → (f ≡ found) × (is_on found.entry.end net ≡ true)
+    here f true on e = let same = same_Some f found e in (same, ap (λ (f : Found Reception). is_on f.entry.end net) (sym same) ∙ on)
     here f false on e = absurd (none-some found e)
 
-    go : (o : Option (Found Sink)) → find sink_number s.sinks vl.0 ≡ o → option_and_then (ending_on net) o ≡ Some found →
-        (find sink_number s.sinks vl.0 ≡ Some found)
-        × (option_and_then (ending_on net) (find sink_number (slice_set s.sinks found.place new) vl.0) ≡ Some (record { place = found.place; entry = new }))
+    go : (o : Option (Found Reception)) → find reception_number s.receptions vl.0 ≡ o → option_and_then (ending_on net) o ≡ Some found →
+        (find reception_number s.receptions vl.0 ≡ Some found)
+        × (option_and_then (ending_on net) (find reception_number (slice_set s.receptions found.place new) vl.0) ≡ Some (record { place = found.place; entry = new }))
     go None is e = absurd (none-some found e)
     go (Some f) is e =
         let same = here f (is_on f.entry.end net) refl e in
-        let there = is ∙ ap (λ (f : Found Sink). Some f) same.0 in (
+        let there = is ∙ ap (λ (f : Found Reception). Some f) same.0 in (
           there,
-          ap (option_and_then (ending_on net)) (found-again sink_number s.sinks vl.0 found there new refl)
+          ap (option_and_then (ending_on net)) (found-again reception_number s.receptions vl.0 found there new refl)
               ∙ ap (λ b. cond b (Some (record { place = found.place; entry = new })) None) same.1,
         )
 
 taken-undone : (t : ℕ) (frame : Frame) (s : EndSystemState) →
-    untaken frame (taken_kept frame (sink_at s frame.vl frame.net)) (taken t frame s (sink_at s frame.vl frame.net)).state ≡ s
-taken-undone t frame s = go (sink_at s frame.vl frame.net) refl
+    untaken frame (taken_kept frame (reception_at s frame.vl frame.net)) (taken t frame s (reception_at s frame.vl frame.net)).state ≡ s
+taken-undone t frame s = go (reception_at s frame.vl frame.net) refl
   where
-    go : (o : Option (Found Sink)) → sink_at s frame.vl frame.net ≡ o → untaken frame (taken_kept frame o) (taken t frame s o).state ≡ s
+    go : (o : Option (Found Reception)) → reception_at s frame.vl frame.net ≡ o → untaken frame (taken_kept frame o) (taken t frame s o).state ≡ s
     go None h = refl
     go (Some found) h =
         let receiving = found.entry.receiving in
         let check = check_of frame.net receiving in
-        let now : EndSystemState = record s { sinks = slice_set s.sinks found.place (record found.entry { receiving = received t frame receiving }) } in
-        let again = sink-again s frame.vl frame.net found (received t frame receiving) h in
+        let now : EndSystemState = record s { receptions = slice_set s.receptions found.place (record found.entry { receiving = received t frame receiving }) } in
+        let again = reception-again s frame.vl frame.net found (received t frame receiving) h in
         ap (untaken_by frame check (delivery_kept receiving (integrity.out check frame.number)) now) again.1
-        ∙ ap (λ r. record s { sinks = slice_set now.sinks found.place (record found.entry { receiving = r }) }) (received-undone t frame receiving)
-        ∙ ap (λ sinks. record s { sinks = sinks }) (found-back sink_number s.sinks frame.vl.0 found again.0 (record found.entry { receiving = received t frame receiving }))
+        ∙ ap (λ r. record s { receptions = slice_set now.receptions found.place (record found.entry { receiving = r }) }) (received-undone t frame receiving)
+        ∙ ap (λ receptions. record s { receptions = receptions }) (found-back reception_number s.receptions frame.vl.0 found again.0 (record found.entry { receiving = received t frame receiving }))
 
 arrived-undone : (t q : ℕ) (frame : Frame) (s : EndSystemState) →
     end_system_restored (body.Arrive q frame) (end_system_kept t (body.Arrive q frame) s) (arrived t q frame s).state ≡ s
 arrived-undone t q frame s = go (exists s.ports q)
   where
-    go : (b : Bool) → untaken frame (cond b (taken_kept frame (sink_at s frame.vl frame.net)) kept.Nothing)
-        (cond b (taken t frame s (sink_at s frame.vl frame.net)) (record { state = s; reply = silent })).state ≡ s
+    go : (b : Bool) → untaken frame (cond b (taken_kept frame (reception_at s frame.vl frame.net)) kept.Nothing)
+        (cond b (taken t frame s (reception_at s frame.vl frame.net)) (record { state = s; reply = silent })).state ≡ s
     go true = taken-undone t frame s
     go false = refl
 

@@ -5,7 +5,7 @@ use Rattle.nodes.specs.declared.meeting.Meeting.{Meeting}
 use Rattle.nodes.specs.declared.transit.Transit.{Transit}
 use Rattle.nodes.specs.declared.vl_end.VlEnd.{VlEnd}
 use Rattle.nodes.specs.declared.source.Source.{Source}
-use Rattle.nodes.specs.declared.sink.Sink.{Sink}
+use Rattle.nodes.specs.declared.reception.Reception.{Reception}
 use Rattle.nodes.specs.rules.Finding.{Found, find}
 use Rattle.nodes.specs.rules.Opening.{regulator_of, receiving_of, account_of, port_priority}
 
@@ -20,8 +20,8 @@ end_met m = record { vl = m.link.id; a = slice_index_or m.ports 0 false; b = sli
 abbrev pub source_met : Meeting → Source
 source_met m = record { end = end_met m; regulator = regulator_of m.link }
 
-abbrev pub sink_met : Meeting → Sink
-sink_met m = record { end = end_met m; receiving = receiving_of m.link }
+abbrev pub reception_met : Meeting → Reception
+reception_met m = record { end = end_met m; receiving = receiving_of m.link }
 
 -- the ports of the virtual link with this number
 abbrev pub ports_found : Option (Found Meeting) → List Bool

@@ -13,8 +13,8 @@ use Rattle.bag_regulator.specs.Spacing.{moment_of}
 use Rattle.bag_regulator.specs.declared.event.RegEvent.{RegEvent}
 use Rattle.nodes.specs.declared.ports.Outlet.{Outlet}
 use Rattle.nodes.specs.declared.ports.Wire.{Wire}
-use Rattle.nodes.specs.declared.part.Part.{Part}
-use Rattle.nodes.specs.declared.part.Part.TheVariants.{EndSystem, Switch, Line}
+use Rattle.nodes.specs.declared.equipment.Equipment.{Equipment}
+use Rattle.nodes.specs.declared.equipment.Equipment.TheVariants.{EndSystem, Switch, Line}
 use Rattle.reverse.specs.Sending.{Wish, Reply, loss}
 use Rattle.nodes.specs.rules.Ports.{PortsState}
 use Rattle.nodes.specs.declared.source.Source.{Source}
@@ -22,7 +22,7 @@ use Rattle.nodes.specs.rules.Finding.{Found}
 use Rattle.nodes.specs.rules.EndSystem.{source_at, source_number}
 use Rattle.nodes.specs.rules.Line.{LineState, line, is_within}
 use Rattle.nodes.specs.rules.Node.{NodeState, handled, after, sends}
-use Rattle.nodes.specs.rules.Placed.{AllWires, IsPlaced, IsPlacedPart, IsWired, IsWiredPart}
+use Rattle.nodes.specs.rules.Placed.{AllWires, IsPlaced, IsPlacedEquipment, IsWired, IsWiredEquipment}
 use Rattle.nodes.specs.laws.Places.{All-there, found-there}
 use Rattle.nodes.specs.laws.Replies.{IsQuiet, silent-quiet, loss-quiet, quiet-all}
 use Rattle.nodes.specs.laws.Sent.{sent-all}
@@ -48,15 +48,15 @@ line-cases K t (PortFree q) s quiet arrives = quiet _ silent-quiet
 line-cases K t (Arrive q frame) s quiet arrives = quiet _ silent-quiet
 line-cases K t (Enqueue q frame) s quiet arrives = quiet _ silent-quiet
 
--- what the part of node n can send at moment t has P
-abbrev Meets : (Wish → Type 0) → ℕ → ℕ → Part → Type 0
+-- what the equipment of node n can send at moment t has P
+abbrev Meets : (Wish → Type 0) → ℕ → ℕ → Equipment → Type 0
 Meets P n t (EndSystem s) =
     AllWires (WireMeets P n t) s.ports × ((vl : VlId) (e : RegEvent) (found : Found Source) → moment_of e ≡ t → source_at s vl ≡ Some found →
     IfSome (regulator.out found.entry.regulator e).release_at (λ at. P (record { time = at; receiver = n; body = Release found.entry.end.vl })))
 Meets P n t (Switch s) = AllWires (WireMeets P n t) s.ports × ((q : ℕ) (frame : Frame) → P (wish_to n (t + s.latency) frame q))
 Meets P n t (Line s) = (frame : Frame) → P (arrival t frame s)
 
-handled-all : (P : Wish → Type 0) (n : ℕ) (m : Message) (p : Part) → Meets P n m.time p → All P (handled n m p).reply.wishes
+handled-all : (P : Wish → Type 0) (n : ℕ) (m : Message) (p : Equipment) → Meets P n m.time p → All P (handled n m p).reply.wishes
 handled-all P n m (EndSystem s) h = end_system-all P n m.time m.body s h.0 h.1
 handled-all P n m (Switch s) h = switch-all P n m.time m.body s h.0 h.1
 handled-all P n m (Line s) h =
@@ -79,8 +79,8 @@ wire-later n t wire h q frame =
 wires-later : (n t : ℕ) (ports : PortsState) → AllWires (λ wire. 1 ≤ wire.byte_ns) ports → AllWires (WireMeets (λ w. t < w.time) n t) ports
 wires-later n t ports = wires-weaker (λ wire. 1 ≤ wire.byte_ns) (WireMeets (λ w. t < w.time) n t) (wire-later n t) ports
 
-part-later : (n t : ℕ) (p : Part) → IsPlacedPart p → Meets (λ w. t < w.time) n t p
-part-later n t (EndSystem s) h = (wires-later n t s.ports h.0, asks)
+equipment-later : (n t : ℕ) (p : Equipment) → IsPlacedEquipment p → Meets (λ w. t < w.time) n t p
+equipment-later n t (EndSystem s) h = (wires-later n t s.ports h.0, asks)
   where
     asks : (vl : VlId) (e : RegEvent) (found : Found Source) → moment_of e ≡ t → source_at s vl ≡ Some found →
         IfSome (regulator.out found.entry.regulator e).release_at (λ at. t < at)
@@ -88,18 +88,18 @@ part-later n t (EndSystem s) h = (wires-later n t s.ports h.0, asks)
         let g = found.entry.regulator in
         let bag = All-there (λ (source : Source). 1 ≤ source.regulator.bag) s.sources found.place found.entry h.1 (found-there source_number s.sources vl.0 found is) in
         subst (λ t. IfSome (regulator.out g e).release_at (λ at. t < at)) m (release-later g e bag)
-part-later n t (Switch s) h = (wires-later n t s.ports h.0, λ q frame. omega (arith, h.1))
-part-later n t (Line s) h = λ frame. omega (arith, h)
+equipment-later n t (Switch s) h = (wires-later n t s.ports h.0, λ q frame. omega (arith, h.1))
+equipment-later n t (Line s) h = λ frame. omega (arith, h)
 
 -- what is sent is later than the event
 pub sends-later : (s : NodeState) (m : Message) → IsPlaced s → All (λ x. m.time < x.time) (sends s m)
 sends-later s m h =
-    let wishes = handled-all (λ w. m.time < w.time) s.sender.number m s.part (part-later s.sender.number m.time s.part h) in
-    sent-all (λ x. m.time < x.time) s.sender (handled s.sender.number m s.part).reply.wishes (λ k d l n timely. wishes k _ l)
+    let wishes = handled-all (λ w. m.time < w.time) s.sender.number m s.equipment (equipment-later s.sender.number m.time s.equipment h) in
+    sent-all (λ x. m.time < x.time) s.sender (handled s.sender.number m s.equipment).reply.wishes (λ k d l n timely. wishes k _ l)
 
 -- and goes to processes that there are
-part-near : (processes n t : ℕ) (p : Part) → n < processes → IsWiredPart processes p → Meets (λ w. w.receiver < processes) n t p
-part-near processes n t (EndSystem s) g h = (
+equipment-near : (processes n t : ℕ) (p : Equipment) → n < processes → IsWiredEquipment processes p → Meets (λ w. w.receiver < processes) n t p
+equipment-near processes n t (EndSystem s) g h = (
   wires-weaker (λ wire. wire.line < processes) (WireMeets (λ w. w.receiver < processes) n t) (λ wire l q frame. (l, g)) s.ports h,
   λ vl e found m is. asks (regulator.out found.entry.regulator e).release_at,
 )
@@ -107,20 +107,20 @@ part-near processes n t (EndSystem s) g h = (
     asks : (ask : Option ℕ) → IfSome ask (λ at. n < processes)
     asks None = tt
     asks (Some at) = g
-part-near processes n t (Switch s) g h =
+equipment-near processes n t (Switch s) g h =
     (wires-weaker (λ wire. wire.line < processes) (WireMeets (λ w. w.receiver < processes) n t) (λ wire l q frame. (l, g)) s.ports h, λ q frame. g)
-part-near processes n t (Line s) g h = λ frame. h
+equipment-near processes n t (Line s) g h = λ frame. h
 
 pub sends-near : (processes : ℕ) (s : NodeState) (m : Message) → IsWired processes s → All (λ x. x.receiver < processes) (sends s m)
 sends-near processes s m h =
-    let wishes = handled-all (λ w. w.receiver < processes) s.sender.number m s.part (part-near processes s.sender.number m.time s.part h.0 h.1) in
-    sent-all (λ x. x.receiver < processes) s.sender (handled s.sender.number m s.part).reply.wishes (λ k d l n timely. wishes k _ l)
+    let wishes = handled-all (λ w. w.receiver < processes) s.sender.number m s.equipment (equipment-near processes s.sender.number m.time s.equipment h.0 h.1) in
+    sent-all (λ x. x.receiver < processes) s.sender (handled s.sender.number m s.equipment).reply.wishes (λ k d l n timely. wishes k _ l)
 
 -- an event changes none of the fixed parts
 pub place-stays : (s : NodeState) (m : Message) → IsPlaced s → IsPlaced (after s m)
-place-stays s m = go s.part
+place-stays s m = go s.equipment
   where
-    go : (p : Part) → IsPlacedPart p → IsPlacedPart (handled s.sender.number m p).part
+    go : (p : Equipment) → IsPlacedEquipment p → IsPlacedEquipment (handled s.sender.number m p).equipment
     go (EndSystem s') h = (
       end_system-wires (λ wire. 1 ≤ wire.byte_ns) s.sender.number m.time m.body s' h.0,
       end_system-bags (λ bag. 1 ≤ bag) s.sender.number m.time m.body s' h.1,
@@ -131,9 +131,9 @@ place-stays s m = go s.part
     go (Line s') h = h
 
 pub wiring-stays : (processes : ℕ) (s : NodeState) (m : Message) → IsWired processes s → IsWired processes (after s m)
-wiring-stays processes s m h = (h.0, go s.part h.1)
+wiring-stays processes s m h = (h.0, go s.equipment h.1)
   where
-    go : (p : Part) → IsWiredPart processes p → IsWiredPart processes (handled s.sender.number m p).part
+    go : (p : Equipment) → IsWiredEquipment processes p → IsWiredEquipment processes (handled s.sender.number m p).equipment
     go (EndSystem s') h = end_system-wires (λ wire. wire.line < processes) s.sender.number m.time m.body s' h
     go (Switch s') h = (switch-stays (λ wire. wire.line < processes) s.sender.number m.time m.body s' h).wires
     go (Line s') h = h

@@ -1,12 +1,11 @@
 -- For proofs alone: what a regulator keeps, and what it asks for.
-use Rattle.std.proofs.Common.{◌≡◌, ℕ, ◌+◌, ◌<◌, ◌≤◌, Bool, true, false, cond, nat_lt, List, [], ◌∷◌, ◌++◌, length, Option, None, Some, IfSome, refl, arith}
+use Rattle.std.proofs.Common.{◌≡◌, ℕ, ◌+◌, ◌<◌, ◌≤◌, Bool, true, false, cond, nat_lt, List, [], ◌∷◌, length, Option, None, Some, IfSome, refl, arith}
 use Rattle.std.proofs.lemmas.Bool.{leb-false}
 use Rattle.vlink.specs.declared.frame.Frame.{Frame}
 use Rattle.bag_regulator.specs.declared.event.RegEvent.{RegEvent}
 use Rattle.bag_regulator.specs.declared.event.RegEvent.TheVariants.{Offer, Release}
-use Rattle.bag_regulator.specs.declared.event.RegAnswer.TheVariants.{Kept, Dropped, Nothing}
-use Rattle.bag_regulator.specs.declared.event.RegUndo.TheVariants as undo
-use Rattle.bag_regulator.specs.Regulator.{Regulator, Outcome, regulator, outcome, list_at, with_frames, let_go, next_in_turn, appended, queued, direct, admitted, popped, served, due, idle, is_due, next_release, ask_of}
+use Rattle.bag_regulator.specs.declared.event.RegAnswer.TheVariants.{Dropped, Nothing}
+use Rattle.bag_regulator.specs.Regulator.{Regulator, Outcome, regulator, outcome, list_at, with_frames, let_go, next_served, appended, queued, direct, admitted, popped, served, due, idle, is_due, next_release, ask_of}
 use Rattle.bag_regulator.specs.Spacing.{moment_of}
 
 -- the BAG stays; and where it is at least 1 ns, a Release is asked for later than t
@@ -42,16 +41,16 @@ served-kept g t q [] = record { bag = refl; later = λ b. tt }
 served-kept g t q (x ∷ xs) = pick (is_due t (next_release g g.last))
   where
     pick : (b : Bool) → IsKept g t (cond b (popped g t q x xs) (idle g Nothing))
-    pick true = record { bag = refl; later = ask-later t g.bag (next_in_turn (let_go g t q (with_frames g.lists q xs))) }
+    pick true = record { bag = refl; later = ask-later t g.bag (next_served (let_go g t q (with_frames g.lists q xs))) }
     pick false = record { bag = refl; later = λ b. tt }
 
 kept : (g : Regulator) (e : RegEvent) → IsKept g (moment_of e) (outcome g e)
 kept g (Offer t q frame) = go (nat_lt q (length g.lists))
   where
-    go : (b : Bool) → IsKept g t (cond b (admitted g t q frame (next_in_turn g)) (idle g Dropped))
-    go true = admitted-kept g t q frame (next_in_turn g)
+    go : (b : Bool) → IsKept g t (cond b (admitted g t q frame (next_served g)) (idle g Dropped))
+    go true = admitted-kept g t q frame (next_served g)
     go false = record { bag = refl; later = λ b. tt }
-kept g (Release t) = go (next_in_turn g)
+kept g (Release t) = go (next_served g)
   where
     go : (next : Option ℕ) → IsKept g t (due g t next)
     go None = record { bag = refl; later = λ b. tt }

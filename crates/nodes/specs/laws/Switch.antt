@@ -6,7 +6,7 @@ use Rattle.vlink.specs.declared.message.Body.TheVariants.{Offer, Release, PortFr
 use Rattle.policer.specs.Account.{account}
 use Rattle.policer.specs.declared.account.Arrival.{Arrival}
 use Rattle.output_port.specs.declared.event.PortEvent.TheVariants.{Put, Free}
-use Rattle.nodes.specs.declared.part_record.PartRecord.TheVariants as kept
+use Rattle.nodes.specs.declared.equipment_record.EquipmentRecord.TheVariants as kept
 use Rattle.reverse.specs.Sending.{silent}
 use Rattle.nodes.specs.rules.Ports.{exists}
 use Rattle.nodes.specs.declared.transit.Transit.{Transit}

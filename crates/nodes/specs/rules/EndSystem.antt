@@ -27,7 +27,7 @@ use Rattle.redundancy.specs.declared.delivery.Delivery.TheVariants as delivery
 use Rattle.nodes.specs.declared.vl_end.VlEnd.{VlEnd}
 use Rattle.nodes.specs.declared.receiving.Receiving.{Receiving}
 use Rattle.nodes.specs.declared.source.Source.{Source}
-use Rattle.nodes.specs.declared.sink.Sink.{Sink}
+use Rattle.nodes.specs.declared.reception.Reception.{Reception}
 use Rattle.reverse.specs.Sending.{Reply, silent, joined, loss}
 use Rattle.nodes.specs.rules.Ports.{PortsState, changed, exists, reply}
 use Rattle.nodes.specs.rules.Finding.{Found, find}
@@ -35,7 +35,7 @@ use Rattle.nodes.specs.rules.Finding.{Found, find}
 -- the virtual links that it sends, those that it receives, and its ports
 pub record EndSystemState : Type 0 where
   pub sources : List Source
-  pub sinks : List Sink
+  pub receptions : List Reception
   pub ports : PortsState
 
 pub record EndSystemOutcome : Type 0 where
@@ -46,8 +46,8 @@ pub record EndSystemOutcome : Type 0 where
 abbrev pub source_number : Source → ℕ
 source_number source = source.end.vl.0
 
-abbrev pub sink_number : Sink → ℕ
-sink_number sink = sink.end.vl.0
+abbrev pub reception_number : Reception → ℕ
+reception_number reception = reception.end.vl.0
 
 -- the port of a network
 abbrev pub port_of : Net → ℕ
@@ -134,11 +134,11 @@ abbrev pub released : ℕ → ℕ → VlId → EndSystemState → EndSystemOutco
 released n t vl s = regulated n t (Release t) silent s (source_at s vl)
 
 -- a virtual link that ends here on this network
-abbrev pub ending_on : Net → Found Sink → Option (Found Sink)
+abbrev pub ending_on : Net → Found Reception → Option (Found Reception)
 ending_on net found = if is_on found.entry.end net then Some found else None
 
-abbrev pub sink_at : EndSystemState → VlId → Net → Option (Found Sink)
-sink_at s vl net = option_and_then (ending_on net) (find sink_number s.sinks vl.0)
+abbrev pub reception_at : EndSystemState → VlId → Net → Option (Found Reception)
+reception_at s vl net = option_and_then (ending_on net) (find reception_number s.receptions vl.0)
 
 -- the check of a network, and the checks with another one there
 abbrev pub check_of : Net → Receiving → Option ℕ
@@ -172,18 +172,18 @@ abbrev pub received_reply : ℕ → Frame → Receiving → Reply
 received_reply t frame r = checked t frame r (integrity.out (check_of frame.net r) frame.number)
 
 -- a frame has come: it is lost where its virtual link does not end here on its network
-abbrev pub taken : ℕ → Frame → EndSystemState → Option (Found Sink) → EndSystemOutcome
+abbrev pub taken : ℕ → Frame → EndSystemState → Option (Found Reception) → EndSystemOutcome
 taken t frame s None = record { state = s; reply = loss Unknown frame }
 taken t frame s (Some found) =
-    let sink = found.entry in
+    let reception = found.entry in
     record {
-      state = record s { sinks = slice_set s.sinks found.place (record sink { receiving = received t frame sink.receiving }) };
-      reply = received_reply t frame sink.receiving;
+      state = record s { receptions = slice_set s.receptions found.place (record reception { receiving = received t frame reception.receiving }) };
+      reply = received_reply t frame reception.receiving;
     }
 
 -- a frame has come to a port
 abbrev pub arrived : ℕ → ℕ → Frame → EndSystemState → EndSystemOutcome
-arrived t q frame s = if exists s.ports q then taken t frame s (sink_at s frame.vl frame.net) else record { state = s; reply = silent }
+arrived t q frame s = if exists s.ports q then taken t frame s (reception_at s frame.vl frame.net) else record { state = s; reply = silent }
 
 -- the frame of a port has left
 abbrev pub freed : ℕ → ℕ → ℕ → EndSystemState → EndSystemOutcome

@@ -5,7 +5,7 @@ use Rattle.std.specs.Option.{option_map}
 use Rattle.network_rows.specs.declared.rows.NodeKind.{NodeKind}
 use Rattle.network_rows.specs.declared.rows.NodeKind.TheVariants as kind
 use Rattle.network_rows.specs.declared.rows.Policing.{Policing}
-use Rattle.network_rows.specs.declared.rows.Policing.TheVariants as counted
+use Rattle.network_rows.specs.declared.rows.Policing.TheVariants as policing
 use Rattle.network_rows.specs.declared.rows.Priority.{Priority}
 use Rattle.network_rows.specs.declared.rows.Priority.TheVariants as row
 use Rattle.bag_regulator.specs.Regulator as regulator
@@ -24,12 +24,12 @@ use Rattle.netdesc.specs.declared.wiring.Way.{Way}
 use Rattle.netdesc.specs.Plan.{Plan, NodePlan, VlPlan}
 use Rattle.netdesc.specs.Lines.{lines_of, outages_of}
 use Rattle.nodes.specs.declared.meeting.Side.TheVariants.{Out, In}
-use Rattle.nodes.specs.declared.part.Part.{Part}
-use Rattle.nodes.specs.declared.part.Part.TheVariants as part
+use Rattle.nodes.specs.declared.equipment.Equipment.{Equipment}
+use Rattle.nodes.specs.declared.equipment.Equipment.TheVariants as equipment
 use Rattle.nodes.specs.declared.ports.Outlet.{Outlet}
 use Rattle.nodes.specs.declared.ports.Wire.{Wire}
 use Rattle.nodes.specs.declared.receiving.Receiving.{Receiving}
-use Rattle.nodes.specs.declared.sink.Sink.{Sink}
+use Rattle.nodes.specs.declared.reception.Reception.{Reception}
 use Rattle.nodes.specs.declared.source.Source.{Source}
 use Rattle.nodes.specs.declared.transit.Transit.{Transit}
 use Rattle.nodes.specs.declared.vl_end.VlEnd.{VlEnd}
@@ -83,8 +83,8 @@ receiving_of link = record { a = None; b = None; redundancy = record { skew_max 
 abbrev pub source_of : (VlPlan → List Way) → VlPlan → Source
 source_of ways vl = record { end = end_of ways vl; regulator = regulator_of vl.link }
 
-abbrev pub sink_of : (VlPlan → List Way) → VlPlan → Sink
-sink_of ways vl = record { end = end_of ways vl; receiving = receiving_of vl.link }
+abbrev pub reception_of : (VlPlan → List Way) → VlPlan → Reception
+reception_of ways vl = record { end = end_of ways vl; receiving = receiving_of vl.link }
 
 -- end system n, at each of whose ports so many bytes may wait
 abbrev pub end_system_opening : Plan → ℕ → ℕ → EndSystemState
@@ -93,7 +93,7 @@ end_system_opening plan n bytes =
     let received = with_ways (ways_at plan n In) plan.vls in
     record {
       sources = map (source_of (ways_at plan n Out)) sent;
-      sinks = map (sink_of (ways_at plan n In)) received;
+      receptions = map (reception_of (ways_at plan n In)) received;
       ports = ports_of plan n 2 bytes;
     }
 
@@ -104,8 +104,8 @@ port_priority row.High = High
 port_priority row.Low = Low
 
 abbrev pub measure_of : Policing → Measure
-measure_of counted.Bytes = measure.Bytes
-measure_of counted.Frames = measure.Frames
+measure_of policing.Bytes = measure.Bytes
+measure_of policing.Frames = measure.Frames
 
 abbrev pub account_of : VirtualLink → policer.Policing
 account_of link = full link.smax (bag_ns link) link.policing_jitter_ns (measure_of link.policing)
@@ -131,9 +131,9 @@ switch_opening plan n latency bytes =
 
 -- ---- processes
 
-abbrev pub node_opening : Plan → ℕ → ℕ → NodeKind → Part
-node_opening plan n bytes kind.EndSystem = part.EndSystem (end_system_opening plan n bytes)
-node_opening plan n bytes (kind.Switch net latency_ns) = part.Switch (switch_opening plan n latency_ns bytes)
+abbrev pub node_opening : Plan → ℕ → ℕ → NodeKind → Equipment
+node_opening plan n bytes kind.EndSystem = equipment.EndSystem (end_system_opening plan n bytes)
+node_opening plan n bytes (kind.Switch net latency_ns) = equipment.Switch (switch_opening plan n latency_ns bytes)
 
 -- line k; where there is none, a line without a propagation time and outages stands for it
 abbrev pub line_opening : Plan → ℕ → Option Direction → LineState
@@ -141,13 +141,13 @@ line_opening plan k (Some line) = record { to = line.to; to_port = line.to_port;
 line_opening plan k None = record { to = 0; to_port = 0; propagation = 0; outages = [] }
 
 -- the nodes are the processes 0, 1, .., and the lines those behind them
-abbrev pub part_opening : Plan → ℕ → Option NodePlan → Part
-part_opening plan p (Some node) = node_opening plan p node.port_bytes node.kind
-part_opening plan p None = let k = p - length plan.nodes in part.Line (line_opening plan k (slice_get (lines_of plan) k))
+abbrev pub equipment_opening : Plan → ℕ → Option NodePlan → Equipment
+equipment_opening plan p (Some node) = node_opening plan p node.port_bytes node.kind
+equipment_opening plan p None = let k = p - length plan.nodes in equipment.Line (line_opening plan k (slice_get (lines_of plan) k))
 
 -- process p, whose first message has the number 0
 abbrev pub opening : Plan → ℕ → NodeState
 opening plan p = record {
   sender = record { number = p; until = plan.until; counter = 0 };
-  part = part_opening plan p (slice_get plan.nodes p);
+  equipment = equipment_opening plan p (slice_get plan.nodes p);
 }

@@ -2,8 +2,8 @@
 use Rattle.std.specs.Prelude.{ℕ, ◌<◌, ◌≤◌, IfSome}
 use Rattle.std.specs.List.{All}
 use Rattle.nodes.specs.declared.ports.Wire.{Wire}
-use Rattle.nodes.specs.declared.part.Part.{Part}
-use Rattle.nodes.specs.declared.part.Part.TheVariants.{EndSystem, Switch, Line}
+use Rattle.nodes.specs.declared.equipment.Equipment.{Equipment}
+use Rattle.nodes.specs.declared.equipment.Equipment.TheVariants.{EndSystem, Switch, Line}
 use Rattle.nodes.specs.rules.Ports.{PortsState}
 use Rattle.nodes.specs.rules.Node.{NodeState}
 
@@ -12,19 +12,19 @@ abbrev pub AllWires : (Wire → Type 0) → PortsState → Type 0
 AllWires P ports = All (λ slot. IfSome slot (λ outlet. P outlet.wire)) ports
 
 -- each delay is at least 1 ns: of a byte on the wire, between two releases of a regulator, through a switch and over a line
-abbrev pub IsPlacedPart : Part → Type 0
-IsPlacedPart (EndSystem s) = AllWires (λ wire. 1 ≤ wire.byte_ns) s.ports × All (λ source. 1 ≤ source.regulator.bag) s.sources
-IsPlacedPart (Switch s) = AllWires (λ wire. 1 ≤ wire.byte_ns) s.ports × (1 ≤ s.latency)
-IsPlacedPart (Line s) = 1 ≤ s.propagation
+abbrev pub IsPlacedEquipment : Equipment → Type 0
+IsPlacedEquipment (EndSystem s) = AllWires (λ wire. 1 ≤ wire.byte_ns) s.ports × All (λ source. 1 ≤ source.regulator.bag) s.sources
+IsPlacedEquipment (Switch s) = AllWires (λ wire. 1 ≤ wire.byte_ns) s.ports × (1 ≤ s.latency)
+IsPlacedEquipment (Line s) = 1 ≤ s.propagation
 
 abbrev pub IsPlaced : NodeState → Type 0
-IsPlaced s = IsPlacedPart s.part
+IsPlaced s = IsPlacedEquipment s.equipment
 
 -- the node is one of that many processes, and so is each that it sends to: its lines, or the far node of a line
-abbrev pub IsWiredPart : ℕ → Part → Type 0
-IsWiredPart processes (EndSystem s) = AllWires (λ wire. wire.line < processes) s.ports
-IsWiredPart processes (Switch s) = AllWires (λ wire. wire.line < processes) s.ports
-IsWiredPart processes (Line s) = s.to < processes
+abbrev pub IsWiredEquipment : ℕ → Equipment → Type 0
+IsWiredEquipment processes (EndSystem s) = AllWires (λ wire. wire.line < processes) s.ports
+IsWiredEquipment processes (Switch s) = AllWires (λ wire. wire.line < processes) s.ports
+IsWiredEquipment processes (Line s) = s.to < processes
 
 abbrev pub IsWired : ℕ → NodeState → Type 0
-IsWired processes s = (s.sender.number < processes) × IsWiredPart processes s.part
+IsWired processes s = (s.sender.number < processes) × IsWiredEquipment processes s.equipment

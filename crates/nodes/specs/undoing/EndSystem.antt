@@ -18,15 +18,15 @@ use Rattle.output_port.specs.declared.event.PutRecord.{PutRecord}
 use Rattle.integrity.specs.Integrity.{integrity}
 use Rattle.integrity.specs.declared.checking.Checked.{Checked}
 use Rattle.integrity.specs.declared.checking.Checked.TheVariants as check
-use Rattle.nodes.specs.declared.part_record.PartRecord.{PartRecord}
-use Rattle.nodes.specs.declared.part_record.PartRecord.TheVariants as kept
+use Rattle.nodes.specs.declared.equipment_record.EquipmentRecord.{EquipmentRecord}
+use Rattle.nodes.specs.declared.equipment_record.EquipmentRecord.TheVariants as kept
 use Rattle.nodes.specs.declared.vl_end.VlEnd.{VlEnd}
 use Rattle.nodes.specs.declared.receiving.Receiving.{Receiving}
 use Rattle.nodes.specs.declared.source.Source.{Source}
-use Rattle.nodes.specs.declared.sink.Sink.{Sink}
+use Rattle.nodes.specs.declared.reception.Reception.{Reception}
 use Rattle.nodes.specs.rules.Finding.{Found}
 use Rattle.nodes.specs.rules.Ports.{PortsState, exists}
-use Rattle.nodes.specs.rules.EndSystem.{EndSystemState, source_at, sink_at, is_on, port_of, copied, check_of, with_check, offered_frame, end_system}
+use Rattle.nodes.specs.rules.EndSystem.{EndSystemState, source_at, reception_at, is_on, port_of, copied, check_of, with_check, offered_frame, end_system}
 use Rattle.nodes.specs.undoing.Ports.{port_kept, port_put_kept, restored, unput, IsPortValue}
 
 -- a copy is put to the port of its network
@@ -34,14 +34,14 @@ abbrev pub copied_kept : VlEnd → Net → Frame → PortsState → Option PutRe
 copied_kept end net frame ports = if is_on end net then port_put_kept (port_of net) (record frame { net = net }) Low ports else None
 
 -- a regulator is asked to do something, and both copies of the frame that it releases go out
-abbrev pub regulated_kept_by : RegRecord → VlEnd → RegAnswer → PortsState → PartRecord
+abbrev pub regulated_kept_by : RegRecord → VlEnd → RegAnswer → PortsState → EquipmentRecord
 regulated_kept_by k end (answer.Released frame) ports =
     kept.Regulated (copied_kept end A frame ports) (copied_kept end B frame (copied end A frame ports)) k
 regulated_kept_by k end answer.Kept ports = kept.Regulated None None k
 regulated_kept_by k end answer.Dropped ports = kept.Regulated None None k
 regulated_kept_by k end answer.Nothing ports = kept.Regulated None None k
 
-abbrev pub regulated_kept : RegEvent → EndSystemState → Option (Found Source) → PartRecord
+abbrev pub regulated_kept : RegEvent → EndSystemState → Option (Found Source) → EquipmentRecord
 regulated_kept e s None = kept.Nothing
 regulated_kept e s (Some found) =
     let source = found.entry in
@@ -52,18 +52,18 @@ abbrev pub delivery_kept : Receiving → Checked → Option (Option (ℕ × ℕ)
 delivery_kept r check.Refused = None
 delivery_kept r check.Passed = Some r.redundancy.last
 
-abbrev pub taken_kept : Frame → Option (Found Sink) → PartRecord
+abbrev pub taken_kept : Frame → Option (Found Reception) → EquipmentRecord
 taken_kept frame None = kept.Nothing
 taken_kept frame (Some found) =
     let receiving = found.entry.receiving in
     let check = check_of frame.net receiving in
     kept.Received check (delivery_kept receiving (integrity.out check frame.number))
 
-abbrev pub end_system_kept : ℕ → Body → EndSystemState → PartRecord
+abbrev pub end_system_kept : ℕ → Body → EndSystemState → EquipmentRecord
 end_system_kept t (body.Offer vl size sub) s = regulated_kept (Offer t sub (offered_frame t vl size)) s (source_at s vl)
 end_system_kept t (body.Release vl) s = regulated_kept (Release t) s (source_at s vl)
 end_system_kept t (body.PortFree q) s = kept.Port (port_kept q Free s.ports)
-end_system_kept t (body.Arrive q frame) s = if exists s.ports q then taken_kept frame (sink_at s frame.vl frame.net) else kept.Nothing
+end_system_kept t (body.Arrive q frame) s = if exists s.ports q then taken_kept frame (reception_at s frame.vl frame.net) else kept.Nothing
 end_system_kept t (body.Enqueue q frame) s = kept.Nothing
 end_system_kept t (body.Carry frame) s = kept.Nothing
 
@@ -75,7 +75,7 @@ unregulated_by k a b s (Some found) = record s {
   ports = unput 0 a (unput 1 b s.ports);
 }
 
-abbrev pub unregulated : VlId → PartRecord → EndSystemState → EndSystemState
+abbrev pub unregulated : VlId → EquipmentRecord → EndSystemState → EndSystemState
 unregulated vl (kept.Regulated a b k) s = unregulated_by k a b s (source_at s vl)
 unregulated vl kept.Nothing s = s
 unregulated vl (kept.Port k) s = s
@@ -83,7 +83,7 @@ unregulated vl (kept.Received c d) s = s
 unregulated vl (kept.Policed k) s = s
 
 -- before the frame of port q left
-abbrev pub unfreed : ℕ → PartRecord → EndSystemState → EndSystemState
+abbrev pub unfreed : ℕ → EquipmentRecord → EndSystemState → EndSystemState
 unfreed q (kept.Port k) s = record s { ports = restored q k s.ports }
 unfreed q kept.Nothing s = s
 unfreed q (kept.Regulated a b k) s = s
@@ -95,20 +95,20 @@ abbrev pub unreceived : Net → Option ℕ → Option (Option (ℕ × ℕ)) → 
 unreceived net c None r = with_check net c r
 unreceived net c (Some last) r = with_check net c (record r { redundancy = record r.redundancy { last = last } })
 
-abbrev pub untaken_by : Frame → Option ℕ → Option (Option (ℕ × ℕ)) → EndSystemState → Option (Found Sink) → EndSystemState
+abbrev pub untaken_by : Frame → Option ℕ → Option (Option (ℕ × ℕ)) → EndSystemState → Option (Found Reception) → EndSystemState
 untaken_by frame c d s None = s
 untaken_by frame c d s (Some found) = record s {
-  sinks = slice_set s.sinks found.place (record found.entry { receiving = unreceived frame.net c d found.entry.receiving });
+  receptions = slice_set s.receptions found.place (record found.entry { receiving = unreceived frame.net c d found.entry.receiving });
 }
 
-abbrev pub untaken : Frame → PartRecord → EndSystemState → EndSystemState
-untaken frame (kept.Received c d) s = untaken_by frame c d s (sink_at s frame.vl frame.net)
+abbrev pub untaken : Frame → EquipmentRecord → EndSystemState → EndSystemState
+untaken frame (kept.Received c d) s = untaken_by frame c d s (reception_at s frame.vl frame.net)
 untaken frame kept.Nothing s = s
 untaken frame (kept.Regulated a b k) s = s
 untaken frame (kept.Port k) s = s
 untaken frame (kept.Policed k) s = s
 
-abbrev pub end_system_restored : Body → PartRecord → EndSystemState → EndSystemState
+abbrev pub end_system_restored : Body → EquipmentRecord → EndSystemState → EndSystemState
 end_system_restored (body.Offer vl size sub) k s = unregulated vl k s
 end_system_restored (body.Release vl) k s = unregulated vl k s
 end_system_restored (body.PortFree q) k s = unfreed q k s
@@ -141,5 +141,5 @@ IsEndSystemValue t (body.Enqueue q frame) s = ⊤
 IsEndSystemValue t (body.Carry frame) s = ⊤
 
 -- the end system now and the record came from this message
-abbrev pub EndSystemCameFrom : ℕ → ℕ → Body → EndSystemState → PartRecord → Type 0
+abbrev pub EndSystemCameFrom : ℕ → ℕ → Body → EndSystemState → EquipmentRecord → Type 0
 EndSystemCameFrom n t body now k = (s : EndSystemState) × IsEndSystemValue t body s × (now ≡ (end_system n t body s).state) × (k ≡ end_system_kept t body s)

@@ -2,13 +2,13 @@
 //! Where a proof told a fact there, it is tested here.
 mod acts;
 mod committing;
-mod counted;
 mod ends;
 mod order;
 mod past;
 mod process;
 mod rollback;
 mod sorted;
+mod tallied;
 mod tally;
 
 pub(crate) use process::Second;

@@ -17,5 +17,5 @@ pub returns-clause-undone : goal.returns-clause-undone
 returns-clause-undone g c r good law opening part w = undo_all-well r (λ s. good s ≡ true) opening law part w
 
 pub returns-clause-sent_once : goal.returns-clause-sent_once
-returns-clause-sent_once g c r O numbered counted opening ms m =
-    sent-once r O (λ s. Unit {0}) (λ s e u. tt) (λ s u e. numbered s e) (λ s u e. counted s e) opening tt ms m
+returns-clause-sent_once g c r O numbered counter_grows opening ms m =
+    sent-once r O (λ s. Unit {0}) (λ s e u. tt) (λ s u e. numbered s e) (λ s u e. counter_grows s e) opening tt ms m

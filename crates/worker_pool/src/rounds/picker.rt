@@ -2,13 +2,13 @@
 use super::hint::Hint;
 use super::schedule::{Call, Schedule};
 use crate::network_run::NetworkRun;
-use crossbeam_deque::Worker;
+use crossbeam_deque::Worker as Hints;
 
 /// What a worker has for itself: its hints, where its list begins and ends, and the least moment that this round leaves on it, in ns.
 #[derive(Drop)]
 pub(crate) struct Picker<J: NetworkRun> {
     pub worker: usize,
-    pub hints: Worker<Hint<J>>,
+    pub hints: Hints<Hint<J>>,
     pub from: usize,
     pub to: usize,
     pub left_ns: u64,

@@ -56,7 +56,7 @@ impl<'s, 'a, J: NetworkRun, G: Gate, T: Wait> Worker<'s, 'a, J, G, T> {
         Ok(())
     }
 
-    /// Whether GVT is past the end, or the flag is set.
+    /// Whether GVT is beyond the end, or the flag is set.
     fn is_over(&self) -> bool {
         self.schedule.gvt_ns() > self.locks.until.ns() || self.stop.load(Ordering::SeqCst)
     }
@@ -173,7 +173,7 @@ impl<'s, 'a, J: NetworkRun, G: Gate, T: Wait> Worker<'s, 'a, J, G, T> {
         }
     }
 
-    /// Turns of the processes that it holds, up to the limit, in ns; what the workers tell one another of them, and the parts of the trace that
+    /// Turns of the processes that it holds, up to the limit, in ns; what the workers tell one another of them, and the segments of the trace that
     /// they can give. Then it holds none. Where the flag is set they get no turn.
     fn give_turns(&mut self, batch: &mut Batch<'s, 'a, J>, limit_ns: u64) -> Result<(), PoolFault> {
         if self.stop.load(Ordering::SeqCst) {
@@ -188,20 +188,24 @@ impl<'s, 'a, J: NetworkRun, G: Gate, T: Wait> Worker<'s, 'a, J, G, T> {
         }
         post_for(self.rt, batch, self.exchange)?;
         self.picker.call_all(self.calls.as_slice(), self.schedule);
-        self.give_parts(batch, limit_ns)?;
+        self.give_segments(batch, limit_ns)?;
         batch.clear();
         self.schedule.turned();
         Ok(())
     }
 
-    /// The parts of the trace that the processes can give go to its desk.
-    fn give_parts(&mut self, batch: &mut Batch<'s, 'a, J>, limit_ns: u64) -> Result<(), PoolFault> {
+    /// The segments of the trace that the processes can give go to its desk.
+    fn give_segments(
+        &mut self,
+        batch: &mut Batch<'s, 'a, J>,
+        limit_ns: u64,
+    ) -> Result<(), PoolFault> {
         let Some(trace) = &self.locks.trace else {
             return Ok(());
         };
         self.calls.clear();
         for locked in batch.iter_mut() {
-            trace.give_parts(self.rt, &mut *locked)?;
+            trace.give_segments(self.rt, &mut *locked)?;
             add_call(&mut self.calls, trace.call(&*locked, limit_ns))?;
         }
         self.picker.call_all(self.calls.as_slice(), self.schedule);

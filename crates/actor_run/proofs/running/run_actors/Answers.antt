@@ -5,12 +5,12 @@ use Rattle.actor_run.specs.declared.fault.SimFault.TheVariants.{OutOfMemory, Exh
 use Rattle.vlink.specs.Letters.{Row}
 use Rattle.reverse.specs.Setting.{simulation_of}
 use Rattle.actor_run.specs.Running.{IsWholeRun}
-use Rattle.actor_run.proofs.Turning.{begun, started}
+use Rattle.actor_run.proofs.Handling.{begun, started}
 use Rattle.actor_run.proofs.Errors.{after-error}
 use Rattle.actor_run.proofs.running.run_actors.Goals as goal
 
-pub take_all_turns-requires : goal.take_all_turns-requires
-take_all_turns-requires g c = (
+pub handle_all-requires : goal.handle_all-requires
+handle_all-requires g c = (
   [],
   c.none-all.ensures,
   (
@@ -24,41 +24,41 @@ take_all_turns-requires g c = (
 pub returns-in_err-waiting-clause-left : goal.returns-in_err-waiting-clause-left
 returns-in_err-waiting-clause-left g c = after-error (λ x o L. begun (rules_of g.A.Reversible.plain g.A.Actor.counter) x _ c.args.offers.now o) c.from_residual.result
 
-pub returns-in_err-take_all_turns-clause-exhausted : goal.returns-in_err-take_all_turns-clause-exhausted
-returns-in_err-take_all_turns-clause-exhausted g c = λ e x o L.
-    let p = err_from_is_err_and c.from_residual-in_err-take_all_turns.result c.from_residual-in_err-take_all_turns.ensures.1 in
-    let q : p.0 ≡ c.in_err-take_all_turns.field-0.0 = p.2 in
-    let w : c.take_all_turns.result ≡ Err c.in_err-take_all_turns.field-0.0 = c.in_err-take_all_turns.was in
-    let k : c.take_all_turns.result ≡ Err Exhausted = cc in
-    c.take_all_turns.ensures.exhausted k [] c.none-all.ensures x L 0
+pub returns-in_err-handle_all-clause-exhausted : goal.returns-in_err-handle_all-clause-exhausted
+returns-in_err-handle_all-clause-exhausted g c = λ e x o L.
+    let p = err_from_is_err_and c.from_residual-in_err-handle_all.result c.from_residual-in_err-handle_all.ensures.1 in
+    let q : p.0 ≡ c.in_err-handle_all.field-0.0 = p.2 in
+    let w : c.handle_all.result ≡ Err c.in_err-handle_all.field-0.0 = c.in_err-handle_all.was in
+    let k : c.handle_all.result ≡ Err Exhausted = cc in
+    c.handle_all.ensures.exhausted k [] c.none-all.ensures x L 0
     (started (rules_of g.A.Reversible.plain g.A.Actor.counter) x _ c.args.offers.now _ [] o c.in_ok-waiting.ensures.offered refl)
 
-pub returns-in_err-take_all_turns-clause-left : goal.returns-in_err-take_all_turns-clause-left
-returns-in_err-take_all_turns-clause-left g c = after-error (λ x o L.
-    c.in_err-take_all_turns.ensures.left [] c.none-all.ensures x L 0
+pub returns-in_err-handle_all-clause-left : goal.returns-in_err-handle_all-clause-left
+returns-in_err-handle_all-clause-left g c = after-error (λ x o L.
+    c.in_err-handle_all.ensures.left [] c.none-all.ensures x L 0
     (started (rules_of g.A.Reversible.plain g.A.Actor.counter) x _ c.args.offers.now _ [] o c.in_ok-waiting.ensures.offered refl))
-    c.from_residual-in_err-take_all_turns.result
+    c.from_residual-in_err-handle_all.result
 
 pub returns-clause-whole : goal.returns-clause-whole
 returns-clause-whole g c = λ x o L.
     let f = simulation_of (rules_of g.A.Reversible.plain g.A.Actor.counter) x in
-    let whole = c.in_ok-take_all_turns.ensures.whole [] c.none-all.ensures x L 0
+    let whole = c.in_ok-handle_all.ensures.whole [] c.none-all.ensures x L 0
     (started (rules_of g.A.Reversible.plain g.A.Actor.counter) x _ c.args.offers.now _ [] o c.in_ok-waiting.ensures.offered refl) in
-    subst (λ (rows : List Row). IsWholeRun f rows c.take_all_turns.new.actors) (sym whole.1) whole.2
+    subst (λ (rows : List Row). IsWholeRun f rows c.handle_all.new.actors) (sym whole.1) whole.2
 
 pub returns-in_err-waiting-clause-memory : goal.returns-in_err-waiting-clause-memory
 returns-in_err-waiting-clause-memory g c = λ e x o L. inl refl
 
-pub returns-in_err-take_all_turns-clause-memory : goal.returns-in_err-take_all_turns-clause-memory
-returns-in_err-take_all_turns-clause-memory g c = λ e x o L.
-    let p = err_from_is_err_and c.from_residual-in_err-take_all_turns.result c.from_residual-in_err-take_all_turns.ensures.1 in
-    let q : p.0 ≡ c.in_err-take_all_turns.field-0.0 = p.2 in
-    let w : c.take_all_turns.result ≡ Err c.in_err-take_all_turns.field-0.0 = c.in_err-take_all_turns.was in
-    let k : c.take_all_turns.result ≡ Err OutOfMemory = cc in
-    inr (c.take_all_turns.ensures.memory k [] c.none-all.ensures x L 0
+pub returns-in_err-handle_all-clause-memory : goal.returns-in_err-handle_all-clause-memory
+returns-in_err-handle_all-clause-memory g c = λ e x o L.
+    let p = err_from_is_err_and c.from_residual-in_err-handle_all.result c.from_residual-in_err-handle_all.ensures.1 in
+    let q : p.0 ≡ c.in_err-handle_all.field-0.0 = p.2 in
+    let w : c.handle_all.result ≡ Err c.in_err-handle_all.field-0.0 = c.in_err-handle_all.was in
+    let k : c.handle_all.result ≡ Err OutOfMemory = cc in
+    inr (c.handle_all.ensures.memory k [] c.none-all.ensures x L 0
     (started (rules_of g.A.Reversible.plain g.A.Actor.counter) x _ c.args.offers.now _ [] o c.in_ok-waiting.ensures.offered refl))
 
 pub returns-clause-numbers : goal.returns-clause-numbers
 returns-clause-numbers g c = λ x o L.
-    c.in_ok-take_all_turns.ensures.numbers [] c.none-all.ensures x L 0
+    c.in_ok-handle_all.ensures.numbers [] c.none-all.ensures x L 0
     (started (rules_of g.A.Reversible.plain g.A.Actor.counter) x _ c.args.offers.now _ [] o c.in_ok-waiting.ensures.offered refl)

@@ -10,19 +10,19 @@ pub returns-clause-done : goal.returns-clause-done
 returns-clause-done g c =
     let outside = g.H.Host.outside in
     let before = c.args.host.now in
-    let begun = c.account_in.new.host in
-    let after = c.show_account.new.host in
-    let account = c.in_ok-account.account in
-    let told = c.in_ok-account.ensures.told in
-    let same = c.account_in.ensures.host in
-    let tables = tables_text c.args.network account.tables in
-    let line = string_bytes account.line in
-    on_three c.show_account.result c.show_account.ensures.left c.show_account.ensures.tables c.show_account.ensures.line (λ left shown spoken. (
+    let begun = c.conclusion_in.new.host in
+    let after = c.show_conclusion.new.host in
+    let conclusion = c.in_ok-conclusion.conclusion in
+    let told = c.in_ok-conclusion.ensures.told in
+    let same = c.conclusion_in.ensures.host in
+    let tables = tables_text c.args.network conclusion.tables in
+    let line = string_bytes conclusion.line in
+    on_three c.show_conclusion.result c.show_conclusion.ensures.left c.show_conclusion.ensures.tables c.show_conclusion.ensures.line (λ left shown spoken. (
       tables,
       line,
-      (told.0, account, subst (λ (path : List ℕ). outside.gives before path (Some told.0)) c.as_str.ensures.value told.1, told.2, refl, refl),
+      (told.0, conclusion, subst (λ (path : List ℕ). outside.gives before path (Some told.0)) c.as_str.ensures.value told.1, told.2, refl, refl),
       subst (λ host. Shows outside host after tables) same
-          (subst (λ plan. Shows outside begun after (tables_text plan account.tables)) c.in_ok-account.ensures.network shown),
+          (subst (λ plan. Shows outside begun after (tables_text plan conclusion.tables)) c.in_ok-conclusion.ensures.network shown),
       subst (λ host. Says outside host after line) same spoken,
       subst (λ host. ShowsBoth outside host after) same left,
     ))
@@ -30,5 +30,5 @@ returns-clause-done g c =
 pub returns-clause-fault : goal.returns-clause-fault
 returns-clause-fault g c =
     let outside = g.H.Host.outside in
-    err_then c.show_account.result c.show_account.ensures.fault (λ fault is.
-    inr (subst (λ host. IsFaultOfOutput outside.unshown (outside.output host) (outside.output c.show_account.new.host) fault) c.account_in.ensures.host is))
+    err_then c.show_conclusion.result c.show_conclusion.ensures.fault (λ fault is.
+    inr (subst (λ host. IsFaultOfOutput outside.unshown (outside.output host) (outside.output c.show_conclusion.new.host) fault) c.conclusion_in.ensures.host is))

@@ -1,5 +1,5 @@
 use Rattle.std.proofs.Common.{refl}
-use Rattle.trace_parts.specs.Text.{trace_text}
+use Rattle.trace_segments.specs.Text.{trace_text}
 use Rattle.afdxsim.specs.Sequencing.{IsTraceText}
 use Rattle.afdxsim.proofs.Leaving.{written}
 use Rattle.afdxsim.proofs.run.simulate_with_trace.Goals as goal

@@ -52,7 +52,7 @@ n1 => + [[vl]]; => 2 Missing at vl 2 id
 n3 => id = 2; ->  => 2 Missing at vl 2 id
 "#;
 
-/// Each key with a value of another kind, sections that are no lists, and rows that are no tables.
+/// Each key with a value of another type, sections that are no lists, and rows that are no tables.
 pub const KINDS: &str = r#"
 n1 => 2000000 -> "2000000" => 3 WrongKind at top until_ns
 n1 => 2000000 -> 2000000.0 => 3 WrongKind at top until_ns

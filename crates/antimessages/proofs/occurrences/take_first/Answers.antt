@@ -8,7 +8,7 @@ use Rattle.virtual_time.specs.declared.letter.Sign.TheVariants.{Plus}
 use Rattle.antimessages.specs.declared.occurrence.Occurrence.{Occurrence}
 use Rattle.antimessages.specs.Occurrences.{occurrence_of, occurrence_cmp}
 use Rattle.antimessages.proofs.Beginning.{begins-one, begins-first, first-more}
-use Rattle.antimessages.proofs.Entering.{IsOneMore, counts-more, take-counted}
+use Rattle.antimessages.proofs.Entering.{IsOneMore, counts-more, take-tallied}
 use Rattle.antimessages.proofs.occurrences.take_first.Goals as goal
 
 pub returns-clause-one : goal.returns-clause-one
@@ -17,8 +17,8 @@ returns-clause-one c = λ _.
     let up = subst (λ (f : Occurrence → Occurrence → Ordering). IsStrictlySortedBy f (keys c.args.signs.now)) w.written c.len-len.ensures.ordered in
     begins-one w.total w.occurrences w.exact c.args.message.now c.args.signs.now.entries c.requires up (c.if-not-begins_with_one.ensures refl)
 
-pub returns-clause-counted : goal.returns-clause-counted
-returns-clause-counted c =
+pub returns-clause-tallied : goal.returns-clause-tallied
+returns-clause-tallied c =
     let w = c.occurrence_order.ensures in
     let m = c.args.message.now in
     let es = c.args.signs.now.entries in
@@ -28,7 +28,7 @@ returns-clause-counted c =
     let begins = c.if-not-begins_with_one.ensures refl in
     let first = begins-first w.total w.occurrences w.exact m es c.requires up begins p fs c.in-Some.ensures.removal in
     let u = subst (λ (f : Occurrence → Occurrence → Ordering). (x : Occurrence) → lookup (is_at (f x)) fs ≡ cond (is_at (f p.0) x) None (lookup (is_at (f x)) es)) w.written c.in-Some.ensures.updates.0 in
-    take-counted w.total w.exact w.messages m 0 Plus fs es c.requires
+    take-tallied w.total w.exact w.messages m 0 Plus fs es c.requires
     (begins-one w.total w.occurrences w.exact m es c.requires up begins)
     (subst (λ (x : Occurrence × Sign). IsOneMore x fs es) first (first-more p es fs c.in-Some.ensures.removal))
     (subst (λ (z : Occurrence × Sign). (x : Occurrence) → lookup (is_at (occurrence_cmp x)) fs ≡ cond (is_at (occurrence_cmp z.0) x) None (lookup (is_at (occurrence_cmp x)) es)) first u)

@@ -51,5 +51,5 @@ pub returns-clause-room : goal.returns-clause-room
 returns-clause-room c = λ p.
     elim (cases_lt p c.loop-receiver.receiver) [
       | inl below ↦ c.loop-receiver.invariant.room p below
-      | inr past ↦ let none = ap length (received-none c.args.letters.now (length c.args.boxes.now.items) p c.requires (omega (arith, c.args.boxes.now.ok.0))) in omega arith
+      | inr beyond ↦ let none = ap length (received-none c.args.letters.now (length c.args.boxes.now.items) p c.requires (omega (arith, c.args.boxes.now.ok.0))) in omega arith
     ]

@@ -23,6 +23,6 @@ loop-place-preserved c =
             until = ap (λ (f : Floors). f.until) w.floors-is ∙ (w.lower.ensures.until ∙ old.until);
           }
       | in_default w ↦
-          let past = slice_get-none ls i (sym c.look.ensures ∙ w.in_default.is) in
+          let beyond = slice_get-none ls i (sym c.look.ensures ∙ w.in_default.is) in
           absurd (omega arith)
     ]

@@ -1,5 +1,5 @@
 use Rattle.std.proofs.Common.{List, [], refl, sym, ap, ◌∙◌, subst, arith, map, set}
-use Rattle.virtual_time.specs.Law.{local, after_moves, after_own}
+use Rattle.virtual_time.specs.Law.{after_moves, after_own}
 use Rattle.reverse.specs.Rules.{rules_of}
 use Rattle.reverse.specs.Setting.{simulation_of}
 use Rattle.process_queues.specs.Queues.{StandsFor}

@@ -12,32 +12,32 @@ open-requires-clause-actor g c =
     let x = g.J.ActorRun.setting in
     let given = c.into_iter-actor-iterator.ensures.into_iter_gives in
     let road = YieldsList-from_vec {s = c.into_iter-actor-iterator.result} c.args.actors.items given.0 (given.1 ∙ c.args.actors.ok.0) in
-    let turn = YieldsList-turn road c.loop-actor.yielded c.loop-actor.actor-iterator c.loop-actor.yielded_by c.next.result c.next.new.self c.in-Some.actor c.in-Some.is c.next.ensures.steps in
+    let yields = YieldsList-turn road c.loop-actor.yielded c.loop-actor.actor-iterator c.loop-actor.yielded_by c.next.result c.next.new.self c.in-Some.actor c.in-Some.is c.next.ensures.steps in
     let number : length c.loop-actor.yielded ≡ c.len-number.result = omega arith in
-    actor-opens x.processes x.opening c.args.actors.items c.requires.count c.requires.each (length c.loop-actor.yielded) c.in-Some.actor turn ∙ ap x.opening number
+    actor-opens x.processes x.opening c.args.actors.items c.requires.count c.requires.each (length c.loop-actor.yielded) c.in-Some.actor yields ∙ ap x.opening number
 
 pub overflow_cast-number : goal.overflow_cast-number
 overflow_cast-number g c =
     let given = c.into_iter-actor-iterator.ensures.into_iter_gives in
     let road = YieldsList-from_vec {s = c.into_iter-actor-iterator.result} c.args.actors.items given.0 (given.1 ∙ c.args.actors.ok.0) in
-    let turn = YieldsList-turn road c.loop-actor.yielded c.loop-actor.actor-iterator c.loop-actor.yielded_by c.next.result c.next.new.self c.in-Some.actor c.in-Some.is c.next.ensures.steps in
-    let within : length c.loop-actor.yielded < length g.J.ActorRun.names = omega (arith, turn.0, c.requires.each_name, c.requires.count) in
-    omega (arith, turn.0, c.requires.count, c.requires.few, c.loop-actor.invariant.count)
+    let yields = YieldsList-turn road c.loop-actor.yielded c.loop-actor.actor-iterator c.loop-actor.yielded_by c.next.result c.next.new.self c.in-Some.actor c.in-Some.is c.next.ensures.steps in
+    let within : length c.loop-actor.yielded < length g.J.ActorRun.names = omega (arith, yields.0, c.requires.each_name, c.requires.count) in
+    omega (arith, yields.0, c.requires.count, c.requires.few, c.loop-actor.invariant.count)
 
 pub remove-share-requires : goal.remove-share-requires
 remove-share-requires g c =
     let given = c.into_iter-actor-iterator.ensures.into_iter_gives in
     let road = YieldsList-from_vec {s = c.into_iter-actor-iterator.result} c.args.actors.items given.0 (given.1 ∙ c.args.actors.ok.0) in
-    let turn = YieldsList-turn road c.loop-actor.yielded c.loop-actor.actor-iterator c.loop-actor.yielded_by c.next.result c.next.new.self c.in-Some.actor c.in-Some.is c.next.ensures.steps in
-    let within : length c.loop-actor.yielded < length g.J.ActorRun.names = omega (arith, turn.0, c.requires.each_name, c.requires.count) in
+    let yields = YieldsList-turn road c.loop-actor.yielded c.loop-actor.actor-iterator c.loop-actor.yielded_by c.next.result c.next.new.self c.in-Some.actor c.in-Some.is c.next.ensures.steps in
+    let within : length c.loop-actor.yielded < length g.J.ActorRun.names = omega (arith, yields.0, c.requires.each_name, c.requires.count) in
     omega (arith, some-left g.J.ActorRun.names c.loop-actor.shares.items (length c.loop-actor.yielded) c.loop-actor.invariant.names within, c.loop-actor.shares.ok.0)
 
 pub open-requires-clause-name : goal.open-requires-clause-name
 open-requires-clause-name g c =
     let given = c.into_iter-actor-iterator.ensures.into_iter_gives in
     let road = YieldsList-from_vec {s = c.into_iter-actor-iterator.result} c.args.actors.items given.0 (given.1 ∙ c.args.actors.ok.0) in
-    let turn = YieldsList-turn road c.loop-actor.yielded c.loop-actor.actor-iterator c.loop-actor.yielded_by c.next.result c.next.new.self c.in-Some.actor c.in-Some.is c.next.ensures.steps in
-    let within : length c.loop-actor.yielded < length g.J.ActorRun.names = omega (arith, turn.0, c.requires.each_name, c.requires.count) in
+    let yields = YieldsList-turn road c.loop-actor.yielded c.loop-actor.actor-iterator c.loop-actor.yielded_by c.next.result c.next.new.self c.in-Some.actor c.in-Some.is c.next.ensures.steps in
+    let within : length c.loop-actor.yielded < length g.J.ActorRun.names = omega (arith, yields.0, c.requires.each_name, c.requires.count) in
     let number : length c.loop-actor.yielded ≡ c.len-number.result = omega arith in
     first-name g.J.ActorRun.names c.loop-actor.shares.items (length c.loop-actor.yielded) c.loop-actor.invariant.names within c.remove-share.result c.remove-share.ensures.value ∙ ap (slice_index g.J.ActorRun.names) number
 
@@ -45,16 +45,16 @@ pub open-requires-clause-blank : goal.open-requires-clause-blank
 open-requires-clause-blank g c =
     let given = c.into_iter-actor-iterator.ensures.into_iter_gives in
     let road = YieldsList-from_vec {s = c.into_iter-actor-iterator.result} c.args.actors.items given.0 (given.1 ∙ c.args.actors.ok.0) in
-    let turn = YieldsList-turn road c.loop-actor.yielded c.loop-actor.actor-iterator c.loop-actor.yielded_by c.next.result c.next.new.self c.in-Some.actor c.in-Some.is c.next.ensures.steps in
-    let within : length c.loop-actor.yielded < length g.J.ActorRun.names = omega (arith, turn.0, c.requires.each_name, c.requires.count) in
+    let yields = YieldsList-turn road c.loop-actor.yielded c.loop-actor.actor-iterator c.loop-actor.yielded_by c.next.result c.next.new.self c.in-Some.actor c.in-Some.is c.next.ensures.steps in
+    let within : length c.loop-actor.yielded < length g.J.ActorRun.names = omega (arith, yields.0, c.requires.each_name, c.requires.count) in
     first-blank g.J.ActorRun.names c.loop-actor.shares.items (length c.loop-actor.yielded) c.loop-actor.invariant.names within c.loop-actor.invariant.blanks c.remove-share.result c.remove-share.ensures.value
 
 pub loop-actor-preserved : goal.loop-actor-preserved
 loop-actor-preserved g c =
     let given = c.into_iter-actor-iterator.ensures.into_iter_gives in
     let road = YieldsList-from_vec {s = c.into_iter-actor-iterator.result} c.args.actors.items given.0 (given.1 ∙ c.args.actors.ok.0) in
-    let turn = YieldsList-turn road c.loop-actor.yielded c.loop-actor.actor-iterator c.loop-actor.yielded_by c.next.result c.next.new.self c.in-Some.actor c.in-Some.is c.next.ensures.steps in
-    let within : length c.loop-actor.yielded < length g.J.ActorRun.names = omega (arith, turn.0, c.requires.each_name, c.requires.count) in
+    let yields = YieldsList-turn road c.loop-actor.yielded c.loop-actor.actor-iterator c.loop-actor.yielded_by c.next.result c.next.new.self c.in-Some.actor c.in-Some.is c.next.ensures.steps in
+    let within : length c.loop-actor.yielded < length g.J.ActorRun.names = omega (arith, yields.0, c.requires.each_name, c.requires.count) in
     let x = g.J.ActorRun.setting in
     let pushed = c.push_reserved.ensures.items in
     let number : c.len-number.result ≡ length c.loop-actor.yielded = omega arith in

@@ -1,6 +1,6 @@
 use Rattle.std.proofs.Common.{◌≡◌, ◌<◌, All, map, set, length, ◌++◌, Some, refl, sym, ap, ◌∙◌, subst, arith}
 use Rattle.std.proofs.lemmas.List.{length-map}
-use Rattle.virtual_time.specs.Law.{received_by, emptied, floor_of, local, after_moves, Posted, acts_of, own_in, after_own}
+use Rattle.virtual_time.specs.Law.{received_by, emptied, floor_of, after_moves, Posted, acts_of, own_in, after_own}
 use Rattle.reverse.specs.Rules.{rules_of}
 use Rattle.reverse.specs.Setting.{simulation_of}
 use Rattle.journal.specs.Deeds.{seen_entry}
@@ -47,7 +47,7 @@ invariant_of-held g c =
     let ts = c.exchange.inside.journal.items in
     let block = c.held.inside.block in
     let mine = rw (sym c.held.view_is, sym c.exchange.view_is) at c.join.ensures.own in
-    let before = rw (sym c.held.view_is) at c.past.ensures in
+    let before = rw (sym c.held.view_is) at c.prior.ensures in
     let wrote = c.in-Ok.ensures in
     let new : Fresh g.J.ActorRun.pages ts (told p (place_in c.held.inside.last) (Posted block)) (own_in p (entries_of ts)) c.in-Ok.tokens =
     entry-fresh k.same wrote.at wrote.value refl before.place (before.own ∙ mine) (ap (λ b. Posted b) c.replace.ensures.value) tt in
@@ -80,7 +80,7 @@ invariant_of-exchange-in-Ok g c =
     let mine = rw (sym c.held.view_is, sym c.exchange.view_is) at c.join.ensures.own in
     let part-is = rw (sym c.held.view_is, sym c.exchange.view_is) at c.join.ensures.part in
     let enabled = rw (sym c.held.view_is, sym c.exchange.view_is) at c.join.ensures.enabled in
-    let before = rw (sym c.held.view_is) at c.past.ensures in
+    let before = rw (sym c.held.view_is) at c.prior.ensures in
     let wrote = c.in-Ok.ensures in
     let new : Fresh g.J.ActorRun.pages ts (told p (place_in c.held.inside.last) (Posted block)) (own_in p (entries_of ts)) c.in-Ok.tokens =
     entry-fresh k.same wrote.at wrote.value refl before.place (before.own ∙ mine) (ap (λ b. Posted b) c.replace.ensures.value) tt in
@@ -124,7 +124,7 @@ returns-in-Ok-clause-ok g c =
     let block = c.held.inside.block in
     let seen = c.held.inside.seen in
     let mine = rw (sym c.held.view_is, sym c.exchange.view_is) at c.join.ensures.own in
-    let before = rw (sym c.held.view_is) at c.past.ensures in
+    let before = rw (sym c.held.view_is) at c.prior.ensures in
     let wrote = c.in-Ok.ensures in
     let new : Fresh g.J.ActorRun.pages ts (told p (place_in c.held.inside.last) (Posted block)) (own_in p (entries_of ts)) c.in-Ok.tokens =
     entry-fresh k.same wrote.at wrote.value refl before.place (before.own ∙ mine) (ap (λ b. Posted b) c.replace.ensures.value) tt in

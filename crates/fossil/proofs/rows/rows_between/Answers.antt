@@ -1,7 +1,7 @@
 use Rattle.std.proofs.Common.{sym, ap, ◌∙◌}
 use Rattle.virtual_time.specs.Law.{rowed}
 use Rattle.reverse.specs.Rules.{rules_of}
-use Rattle.fossil.specs.Within.{is_within, rows_within}
+use Rattle.fossil.specs.Within.{rows_within}
 use Rattle.fossil.proofs.Between.{window, rest-in-time, rows-kept}
 use Rattle.fossil.proofs.rows.rows_between.Goals as goal
 

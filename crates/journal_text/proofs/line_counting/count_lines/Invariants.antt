@@ -6,5 +6,5 @@ use Rattle.journal_text.proofs.line_counting.count_lines.Given as goal
 abbrev pub invariant-loop-byte : goal.invariant-loop-byte
 invariant-loop-byte l = record {
   within : l.count ≤ l.byte-index;
-  counted : l.count + lines_begun l.begins (drop l.byte-index l.text) ≡ length (lines l.text);
+  count_is : l.count + lines_begun l.begins (drop l.byte-index l.text) ≡ length (lines l.text);
 }

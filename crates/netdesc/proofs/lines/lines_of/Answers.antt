@@ -26,17 +26,17 @@ loop-link-preserved c =
     let b_in : link.b < vec_len counts = omega (arith, c.loop-link.invariant.len, ends.1) in
     let a_is : c.port_at-a_port.result ≡ port_at plan (take i links) link.a link.b =
     c.port_at-a_port.ensures ∙ ap (cond (is_end_system plan link.a) (cond (is_switch_of plan A link.b) 0 1))
-    (get_or_read counts.items link.a c.index-a_count.result.now (omega (arith, counts.ok.0)) c.index-a_count.ensures 0 ∙ c.loop-link.invariant.counted link.a a_in) in
+    (get_or_read counts.items link.a c.index-a_count.result.now (omega (arith, counts.ok.0)) c.index-a_count.ensures 0 ∙ c.loop-link.invariant.count_is link.a a_in) in
     let b_is : c.port_at-b_port.result ≡ port_at plan (take i links) link.b link.a =
     c.port_at-b_port.ensures ∙ ap (cond (is_end_system plan link.b) (cond (is_switch_of plan A link.a) 0 1))
-    (get_or_read counts.items link.b c.index-b_count.result.now (omega (arith, counts.ok.0)) c.index-b_count.ensures 0 ∙ c.loop-link.invariant.counted link.b b_in) in
-    let counted : (j : ℕ) → j < vec_len c.count_link.new.counts → get_or c.count_link.new.counts.items j 0 ≡ count_by (touches j) (take (i + 1) links) =
+    (get_or_read counts.items link.b c.index-b_count.result.now (omega (arith, counts.ok.0)) c.index-b_count.ensures 0 ∙ c.loop-link.invariant.count_is link.b b_in) in
+    let count_is : (j : ℕ) → j < vec_len c.count_link.new.counts → get_or c.count_link.new.counts.items j 0 ≡ count_by (touches j) (take (i + 1) links) =
     λ j h. (let before : j < vec_len counts = omega (arith, c.count_link.ensures.len) in
-    c.count_link.ensures.counted j before ∙ ap (λ n. n + cond (touches j link) 1 0) (c.loop-link.invariant.counted j before) ∙ sym (count_by-more (touches j) links i no_link lt)) in
+    c.count_link.ensures.count_is j before ∙ ap (λ n. n + cond (touches j link) 1 0) (c.loop-link.invariant.count_is j before) ∙ sym (count_by-more (touches j) links i no_link lt)) in
     record {
       len = c.count_link.ensures.len ∙ c.loop-link.invariant.len;
-      counted = counted;
-      small = λ j h. omega (arith, counted j h, count_by-le-length (touches j) (take (i + 1) links), length-take-le (i + 1) links (omega arith));
+      count_is = count_is;
+      small = λ j h. omega (arith, count_is j h, count_by-le-length (touches j) (take (i + 1) links), length-take-le (i + 1) links (omega arith));
       made = c.in_ok-push_both.ensures.lines ∙ ap (λ x. x ++ both link c.port_at-a_port.result c.port_at-b_port.result) c.loop-link.invariant.made
           ∙ ap (λ n. each (directions plan) (take i links) ++ both link n c.port_at-b_port.result) a_is
           ∙ ap (λ n. each (directions plan) (take i links) ++ both link (port_at plan (take i links) link.a link.b) n) b_is

@@ -5,5 +5,5 @@ use Rattle.netdesc.proofs.links.link_counts.Given as goal
 abbrev pub invariant-loop-link : goal.invariant-loop-link
 invariant-loop-link l = record {
   len : vec_len l.counts ≡ l.count;
-  counted : (j : ℕ) → j < l.count → get_or l.counts.items j 0 ≡ count_by (touches j) (take l.link-index l.links);
+  count_is : (j : ℕ) → j < l.count → get_or l.counts.items j 0 ≡ count_by (touches j) (take l.link-index l.links);
 }

@@ -10,7 +10,7 @@ use Rattle.netdesc.proofs.reading.network_of.Goals as goal
 pub new-requires : goal.new-requires
 new-requires c =
     let rows = c.args.rows in
-    let parts = c.in_ok-numbered.ensures.1 in
+    let lists = c.in_ok-numbered.ensures.1 in
     record {
       rows = rows;
       within = c.requires;
@@ -19,9 +19,9 @@ new-requires c =
         until = refl;
         seed = refl;
         nodes = ap (map node_plan) c.into_vec.ensures;
-        links = ap (λ p. p.links) parts;
-        outages = ap (λ p. p.outages) parts;
-        vls = subst (λ (before : List VlPlan). IsPermutation before c.sort_vls.new.vls.items) (ap (λ p. p.vls) parts) c.in_ok-sort_vls.ensures.moved;
+        links = ap (λ p. p.links) lists;
+        outages = ap (λ p. p.outages) lists;
+        vls = subst (λ (before : List VlPlan). IsPermutation before c.sort_vls.new.vls.items) (ap (λ p. p.vls) lists) c.in_ok-sort_vls.ensures.moved;
         in_order = c.in_ok-sort_vls.ensures.in_order;
       };
     }
@@ -35,14 +35,14 @@ made-of rows plan (Err fault) stands is refused = inl refused
 pub returns : goal.returns
 returns c =
     let rows = c.args.rows in
-    let parts = c.in_ok-numbered.ensures.1 in
+    let lists = c.in_ok-numbered.ensures.1 in
     made-of rows _ c.new.result (record {
       none = c.in_ok-numbered.ensures.0;
       until = refl;
       seed = refl;
       nodes = ap (map node_plan) c.into_vec.ensures;
-      links = ap (λ p. p.links) parts;
-      outages = ap (λ p. p.outages) parts;
-      vls = subst (λ (before : List VlPlan). IsPermutation before c.sort_vls.new.vls.items) (ap (λ p. p.vls) parts) c.in_ok-sort_vls.ensures.moved;
+      links = ap (λ p. p.links) lists;
+      outages = ap (λ p. p.outages) lists;
+      vls = subst (λ (before : List VlPlan). IsPermutation before c.sort_vls.new.vls.items) (ap (λ p. p.vls) lists) c.in_ok-sort_vls.ensures.moved;
       in_order = c.in_ok-sort_vls.ensures.in_order;
     }) c.new.ensures.made c.new.ensures.memory

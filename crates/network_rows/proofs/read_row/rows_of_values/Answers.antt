@@ -9,6 +9,6 @@ pub row_of_value-requires : goal.row_of_value-requires
 row_of_value-requires g c =
     let given = c.into_iter-value-iterator.ensures.into_iter_gives in
     let road = YieldsList-from_vec {s = c.into_iter-value-iterator.result} c.args.values.items given.0 (given.1 ∙ c.args.values.ok.0) in
-    let turn =
+    let yields =
     YieldsList-turn road c.loop-value.yielded c.loop-value.value-iterator c.loop-value.yielded_by c.next.result c.next.new.self c.in-Some.value c.in-Some.is c.next.ensures.steps in
-    subst (λ v. IsSoundRow g.R.ReadRow.section (view v)) (sym turn.1) (c.requires (length c.loop-value.yielded) c.in-Some.value turn.0)
+    subst (λ v. IsSoundRow g.R.ReadRow.section (view v)) (sym yields.1) (c.requires (length c.loop-value.yielded) c.in-Some.value yields.0)

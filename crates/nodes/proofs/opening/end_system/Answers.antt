@@ -3,23 +3,23 @@ use Rattle.std.specs.Prelude.{All}
 use Rattle.netdesc.specs.Limits.{IsLinkInLimits}
 use Rattle.nodes.specs.declared.meeting.Meeting.{Meeting}
 use Rattle.nodes.specs.rules.Finding.{IsRising}
-use Rattle.nodes.specs.rules.EndSystem.{source_number, sink_number}
-use Rattle.nodes.specs.laws.Making.{number_met, source_met, sink_met}
-use Rattle.nodes.proofs.MakingLemmas.{source-numbers, sink-numbers}
+use Rattle.nodes.specs.rules.EndSystem.{source_number, reception_number}
+use Rattle.nodes.specs.laws.Making.{number_met, source_met, reception_met}
+use Rattle.nodes.proofs.MakingLemmas.{source-numbers, reception-numbers}
 use Rattle.nodes.proofs.OpeningLemmas.{end_system-made}
 use Rattle.nodes.proofs.opening.end_system.Goals as goal
 
-pub sinks_of-requires : goal.sinks_of-requires
-sinks_of-requires c = subst (All (λ (m : Meeting). IsLinkInLimits m.link)) (sym c.deref-2.ensures.value) c.in_ok-received.ensures.limits
+pub receptions_of-requires : goal.receptions_of-requires
+receptions_of-requires c = subst (All (λ (m : Meeting). IsLinkInLimits m.link)) (sym c.deref-2.ensures.value) c.in_ok-received.ensures.limits
 
 pub new-requires-clause-sources : goal.new-requires-clause-sources
 new-requires-clause-sources c =
     let numbers = ap (map source_number) c.in_ok-sources_of.ensures ∙ source-numbers c.deref.result.now ∙ ap (map number_met) c.deref.ensures.value in
     subst IsRising (sym numbers) c.in_ok-sent.ensures.rising
 
-pub new-requires-clause-sinks : goal.new-requires-clause-sinks
-new-requires-clause-sinks c =
-    let numbers = ap (map sink_number) c.in_ok-sinks_of.ensures ∙ sink-numbers c.deref-2.result.now ∙ ap (map number_met) c.deref-2.ensures.value in
+pub new-requires-clause-receptions : goal.new-requires-clause-receptions
+new-requires-clause-receptions c =
+    let numbers = ap (map reception_number) c.in_ok-receptions_of.ensures ∙ reception-numbers c.deref-2.result.now ∙ ap (map number_met) c.deref-2.ensures.value in
     subst IsRising (sym numbers) c.in_ok-received.ensures.rising
 
 pub returns : goal.returns
@@ -27,4 +27,4 @@ returns c =
     let sent = c.deref.ensures.value ∙ c.in_ok-sent.ensures.meetings in
     let received = c.deref-2.ensures.value ∙ c.in_ok-received.ensures.meetings in
     c.new.ensures ∙ end_system-made c.args.network.now c.args.node c.args.bytes _ (c.in_ok-sources_of.ensures ∙ ap (map source_met) sent)
-    (c.in_ok-sinks_of.ensures ∙ ap (map sink_met) received) c.in_ok-ports_of.ensures
+    (c.in_ok-receptions_of.ensures ∙ ap (map reception_met) received) c.in_ok-ports_of.ensures

@@ -13,8 +13,8 @@ loop-k-preserved c =
     let before = c.loop-k.invariant in
     record {
       len = c.note_line.ensures.len ∙ before.len;
-      noted = λ q h. wire_among-more c.args.node q (length plan.nodes) k c.process_of.result (lines_of plan) c.line-line.result (get_or c.loop-k.wires.items q None) (get_or c.note_line.new.wires.items q None)
-          c.line-line.ensures.value c.process_of.ensures (before.noted q h) (c.note_line.ensures.noted q (omega (arith, before.len)));
+      stored = λ q h. wire_among-more c.args.node q (length plan.nodes) k c.process_of.result (lines_of plan) c.line-line.result (get_or c.loop-k.wires.items q None) (get_or c.note_line.new.wires.items q None)
+          c.line-line.ensures.value c.process_of.ensures (before.stored q h) (c.note_line.ensures.stored q (omega (arith, before.len)));
     }
 
 pub returns : goal.returns
@@ -22,7 +22,7 @@ unfolding wires_of
 returns c =
     let plan = c.args.network.now in
     let n = c.args.node in
-    let noted = c.loop-k.invariant.noted in
+    let stored = c.loop-k.invariant.stored in
     let all : take c.loop-k.k (lines_of plan) ≡ lines_of plan = take_all c.loop-k.k (lines_of plan) (omega (arith, c.line_count-k-end.ensures.value)) in
     fill_by_all (λ q. wire_among n q (length plan.nodes) (lines_of plan)) c.loop-k.wires.items c.args.count None (omega (arith, c.loop-k.wires.ok.0, c.loop-k.invariant.len))
-    (λ q h. noted q h ∙ ap (wire_among n q (length plan.nodes)) all)
+    (λ q h. stored q h ∙ ap (wire_among n q (length plan.nodes)) all)

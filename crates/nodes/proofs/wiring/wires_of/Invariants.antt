@@ -6,5 +6,5 @@ use Rattle.nodes.proofs.wiring.wires_of.Given as goal
 abbrev pub invariant-loop-k : goal.invariant-loop-k
 invariant-loop-k l = record {
   len : vec_len l.wires ≡ l.count;
-  noted : (q : ℕ) → q < l.count → get_or l.wires.items q None ≡ wire_among l.node q (length l.network.nodes) (take l.k (lines_of l.network));
+  stored : (q : ℕ) → q < l.count → get_or l.wires.items q None ≡ wire_among l.node q (length l.network.nodes) (take l.k (lines_of l.network));
 }

@@ -12,5 +12,5 @@ returns-clause-sends g c opening part queues h act keeps m =
 pub returns-clause-sent_once : goal.returns-clause-sent_once
 returns-clause-sent_once g c opening events m =
     let actor = c.actor_rules.ensures in
-    sent-once (rules_of g.R.Reversible.plain g.R.Actor.counter) actor.order (λ s. ⊤) (λ s e t. tt) (λ s t e. actor.numbered s e) (λ s t e. actor.counted s e)
+    sent-once (rules_of g.R.Reversible.plain g.R.Actor.counter) actor.order (λ s. ⊤) (λ s e t. tt) (λ s t e. actor.numbered s e) (λ s t e. actor.counter_grows s e)
     opening tt events m

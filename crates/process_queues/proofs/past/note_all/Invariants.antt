@@ -1,4 +1,4 @@
-use Rattle.std.proofs.Common.{◌≡◌, ◌+◌, ◌≤◌, ◌++◌, map, take, length, vec_len, vec_capacity}
+use Rattle.std.proofs.Common.{◌≡◌, ◌+◌, ◌≤◌, ◌++◌, take, length, vec_len, vec_capacity}
 use Rattle.virtual_time.specs.Law.{rows_of}
 use Rattle.vlink.specs.Order.{message_order}
 use Rattle.process_queues.proofs.past.note_all.Given as goal

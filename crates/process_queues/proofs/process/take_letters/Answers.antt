@@ -1,4 +1,4 @@
-use Rattle.std.proofs.Common.{◌++◌, map, take, drop, ap, ◌∙◌, append_assoc, length, length-drop, arith}
+use Rattle.std.proofs.Common.{◌++◌, take, drop, ap, ◌∙◌, append_assoc, length, length-drop, arith}
 use Rattle.antimessages.specs.Mailing.{letters_for}
 use Rattle.process_queues.proofs.Taking.{take-next, drop-next}
 use Rattle.process_queues.proofs.process.take_letters.Goals as goal

@@ -1,4 +1,4 @@
-use Rattle.std.proofs.Common.{◌≡◌, ℕ, ◌+◌, ◌≤◌, ◌++◌, map, take, drop, length}
+use Rattle.std.proofs.Common.{◌≡◌, ℕ, ◌+◌, ◌≤◌, ◌++◌, take, drop, length}
 use Rattle.std.specs.Prelude.{◌≢◌}
 use Rattle.std.specs.VecDeque.{deque_len, deque_capacity}
 use Rattle.antimessages.specs.Mailing.{letters_for}

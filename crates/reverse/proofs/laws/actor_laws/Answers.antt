@@ -33,6 +33,6 @@ returns g c = λ x h.
           let b : g.A.Actor.end s ≡ x.until = reached-has r O x p s (λ t. g.A.Actor.end t ≡ x.until) (λ t u k. g.met.A.Actor.end_stays t u ∙ k) (h.end_is p i) q in
           omega (arith, a, b);
       numbered = λ p i s q e. c.actor_rules.ensures.numbered s e;
-      counted = λ p i s q e. c.actor_rules.ensures.counted s e;
+      counter_grows = λ p i s q e. c.actor_rules.ensures.counter_grows s e;
       undoes = λ p i s q e. c.actor_rules.ensures.undoes s e;
     }

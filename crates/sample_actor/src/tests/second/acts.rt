@@ -10,7 +10,7 @@ use std::process::Abort;
 use vlink::{Letter, Message, Time};
 
 impl Second {
-    // The front letter of the tray is counted. Where its message became present or absent by that, every done event that does not come before
+    // The front letter of the tray is tallied. Where its message became present or absent by that, every done event that does not come before
     // it is undone, the newest first, and what these events sent goes to the outbox as antimessages, the last sent first. The answer is how
     // many events that undid, or none where the tray is empty.
     pub(crate) fn arrive(&mut self, rt: &impl Abort) -> Result<Option<u64>, ProcFault> {
@@ -43,7 +43,7 @@ impl Second {
     // that message, or none where there is none.
     pub(crate) fn run(&mut self) -> Result<Option<Message>, ProcFault> {
         let mut out = Outbound::new(0, Time::default(), 0);
-        // It is handled where it stands among the counted letters, so that no copy of it is made.
+        // It is handled where it stands among the tallied letters, so that no copy of it is made.
         let place = self.tally.first_present(self.ahead);
         let Some(message) = self.tally.message_at(place) else {
             return Ok(None);
@@ -83,7 +83,7 @@ impl Second {
     }
 }
 
-// Whether a letter makes its message neither present nor absent as it is counted.
+// Whether a letter makes its message neither present nor absent as it is tallied.
 fn changes_nothing(tally: &Tally, letter: &Letter) -> bool {
     matches!(tally.change_by(letter), Change::Same)
 }
@@ -97,14 +97,14 @@ fn ahead_of_rest(ahead: usize, left: usize) -> usize {
     ahead.saturating_sub(1)
 }
 
-// The front letter leaves the tray and is counted. There is one, and the tally has room for it. The letters of so many done events most often
+// The front letter leaves the tray and is tallied. There is one, and the tally has room for it. The letters of so many done events most often
 // come before it, and no others. A tray that is left empty begins at its front again.
 fn count_front(tray: &mut VecDeque<Letter>, tally: &mut Tally, done: usize) {
     let Some(letter) = tray.front() else {
         return;
     };
     let _change = tally.count_in(letter, done);
-    let _counted = tray.pop_front();
+    let _tallied = tray.pop_front();
     rewind(tray);
 }
 

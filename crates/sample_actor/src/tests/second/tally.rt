@@ -1,7 +1,7 @@
 //! A tally as a sorted vector: the second body, for comparison.
-use super::counted::{change_at, count_of, first_plus, opposite, place_of_one, stands_at};
 use super::ends::{put_in, take_at, take_out};
 use super::sorted::{place_after, place_behind, place_of, place_to_enter};
+use super::tallied::{change_at, count_of, first_plus, opposite, place_of_one, stands_at};
 use antimessages::{Change, OutOfMemory};
 use std::alloc::Global;
 use std::collections::VecDeque;
@@ -75,7 +75,7 @@ impl Tally {
         Ok(())
     }
 
-    // The letter is counted: its message's count rises by 1 for a plus and falls by 1 for a minus, also below 0. The answer tells whether
+    // The letter is tallied: its message's count rises by 1 for a plus and falls by 1 for a minus, also below 0. The answer tells whether
     // the message became present or absent by that. It is looked for behind all letters first, and then behind `guess` letters.
     pub(super) fn count_in(
         &mut self,

@@ -1,7 +1,7 @@
 use Rattle.std.proofs.Common.{refl, sym, subst, arith}
 use Rattle.nodes.specs.rules.Simulation.{simulation_of}
-use Rattle.trace_parts.specs.Places.{gathered}
-use Rattle.trace_parts.specs.Ordered.{AreInMessageOrder}
+use Rattle.trace_segments.specs.Places.{gathered}
+use Rattle.trace_segments.specs.Ordered.{AreInMessageOrder}
 use Rattle.seqsim.proofs.CommittedRows.{rows-gathered, rows-all}
 use Rattle.seqsim.proofs.OneThreadRows.{one-ordered}
 use Rattle.seqsim.proofs.RowsByProcess.{ordered-rows, ordered-committed}
@@ -29,7 +29,7 @@ pub returns-clause-finished : goal.returns-clause-finished
 returns-clause-finished c steps finished rows ordered committed up same =
     let f = simulation_of c.args.network.now in
     let whole = c.headline.ensures.whole f c.network_laws.ensures steps finished in (
-      whole.turns,
+      whole.event_count,
       whole.none_waits,
       ordered-committed f c.network_laws.ensures c.message_order.ensures.total (λ a b. refl) (λ m. refl) c.rows_by_place.ensures.by_event c.rows_by_place.ensures.events
           steps whole rows ordered committed up same,

@@ -8,11 +8,11 @@ use Rattle.trace_tables.specs.Tables.{TableLists, tables_of}
 use Rattle.seqsim.specs.Networks.{AreRowsOf, setting_of}
 use Rattle.seqsim.proofs.NetworkLemmas.{opened}
 use Rattle.seqsim.proofs.RowLemmas.{same-rows}
-use Rattle.actor_run.proofs.Turning.{started}
+use Rattle.actor_run.proofs.Handling.{started}
 use Rattle.seqsim.proofs.tables.run_tables.Goals as goal
 
-pub count_all_turns-requires : goal.count_all_turns-requires
-count_all_turns-requires g c =
+pub count_all-requires : goal.count_all-requires
+count_all-requires g c =
     let plan = c.args.network.now in
     started (simulation_of plan).rules (setting_of plan) c.deref_mut.result.now c.in_ok-offers.offers.items c.in_ok-waiting.waiting []
     (opened plan _ _ _ _ c.deref_mut.ensures.value refl c.in_ok-nodes.ensures c.in_ok-offers.ensures) c.in_ok-waiting.ensures.offered refl
@@ -29,4 +29,4 @@ each-of plan L (Ok tables) some = λ rows r. some.2 ∙ ap (tables_of plan) (sam
 each-of plan L (Err fault) some = some
 
 pub returns-clause-each : goal.returns-clause-each
-returns-clause-each g c = each-of c.args.network.now c.network_laws.ensures c.count_all_turns.result c.count_all_turns.ensures.whole
+returns-clause-each g c = each-of c.args.network.now c.network_laws.ensures c.count_all.result c.count_all.ensures.whole

@@ -56,7 +56,7 @@ loop-step-preserved c =
       replayed = subst (IsReplayed c.do_step.new.self) (sym (take_more steps i (Take 0 0) (omega (arith, c.loop-step-test.true))))
           (c.in_ok-do_step.ensures.replayed (take i steps) c.loop-step.invariant.replayed);
       network = c.do_step.ensures.network ∙ c.loop-step.invariant.network;
-      counted = let a = c.in_ok-do_step.ensures.counted in let b = c.loop-step.invariant.counted in omega arith;
+      totals = let a = c.in_ok-do_step.ensures.totals in let b = c.loop-step.invariant.totals in omega arith;
       numbered = λ n x near here exhausted.
           elim (cases_lt n i) [
             | inl before ↦ c.loop-step.invariant.numbered n x before here exhausted

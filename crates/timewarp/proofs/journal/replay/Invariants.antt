@@ -11,7 +11,7 @@ invariant-loop-step l =
     record {
       replayed : IsReplayed l.replay (take l.step-index l.steps);
       network : l.replay.world.plan ≡ l.fn.network;
-      counted : l.replay.did + l.replay.not_enabled + l.replay.refused ≡ l.step-index;
+      totals : l.replay.did + l.replay.not_enabled + l.replay.refused ≡ l.step-index;
       numbered : (n : ℕ) (x : Step) → n < l.step-index → slice_get l.steps n ≡ Some x →
           ¬ (IsExhausted (simulation_of l.fn.network) x (after l.fn.network (take n l.steps)));
     }

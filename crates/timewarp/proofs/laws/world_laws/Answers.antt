@@ -25,4 +25,4 @@ pub returns-clause-outboxes : goal.returns-clause-outboxes
 returns-clause-outboxes c steps p m h = c.headline.ensures.outboxes _ c.network_laws.ensures steps p m h
 
 pub returns-clause-rows : goal.returns-clause-rows
-returns-clause-rows c turns p = c.headline.ensures.rows _ c.network_laws.ensures turns p
+returns-clause-rows c event_count p = c.headline.ensures.rows _ c.network_laws.ensures event_count p

@@ -1,6 +1,6 @@
-use Rattle.trace_parts.specs.Places.{gathered}
+use Rattle.trace_segments.specs.Places.{gathered}
 use Rattle.trace_tables.proofs.PlaceLemmas.{same-tables}
-use Rattle.trace_parts.proofs.GatherLemmas.{same-gathered}
+use Rattle.trace_segments.proofs.GatherLemmas.{same-gathered}
 use Rattle.trace_tables.proofs.laws.tables_by_place.Goals as goal
 
 pub returns-clause-by_place : goal.returns-clause-by_place

@@ -4,7 +4,7 @@ use Rattle.std.proofs.lemmas.List.{take_all, take_more, map-append, append-nil}
 use Rattle.std.proofs.lemmas.Grind.{flat_map-append}
 use Rattle.trace_tables.specs.Destinations.{destination}
 use Rattle.trace_tables.specs.Text.{destination_line, latency_line}
-use Rattle.trace_parts.proofs.WritingLemmas.{adds-more, adds-same}
+use Rattle.trace_segments.proofs.WritingLemmas.{adds-more, adds-same}
 use Rattle.trace_tables.proofs.text.push_destinations.Goals as goal
 
 pub loop-place-preserved : goal.loop-place-preserved

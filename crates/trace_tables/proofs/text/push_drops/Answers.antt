@@ -3,7 +3,7 @@ use Rattle.std.specs.Map.Iter.{deref_pair}
 use Rattle.std.proofs.lemmas.List.{append-nil}
 use Rattle.std.proofs.lemmas.Map.Iter.{rest_more, rest_all}
 use Rattle.trace_tables.specs.Text.{drop_line, drop_text}
-use Rattle.trace_parts.proofs.WritingLemmas.{adds-more, adds-same}
+use Rattle.trace_segments.proofs.WritingLemmas.{adds-more, adds-same}
 use Rattle.trace_tables.proofs.text.push_drops.Goals as goal
 
 pub loop-loss-preserved : goal.loop-loss-preserved

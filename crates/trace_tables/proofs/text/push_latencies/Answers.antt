@@ -5,7 +5,7 @@ use Rattle.std.proofs.lemmas.Grind.{flat_map-append}
 use Rattle.trace_tables.specs.Destinations.{destination, destinations_in}
 use Rattle.trace_tables.specs.Text.{destination_line}
 use Rattle.trace_tables.proofs.DestinationLemmas.{destinations-more}
-use Rattle.trace_parts.proofs.WritingLemmas.{adds-more, adds-same}
+use Rattle.trace_segments.proofs.WritingLemmas.{adds-more, adds-same}
 use Rattle.trace_tables.proofs.text.push_latencies.Goals as goal
 
 pub loop-vl-preserved : goal.loop-vl-preserved

@@ -6,6 +6,6 @@ use Rattle.traffic.proofs.offer_counting.offer_count.Given as goal
 
 abbrev pub invariant-loop-vl : goal.invariant-loop-vl
 invariant-loop-vl l = record {
-  counted : l.count ≡ length (flat_map (offers_of_vl l.network) (take l.vl l.network.vls));
+  count_is : l.count ≡ length (flat_map (offers_of_vl l.network) (take l.vl l.network.vls));
   few : 1000 * l.count ≤ l.vl * (LATEST_NS + 1000);
 }

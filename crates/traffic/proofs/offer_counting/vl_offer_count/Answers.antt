@@ -8,7 +8,7 @@ use Rattle.traffic.proofs.offer_counting.vl_offer_count.Goals as goal
 
 pub loop-number-init : goal.loop-number-init
 loop-number-init c = record {
-  counted = λ source. sym (come_count_sure c.args.seed c.args.until c.args.link.now source _ (λ k lt. (c.sure_count-sure.ensures.sure k).0 lt));
+  count_is = λ source. sym (come_count_sure c.args.seed c.args.until c.args.link.now source _ (λ k lt. (c.sure_count-sure.ensures.sure k).0 lt));
   words = c.advance.ensures ∙ rw (c.new-words.ensures, c.from.ensures) (generator_at-jumped c.args.seed c.args.link.now.id.0 c.sure_count-sure.result);
   few = omega arith;
 }
@@ -21,9 +21,9 @@ loop-number-preserved c =
     let number = c.loop-number.number in
     let drawn = drawn_at seed link.id.0 number _ _ _ c.loop-number.invariant.words c.next_word.ensures in
     let comes = c.comes.ensures ∙ ap (λ word. nat_le (moment_of link number word) until) drawn.0 in
-    let before = c.loop-number.invariant.counted in
+    let before = c.loop-number.invariant.count_is in
     record {
-      counted = λ source. elim c.if-comes.branch [
+      count_is = λ source. elim c.if-comes.branch [
         | then-comes w ↦ (let one = come_count_more seed until link source number true (sym w.if-comes.true ∙ comes) in omega (arith, before source, w.count-is))
         | else-comes w ↦ (let none = come_count_more seed until link source number false (sym w.if-comes.false ∙ comes) in omega (arith, before source, w.count-is))
       ];

@@ -1,4 +1,4 @@
-use Rattle.std.proofs.Common.{◌≡◌, List, ◌∷◌, ◌++◌, IfSome, IsPermutation, subst}
+use Rattle.std.proofs.Common.{List, ◌∷◌, ◌++◌, IfSome, IsPermutation, subst}
 use Rattle.std.proofs.lemmas.List.Sorted.{IsPermutation-append_left}
 use Rattle.vlink.specs.declared.message.Message.{Message}
 use Rattle.actor_run.proofs.Waits.{NoneBefore}

@@ -37,14 +37,14 @@ returns-in_ok-put-in-Some-clause-others c = λ m n.
 pub returns-else-is_equal-clause-count : goal.returns-else-is_equal-clause-count
 returns-else-is_equal-clause-count c =
     let l = c.args.letter in
-    opposite-weight message_order c.occurrence_order.ensures.messages l.sign c.in-Some.counted _ _ (c.if-is_equal.ensures.opposite refl)
+    opposite-weight message_order c.occurrence_order.ensures.messages l.sign c.in-Some.tallied _ _ (c.if-is_equal.ensures.opposite refl)
     (c.take.ensures.counts l.message ∙
-    count-mine message_order c.occurrence_order.ensures.messages (record { message = l.message; sign = c.in-Some.counted }) (letters_of c.take.new.signs.entries)) ∙
+    count-mine message_order c.occurrence_order.ensures.messages (record { message = l.message; sign = c.in-Some.tallied }) (letters_of c.take.new.signs.entries)) ∙
     ap (λ v. signed_count message_order l.message v +ℤ weight l.sign) c.self.view_is
 
 pub returns-else-is_equal-clause-others : goal.returns-else-is_equal-clause-others
 returns-else-is_equal-clause-others c = λ m n.
-    sym (c.take.ensures.counts m ∙ count-other message_order c.occurrence_order.ensures.messages m (record { message = c.args.letter.message; sign = c.in-Some.counted }) (letters_of c.take.new.signs.entries) n) ∙
+    sym (c.take.ensures.counts m ∙ count-other message_order c.occurrence_order.ensures.messages m (record { message = c.args.letter.message; sign = c.in-Some.tallied }) (letters_of c.take.new.signs.entries) n) ∙
     ap (λ v. signed_count message_order m v) c.self.view_is
 
 pub returns-else-is_equal-clause-change : goal.returns-else-is_equal-clause-change

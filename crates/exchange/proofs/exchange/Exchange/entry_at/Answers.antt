@@ -7,7 +7,7 @@ use Rattle.journal.specs.Deeds.{seen_deed, seen_entry}
 use Rattle.journal.specs.Places.{IsAt}
 use Rattle.journal.specs.declared.entry.Entry.{Entry}
 use Rattle.journal.specs.declared.tokens.Tokens.{Tokens}
-use Rattle.exchange.specs.Keeps.{entries_of, IsCounted}
+use Rattle.exchange.specs.Keeps.{entries_of, IsEntryWithinMail}
 use Rattle.exchange.proofs.Listed.{entry-there, steps-few}
 use Rattle.exchange.proofs.exchange.Exchange.entry_at.Goals as goal
 
@@ -29,14 +29,14 @@ returns-clause-told g c =
     let within : at < length ts = omega (arith, length-map ts (λ (u : Tokens). seen_entry u.cell.value)) in
     rw (sym c.self.view_is) (entry-there ts at c.index-tokens.result.now within c.index-tokens.ensures ∙ ap (λ (e : Entry). Some (seen_entry e)) (sym c.get.ensures))
 
-pub returns-clause-counted : goal.returns-clause-counted
-returns-clause-counted g c =
+pub returns-clause-within_mail : goal.returns-clause-within_mail
+returns-clause-within_mail g c =
     let ts = c.self.inside.journal.items in
     let at = c.args.at in
     let t = c.index-tokens.result.now in
     let here = rw (sym c.self.view_is) at c.requires in
     let within : at < length ts = omega (arith, length-map ts (λ (u : Tokens). seen_entry u.cell.value)) in
-    subst (λ (e : Entry). IsCounted e) (sym c.get.ensures) (c.self.invariant.2.counted at t (slice_get_read ts (length ts) at t refl within c.index-tokens.ensures))
+    subst (λ (e : Entry). IsEntryWithinMail e) (sym c.get.ensures) (c.self.invariant.2.within_mail at t (slice_get_read ts (length ts) at t refl within c.index-tokens.ensures))
 
 pub returns-clause-few : goal.returns-clause-few
 returns-clause-few g c =

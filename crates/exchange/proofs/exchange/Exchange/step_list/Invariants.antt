@@ -1,4 +1,4 @@
-use Rattle.std.proofs.Common.{◌≡◌, map, take}
+use Rattle.std.proofs.Common.{◌≡◌, take}
 use Rattle.virtual_time.specs.Law.{steps}
 use Rattle.exchange.proofs.exchange.Exchange.step_list.Given as goal
 

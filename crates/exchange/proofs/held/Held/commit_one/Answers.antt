@@ -1,5 +1,5 @@
-use Rattle.std.proofs.Common.{◌≡◌, ◌<◌, ◌≤◌, arith, true, false, sym, ◌∙◌, subst, map}
-use Rattle.virtual_time.specs.Law.{local, after_moves, after_own}
+use Rattle.std.proofs.Common.{◌≡◌, ◌<◌, ◌≤◌, arith, true, false, sym, ◌∙◌, subst}
+use Rattle.virtual_time.specs.Law.{after_moves, after_own}
 use Rattle.virtual_time.specs.declared.moved.Move.TheVariants.{Sealed}
 use Rattle.reverse.specs.Rules.{rules_of}
 use Rattle.reverse.specs.Setting.{simulation_of}

@@ -25,5 +25,5 @@ returns-clause-whole g c =
     let f = simulation_of (rules_of g.R.Reversible.plain g.R.Actor.counter) g.J.ActorRun.setting in
     let not_later = rw (sym c.self.view_is) at c.requires in
     let early = gone-later f.rules c.self.inside.gone c.args.from not_later c.self.inside.process.queues.left _ h.gone_early in
-    rw (sym c.self.view_is) (λ low none turns ended. c.rows_between.ensures.whole _ _ h.stands early
-    ∙ sym (early-rows f (c.actor_laws.ensures g.J.ActorRun.setting h.laid) c.self.inside.number c.self.inside.seen c.args.from c.args.to _ h.safe low none turns ended))
+    rw (sym c.self.view_is) (λ low none event_count ended. c.rows_between.ensures.whole _ _ h.stands early
+    ∙ sym (early-rows f (c.actor_laws.ensures g.J.ActorRun.setting h.laid) c.self.inside.number c.self.inside.seen c.args.from c.args.to _ h.safe low none event_count ended))

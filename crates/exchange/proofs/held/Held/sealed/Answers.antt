@@ -1,5 +1,5 @@
-use Rattle.std.proofs.Common.{map, drop, sym, ap, ◌∙◌, subst, arith}
-use Rattle.virtual_time.specs.Law.{rowed, local, after_moves, after_own}
+use Rattle.std.proofs.Common.{drop, sym, ap, ◌∙◌, subst, arith}
+use Rattle.virtual_time.specs.Law.{rowed, after_moves, after_own}
 use Rattle.reverse.specs.Rules.{rules_of}
 use Rattle.reverse.specs.Setting.{simulation_of}
 use Rattle.fossil.specs.Within.{AreFirstBefore}

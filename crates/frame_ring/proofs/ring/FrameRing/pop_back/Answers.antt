@@ -10,6 +10,6 @@ invariant_of-self-2 c =
       within = search rules;
       small = search rules;
       reserved = search rules;
-      counted = grind (arith, common_steps);
+      sum = grind (arith, common_steps);
       limits = search (rules, front_within_limits, rest_within_limits);
     }

@@ -19,12 +19,12 @@ returns-clause-state c =
     let event = c.args.event.now in
     let source = c.index_mut-source.result.now in
     subst (λ (s : EndSystemState).
-    record { sources = slice_set i.sources.items place c.regulate.new.source; sinks = i.sinks.items; ports = c.regulate.new.ports }
+    record { sources = slice_set i.sources.items place c.regulate.new.source; receptions = i.receptions.items; ports = c.regulate.new.ports }
     ≡ record s {
       sources = slice_set s.sources place (record source { regulator = regulator.after source.regulator event });
       ports = released_out source.end (regulator.out source.regulator event).answer s.ports;
     }) c.self.view_is
-    (λ t. record { sources = slice_set i.sources.items place (c.regulate.ensures.source t); sinks = i.sinks.items; ports = c.regulate.ensures.ports t })
+    (λ t. record { sources = slice_set i.sources.items place (c.regulate.ensures.source t); receptions = i.receptions.items; ports = c.regulate.ensures.ports t })
     ∙ ap (λ found. (regulated c.args.out.now.sender.number c.args.at event (lost Unknown event) c.args.self.now found).state) (sym (found c))
 
 pub returns-clause-reply : goal.returns-clause-reply

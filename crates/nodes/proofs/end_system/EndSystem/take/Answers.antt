@@ -1,26 +1,26 @@
 use Rattle.std.proofs.Common.{◌≡◌, Some, ap, ◌∙◌, sym, subst, slice_set, refl}
 use Rattle.reverse.specs.Sending.{replied}
-use Rattle.nodes.specs.rules.EndSystem.{EndSystemState, received, sink_at, sink_number, taken}
+use Rattle.nodes.specs.rules.EndSystem.{EndSystemState, received, reception_at, reception_number, taken}
 use Rattle.nodes.specs.undoing.EndSystem.{taken_kept}
 use Rattle.nodes.proofs.NumberLemmas.{rising-kept}
-use Rattle.nodes.proofs.EndSystemLemmas.{sink-found}
+use Rattle.nodes.proofs.EndSystemLemmas.{reception-found}
 use Rattle.nodes.proofs.end_system.EndSystem.take.Goals as goal
 
-found : (c : goal.After-self-1) → sink_at c.args.self.now c.args.frame.now.vl c.args.frame.now.net ≡ Some (record { place = c.in-Some.place; entry = c.index_mut-sink.result.now })
+found : (c : goal.After-self-1) → reception_at c.args.self.now c.args.frame.now.vl c.args.frame.now.net ≡ Some (record { place = c.in-Some.place; entry = c.index_mut-reception.result.now })
 found c =
     let frame = c.args.frame.now in
-    sink-found c.args.self.now _ frame.vl frame.net c.in-Some.place c.index_mut-sink.result.now (ap (λ (s : EndSystemState). s.sinks) c.self.view_is) c.in-Some.ensures c.index_mut-sink.ensures.value
+    reception-found c.args.self.now _ frame.vl frame.net c.in-Some.place c.index_mut-reception.result.now (ap (λ (s : EndSystemState). s.receptions) c.self.view_is) c.in-Some.ensures c.index_mut-reception.ensures.value
 
 pub returns-clause-state : goal.returns-clause-state
 returns-clause-state c =
     let i = c.self.inside in
     let place = c.in-Some.place in
     let frame = c.args.frame.now in
-    let sink = c.index_mut-sink.result.now in
+    let reception = c.index_mut-reception.result.now in
     subst (λ (s : EndSystemState).
-    record { sources = i.sources.items; sinks = slice_set i.sinks.items place (record sink { receiving = c.receive.new.self }); ports = i.ports }
-    ≡ record s { sinks = slice_set s.sinks place (record sink { receiving = received c.args.at frame sink.receiving }) }) c.self.view_is
-    (λ t. record { sources = i.sources.items; sinks = slice_set i.sinks.items place (record sink { receiving = c.receive.ensures.state t }); ports = i.ports })
+    record { sources = i.sources.items; receptions = slice_set i.receptions.items place (record reception { receiving = c.receive.new.self }); ports = i.ports }
+    ≡ record s { receptions = slice_set s.receptions place (record reception { receiving = received c.args.at frame reception.receiving }) }) c.self.view_is
+    (λ t. record { sources = i.sources.items; receptions = slice_set i.receptions.items place (record reception { receiving = c.receive.ensures.state t }); ports = i.ports })
     ∙ ap (λ found. (taken c.args.at frame c.args.self.now found).state) (sym (found c))
 
 pub returns-clause-reply : goal.returns-clause-reply
@@ -33,7 +33,7 @@ returns-clause-kept c = c.receive.ensures.kept ∙ ap (taken_kept c.args.frame.n
 -- the numbers of the virtual links stay
 pub invariant_of-self : goal.invariant_of-self
 invariant_of-self c =
-    let sink = c.index_mut-sink.result.now in (
+    let reception = c.index_mut-reception.result.now in (
       c.self.invariant.0,
-      rising-kept sink_number c.self.inside.sinks.items c.in-Some.place sink (record sink { receiving = c.receive.new.self }) c.index_mut-sink.ensures.value refl c.self.invariant.1,
+      rising-kept reception_number c.self.inside.receptions.items c.in-Some.place reception (record reception { receiving = c.receive.new.self }) c.index_mut-reception.ensures.value refl c.self.invariant.1,
     )

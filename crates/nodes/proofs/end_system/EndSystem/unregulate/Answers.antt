@@ -2,7 +2,7 @@ use Rattle.std.proofs.Common.{◌≡◌, ap, ◌∙◌, sym, subst, slice_set}
 use Rattle.bag_regulator.specs.Regulator.{undone}
 use Rattle.nodes.specs.undoing.Ports.{unput}
 use Rattle.nodes.specs.rules.EndSystem.{EndSystemState, source_number}
-use Rattle.nodes.specs.undoing.EndSystemParts.{RegulatedCameFrom, SendingCameFrom}
+use Rattle.nodes.specs.undoing.EndSystemElements.{RegulatedCameFrom, SendingCameFrom}
 use Rattle.nodes.specs.undoing.EndSystem.{unregulated, unregulated_by}
 use Rattle.nodes.proofs.NumberLemmas.{found-read, rising-kept}
 use Rattle.nodes.proofs.EndSystemLemmas.{sending-came}
@@ -36,12 +36,12 @@ returns c =
     let sources = ap (λ (s : EndSystemState). s.sources) c.self.view_is in
     let found = found-read source_number _ _ now.sources c.args.vl.0 c.in-Some.place source c.as_slice.ensures.value sources c.in-Some.ensures.place c.index_mut-source.ensures.value in
     subst (λ (s : EndSystemState).
-    record { sources = slice_set i.sources.items place c.take_back.new.source; sinks = i.sinks.items; ports = c.take_back.new.ports }
+    record { sources = slice_set i.sources.items place c.take_back.new.source; receptions = i.receptions.items; ports = c.take_back.new.ports }
     ≡ record s {
       sources = slice_set s.sources place (record source { regulator = undone source.regulator k });
       ports = unput 0 a (unput 1 b s.ports);
     }) c.self.view_is
-    (λ t. record { sources = slice_set i.sources.items place (c.take_back.ensures.source t); sinks = i.sinks.items; ports = c.take_back.ensures.ports t })
+    (λ t. record { sources = slice_set i.sources.items place (c.take_back.ensures.source t); receptions = i.receptions.items; ports = c.take_back.ensures.ports t })
     ∙ ap (unregulated_by k a b now) (sym found)
     ∙ ap (λ k. unregulated c.args.vl k now) (sym c.in-Regulated.is)
 

@@ -1,8 +1,8 @@
 use Rattle.std.proofs.Common.{◌≡◌, ap, sym, ◌∙◌, subst}
 use Rattle.nodes.specs.rules.Node.{NodeState, after}
-use Rattle.nodes.specs.undoing.Node.{part_restored}
+use Rattle.nodes.specs.undoing.Node.{equipment_restored}
 use Rattle.nodes.specs.declared.node.NodeRecord.{NodeRecord}
-use Rattle.nodes.specs.rules.Placed.{IsPlacedPart}
+use Rattle.nodes.specs.rules.Placed.{IsPlacedEquipment}
 use Rattle.nodes.specs.laws.Node.{node-undoes}
 use Rattle.nodes.proofs.node.NodeReversible.undo.Goals as goal
 
@@ -11,9 +11,9 @@ pub invariant_of-self : goal.invariant_of-self
 invariant_of-self c =
     let m = c.args.event.now in
     let s = c.requires.0 in
-    let back : c.undo.new.self ≡ s.part =
+    let back : c.undo.new.self ≡ s.equipment =
     c.undo.ensures
-    ∙ ap (λ (now : NodeState). part_restored m c.args.kept.part now.part) (c.self.view_is ∙ c.requires.2)
-    ∙ ap (λ (k : NodeRecord). part_restored m k.part (after s m).part) c.requires.3
-    ∙ ap (λ (now : NodeState). now.part) (node-undoes s m) in
-    (subst IsPlacedPart (sym back) c.requires.1.0, c.self.invariant.1)
+    ∙ ap (λ (now : NodeState). equipment_restored m c.args.kept.equipment now.equipment) (c.self.view_is ∙ c.requires.2)
+    ∙ ap (λ (k : NodeRecord). equipment_restored m k.equipment (after s m).equipment) c.requires.3
+    ∙ ap (λ (now : NodeState). now.equipment) (node-undoes s m) in
+    (subst IsPlacedEquipment (sym back) c.requires.1.0, c.self.invariant.1)

@@ -4,25 +4,25 @@ use Rattle.vlink.specs.Order.{message_order}
 use Rattle.antimessages.specs.Counting.{HaveSameCounts}
 use Rattle.antimessages.proofs.Agreeing.{added-same_counts, same_counts-cons}
 use Rattle.process_queues.proofs.Counting.{of-messages}
-use Rattle.process_queues.proofs.past.Past.count_again.Goals.{then-counted-place+in-Err, else-counted-place}
+use Rattle.process_queues.proofs.past.Past.count_again.Goals.{then-tallied-place+in-Err, else-tallied-place}
 use Rattle.process_queues.proofs.past.Past.count_again.Goals as goal
 
 pub returns-in-Ok-clause-counts : goal.returns-in-Ok-clause-counts
 returns-in-Ok-clause-counts g c = λ m.
     let R = of-messages g.R.Reversible.plain g.R.Actor.counter c.actor_rules.ensures.order c.actor_rules.ensures.undoes in
     let l = c.args.letter in
-    let old = c.count_back-counted.new.tally in
-    let t = c.if-counted-place.true in
-    let place : c.count_back-counted.result ≡ c.args.place = omega arith in
+    let old = c.count_back-tallied.new.tally in
+    let t = c.if-tallied-place.true in
+    let place : c.count_back-tallied.result ≡ c.args.place = omega arith in
     added-same_counts message_order R.messages l c.add.new.self old c.in-Ok.ensures.count c.in-Ok.ensures.others m ∙
     same_counts-cons message_order l old (map (λ e. plus_of e.message) (drop c.args.place c.args.self.now.done) ++ c.args.tally.now)
-    (subst (λ i. HaveSameCounts message_order old (map (λ e. plus_of e.message) (drop i c.args.self.now.done) ++ c.args.tally.now)) place c.count_back-counted.ensures.counts) m
+    (subst (λ i. HaveSameCounts message_order old (map (λ e. plus_of e.message) (drop i c.args.self.now.done) ++ c.args.tally.now)) place c.count_back-tallied.ensures.counts) m
 
 pub returns-clause-unchanged : goal.returns-clause-unchanged
 returns-clause-unchanged g c =
-    let all = map (λ e. plus_of e.message) (drop c.count_back-counted.result c.args.self.now.done) ++ c.args.tally.now in
-    let counts : HaveSameCounts message_order c.if-counted-place.tally all = elim c.if-counted-place.branch [
-      | then-counted-place+in-Err w ↦ subst (λ t. HaveSameCounts message_order t all) (sym (w.tally-is ∙ w.in-Err.ensures.unchanged)) c.count_back-counted.ensures.counts
-      | else-counted-place w ↦ subst (λ t. HaveSameCounts message_order t all) (sym w.tally-is) c.count_back-counted.ensures.counts
+    let all = map (λ e. plus_of e.message) (drop c.count_back-tallied.result c.args.self.now.done) ++ c.args.tally.now in
+    let counts : HaveSameCounts message_order c.if-tallied-place.tally all = elim c.if-tallied-place.branch [
+      | then-tallied-place+in-Err w ↦ subst (λ t. HaveSameCounts message_order t all) (sym (w.tally-is ∙ w.in-Err.ensures.unchanged)) c.count_back-tallied.ensures.counts
+      | else-tallied-place w ↦ subst (λ t. HaveSameCounts message_order t all) (sym w.tally-is) c.count_back-tallied.ensures.counts
     ] in
     c.told_by_counts-2.ensures.told c.args.tally.now c.told_by_counts.ensures.tally (c.take_out.ensures c.args.tally.now counts c.requires.not_owed)

@@ -4,5 +4,5 @@ use Rattle.vlink.specs.Order.{message_order}
 use Rattle.antimessages.specs.Counting.{HaveSameCounts}
 use Rattle.process_queues.proofs.past.Past.count_back.Given as goal
 
-abbrev pub invariant-loop-counted : goal.invariant-loop-counted
-invariant-loop-counted g l = HaveSameCounts message_order l.tally (map (λ e. plus_of e.message) (drop (l.all - l.counted) l.self.done) ++ l.initial.tally)
+abbrev pub invariant-loop-tallied : goal.invariant-loop-tallied
+invariant-loop-tallied g l = HaveSameCounts message_order l.tally (map (λ e. plus_of e.message) (drop (l.all - l.tallied) l.self.done) ++ l.initial.tally)

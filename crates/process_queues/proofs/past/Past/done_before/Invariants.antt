@@ -1,7 +1,6 @@
 use Rattle.std.proofs.Common.{◌≡◌, ◌-◌, length, map}
 use Rattle.vlink.specs.Order.{message_order}
 use Rattle.virtual_time.specs.Law.{before}
-use Rattle.reverse.specs.Rules.{rules_of}
 use Rattle.process_queues.proofs.Before.{firsts}
 use Rattle.process_queues.proofs.past.Past.done_before.Given as goal
 

@@ -1,4 +1,4 @@
-use Rattle.std.proofs.Common.{map, drop, sym, ap, ◌∙◌}
+use Rattle.std.proofs.Common.{drop, ap, ◌∙◌}
 use Rattle.process_queues.specs.Past.{Past}
 use Rattle.process_queues.proofs.past.Past.forget_rows.Goals as goal
 

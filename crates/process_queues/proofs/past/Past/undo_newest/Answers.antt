@@ -3,7 +3,7 @@ use Rattle.virtual_time.specs.Law.{minus_of}
 use Rattle.reverse.specs.Rules.{rules_of}
 use Rattle.process_queues.specs.Past.{IsPastOf}
 use Rattle.process_queues.proofs.Pasts.{came-last, gives-last, past-less, some-done}
-use Rattle.process_queues.proofs.Taking.{snoc-parts}
+use Rattle.process_queues.proofs.Taking.{snoc-equal}
 use Rattle.process_queues.proofs.past.Past.undo_newest.Goals as goal
 
 pub undo-requires : goal.undo-requires
@@ -94,6 +94,6 @@ returns-in_default-clause-fewer g c =
 pub returns-in-Some-clause-room : goal.returns-in-Some-clause-room
 returns-in-Some-clause-room g c front event d =
     let n : c.from.result ≡ c.in-Some.event.sent = c.from.ensures in
-    let both = snoc-parts c.pop_back.new.self.items front c.in-Some.event event (sym c.in-Some.ensures.items ∙ (ap (λ p. p.done) c.self.view_is ∙ d)) in
+    let both = snoc-equal c.pop_back.new.self.items front c.in-Some.event event (sym c.in-Some.ensures.items ∙ (ap (λ p. p.done) c.self.view_is ∙ d)) in
     let same : c.in-Some.event.sent ≡ event.sent = ap (λ x. x.sent) both.1 in
     (both.0, omega (arith, same, c.take_back.ensures.room))

@@ -1,4 +1,4 @@
-use Rattle.std.proofs.Common.{◌∷◌, [], refl}
+use Rattle.std.proofs.Common.{refl}
 use Rattle.virtual_time.specs.Law.{delivered}
 use Rattle.reverse.specs.Rules.{rules_of}
 use Rattle.process_queues.proofs.Standing.{delivered-stands}

@@ -9,7 +9,7 @@ use Rattle.process_queues.proofs.Beside.{with_done-handled}
 use Rattle.process_queues.proofs.Counting.{of-messages}
 use Rattle.process_queues.proofs.Stragglers.{next-beside, beside-present}
 use Rattle.process_queues.proofs.Next.{next-stands}
-use Rattle.process_queues.proofs.Standing.{ran-stands, recounted-stands}
+use Rattle.process_queues.proofs.Standing.{ran-stands, retallied-stands}
 use Rattle.process_queues.proofs.Taking.{err-gives}
 use Rattle.process_queues.proofs.process.Process.run_with.Goals as goal
 
@@ -44,7 +44,7 @@ returns-clause-ran g c = λ opening part h.
     let done = c.self.inside.past.done in
     let ran = ran-stands r v opening part _ _ k R m next c.in_ok-handle.ensures.valid refl in
     let taken = c.take_present.ensures.present (beside-present r R v opening part _ k t refl m (sym (next-stands r R v opening part _ k) ∙ next)) in
-    recounted-stands r v opening (run_one r part) _ _ ran (with_done c.take_present.new.self c.handle.new.self.done)
+    retallied-stands r v opening (run_one r part) _ _ ran (with_done c.take_present.new.self c.handle.new.self.done)
     (λ x. sym (with_done-handled R.messages m t c.take_present.new.self done c.handle.new.self.done _ taken refl (ap (λ p. p.done) c.in_ok-handle.ensures.handled) x))
     (rw (c.in_ok-handle.ensures.handled, c.in_ok-handle.ensures.sent) refl)
 

@@ -4,29 +4,29 @@ use Rattle.std.proofs.Props.{props}
 use Rattle.std.specs.Prelude.{Option, Result, IfSome, IfErr}
 use Rattle.virtual_time.specs.Law.{rows_at}
 use Rattle.netdesc.specs.Faults.{process_count}
-use Rattle.trace_parts.specs.declared.part_fault.PartFault.{PartFault}
-use Rattle.trace_parts.specs.declared.part_fault.PartFault.TheVariants.{OutOfMemory}
-use Rattle.trace_parts.specs.Places.{gathered}
-use Rattle.trace_parts.specs.Gathering.{part_fault, Gives}
-use Rattle.trace_parts.specs.Intervals.{rows_within}
-use Rattle.trace_parts.specs.Ordered.{IsInOrder}
-use Rattle.trace_parts.specs.Parts.{BatchRows}
-use Rattle.worker_pool.proofs.GatheredRun.{none-of, own-rows, part-gathered, given-batch}
+use Rattle.trace_segments.specs.declared.segment_fault.SegmentFault.{SegmentFault}
+use Rattle.trace_segments.specs.declared.segment_fault.SegmentFault.TheVariants.{OutOfMemory}
+use Rattle.trace_segments.specs.Places.{gathered}
+use Rattle.trace_segments.specs.Gathering.{segment_fault, Gives}
+use Rattle.trace_segments.specs.Intervals.{rows_within}
+use Rattle.trace_segments.specs.Ordered.{IsInOrder}
+use Rattle.trace_segments.specs.Segments.{BatchRows}
+use Rattle.worker_pool.proofs.GatheredRun.{none-of, own-rows, segment-gathered, given-batch}
 use Rattle.worker_pool.specs.Written.{IsPlaceFault}
-use Rattle.worker_pool.proofs.Written.{part-told}
+use Rattle.worker_pool.proofs.Written.{segment-told}
 use Rattle.worker_pool.proofs.desk.Desk.gathered.Goals as goal
 
 pub invariant_of-self : goal.invariant_of-self
 invariant_of-self g c =
     let plan = g.J.NetworkRun.plan in
-    let own = own-rows plan c.args.part c.requires.of_run in
-    let law = c.parts_of_rows.ensures in
+    let own = own-rows plan c.args.segment c.requires.of_run in
+    let law = c.segments_of_rows.ensures in
     let said = c.take.ensures in
     record {
-      of_run = ∥∥₁_map c.args.self.now.of_run (λ G. part-gathered plan c.args.self.now.gather c.take.new.self c.args.part G c.take.result
+      of_run = ∥∥₁_map c.args.self.now.of_run (λ G. segment-gathered plan c.args.self.now.gather c.take.new.self c.args.segment G c.take.result
           said.refused said.unchanged said.waits said.gives
-          (λ none waits rows r. law.waits c.args.self.now.gather c.take.new.self c.args.part (λ p. rows_at p rows) (G.rows_are rows r) none (own rows r) waits)
-          (λ none batch gives rows r. law.gives c.args.self.now.gather c.take.new.self c.args.part batch (λ p. rows_at p rows) (G.rows_are rows r) none (own rows r) gives));
+          (λ none waits rows r. law.waits c.args.self.now.gather c.take.new.self c.args.segment (λ p. rows_at p rows) (G.rows_are rows r) none (own rows r) waits)
+          (λ none batch gives rows r. law.gives c.args.self.now.gather c.take.new.self c.args.segment batch (λ p. rows_at p rows) (G.rows_are rows r) none (own rows r) gives));
       lawful = c.args.self.now.lawful;
       known = c.args.self.now.known;
     }
@@ -36,22 +36,22 @@ new-requires g c =
     let plan = g.J.NetworkRun.plan in
     let old = c.args.self.now.gather in
     let new = c.take.new.self in
-    let part = c.args.part in
+    let segment = c.args.segment in
     let batch = c.in-Some.batch in
-    let gives = subst (λ (given : Option BatchRows). IfSome given (λ b. Gives old part b new)) c.in-Some.is c.in_ok-batch.ensures.gives in
-    let none = none-of (part_fault old part) (λ fault e. let f = c.in_ok-batch.ensures.refused fault e in absurd (cc)) in
-    ∥∥₁_map₂ c.args.self.now.of_run c.args.self.now.lawful (λ G lawful. given-batch plan old new part G batch gives (λ rows r.
+    let gives = subst (λ (given : Option BatchRows). IfSome given (λ b. Gives old segment b new)) c.in-Some.is c.in_ok-batch.ensures.gives in
+    let none = none-of (segment_fault old segment) (λ fault e. let f = c.in_ok-batch.ensures.refused fault e in absurd (cc)) in
+    ∥∥₁_map₂ c.args.self.now.of_run c.args.self.now.lawful (λ G lawful. given-batch plan old new segment G batch gives (λ rows r.
     let at = λ (p : ℕ). rows_at p rows in
     c.batches_in_order.ensures.batch (process_count plan) batch.from batch.to at rows batch.rows
     (c.batches_in_order.ensures.by_process (process_count plan) rows (lawful rows r).received (lawful rows r).ordered (lawful rows r).none_outside)
     (subst (λ n. IsInOrder (gathered n (λ p. rows_within batch.from batch.to (at p))) batch.rows) G.count
-    (c.parts_of_rows.ensures.batch old new part batch at (G.rows_are rows r) none (own-rows plan part c.requires.of_run rows r) gives))))
+    (c.segments_of_rows.ensures.batch old new segment batch at (G.rows_are rows r) none (own-rows plan segment c.requires.of_run rows r) gives))))
 
 pub returns-in_err-batch-clause-place : goal.returns-in_err-batch-clause-place
 returns-in_err-batch-clause-place g c =
     let old = c.args.self.now in
     let run = ∥∥₁_elim old.of_run (hlevel props) (λ G. c.requires.run ∙ sym G.run_is) in
-    let within = ∥∥₁_elim old.of_run (hlevel props) (λ G. subst (λ n. c.args.part.process < n) (sym G.count) c.requires.process) in
-    let all = part-told old.gather c.args.part run within c.take.result c.take.ensures.refused c.take.ensures.memory in
-    let known = subst (λ (r : Result (Option BatchRows) PartFault). IfErr r (λ fault. fault ≢ OutOfMemory → IsPlaceFault fault)) c.in_err-batch.was all in
+    let within = ∥∥₁_elim old.of_run (hlevel props) (λ G. subst (λ n. c.args.segment.process < n) (sym G.count) c.requires.process) in
+    let all = segment-told old.gather c.args.segment run within c.take.result c.take.ensures.refused c.take.ensures.memory in
+    let known = subst (λ (r : Result (Option BatchRows) SegmentFault). IfErr r (λ fault. fault ≢ OutOfMemory → IsPlaceFault fault)) c.in_err-batch.was all in
     search (rules, known, c.from_residual.ensures) parts 8

@@ -11,7 +11,7 @@ invariant_of-result g c =
     let plan = g.J.NetworkRun.plan in
     record {
       of_run = ∣ none-gathered plan _ _ (c.process_count.ensures.value ∙ ap process_count c.requires) (c.until.ensures.value ∙ ap (λ (p : Plan). p.until) c.requires)
-          (λ rows r. c.parts_of_rows.ensures.none _ _ _ (λ p. rows_at p rows)) c.in_ok-gather.gather c.in_ok-gather.ensures ∣₁;
+          (λ rows r. c.segments_of_rows.ensures.none _ _ _ (λ p. rows_at p rows)) c.in_ok-gather.gather c.in_ok-gather.ensures ∣₁;
       lawful = ∣ subst HasLawfulRows c.requires c.lawful_rows.ensures ∣₁;
       known = tt;
     }

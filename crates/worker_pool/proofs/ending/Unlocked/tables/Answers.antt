@@ -9,7 +9,7 @@ use Rattle.worker_pool.specs.Counts.{AreCountedBefore}
 use Rattle.worker_pool.specs.Traces.{HasLawfulRows}
 use Rattle.worker_pool.proofs.CountedRun.{counts-in, none-of-processes, one-of-processes, all-of-processes}
 use Rattle.worker_pool.proofs.Ended.{some-rows, as-in-run}
-use Rattle.worker_pool.proofs.PartRows.{AreAsInRun}
+use Rattle.worker_pool.proofs.SegmentRows.{AreAsInRun}
 use Rattle.worker_pool.proofs.Places.{read-at}
 use Rattle.worker_pool.proofs.ending.Unlocked.tables.Goals as goal
 

@@ -1,0 +1,28 @@
+use Rattle.std.proofs.Common.{◌≡◌, ◌∙◌, subst}
+use Rattle.trace_tables.specs.Text.{tables_text}
+use Rattle.afdxsim.specs.Ending.{Took}
+use Rattle.afdxsim.proofs.Streams.{says, shows}
+use Rattle.afdxsim.proofs.replay.show_conclusion.Goals as goal
+
+pub returns-clause-tables : goal.returns-clause-tables
+returns-clause-tables g c =
+    let outside = g.H.Host.outside in
+    let law = g.met.H.Host.lawful in
+    let before = c.args.host.now in
+    let out = c.show_tables.new.output in
+    let shown = outside.with_output before out in
+    shows outside law before (outside.with_errors shown c.say.new.errors) c.output.result.now out (tables_text c.args.conclusion.now.world.plan c.args.conclusion.now.tables)
+    c.output.ensures.value (law.output_beside shown c.say.new.errors ∙ law.output_stays before out)
+    (subst (λ plan. Took g.H.Output.Sink.taken c.output.result.now out (tables_text plan c.args.conclusion.now.tables)) c.network.ensures c.in_ok-show_tables.ensures.text)
+
+pub returns-clause-line : goal.returns-clause-line
+returns-clause-line g c =
+    let outside = g.H.Host.outside in
+    let law = g.met.H.Host.lawful in
+    let before = c.args.host.now in
+    let shown = outside.with_output before c.show_tables.new.output in
+    let after = outside.with_errors shown c.say.new.errors in
+    subst (λ text. outside.unsaid (outside.errors after) ≡ outside.unsaid (outside.errors before) → Took outside.said (outside.errors before) (outside.errors after) text)
+    c.as_str.ensures.value
+    (says outside law before after c.errors.result.now c.say.new.errors c.as_str.result.now
+    (c.errors.ensures.value ∙ law.errors_beside before c.show_tables.new.output) (law.errors_stay shown c.say.new.errors) c.say.ensures)

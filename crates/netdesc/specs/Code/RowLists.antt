@@ -1,0 +1,23 @@
+-- What rows say beside their nodes, with numbers in place of names.
+use Rattle.std.specs.Prelude.{List, map}
+use Rattle.network_rows.specs.declared.rows.NodeRow.{NodeRow}
+use Rattle.network_rows.specs.declared.rows.Rows.{Rows}
+use Rattle.netdesc.specs.declared.wiring.Link.{Link}
+use Rattle.netdesc.specs.declared.wiring.Outage.{Outage}
+use Rattle.netdesc.specs.declared.plan.Numbered.{Numbered}
+use Rattle.netdesc.specs.Plan.{Plan, VlPlan, node_plan, plan_of}
+
+pub record RowLists : Type 0 where
+  pub links : List Link
+  pub outages : List Outage
+  pub vls : List VlPlan
+
+abbrev pub row_lists_of : Numbered → RowLists
+row_lists_of numbered = record { links = numbered.links.items; outages = numbered.outages.items; vls = numbered.vls.items }
+
+abbrev pub row_lists_in : Rows → RowLists
+row_lists_in rows = let plan = plan_of rows in record { links = plan.links; outages = plan.outages; vls = plan.vls }
+
+-- nodes and the other rows, as a plan (its end and its seed do not matter to a fault)
+abbrev pub plan_in : List NodeRow → Numbered → Plan
+plan_in nodes numbered = record { until = 0; seed = 0; nodes = map node_plan nodes; links = numbered.links.items; outages = numbered.outages.items; vls = numbered.vls.items }

@@ -1,0 +1,80 @@
+//! What a node is: an end system, a switch or a line.
+ghost use Rattle.std.specs.Prelude.{◌≡◌, ℕ, ◌+◌, ◌≤◌, []};
+ghost use Rattle.vlink.specs.Numbering.{greatest_number};
+ghost use Rattle.std.specs.Option.{option_copied};
+ghost use Rattle.reverse.specs.Sending.{replied};
+ghost use Rattle.nodes.specs.rules.Node.{handled, port_in, regulator_in};
+ghost use Rattle.nodes.specs.undoing.Node.{equipment_kept, equipment_restored, EquipmentCameFrom, IsEquipmentValue};
+
+use crate::end_system::EndSystem;
+use crate::equipment_record::EquipmentRecord;
+use crate::line::Line;
+use crate::switch::Switch;
+use bag_regulator::BagRegulator;
+use output_port::Port;
+use reverse::Outbound;
+use vlink::{Message, VlId};
+
+/// What a node is.
+#[derive(Debug, Drop)]
+pub enum Equipment {
+    EndSystem(EndSystem),
+    Switch(Switch),
+    Line(Line),
+}
+
+impl Equipment {
+    /// Handles a message, and gives the record by which it is undone.
+    #[inline(always)]
+    pub(crate) fn handle(&mut self, message: &Message, out: &mut Outbound) -> EquipmentRecord
+        requires messages { out.old.messages ≡ [] }
+        requires notes { out.old.notes ≡ [] }
+        requires numbers { out.old.sender.counter + 24 ≤ greatest_number }
+        ensures state { self.new ≡ (handled out.old.sender.number message.now self.old).equipment }
+        ensures reply { out.new ≡ replied out.old (handled out.old.sender.number message.now self.old).reply }
+        ensures kept { result ≡ equipment_kept message.now self.old }
+        ensures valid { IsEquipmentValue message.now self.old }
+    {
+        match self {
+            Equipment::EndSystem(end_system) => end_system.handle(message, out),
+            Equipment::Switch(switch) => switch.handle(message, out),
+            Equipment::Line(line) => {
+                line.handle(message, out);
+                EquipmentRecord::Nothing
+            }
+        }
+    }
+
+    /// Takes a message back by the record that was kept of it.
+    pub(crate) fn undo(&mut self, message: &Message, kept: EquipmentRecord)
+        requires { EquipmentCameFrom message.now self.old kept }
+        ensures { self.new ≡ equipment_restored message.now kept self.old }
+    {
+        match self {
+            Equipment::EndSystem(end_system) => end_system.undo(message, kept),
+            Equipment::Switch(switch) => switch.undo(message, kept),
+            Equipment::Line(_) => {}
+        }
+    }
+
+    /// The regulator of a virtual link that the node sends.
+    pub(crate) fn regulator(&self, vl: VlId) -> Option<&BagRegulator>
+        ensures { option_copied result ≡ regulator_in self.now vl }
+    {
+        match self {
+            Equipment::EndSystem(end_system) => end_system.regulator(vl),
+            Equipment::Switch(_) | Equipment::Line(_) => None,
+        }
+    }
+
+    /// A port, if there is such a port.
+    pub(crate) fn port(&self, port: u8) -> Option<&Port>
+        ensures { option_copied result ≡ port_in self.now port }
+    {
+        match self {
+            Equipment::EndSystem(end_system) => end_system.port(port),
+            Equipment::Switch(switch) => switch.port(port),
+            Equipment::Line(_) => None,
+        }
+    }
+}

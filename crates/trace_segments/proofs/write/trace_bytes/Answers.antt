@@ -1,0 +1,14 @@
+use Rattle.std.proofs.Common.{◌≡◌, ℕ, List, []}
+use Rattle.std.specs.List.{flat_map}
+use Rattle.trace_segments.specs.Text.{trace_head, trace_line, trace_text}
+use Rattle.trace_segments.specs.Writing.{Holds}
+use Rattle.trace_segments.proofs.WritingLemmas.{adds-more, if-ok}
+use Rattle.trace_segments.proofs.write.trace_bytes.Goals as goal
+
+pub returns-clause-text : goal.returns-clause-text
+returns-clause-text c =
+    let plan = c.args.network.now in
+    let rows = c.args.rows.now in
+    let all = adds-more c.empty-out.result c.push_head.new.out c.push_rows.new.out trace_head (flat_map (trace_line plan) rows) c.in_ok-push_head.ensures c.in_ok-push_rows.ensures in
+    if-ok (λ bytes. (text : List ℕ) → Holds c.push_rows.new.out text → bytes.items ≡ text) (λ bytes. bytes.items ≡ trace_text plan rows) c.text_of.result
+    (λ bytes h. h (trace_text plan rows) (all [] c.empty-out.ensures)) c.text_of.ensures.text

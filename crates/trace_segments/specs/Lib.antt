@@ -1,0 +1,12 @@
+pub mod Places
+pub mod Known
+pub mod Sinking
+pub mod Text
+pub mod Writing
+pub mod Layout
+pub mod Ordered
+pub mod Intervals
+pub mod Segments
+pub mod Gathering
+pub mod Gathered
+pub mod WrittenTrace

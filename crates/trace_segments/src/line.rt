@@ -1,0 +1,35 @@
+//! Rows of comma-separated fields, laid out by a writer over a text.
+ghost use Rattle.std.specs.Prelude.{◌≡◌, ◌≢◌, ℕ, [], List, map, OnOk, IfOk, IfErr};
+ghost use Rattle.trace_segments.specs.declared.fault.OutFault.TheVariants.{Device};
+ghost use Rattle.trace_segments.specs.Text.{line};
+ghost use Rattle.trace_segments.specs.Writing.{Holds, Adds};
+
+use crate::fault::OutFault;
+use crate::layout::write_fault;
+use csv::{Error, Writer, WriterBuilder};
+use std::alloc::Global;
+
+/// A writer of rows, which holds no text.
+pub fn empty(alloc: Global) -> Writer<Vec<u8>>
+    ensures { Holds result [] }
+{
+    WriterBuilder::new().from_writer(Vec::new(alloc))
+}
+
+/// Puts a row of these fields at the end. An error is the library's own.
+pub fn push(out: &mut Writer<Vec<u8>>, fields: &[&[u8]]) -> Result<(), Error>
+    ensures { OnOk result (Adds out.old out.new (line (map (λ f. f.now) fields.now))) }
+{
+    out.write_fields(fields)
+}
+
+/// The text that a writer holds.
+pub fn text_of(out: Writer<Vec<u8>>) -> Result<Vec<u8>, OutFault>
+    ensures text { IfOk result (λ bytes. (text : List ℕ) → Holds out text → bytes.items ≡ text) }
+    ensures fault { IfErr result (λ fault. fault ≢ Device) }
+{
+    match out.into_inner() {
+        Ok(bytes) => Ok(bytes),
+        Err(error) => Err(write_fault(error.error())),
+    }
+}

@@ -1,0 +1,82 @@
+//! The trace as a whole text, into a sink.
+ghost use Rattle.std.specs.Prelude.{◌≡◌, ◌≢◌, ◌+◌, OnOk, IfOk, IfErr};
+ghost use Rattle.std.specs.List.{flat_map};
+ghost use Rattle.std.specs.Io.KnownBytes.{append_known};
+ghost use Rattle.trace_segments.specs.declared.fault.OutFault.TheVariants.{Device};
+ghost use Rattle.trace_segments.specs.Sinking.{IsBeginning};
+ghost use Rattle.trace_segments.specs.Text.{trace_line, trace_text};
+ghost use Rattle.trace_segments.specs.WrittenTrace.{next_text};
+
+use crate::fault::OutFault;
+use crate::line::{empty, text_of};
+use crate::sink::{Sink, write_all};
+use crate::trace;
+use netdesc::Network;
+use std::alloc::Global;
+use vlink::Row;
+
+/// The text of a trace.
+fn trace_bytes(alloc: Global, network: &Network, rows: &[Row]) -> Result<Vec<u8>, OutFault>
+    ensures text { IfOk result (λ bytes. bytes.items ≡ trace_text network.now rows.now) }
+    ensures fault { IfErr result (λ fault. fault ≢ Device) }
+{
+    let mut out = empty(alloc);
+    trace::push_head(&mut out)?;
+    trace::push_rows(&mut out, network, rows)?;
+    text_of(out)
+}
+
+/// The lines of these rows alone.
+fn line_bytes(alloc: Global, network: &Network, rows: &[Row]) -> Result<Vec<u8>, OutFault>
+    ensures text { IfOk result (λ bytes. bytes.items ≡ flat_map (trace_line network.now) rows.now) }
+    ensures fault { IfErr result (λ fault. fault ≢ Device) }
+{
+    let mut out = empty(alloc);
+    trace::push_rows(&mut out, network, rows)?;
+    text_of(out)
+}
+
+/// The lines of these rows, behind the first line of the trace unless that is written.
+pub(crate) fn next_bytes(
+    alloc: Global,
+    network: &Network,
+    begun: bool,
+    rows: &[Row],
+) -> Result<Vec<u8>, OutFault>
+    ensures text { IfOk result (λ bytes. bytes.items ≡ next_text network.now begun rows.now) }
+    ensures fault { IfErr result (λ fault. fault ≢ Device) }
+{
+    if begun {
+        line_bytes(alloc, network, rows)
+    } else {
+        trace_bytes(alloc, network, rows)
+    }
+}
+
+/// Writes the trace of these rows, in their order, as comma-separated rows, each with a line feed at its end.
+///
+/// First `time_ns,where,vl,what,value`. Then for each row `TIME,NAME,VL,delivered,LATENCY` or `TIME,NAME,VL,CAUSE,SIZE`; times and
+/// latencies are in ns, sizes in bytes. A row whose virtual link or process the network lacks gives no line. NAME is that of the node,
+/// or `from>to` for a line.
+///
+/// The text is made whole before the first byte goes out. `Device` comes only where the sink failed; what went out is a beginning
+/// of the text. `OutOfMemory` comes only where memory was refused, and `Layout` only where the
+/// library that lays out rows failed otherwise; then nothing went out.
+pub fn write_trace<S: Sink>(
+    alloc: Global,
+    network: &Network,
+    rows: &[Row],
+    sink: &mut S,
+) -> Result<(), OutFault>
+    ensures text { OnOk result (S.taken sink.new ≡ append_known (S.taken sink.old) (trace_text network.now rows.now)) }
+    ensures went_well { OnOk result (S.failures sink.new ≡ S.failures sink.old) }
+    ensures device { IfErr result (λ fault. fault ≡ Device → IsBeginning (S.taken sink.old) (S.taken sink.new) (trace_text network.now rows.now)) }
+    ensures failed { IfErr result (λ fault. fault ≡ Device → S.failures sink.new ≡ S.failures sink.old + 1) }
+    ensures kept { IfErr result (λ fault. fault ≢ Device → sink.new ≡ sink.old) }
+{
+    let bytes = trace_bytes(alloc, network, rows)?;
+    match write_all(sink, bytes.as_slice()) {
+        Ok(()) => Ok(()),
+        Err(_) => Err(OutFault::Device),
+    }
+}
