@@ -24,6 +24,7 @@ import os
 import random
 import subprocess
 import sys
+import threading
 import time
 from collections import Counter
 from fractions import Fraction
@@ -253,17 +254,35 @@ class Progress:
     def __init__(self, count):
         self.count, self.begin = count, time.monotonic()
         self.shown, self.last = sys.stderr.isatty(), 0.0
+        self.lock, self.done, self.worst, self.far = threading.Lock(), 0, None, None
+
+    def listen(self, maker):
+        """Has the maker tell how far single runs are, where that is shown."""
+        maker.hear = self.hear if self.shown else None
+
+    def hear(self, name, far):
+        with self.lock:
+            self.far = f"{name} at {far}"
+            self.show()
 
     def tell(self, done, worst):
+        with self.lock:
+            self.done, self.worst, self.far = done, worst, None
+            self.show()
+
+    def show(self):
         now = time.monotonic()
-        if not self.shown or now - self.last < 0.1 and done < self.count:
+        if not self.shown or now - self.last < 0.1 and self.done < self.count:
             return
         self.last = now
         took = now - self.begin
-        left = took / done * (self.count - done) if done else 0
-        text = f"{done:,} of {self.count:,} runs, {took:.0f} s, {left:.0f} s to go"
-        if worst:
-            text += f"; greatest {worst[0]:,} ns: VL {worst[1]} at {worst[2]}, seed {worst[3]}"
+        text = f"{self.done:,} of {self.count:,} runs, {took:.0f} s"
+        if self.done:
+            text += f", {took / self.done * (self.count - self.done):.0f} s to go"
+        if self.far:
+            text += f"; {self.far}"
+        elif self.worst:
+            text += f"; greatest {self.worst[0]:,} ns: VL {self.worst[1]} at {self.worst[2]}, seed {self.worst[3]}"
         width = os.get_terminal_size(sys.stderr.fileno()).columns or 80
         sys.stderr.write("\r\x1b[K" + text[: max(1, width - 1)])
         sys.stderr.flush()
@@ -303,6 +322,7 @@ class Campaign:
         """Has the runs made and takes what they print, seed by seed. The first one in this order that fails ends it. `keep`
         is told the beginning of the name of each one's files, and its texts."""
         progress = Progress(len(self.seeds))
+        progress.listen(maker)
         with contextlib.closing(maker.results(self.runs())) as results:
             try:
                 for run, printed in results:

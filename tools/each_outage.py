@@ -135,6 +135,7 @@ class EachOutage:
         """Has the runs made. `keep` is told the beginning of the name of each one's files, and its texts; `readers` are
         what reads the tables and the trace of a run."""
         tables_of, trace_of = readers
+        progress.listen(maker)
         with contextlib.closing(maker.results(self.runs())) as results:
             try:
                 for run, printed in results:

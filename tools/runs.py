@@ -1,6 +1,7 @@
 """Runs of the program, several side by side on this machine. tools/cluster.py makes them on several machines."""
 import concurrent.futures
 import os
+import re
 import subprocess
 import tempfile
 import threading
@@ -8,6 +9,9 @@ from collections import deque, namedtuple
 
 # A run that is to be made: what it is called, and its description.
 Run = namedtuple("Run", "name text")
+
+# A line of the program that tells how far a run is.
+FAR = re.compile(rb"afdxsim: (\d+ of \d+ ms.*)\n")
 
 # What a run printed: its tables and, where it was asked for, its trace, as texts.
 Printed = namedtuple("Printed", "tables trace")
@@ -30,6 +34,8 @@ class Here:
     def __init__(self, program, jobs, is_traced=False):
         self.program, self.jobs, self.is_traced = program, jobs, is_traced
         self.lock, self.going, self.last = threading.Lock(), {}, None
+        # Who hears how far each run is, if anybody does: it is called with the run's name and a text.
+        self.hear = None
 
     def results(self, runs):
         """Yields each run and what it printed, in the order of the runs. The first one in this order that fails ends it,
@@ -66,13 +72,15 @@ class Here:
         traced = os.path.join(folder, f"{number}.csv")
         if self.is_traced:
             words += ["--trace", traced]
+        if self.hear:
+            words.append("--progress")
         with open(path, "w", encoding="utf-8", newline="\n") as out:
             out.write(run.text)
         with self.lock:
             if self.is_over(number):
                 return None
             self.going[number] = started = self.started(words)
-        printed, said = started.communicate()
+        printed, said = self.heard(run, started) if self.hear else started.communicate()
         with self.lock:
             del self.going[number]
             if self.is_over(number):
@@ -81,6 +89,24 @@ class Here:
         if started.returncode != 0:
             raise Failure(failure_of(started.returncode, said))
         return Printed(printed.decode("utf-8", "replace"), taken_from(traced) if self.is_traced else None)
+
+    def heard(self, run, started):
+        """What a run printed and said; of how far it is, one is told who hears."""
+        said = []
+
+        def listen():
+            for line in started.stderr:
+                if far := FAR.fullmatch(line):
+                    self.hear(run.name, far[1].decode("ascii", "replace"))
+                else:
+                    said.append(line)
+
+        with started:
+            listener = threading.Thread(target=listen)
+            listener.start()
+            printed = started.stdout.read()
+            listener.join()
+        return printed, b"".join(said)
 
     @staticmethod
     def started(words):

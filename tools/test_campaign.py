@@ -38,7 +38,7 @@ if sys.argv[1] == "check":
 {lines}
 simulation = Simulation(net)
 simulation.run()
-if sys.argv[3:]:
+if sys.argv[3:4] == ["--trace"]:
     with open(sys.argv[4], "w") as out:
         print(*simulation.trace(), sep="\\n", file=out)
 print("\\n".join(simulation.tables()))
@@ -364,6 +364,22 @@ class WithAStandIn(Here):
         self.assertEqual(run.returncode, 0)
         self.assertRegex(shown, rb"3 of 3 runs, \d+ s, 0 s to go; greatest 27,720 ns: VL 1 at ES2, seed 42")
         self.assertTrue(shown.endswith(b"\r\x1b[K"))
+
+    def test_a_long_run_is_watched(self):
+        """On a terminal the line tells how far a run is; what else it says is its fault. Elsewhere no run is asked."""
+        far = "if '--progress' in sys.argv:\n    sys.stderr.write('afdxsim: 1 of 2 ms, 50 %, 1 s left\\n'); sys.stderr.flush(); time.sleep(0.3)\n"
+        command = [sys.executable, os.path.join(HERE, "campaign.py"), N1, "--seeds", "1", "-o", self.output]
+        for fails, status in ("", 0), ("sys.exit('afdxsim: out of memory')\n", 1):
+            self.stand_in(far + fails)
+            terminal, end = pty.openpty()
+            run = subprocess.run([*command, "--program", self.program], stdout=subprocess.PIPE, stderr=end)
+            os.close(end)
+            shown = os.read(terminal, 65536)
+            os.close(terminal)
+            self.assertEqual(run.returncode, status)
+            self.assertRegex(shown, rb"0 of 1 runs, \d+ s; seed 42 at 1 of 2 ms, 50 %, 1 s left")
+            self.assertEqual(b"out of memory" in shown, status == 1)
+            self.assertEqual(subprocess.run([*command, "--program", self.program], capture_output=True).returncode, status)
 
     def test_bad_limits(self):
         self.stand_in()

@@ -8,9 +8,9 @@ use Rattle.command_line.specs.declared.orders.Order.{Order}
 use Rattle.netdesc.specs.Plan.{Plan}
 use Rattle.afdxsim.specs.declared.fault.Fault.{Fault}
 use Rattle.afdxsim.specs.declared.fault.Fault.TheVariants.{CannotWrite}
-use Rattle.afdxsim.specs.Ending.{IsFaultOfOutput, Told}
+use Rattle.afdxsim.specs.Ending.{IsFaultOfOutput}
 use Rattle.afdxsim.specs.Naming.{net_of}
-use Rattle.afdxsim.specs.Orders.{Done, DoneOn, HasEnded, IsFaultOf, IsFaultOfWork, IsFaultOn, IsQuiet, IsTold}
+use Rattle.afdxsim.specs.Orders.{Done, DoneOn, HasEnded, IsFaultOf, IsFaultOfWork, IsFaultOn, IsHeard, IsTold, asks_progress, heard_host}
 use Rattle.afdxsim.specs.Outside.{Outside}
 use Rattle.afdxsim.specs.Performing.{found_in}
 use Rattle.afdxsim.specs.Reading.{GivesNetwork, IsFaultOfNet}
@@ -32,6 +32,10 @@ ok_if (Err e) p f = tt
 pub on_three : {T F P Q R V : Type 0} (r : Result T F) → OnOk r P → OnOk r Q → OnOk r R → (P → Q → R → V) → OnOk r V
 on_three (Ok x) p q s f = f p q s
 on_three (Err e) p q s f = tt
+
+err_both : {T F Q : Type 0} {P R : F → Type 0} (r : Result T F) → IfErr r P → OnErr r Q → ((e : F) → P e → Q → R e) → IfErr r R
+err_both (Ok x) p q f = tt
+err_both (Err e) p q f = f e p q
 
 pub on_err : {T F P Q : Type 0} (r : Result T F) → OnErr r P → (P → Q) → OnErr r Q
 on_err (Ok x) p f = tt
@@ -58,28 +62,38 @@ module _ {S F O E : Type 0} (outside : Outside S F O E) (r : Result (Unit {0}) F
     pub done_there : OnOk r (DoneOn outside begun new plan order) → OnOk r (Done outside old new order)
     done_there did = ok_then r did (λ is. (plan, gives, subst (λ host. DoneOn outside host new plan order) same is))
 
-    pub fault_there : IfErr r (IsFaultOn outside begun new plan order) → IfErr r (IsFaultOf outside old new order)
-    fault_there met = err_then r met (λ fault is. inr (plan, gives, subst (λ host. IsFaultOn outside host new plan order fault) same is))
+    pub fault_there : (heard : E) → IfErr r (IsFaultOn outside begun new plan order heard) → OnErr r (IsHeard outside begun (asks_progress order) plan heard) →
+        IfErr r (IsFaultOf outside old new order heard)
+    fault_there heard met hears = err_both r met hears (λ fault is h. inr (
+      plan,
+      gives,
+      subst (λ host. IsFaultOn outside host new plan order heard fault) same is,
+      subst (λ host. IsHeard outside host (asks_progress order) plan heard) same h,
+    ))
 
   -- the host was `old` before and `after` once the order was done or met a fault; then that was told, and it is `new`
-  pub has_ended : (status : ℕ) (old after new : S) → OnOk r (Done outside old after order) → IfErr r (IsFaultOf outside old after order) →
-      IfErr r (λ fault. fault ≢ CannotWrite → outside.output after ≡ outside.output old) → OnErr r (IsQuiet outside old after) →
+  pub has_ended : (status : ℕ) (old after new : S) → OnOk r (Done outside old after order) → IfErr r (IsFaultOf outside old after order (outside.errors after)) →
+      IfErr r (λ fault. fault ≢ CannotWrite → outside.output after ≡ outside.output old) →
       OnOk r ((status ≡ 0) × (new ≡ after)) → IfErr r (λ fault. TellsOne fault (IsTold outside after new status)) →
       outside.output new ≡ outside.output after → HasEnded outside old new order status
-  has_ended status old after new done met kept quiet zero told same = go r done met kept quiet zero told
+  has_ended status old after new done met kept zero told same = go r done met kept zero told
     where
-      go : (r : Result (Unit {0}) Fault) → OnOk r (Done outside old after order) → IfErr r (IsFaultOf outside old after order) →
-          IfErr r (λ fault. fault ≢ CannotWrite → outside.output after ≡ outside.output old) → OnErr r (IsQuiet outside old after) →
+      go : (r : Result (Unit {0}) Fault) → OnOk r (Done outside old after order) → IfErr r (IsFaultOf outside old after order (outside.errors after)) →
+          IfErr r (λ fault. fault ≢ CannotWrite → outside.output after ≡ outside.output old) →
           OnOk r ((status ≡ 0) × (new ≡ after)) → IfErr r (λ fault. TellsOne fault (IsTold outside after new status)) → HasEnded outside old new order status
-      go (Ok x) done met kept quiet zero told = inl (zero.0, subst (λ host. Done outside old host order) (sym zero.1) done)
-      go (Err fault) done met kept quiet zero told =
+      go (Ok x) done met kept zero told = inl (zero.0, subst (λ host. Done outside old host order) (sym zero.1) done)
+      go (Err fault) done met kept zero told =
+          let heard = outside.errors after in
           inr (
             fault,
-            subst (λ out. IsFaultOfNet (outside.gives old (net_of order)) (net_of order) fault
+            heard,
+            subst (λ out. (IsFaultOfNet (outside.gives old (net_of order)) (net_of order) fault × (heard ≡ outside.errors old))
                 ⊎ ((plan : Plan) × GivesNetwork (outside.gives old (net_of order)) plan ×
-                (IsFaultOfWork outside old plan order fault ⊎ IsFaultOfOutput outside.unshown (outside.output old) out fault))) (sym same) met,
+                (IsFaultOfWork outside (heard_host outside old (asks_progress order) heard) plan order fault
+                ⊎ IsFaultOfOutput outside.unshown (outside.output old) out fault) ×
+                IsHeard outside old (asks_progress order) plan heard)) (sym same) met,
             (λ other. same ∙ kept other),
-            subst (λ said. TellsOne fault (Told outside.said outside.unsaid said (outside.errors new) status)) quiet told,
+            told,
           )
 
 -- words that are accepted, where memory was refused before they were an order

@@ -33,7 +33,7 @@ module _ {S F O E : Type 0} (outside : Outside S F O E) where
     given ∙ ap (λ host. outside.closed host path file) opened,
   )
 
-  of_text : (path : List ℕ) (P Q : List ℕ → Type 0) (old new : S) → WritesFile outside path P old new → ((text : List ℕ) → P text → Q text) →
+  pub of_text : (path : List ℕ) (P Q : List ℕ → Type 0) (old new : S) → WritesFile outside path P old new → ((text : List ℕ) → P text → Q text) →
       WritesFile outside path Q old new
   of_text path P Q old new wrote f = (wrote.0, if_some (outside.wrote wrote.0) wrote.1 f, wrote.2)
 

@@ -6,3 +6,4 @@ pub mod Ended
 pub mod Leaving
 pub mod Streams
 pub mod Holding
+pub mod Heard

@@ -10,4 +10,6 @@ pub mod Naming
 pub mod Reading
 pub mod Replaying
 pub mod Orders
+pub mod Progress
+pub mod MoreProgress
 pub mod Performing

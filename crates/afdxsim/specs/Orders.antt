@@ -1,5 +1,5 @@
 -- What comes of an order. A new command is a case of `DoneOn` and of `IsFaultOfWork`, and of the files that it names.
-use Rattle.std.specs.Prelude.{◌≡◌, ◌≢◌, ◌⊎◌, ℕ, List, Option, Some, option_map, string_bytes}
+use Rattle.std.specs.Prelude.{◌≡◌, ◌≢◌, ◌⊎◌, ℕ, Bool, true, false, List, Option, Some, option_map, string_bytes}
 use Rattle.command_line.specs.declared.orders.Order.{Order}
 use Rattle.command_line.specs.declared.orders.Order.TheVariants as ordered
 use Rattle.netdesc.specs.Plan.{Plan}
@@ -10,6 +10,7 @@ use Rattle.afdxsim.specs.Ending.{IsFaultOfOutput, Told, Took}
 use Rattle.afdxsim.specs.Files.{IsFaultOfKeptFile, IsFaultOfTraceFile, LeavesRun, LeavesSeq, ShowsAlone, ShowsBoth, TellsAlone}
 use Rattle.afdxsim.specs.Naming.{NamesApart, NamesTwice, TellsTwice, net_of}
 use Rattle.afdxsim.specs.Outside.{Outside}
+use Rattle.afdxsim.specs.Progress.{HearsAsked}
 use Rattle.afdxsim.specs.Reading.{GivesNetwork, IsFaultOfNet}
 use Rattle.afdxsim.specs.Replaying.{GivesTexts, IsFaultOfSteps}
 use Rattle.afdxsim.specs.Sequencing.{IsFaultOfRun, IsTablesText}
@@ -25,6 +26,25 @@ IsFaultOfWork outside old plan (ordered.Run o) fault =
     IsFaultOfPool fault ⊎ IsFaultOfFiles (option_map string_bytes o.journal) (option_map string_bytes o.trace)
     (IsFaultOfKeptFile outside (option_map string_bytes o.trace) old plan) (IsFaultOfTraceFile outside old plan) fault
 IsFaultOfWork outside old plan (ordered.Replay o) fault = IsFaultOfSteps plan (outside.gives old (string_bytes o.steps)) (string_bytes o.steps) fault
+
+-- whether the order asks for progress
+abbrev pub asks_progress : Order → Bool
+asks_progress (ordered.Check o) = false
+asks_progress (ordered.Seq o) = o.progress
+asks_progress (ordered.Run o) = o.progress
+asks_progress (ordered.Replay o) = false
+
+-- the host was `old` before
+module _ {S F O E : Type 0} (outside : Outside S F O E) (old : S) where
+  -- once the run of the network was over, error output was `heard`: it took lines that tell how far the run was, where progress is asked for;
+  -- else it took nothing
+  abbrev pub IsHeard : Bool → Plan → E → Type 0
+  IsHeard asked plan heard = HearsAsked outside.said outside.unsaid asked plan.until (outside.errors old) heard
+
+  -- the host with that error output
+  abbrev pub heard_host : Bool → E → S
+  heard_host false heard = old
+  heard_host true heard = outside.with_errors old heard
 
 -- the host was `old` before, and is `new` after
 module _ {S F O E : Type 0} (outside : Outside S F O E) (old new : S) where
@@ -47,36 +67,49 @@ module _ {S F O E : Type 0} (outside : Outside S F O E) (old new : S) where
   -- the order was done on this network: this was shown, and this is left behind
   abbrev pub DoneOn : Plan → Order → Type 0
   DoneOn plan (ordered.Check o) = Shows (check_text plan) × ShowsAlone outside old new × IsQuiet
-  DoneOn plan (ordered.Seq o) = ShowsTables plan × LeavesSeq outside (option_map string_bytes o.trace) old new plan × IsQuiet
+  DoneOn plan (ordered.Seq o) =
+      ShowsTables plan × LeavesSeq outside (option_map string_bytes o.trace) (heard_host outside old o.progress (outside.errors new)) new plan ×
+      IsHeard outside old o.progress plan (outside.errors new)
   DoneOn plan (ordered.Run o) =
-      ShowsTables plan × LeavesRun outside (option_map string_bytes o.journal) (option_map string_bytes o.trace) old new plan × IsQuiet
+      ShowsTables plan ×
+      LeavesRun outside (option_map string_bytes o.journal) (option_map string_bytes o.trace) (heard_host outside old o.progress (outside.errors new)) new plan ×
+      IsHeard outside old o.progress plan (outside.errors new)
   DoneOn plan (ordered.Replay o) =
       (tables : List ℕ) × (line : List ℕ) × GivesTexts plan (outside.gives old (string_bytes o.steps)) tables line × Shows tables × Says line ×
       ShowsBoth outside old new
 
-  -- why the order was not done on this network: there was nothing to show, or standard output did not take it
-  abbrev pub IsFaultOn : Plan → Order → Fault → Type 0
-  IsFaultOn plan order fault = IsFaultOfWork outside old plan order fault ⊎ IsFaultOfOutput outside.unshown (outside.output old) (outside.output new) fault
+  -- why the order was not done on this network, where error output was `heard` by then: there was nothing to show, or standard output did not
+  -- take it
+  abbrev pub IsFaultOn : Plan → Order → E → Fault → Type 0
+  IsFaultOn plan order heard fault =
+      IsFaultOfWork outside (heard_host outside old (asks_progress order) heard) plan order fault
+      ⊎ IsFaultOfOutput outside.unshown (outside.output old) (outside.output new) fault
 
   -- a read of NET may give a text that describes a network, and the order was done on that
   abbrev pub Done : Order → Type 0
   Done order = (plan : Plan) × GivesNetwork (outside.gives old (net_of order)) plan × DoneOn plan order
 
-  -- why the order was not done: NET gave no network, or it was not done on the one that it gave
-  abbrev pub IsFaultOf : Order → Fault → Type 0
-  IsFaultOf order fault =
-      IsFaultOfNet (outside.gives old (net_of order)) (net_of order) fault
-      ⊎ ((plan : Plan) × GivesNetwork (outside.gives old (net_of order)) plan × IsFaultOn plan order fault)
+  -- why the order was not done, where error output was `heard` by then: NET gave no network, or it was not done on the one that it gave
+  abbrev pub IsFaultOf : Order → E → Fault → Type 0
+  IsFaultOf order heard fault =
+      (IsFaultOfNet (outside.gives old (net_of order)) (net_of order) fault × (heard ≡ outside.errors old))
+      ⊎ ((plan : Plan) × GivesNetwork (outside.gives old (net_of order)) plan × IsFaultOn plan order heard fault ×
+      IsHeard outside old (asks_progress order) plan heard)
 
-  -- this is told on error output, and goes with this status
+  -- this is told on error output behind what it took before, and goes with this status
+  abbrev pub IsToldBehind : E → ℕ → Telling → Type 0
+  IsToldBehind heard status telling = Told outside.said outside.unsaid heard (outside.errors new) status telling
+
+  -- this is told, and nothing was before
   abbrev pub IsTold : ℕ → Telling → Type 0
-  IsTold status telling = Told outside.said outside.unsaid (outside.errors old) (outside.errors new) status telling
+  IsTold status telling = IsToldBehind (outside.errors old) status telling
 
   -- the order has ended: it was done, or a fault was met and told, and standard output took nothing, unless it is what failed
   abbrev pub HasEnded : Order → ℕ → Type 0
   HasEnded order status =
       ((status ≡ 0) × Done order)
-      ⊎ ((fault : Fault) × IsFaultOf order fault × (fault ≢ CannotWrite → outside.output new ≡ outside.output old) × TellsOne fault (IsTold status))
+      ⊎ ((fault : Fault) × (heard : E) × IsFaultOf order heard fault × (fault ≢ CannotWrite → outside.output new ≡ outside.output old) ×
+      TellsOne fault (IsToldBehind heard status))
 
   -- what comes of the order: it names a file twice, which is told, and nothing else happened; or it does not, and it has ended
   abbrev pub Ends : Order → ℕ → Type 0

@@ -42,6 +42,11 @@ pub record IsHost {S F O E : Type 0} (outside : Outside S F O E) (file_taken : F
   pub errors_at_made : (host : S) (path : List ℕ) → outside.errors (outside.made host path) ≡ outside.errors host
   pub output_at_closed : (host : S) (path : List ℕ) (file : F) → outside.output (outside.closed host path file) ≡ outside.output host
   pub errors_at_closed : (host : S) (path : List ℕ) (file : F) → outside.errors (outside.closed host path file) ≡ outside.errors host
+  -- error output that is put back changes nothing
+  pub errors_same : (host : S) → outside.with_errors host (outside.errors host) ≡ host
+  -- what is said on error output, and a file that is made, are beside each other
+  pub errors_before_made : (host : S) (path : List ℕ) (out : E) → outside.with_errors (outside.made host path) out ≡ outside.made (outside.with_errors host out) path
+  pub makes_beside : (host : S) (path : List ℕ) (out : E) (is_made : Bool) → outside.makes host path is_made → outside.makes (outside.with_errors host out) path is_made
   -- of what its sinks took, and of their failures, the host tells as they do
   pub file_took : (file : F) → outside.wrote file ≡ file_taken file
   pub file_failed : (file : F) → outside.unwritten file ≡ file_failures file

@@ -71,6 +71,9 @@ pub trait Host {
         ensures* writes_back { sem 𝓛 (Lends Self.row Self.Errors.row self.entry result (outside.with_errors self.old)) }
         ensures value { result.now ≡ outside.errors self.old };
 
+    /// Whether error output is a terminal.
+    fn is_terminal(&self) -> bool;
+
     /// The law of a host.
     ghost lawful: { IsHost outside Self.File.taken Self.File.failures Self.Output.taken Self.Output.failures Self.Errors.taken Self.Errors.failures };
 }

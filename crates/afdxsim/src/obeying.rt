@@ -2,7 +2,7 @@
 ghost use Rattle.std.specs.Prelude.{◌≡◌, ◌≢◌, ◌⊎◌, ℕ, List, OnOk, OnErr, IfErr};
 ghost use Rattle.afdxsim.specs.declared.fault.Fault.TheVariants.{CannotWrite};
 ghost use Rattle.afdxsim.specs.Naming.{NamesTwice};
-ghost use Rattle.afdxsim.specs.Orders.{Done, DoneOn, Ends, IsFaultOf, IsFaultOn, IsQuiet, IsTold};
+ghost use Rattle.afdxsim.specs.Orders.{Done, DoneOn, Ends, IsFaultOf, IsFaultOn, IsHeard, IsTold, asks_progress};
 ghost use Rattle.afdxsim.specs.Telling.{TellsOne};
 
 use crate::answering::refuse_twice;
@@ -20,9 +20,10 @@ use netdesc::Network;
 use std::alloc::Global;
 use std::sync::Wait;
 use std::thread::Threads;
+use std::time::Clock;
 
 /// Does on a network what is ordered. A fault ends it at once.
-fn done_on<'a, H: Host, T: Threads + Wait + Sync>(
+fn done_on<'a, H: Host, T: Threads + Wait + Clock + Sync>(
     rt: &T,
     alloc: Global,
     network: Network,
@@ -30,29 +31,28 @@ fn done_on<'a, H: Host, T: Threads + Wait + Sync>(
     host: &mut H,
 ) -> Result<(), Fault<'a>>
     ensures done { OnOk result (DoneOn H.outside host.old host.new network order.entry.now) }
-    ensures fault { IfErr result (IsFaultOn H.outside host.old host.new network order.entry.now) }
+    ensures fault { IfErr result (IsFaultOn H.outside host.old host.new network order.entry.now (H.outside.errors host.new)) }
     ensures kept { IfErr result (λ fault. fault ≢ CannotWrite → H.outside.output host.new ≡ H.outside.output host.old) }
-    ensures quiet { OnErr result (IsQuiet H.outside host.old host.new) }
+    ensures heard { OnErr result (IsHeard H.outside host.old (asks_progress order.entry.now) network (H.outside.errors host.new)) }
 {
     match order {
         Order::Check(_) => check(alloc, &network, host),
-        Order::Seq(order) => seq(alloc, &network, order, host),
+        Order::Seq(order) => seq(rt, alloc, &network, order, host),
         Order::Run(order) => run(rt, alloc, &network, order, host),
         Order::Replay(order) => replay(alloc, network, order, host),
     }
 }
 
 /// Does what is ordered. The description is read and judged before any other file is read or made.
-fn done<'a, H: Host, T: Threads + Wait + Sync>(
+fn done<'a, H: Host, T: Threads + Wait + Clock + Sync>(
     rt: &T,
     alloc: Global,
     order: &'a Order,
     host: &mut H,
 ) -> Result<(), Fault<'a>>
     ensures done { OnOk result (Done H.outside host.old host.new order.entry.now) }
-    ensures fault { IfErr result (IsFaultOf H.outside host.old host.new order.entry.now) }
+    ensures fault { IfErr result (IsFaultOf H.outside host.old host.new order.entry.now (H.outside.errors host.new)) }
     ensures kept { IfErr result (λ fault. fault ≢ CannotWrite → H.outside.output host.new ≡ H.outside.output host.old) }
-    ensures quiet { OnErr result (IsQuiet H.outside host.old host.new) }
 {
     let network = network_of(alloc, net_of(order), host)?;
     done_on(rt, alloc, network, order, host)
@@ -73,7 +73,7 @@ fn end<H: Host>(alloc: Global, outcome: Result<(), Fault<'_>>, host: &mut H) -> 
 
 /// Does what is ordered, and tells the fault that it met, if there was one. Where the order names a file twice, that is told, and nothing is
 /// read, made or written.
-pub fn obey<H: Host, T: Threads + Wait + Sync>(
+pub fn obey<H: Host, T: Threads + Wait + Clock + Sync>(
     rt: &T,
     alloc: Global,
     order: &Order,

@@ -11,6 +11,7 @@ use std::alloc::Global;
 use std::convert::AsStr;
 use std::sync::Wait;
 use std::thread::Threads;
+use std::time::Clock;
 
 /// The whole program. The words are those after its name; the answer is the status that it ends with: 0 done, or help was asked for;
 /// 2 bad words; 3 a bad description or journal; 4 a file or standard output failed, or a worker did not start; 5 memory or the numbers of a
@@ -20,7 +21,7 @@ use std::thread::Threads;
 /// one line there; where error output fails, nothing more is said. A fault ends the program at once, and what was written before it stays.
 /// Words are bad, too, where two of the description, the trace and the journal are one file, as far as the host tells: a line names it, and
 /// nothing is read, made or written.
-pub fn perform<'a, S: AsStr, H: Host, T: Threads + Wait + Sync>(
+pub fn perform<'a, S: AsStr, H: Host, T: Threads + Wait + Clock + Sync>(
     rt: &T,
     alloc: Global,
     words: &'a [S],

@@ -66,7 +66,7 @@ pub fn replay<'a, H: Host>(
     host: &mut H,
 ) -> Result<(), Fault<'a>>
     ensures done { OnOk result (DoneOn H.outside host.old host.new network (ordered.Replay order.entry.now)) }
-    ensures fault { IfErr result (IsFaultOn H.outside host.old host.new network (ordered.Replay order.entry.now)) }
+    ensures fault { IfErr result (IsFaultOn H.outside host.old host.new network (ordered.Replay order.entry.now) (H.outside.errors host.new)) }
     ensures kept { IfErr result (λ fault. fault ≢ CannotWrite → H.outside.output host.new ≡ H.outside.output host.old) }
     ensures quiet { OnErr result (IsQuiet H.outside host.old host.new) }
 {

@@ -1,4 +1,4 @@
-//! `run NET [--workers N] [--turn N] [--window NS] [--journal FILE] [--trace FILE]`: the run of a network by workers.
+//! `run NET [--workers N] [--turn N] [--window NS] [--journal FILE] [--trace FILE] [--progress]`: the run of a network by workers.
 ghost use Rattle.std.specs.Prelude.{◌≡◌, ◌≢◌, ◌⊎◌, ℕ, true, List, IfErr, IfOk, OnOk, option_map, is_some, string_bytes};
 ghost use Rattle.command_line.specs.declared.orders.Order.TheVariants as ordered;
 ghost use Rattle.journal_text.specs.Text.{steps_text};
@@ -7,12 +7,13 @@ ghost use Rattle.worker_pool.specs.Runs.{IsJournalAsked};
 ghost use Rattle.afdxsim.specs.declared.fault.Fault.TheVariants.{CannotWrite};
 ghost use Rattle.afdxsim.specs.Ending.{Took};
 ghost use Rattle.afdxsim.specs.Files.{IsFaultOfTraceFile, LeavesRun, TookSome, WritesAsked, WritesFile, WritesSome};
-ghost use Rattle.afdxsim.specs.Orders.{IsFaultOn, IsQuiet, ShowsTables};
+ghost use Rattle.afdxsim.specs.Orders.{IsFaultOn, IsHeard, IsQuiet, ShowsTables, heard_host};
 ghost use Rattle.afdxsim.specs.Sequencing.{IsTablesText, IsTraceText};
 ghost use Rattle.afdxsim.specs.Workers.{IsFaultOfPool, IsFaultOfJournalFile};
 
 use crate::fault::Fault;
 use crate::host::{FileFault, Host};
+use crate::progress::asked_of;
 use crate::seq::show_tables;
 use crate::steps::write_steps;
 use crate::workers::{found_by_workers, found_with_trace, pace_of};
@@ -21,32 +22,40 @@ use netdesc::Network;
 use std::alloc::Global;
 use std::sync::Wait;
 use std::thread::Threads;
+use std::time::Clock;
 use trace_tables::{OutFault, Sink};
 use vlink::Step;
 use worker_pool::{Pace, Summary};
 
-/// Makes the file with this path, and simulates the network by workers, which write the trace into it.
+/// Makes the file with this path, and simulates the network by workers, which write the trace into it. Error output is told how far the run is,
+/// where that is asked for.
 #[tactic(auto, using(crate::proofs::Unwritten::run_took))]
-fn simulate_with_trace<'a, H: Host, T: Threads + Wait + Sync>(
+fn simulate_with_trace<'a, H: Host, T: Threads + Wait + Clock + Sync>(
     rt: &T,
     alloc: Global,
     network: &Network,
     pace: Pace,
     with_steps: bool,
     path: &'a str,
+    is_asked: bool,
     host: &mut H,
 ) -> Result<Summary, Fault<'a>>
     ensures text { IfOk result (λ found. IsTablesText network.now (tables_text network.now found.tables)) }
     ensures journal { IfOk result (λ found. IsJournalAsked network.now with_steps found.journal.items) }
-    ensures trace { OnOk result (WritesFile H.outside path.entry.now (IsTraceText network.now) host.old host.new) }
+    ensures trace { OnOk result (WritesFile H.outside path.entry.now (IsTraceText network.now)
+        (heard_host H.outside host.old is_asked (H.outside.errors host.new)) host.new) }
     ensures fault { IfErr result (λ fault. IsFaultOfPool fault ⊎
-        IsFaultOfTraceFile H.outside host.old network.now path.entry.now fault) }
+        IsFaultOfTraceFile H.outside (heard_host H.outside host.old is_asked (H.outside.errors host.new)) network.now path.entry.now fault) }
     ensures output { H.outside.output host.new ≡ H.outside.output host.old }
-    ensures quiet { IsQuiet H.outside host.old host.new }
+    ensures heard { IsHeard H.outside host.old is_asked network.now (H.outside.errors host.new) }
 {
+    let asked = asked_of(is_asked, host);
     match host.make(path) {
         Ok(file) => {
-            let (found, file) = found_with_trace(rt, alloc, network, pace, with_steps, path, file)?;
+            let errors = host.errors();
+            let (found, file) = found_with_trace(
+                rt, alloc, network, pace, with_steps, path, file, asked, errors,
+            )?;
             host.close(path, file);
             Ok(found)
         }
@@ -55,8 +64,30 @@ fn simulate_with_trace<'a, H: Host, T: Threads + Wait + Sync>(
     }
 }
 
-/// Simulates the network by workers. Where a trace is asked for, its file is made first, and the run writes it.
-fn simulate<'a, H: Host, T: Threads + Wait + Sync>(
+/// Simulates the network by workers, without a trace. Error output is told how far the run is, where that is asked for.
+fn heard_by_workers<H: Host, T: Threads + Wait + Clock + Sync>(
+    rt: &T,
+    alloc: Global,
+    network: &Network,
+    pace: Pace,
+    with_steps: bool,
+    is_asked: bool,
+    host: &mut H,
+) -> Result<Summary, Fault<'static>>
+    ensures text { IfOk result (λ found. IsTablesText network.now (tables_text network.now found.tables)) }
+    ensures journal { IfOk result (λ found. IsJournalAsked network.now with_steps found.journal.items) }
+    ensures fault { IfErr result IsFaultOfPool }
+    ensures heard { IsHeard H.outside host.old is_asked network.now (H.outside.errors host.new) }
+    ensures host { host.new ≡ heard_host H.outside host.old is_asked (H.outside.errors host.new) }
+    ensures output { H.outside.output host.new ≡ H.outside.output host.old }
+{
+    let asked = asked_of(is_asked, host);
+    found_by_workers(rt, alloc, network, pace, with_steps, asked, host.errors())
+}
+
+/// Simulates the network by workers. Where a trace is asked for, its file is made first, and the run writes it. Error output is told how far the
+/// run is, where that is asked for.
+fn simulate<'a, H: Host, T: Threads + Wait + Clock + Sync>(
     rt: &T,
     alloc: Global,
     network: &Network,
@@ -65,12 +96,13 @@ fn simulate<'a, H: Host, T: Threads + Wait + Sync>(
 ) -> Result<Summary, Fault<'a>>
     ensures text { IfOk result (λ found. IsTablesText network.now (tables_text network.now found.tables)) }
     ensures journal { IfOk result (λ found. IsJournalAsked network.now (is_some order.entry.now.journal) found.journal.items) }
-    ensures trace { OnOk result (WritesAsked H.outside (option_map string_bytes order.entry.now.trace) (IsTraceText network.now) host.old host.new) }
+    ensures trace { OnOk result (WritesAsked H.outside (option_map string_bytes order.entry.now.trace) (IsTraceText network.now)
+        (heard_host H.outside host.old order.entry.now.progress (H.outside.errors host.new)) host.new) }
     ensures fault { IfErr result (λ fault. IsFaultOfPool fault ⊎
         ((path : List ℕ) × (option_map string_bytes order.entry.now.trace ≡ Some path) ×
-        IsFaultOfTraceFile H.outside host.old network.now path fault)) }
+        IsFaultOfTraceFile H.outside (heard_host H.outside host.old order.entry.now.progress (H.outside.errors host.new)) network.now path fault)) }
     ensures output { H.outside.output host.new ≡ H.outside.output host.old }
-    ensures quiet { IsQuiet H.outside host.old host.new }
+    ensures heard { IsHeard H.outside host.old order.entry.now.progress network.now (H.outside.errors host.new) }
 {
     let pace = pace_of(order);
     let with_steps = order.journal.is_some();
@@ -82,9 +114,10 @@ fn simulate<'a, H: Host, T: Threads + Wait + Sync>(
             pace,
             with_steps,
             path.as_str(),
+            order.progress,
             host,
         ),
-        None => found_by_workers(rt, alloc, network, pace, with_steps),
+        None => heard_by_workers(rt, alloc, network, pace, with_steps, order.progress, host),
     }
 }
 
@@ -150,11 +183,11 @@ fn keep_journal<'a, H: Host>(
     }
 }
 
-/// Simulates the network by workers, which write the trace on the way, if one is ordered: its file is made before the run. Then the journal
-/// goes into its file, if one is ordered, and then the tables to standard output. A fault ends it at once: what was written stays, and nothing
+/// Simulates the network by workers, which write the trace on the way, if one is ordered: its file is made before the run. Error output is told
+/// how far it is, where that is ordered. Then the journal goes into its file, if one is ordered, and then the tables to standard output. A fault ends it at once: what was written stays, and nothing
 /// that comes later is made or written. Steps are listed only for a journal, and rows never.
 #[tactic(auto, using(crate::proofs::Unwritten::kept_of))]
-pub fn run<'a, H: Host, T: Threads + Wait + Sync>(
+pub fn run<'a, H: Host, T: Threads + Wait + Clock + Sync>(
     rt: &T,
     alloc: Global,
     network: &Network,
@@ -163,10 +196,10 @@ pub fn run<'a, H: Host, T: Threads + Wait + Sync>(
 ) -> Result<(), Fault<'a>>
     ensures tables { OnOk result (ShowsTables H.outside host.old host.new network.now) }
     ensures left { OnOk result (LeavesRun H.outside (option_map string_bytes order.entry.now.journal) (option_map string_bytes order.entry.now.trace)
-        host.old host.new network.now) }
-    ensures fault { IfErr result (IsFaultOn H.outside host.old host.new network.now (ordered.Run order.entry.now)) }
+        (heard_host H.outside host.old order.entry.now.progress (H.outside.errors host.new)) host.new network.now) }
+    ensures fault { IfErr result (IsFaultOn H.outside host.old host.new network.now (ordered.Run order.entry.now) (H.outside.errors host.new)) }
     ensures kept { IfErr result (λ fault. fault ≢ CannotWrite → H.outside.output host.new ≡ H.outside.output host.old) }
-    ensures quiet { IsQuiet H.outside host.old host.new }
+    ensures heard { IsHeard H.outside host.old order.entry.now.progress network.now (H.outside.errors host.new) }
 {
     let found = simulate(rt, alloc, network, order, host)?;
     keep_journal(alloc, found.journal.as_slice(), order, host)?;

@@ -5,7 +5,7 @@ use crate::host::{FileFault, Host};
 use std::alloc::Global;
 use std::fs;
 use std::fs::File;
-use std::io::{Error, ErrorKind, Stderr, Stdout, Write};
+use std::io::{Error, ErrorKind, IsTerminal, Stderr, Stdout, Write};
 use std::os::unix::fs::MetadataExt;
 use std::path::Path;
 use trace_tables::{Sink, SinkFault};
@@ -169,6 +169,9 @@ impl Host for System {
       output_failed = λ _. refl;
       errors_took = λ _. refl;
       errors_failed = λ _. refl;
+      errors_same = λ _. refl;
+      errors_before_made = λ _ _ _. refl;
+      makes_beside = λ _ _ _ _ is. is;
     } };
 
     fn is_one_file(&self, first: &str, second: &str) -> bool {
@@ -200,5 +203,9 @@ impl Host for System {
 
     fn errors(&mut self) -> &mut Device<Stderr> {
         &mut self.errors
+    }
+
+    fn is_terminal(&self) -> bool {
+        self.errors.writer.is_terminal()
     }
 }

@@ -1,5 +1,5 @@
 //! What the program says of a fault, on one line of error output.
-ghost use Rattle.std.specs.Prelude.{◌≡◌, ◌⊎◌, ◌++◌, [], codes, decimal, OnOk, IfOk, string_bytes};
+ghost use Rattle.std.specs.Prelude.{◌≡◌, ◌≤◌, ◌⊎◌, ◌++◌, [], codes, decimal, OnOk, IfOk, string_bytes};
 ghost use Rattle.std.specs.Option.{option_map_or};
 ghost use Rattle.afdxsim.specs.Telling.{place_text, place_of, fault_name, description_text, fault_text, told, telling_of, telling_of_no_text, telling_of_twice, TellsOne};
 ghost use Rattle.afdxsim.specs.Ending.{Took, Told};
@@ -119,7 +119,8 @@ fn want_of_memory() -> &'static str
 
 /// Writes a line on error output. Where that fails, nothing more is said.
 pub fn say<E: Sink>(line: &str, errors: &mut E)
-    ensures { E.failures errors.new ≡ E.failures errors.old → Took E.taken errors.old errors.new line.now }
+    ensures took { E.failures errors.new ≡ E.failures errors.old → Took E.taken errors.old errors.new line.now }
+    ensures failed { E.failures errors.old ≤ E.failures errors.new }
 {
     let _said = write_all(errors, line.as_bytes());
 }

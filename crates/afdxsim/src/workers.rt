@@ -10,15 +10,18 @@ ghost use Rattle.seqsim.specs.Networks.{AreRowsOf};
 ghost use Rattle.worker_pool.specs.Runs.{IsJournalAsked};
 ghost use Rattle.afdxsim.specs.Ending.{Took};
 ghost use Rattle.afdxsim.specs.Files.{TookSome};
+ghost use Rattle.afdxsim.specs.Progress.{HearsAsked};
 ghost use Rattle.afdxsim.specs.Sequencing.{IsFaultOfTrace, IsTablesText, IsTraceText};
 ghost use Rattle.afdxsim.specs.Workers.{fault_of_trace, IsFaultOfPool};
 
 use crate::fault::Fault;
+use crate::progress::{Asked, Progress};
 use command_line::Run;
 use netdesc::Network;
 use std::alloc::Global;
 use std::sync::Wait;
 use std::thread::Threads;
+use std::time::Clock;
 use trace_tables::{OutFault, SegmentFault, Sink, TraceFault};
 use worker_pool::{Gate, Pace, Summary, Traced, run_summary, run_traced};
 
@@ -42,31 +45,40 @@ pub fn pace_of(order: &Run) -> Pace
     }
 }
 
-/// What a run of the network by workers finds: its tables, and its steps where they are asked for. No rows are listed.
+/// What a run of the network by workers finds: its tables, and its steps where they are asked for. No rows are listed. Error output is told how
+/// far it is, where that is asked for.
 #[tactic(auto, using(crate::proofs::Running::tables_made, crate::proofs::Running::workers_gave_up))]
-pub fn found_by_workers<T: Threads + Wait + Sync>(
+pub fn found_by_workers<E: Sink, T: Threads + Wait + Clock + Sync>(
     rt: &T,
     alloc: Global,
     network: &Network,
     pace: Pace,
     with_steps: bool,
+    asked: Asked,
+    errors: &mut E,
 ) -> Result<Summary, Fault<'static>>
     ensures text { IfOk result (λ found. IsTablesText network.now (tables_text network.now found.tables)) }
     ensures journal { IfOk result (λ found. IsJournalAsked network.now with_steps found.journal.items) }
     ensures fault { IfErr result IsFaultOfPool }
+    ensures heard { HearsAsked E.taken E.failures asked.is_asked network.now.until errors.old errors.new }
 {
-    Ok(run_summary(rt, alloc, network, pace, with_steps, &Open)?)
+    let mut progress = Progress::new(rt, alloc, network.until(), asked, errors);
+    let found = run_summary(rt, alloc, network, pace, with_steps, &Open, &mut progress)?;
+    progress.end();
+    Ok(found)
 }
 
 /// That run, where it writes its trace into this file. What the file has taken is at any end a beginning of the trace of the one-thread run.
 #[tactic(auto, using(crate::proofs::Running::tables_made, crate::proofs::Running::workers_gave_up))]
-fn traced<F: Sink + Drop + Send, T: Threads + Wait + Sync>(
+fn traced<F: Sink + Drop + Send, E: Sink, T: Threads + Wait + Clock + Sync>(
     rt: &T,
     alloc: Global,
     network: &Network,
     pace: Pace,
     with_steps: bool,
     file: F,
+    asked: Asked,
+    errors: &mut E,
 ) -> Result<Traced<F>, Fault<'static>>
     ensures text { IfOk result (λ found. IsTablesText network.now (tables_text network.now found.outcome.tables)) }
     ensures journal { IfOk result (λ found. IsJournalAsked network.now with_steps found.outcome.journal.items) }
@@ -76,8 +88,21 @@ fn traced<F: Sink + Drop + Send, T: Threads + Wait + Sync>(
         IsBeginning (F.taken file) (F.taken found.sink) (trace_text network.now rows)) }
     ensures device { IfOk result (λ found. IfErr found.written (λ why. why ≡ Out Device → F.failures found.sink ≡ F.failures file + 1)) }
     ensures fault { IfErr result IsFaultOfPool }
+    ensures heard { HearsAsked E.taken E.failures asked.is_asked network.now.until errors.old errors.new }
 {
-    Ok(run_traced(rt, alloc, network, pace, with_steps, &Open, file)?)
+    let mut progress = Progress::new(rt, alloc, network.until(), asked, errors);
+    let found = run_traced(
+        rt,
+        alloc,
+        network,
+        pace,
+        with_steps,
+        &Open,
+        file,
+        &mut progress,
+    )?;
+    progress.end();
+    Ok(found)
 }
 
 /// Why a trace was not written into the file with this path, as a fault of the program.
@@ -95,7 +120,7 @@ fn fault_of_trace<'a>(path: &'a str, why: TraceFault) -> Fault<'a>
 
 /// That run, where it writes its trace into this file, which has this path and is given back. A fault of the trace is told once the run has
 /// come to its end.
-pub fn found_with_trace<'a, F: Sink + Drop + Send, T: Threads + Wait + Sync>(
+pub fn found_with_trace<'a, F: Sink + Drop + Send, E: Sink, T: Threads + Wait + Clock + Sync>(
     rt: &T,
     alloc: Global,
     network: &Network,
@@ -103,6 +128,8 @@ pub fn found_with_trace<'a, F: Sink + Drop + Send, T: Threads + Wait + Sync>(
     with_steps: bool,
     path: &'a str,
     file: F,
+    asked: Asked,
+    errors: &mut E,
 ) -> Result<(Summary, F), Fault<'a>>
     ensures text { IfOk result (λ found. IsTablesText network.now (tables_text network.now found.0.tables)) }
     ensures journal { IfOk result (λ found. IsJournalAsked network.now with_steps found.0.journal.items) }
@@ -110,12 +137,13 @@ pub fn found_with_trace<'a, F: Sink + Drop + Send, T: Threads + Wait + Sync>(
         Took F.taken file found.1 (trace_text network.now rows)) }
     ensures fault { IfErr result (λ fault. IsFaultOfPool fault ⊎ IsFaultOfTrace (λ made. made ≡ true)
         ((full : F) × (text : List ℕ) × IsTraceText network.now text × TookSome F.taken F.failures file full text) path.entry.now fault) }
+    ensures heard { HearsAsked E.taken E.failures asked.is_asked network.now.until errors.old errors.new }
 {
     let Traced {
         outcome,
         written,
         sink,
-    } = traced(rt, alloc, network, pace, with_steps, file)?;
+    } = traced(rt, alloc, network, pace, with_steps, file, asked, errors)?;
     match written {
         Ok(()) => Ok((outcome, sink)),
         Err(why) => Err(fault_of_trace(path, why)),

@@ -37,6 +37,9 @@ const LOOKS_BEFORE_REST: u64 = 4_096;
 /// How long a worker rests, in microseconds, unless the run ends.
 const REST_US: u64 = 5_000;
 
+/// A watch is shown GVT once in so many microseconds.
+pub(crate) const LOOK_US: u64 = 250_000;
+
 /// So many pauses of the processor a worker makes before it looks again.
 const PAUSES: u32 = 16;
 

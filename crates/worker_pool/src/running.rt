@@ -18,6 +18,7 @@ use crate::pace::Pace;
 use crate::rounds::apart::Apart;
 use crate::shared::{MOST_STEPS, Shared};
 use crate::workers::start_all;
+use actor_run::{Unwatched, Watch};
 use exchange::{Gate, Pairs};
 use journal::{Entries, PoolFault};
 use netdesc::Network;
@@ -38,8 +39,15 @@ pub struct Outcome {
 }
 
 /// Runs a network by workers, over this table, until it is ended. The segments of the trace go to its lock, if there is one, and no batch is sent
-/// once the run is ended; without one no row leaves a process. Beside the run is the first fault of a segment that is not want of memory.
-pub(crate) fn run_to_end<'a, J: NetworkRun + Send + Sync, G: Gate + Sync, T: Threads + Wait + Sync>(
+/// once the run is ended; without one no row leaves a process. Beside the run is the first fault of a segment that is not want of memory. The watch
+/// is shown GVT while the run goes on.
+pub(crate) fn run_to_end<
+    'a,
+    J: NetworkRun + Send + Sync,
+    G: Gate + Sync,
+    T: Threads + Wait + Sync,
+    W: Watch,
+>(
     rt: &T,
     alloc: Global,
     network: &Network,
@@ -48,6 +56,7 @@ pub(crate) fn run_to_end<'a, J: NetworkRun + Send + Sync, G: Gate + Sync, T: Thr
     pace: &Pace,
     gate: &G,
     trace: Option<TraceLock<J>>,
+    watch: &mut W,
 ) -> Result<(Unlocked<'a, J>, Option<SegmentFault>), PoolFault>
     requires network { network.now ≡ J.plan }
     requires table { names table.now.pages.items ≡ J.pages }
@@ -57,12 +66,14 @@ pub(crate) fn run_to_end<'a, J: NetworkRun + Send + Sync, G: Gate + Sync, T: Thr
     ensures kept { IfOk result (λ r. IsNone trace → HaveGoneBy 0 r.0.helds.items) }
     ensures fault { IfOk result (λ r. IfSome r.1 IsPlaceFault) }
     ensures spawn { IfErr result (λ fault. fault ≡ Spawn → CanWantWorkers pace.now.workers (process_count network.now)) }
+    ensures watched { W.becomes watch.old watch.new }
 {
     let (exchange, helds) = open_network::<J>(alloc, network, table, pairs, MOST_STEPS)?;
     let keeps_rows = trace.is_none();
     let locks = locks_of(alloc, network, helds, trace)?;
     let exchange = Mutex::new(Apart::new(Shared { inner: exchange }));
-    start_all(rt, alloc, network, &locks, &exchange, pace, gate)?;
+    let (started, _watch) = start_all(rt, alloc, network, &locks, &exchange, pace, gate, watch);
+    started?;
     let mut unlocked = Unlocked::of(alloc, locks, exchange)?;
     unlocked.end(rt, network.until(), keeps_rows, pace, gate)?;
     let fault = closed(unlocked.trace.take());
@@ -87,7 +98,10 @@ fn run_named<J: NetworkRun + Send + Sync, G: Gate + Sync, T: Threads + Wait + Sy
     ensures finished { IfOk result (λ o. IsJournalOf J.plan o.journal.items) }
     ensures spawn { IfErr result (λ fault. fault ≡ Spawn → CanWantWorkers pace.now.workers (process_count network.now)) }
 {
-    let (ended, _none) = run_to_end::<J, G, T>(rt, alloc, network, table, pairs, pace, gate, None)?;
+    let watch = &mut Unwatched;
+    let (ended, _none) = run_to_end::<J, G, T, Unwatched>(
+        rt, alloc, network, table, pairs, pace, gate, None, watch,
+    )?;
     let rows = ended.rows(alloc, network)?;
     let tables = Tables::of(alloc, network, &rows)?;
     let journal = ended.steps(alloc)?;

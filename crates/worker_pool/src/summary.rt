@@ -14,6 +14,7 @@ use crate::ending::Unlocked;
 use crate::network_run::NetworkRun;
 use crate::pace::Pace;
 use crate::running::run_to_end;
+use actor_run::Watch;
 use exchange::{Gate, Pairs};
 use journal::{Entries, PoolFault};
 use netdesc::Network;
@@ -67,7 +68,7 @@ impl<'a, J: NetworkRun> Unlocked<'a, J> {
     }
 }
 
-fn summary_named<J: NetworkRun + Send + Sync, G: Gate + Sync, T: Threads + Wait + Sync>(
+fn summary_named<J: NetworkRun + Send + Sync, G: Gate + Sync, T: Threads + Wait + Sync, W: Watch>(
     rt: &T,
     alloc: Global,
     network: &Network,
@@ -76,6 +77,7 @@ fn summary_named<J: NetworkRun + Send + Sync, G: Gate + Sync, T: Threads + Wait 
     pace: &Pace,
     with_steps: bool,
     gate: &G,
+    watch: &mut W,
 ) -> Result<Summary, PoolFault>
     requires network { network.now ≡ J.plan }
     requires table { names table.now.pages.items ≡ J.pages }
@@ -85,30 +87,35 @@ fn summary_named<J: NetworkRun + Send + Sync, G: Gate + Sync, T: Threads + Wait 
     ensures each { IfOk result (λ s. (rows : List Row) → AreRowsOf J.plan rows → s.tables ≡ tables_of J.plan rows) }
     ensures journal { IfOk result (λ s. IsJournalAsked J.plan with_steps s.journal.items) }
     ensures spawn { IfErr result (λ fault. fault ≡ Spawn → CanWantWorkers pace.now.workers (process_count network.now)) }
+    ensures watched { W.becomes watch.old watch.new }
 {
-    let (ended, _none) = run_to_end::<J, G, T>(rt, alloc, network, table, pairs, pace, gate, None)?;
+    let (ended, _none) = run_to_end::<J, G, T, W>(
+        rt, alloc, network, table, pairs, pace, gate, None, watch,
+    )?;
     let counted = Counted::none(alloc, network)?;
     ended.summary(alloc, network, counted, with_steps)
 }
 
 /// Simulates a network by workers, as `run` does, and lists no rows; the steps that were done are listed where they are asked for. Its refusals
-/// are those of `run`.
-pub fn run_summary<G: Gate + Sync, T: Threads + Wait + Sync>(
+/// are those of `run`. `watch` is shown GVT, at most four times a second, and no count of events.
+pub fn run_summary<G: Gate + Sync, T: Threads + Wait + Sync, W: Watch>(
     rt: &T,
     alloc: Global,
     network: &Network,
     pace: Pace,
     with_steps: bool,
     gate: &G,
+    watch: &mut W,
 ) -> Result<Summary, PoolFault>
     ensures tables { IfOk result (λ s. (rows : List Row) × AreRowsOf network.now rows × (s.tables ≡ tables_of network.now rows)) }
     ensures each { IfOk result (λ s. (rows : List Row) → AreRowsOf network.now rows → s.tables ≡ tables_of network.now rows) }
     ensures journal { IfOk result (λ s. IsJournalAsked network.now with_steps s.journal.items) }
     ensures spawn { IfErr result (λ fault. fault ≡ Spawn → CanWantWorkers pace.workers (process_count network.now)) }
+    ensures watched { W.becomes watch.old watch.new }
 {
     let table = Entries::new(alloc)?;
     let pairs = Pairs::new(alloc, network.process_count())?;
-    summary_named::<Brand, G, T>(
+    summary_named::<Brand, G, T, W>(
         rt,
         alloc,
         network,
@@ -117,5 +124,6 @@ pub fn run_summary<G: Gate + Sync, T: Threads + Wait + Sync>(
         &pace.that_goes(),
         with_steps,
         gate,
+        watch,
     )
 }

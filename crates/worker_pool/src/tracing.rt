@@ -11,17 +11,19 @@ ghost use Rattle.trace_tables.specs.Tables.{tables_of};
 ghost use Rattle.trace_segments.specs.Text.{trace_text};
 ghost use Rattle.seqsim.specs.Networks.{AreRowsOf};
 ghost use Rattle.worker_pool.specs.Counts.{AreCountedBefore};
-ghost use Rattle.worker_pool.specs.Runs.{IsJournalAsked};
-ghost use Rattle.worker_pool.specs.Written.{IsFaultOfTrace, IsWritten};
+ghost use Rattle.worker_pool.specs.Runs.{IsEnded, IsJournalAsked};
+ghost use Rattle.worker_pool.specs.Written.{IsFaultOfTrace, IsPlaceFault, IsWritten};
 
 use crate::counted::Counted;
 use crate::desk::TraceLock;
+use crate::ending::Unlocked;
 use crate::network_run::NetworkRun;
 use crate::pace::Pace;
 use crate::running::run_to_end;
 use crate::summary::Summary;
 use crate::trace_run::TraceRun;
 use crate::writing::{Writing, write_batches};
+use actor_run::Watch;
 use crossbeam_channel::bounded;
 use exchange::{Gate, Pairs};
 use journal::{Entries, PoolFault};
@@ -31,7 +33,7 @@ use std::marker::Brand;
 use std::sync::Wait;
 use std::thread;
 use std::thread::Threads;
-use trace_tables::{Sink, TraceFault};
+use trace_tables::{SegmentFault, Sink, TraceFault};
 
 /// So many batches can wait for the writer's thread. Workers wait where one more is there.
 const MOST_BATCHES: usize = 16;
@@ -44,13 +46,44 @@ pub struct Traced<S> {
     pub sink: S,
 }
 
-/// The run of `run_traced`, of this network run and this writing of a trace.
+/// What a run comes to whose trace was written by a thread that is joined: it gave these back.
+fn traced_of<'a, J: NetworkRun, K: TraceRun, S: Sink + Drop>(
+    alloc: Global,
+    network: &Network,
+    ran: Result<(Unlocked<'_, J>, Option<SegmentFault>), PoolFault>,
+    writing: Writing<'a, J, K, S>,
+    counted: Counted<J>,
+    with_steps: bool,
+) -> Result<Traced<S>, PoolFault>
+    requires network { network.now ≡ J.plan }
+    requires ended { IfOk ran (λ r. IsEnded J.plan r.0.exchange.entries r.0.helds.items) }
+    requires fault { IfOk ran (λ r. IfSome r.1 IsPlaceFault) }
+    ensures tables { IfOk result (λ t. (rows : List Row) × AreRowsOf J.plan rows × (t.outcome.tables ≡ tables_of J.plan rows)) }
+    ensures each { IfOk result (λ t. (rows : List Row) → AreRowsOf J.plan rows → t.outcome.tables ≡ tables_of J.plan rows) }
+    ensures journal { IfOk result (λ t. IsJournalAsked J.plan with_steps t.outcome.journal.items) }
+    ensures written { IfOk result (λ t. IsWritten J.plan K.taken K.failures t.written (S.taken t.sink) (S.failures t.sink)) }
+{
+    let (ended, fault) = ran?;
+    if !ended.have_gone_by(counted.end) {
+        return Err(PoolFault::Torn);
+    }
+    let outcome = ended.summary(alloc, network, counted, with_steps)?;
+    let (written, sink) = writing.finish(fault);
+    Ok(Traced {
+        outcome,
+        written,
+        sink,
+    })
+}
+
+/// The run of `run_traced`, of this network run and this writing of a trace. The watch is given back.
 fn traced_named<
     J: NetworkRun + Send + Sync,
     K: TraceRun + Send + Sync,
     S: Sink + Drop + Send,
     G: Gate + Sync,
     T: Threads + Wait + Sync,
+    W: Watch + Drop,
 >(
     rt: &T,
     alloc: Global,
@@ -61,53 +94,64 @@ fn traced_named<
     with_steps: bool,
     gate: &G,
     sink: S,
-) -> Result<Traced<S>, PoolFault>
+    watch: W,
+) -> (Result<Traced<S>, PoolFault>, W)
     requires network { network.now ≡ J.plan }
     requires table { names table.now.pages.items ≡ J.pages }
     requires names { pairs ≡ J.names }
     requires each_name { length J.names ≡ process_count network.now }
     requires taken { S.taken sink ≡ K.taken }
     requires failures { S.failures sink ≡ K.failures }
-    ensures tables { IfOk result (λ t. (rows : List Row) × AreRowsOf J.plan rows × (t.outcome.tables ≡ tables_of J.plan rows)) }
-    ensures each { IfOk result (λ t. (rows : List Row) → AreRowsOf J.plan rows → t.outcome.tables ≡ tables_of J.plan rows) }
-    ensures journal { IfOk result (λ t. IsJournalAsked J.plan with_steps t.outcome.journal.items) }
-    ensures written { IfOk result (λ t. IsWritten J.plan K.taken K.failures t.written (S.taken t.sink) (S.failures t.sink)) }
+    ensures tables { IfOk result.0 (λ t. (rows : List Row) × AreRowsOf J.plan rows × (t.outcome.tables ≡ tables_of J.plan rows)) }
+    ensures each { IfOk result.0 (λ t. (rows : List Row) → AreRowsOf J.plan rows → t.outcome.tables ≡ tables_of J.plan rows) }
+    ensures journal { IfOk result.0 (λ t. IsJournalAsked J.plan with_steps t.outcome.journal.items) }
+    ensures written { IfOk result.0 (λ t. IsWritten J.plan K.taken K.failures t.written (S.taken t.sink) (S.failures t.sink)) }
+    ensures watched { W.becomes watch result.1 }
 {
-    let (to, from) = bounded(alloc, MOST_BATCHES)?;
-    let trace: TraceLock<J> = TraceLock::new(alloc, network, to)?;
-    let counted: Counted<J> = Counted::none(alloc, network)?;
+    let Ok((to, from)) = bounded(alloc, MOST_BATCHES) else {
+        return (Err(PoolFault::OutOfMemory), watch);
+    };
+    let Ok(trace) = TraceLock::new(alloc, network, to) else {
+        return (Err(PoolFault::OutOfMemory), watch);
+    };
+    let Ok(counted) = Counted::none(alloc, network) else {
+        return (Err(PoolFault::OutOfMemory), watch);
+    };
     let writing: Writing<J, K, S> = Writing::new(alloc, network, sink);
     thread::scope(
         thread::scope_env(),
         rt,
-        |scope| -> Result<Traced<S>, PoolFault>
+        |scope| -> (Result<Traced<S>, PoolFault>, W)
             requires network { network.now ≡ J.plan }
             requires table { names table.now.pages.items ≡ J.pages }
             requires names { pairs ≡ J.names }
             requires each_name { length J.names ≡ process_count network.now }
             requires counted { IfSome counted.tables (AreCountedBefore J.plan counted.end) }
-            ensures tables { IfOk result (λ t. (rows : List Row) × AreRowsOf J.plan rows × (t.outcome.tables ≡ tables_of J.plan rows)) }
-            ensures each { IfOk result (λ t. (rows : List Row) → AreRowsOf J.plan rows → t.outcome.tables ≡ tables_of J.plan rows) }
-            ensures journal { IfOk result (λ t. IsJournalAsked J.plan with_steps t.outcome.journal.items) }
-            ensures written { IfOk result (λ t. IsWritten J.plan K.taken K.failures t.written (S.taken t.sink) (S.failures t.sink)) }
+            ensures tables { IfOk result.0 (λ t. (rows : List Row) × AreRowsOf J.plan rows × (t.outcome.tables ≡ tables_of J.plan rows)) }
+            ensures each { IfOk result.0 (λ t. (rows : List Row) → AreRowsOf J.plan rows → t.outcome.tables ≡ tables_of J.plan rows) }
+            ensures journal { IfOk result.0 (λ t. IsJournalAsked J.plan with_steps t.outcome.journal.items) }
+            ensures written { IfOk result.0 (λ t. IsWritten J.plan K.taken K.failures t.written (S.taken t.sink) (S.failures t.sink)) }
+            ensures watched { W.becomes watch result.1 }
         {
+            let mut watch = watch;
             let Ok(writer) = scope.spawn(move || write_batches(rt, network, writing, counted, from))
             else {
-                return Err(PoolFault::Spawn);
+                return (Err(PoolFault::Spawn), watch);
             };
-            let ran = run_to_end(rt, alloc, network, table, pairs, pace, gate, Some(trace));
+            let ran = run_to_end(
+                rt,
+                alloc,
+                network,
+                table,
+                pairs,
+                pace,
+                gate,
+                Some(trace),
+                &mut watch,
+            );
             let (writing, counted) = writer.join(rt);
-            let (ended, fault) = ran?;
-            if !ended.have_gone_by(counted.end) {
-                return Err(PoolFault::Torn);
-            }
-            let outcome = ended.summary(alloc, network, counted, with_steps)?;
-            let (written, sink) = writing.finish(fault);
-            Ok(Traced {
-                outcome,
-                written,
-                sink,
-            })
+            let traced = traced_of(alloc, network, ran, writing, counted, with_steps);
+            (traced, watch)
         },
     )
 }
@@ -126,8 +170,8 @@ fn traced_named<
 ///
 /// Its refusals are those of `run`, and the sink is dropped then, with a beginning of the trace in it. `OutOfMemory` comes also for a segment or
 /// a batch, or at the end where a growth was refused while rows were counted; `Torn` also where rows that left came in no batch, as behind a
-/// segment that was refused; and `Spawn` also where the writer's thread cannot be started.
-pub fn run_traced<S: Sink + Drop + Send, G: Gate + Sync, T: Threads + Wait + Sync>(
+/// segment that was refused; and `Spawn` also where the writer's thread cannot be started. `watch` is shown GVT, as by `run_summary`.
+pub fn run_traced<S: Sink + Drop + Send, G: Gate + Sync, T: Threads + Wait + Sync, W: Watch>(
     rt: &T,
     alloc: Global,
     network: &Network,
@@ -135,6 +179,7 @@ pub fn run_traced<S: Sink + Drop + Send, G: Gate + Sync, T: Threads + Wait + Syn
     with_steps: bool,
     gate: &G,
     sink: S,
+    watch: &mut W,
 ) -> Result<Traced<S>, PoolFault>
     ensures tables { IfOk result (λ t. (rows : List Row) × AreRowsOf network.now rows × (t.outcome.tables ≡ tables_of network.now rows)) }
     ensures each { IfOk result (λ t. (rows : List Row) → AreRowsOf network.now rows → t.outcome.tables ≡ tables_of network.now rows) }
@@ -146,10 +191,11 @@ pub fn run_traced<S: Sink + Drop + Send, G: Gate + Sync, T: Threads + Wait + Syn
     ensures device { IfOk result (λ t. IfErr t.written (λ fault. fault ≡ Out Device → S.failures t.sink ≡ S.failures sink + 1)) }
     ensures went_well { IfOk result (λ t. OnOk t.written (S.failures t.sink ≡ S.failures sink)) }
     ensures fault { IfOk result (λ t. IfErr t.written IsFaultOfTrace) }
+    ensures watched { W.becomes watch.old watch.new }
 {
     let table = Entries::new(alloc)?;
     let pairs = Pairs::new(alloc, network.process_count())?;
-    traced_named::<Brand, Brand, S, G, T>(
+    let (traced, _watch) = traced_named::<Brand, Brand, S, G, T, &mut W>(
         rt,
         alloc,
         network,
@@ -159,5 +205,7 @@ pub fn run_traced<S: Sink + Drop + Send, G: Gate + Sync, T: Threads + Wait + Syn
         with_steps,
         gate,
         sink,
-    )
+        watch,
+    );
+    traced
 }

@@ -8,10 +8,12 @@ use crate::locks::Locks;
 use crate::network_run::NetworkRun;
 use crate::outcomes::{add_outcome, least_fault};
 use crate::pace::Pace;
+use crate::rounds::LOOK_US;
 use crate::rounds::batch::ExchangeLock;
 use crate::rounds::picker::Picker;
 use crate::rounds::schedule::{Schedule, schedule_of};
 use crate::rounds::worker::Worker;
+use actor_run::Watch;
 use exchange::Gate;
 use journal::PoolFault;
 use netdesc::Network;
@@ -19,13 +21,20 @@ use std::alloc::Global;
 use std::sync::Wait;
 use std::sync::atomic::{AtomicBool, Ordering};
 use std::thread;
-use std::thread::Threads;
+use std::thread::{JoinHandle, Threads};
+use vlink::Time;
 
 /// Starts as many workers as the pace says, and joins all of them. Where there is no process, none is started.
 ///
 /// A refusal to one worker ends the others at their next turn. All of them are joined, and the answer is the least fault of what they ended
-/// with, and of the start. `Spawn`: a worker cannot be started.
-pub(crate) fn start_all<'a, J: NetworkRun + Send + Sync, G: Gate + Sync, T: Threads + Wait + Sync>(
+/// with, and of the start. `Spawn`: a worker cannot be started. While they run, the calling thread shows the watch GVT; it is given back.
+pub(crate) fn start_all<
+    'a,
+    J: NetworkRun + Send + Sync,
+    G: Gate + Sync,
+    T: Threads + Wait + Sync,
+    W: Watch + Drop,
+>(
     rt: &T,
     alloc: Global,
     network: &Network,
@@ -33,44 +42,84 @@ pub(crate) fn start_all<'a, J: NetworkRun + Send + Sync, G: Gate + Sync, T: Thre
     exchange: &ExchangeLock<'a, J>,
     pace: &Pace,
     gate: &G,
-) -> Result<(), PoolFault>
+    watch: W,
+) -> (Result<(), PoolFault>, W)
     requires { network.now ≡ J.plan }
-    ensures spawn { IfErr result (λ fault. fault ≡ Spawn → CanWantWorkers pace.now.workers (process_count J.plan)) }
+    ensures spawn { IfErr result.0 (λ fault. fault ≡ Spawn → CanWantWorkers pace.now.workers (process_count J.plan)) }
+    ensures watched { W.becomes watch result.1 }
 {
     if locks.locks.is_empty() || pace.workers == 0 {
-        return Ok(());
+        return (Ok(()), watch);
     }
     let workers = usize::from(pace.workers);
-    let (pickers, schedule) = schedule_of(alloc, network, workers, lists_of(rt, workers))?;
+    let Ok((pickers, schedule)) = schedule_of(alloc, network, workers, lists_of(rt, workers)) else {
+        return (Err(PoolFault::OutOfMemory), watch);
+    };
     let schedule = &schedule;
     let stop = AtomicBool::new(false);
     let stop = &stop;
     let most = workers + 1;
-    thread::scope(thread::scope_env(), rt, |scope| -> Result<(), PoolFault> {
-        let mut outcomes = Vec::with_capacity(alloc, most)?;
-        let mut handles = Vec::new(alloc);
-        let mut start = Ok(());
-        for picker in pickers {
-            if handles.reserve(1).is_err() {
-                start = refused(stop, PoolFault::OutOfMemory);
-                break;
-            }
-            match scope.spawn(move || work(
-                rt, alloc, picker, schedule, locks, exchange, pace, gate, stop,
-            )) {
-                Ok(handle) => handles.push_reserved(handle),
-                Err(_) => {
-                    start = refused(stop, PoolFault::Spawn);
+    thread::scope(
+        thread::scope_env(),
+        rt,
+        |scope| -> (Result<(), PoolFault>, W)
+            ensures watched { W.becomes watch result.1 }
+        {
+            let mut handles = Vec::new(alloc);
+            let mut start = Ok(());
+            for picker in pickers {
+                if handles.reserve(1).is_err() {
+                    start = refused(stop, PoolFault::OutOfMemory);
                     break;
                 }
+                match scope.spawn(move || work(
+                    rt, alloc, picker, schedule, locks, exchange, pace, gate, stop,
+                )) {
+                    Ok(handle) => handles.push_reserved(handle),
+                    Err(_) => {
+                        start = refused(stop, PoolFault::Spawn);
+                        break;
+                    }
+                }
             }
+            let mut watch = watch;
+            if start.is_ok() {
+                show_gvt(rt, schedule, &mut watch);
+            }
+            (joined(rt, alloc, most, start, handles), watch)
+        },
+    )
+}
+
+/// The watch is shown GVT once in `LOOK_US`, until the run ends.
+fn show_gvt<J: NetworkRun, T: Wait, W: Watch>(rt: &T, schedule: &Schedule<J>, watch: &mut W)
+    ensures watched { W.becomes watch.old watch.new }
+{
+    for _ in rt.forever() {
+        schedule.rest(rt, LOOK_US);
+        if schedule.is_ended() {
+            return;
         }
-        add_outcome(&mut outcomes, start)?;
-        for handle in handles {
-            add_outcome(&mut outcomes, handle.join(rt))?;
+        if let Some(moment) = Time::new(schedule.gvt_ns()) {
+            watch.look(moment, 0);
         }
-        least_fault(outcomes.as_slice())
-    })
+    }
+}
+
+/// The threads are joined, of which there are fewer than this many. The answer is the least fault of what they ended with, and of the start.
+fn joined<T: Threads + Wait>(
+    rt: &T,
+    alloc: Global,
+    most: usize,
+    start: Result<(), PoolFault>,
+    handles: Vec<JoinHandle<Result<(), PoolFault>>>,
+) -> Result<(), PoolFault> {
+    let mut outcomes = Vec::with_capacity(alloc, most)?;
+    add_outcome(&mut outcomes, start)?;
+    for handle in handles {
+        add_outcome(&mut outcomes, handle.join(rt))?;
+    }
+    least_fault(outcomes.as_slice())
 }
 
 /// Among how many of so many workers the processes are dealt: one for each processor at most.

@@ -16,6 +16,7 @@ use std::process::Abort;
 use std::sync::Wait;
 use std::test::Fail;
 use std::thread::Threads;
+use std::time::Clock;
 use trace_tables::{OutFault, write_csv};
 
 /// Each row tells the line of `check`, or the fault.
@@ -51,7 +52,7 @@ fn a_description_is_accepted_or_its_first_fault_is_told(rt: HostRuntime) -> Resu
 }
 
 // `check` tells this of a description, and `seq` refuses what `check` refuses.
-fn is_told<T: Threads + Wait + Sync>(
+fn is_told<T: Threads + Wait + Clock + Sync>(
     rt: &T,
     alloc: Global,
     net: &str,
@@ -65,7 +66,7 @@ fn is_told<T: Threads + Wait + Sync>(
 }
 
 // Both commands tell this fault of a description.
-fn is_refused<T: Threads + Wait + Sync>(
+fn is_refused<T: Threads + Wait + Clock + Sync>(
     rt: &T,
     alloc: Global,
     net: &str,
@@ -147,7 +148,11 @@ fn each_beginning_is_answered(rt: HostRuntime) -> Result<(), Fail> {
 }
 
 // A description is accepted or its fault is told; without both keys of the top table it is not accepted.
-fn is_answered<T: Threads + Wait + Sync>(rt: &T, alloc: Global, net: &str) -> Result<bool, Fail> {
+fn is_answered<T: Threads + Wait + Clock + Sync>(
+    rt: &T,
+    alloc: Global,
+    net: &str,
+) -> Result<bool, Fail> {
     let mut host = MemoryHost::new(alloc, net.as_bytes())?;
     let status = status_of(rt, alloc, &["check", "net.toml"], &mut host);
     Ok(status == 3 || status == 0 && net.starts_with("until_ns = 2000000\nseed = 4"))
@@ -206,7 +211,7 @@ fn files_that_are_no_text_and_devices_that_fail_are_told(rt: HostRuntime) -> Res
 }
 
 // These words end with this status and this on error output, and nothing is on standard output.
-fn tells<T: Threads + Wait + Sync>(
+fn tells<T: Threads + Wait + Clock + Sync>(
     rt: &T,
     alloc: Global,
     host: &mut MemoryHost,
@@ -315,7 +320,7 @@ fn is_read_and_written(rt: &(impl Abort + Eprint), alloc: Global) -> bool {
 }
 
 // The command tells this of the description, or that memory was wanting. The pages have their room before the program begins.
-fn is_told_or_wants_memory<T: Threads + Wait + Sync>(
+fn is_told_or_wants_memory<T: Threads + Wait + Clock + Sync>(
     rt: &T,
     alloc: Global,
     command: &str,

@@ -6,6 +6,7 @@ use std::alloc::Global;
 use std::sync::Wait;
 use std::test::Fail;
 use std::thread::Threads;
+use std::time::Clock;
 
 /// A network, words, and the status that they end with, with the line on error output if there is one.
 const ROWS: &str = r#"
@@ -42,7 +43,11 @@ struct Outcome {
 }
 
 // The words end as the row tells, and as they must where each file and stream takes some bytes, one a write, and then fails.
-fn is_told<T: Threads + Wait + Sync>(rt: &T, alloc: Global, row: &str) -> Result<bool, Fail> {
+fn is_told<T: Threads + Wait + Clock + Sync>(
+    rt: &T,
+    alloc: Global,
+    row: &str,
+) -> Result<bool, Fail> {
     let (name, rest) = row.split_once(" => ").ok_or("no network")?;
     let (words, told) = rest.split_once(" => ").ok_or("no words")?;
     let net = network(alloc, name)?;
@@ -62,7 +67,7 @@ fn is_told<T: Threads + Wait + Sync>(rt: &T, alloc: Global, row: &str) -> Result
 }
 
 // What these words leave behind, where each file and stream takes at most so many bytes a write and fails after so many writes.
-fn end<T: Threads + Wait + Sync>(
+fn end<T: Threads + Wait + Clock + Sync>(
     rt: &T,
     alloc: Global,
     net: &str,

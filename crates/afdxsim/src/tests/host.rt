@@ -6,6 +6,7 @@ use std::mem;
 use std::sync::{Arc, Mutex, Wait};
 use std::test::Fail;
 use std::thread::Threads;
+use std::time::Clock;
 use trace_tables::{Sink, SinkFault};
 
 /// It keeps the bytes, of which it takes at most `most` at a time, and fails after `writes` writes.
@@ -111,6 +112,8 @@ pub struct MemoryHost {
     pub file: Page,
     pub output: Page,
     pub errors: Page,
+    /// Whether error output is a terminal.
+    pub is_terminal: bool,
     alloc: Global,
 }
 
@@ -134,6 +137,7 @@ impl MemoryHost {
             file: Page::new(alloc),
             output: Page::new(alloc),
             errors: Page::new(alloc),
+            is_terminal: false,
             alloc,
         })
     }
@@ -226,6 +230,9 @@ impl Host for MemoryHost {
       output_failed = λ _. refl;
       errors_took = λ _. refl;
       errors_failed = λ _. refl;
+      errors_same = λ _. refl;
+      errors_before_made = λ _ _ _. refl;
+      makes_beside = λ _ _ _ _ is. is;
     } };
 
     fn is_one_file(&self, first: &str, second: &str) -> bool {
@@ -258,10 +265,14 @@ impl Host for MemoryHost {
     fn errors(&mut self) -> &mut Page {
         &mut self.errors
     }
+
+    fn is_terminal(&self) -> bool {
+        self.is_terminal
+    }
 }
 
 /// The status that the program ends with, where it is given these words. No clause of it is carried on.
-pub fn status_of<T: Threads + Wait + Sync>(
+pub fn status_of<T: Threads + Wait + Clock + Sync>(
     rt: &T,
     alloc: Global,
     words: &[&str],
@@ -271,7 +282,7 @@ pub fn status_of<T: Threads + Wait + Sync>(
 }
 
 /// That status, where one blank stands between the words.
-pub fn status_of_text<T: Threads + Wait + Sync>(
+pub fn status_of_text<T: Threads + Wait + Clock + Sync>(
     rt: &T,
     alloc: Global,
     words: &str,
@@ -285,7 +296,7 @@ pub fn status_of_text<T: Threads + Wait + Sync>(
 }
 
 /// These words, where `net.toml` has this text, end with this status, and this and no more is on standard output and error output.
-pub fn says<T: Threads + Wait + Sync>(
+pub fn says<T: Threads + Wait + Clock + Sync>(
     rt: &T,
     alloc: Global,
     net: &str,

@@ -10,6 +10,7 @@ use std::alloc::{AllocError, Global};
 use std::sync::Wait;
 use std::test::Fail;
 use std::thread::Threads;
+use std::time::Clock;
 use timewarp::{Replay, World, replay};
 use trace_tables::write_csv;
 use vlink::{Body, Letter, Sign, VlId};
@@ -106,7 +107,11 @@ fn a_journal_is_done_or_its_fault_is_told(rt: HostRuntime) -> Result<(), Fail> {
 }
 
 // `replay` tells what the row tells.
-fn is_told<T: Threads + Wait + Sync>(rt: &T, alloc: Global, row: &str) -> Result<bool, Fail> {
+fn is_told<T: Threads + Wait + Clock + Sync>(
+    rt: &T,
+    alloc: Global,
+    row: &str,
+) -> Result<bool, Fail> {
     let (begin, told) = row.rsplit_once(" => ").ok_or("a row of one piece")?;
     let (net, steps) = changed(alloc, begin)?;
     let steps = steps_of(alloc, steps)?;
@@ -152,7 +157,7 @@ fn steps_of(alloc: Global, row: &str) -> Result<String, Fail> {
 }
 
 // The tables with these lines, or those of `seq`.
-fn tables_of<T: Threads + Wait + Sync>(
+fn tables_of<T: Threads + Wait + Clock + Sync>(
     rt: &T,
     alloc: Global,
     net: &str,
@@ -168,7 +173,7 @@ fn tables_of<T: Threads + Wait + Sync>(
 }
 
 // `replay`, where the files have these texts, ends with this status, and this and no more is on standard output and error output.
-fn replays<T: Threads + Wait + Sync>(
+fn replays<T: Threads + Wait + Clock + Sync>(
     rt: &T,
     alloc: Global,
     net: &str,
@@ -204,7 +209,11 @@ fn is_refused(alloc: Global, most: u64, told: &str) -> Result<bool, Fail> {
 }
 
 // The program tells of the journal what the steps come to that are read and done at once, and what they leave is what the row tells.
-fn is_kept<T: Threads + Wait + Sync>(rt: &T, alloc: Global, row: &str) -> Result<bool, Fail> {
+fn is_kept<T: Threads + Wait + Clock + Sync>(
+    rt: &T,
+    alloc: Global,
+    row: &str,
+) -> Result<bool, Fail> {
     let (begin, told) = row.rsplit_once(" => ").ok_or("a row of one piece")?;
     let (net, steps) = changed(alloc, begin)?;
     let steps = steps_of(alloc, steps)?;
@@ -334,7 +343,7 @@ fn a_stream_that_takes_no_more_is_told(rt: HostRuntime) -> Result<(), Fail> {
 }
 
 // Where standard output takes so many bytes, one at a time, it has just these of the whole, and the fault is told.
-fn is_cut<T: Threads + Wait + Sync>(
+fn is_cut<T: Threads + Wait + Clock + Sync>(
     rt: &T,
     alloc: Global,
     net: &str,

@@ -9,6 +9,7 @@ use std::sync::Wait;
 use std::sync::atomic::{AtomicBool, AtomicU64, Ordering};
 use std::test::Fail;
 use std::thread::Threads;
+use std::time::Clock;
 use std::{str, thread};
 use vlink::Step;
 use worker_pool::{Gate, Outcome, Pace, run};
@@ -154,7 +155,11 @@ fn told_of(row: &str) -> Result<Told<'_>, Fail> {
 }
 
 /// The run is as the row tells, and the gate was told of each message as often as the journal has it handled.
-pub fn is_met<T: Threads + Wait + Sync>(rt: &T, alloc: Global, row: &str) -> Result<bool, Fail> {
+pub fn is_met<T: Threads + Wait + Clock + Sync>(
+    rt: &T,
+    alloc: Global,
+    row: &str,
+) -> Result<bool, Fail> {
     let told = told_of(row)?;
     let net = network(alloc, "n3")?;
     let network = read(alloc, net.as_str())?;
@@ -176,7 +181,7 @@ fn gate_of(alloc: Global, network: &Network, told: Told<'_>) -> Result<Meeting, 
 }
 
 // A run by so many workers, one message a turn.
-fn run_of<T: Threads + Wait + Sync>(
+fn run_of<T: Threads + Wait + Clock + Sync>(
     rt: &T,
     alloc: Global,
     network: &Network,

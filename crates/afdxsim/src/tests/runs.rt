@@ -7,6 +7,7 @@ use std::str;
 use std::sync::Wait;
 use std::test::Fail;
 use std::thread::Threads;
+use std::time::Clock;
 
 /// The words behind those that set the pace, which ask for files.
 const FILES: &str = "
@@ -79,7 +80,11 @@ struct Wanted {
 }
 
 // With the row's pace the run prints and writes what `seq` does, whatever files are asked for.
-fn is_as_seq<T: Threads + Wait + Sync>(rt: &T, alloc: Global, row: &str) -> Result<bool, Fail> {
+fn is_as_seq<T: Threads + Wait + Clock + Sync>(
+    rt: &T,
+    alloc: Global,
+    row: &str,
+) -> Result<bool, Fail> {
     let (net, pace) = changed(alloc, row)?;
     let wanted = wanted_of(rt, alloc, net)?;
     for files in FILES.lines() {
@@ -91,7 +96,11 @@ fn is_as_seq<T: Threads + Wait + Sync>(rt: &T, alloc: Global, row: &str) -> Resu
     Ok(true)
 }
 
-fn wanted_of<T: Threads + Wait + Sync>(rt: &T, alloc: Global, net: String) -> Result<Wanted, Fail> {
+fn wanted_of<T: Threads + Wait + Clock + Sync>(
+    rt: &T,
+    alloc: Global,
+    net: String,
+) -> Result<Wanted, Fail> {
     let words = "seq net.toml --trace trace.csv";
     let seq = done(rt, alloc, net.as_str(), words, None)?;
     let trace = seq.trace();
@@ -103,7 +112,7 @@ fn wanted_of<T: Threads + Wait + Sync>(rt: &T, alloc: Global, net: String) -> Re
 }
 
 // The tables and the files that these words ask for are those that are wanted.
-fn is_wanted<T: Threads + Wait + Sync>(
+fn is_wanted<T: Threads + Wait + Clock + Sync>(
     rt: &T,
     alloc: Global,
     wanted: &Wanted,
@@ -135,7 +144,7 @@ fn has_trace(run: &MemoryHost, wanted: &Wanted, words: &str) -> bool {
 }
 
 // A replay of this journal is finished and prints the tables that are wanted.
-fn is_replayed<T: Threads + Wait + Sync>(
+fn is_replayed<T: Threads + Wait + Clock + Sync>(
     rt: &T,
     alloc: Global,
     wanted: &Wanted,
@@ -147,7 +156,7 @@ fn is_replayed<T: Threads + Wait + Sync>(
 }
 
 // What these words leave behind, which end with status 0.
-fn done<T: Threads + Wait + Sync>(
+fn done<T: Threads + Wait + Clock + Sync>(
     rt: &T,
     alloc: Global,
     net: &str,

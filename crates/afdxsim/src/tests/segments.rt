@@ -9,6 +9,7 @@ use std::alloc::Global;
 use std::sync::Wait;
 use std::test::Fail;
 use std::thread::Threads;
+use std::time::Clock;
 use trace_tables::{
     Batch, Gather, OutFault, Segment, SegmentFault, Sink, SinkFault, TraceFault, width, write_trace,
 };
@@ -145,7 +146,7 @@ impl Sink for FailsOnce {
 
 /// A file that takes one byte a write and fails at write k alone holds the first k - 1 bytes of the trace of the one-thread run, for each k, and
 /// the run by two workers tells that the device failed. Where the file takes all, it holds all.
-pub fn is_cut_at_each_write<T: Threads + Wait + Sync>(
+pub fn is_cut_at_each_write<T: Threads + Wait + Clock + Sync>(
     rt: &T,
     alloc: Global,
     name: &str,
@@ -170,7 +171,7 @@ fn trace_of(alloc: Global, network: &Network) -> Result<Vec<u8>, Fail> {
 }
 
 // A file that takes so many bytes, one a write, and then fails once holds these of the trace, and the answer is as it must be.
-fn is_cut<T: Threads + Wait + Sync>(
+fn is_cut<T: Threads + Wait + Clock + Sync>(
     rt: &T,
     alloc: Global,
     network: &Network,
@@ -185,7 +186,16 @@ fn is_cut<T: Threads + Wait + Sync>(
         turn: 16,
         window_ns: 1_000_000,
     };
-    let found = run_traced(rt, alloc, network, pace, false, &Open, FailsOnce { page })?;
+    let found = run_traced(
+        rt,
+        alloc,
+        network,
+        pace,
+        false,
+        &Open,
+        FailsOnce { page },
+        &mut Unwatched,
+    )?;
     let wanted = if taken < trace.len() {
         Err(TraceFault::Out(OutFault::Device))
     } else {

@@ -8,6 +8,7 @@ use std::alloc::Global;
 use std::sync::Wait;
 use std::test::Fail;
 use std::thread::Threads;
+use std::time::Clock;
 use trace_tables::write_csv;
 
 const HEAD: &str = "table,vl,where,cause,count,least_ns,greatest_ns,sum_ns\n";
@@ -236,7 +237,11 @@ fn a_run_is_told_by_its_tables_and_its_trace(rt: HostRuntime) -> Result<(), Fail
 }
 
 // `check` tells the row's line, or `seq` its tables and its trace, or the tables are written with another network.
-fn is_told<T: Threads + Wait + Sync>(rt: &T, alloc: Global, row: &str) -> Result<bool, Fail> {
+fn is_told<T: Threads + Wait + Clock + Sync>(
+    rt: &T,
+    alloc: Global,
+    row: &str,
+) -> Result<bool, Fail> {
     if let Some((one, other)) = row.split_once("=> for ") {
         return is_told_for(alloc, one, other);
     }
@@ -288,7 +293,7 @@ fn is_told_for(alloc: Global, one: &str, other: &str) -> Result<bool, Fail> {
 }
 
 // Where `seq` is to keep the trace, it tells these tables, and the trace has these lines.
-fn is_traced<T: Threads + Wait + Sync>(
+fn is_traced<T: Threads + Wait + Clock + Sync>(
     rt: &T,
     alloc: Global,
     net: &str,

@@ -51,7 +51,7 @@ pub(crate) struct Schedule<J: NetworkRun> {
     gvt_ns: Apart<AtomicU64>,
     /// Whether a turn was given since.
     has_turned: Apart<AtomicBool>,
-    /// 0 as long as the run goes on: workers that rest wait for it to change.
+    /// 0 as long as the run goes on: threads that rest wait for it to change.
     ended: Apart<AtomicU64>,
 }
 
@@ -272,11 +272,16 @@ impl<J: NetworkRun> Schedule<J> {
         Some(seat.worker)
     }
 
-    /// The worker rests for so many microseconds, unless the run ends.
+    /// The calling thread rests for so many microseconds, unless the run ends.
     pub(crate) fn rest<T: Wait>(&self, rt: &T, rest_us: u64) {
         self.ended
             .value
             .park_timeout(rt, 0, Duration::from_micros(rest_us));
+    }
+
+    /// Whether the run has ended.
+    pub(crate) fn is_ended(&self) -> bool {
+        self.ended.value.load(Ordering::SeqCst) != 0
     }
 
     /// The run ends: no worker rests from here on.

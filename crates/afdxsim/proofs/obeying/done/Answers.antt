@@ -1,5 +1,5 @@
 use Rattle.std.proofs.Common.{◌∙◌, ap}
-use Rattle.afdxsim.proofs.Ended.{done_there, err_then, fault_there, on_err}
+use Rattle.afdxsim.proofs.Ended.{done_there, err_then, fault_there}
 use Rattle.afdxsim.proofs.obeying.done.Goals as goal
 
 pub returns-clause-done : goal.returns-clause-done
@@ -10,11 +10,8 @@ returns-clause-done g c =
 pub returns-clause-fault : goal.returns-clause-fault
 returns-clause-fault g c =
     fault_there g.H.Host.outside c.done_on.result c.args.order.now c.in_ok-network.network c.net_of.result.now c.args.host.now c.network_of.new.host c.done_on.new.host
-    c.net_of.ensures c.network_of.ensures.host c.in_ok-network.ensures.network c.done_on.ensures.fault
+    c.net_of.ensures c.network_of.ensures.host c.in_ok-network.ensures.network (g.H.Host.outside.errors c.done_on.new.host) c.done_on.ensures.fault c.done_on.ensures.heard
 
 pub returns-clause-kept : goal.returns-clause-kept
 returns-clause-kept g c =
     err_then c.done_on.result c.done_on.ensures.kept (λ fault kept other. kept other ∙ ap g.H.Host.outside.output c.network_of.ensures.host)
-
-pub returns-clause-quiet : goal.returns-clause-quiet
-returns-clause-quiet g c = on_err c.done_on.result c.done_on.ensures.quiet (λ quiet. quiet ∙ ap g.H.Host.outside.errors c.network_of.ensures.host)

@@ -25,4 +25,4 @@ returns-clause-line g c =
     subst (λ text. outside.unsaid (outside.errors after) ≡ outside.unsaid (outside.errors before) → Took outside.said (outside.errors before) (outside.errors after) text)
     c.as_str.ensures.value
     (says outside law before after c.errors.result.now c.say.new.errors c.as_str.result.now
-    (c.errors.ensures.value ∙ law.errors_beside before c.show_tables.new.output) (law.errors_stay shown c.say.new.errors) c.say.ensures)
+    (c.errors.ensures.value ∙ law.errors_beside before c.show_tables.new.output) (law.errors_stay shown c.say.new.errors) c.say.ensures.took)

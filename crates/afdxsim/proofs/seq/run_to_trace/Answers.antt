@@ -1,13 +1,41 @@
-use Rattle.std.proofs.Common.{inl, inr, sym, subst}
+use Rattle.std.proofs.Common.{◌≡◌, ◌∙◌, Some, List, ℕ, inl, inr, refl, sym, subst}
+use Rattle.trace_segments.specs.Text.{trace_text}
 use Rattle.seqsim.specs.Networks.{AreRowsOf}
-use Rattle.afdxsim.proofs.Ended.{same_err}
+use Rattle.afdxsim.specs.Files.{IsFaultOfTraceFile, LeavesSeq}
+use Rattle.afdxsim.specs.Sequencing.{IsTraceText}
+use Rattle.afdxsim.proofs.Ended.{ok_then, same_err}
+use Rattle.afdxsim.proofs.Heard.{at_end}
+use Rattle.afdxsim.proofs.Leaving.{of_text}
 use Rattle.afdxsim.proofs.Unwritten.{rows_took}
 use Rattle.afdxsim.proofs.seq.run_to_trace.Goals as goal
 
 pub returns-in_err-keep_trace-clause-fault : goal.returns-in_err-keep_trace-clause-fault
 returns-in_err-keep_trace-clause-fault g c =
     let plan = c.args.network.now in
+    let outside = g.H.Host.outside in
     let fault = c.in_err-keep_trace.field-0.0 in
+    let heard = c.heard_run.new.host in
     same_err _ c.from_residual-in_err-keep_trace.result fault c.from_residual-in_err-keep_trace.ensures.1
-    (inl (inr (rows_took g.H.Host.outside c.args.host.now plan c.as_slice.result.now c.args.path.now fault
-    (subst (AreRowsOf plan) (sym c.as_slice.ensures.value) c.in_ok-finished.ensures.rows) c.in_err-keep_trace.ensures.fault)))
+    (inl (inr (at_end outside c.args.is_asked c.args.host.now heard c.keep_trace.new.host (λ host. IsFaultOfTraceFile outside host plan c.args.path.now fault)
+    c.heard_run.ensures.host c.keep_trace.ensures.quiet
+    (rows_took outside heard plan c.as_slice.result.now c.args.path.now fault
+    (subst (AreRowsOf plan) (sym c.as_slice.ensures.value) c.in_ok-finished.ensures.rows) c.in_err-keep_trace.ensures.fault))))
+
+pub returns-clause-left : goal.returns-clause-left
+returns-clause-left g c =
+    let plan = c.args.network.now in
+    let outside = g.H.Host.outside in
+    let heard = c.heard_run.new.host in
+    let traced = c.keep_trace.new.host in
+    let out = c.show_tables.new.output in
+    let new = outside.with_output traced out in
+    let rows = c.as_slice.result.now in
+    let are = subst (AreRowsOf plan) (sym c.as_slice.ensures.value) c.in_ok-finished.ensures.rows in
+    ok_then c.show_tables.result c.show_tables.ensures.text (λ took.
+    at_end outside c.args.is_asked c.args.host.now heard new (λ host. LeavesSeq outside (Some c.args.path.now) host new plan) c.heard_run.ensures.host
+    (g.met.H.Host.lawful.errors_beside traced out ∙ c.keep_trace.ensures.quiet) (
+      traced,
+      of_text outside c.args.path.now (λ (text : List ℕ). text ≡ trace_text plan rows) (IsTraceText plan) heard traced c.in_ok-keep_trace.ensures.file
+          (λ text same. (rows, are, same)),
+      (out, refl),
+    ))

@@ -1,0 +1,57 @@
+//! What a clock and a count of events say of a run: texts behind the moment that it has come to. No clause tells them.
+use std::alloc::{AllocError, Global};
+use vlink::Time;
+
+/// A count, in thousands or millions where it is great.
+fn push_count(text: &mut String, count: u64) -> Result<(), AllocError> {
+    if count >= 1_000_000 {
+        let whole = count / 1_000_000;
+        let tenth = count / 100_000 % 10;
+        return write!(text, "{whole}.{tenth} M");
+    }
+    if count >= 10_000 {
+        let thousands = count / 1_000;
+        return write!(text, "{thousands} k");
+    }
+    write!(text, "{count}")
+}
+
+/// Of a run that has come to this moment of its time after so many ms: the part in per cent, how many events it handles in a second, where they
+/// are counted, and how many seconds are left where the rest takes as long as what is done.
+pub fn pace_so_far(
+    alloc: Global,
+    moment: Time,
+    until: Time,
+    events: u64,
+    ms: u64,
+) -> Result<String, AllocError> {
+    let end_us = until.ns().div_ceil(1_000).max(1);
+    let done_us = end_us.min(moment.ns() / 1_000);
+    let percent = done_us.saturating_mul(100) / end_us;
+    let mut text = format!(in alloc; ", {percent} %")?;
+    if events > 0 {
+        text.push_str(", ")?;
+        push_count(&mut text, events.saturating_mul(1_000) / ms.max(1))?;
+        text.push_str(" events/s")?;
+    }
+    if done_us > 0 {
+        let left_us = end_us.saturating_sub(done_us);
+        let left_s = ms.saturating_mul(left_us) / done_us / 1_000;
+        write!(text, ", {left_s} s left")?;
+    }
+    Ok(text)
+}
+
+/// Of a run that has ended after so many ms: how many events it handled, where they were counted, and how long it took.
+pub fn pace_at_end(alloc: Global, events: u64, ms: u64) -> Result<String, AllocError> {
+    let mut text = String::new(alloc);
+    if events > 0 {
+        text.push_str(", ")?;
+        push_count(&mut text, events)?;
+        text.push_str(" events")?;
+    }
+    let whole = ms / 1_000;
+    let tenth = ms / 100 % 10;
+    write!(text, " in {whole}.{tenth} s")?;
+    Ok(text)
+}
