@@ -6,7 +6,7 @@ use Rattle.sample_actor.proofs.tests.second.rollback.came_from.Goals as goal
 
 -- where all three tests are true, the first two numbers are the same
 same : (r : Bool) (a b c d e f : ℕ) → IsTrue r → r ≡ (eqb a b && (eqb c d && eqb e f)) → (a ≡ b) × (c ≡ d)
-same r.order a b c d e f is tests =
+same r a b c d e f is tests =
     elim (eqb_tells a b) [
       | inl i ↦
           elim (eqb_tells c d) [
