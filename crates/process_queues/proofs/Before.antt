@@ -1,7 +1,6 @@
 -- How many events of a queue come before a message, by those up to a place.
-use Rattle.std.proofs.Common.{◌≡◌, ℕ, suc, ◌<◌, inl, inr, true, false, List, [], ◌∷◌, ◌++◌, length, map, take, drop, slice_index_or, sym, ap, ◌∙◌, subst, arith, append-nil}
+use Rattle.std.proofs.Common.{◌≡◌, ℕ, suc, ◌<◌, inl, inr, true, List, [], ◌∷◌, ◌++◌, length, map, take, drop, slice_index_or, sym, ap, ◌∙◌, subst, arith}
 use Rattle.std.proofs.lemmas.List.{map-append, length-map, length-take, take-append-drop}
-use Rattle.std.proofs.lemmas.List.Elements.{filter-append}
 use Rattle.vlink.specs.declared.message.Message.{Message}
 use Rattle.vlink.specs.declared.note.Note.{Note}
 use Rattle.virtual_time.specs.Law.{Rules, IsOrder, IsIn, IsAscending, before}
@@ -18,12 +17,6 @@ module _ {S K : Type 0} (r : Rules Message S K Note) (O : IsOrder r.order) (m : 
     (at : e ≡ slice_index_or es k e) where
   one-more : firsts n es ≡ firsts k es ++ e.message ∷ []
   one-more = ap (λ i. firsts i es) next ∙ (ap (map (λ (x : Event K). x.message)) (take-more es k e h at) ∙ map-append (λ (x : Event K). x.message) (take k es) (e ∷ []))
-
-  -- the last of them does not come before it
-  pub before-fewer : r.order.less e.message m ≡ false → length (before r.order m (firsts n es)) ≡ length (before r.order m (firsts k es))
-  before-fewer late =
-      ap (λ ms. length (before r.order m ms)) one-more ∙
-      (ap length (filter-append (λ x. r.order.less x m) (firsts k es) (e.message ∷ [])) ∙ rw late (ap length (append-nil _)))
 
   -- the last of them comes before it
   pub before-all : IsAscending r.order (map (λ e. e.message) es) → r.order.less e.message m ≡ true → length (before r.order m (firsts n es)) ≡ n

@@ -5,13 +5,13 @@ use Rattle.std.proofs.lemmas.Bool.{eqb-true}
 use Rattle.std.proofs.lemmas.Int.{ints}
 use Rattle.vlink.specs.declared.message.Message.{Message}
 use Rattle.vlink.specs.declared.note.Note.{Note}
-use Rattle.virtual_time.specs.Law.{Order, Rules, reached, pluses, minuses, Part}
+use Rattle.virtual_time.specs.Law.{Order, Rules, pluses, minuses, Part}
 use Rattle.virtual_time.specs.declared.letter.Letter.{Letter}
 use Rattle.vlink.specs.Order.{message_order}
 use Rattle.antimessages.specs.Counting.{HaveSameCounts}
 use Rattle.process_queues.specs.Queues.{Queues, StandsFor}
 use Rattle.process_queues.specs.Committing.{can_commit, committable}
-use Rattle.process_queues.proofs.Pasts.{messages-of}
+use Rattle.process_queues.proofs.Rolls.{done-messages}
 
 -- no more than are looked at
 pub committable-within : {M : Type 0} (order : Order M) (g : ℕ) (tally : List (Letter M)) (n : ℕ) (ms : List M) → committable order g tally (take n ms) ≤ n
@@ -39,11 +39,8 @@ committable-agree g a b h (m ∷ ms) =
     ap (λ can. if can then suc (committable message_order g a ms) else 0) (can_commit-agree g a b h m) ∙
     ap (λ n. if can_commit message_order g b m then suc n else 0) (committable-agree g a b h ms)
 
-module _ {S K : Type 0} (r : Rules Message S K Note) (same : r.order ≡ message_order) where
-  pub committable-stands : (is_value : S → Message → Type 0) (opening : S) (part : Part Message S) (q : Queues S K) → StandsFor r is_value opening part q →
-      (g n : ℕ) → committable message_order g q.tally (take n (map (λ e. e.message) q.past.done)) ≡ committable r.order g part.tally (take n part.done)
-  committable-stands is_value opening part q h g n =
-      ap (λ ms. committable message_order g q.tally (take n ms))
-      (ap (map (λ e. e.message)) h.past.past_of.done ∙ messages-of r (reached r opening part.committed) part.done) ∙
-      (sym (committable-agree g part.tally q.tally h.counts (take n part.done)) ∙
-      sym (ap (λ o. committable o g part.tally (take n part.done)) same))
+pub committable-stands : {S K : Type 0} {r : Rules Message S K Note} → r.order ≡ message_order → {is_value : S → Message → Type 0} {opening : S} {part : Part Message S} {q : Queues S K} →
+    StandsFor r is_value opening part q → (g n : ℕ) → committable message_order g q.tally (take n (map (λ e. e.message) q.past.done)) ≡ committable r.order g part.tally (take n part.done)
+committable-stands same {part = part} {q} h g n =
+    ap (λ ms. committable message_order g q.tally (take n ms)) (done-messages h.past) ∙
+    (sym (committable-agree g part.tally q.tally h.counts (take n part.done)) ∙ sym (ap (λ o. committable o g part.tally (take n part.done)) same))

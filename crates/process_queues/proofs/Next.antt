@@ -22,7 +22,7 @@ module _ {S K : Type 0} (r : Rules Message S K Note) (R : OfMessages r) (is_valu
     (h : StandsFor r is_value opening part q) where
   -- the newest done event
   newest-same : newest_of (map (λ e. e.message) q.past.done) ≡ newest_of part.done
-  newest-same = ap newest_of (done-messages r is_value opening _ part q.past h.past)
+  newest-same = ap newest_of (done-messages h.past)
 
   after-same : (o : Option Message) (m : Message) → is_after message_order o m ≡ is_after r.order o m
   after-same o m = sym (ap (λ order. is_after order o m) R.order_is)
@@ -139,7 +139,7 @@ next-seal_oldest r O part = go part.done refl (can_seal r.order part part.done) 
     go (m ∷ rest) e true w = next-sealed r O part m rest e w
     go (m ∷ rest) e false w = refl
 
-pub next-kept : {S K : Type 0} (r : Rules Message S K Note) (R : OfMessages r) (is_value : S → Message → Type 0) (opening : S) (part : Part Message S) (old new : Queues S K) →
+pub next-kept : {S K : Type 0} {r : Rules Message S K Note} (R : OfMessages r) {is_value : S → Message → Type 0} {opening : S} {part : Part Message S} {old new : Queues S K} →
     StandsFor r is_value opening part old → StandsFor r is_value opening (seal_oldest r part) new → next_in new ≡ next_in old
-next-kept r R is_value opening part old new h k =
+next-kept {S} {K} {r} R {is_value} {opening} {part} {old} {new} h k =
     sym (next-stands r R is_value opening (seal_oldest r part) new k) ∙ (next-seal_oldest r R.order part ∙ next-stands r R is_value opening part old h)

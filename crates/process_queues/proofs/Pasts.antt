@@ -1,5 +1,5 @@
 -- One event more at the end of several, or one less: what is kept of them, what they sent, and their rows.
-use Rattle.std.proofs.Common.{◌≡◌, ℕ, ◌-◌, ◌<◌, ◌≤◌, List, [], ◌∷◌, ◌++◌, length, map, take, drop, refl, sym, ap, ◌∙◌, subst, arith, append_assoc, append-nil}
+use Rattle.std.proofs.Common.{◌≡◌, ℕ, ◌+◌, ◌-◌, ◌<◌, List, [], ◌∷◌, ◌++◌, length, map, take, drop, refl, sym, ap, ◌∙◌, subst, arith, append_assoc, append-nil}
 use Rattle.std.proofs.lemmas.List.{length-append, length-map}
 use Rattle.vlink.specs.declared.message.Message.{Message}
 use Rattle.vlink.specs.declared.note.Note.{Note}
@@ -53,134 +53,116 @@ module _ {S K : Type 0} (r : Rules Message S K Note) where
   as_many s [] = refl
   as_many s (m ∷ ms) = let e = as_many (r.after s m) ms in omega arith
 
-  module _ (is_value : S → Message → Type 0) (start : S) (ms : List Message) (earlier : Rows) where
-    pub past-none : (past : Past S K) → past.state ≡ start → past.done ≡ [] → past.sends ≡ [] → past.rows ≡ earlier → IsPastOf r is_value start [] earlier past
-    past-none past a b c d = record { state = a; done = b; values = tt; sends = c; rows = d ∙ sym (append-nil earlier) }
+  -- the last event: the state now and its record came from it, at the state that the events before it led to
+  pub record CameLast (is_value : S → Message → Type 0) (start : S) (ms : List Message) (earlier : Rows) (e : Message) (past : Past S K) (front : List (Event K)) (event : Event K) : Type 0 where
+    pub state : past.state ≡ r.after (reached r start ms) e
+    pub event_is : event ≡ event_of r (reached r start ms) e
+    pub front_is : front ≡ events_of r start ms
+    pub valid : is_value (reached r start ms) e
+    pub values : AreValues r is_value start ms
+    pub sends : past.sends ≡ sent r start ms ++ r.sends (reached r start ms) e
+    pub rows : past.rows ≡ (earlier ++ rowed r start ms) ++ rows_of r.order e (r.notes (reached r start ms) e)
+    -- so many of what was sent, and so many rows, are its
+    pub sent : length past.sends ≡ length (sent r start ms) + event.sent
+    pub noted : length past.rows ≡ length (earlier ++ rowed r start ms) + event.noted
 
-    -- one event is handled at the end
-    pub past-more : (past : Past S K) (m : Message) → r.order ≡ message_order →
-        IsPastOf r is_value start ms earlier past → is_value past.state m → IsPastOf r is_value start (ms ++ m ∷ []) earlier (handled_past r past m)
-    past-more past m order_is h v = record {
-      state = ap (λ s. r.after s m) h.state ∙ sym (reached-append r start ms (m ∷ []));
-      done = ap (λ es. es ++ event_of r past.state m ∷ []) h.done ∙ (ap (λ s. events_of r start ms ++ event_of r s m ∷ []) h.state ∙ sym (events-append start ms (m ∷ [])));
-      values = values-append is_value start ms m h.values (subst (λ s. is_value s m) h.state v);
-      sends = ap (λ es. es ++ r.sends past.state m) h.sends ∙ (ap (λ s. sent r start ms ++ r.sends s m) h.state ∙
-          sym (sent-append r start ms (m ∷ []) ∙ ap (λ z. sent r start ms ++ z) (append-nil _)));
-      rows = ap (λ rs. rs ++ map (λ n. record { message = m; place = m.receiver; note = n }) (r.notes past.state m)) h.rows ∙
-          (append_assoc earlier (rowed r start ms) _ ∙
-          ap (λ z. earlier ++ z) (ap (λ z. rowed r start ms ++ z) (ap (λ o. rows_of o m (r.notes past.state m)) (sym order_is) ∙ ap (λ s. rows_of r.order m (r.notes s m)) h.state) ∙
-          sym (rowed-append r start ms (m ∷ []) ∙ ap (λ z. rowed r start ms ++ z) (append-nil _))));
-    }
+module _ {S K : Type 0} {r : Rules Message S K Note} {is_value : S → Message → Type 0} {start : S} {earlier : Rows} {past : Past S K} where
+  -- one event is handled at the end
+  pub past-more : {ms : List Message} (m : Message) → r.order ≡ message_order → IsPastOf r is_value start ms earlier past → is_value past.state m →
+      IsPastOf r is_value start (ms ++ m ∷ []) earlier (handled_past r past m)
+  past-more {ms} m order_is h v = record {
+    state = ap (λ s. r.after s m) h.state ∙ sym (reached-append r start ms (m ∷ []));
+    done = ap (λ es. es ++ event_of r past.state m ∷ []) h.done ∙ (ap (λ s. events_of r start ms ++ event_of r s m ∷ []) h.state ∙ sym (events-append r start ms (m ∷ [])));
+    values = values-append r is_value start ms m h.values (subst (λ s. is_value s m) h.state v);
+    sends = ap (λ es. es ++ r.sends past.state m) h.sends ∙ (ap (λ s. sent r start ms ++ r.sends s m) h.state ∙
+        sym (sent-append r start ms (m ∷ []) ∙ ap (λ z. sent r start ms ++ z) (append-nil _)));
+    rows = ap (λ rs. rs ++ map (λ n. record { message = m; place = m.receiver; note = n }) (r.notes past.state m)) h.rows ∙
+        (append_assoc earlier (rowed r start ms) _ ∙
+        ap (λ z. earlier ++ z) (ap (λ z. rowed r start ms ++ z) (ap (λ o. rows_of o m (r.notes past.state m)) (sym order_is) ∙ ap (λ s. rows_of r.order m (r.notes s m)) h.state) ∙
+        sym (rowed-append r start ms (m ∷ []) ∙ ap (λ z. rowed r start ms ++ z) (append-nil _))));
+  }
 
-    -- the last event: the state now and its record came from it, at the state that the events before it led to
-    pub record CameLast (e : Message) (past : Past S K) (front : List (Event K)) (event : Event K) : Type 0 where
-      pub state : past.state ≡ r.after (reached r start ms) e
-      pub event_is : event ≡ event_of r (reached r start ms) e
-      pub front_is : front ≡ events_of r start ms
-      pub valid : is_value (reached r start ms) e
-      pub values : AreValues r is_value start ms
-      pub sends : past.sends ≡ sent r start ms ++ r.sends (reached r start ms) e
-      pub rows : past.rows ≡ (earlier ++ rowed r start ms) ++ rows_of r.order e (r.notes (reached r start ms) e)
+  pub came-last : (ms : List Message) (e : Message) (front : List (Event K)) (event : Event K) → past.done ≡ front ++ event ∷ [] →
+      IsPastOf r is_value start (ms ++ e ∷ []) earlier past → CameLast r is_value start ms earlier e past front event
+  came-last ms e front event d h =
+      let both = snoc-equal front (events_of r start ms) event (event_of r (reached r start ms) e) (sym d ∙ (h.done ∙ events-append r start ms (e ∷ []))) in
+      let v = values-last r is_value start ms e h.values in
+      let sends : past.sends ≡ sent r start ms ++ r.sends (reached r start ms) e =
+      h.sends ∙ (sent-append r start ms (e ∷ []) ∙ ap (λ z. sent r start ms ++ z) (append-nil _)) in
+      let rows : past.rows ≡ (earlier ++ rowed r start ms) ++ rows_of r.order e (r.notes (reached r start ms) e) =
+      h.rows ∙ (ap (λ z. earlier ++ z) (rowed-append r start ms (e ∷ []) ∙ ap (λ z. rowed r start ms ++ z) (append-nil _)) ∙ sym (append_assoc earlier (rowed r start ms) _)) in
+      record {
+        state = h.state ∙ reached-append r start ms (e ∷ []);
+        event_is = both.1;
+        front_is = both.0;
+        valid = v.1;
+        values = v.0;
+        sends = sends;
+        rows = rows;
+        sent = ap length sends ∙ (length-append (sent r start ms) _ ∙ ap (λ (x : Event K). length (sent r start ms) + x.sent) (sym both.1));
+        noted = ap length rows ∙ (length-append (earlier ++ rowed r start ms) _ ∙
+            ap (λ n. length (earlier ++ rowed r start ms) + n) (length-map (r.notes (reached r start ms) e) _ ∙ ap (λ (x : Event K). x.noted) (sym both.1)));
+      }
 
-    pub came-last : (e : Message) (past : Past S K) (front : List (Event K)) (event : Event K) → past.done ≡ front ++ event ∷ [] →
-        IsPastOf r is_value start (ms ++ e ∷ []) earlier past → CameLast e past front event
-    came-last e past front event d h =
-        let both = snoc-equal front (events_of r start ms) event (event_of r (reached r start ms) e) (sym d ∙ (h.done ∙ events-append start ms (e ∷ []))) in
-        let v = values-last is_value start ms e h.values in
-        record {
-          state = h.state ∙ reached-append r start ms (e ∷ []);
-          event_is = both.1;
-          front_is = both.0;
-          valid = v.1;
-          values = v.0;
-          sends = h.sends ∙ (sent-append r start ms (e ∷ []) ∙ ap (λ z. sent r start ms ++ z) (append-nil _));
-          rows = h.rows ∙ (ap (λ z. earlier ++ z) (rowed-append r start ms (e ∷ []) ∙ ap (λ z. rowed r start ms ++ z) (append-nil _)) ∙
-              sym (append_assoc earlier (rowed r start ms) _));
-        }
+  -- of a past with an event at the end something was done
+  pub some-done : (ms : List Message) (e : Message) → IsPastOf r is_value start (ms ++ e ∷ []) earlier past → 0 < length past.done
+  some-done ms e h =
+      let a = ap length (h.done ∙ events-append r start ms (e ∷ [])) ∙ length-append (events_of r start ms) (event_of r (reached r start ms) e ∷ []) in
+      omega arith
 
-    -- so many of what was sent, and so many rows, are the last event's
-    pub record Gives (e : Message) (past : Past S K) (event : Event K) : Type 0 where
-      pub sent : event.sent ≤ length past.sends
-      pub noted : event.noted ≤ length past.rows
-      pub sends : drop (length past.sends - event.sent) past.sends ≡ r.sends (reached r start ms) e
+  -- where something was done, there is a last event
+  pub has-last : {ns : List Message} (front : List (Event K)) (event : Event K) → past.done ≡ front ++ event ∷ [] → IsPastOf r is_value start ns earlier past →
+      (ms : List Message) × (e : Message) × CameLast r is_value start ms earlier e past front event
+  has-last {ns} front event d h =
+      let a = ap length d ∙ length-append front (event ∷ []) in
+      let b = ap length h.done ∙ as_many r start ns in
+      let k = split-last ns (omega arith) in
+      (k.0, k.1, came-last k.0 k.1 front event d (subst (λ z. IsPastOf r is_value start z earlier past) k.2 h))
 
-    pub gives-last : (e : Message) (past : Past S K) (front : List (Event K)) (event : Event K) → CameLast e past front event → Gives e past event
-    gives-last e past front event h =
-        let s = ap length h.sends ∙ length-append (sent r start ms) (r.sends (reached r start ms) e) in
-        let n = ap length h.rows ∙ length-append (earlier ++ rowed r start ms) (rows_of r.order e (r.notes (reached r start ms) e)) in
-        let a : event.sent ≡ length (r.sends (reached r start ms) e) = ap (λ x. x.sent) h.event_is in
-        let b : event.noted ≡ length (rows_of r.order e (r.notes (reached r start ms) e)) = ap (λ x. x.noted) h.event_is ∙ sym (length-map (r.notes (reached r start ms) e) _) in
-        record {
-          sent = omega arith;
-          noted = omega arith;
-          sends = ap (drop (length past.sends - event.sent)) h.sends ∙
-              back-of (sent r start ms) (r.sends (reached r start ms) e) (length past.sends - event.sent) (omega arith);
-        }
+  -- where nothing is left, the state is that at the start
+  pub left-none : (ns : List Message) → IsPastOf r is_value start ns earlier past → length past.done ≡ 0 → past.state ≡ start
+  left-none [] h z = h.state
+  left-none (n ∷ ns) h z = let b = ap length h.done ∙ as_many r start (n ∷ ns) in absurd (omega arith)
+
+module _ {S K : Type 0} {r : Rules Message S K Note} {is_value : S → Message → Type 0} {start : S} {ms : List Message} {earlier : Rows} {e : Message} {past : Past S K}
+    {front : List (Event K)} {event : Event K} (l : CameLast r is_value start ms earlier e past front event) where
+  -- what it sent
+  pub last-sends : drop (length past.sends - event.sent) past.sends ≡ r.sends (reached r start ms) e
+  last-sends =
+      let n = l.sent in
+      ap (drop (length past.sends - event.sent)) l.sends ∙ back-of (sent r start ms) (r.sends (reached r start ms) e) (length past.sends - event.sent) (omega arith)
+
+  -- what undoing it asks for
+  pub came-from : (s : S) × is_value s event.message × (past.state ≡ r.after s event.message) × (event.kept ≡ r.kept s event.message)
+  came-from =
+      let same : event.message ≡ e = ap (λ x. x.message) l.event_is in (
+        reached r start ms,
+        subst (is_value (reached r start ms)) (sym same) l.valid,
+        l.state ∙ ap (r.after (reached r start ms)) (sym same),
+        ap (λ x. x.kept) l.event_is ∙ ap (r.kept (reached r start ms)) (sym same),
+      )
+
+  module _ (law : (s : S) → r.undo (r.after s e) e (r.kept s e) ≡ s) (now : S) (undone : now ≡ r.undo past.state event.message event.kept) where
+    came-back : now ≡ reached r start ms
+    came-back = undone ∙ (ap (λ z. r.undo past.state z.message z.kept) l.event_is ∙
+        (ap (λ z. r.undo z e (r.kept (reached r start ms) e)) l.state ∙ law (reached r start ms)))
 
     -- it is undone
-    pub past-less : (e : Message) (past past' : Past S K) (front : List (Event K)) (event : Event K) → CameLast e past front event →
-        ((s : S) → r.undo (r.after s e) e (r.kept s e) ≡ s) → past'.state ≡ r.undo past.state event.message event.kept → past'.done ≡ front →
-        past'.sends ≡ take (length past.sends - event.sent) past.sends → past'.rows ≡ take (length past.rows - event.noted) past.rows →
-        IsPastOf r is_value start ms earlier past'
-    past-less e past past' front event h law a b c d =
-        let s = ap length h.sends ∙ length-append (sent r start ms) (r.sends (reached r start ms) e) in
-        let n = ap length h.rows ∙ length-append (earlier ++ rowed r start ms) (rows_of r.order e (r.notes (reached r start ms) e)) in
-        let x : event.sent ≡ length (r.sends (reached r start ms) e) = ap (λ x. x.sent) h.event_is in
-        let y : event.noted ≡ length (rows_of r.order e (r.notes (reached r start ms) e)) = ap (λ x. x.noted) h.event_is ∙ sym (length-map (r.notes (reached r start ms) e) _) in
+    pub past-less : (sends : List Message) (rows : Rows) → sends ≡ take (length past.sends - event.sent) past.sends → rows ≡ take (length past.rows - event.noted) past.rows →
+        IsPastOf r is_value start ms earlier (record { state = now; done = front; sends = sends; rows = rows })
+    past-less sends rows c d =
+        let s = l.sent in
+        let n = l.noted in
         record {
-          state = a ∙ (ap (λ z. r.undo past.state z.message z.kept) h.event_is ∙
-              (ap (λ z. r.undo z e (r.kept (reached r start ms) e)) h.state ∙ law (reached r start ms)));
-          done = b ∙ h.front_is;
-          values = h.values;
-          sends = c ∙ (ap (take (length past.sends - event.sent)) h.sends ∙
+          state = came-back;
+          done = l.front_is;
+          values = l.values;
+          sends = c ∙ (ap (take (length past.sends - event.sent)) l.sends ∙
               front-of (sent r start ms) (r.sends (reached r start ms) e) (length past.sends - event.sent) (omega arith));
-          rows = d ∙ (ap (take (length past.rows - event.noted)) h.rows ∙
+          rows = d ∙ (ap (take (length past.rows - event.noted)) l.rows ∙
               front-of (earlier ++ rowed r start ms) (rows_of r.order e (r.notes (reached r start ms) e)) (length past.rows - event.noted) (omega arith));
         }
 
-    -- of a past with an event at the end something was done
-    pub some-done : (e : Message) (past : Past S K) → IsPastOf r is_value start (ms ++ e ∷ []) earlier past → 0 < length past.done
-    some-done e past h =
-        let a = ap length (h.done ∙ events-append start ms (e ∷ [])) ∙ length-append (events_of r start ms) (event_of r (reached r start ms) e ∷ []) in
-        omega arith
-
-    -- what undoing the last event asks for
-    pub came-from : (e : Message) (past : Past S K) (front : List (Event K)) (event : Event K) → CameLast e past front event →
-        (s : S) × is_value s event.message × (past.state ≡ r.after s event.message) × (event.kept ≡ r.kept s event.message)
-    came-from e past front event l =
-        let same : event.message ≡ e = ap (λ x. x.message) l.event_is in (
-          reached r start ms,
-          subst (is_value (reached r start ms)) (sym same) l.valid,
-          l.state ∙ ap (r.after (reached r start ms)) (sym same),
-          ap (λ x. x.kept) l.event_is ∙ ap (r.kept (reached r start ms)) (sym same),
-        )
-
-  module _ (is_value : S → Message → Type 0) (start : S) where
-    -- where something was done, there is a last event
-    pub has-last : (ns : List Message) (past : Past S K) (front : List (Event K)) (event : Event K) → past.done ≡ front ++ event ∷ [] →
-        IsPastOf r is_value start ns [] past → (ms : List Message) × (e : Message) × CameLast is_value start ms [] e past front event
-    has-last ns past front event d h =
-        let a = ap length d ∙ length-append front (event ∷ []) in
-        let b = ap length h.done ∙ as_many start ns in
-        let k = split-last ns (omega arith) in (
-          k.0,
-          k.1,
-          came-last is_value start k.0 [] k.1 past front event d (subst (λ z. IsPastOf r is_value start z [] past) k.2 h),
-        )
-
     -- it is undone, of state and events alone
-    pub left-less : (ms : List Message) (e : Message) (past : Past S K) (front : List (Event K)) (event : Event K) → CameLast is_value start ms [] e past front event →
-        ((s : S) → r.undo (r.after s e) e (r.kept s e) ≡ s) → (now : S) → now ≡ r.undo past.state event.message event.kept →
-        IsPastOf r is_value start ms [] (record { state = now; done = front; sends = sent r start ms; rows = rowed r start ms })
-    left-less ms e past front event l law now a = record {
-      state = a ∙ (ap (λ z. r.undo past.state z.message z.kept) l.event_is ∙ (ap (λ z. r.undo z e (r.kept (reached r start ms) e)) l.state ∙ law (reached r start ms)));
-      done = l.front_is;
-      values = l.values;
-      sends = refl;
-      rows = refl;
-    }
-
-    -- where nothing is left, the state is that at the start
-    pub left-none : (ns : List Message) (past : Past S K) → IsPastOf r is_value start ns [] past → length past.done ≡ 0 → past.state ≡ start
-    left-none [] past h z = h.state
-    left-none (n ∷ ns) past h z = let b = ap length h.done ∙ as_many start (n ∷ ns) in absurd (omega arith)
+    pub left-less : IsPastOf r is_value start ms [] (record { state = now; done = front; sends = sent r start ms; rows = rowed r start ms })
+    left-less = record { state = came-back; done = l.front_is; values = l.values; sends = refl; rows = refl }

@@ -1,5 +1,5 @@
 -- What of a process can be read, by the part that it stands for.
-use Rattle.std.proofs.Common.{◌≡◌, ℕ, suc, ◌+◌, ◌≤◌, min, List, [], ◌∷◌, ◌++◌, length, map, take, Some, None, slice_get, refl, sym, ap, ◌∙◌, arith}
+use Rattle.std.proofs.Common.{◌≡◌, ℕ, suc, ◌+◌, ◌≤◌, min, List, [], ◌∷◌, ◌++◌, length, map, take, Some, None, slice_get, refl, sym, ap, ◌∙◌, subst, arith}
 use Rattle.std.specs.Option.{option_map}
 use Rattle.std.proofs.lemmas.List.{length-append, length-drop}
 use Rattle.vlink.specs.declared.message.Message.{Message}
@@ -10,14 +10,14 @@ use Rattle.virtual_time.proofs.Least.{least-some, least-none}
 use Rattle.virtual_time.proofs.Lowest.{lowest-top, lowest-message, lowest-messages}
 use Rattle.virtual_time.proofs.Order.{not_less-time}
 use Rattle.process_queues.specs.declared.past.Event.{Event}
-use Rattle.process_queues.specs.Past.{event_of, events_of}
+use Rattle.process_queues.specs.Past.{event_of, events_of, IsPastOf}
 use Rattle.process_queues.specs.Queues.{Queues, StandsFor, rows_there}
 use Rattle.process_queues.proofs.Pasts.{front-of}
 
 some-same : {A : Type 0} (a b : A) → Some a ≡ Some b → a ≡ b
 some-same a b e = cc
 
-module _ {S K : Type 0} (r : Rules Message S K Note) (is_value : S → Message → Type 0) (opening : S) (part : Part Message S) (q : Queues S K)
+module _ {S K : Type 0} {r : Rules Message S K Note} {is_value : S → Message → Type 0} {opening : S} {part : Part Message S} {q : Queues S K}
     (h : StandsFor r is_value opening part q) where
   -- the oldest done event
   pub oldest-stands : option_map (λ e. e.message.time) (slice_get q.past.done 0) ≡ option_map (λ m. m.time) (slice_get part.done 0)
@@ -27,20 +27,16 @@ module _ {S K : Type 0} (r : Rules Message S K Note) (is_value : S → Message �
       go s [] = refl
       go s (m ∷ ms) = refl
 
-  -- there is an oldest done event just where something was done, and it is the first one
+  -- the oldest done event is the first one, and the past begins with it
   pub first-done : (event : Event K) → slice_get q.past.done 0 ≡ Some event → (rest : List Message) × (part.done ≡ event.message ∷ rest)
-  first-done event e = go (reached r opening part.committed) part.done (sym (ap (λ es. slice_get es 0) h.past.past_of.done) ∙ e)
+      × IsPastOf r is_value (reached r opening part.committed) (event.message ∷ rest) (rows_there r opening part q) q.past
+  first-done event e =
+      let k = go (reached r opening part.committed) part.done (sym (ap (λ es. slice_get es 0) h.past.past_of.done) ∙ e) in
+      (k.0, k.1, subst (λ ms. IsPastOf r is_value (reached r opening part.committed) ms (rows_there r opening part q) q.past) k.1 h.past.past_of)
     where
       go : (s : S) (ms : List Message) → slice_get (events_of r s ms) 0 ≡ Some event → (rest : List Message) × (ms ≡ event.message ∷ rest)
       go s [] k = cc
       go s (m ∷ ms) k = let same : event_of r s m ≡ event = some-same (event_of r s m) event k in (ms, ap (λ z. z.message ∷ ms) same)
-
-  pub none-done : slice_get q.past.done 0 ≡ None → part.done ≡ []
-  none-done e = go (reached r opening part.committed) part.done (sym (ap (λ es. slice_get es 0) h.past.past_of.done) ∙ e)
-    where
-      go : (s : S) (ms : List Message) → slice_get (events_of r s ms) 0 ≡ None → ms ≡ []
-      go s [] k = refl
-      go s (m ∷ ms) k = cc
 
   -- so many rows of committed events are still there
   still-there : q.sealed ≡ length (rows_there r opening part q)

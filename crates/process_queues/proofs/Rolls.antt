@@ -24,13 +24,14 @@ module _ {S K : Type 0} (r : Rules Message S K Note) (is_value : S → Message �
       Rolls part past letters
   rolls-none part past letters b o = record { now = part; belongs = b; outbox = o; same = refl }
 
-module _ {S K : Type 0} (r : Rules Message S K Note) (is_value : S → Message → Type 0) (opening : S) (there : Rows) where
+module _ {S K : Type 0} {r : Rules Message S K Note} {is_value : S → Message → Type 0} {opening : S} {there : Rows} {part : Part Message S} {past : Past S K}
+    (b : BelongsTo r is_value opening there part past) where
   -- the messages of the done events
-  pub done-messages : (part : Part Message S) (past : Past S K) → BelongsTo r is_value opening there part past → map (λ e. e.message) past.done ≡ part.done
-  done-messages part past b = ap (map (λ e. e.message)) b.past_of.done ∙ messages-of r (reached r opening part.committed) part.done
+  pub done-messages : map (λ e. e.message) past.done ≡ part.done
+  done-messages = ap (map (λ e. e.message)) b.past_of.done ∙ messages-of r (reached r opening part.committed) part.done
 
-  pub done-ascending : (part : Part Message S) (past : Past S K) → BelongsTo r is_value opening there part past → IsAscending r.order (map (λ e. e.message) past.done)
-  done-ascending part past b = subst (IsAscending r.order) (sym (done-messages part past b)) b.ascending
+  pub done-ascending : IsAscending r.order (map (λ e. e.message) past.done)
+  done-ascending = subst (IsAscending r.order) (sym done-messages) b.ascending
 
 module _ {S K : Type 0} (r : Rules Message S K Note) (O : IsOrder r.order) (is_value : S → Message → Type 0) (opening : S) (there : Rows) (m : Message) where
   -- where m does not come after the newest event, there is one, which it does not come after
@@ -44,7 +45,7 @@ module _ {S K : Type 0} (r : Rules Message S K Note) (O : IsOrder r.order) (is_v
   pub is-late : (part : Part Message S) (past : Past S K) → BelongsTo r is_value opening there part past →
       is_after r.order (newest_of (map (λ e. e.message) past.done)) m ≡ false → IsLate part past
   is-late part past b a =
-      let k = not_after-end r O part.done m (subst (λ ds. is_after r.order (newest_of ds) m ≡ false) (done-messages r is_value opening there part past b) a) in
+      let k = not_after-end r O part.done m (subst (λ ds. is_after r.order (newest_of ds) m ≡ false) (done-messages b) a) in
       record {
         front = k.0;
         event = k.1;
@@ -91,4 +92,4 @@ module _ {S K : Type 0} (r : Rules Message S K Note) (O : IsOrder r.order) (is_v
       is_after r.order (newest_of (map (λ e. e.message) past.done)) m ≡ true → h.now ≡ rolled_back r opening m part
   rolls-end part past letters h a =
       sym (roll-none r O opening h.now m (after-all r O h.now.done m h.belongs.ascending
-      (subst (λ ds. is_after r.order (newest_of ds) m ≡ true) (done-messages r is_value opening there h.now past h.belongs) a))) ∙ h.same
+      (subst (λ ds. is_after r.order (newest_of ds) m ≡ true) (done-messages h.belongs) a))) ∙ h.same

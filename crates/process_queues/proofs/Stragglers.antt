@@ -6,10 +6,8 @@ use Rattle.std.proofs.lemmas.Bool.{false_from_ne_true, both_ways, cases_lt}
 use Rattle.std.proofs.lemmas.List.{drop-map, length-map}
 use Rattle.std.proofs.lemmas.List.Filters.{length-filter_both}
 use Rattle.vlink.specs.declared.message.Message.{Message}
-use Rattle.virtual_time.specs.declared.letter.Sign.{Sign}
-use Rattle.virtual_time.specs.declared.letter.Sign.TheVariants.{Plus, Minus}
 use Rattle.vlink.specs.declared.note.Note.{Note}
-use Rattle.virtual_time.specs.Law.{Rules, IsOrder, one_if, same, times_in, IsIn, IsAscending, before, from_on, IsPresent, pluses, minuses, is_present, is_plus, Part}
+use Rattle.virtual_time.specs.Law.{Rules, IsOrder, one_if, same, times_in, IsIn, IsAscending, before, from_on, IsPresent, pluses, minuses, is_present, is_plus, Part, can_seal}
 use Rattle.virtual_time.proofs.Lists.{times-append, times-none, times-filter_out, in-head, in-cons}
 use Rattle.virtual_time.proofs.Order.{same-refl, less-asym}
 use Rattle.virtual_time.proofs.Ascending.{ascending-once, ascending-filter}
@@ -24,8 +22,9 @@ use Rattle.process_queues.specs.declared.past.Event.{Event}
 use Rattle.process_queues.specs.Past.{newest_of}
 use Rattle.process_queues.specs.Queues.{Queues, StandsFor, with_done, next_in}
 use Rattle.process_queues.proofs.Beside.{times, with_done-count, with_done-next, times-messages}
-use Rattle.process_queues.proofs.Counting.{OfMessages}
+use Rattle.process_queues.proofs.Counting.{OfMessages, one-left, not-one-left}
 use Rattle.process_queues.proofs.Next.{here, there, after-not_done, not_done-after, after-here}
+use Rattle.process_queues.proofs.Reading.{first-done}
 use Rattle.process_queues.proofs.Rolls.{done-messages}
 
 -- whether a message is done, by what stands behind those that come before it
@@ -159,20 +158,14 @@ module _ (O : IsOrder message_order) {K : Type 0} (l : Letter) (t : List Letter)
       let c = with_done-count O l.message t done in
       let n = brings e in
       let w = none d in
-      let x : (pluses message_order l.message all ≡ minuses message_order l.message all → ⊥) = λ k. z (omega (arith, ints)) in
-      change-none l all false (is-absent O all l.message w) (is-absent O (l ∷ all) l.message (below _ _ w x n.0 n.1))
-    where
-      below : (p n : ℕ) → p ≤ n → (p ≡ n → ⊥) → {p' n' : ℕ} → p' ≡ p + 1 → n' ≡ n → p' ≤ n'
-      below p n w x f g = elim (cases_lt p n) [ inl k ↦ omega arith | inr k ↦ absurd (x (omega arith)) ]
+      let x : pluses message_order l.message all ≢ minuses message_order l.message all = λ k. z (omega (arith, ints)) in
+      change-none l all false (is-absent O all l.message w) (is-absent O (l ∷ all) l.message (omega (arith, n.0, n.1)))
   kept-other false e d z some none =
       let c = with_done-count O l.message t done in
       let n = takes e in
       let w = some d in
-      let x : (pluses message_order l.message all ≡ minuses message_order l.message all + 1 → ⊥) = λ k. z (omega (arith, ints)) in
-      change-none l all true (present-from message_order O all l.message w) (present-from message_order O (l ∷ all) l.message (above _ _ w x n.0 n.1))
-    where
-      above : (p n : ℕ) → n < p → (p ≡ n + 1 → ⊥) → {p' n' : ℕ} → p' ≡ p → n' ≡ n + 1 → n' < p'
-      above p n w x f g = elim (cases_lt (n + 1) p) [ inl k ↦ omega arith | inr k ↦ absurd (x (omega arith)) ]
+      let x : pluses message_order l.message all ≢ minuses message_order l.message all + 1 = λ k. z (omega (arith, ints)) in
+      change-none l all true (present-from message_order O all l.message w) (present-from message_order O (l ∷ all) l.message (omega (arith, n.0, n.1)))
 
   -- it brings a message that is done, or takes back one that is not
   pub kept-more : (b : Bool) → is_plus l.sign ≡ b → times O l.message done ≡ one_if b →
@@ -188,10 +181,10 @@ module _ (O : IsOrder message_order) {K : Type 0} (l : Letter) (t : List Letter)
       change-none l all false (is-absent O all l.message w) (is-absent O (l ∷ all) l.message (omega (arith, n.0, n.1)))
 
 -- a message that does not come after all done events is present just where it is done
-module _ {S K : Type 0} (r : Rules Message S K Note) (R : OfMessages r) (is_value : S → Message → Type 0) (opening : S) (part : Part Message S) (q : Queues S K)
+module _ {S K : Type 0} {r : Rules Message S K Note} (R : OfMessages r) {is_value : S → Message → Type 0} {opening : S} {part : Part Message S} {q : Queues S K}
     (h : StandsFor r is_value opening part q) (m : Message) where
   pub done-times : times_in r.order m part.done ≡ times R.messages m q.past.done
-  done-times = times-messages r R m part.done ∙ ap (times_in message_order m) (sym (done-messages r is_value opening _ part q.past h.past))
+  done-times = times-messages r R m part.done ∙ ap (times_in message_order m) (sym (done-messages h.past))
 
   pub done-present : times R.messages m q.past.done ≡ 1 → IsPresent message_order q.tally m
   done-present d = here r R is_value opening part q h m (h.well.done_present m (let k = done-times in omega arith))
@@ -200,7 +193,7 @@ module _ {S K : Type 0} (r : Rules Message S K Note) (R : OfMessages r) (is_valu
       pluses message_order m q.tally ≤ minuses message_order m q.tally
   late-absent late d = elim (cases_lt (minuses message_order m q.tally) (pluses message_order m q.tally)) [
     | inl k ↦ absurd (both_ways _ late
-        (ap (λ ds. is_after r.order (newest_of ds) m) (done-messages r is_value opening _ part q.past h.past) ∙
+        (ap (λ ds. is_after r.order (newest_of ds) m) (done-messages h.past) ∙
         not_done-after r R is_value opening part q h m (there r R is_value opening part q h m k) (done-times ∙ d)))
     | inr k ↦ k
   ]
@@ -220,77 +213,71 @@ module _ {S K : Type 0} (r : Rules Message S K Note) (R : OfMessages r) (is_valu
       let f = ap (signed_count message_order m) e in
       omega (arith, ints)
 
--- whether a letter brings a message that is not done, or takes back one that is
-abbrev pub is_other : Sign → Bool → Bool
-is_other Plus done = not done
-is_other Minus done = done
-
-pub other-times : (s : Sign) (done other : Bool) (n : ℕ) → (IsTrue done → n ≡ 1) → (done ≡ false → n ≡ 0) → other ≡ is_other s done →
-    (other ≡ true → n ≡ one_if (not (is_plus s))) × (other ≡ false → n ≡ one_if (is_plus s))
-other-times Plus true other n some none e = (λ t. absurd (both_ways _ e t), λ _. some refl)
-other-times Plus false other n some none e = (λ _. none refl, λ f. absurd (both_ways _ f e))
-other-times Minus true other n some none e = (λ _. some refl, λ f. absurd (both_ways _ f e))
-other-times Minus false other n some none e = (λ t. absurd (both_ways _ e t), λ _. none refl)
-
 -- what a letter makes of its message, which does not come after all done events
-module _ {S K : Type 0} (r : Rules Message S K Note) (R : OfMessages r) (is_value : S → Message → Type 0) (opening : S) (part : Part Message S) (q : Queues S K)
+module _ {S K : Type 0} {r : Rules Message S K Note} (R : OfMessages r) {is_value : S → Message → Type 0} {opening : S} {part : Part Message S} {q : Queues S K}
     (h : StandsFor r is_value opening part q) (l : Letter) (t : List Letter) (e : q.tally ≡ with_done t q.past.done) where
-  by-messages : (n : ℕ) → times_in r.order l.message (map (λ e. e.message) q.past.done) ≡ n → times R.messages l.message q.past.done ≡ n
-  by-messages n k = sym (times-messages r R l.message (map (λ e. e.message) q.past.done)) ∙ k
-
   some-here : times R.messages l.message q.past.done ≡ 1 → IsPresent message_order (with_done t q.past.done) l.message
-  some-here d = subst (λ ls. IsPresent message_order ls l.message) e (done-present r R is_value opening part q h l.message d)
+  some-here d = subst (λ ls. IsPresent message_order ls l.message) e (done-present R h l.message d)
 
   none-here : is_after r.order (newest_of (map (λ e. e.message) q.past.done)) l.message ≡ false → times R.messages l.message q.past.done ≡ 0 →
       pluses message_order l.message (with_done t q.past.done) ≤ minuses message_order l.message (with_done t q.past.done)
-  none-here late d = subst (λ ls. pluses message_order l.message ls ≤ minuses message_order l.message ls) e (late-absent r R is_value opening part q h l.message late d)
+  none-here late d = subst (λ ls. pluses message_order l.message ls ≤ minuses message_order l.message ls) e (late-absent R h l.message late d)
 
-  pub toggles-it : times_in r.order l.message (map (λ e. e.message) q.past.done) ≡ one_if (not (is_plus l.sign)) → signed_count message_order l.message t ≡ pos 0 → change_by message_order l q.tally ≢ Same
-  toggles-it k z = subst (λ ls. change_by message_order l ls ≢ Same) (sym e) (toggled-zero R.messages l t q.past.done (is_plus l.sign) refl (by-messages _ k) z)
+  pub toggles-it : times R.messages l.message q.past.done ≡ one_if (not (is_plus l.sign)) → signed_count message_order l.message t ≡ pos 0 → change_by message_order l q.tally ≢ Same
+  toggles-it k z = subst (λ ls. change_by message_order l ls ≢ Same) (sym e) (toggled-zero R.messages l t q.past.done (is_plus l.sign) refl k z)
 
-  pub keeps-it : is_after r.order (newest_of (map (λ e. e.message) q.past.done)) l.message ≡ false → times_in r.order l.message (map (λ e. e.message) q.past.done) ≡ one_if (not (is_plus l.sign)) →
+  pub keeps-it : is_after r.order (newest_of (map (λ e. e.message) q.past.done)) l.message ≡ false → times R.messages l.message q.past.done ≡ one_if (not (is_plus l.sign)) →
       signed_count message_order l.message t ≢ pos 0 → change_by message_order l q.tally ≡ Same
-  keeps-it late k z = ap (change_by message_order l) e ∙ kept-other R.messages l t q.past.done (is_plus l.sign) refl (by-messages _ k) z some-here (none-here late)
+  keeps-it late k z = ap (change_by message_order l) e ∙ kept-other R.messages l t q.past.done (is_plus l.sign) refl k z some-here (none-here late)
 
-  pub keeps-done : is_after r.order (newest_of (map (λ e. e.message) q.past.done)) l.message ≡ false → times_in r.order l.message (map (λ e. e.message) q.past.done) ≡ one_if (is_plus l.sign) →
+  pub keeps-done : is_after r.order (newest_of (map (λ e. e.message) q.past.done)) l.message ≡ false → times R.messages l.message q.past.done ≡ one_if (is_plus l.sign) →
       change_by message_order l q.tally ≡ Same
-  keeps-done late k = ap (change_by message_order l) e ∙ kept-more R.messages l t q.past.done (is_plus l.sign) refl (by-messages _ k) some-here (none-here late)
+  keeps-done late k = ap (change_by message_order l) e ∙ kept-more R.messages l t q.past.done (is_plus l.sign) refl k some-here (none-here late)
 
--- the signed count of a message, by that beside the done events and by whether it is done
-pub count-stands : {S K : Type 0} (r : Rules Message S K Note) (R : OfMessages r) (is_value : S → Message → Type 0) (opening : S) (part : Part Message S) (q : Queues S K) →
-    StandsFor r is_value opening part q → (m : Message) (t : List Letter) → q.tally ≡ with_done t q.past.done → (done : Bool) (count : ℤ) →
-    (IsTrue done → times_in r.order m (map (λ e. e.message) q.past.done) ≡ 1) → (done ≡ false → times_in r.order m (map (λ e. e.message) q.past.done) ≡ 0) →
-    (IsTrue done → count ≡ signed_count message_order m t +ℤ pos 1) → (done ≡ false → count ≡ signed_count message_order m t) → count ≡ signed_count r.order m part.tally
-count-stands r R is_value opening part q h m t e done count some none more rest = go done some none more rest
-  where
-    same-count : signed_count r.order m part.tally ≡ signed_count message_order m part.tally
-    same-count = ap (λ o. signed_count o m part.tally) R.order_is
+-- what counts beside the done events
+module _ {S K : Type 0} {r : Rules Message S K Note} (R : OfMessages r) {is_value : S → Message → Type 0} {opening : S} {part : Part Message S} {q : Queues S K}
+    (h : StandsFor r is_value opening part q) (t : List Letter) (e : q.tally ≡ with_done t q.past.done) where
+  -- the signed count of a message, by whether it is done
+  pub count-stands : (m : Message) (done : Bool) (count : ℤ) →
+      (IsTrue done → times R.messages m q.past.done ≡ 1) → (done ≡ false → times R.messages m q.past.done ≡ 0) →
+      (IsTrue done → count ≡ signed_count message_order m t +ℤ pos 1) → (done ≡ false → count ≡ signed_count message_order m t) → count ≡ signed_count r.order m part.tally
+  count-stands m done count some none more rest = go done some none more rest
+    where
+      by-times : (n : ℕ) → times R.messages m q.past.done ≡ n → count ≡ signed_count message_order m t +ℤ pos n → count ≡ signed_count r.order m part.tally
+      by-times n d k =
+          k ∙ (ap (λ x. signed_count message_order m t +ℤ pos x) (sym d) ∙
+          (sym (with_done-count R.messages m t q.past.done) ∙ (ap (signed_count message_order m) (sym e) ∙
+          (sym (h.counts m) ∙ sym (ap (λ o. signed_count o m part.tally) R.order_is)))))
 
-    go : (d : Bool) → (IsTrue d → times_in r.order m (map (λ e. e.message) q.past.done) ≡ 1) → (d ≡ false → times_in r.order m (map (λ e. e.message) q.past.done) ≡ 0) →
-        (IsTrue d → count ≡ signed_count message_order m t +ℤ pos 1) → (d ≡ false → count ≡ signed_count message_order m t) → count ≡ signed_count r.order m part.tally
-    go true some none more rest =
-        let a = times-messages r R m (map (λ e. e.message) q.past.done) in
-        let b = some refl in
-        let c = with_done-count R.messages m t q.past.done in
-        let f = same-count ∙ (h.counts m ∙ ap (signed_count message_order m) e) in
-        let k = more refl in
-        omega (arith, ints)
-    go false some none more rest =
-        let a = times-messages r R m (map (λ e. e.message) q.past.done) in
-        let b = none refl in
-        let c = with_done-count R.messages m t q.past.done in
-        let f = same-count ∙ (h.counts m ∙ ap (signed_count message_order m) e) in
-        let k = rest refl in
-        omega (arith, ints)
+      go : (d : Bool) → (IsTrue d → times R.messages m q.past.done ≡ 1) → (d ≡ false → times R.messages m q.past.done ≡ 0) →
+          (IsTrue d → count ≡ signed_count message_order m t +ℤ pos 1) → (d ≡ false → count ≡ signed_count message_order m t) → count ≡ signed_count r.order m part.tally
+      go true some none more rest = by-times 1 (some refl) (more refl)
+      go false some none more rest = by-times 0 (none refl) (let k = rest refl in omega (arith, ints))
 
--- the message that is next, by the letters beside the done events
-pub next-beside : {S K : Type 0} (r : Rules Message S K Note) (R : OfMessages r) (is_value : S → Message → Type 0) (opening : S) (part : Part Message S) (q : Queues S K) →
-    StandsFor r is_value opening part q → (t : List Letter) → q.tally ≡ with_done t q.past.done →
-    next_in q ≡ present_after message_order (newest_of (map (λ e. e.message) q.past.done)) t
-next-beside r R is_value opening part q h t e =
-    let newest = newest_of (map (λ e. e.message) q.past.done) in
-    ap (present_after message_order newest) e ∙
-    with_done-next R.messages newest t q.past.done (λ m a. after-none r R is_value opening part q h m a)
+  -- the message that is next
+  pub next-beside : next_in q ≡ present_after message_order (newest_of (map (λ e. e.message) q.past.done)) t
+  next-beside =
+      let newest = newest_of (map (λ e. e.message) q.past.done) in
+      ap (present_after message_order newest) e ∙ with_done-next R.messages newest t q.past.done (after-none R h)
+
+  pub beside-present : (m : Message) → next_in q ≡ Some m → IsPresent message_order t m
+  beside-present m next = (first_after-is message_order R.messages (newest_of (map (λ e. e.message) q.past.done)) t m (sym next-beside ∙ next)).present
+
+  -- the oldest done event can be committed just where nothing else of its message counts
+  pub seals : (event : Event K) → slice_get q.past.done 0 ≡ Some event →
+      (signed_count message_order event.message t ≡ pos 0 → can_seal r.order part part.done ≡ true)
+      × (signed_count message_order event.message t ≢ pos 0 → can_seal r.order part part.done ≡ false)
+  seals event first =
+      let m = event.message in
+      let f = first-done h event first in
+      let a = ap (signed_count message_order m) e ∙ with_done-count R.messages m t q.past.done in
+      let b = done-times R h m in
+      let up = ascending-once r.order R.order m part.done h.past.ascending in
+      let i = subst (λ ds. IsIn r.order m ds) (sym f.1) (in-head r.order R.order m f.0) in
+      let one : times R.messages m q.past.done ≡ 1 = omega arith in (
+        λ z. ap (can_seal r.order part) f.1 ∙ one-left r R m part.tally q.tally h.counts (omega (arith, ints)),
+        λ n. ap (can_seal r.order part) f.1 ∙ not-one-left r R m part.tally q.tally h.counts (λ k. n (omega (arith, ints))),
+      )
 
 -- the done events are those that stay and those that are undone
 pub undone-split : {S K : Type 0} (r : Rules Message S K Note) → IsOrder r.order → (m : Message) (ds : List Message) (done done' : List (Event K)) (n : ℕ) →
@@ -316,21 +303,3 @@ before-within r m done n e =
     let a = length-filter_both (λ x. r.order.less x m) (λ x. not (r.order.less x m)) (λ x. refl) (map (λ (e : Event _). e.message) done) in
     let b = length-map done (λ (e : Event _). e.message) in
     omega arith
-
--- the message that is next counts beside the done events
-pub beside-present : {S K : Type 0} (r : Rules Message S K Note) (R : OfMessages r) (is_value : S → Message → Type 0) (opening : S) (part : Part Message S) (q : Queues S K) →
-    StandsFor r is_value opening part q → (t : List Letter) → q.tally ≡ with_done t q.past.done → (m : Message) → next_in q ≡ Some m → IsPresent message_order t m
-beside-present r R is_value opening part q h t e m next =
-    (first_after-is message_order R.messages (newest_of (map (λ e. e.message) q.past.done)) t m (sym (next-beside r R is_value opening part q h t e) ∙ next)).present
-
--- of the oldest done event one letter more counts than beside the done events
-pub oldest-more : {S K : Type 0} (r : Rules Message S K Note) (R : OfMessages r) (is_value : S → Message → Type 0) (opening : S) (part : Part Message S) (q : Queues S K) →
-    StandsFor r is_value opening part q → (m : Message) (rest : List Message) → part.done ≡ m ∷ rest → (t : List Letter) →
-    signed_count message_order m (with_done t q.past.done) ≡ signed_count message_order m t +ℤ pos 1
-oldest-more r R is_value opening part q h m rest d t =
-    let a = with_done-count R.messages m t q.past.done in
-    let b = done-times r R is_value opening part q h m in
-    let up = ascending-once r.order R.order m part.done h.past.ascending in
-    let i = subst (λ ds. IsIn r.order m ds) (sym d) (in-head r.order R.order m rest) in
-    let one : times R.messages m q.past.done ≡ 1 = omega arith in
-    omega (arith, ints)

@@ -1,7 +1,6 @@
-use Rattle.std.proofs.Common.{refl, sym, subst, take}
-use Rattle.reverse.specs.Rules.{rules_of}
+use Rattle.std.proofs.Common.{refl, take}
 use Rattle.antimessages.specs.Mailing.{letters_for}
-use Rattle.process_queues.specs.Queues.{StandsFor, delivered_all}
+use Rattle.process_queues.specs.Queues.{delivered_all}
 use Rattle.process_queues.proofs.Standing.{delivered_all-stands}
 use Rattle.process_queues.proofs.process.Process.collect.Goals as goal
 
@@ -11,17 +10,10 @@ invariant_of-self g c = rw c.reserve.ensures.items c.self.invariant
 pub invariant_of-self-2 : goal.invariant_of-self-2
 invariant_of-self-2 g c =
     let i = c.self.invariant in
-    let taken = take c.min-count.result (letters_for c.args.process c.args.mail.now) in (
-      i.0,
-      delivered_all taken i.1,
-      delivered_all-stands (rules_of g.R.Reversible.plain g.R.Actor.counter) g.R.Reversible.is_value i.0 taken i.1 _ _ i.2
-          (rw (c.take_letters.ensures.tray, c.reserve.ensures.items) refl),
-      i.3,
-    )
+    let taken = take c.min-count.result (letters_for c.args.process c.args.mail.now) in
+    (i.0, delivered_all taken i.1, delivered_all-stands taken i.2 (rw (c.take_letters.ensures.tray, c.reserve.ensures.items) refl), i.3)
 
 pub returns-clause-delivered : goal.returns-clause-delivered
 returns-clause-delivered g c = λ opening part h.
-    let r = rules_of g.R.Reversible.plain g.R.Actor.counter in
-    let taken = take c.min-count.result (letters_for c.args.process c.args.mail.now) in
-    delivered_all-stands r g.R.Reversible.is_value opening taken part _ _ (subst (λ q. StandsFor r g.R.Reversible.is_value opening part q.queues) (sym c.self.view_is) h)
-    (rw (c.take_letters.ensures.tray, c.reserve.ensures.items) refl)
+    let k = rw (← c.self.view_is) at h in
+    delivered_all-stands (take c.min-count.result (letters_for c.args.process c.args.mail.now)) k (rw (c.take_letters.ensures.tray, c.reserve.ensures.items) refl)

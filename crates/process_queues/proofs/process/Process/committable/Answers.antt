@@ -1,9 +1,8 @@
 use Rattle.std.proofs.Common.{◌≤◌, ap, ◌∙◌, refl, sym, subst, map, take}
 use Rattle.virtual_time.specs.Law.{IsAscending}
-use Rattle.reverse.specs.Rules.{rules_of}
 use Rattle.vlink.specs.Order.{message_order}
 use Rattle.process_queues.specs.Committing.{committable}
-use Rattle.process_queues.specs.Queues.{StandsFor, with_done}
+use Rattle.process_queues.specs.Queues.{with_done}
 use Rattle.process_queues.proofs.Rolls.{done-ascending}
 use Rattle.process_queues.proofs.Commits.{committable-stands, committable-within}
 use Rattle.process_queues.proofs.process.Process.committable.Goals as goal
@@ -15,14 +14,10 @@ returns-clause-within g c =
 
 pub returns-clause-stands : goal.returns-clause-stands
 returns-clause-stands g c opening part h =
-    let r = rules_of g.R.Reversible.plain g.R.Actor.counter in
-    let v = g.R.Reversible.is_value in
+    let k = rw (← c.self.view_is) at h in
     c.committable_of.ensures ∙
     (ap (λ es. committable message_order c.args.moment (with_done c.self.inside.tally es) (take c.args.most (map (λ e. e.message) es))) c.done.ensures ∙
-    committable-stands r refl v opening part _ (subst (λ q. StandsFor r v opening part q.queues) (sym c.self.view_is) h) c.args.moment c.args.most)
+    committable-stands refl k c.args.moment c.args.most)
 
 pub committable_of-requires : goal.committable_of-requires
-committable_of-requires g c =
-    let r = rules_of g.R.Reversible.plain g.R.Actor.counter in
-    let i = c.self.invariant in
-    subst (λ es. IsAscending r.order (map (λ e. e.message) es)) (sym c.done.ensures) (done-ascending r g.R.Reversible.is_value i.0 _ i.1 _ i.2.past)
+committable_of-requires g c = subst (λ es. IsAscending message_order (map (λ e. e.message) es)) (sym c.done.ensures) (done-ascending c.self.invariant.2.past)

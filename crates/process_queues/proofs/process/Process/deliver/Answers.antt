@@ -1,6 +1,5 @@
 use Rattle.std.proofs.Common.{refl}
 use Rattle.virtual_time.specs.Law.{delivered}
-use Rattle.reverse.specs.Rules.{rules_of}
 use Rattle.process_queues.proofs.Standing.{delivered-stands}
 use Rattle.process_queues.proofs.process.Process.deliver.Goals as goal
 
@@ -9,10 +8,5 @@ invariant_of-self g c = rw c.reserve.ensures.items c.self.invariant
 
 pub invariant_of-self-2 : goal.invariant_of-self-2
 invariant_of-self-2 g c =
-    let i = c.self.invariant in (
-      i.0,
-      delivered c.args.letter i.1,
-      delivered-stands (rules_of g.R.Reversible.plain g.R.Actor.counter) g.R.Reversible.is_value i.0 i.1 _ _ i.2 c.args.letter
-          (rw (c.push_back_reserved.ensures.items, c.reserve.ensures.items) refl),
-      i.3,
-    )
+    let i = c.self.invariant in
+    (i.0, delivered c.args.letter i.1, delivered-stands i.2 c.args.letter (rw (c.push_back_reserved.ensures.items, c.reserve.ensures.items) refl), i.3)

@@ -1,6 +1,5 @@
 use Rattle.std.proofs.Common.{refl}
 use Rattle.virtual_time.specs.Law.{emptied}
-use Rattle.reverse.specs.Rules.{rules_of}
 use Rattle.process_queues.proofs.Standing.{emptied-stands}
 use Rattle.process_queues.proofs.process.Process.post.Goals as goal
 
@@ -9,10 +8,5 @@ invariant_of-self g c = rw c.in_err-post.ensures.kept c.self.invariant
 
 pub invariant_of-self-2 : goal.invariant_of-self-2
 invariant_of-self-2 g c =
-    let i = c.self.invariant in (
-      i.0,
-      emptied i.1,
-      emptied-stands (rules_of g.R.Reversible.plain g.R.Actor.counter) g.R.Reversible.is_value i.0 i.1 _ _ i.2
-          (rw (c.in_ok-post.ensures.emptied) refl),
-      i.3,
-    )
+    let i = c.self.invariant in
+    (i.0, emptied i.1, emptied-stands i.2 (rw (c.in_ok-post.ensures.emptied) refl), i.3)

@@ -35,16 +35,14 @@ returns-clause-handled g c = λ opening part h. sym c.in-Some.is ∙ c.next.ensu
 pub returns-clause-ran : goal.returns-clause-ran
 returns-clause-ran g c = λ opening part h.
     let r = rules_of g.R.Reversible.plain g.R.Actor.counter in
-    let v = g.R.Reversible.is_value in
     let R = of-messages g.R.Reversible.plain g.R.Actor.counter c.actor_rules.ensures.order c.actor_rules.ensures.undoes in
-    let k = subst (λ q. StandsFor r v opening part q.queues) (sym c.self.view_is) h in
+    let k = rw (← c.self.view_is) at h in
     let m = c.in-Some.message in
-    let next : next_of r.order part ≡ Some m = sym (c.next.ensures.stands opening part h) ∙ c.in-Some.is in
     let t = c.self.inside.tally in
     let done = c.self.inside.past.done in
-    let ran = ran-stands r v opening part _ _ k R m next c.in_ok-handle.ensures.valid refl in
-    let taken = c.take_present.ensures.present (beside-present r R v opening part _ k t refl m (sym (next-stands r R v opening part _ k) ∙ next)) in
-    retallied-stands r v opening (run_one r part) _ _ ran (with_done c.take_present.new.self c.handle.new.self.done)
+    let next : next_of r.order part ≡ Some m = sym (c.next.ensures.stands opening part h) ∙ c.in-Some.is in
+    let taken = c.take_present.ensures.present (beside-present R k t refl m (sym (next-stands r R g.R.Reversible.is_value opening part _ k) ∙ next)) in
+    retallied-stands (ran-stands R k m next c.in_ok-handle.ensures.valid refl) (with_done c.take_present.new.self c.handle.new.self.done)
     (λ x. sym (with_done-handled R.messages m t c.take_present.new.self done c.handle.new.self.done _ taken refl (ap (λ p. p.done) c.in_ok-handle.ensures.handled) x))
     (rw (c.in_ok-handle.ensures.handled, c.in_ok-handle.ensures.sent) refl)
 
@@ -53,14 +51,12 @@ invariant_of-self g c = rw (c.in_err-handle.ensures.unchanged, c.in_err-handle.e
 
 pub invariant_of-self-2 : goal.invariant_of-self-2
 invariant_of-self-2 g c =
-    let r = rules_of g.R.Reversible.plain g.R.Actor.counter in
-    let v = g.R.Reversible.is_value in
     let R = of-messages g.R.Reversible.plain g.R.Actor.counter c.actor_rules.ensures.order c.actor_rules.ensures.undoes in
     let i = c.self.invariant in
-    let stands = returns-clause-ran g c i.0 i.1 (subst (λ q. StandsFor r v i.0 i.1 q.queues) c.self.view_is i.2) in (
+    let stands = returns-clause-ran g c i.0 i.1 (rw (← c.self.view_is) i.2) in (
       i.0,
-      run_one r i.1,
+      run_one (rules_of g.R.Reversible.plain g.R.Actor.counter) i.1,
       stands,
       c.next_after-self-inside.ensures ∙ (ap (λ o. present_after message_order o c.take_present.new.self) c.newest.ensures ∙
-          sym (next-beside r R v i.0 (run_one r i.1) _ stands c.take_present.new.self refl)),
+          sym (next-beside R stands c.take_present.new.self refl)),
     )

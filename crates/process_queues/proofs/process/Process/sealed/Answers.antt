@@ -1,12 +1,11 @@
-use Rattle.std.proofs.Common.{take, sym, ap, ◌∙◌, subst}
+use Rattle.std.proofs.Common.{take, ap, ◌∙◌}
 use Rattle.reverse.specs.Rules.{rules_of}
-use Rattle.process_queues.specs.Queues.{StandsFor, rows_there}
+use Rattle.process_queues.specs.Queues.{rows_there}
 use Rattle.process_queues.proofs.Reading.{sealed-rows}
 use Rattle.process_queues.proofs.process.Process.sealed.Goals as goal
 
 pub returns : goal.returns
 returns g c opening part h =
-    let r = rules_of g.R.Reversible.plain g.R.Actor.counter in
+    let k = rw (← c.self.view_is) at h in
     ap (take c.self.inside.sealed) c.rows.ensures ∙
-    (sealed-rows r g.R.Reversible.is_value opening part _ (subst (λ q. StandsFor r g.R.Reversible.is_value opening part q.queues) (sym c.self.view_is) h) ∙
-    ap (λ q. rows_there r opening part q.queues) c.self.view_is)
+    (sealed-rows k ∙ ap (λ q. rows_there (rules_of g.R.Reversible.plain g.R.Actor.counter) opening part q.queues) c.self.view_is)
