@@ -18,10 +18,10 @@ use Rattle.process_queues.specs.Past.{Past, BelongsTo, newest_of}
 use Rattle.process_queues.specs.Queues.{Queues, StandsFor, rows_there, with_done}
 use Rattle.process_queues.proofs.Beside.{with_done-same, with_done-undone}
 use Rattle.process_queues.proofs.Counting.{OfMessages, not_toggled, toggled}
+use Rattle.process_queues.proofs.Done.{undone-split}
 use Rattle.process_queues.proofs.Newest.{after-all}
 use Rattle.process_queues.proofs.Pasts.{as_many}
 use Rattle.process_queues.proofs.Rolls.{done-messages}
-use Rattle.process_queues.proofs.Stragglers.{undone-split}
 
 -- the front letter, and those behind it
 front-split : (ls : List Letter) (l : Letter) → slice_get ls 0 ≡ Some l → ls ≡ l ∷ drop 1 ls

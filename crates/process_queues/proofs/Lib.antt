@@ -2,6 +2,7 @@ pub mod Arriving
 pub mod Beside
 pub mod Commits
 pub mod Counting
+pub mod Done
 pub mod Before
 pub mod Newest
 pub mod Next

@@ -20,10 +20,6 @@ module _ {S K : Type 0} (r : Rules Message S K Note) (is_value : S → Message �
     pub outbox : letters ≡ now.outbox
     pub same : rolled_back r opening m now ≡ rolled_back r opening m part
 
-  pub rolls-none : (part : Part Message S) (past : Past S K) (letters : List Letter) → BelongsTo r is_value opening there part past → letters ≡ part.outbox →
-      Rolls part past letters
-  rolls-none part past letters b o = record { now = part; belongs = b; outbox = o; same = refl }
-
 module _ {S K : Type 0} {r : Rules Message S K Note} {is_value : S → Message → Type 0} {opening : S} {there : Rows} {part : Part Message S} {past : Past S K}
     (b : BelongsTo r is_value opening there part past) where
   -- the messages of the done events
@@ -33,18 +29,22 @@ module _ {S K : Type 0} {r : Rules Message S K Note} {is_value : S → Message �
   pub done-ascending : IsAscending r.order (map (λ e. e.message) past.done)
   done-ascending = subst (IsAscending r.order) (sym done-messages) b.ascending
 
-module _ {S K : Type 0} (r : Rules Message S K Note) (O : IsOrder r.order) (is_value : S → Message → Type 0) (opening : S) (there : Rows) (m : Message) where
-  -- where m does not come after the newest event, there is one, which it does not come after
-  pub record IsLate (part : Part Message S) (past : Past S K) : Type 0 where
-    pub front : List Message
-    pub event : Message
-    pub done : part.done ≡ front ++ event ∷ []
-    pub late : r.order.less event m ≡ false
-    pub past_of : IsPastOf r is_value (reached r opening part.committed) (front ++ event ∷ []) there past
+pub rolls-none : {S K : Type 0} {r : Rules Message S K Note} {is_value : S → Message → Type 0} {opening : S} {there : Rows} {m : Message} {part : Part Message S} {past : Past S K}
+    {letters : List Letter} → BelongsTo r is_value opening there part past → letters ≡ part.outbox → Rolls r is_value opening there m part past letters
+rolls-none {part = part} b o = record { now = part; belongs = b; outbox = o; same = refl }
 
-  pub is-late : (part : Part Message S) (past : Past S K) → BelongsTo r is_value opening there part past →
-      is_after r.order (newest_of (map (λ e. e.message) past.done)) m ≡ false → IsLate part past
-  is-late part past b a =
+-- where m does not come after the newest event, there is one, which it does not come after
+pub record IsLate {S K : Type 0} (r : Rules Message S K Note) (is_value : S → Message → Type 0) (opening : S) (there : Rows) (m : Message) (part : Part Message S) (past : Past S K) : Type 0 where
+  pub front : List Message
+  pub event : Message
+  pub done : part.done ≡ front ++ event ∷ []
+  pub late : r.order.less event m ≡ false
+  pub past_of : IsPastOf r is_value (reached r opening part.committed) (front ++ event ∷ []) there past
+
+module _ {S K : Type 0} {r : Rules Message S K Note} (O : IsOrder r.order) {is_value : S → Message → Type 0} {opening : S} {there : Rows} {m : Message} where
+  pub is-late : {part : Part Message S} {past : Past S K} → BelongsTo r is_value opening there part past →
+      is_after r.order (newest_of (map (λ e. e.message) past.done)) m ≡ false → IsLate r is_value opening there m part past
+  is-late {part} {past} b a =
       let k = not_after-end r O part.done m (subst (λ ds. is_after r.order (newest_of ds) m ≡ false) (done-messages b) a) in
       record {
         front = k.0;
@@ -54,15 +54,11 @@ module _ {S K : Type 0} (r : Rules Message S K Note) (O : IsOrder r.order) (is_v
         past_of = subst (λ ds. IsPastOf r is_value (reached r opening part.committed) ds there past) k.2 b.past_of;
       }
 
-  pub late-last : (part : Part Message S) (past : Past S K) → IsLate part past → LastDone r is_value past
-  late-last part past l = (reached r opening part.committed, l.front, l.event, there, l.past_of)
-
   -- the newest event is undone
-  pub belongs-less : ((s : S) → (e : Message) → r.undo (r.after s e) e (r.kept s e) ≡ s) →
-      (part : Part Message S) (past past' : Past S K) (b : BelongsTo r is_value opening there part past) (l : IsLate part past) →
-      IsPastOf r is_value (reached r opening part.committed) l.front there past' →
-      BelongsTo r is_value opening there (last_undone r O opening part l.front l.event) past'
-  belongs-less law part past past' b l h = record {
+  belongs-less : ((s : S) → (e : Message) → r.undo (r.after s e) e (r.kept s e) ≡ s) →
+      {part : Part Message S} {past past' : Past S K} → BelongsTo r is_value opening there part past → (l : IsLate r is_value opening there m part past) →
+      IsPastOf r is_value (reached r opening part.committed) l.front there past' → BelongsTo r is_value opening there (last_undone r O opening part l.front l.event) past'
+  belongs-less law {part} b l h = record {
     past_of = h;
     state = ap (λ z. r.undo z l.event (r.kept (reached r opening (part.committed ++ l.front)) l.event)) now ∙
         (ap (λ z. r.undo (r.after (reached r (reached r opening part.committed) l.front) l.event) l.event (r.kept z l.event)) (reached-append r opening part.committed l.front) ∙
@@ -74,13 +70,13 @@ module _ {S K : Type 0} (r : Rules Message S K Note) (O : IsOrder r.order) (is_v
       now = b.state ∙ (l.past_of.state ∙ reached-append r (reached r opening part.committed) l.front (l.event ∷ []))
 
   pub rolls-more : ((s : S) → (e : Message) → r.undo (r.after s e) e (r.kept s e) ≡ s) →
-      (part : Part Message S) (past past' : Past S K) (letters letters' : List Letter) (h : Rolls r is_value opening there m part past letters) →
-      (l : IsLate h.now past) → IsPastOf r is_value (reached r opening h.now.committed) l.front there past' →
+      {part : Part Message S} {past past' : Past S K} {letters letters' : List Letter} (h : Rolls r is_value opening there m part past letters) →
+      (l : IsLate r is_value opening there m h.now past) → IsPastOf r is_value (reached r opening h.now.committed) l.front there past' →
       letters' ≡ letters ++ map minus_of (reverse (r.sends (reached r (reached r opening h.now.committed) l.front) l.event)) →
       Rolls r is_value opening there m part past' letters'
-  rolls-more law part past past' letters letters' h l p e = record {
+  rolls-more law h l p e = record {
     now = last_undone r O opening h.now l.front l.event;
-    belongs = belongs-less law h.now past past' h.belongs l p;
+    belongs = belongs-less law h.belongs l p;
     outbox = e ∙ (ap (λ ls. ls ++ map minus_of (reverse (r.sends (reached r (reached r opening h.now.committed) l.front) l.event))) h.outbox ∙
         ap (λ s. h.now.outbox ++ map minus_of (reverse (r.sends s l.event))) (sym (reached-append r opening h.now.committed l.front)));
     same = sym (roll-last r O opening h.now l.front l.event m l.done
@@ -88,8 +84,12 @@ module _ {S K : Type 0} (r : Rules Message S K Note) (O : IsOrder r.order) (is_v
   }
 
   -- where m comes after all done events, the rollback is at its end
-  pub rolls-end : (part : Part Message S) (past : Past S K) (letters : List Letter) → (h : Rolls r is_value opening there m part past letters) →
+  pub rolls-end : {part : Part Message S} {past : Past S K} {letters : List Letter} (h : Rolls r is_value opening there m part past letters) →
       is_after r.order (newest_of (map (λ e. e.message) past.done)) m ≡ true → h.now ≡ rolled_back r opening m part
-  rolls-end part past letters h a =
+  rolls-end h a =
       sym (roll-none r O opening h.now m (after-all r O h.now.done m h.belongs.ascending
       (subst (λ ds. is_after r.order (newest_of ds) m ≡ true) (done-messages h.belongs) a))) ∙ h.same
+
+pub late-last : {S K : Type 0} {r : Rules Message S K Note} {is_value : S → Message → Type 0} {opening : S} {there : Rows} {m : Message} {part : Part Message S} {past : Past S K} →
+    IsLate r is_value opening there m part past → LastDone r is_value past
+late-last {r = r} {opening = opening} {there} {part = part} l = (reached r opening part.committed, l.front, l.event, there, l.past_of)

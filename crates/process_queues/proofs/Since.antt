@@ -45,9 +45,9 @@ by-past r s (m ∷ ms) =
     omega arith
 
 -- they are not more than all that was sent
-pub since-all : {S K : Type 0} (r : Rules Message S K Note) (is_value : S → Message → Type 0) (start : S) (ms : List Message) (earlier : Rows) (past : Past S K) →
+pub since-all : {S K : Type 0} {r : Rules Message S K Note} {is_value : S → Message → Type 0} {start : S} {ms : List Message} {earlier : Rows} {past : Past S K} →
     IsPastOf r is_value start ms earlier past → (m : Message) → sent_since m (reverse past.done) ≤ length past.sends
-since-all r is_value start ms earlier past h m =
+since-all {r = r} {start = start} {ms} {past = past} h m =
     let a = since-few m (reverse past.done) in
     let b = by-reverse past.done in
     let c = ap sent_by h.done ∙ by-past r start ms in
@@ -74,9 +74,9 @@ newest-snoc (x ∷ []) d = newest-more x d []
 newest-snoc (x ∷ (y ∷ ys)) d = newest-more x y (ys ++ d ∷ []) ∙ newest-snoc (y ∷ ys) d
 
 -- where the message does not come after the newest event, that one counts
-pub since-last : {S K : Type 0} (plain : Plain S Message Sends K) (counter : S → ℕ) (m : Message) (done front : List (Event K)) (e : Event K) → done ≡ front ++ e ∷ [] →
+pub since-last : {K : Type 0} (m : Message) (done front : List (Event K)) (e : Event K) → done ≡ front ++ e ∷ [] →
     is_after message_order (newest_of (map (λ (x : Event K). x.message) done)) m ≡ false → sent_since m (reverse done) ≡ e.sent + sent_since m (reverse front)
-since-last plain counter m done front e d a =
+since-last m done front e d a =
     let newest = ap (λ ds. newest_of (map (λ (x : Event _). x.message) ds)) d ∙ (ap newest_of (map-append (λ (x : Event _). x.message) front (e ∷ [])) ∙ newest-snoc (map (λ (x : Event _). x.message) front) e.message) in
     let late : is_before e.message m ≡ false = sym (ap (λ o. is_after message_order o m) newest) ∙ a in
     ap (λ ds. sent_since m (reverse ds)) d ∙ (since-snoc m front e ∙ ap (λ b. cond b 0 (e.sent + sent_since m (reverse front))) late)

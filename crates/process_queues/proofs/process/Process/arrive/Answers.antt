@@ -12,7 +12,8 @@ use Rattle.process_queues.specs.Queues.{with_done}
 use Rattle.process_queues.proofs.Arriving.{tallied-belongs, still-stands, still-answer, back-stands, back-answer}
 use Rattle.process_queues.proofs.Beside.{with_done-same}
 use Rattle.process_queues.proofs.Counting.{of-messages}
-use Rattle.process_queues.proofs.Stragglers.{next-beside, not-owed, before-within}
+use Rattle.process_queues.proofs.Done.{before-within}
+use Rattle.process_queues.proofs.Stragglers.{next-beside, not-owed}
 use Rattle.process_queues.proofs.Rolls.{done-ascending}
 use Rattle.process_queues.proofs.process.Process.arrive.Given.{Over}
 use Rattle.process_queues.proofs.process.Process.arrive.Goals as goal
