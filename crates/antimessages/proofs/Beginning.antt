@@ -16,12 +16,12 @@ use Rattle.vlink.specs.declared.message.Message.{Message}
 use Rattle.virtual_time.specs.declared.letter.Sign.{Sign}
 use Rattle.virtual_time.specs.declared.letter.Sign.TheVariants.{Plus, Minus}
 use Rattle.vlink.specs.Order.{message_cmp, message_order}
-use Rattle.virtual_time.specs.Law.{pluses, minuses}
+use Rattle.virtual_time.specs.Law.{IsOrder, pluses, minuses}
 use Rattle.antimessages.specs.declared.occurrence.Occurrence.{Occurrence}
-use Rattle.antimessages.specs.Counting.{signed_count}
-use Rattle.antimessages.specs.Occurrences.{occurrence_of, occurrence_cmp, letters_of, count_with, sign_at, AreTallied, BeginsWithOne, IsNextOther}
+use Rattle.antimessages.specs.Counting.{signed_count, HaveSameCounts}
+use Rattle.antimessages.specs.Occurrences.{occurrence_of, occurrence_cmp, letter_at, letters_of, count_with, sign_at, AreTallied, BeginsWithOne, IsNextOther}
 use Rattle.antimessages.proofs.Last.{at-zero, at-last}
-use Rattle.antimessages.proofs.Entering.{IsOneMore}
+use Rattle.antimessages.proofs.Entering.{IsOneMore, counts-more, take-tallied}
 
 -- where a key has a value, another one and then that one again change nothing
 pub restored : {K X : Type 0} {R : K → K → Ordering} → IsTotalOrder R → (es : List (K × X)) (q : K) (v old : X) → IsStrictlySortedBy R (keys_of es) →
@@ -138,7 +138,7 @@ module _ (T : IsTotalOrder message_cmp) (U : IsTotalOrder occurrence_cmp) (X : (
             (one-there e.0.ordinal rest (subst (λ x. AreTallied (x ∷ rest)) same st) (subst (λ x. IsStrictlySortedBy occurrence_cmp (keys_of (x ∷ rest))) same up) h.2)
 
     -- its letter is the first one
-    pub begins-first : (p : Occurrence × Sign) (rest : List (Occurrence × Sign)) → es ≡ p ∷ rest → p ≡ (occurrence_of m 0, Plus)
+    begins-first : (p : Occurrence × Sign) (rest : List (Occurrence × Sign)) → es ≡ p ∷ rest → p ≡ (occurrence_of m 0, Plus)
     begins-first p rest e = go es st up h e
       where
         go : (es : List (Occurrence × Sign)) → AreTallied es → IsStrictlySortedBy occurrence_cmp (keys_of es) → BeginsWithOne m es → es ≡ p ∷ rest → p ≡ (occurrence_of m 0, Plus)
@@ -149,9 +149,20 @@ module _ (T : IsTotalOrder message_cmp) (U : IsTotalOrder occurrence_cmp) (X : (
             let here : x ≡ p = cc in
             sym here ∙ (same ∙ ap (λ k. (occurrence_of m k, Plus)) z)
 
--- without the first one
-pub first-more : (p : Occurrence × Sign) (es rest : List (Occurrence × Sign)) → es ≡ p ∷ rest → IsOneMore p rest es
-first-more p es rest e = subst (λ xs. IsOneMore p rest xs) (sym e) (record { pluses_are = λ m. refl; minuses_are = λ m. refl })
+    -- its letter leaves the map of signs: what the map tells by an order that is that of occurrences
+    pub begins-taken : IsOrder message_order → (p : Occurrence × Sign) (rest : List (Occurrence × Sign)) → es ≡ p ∷ rest →
+        {f : Occurrence → Occurrence → Ordering} → f ≡ occurrence_cmp →
+        ((x : Occurrence) → lookup (is_at (f x)) rest ≡ cond (is_at (f p.0) x) None (lookup (is_at (f x)) es)) →
+        AreTallied rest × HaveSameCounts message_order (letters_of es) (letter_at (occurrence_of m 0, Plus) ∷ letters_of rest)
+    begins-taken O p rest e w updates =
+        let first = begins-first p rest e in
+        let more : IsOneMore (occurrence_of m 0, Plus) rest es =
+        subst (λ (x : Occurrence × Sign). IsOneMore x rest es) first (subst (λ xs. IsOneMore p rest xs) (sym e) (record { pluses_are = λ m. refl; minuses_are = λ m. refl })) in
+        let u = subst (λ (f : Occurrence → Occurrence → Ordering). (x : Occurrence) → lookup (is_at (f x)) rest ≡ cond (is_at (f p.0) x) None (lookup (is_at (f x)) es)) w updates in (
+          take-tallied T X O m 0 Plus rest es st begins-one more
+              (subst (λ (z : Occurrence × Sign). (x : Occurrence) → lookup (is_at (occurrence_cmp x)) rest ≡ cond (is_at (occurrence_cmp z.0) x) None (lookup (is_at (occurrence_cmp x)) es)) first u),
+          counts-more (occurrence_of m 0, Plus) rest es more,
+        )
 
 -- a call that is refused only where something holds that does not hold succeeds
 pub settled : {A E : Type 0} (x : Result A E) (P Q : Type 0) → OnOk x P → OnErr x Q → (Q → ⊥) → P

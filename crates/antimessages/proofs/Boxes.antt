@@ -1,5 +1,6 @@
 -- The mail of all processes: one box of it changed, one letter put there or taken, and the letters that a process receives.
 use Rattle.std.proofs.Common.{◌≡◌, ℕ, zero, suc, ◌+◌, ◌-◌, ◌<◌, ◌≤◌, ◌==◌, ◌⊎◌, inl, inr, Bool, true, false, cond, List, [], ◌∷◌, ◌++◌, map, filter, set, get_or, length, take, drop, slice_get, All, Some, Global, refl, sym, ap, ◌∙◌, subst, arith, append_assoc, append-nil, eq-eqb, ne_eqb}
+use Rattle.std.specs.Prelude.{◌≢◌}
 use Rattle.std.specs.declared.collections.VecDeque.{VecDeque}
 use Rattle.std.specs.VecDeque.{deque_len, deque_capacity}
 use Rattle.std.proofs.lemmas.Bool.{cases_eq}
@@ -12,19 +13,19 @@ use Rattle.vlink.specs.Letters.{Letter}
 use Rattle.antimessages.specs.Mailing.{store_of, letters_in, room_in, letters_for, room_for, HasRoom}
 
 module _ {X Y : Type 0} (f : X → Y) where
-  pub get-here : (xs : List X) (i : ℕ) (x : X) → i < length xs → slice_get (map f (set xs i x)) i ≡ Some (f x)
+  get-here : (xs : List X) (i : ℕ) (x : X) → i < length xs → slice_get (map f (set xs i x)) i ≡ Some (f x)
   get-here [] i x h = absurd (omega arith)
   get-here (y ∷ ys) zero x h = refl
   get-here (y ∷ ys) (suc i) x h = get-here ys i x (omega arith)
 
-  pub get-other : (xs : List X) (i p : ℕ) (x : X) → (p ≡ i → ⊥) → slice_get (map f (set xs i x)) p ≡ slice_get (map f xs) p
+  get-other : (xs : List X) (i p : ℕ) (x : X) → (p ≡ i → ⊥) → slice_get (map f (set xs i x)) p ≡ slice_get (map f xs) p
   get-other [] i p x n = refl
   get-other (y ∷ ys) zero zero x n = absurd (n refl)
   get-other (y ∷ ys) zero (suc p) x n = refl
   get-other (y ∷ ys) (suc i) zero x n = refl
   get-other (y ∷ ys) (suc i) (suc p) x n = get-other ys i p x (λ e. n (ap suc e))
 
-  pub get-at : (xs : List X) (i : ℕ) (x : X) → i < length xs → x ≡ get_or xs i x → slice_get (map f xs) i ≡ Some (f x)
+  get-at : (xs : List X) (i : ℕ) (x : X) → i < length xs → x ≡ get_or xs i x → slice_get (map f xs) i ≡ Some (f x)
   get-at [] i x h e = absurd (omega arith)
   get-at (y ∷ ys) zero x h e = ap (λ z. Some (f z)) (sym e)
   get-at (y ∷ ys) (suc i) x h e = get-at ys i x (omega arith) e
@@ -67,54 +68,63 @@ pub for-none : (ls : List Letter) (n : ℕ) → n ≡ 0 → All (λ l. l.message
 for-none [] n e all = refl
 for-none (l ∷ ls) n e all = absurd (let h = all 0 l (omega arith) in omega arith)
 
--- one box is another one now
-module _ (boxes : List (VecDeque Letter Global)) (i : ℕ) (old new : VecDeque Letter Global) (h : i < length boxes) (e : old ≡ get_or boxes i old) where
-  pub old-letters : letters_for i (map store_of boxes) ≡ old.items
-  old-letters = ap letters_in (get-at store_of boxes i old h e)
+-- in the mail the box of process i is another one now
+pub record IsChanged (mail mail' : List Store) (i : ℕ) (old new : VecDeque Letter Global) : Type 0 where
+  pub was : slice_get mail i ≡ Some (store_of old)
+  pub now : slice_get mail' i ≡ Some (store_of new)
+  pub others : (p : ℕ) → p ≢ i → slice_get mail' p ≡ slice_get mail p
 
-  pub old-room : room_for i (map store_of boxes) ≡ deque_capacity old - deque_len old
-  old-room = ap room_in (get-at store_of boxes i old h e)
+pub changed : (boxes : List (VecDeque Letter Global)) (i : ℕ) (old new : VecDeque Letter Global) → i < length boxes → old ≡ get_or boxes i old →
+    IsChanged (map store_of boxes) (map store_of (set boxes i new)) i old new
+changed boxes i old new h e = record { was = get-at store_of boxes i old h e; now = get-here store_of boxes i new h; others = λ p n. get-other store_of boxes i p new n }
 
-  pub new-letters : letters_for i (map store_of (set boxes i new)) ≡ new.items
-  new-letters = ap letters_in (get-here store_of boxes i new h)
+module _ {mail mail' : List Store} {i : ℕ} {old new : VecDeque Letter Global} (c : IsChanged mail mail' i old new) where
+  pub old-letters : letters_for i mail ≡ old.items
+  old-letters = ap letters_in c.was
 
-  pub new-room : room_for i (map store_of (set boxes i new)) ≡ deque_capacity new - deque_len new
-  new-room = ap room_in (get-here store_of boxes i new h)
+  old-room : room_for i mail ≡ deque_capacity old - deque_len old
+  old-room = ap room_in c.was
 
-  pub other-letters : (p : ℕ) → (p ≡ i → ⊥) → letters_for p (map store_of (set boxes i new)) ≡ letters_for p (map store_of boxes)
-  other-letters p n = ap letters_in (get-other store_of boxes i p new n)
+  pub new-letters : letters_for i mail' ≡ new.items
+  new-letters = ap letters_in c.now
 
-  pub other-room : (p : ℕ) → (p ≡ i → ⊥) → room_for p (map store_of (set boxes i new)) ≡ room_for p (map store_of boxes)
-  other-room p n = ap room_in (get-other store_of boxes i p new n)
+  new-room : room_for i mail' ≡ deque_capacity new - deque_len new
+  new-room = ap room_in c.now
+
+  pub other-letters : (p : ℕ) → p ≢ i → letters_for p mail' ≡ letters_for p mail
+  other-letters p n = ap letters_in (c.others p n)
+
+  other-room : (p : ℕ) → p ≢ i → room_for p mail' ≡ room_for p mail
+  other-room p n = ap room_in (c.others p n)
 
   -- the letters stay, in more room or less
-  pub same-letters : new.items ≡ old.items → (p : ℕ) → letters_for p (map store_of (set boxes i new)) ≡ letters_for p (map store_of boxes)
+  pub same-letters : new.items ≡ old.items → (p : ℕ) → letters_for p mail' ≡ letters_for p mail
   same-letters k p = elim (cases_eq p i) [
-    | inl a ↦ ap (λ z. letters_for z (map store_of (set boxes i new))) a ∙ (new-letters ∙ (k ∙ (sym old-letters ∙ ap (λ z. letters_for z (map store_of boxes)) (sym a))))
+    | inl a ↦ ap (λ z. letters_for z mail') a ∙ (new-letters ∙ (k ∙ (sym old-letters ∙ ap (λ z. letters_for z mail) (sym a))))
     | inr n ↦ other-letters p n
   ]
 
-  pub more-room : deque_len new ≡ deque_len old → deque_capacity old ≤ deque_capacity new → (p : ℕ) → room_for p (map store_of boxes) ≤ room_for p (map store_of (set boxes i new))
-  more-room k c p = elim (cases_eq p i) [
-    | inl a ↦ subst (λ z. room_for z (map store_of boxes) ≤ room_for z (map store_of (set boxes i new))) (sym a) (let x = old-room in let y = new-room in omega arith)
+  pub more-room : deque_len new ≡ deque_len old → deque_capacity old ≤ deque_capacity new → (p : ℕ) → room_for p mail ≤ room_for p mail'
+  more-room k grown p = elim (cases_eq p i) [
+    | inl a ↦ subst (λ z. room_for z mail ≤ room_for z mail') (sym a) (let x = old-room in let y = new-room in omega arith)
     | inr n ↦ let x = other-room p n in omega arith
   ]
 
   -- this process has room for all letters that it receives, as those before it
   pub reserve-next : (outbox : List Letter) → deque_len new + length (filter (λ x. x.message.receiver == i) outbox) ≤ deque_capacity new →
-      ((p : ℕ) → p < i → length (received_by message_order p outbox) ≤ room_for p (map store_of boxes)) →
-      (p : ℕ) → p < i + 1 → length (received_by message_order p outbox) ≤ room_for p (map store_of (set boxes i new))
+      ((p : ℕ) → p < i → length (received_by message_order p outbox) ≤ room_for p mail) →
+      (p : ℕ) → p < i + 1 → length (received_by message_order p outbox) ≤ room_for p mail'
   reserve-next outbox fits room p below = elim (cases_eq p i) [
     | inl a ↦
         let x = ap (λ z. length (received_by message_order z outbox)) a in
-        let z = ap (λ z. room_for z (map store_of (set boxes i new))) a ∙ new-room in
+        let z = ap (λ z. room_for z mail') a ∙ new-room in
         omega arith
     | inr n ↦ let x = other-room p n in let y = room p (omega arith) in omega arith
   ]
 
   -- a growth is refused only where this process has too little room
   pub refused-next : (outbox : List Letter) → deque_capacity old < deque_len old + length (filter (λ x. x.message.receiver == i) outbox) →
-      HasRoom (map store_of boxes) outbox → ⊥
+      HasRoom mail outbox → ⊥
   refused-next outbox full room =
       let x = room i in
       let fits = old.small.1 in
@@ -124,7 +134,7 @@ module _ (boxes : List (VecDeque Letter Global)) (i : ℕ) (old new : VecDeque L
   -- one letter more at the back of its receiver's mail, the one at this place of the outbox
   module _ (outbox : List Letter) (k : ℕ) (l : Letter) (within : k < length outbox) (there : l ≡ get_or outbox k l) (mine : i ≡ l.message.receiver) where
     -- it needs room, and so there is room
-    pub room-needed : HasRoom (map store_of boxes) (drop k outbox) → deque_len old < deque_capacity old
+    pub room-needed : HasRoom mail (drop k outbox) → deque_len old < deque_capacity old
     room-needed room =
         let a = room i in
         let b = old-room in
@@ -135,8 +145,8 @@ module _ (boxes : List (VecDeque Letter Global)) (i : ℕ) (old new : VecDeque L
         omega arith
 
     pub put-letters : (first : List (VecDeque Letter Global)) → new.items ≡ old.items ++ l ∷ [] →
-        ((p : ℕ) → letters_for p (map store_of boxes) ≡ letters_for p (map store_of first) ++ received_by message_order p (take k outbox)) →
-        (p : ℕ) → letters_for p (map store_of (set boxes i new)) ≡ letters_for p (map store_of first) ++ received_by message_order p (take (k + 1) outbox)
+        ((p : ℕ) → letters_for p mail ≡ letters_for p (map store_of first) ++ received_by message_order p (take k outbox)) →
+        (p : ℕ) → letters_for p mail' ≡ letters_for p (map store_of first) ++ received_by message_order p (take (k + 1) outbox)
     put-letters first push put p = go (cases_eq p i)
       where
         more : (b : Bool) → (l.message.receiver == p) ≡ b → letters_for p (map store_of first) ++ received_by message_order p (take (k + 1) outbox)
@@ -146,31 +156,28 @@ module _ (boxes : List (VecDeque Letter Global)) (i : ℕ) (old new : VecDeque L
             ap (λ z. received_by message_order p (take k outbox) ++ cond z (l ∷ []) []) e) ∙
             sym (append_assoc (letters_for p (map store_of first)) (received_by message_order p (take k outbox)) (cond b (l ∷ []) []))
 
-        go : (p ≡ i) ⊎ (p ≡ i → ⊥) → letters_for p (map store_of (set boxes i new)) ≡ letters_for p (map store_of first) ++ received_by message_order p (take (k + 1) outbox)
+        go : (p ≡ i) ⊎ (p ≡ i → ⊥) → letters_for p mail' ≡ letters_for p (map store_of first) ++ received_by message_order p (take (k + 1) outbox)
         go (inl a) =
-            ap (λ z. letters_for z (map store_of (set boxes i new))) a ∙ (new-letters ∙ (push ∙
-            (ap (λ z. z ++ l ∷ []) (sym old-letters ∙ (ap (λ z. letters_for z (map store_of boxes)) (sym a) ∙ put p)) ∙ sym (more true (eq-eqb _ _ (sym mine ∙ sym a))))))
+            ap (λ z. letters_for z mail') a ∙ (new-letters ∙ (push ∙
+            (ap (λ z. z ++ l ∷ []) (sym old-letters ∙ (ap (λ z. letters_for z mail) (sym a) ∙ put p)) ∙ sym (more true (eq-eqb _ _ (sym mine ∙ sym a))))))
         go (inr n) =
             other-letters p n ∙ (put p ∙ (sym (append-nil _) ∙ sym (more false (ne_eqb _ _ (λ e. n (sym e ∙ sym mine))))))
 
     pub put-room : deque_len new ≡ deque_len old + 1 → deque_capacity new ≡ deque_capacity old →
-        HasRoom (map store_of boxes) (drop k outbox) → HasRoom (map store_of (set boxes i new)) (drop (k + 1) outbox)
-    put-room n c room p = go (cases_eq p i)
+        HasRoom mail (drop k outbox) → HasRoom mail' (drop (k + 1) outbox)
+    put-room n same room p = go (cases_eq p i)
       where
-        rest : ℕ
-        rest = length (received_by message_order p (drop (k + 1) outbox))
-
         split : (b : Bool) → (l.message.receiver == p) ≡ b → length (received_by message_order p (drop k outbox))
             ≡ length (cond b (l ∷ received_by message_order p (drop (k + 1) outbox)) (received_by message_order p (drop (k + 1) outbox)))
         split b e = ap length (received-rest p outbox k l within there ∙
             ap (λ z. cond z (l ∷ received_by message_order p (drop (k + 1) outbox)) (received_by message_order p (drop (k + 1) outbox))) e)
 
-        go : (p ≡ i) ⊎ (p ≡ i → ⊥) → length (received_by message_order p (drop (k + 1) outbox)) ≤ room_for p (map store_of (set boxes i new))
+        go : (p ≡ i) ⊎ (p ≡ i → ⊥) → length (received_by message_order p (drop (k + 1) outbox)) ≤ room_for p mail'
         go (inl a) =
             let s = split true (eq-eqb _ _ (sym mine ∙ sym a)) in
             let x = room p in
-            let y = ap (λ z. room_for z (map store_of boxes)) a ∙ old-room in
-            let z = ap (λ z. room_for z (map store_of (set boxes i new))) a ∙ new-room in
+            let y = ap (λ z. room_for z mail) a ∙ old-room in
+            let z = ap (λ z. room_for z mail') a ∙ new-room in
             omega arith
         go (inr m) =
             let s = split false (ne_eqb _ _ (λ e. m (sym e ∙ sym mine))) in
@@ -181,19 +188,15 @@ module _ (boxes : List (VecDeque Letter Global)) (i : ℕ) (old new : VecDeque L
     -- the receiver of this letter has room for all that it receives, as those of the letters before it
     pub reserve-room : deque_len new ≡ deque_len old → deque_capacity old ≤ deque_capacity new →
         deque_len new + length (filter (λ x. x.message.receiver == l.message.receiver) outbox) ≤ deque_capacity new →
-        ((p : ℕ) → 0 < length (received_by message_order p (take k outbox)) → length (received_by message_order p outbox) ≤ room_for p (map store_of boxes)) →
+        ((p : ℕ) → 0 < length (received_by message_order p (take k outbox)) → length (received_by message_order p outbox) ≤ room_for p mail) →
         (p : ℕ) → 0 < length (received_by message_order p (take (k + 1) outbox)) →
-        length (received_by message_order p outbox) ≤ room_for p (map store_of (set boxes i new))
-    reserve-room n c fits room p some = go (cases_eq p i)
+        length (received_by message_order p outbox) ≤ room_for p mail'
+    reserve-room n grown fits room p some = go (cases_eq p i)
       where
-        all : length (received_by message_order l.message.receiver outbox) ≡ length (filter (λ x. x.message.receiver == l.message.receiver) outbox)
-        all = refl
-
-        go : (p ≡ i) ⊎ (p ≡ i → ⊥) → length (received_by message_order p outbox) ≤ room_for p (map store_of (set boxes i new))
+        go : (p ≡ i) ⊎ (p ≡ i → ⊥) → length (received_by message_order p outbox) ≤ room_for p mail'
         go (inl a) =
             let x = ap (λ z. length (received_by message_order z outbox)) (a ∙ mine) in
-            let y = all in
-            let z = ap (λ z. room_for z (map store_of (set boxes i new))) a ∙ new-room in
+            let z = ap (λ z. room_for z mail') a ∙ new-room in
             omega arith
         go (inr m) =
             let e : received_by message_order p (take (k + 1) outbox) ≡ received_by message_order p (take k outbox) =

@@ -16,7 +16,7 @@ use Rattle.virtual_time.specs.Law.{IsOrder, one_if, same, pluses, minuses, is_pl
 use Rattle.virtual_time.proofs.Order.{same-refl, same_cases}
 use Rattle.virtual_time.proofs.Letters.{counts-other}
 use Rattle.antimessages.specs.declared.occurrence.Occurrence.{Occurrence}
-use Rattle.antimessages.specs.Counting.{signed_count}
+use Rattle.antimessages.specs.Counting.{signed_count, HaveSameCounts}
 use Rattle.antimessages.specs.Occurrences.{occurrence_of, occurrence_cmp, letter_at, letters_of, count_with, sign_at, AreTallied}
 
 not-lt : (a b : ℕ) → (a < b → ⊥) → nat_lt a b ≡ false
@@ -93,7 +93,7 @@ pub counts-more : (e : Occurrence × Sign) (es fs : List (Occurrence × Sign)) �
     signed_count message_order m (letters_of fs) ≡ signed_count message_order m (letter_at e ∷ letters_of es)
 counts-more e es fs h m = λ i. pos (h.pluses_are m i) -ℤ pos (h.minuses_are m i)
 
-pub insert-more : (es : List (Occurrence × Sign)) (q : Occurrence) (s : Sign) → lookup (is_at (occurrence_cmp q)) es ≡ None →
+insert-more : (es : List (Occurrence × Sign)) (q : Occurrence) (s : Sign) → lookup (is_at (occurrence_cmp q)) es ≡ None →
     IsOneMore (q, s) es (insert_entry occurrence_cmp es q s)
 insert-more [] q s h = record { pluses_are = λ m. refl; minuses_are = λ m. refl }
 insert-more (e ∷ es) q s h = go (occurrence_cmp q e.0) h (λ k. insert-more es q s k)
@@ -117,7 +117,7 @@ module _ (T : IsTotalOrder message_cmp) (X : (a b : Message) → message_cmp a b
       let e : m ≡ x = X m x (first-equal (message_cmp m x) (nat_cmp k j) t) in
       both_ways _ (subst (λ y. same message_order y m ≡ false) (sym e) n) (same-refl message_order O m))
 
-  pub remove-more : (es : List (Occurrence × Sign)) (q : Occurrence) (s : Sign) → lookup (is_at (occurrence_cmp q)) es ≡ Some s →
+  remove-more : (es : List (Occurrence × Sign)) (q : Occurrence) (s : Sign) → lookup (is_at (occurrence_cmp q)) es ≡ Some s →
       IsOneMore (q, s) (remove_entry (is_at (occurrence_cmp q)) es) es
   remove-more [] q s h = absurd (let z : ⊥ = cc in z)
   remove-more (e ∷ es) q s h = go (is_at (occurrence_cmp q) e.0) refl h (λ k. remove-more es q s k)
@@ -152,48 +152,63 @@ module _ (T : IsTotalOrder message_cmp) (X : (a b : Message) → message_cmp a b
         let q = h.minuses_are x ∙ a.1 in
         λ i. sign_at (p i) (q i) j
 
-    pub put-tallied : AreTallied es → signed_count message_order m (letters_of es) ≡ count_with s k → IsOneMore (occurrence_of m k, s) es fs →
-        ((q : Occurrence) → lookup (is_at (occurrence_cmp q)) fs ≡ cond (is_at (occurrence_cmp (occurrence_of m k)) q) (Some s) (lookup (is_at (occurrence_cmp q)) es)) → AreTallied fs
-    put-tallied st c h u = record { signs = λ x j. go x j (same_cases message_order O x m) }
+    -- the signs are those of the counts where they are at the message and at each other one
+    tallied-by : (old new : List (Occurrence × Sign)) (v : Option Sign) → AreTallied old →
+        ((q : Occurrence) → lookup (is_at (occurrence_cmp q)) new ≡ cond (is_at (occurrence_cmp (occurrence_of m k)) q) v (lookup (is_at (occurrence_cmp q)) old)) →
+        ((j : ℕ) → cond (k == j) v (sign_at (pluses message_order m (letters_of old)) (minuses message_order m (letters_of old)) j)
+        ≡ sign_at (pluses message_order m (letters_of new)) (minuses message_order m (letters_of new)) j) →
+        ((x : Message) (j : ℕ) → same message_order x m ≡ false → sign_at (pluses message_order x (letters_of old)) (minuses message_order x (letters_of old)) j
+        ≡ sign_at (pluses message_order x (letters_of new)) (minuses message_order x (letters_of new)) j) → AreTallied new
+    tallied-by old new v st u mine others = record { signs = λ x j. go x j (same_cases message_order O x m) }
       where
-        here : (j : ℕ) → lookup (is_at (occurrence_cmp (occurrence_of m j))) fs ≡ sign_at (pluses message_order m (letters_of fs)) (minuses message_order m (letters_of fs)) j
-        here j =
-            let a = more s _ _ _ _ k (own-pluses h) (own-minuses h) c in
-            u (occurrence_of m j) ∙
-            (ap (λ b. cond b (Some s) (lookup (is_at (occurrence_cmp (occurrence_of m j))) es)) (at-same m k j) ∙
-            (ap (λ o. cond (k == j) (Some s) o) (st.signs m j ∙ sign-count_with s _ _ k j c) ∙
-            (next (Some s) k j ∙ sym (sign-count_with s _ _ (k + 1) j a))))
-
         go : (x : Message) (j : ℕ) → (x ≡ m) ⊎ (same message_order x m ≡ false) →
-            lookup (is_at (occurrence_cmp (occurrence_of x j))) fs ≡ sign_at (pluses message_order x (letters_of fs)) (minuses message_order x (letters_of fs)) j
-        go x j (inl e) = subst (λ y. lookup (is_at (occurrence_cmp (occurrence_of y j))) fs ≡ sign_at (pluses message_order y (letters_of fs)) (minuses message_order y (letters_of fs)) j) (sym e) (here j)
+            lookup (is_at (occurrence_cmp (occurrence_of x j))) new ≡ sign_at (pluses message_order x (letters_of new)) (minuses message_order x (letters_of new)) j
+        go x j (inl e) =
+            subst (λ y. lookup (is_at (occurrence_cmp (occurrence_of y j))) new ≡ sign_at (pluses message_order y (letters_of new)) (minuses message_order y (letters_of new)) j) (sym e)
+            (u (occurrence_of m j) ∙ (ap (λ b. cond b v (lookup (is_at (occurrence_cmp (occurrence_of m j))) old)) (at-same m k j) ∙
+            (ap (λ o. cond (k == j) v o) (st.signs m j) ∙ mine j)))
         go x j (inr n) =
-            u (occurrence_of x j) ∙
-            (ap (λ b. cond b (Some s) (lookup (is_at (occurrence_cmp (occurrence_of x j))) es)) (at-other m x k j n) ∙
-            (st.signs x j ∙ sym (other-signs h x j n)))
+            u (occurrence_of x j) ∙ (ap (λ b. cond b v (lookup (is_at (occurrence_cmp (occurrence_of x j))) old)) (at-other m x k j n) ∙ (st.signs x j ∙ others x j n))
+
+    put-tallied : AreTallied es → signed_count message_order m (letters_of es) ≡ count_with s k → IsOneMore (occurrence_of m k, s) es fs →
+        ((q : Occurrence) → lookup (is_at (occurrence_cmp q)) fs ≡ cond (is_at (occurrence_cmp (occurrence_of m k)) q) (Some s) (lookup (is_at (occurrence_cmp q)) es)) → AreTallied fs
+    put-tallied st c h u =
+        let a = more s _ _ _ _ k (own-pluses h) (own-minuses h) c in
+        tallied-by es fs (Some s) st u
+        (λ j. ap (λ o. cond (k == j) (Some s) o) (sign-count_with s _ _ k j c) ∙ (next (Some s) k j ∙ sym (sign-count_with s _ _ (k + 1) j a)))
+        (λ x j n. sym (other-signs h x j n))
 
     pub take-tallied : AreTallied fs → signed_count message_order m (letters_of fs) ≡ count_with s (k + 1) → IsOneMore (occurrence_of m k, s) es fs →
         ((q : Occurrence) → lookup (is_at (occurrence_cmp q)) es ≡ cond (is_at (occurrence_cmp (occurrence_of m k)) q) None (lookup (is_at (occurrence_cmp q)) fs)) → AreTallied es
-    take-tallied st c h u = record { signs = λ x j. go x j (same_cases message_order O x m) }
-      where
-        here : (j : ℕ) → lookup (is_at (occurrence_cmp (occurrence_of m j))) es ≡ sign_at (pluses message_order m (letters_of es)) (minuses message_order m (letters_of es)) j
-        here j =
-            let a = fewer s _ _ _ _ k (own-pluses h) (own-minuses h) c in
-            u (occurrence_of m j) ∙
-            (ap (λ b. cond b None (lookup (is_at (occurrence_cmp (occurrence_of m j))) fs)) (at-same m k j) ∙
-            (ap (λ o. cond (k == j) None o) (st.signs m j ∙ sign-count_with s _ _ (k + 1) j c) ∙
-            (less (Some s) k j ∙ sym (sign-count_with s _ _ k j a))))
+    take-tallied st c h u =
+        let a = fewer s _ _ _ _ k (own-pluses h) (own-minuses h) c in
+        tallied-by fs es None st u
+        (λ j. ap (λ o. cond (k == j) None o) (sign-count_with s _ _ (k + 1) j c) ∙ (less (Some s) k j ∙ sym (sign-count_with s _ _ k j a)))
+        (other-signs h)
 
-        go : (x : Message) (j : ℕ) → (x ≡ m) ⊎ (same message_order x m ≡ false) →
-            lookup (is_at (occurrence_cmp (occurrence_of x j))) es ≡ sign_at (pluses message_order x (letters_of es)) (minuses message_order x (letters_of es)) j
-        go x j (inl e) = subst (λ y. lookup (is_at (occurrence_cmp (occurrence_of y j))) es ≡ sign_at (pluses message_order y (letters_of es)) (minuses message_order y (letters_of es)) j) (sym e) (here j)
-        go x j (inr n) =
-            u (occurrence_of x j) ∙
-            (ap (λ b. cond b None (lookup (is_at (occurrence_cmp (occurrence_of x j))) fs)) (at-other m x k j n) ∙
-            (st.signs x j ∙ other-signs h x j n))
-
-    pub nothing-on_top : AreTallied es → signed_count message_order m (letters_of es) ≡ count_with s k → lookup (is_at (occurrence_cmp (occurrence_of m k))) es ≡ None
+    nothing-on_top : AreTallied es → signed_count message_order m (letters_of es) ≡ count_with s k → lookup (is_at (occurrence_cmp (occurrence_of m k))) es ≡ None
     nothing-on_top st c = st.signs m k ∙ (sign-count_with s _ _ k k c ∙ ap (λ b. cond b (Some s) None) (not-lt k k (λ t. omega arith)))
 
-    pub last-stands : AreTallied fs → signed_count message_order m (letters_of fs) ≡ count_with s (k + 1) → lookup (is_at (occurrence_cmp (occurrence_of m k))) fs ≡ Some s
+    last-stands : AreTallied fs → signed_count message_order m (letters_of fs) ≡ count_with s (k + 1) → lookup (is_at (occurrence_cmp (occurrence_of m k))) fs ≡ Some s
     last-stands st c = st.signs m k ∙ (sign-count_with s _ _ (k + 1) k c ∙ ap (λ b. cond b (Some s) None) (lt-ltb k (k + 1) (omega arith)))
+
+    -- the letter enters a map of signs, or leaves it: what the map tells by an order that is that of occurrences
+    pub put-both : {f : Occurrence → Occurrence → Ordering} → f ≡ occurrence_cmp → AreTallied es → signed_count message_order m (letters_of es) ≡ count_with s k →
+        fs ≡ insert_entry f es (occurrence_of m k) s →
+        ((q : Occurrence) → lookup (is_at (f q)) fs ≡ cond (is_at (f (occurrence_of m k)) q) (Some s) (lookup (is_at (f q)) es)) →
+        AreTallied fs × HaveSameCounts message_order (letters_of fs) (letter_at (occurrence_of m k, s) ∷ letters_of es)
+    put-both w st c entries updates =
+        let e = subst (λ (f : Occurrence → Occurrence → Ordering). fs ≡ insert_entry f es (occurrence_of m k) s) w entries in
+        let u = subst (λ (f : Occurrence → Occurrence → Ordering). (q : Occurrence) → lookup (is_at (f q)) fs ≡ cond (is_at (f (occurrence_of m k)) q) (Some s) (lookup (is_at (f q)) es)) w updates in
+        let o = subst (λ gs. IsOneMore (occurrence_of m k, s) es gs) (sym e) (insert-more es (occurrence_of m k) s (nothing-on_top st c)) in
+        (put-tallied st c o u, counts-more (occurrence_of m k, s) es fs o)
+
+    pub take-both : {f : Occurrence → Occurrence → Ordering} → f ≡ occurrence_cmp → AreTallied fs → signed_count message_order m (letters_of fs) ≡ count_with s (k + 1) →
+        es ≡ remove_entry (is_at (f (occurrence_of m k))) fs →
+        ((q : Occurrence) → lookup (is_at (f q)) es ≡ cond (is_at (f (occurrence_of m k)) q) None (lookup (is_at (f q)) fs)) →
+        AreTallied es × HaveSameCounts message_order (letters_of fs) (letter_at (occurrence_of m k, s) ∷ letters_of es)
+    take-both w st c entries updates =
+        let e = subst (λ (f : Occurrence → Occurrence → Ordering). es ≡ remove_entry (is_at (f (occurrence_of m k))) fs) w entries in
+        let u = subst (λ (f : Occurrence → Occurrence → Ordering). (q : Occurrence) → lookup (is_at (f q)) es ≡ cond (is_at (f (occurrence_of m k)) q) None (lookup (is_at (f q)) fs)) w updates in
+        let o = subst (λ gs. IsOneMore (occurrence_of m k, s) gs fs) (sym e) (remove-more fs (occurrence_of m k) s (last-stands st c)) in
+        (take-tallied st c o u, counts-more (occurrence_of m k, s) es fs o)

@@ -1,10 +1,10 @@
-use Rattle.std.proofs.Common.{◌<◌, ◌++◌, length, map, refl, sym, ap, ◌∙◌, append-nil, arith}
+use Rattle.std.proofs.Common.{◌++◌, map, refl, sym, ap, ◌∙◌, append-nil, arith}
 use Rattle.std.proofs.Math.ListN.{length-set}
 use Rattle.std.proofs.lemmas.List.{take_all}
 use Rattle.virtual_time.specs.Law.{received_by}
 use Rattle.vlink.specs.Order.{message_order}
 use Rattle.antimessages.specs.Mailing.{letters_for, store_of}
-use Rattle.antimessages.proofs.Boxes.{receiver-within, put-letters}
+use Rattle.antimessages.proofs.Boxes.{changed, receiver-within, put-letters}
 use Rattle.antimessages.proofs.posting.push_all.Goals as goal
 
 pub loop-letter-init : goal.loop-letter-init
@@ -18,15 +18,12 @@ index_mut-requires c =
 pub loop-letter-preserved : goal.loop-letter-preserved
 loop-letter-preserved c =
     let boxes = c.loop-letter.boxes.items in
-    let i = c.from.result in
-    let old = c.index_mut.result.now in
     let new = c.push.new.queue in
     let inv = c.loop-letter.invariant in
     let within = receiver-within c.args.letters.now _ c.requires c.loop-letter.letter-index c.letter-item.result c.loop-letter-test.true c.letter-item.is in
-    let h : i < length boxes = omega (arith, c.from.ensures, inv.processes) in
     record {
-      processes = length-set boxes i new ∙ inv.processes;
-      put = put-letters boxes i old new h c.index_mut.ensures.value
+      processes = length-set boxes c.from.result new ∙ inv.processes;
+      put = put-letters (changed boxes c.from.result c.index_mut.result.now new (omega (arith, c.from.ensures, inv.processes)) c.index_mut.ensures.value)
           c.args.letters.now c.loop-letter.letter-index c.letter-item.result c.loop-letter-test.true c.letter-item.is c.from.ensures
           c.args.boxes.now.items c.in_ok-push.ensures inv.put;
     }

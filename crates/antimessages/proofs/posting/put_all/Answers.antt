@@ -1,10 +1,10 @@
-use Rattle.std.proofs.Common.{◌<◌, ◌++◌, length, map, refl, sym, ap, ◌∙◌, append-nil, arith}
+use Rattle.std.proofs.Common.{◌++◌, map, refl, sym, ap, ◌∙◌, append-nil, arith}
 use Rattle.std.proofs.Math.ListN.{length-set}
 use Rattle.std.proofs.lemmas.List.{take_all}
 use Rattle.virtual_time.specs.Law.{received_by}
 use Rattle.vlink.specs.Order.{message_order}
 use Rattle.antimessages.specs.Mailing.{letters_for, store_of}
-use Rattle.antimessages.proofs.Boxes.{receiver-within, room-needed, put-letters, put-room}
+use Rattle.antimessages.proofs.Boxes.{changed, receiver-within, room-needed, put-letters, put-room}
 use Rattle.antimessages.proofs.posting.put_all.Goals as goal
 
 pub loop-letter-init : goal.loop-letter-init
@@ -17,29 +17,23 @@ index_mut-requires c =
 
 pub push_back_reserved-requires : goal.push_back_reserved-requires
 push_back_reserved-requires c =
-    let boxes = c.loop-letter.boxes.items in
-    let inv = c.loop-letter.invariant in
     let within = receiver-within c.args.letters.now _ c.requires.receivers c.loop-letter.letter-index c.letter-item.result c.loop-letter-test.true c.letter-item.is in
-    let h : c.from.result < length boxes = omega (arith, c.from.ensures, inv.processes) in
-    room-needed boxes c.from.result c.index_mut.result.now c.index_mut.result.now h c.index_mut.ensures.value
-    c.args.letters.now c.loop-letter.letter-index c.letter-item.result c.loop-letter-test.true c.letter-item.is c.from.ensures inv.room
+    let box = c.index_mut.result.now in
+    room-needed (changed c.loop-letter.boxes.items c.from.result box box (omega (arith, c.from.ensures, c.loop-letter.invariant.processes)) c.index_mut.ensures.value)
+    c.args.letters.now c.loop-letter.letter-index c.letter-item.result c.loop-letter-test.true c.letter-item.is c.from.ensures c.loop-letter.invariant.room
 
 pub loop-letter-preserved : goal.loop-letter-preserved
 loop-letter-preserved c =
     let boxes = c.loop-letter.boxes.items in
-    let i = c.from.result in
-    let old = c.index_mut.result.now in
     let new = c.push_back_reserved.new.self in
     let inv = c.loop-letter.invariant in
     let within = receiver-within c.args.letters.now _ c.requires.receivers c.loop-letter.letter-index c.letter-item.result c.loop-letter-test.true c.letter-item.is in
-    let h : i < length boxes = omega (arith, c.from.ensures, inv.processes) in
+    let one = changed boxes c.from.result c.index_mut.result.now new (omega (arith, c.from.ensures, inv.processes)) c.index_mut.ensures.value in
     record {
-      processes = length-set boxes i new ∙ inv.processes;
-      put = put-letters boxes i old new h c.index_mut.ensures.value
-          c.args.letters.now c.loop-letter.letter-index c.letter-item.result c.loop-letter-test.true c.letter-item.is c.from.ensures
+      processes = length-set boxes c.from.result new ∙ inv.processes;
+      put = put-letters one c.args.letters.now c.loop-letter.letter-index c.letter-item.result c.loop-letter-test.true c.letter-item.is c.from.ensures
           c.args.boxes.now.items c.push_back_reserved.ensures.items inv.put;
-      room = put-room boxes i old new h c.index_mut.ensures.value
-          c.args.letters.now c.loop-letter.letter-index c.letter-item.result c.loop-letter-test.true c.letter-item.is c.from.ensures
+      room = put-room one c.args.letters.now c.loop-letter.letter-index c.letter-item.result c.loop-letter-test.true c.letter-item.is c.from.ensures
           c.push_back_reserved.ensures.len c.push_back_reserved.ensures.capacity inv.room;
     }
 

@@ -1,10 +1,12 @@
-use Rattle.std.proofs.Common.{◌<◌, inl, inr, length, refl, ap, ◌∙◌, arith}
+use Rattle.std.proofs.Common.{inl, inr, length, map, slice_set, refl, ap, ◌∙◌, arith}
 use Rattle.std.proofs.Math.ListN.{length-set}
 use Rattle.std.proofs.lemmas.Bool.{cases_lt}
 use Rattle.std.proofs.lemmas.List.{take_all}
 use Rattle.virtual_time.specs.Law.{received_by}
 use Rattle.vlink.specs.Order.{message_order}
-use Rattle.antimessages.proofs.Boxes.{receiver-within, same-letters, more-room, reserve-room, refused-next}
+use Rattle.antimessages.specs.Mailing.{store_of}
+use Rattle.antimessages.proofs.Boxes.{IsChanged, changed, receiver-within, same-letters, more-room, reserve-room, refused-next}
+use Rattle.antimessages.proofs.posting.reserve_by_letters.Goals.{After-make_room}
 use Rattle.antimessages.proofs.posting.reserve_by_letters.Goals as goal
 
 pub loop-letter-init : goal.loop-letter-init
@@ -15,52 +17,38 @@ index_mut-requires c =
     let within = receiver-within c.args.letters.now _ c.requires c.loop-letter.letter-index c.letter-item.result c.loop-letter-test.true c.letter-item.is in
     omega (arith, c.from-receiver.ensures, c.loop-letter.invariant.processes, c.loop-letter.boxes.ok.0)
 
+-- room was made in the box of the letter's receiver
+box : (c : After-make_room) → IsChanged (map store_of c.loop-letter.boxes.items)
+    (map store_of (slice_set c.loop-letter.boxes.items c.from-receiver.result c.make_room.new.mailbox)) c.from-receiver.result c.index_mut.result.now c.make_room.new.mailbox
+box c =
+    let within = receiver-within c.args.letters.now _ c.requires c.loop-letter.letter-index c.letter-item.result c.loop-letter-test.true c.letter-item.is in
+    changed c.loop-letter.boxes.items c.from-receiver.result c.index_mut.result.now c.make_room.new.mailbox (omega (arith, c.from-receiver.ensures, c.loop-letter.invariant.processes))
+    c.index_mut.ensures.value
+
 pub returns-in_err-make_room-clause-same : goal.returns-in_err-make_room-clause-same
 returns-in_err-make_room-clause-same c = λ p.
-    let boxes = c.loop-letter.boxes.items in
-    let inv = c.loop-letter.invariant in
-    let within = receiver-within c.args.letters.now _ c.requires c.loop-letter.letter-index c.letter-item.result c.loop-letter-test.true c.letter-item.is in
-    let h : c.from-receiver.result < length boxes = omega (arith, c.from-receiver.ensures, inv.processes) in
-    same-letters boxes c.from-receiver.result c.index_mut.result.now c.make_room.new.mailbox h c.index_mut.ensures.value c.make_room.ensures.items p ∙ inv.same p
+    same-letters (box (goal.at.returns-in_err-make_room-clause-same c).After-make_room) c.make_room.ensures.items p ∙ c.loop-letter.invariant.same p
 
 pub returns-in_err-make_room-clause-no_less : goal.returns-in_err-make_room-clause-no_less
 returns-in_err-make_room-clause-no_less c = λ p.
-    let boxes = c.loop-letter.boxes.items in
-    let inv = c.loop-letter.invariant in
-    let within = receiver-within c.args.letters.now _ c.requires c.loop-letter.letter-index c.letter-item.result c.loop-letter-test.true c.letter-item.is in
-    let h : c.from-receiver.result < length boxes = omega (arith, c.from-receiver.ensures, inv.processes) in
-    let a = inv.no_less p in
-    let b = more-room boxes c.from-receiver.result c.index_mut.result.now c.make_room.new.mailbox h c.index_mut.ensures.value c.make_room.ensures.len c.make_room.ensures.capacity p in
+    let a = c.loop-letter.invariant.no_less p in
+    let b = more-room (box (goal.at.returns-in_err-make_room-clause-no_less c).After-make_room) c.make_room.ensures.len c.make_room.ensures.capacity p in
     omega arith
 
 pub returns-in_err-make_room-clause-reserved : goal.returns-in_err-make_room-clause-reserved
 returns-in_err-make_room-clause-reserved c = λ room.
-    let boxes = c.loop-letter.boxes.items in
-    let inv = c.loop-letter.invariant in
-    let within = receiver-within c.args.letters.now _ c.requires c.loop-letter.letter-index c.letter-item.result c.loop-letter-test.true c.letter-item.is in
-    let h : c.from-receiver.result < length boxes = omega (arith, c.from-receiver.ensures, inv.processes) in
-    absurd (refused-next boxes c.from-receiver.result c.index_mut.result.now c.make_room.new.mailbox h c.index_mut.ensures.value
-    c.args.letters.now c.in_err-make_room.ensures.full
-    (λ p. let a = room p in let b = inv.no_less p in omega arith))
+    absurd (refused-next (box (goal.at.returns-in_err-make_room-clause-reserved c).After-make_room) c.args.letters.now c.in_err-make_room.ensures.full
+    (λ p. let a = room p in let b = c.loop-letter.invariant.no_less p in omega arith))
 
 pub loop-letter-preserved : goal.loop-letter-preserved
 loop-letter-preserved c =
-    let boxes = c.loop-letter.boxes.items in
-    let i = c.from-receiver.result in
-    let old = c.index_mut.result.now in
-    let new = c.make_room.new.mailbox in
+    let one = box (goal.at.loop-letter-preserved c).After-make_room in
     let inv = c.loop-letter.invariant in
-    let within = receiver-within c.args.letters.now _ c.requires c.loop-letter.letter-index c.letter-item.result c.loop-letter-test.true c.letter-item.is in
-    let h : i < length boxes = omega (arith, c.from-receiver.ensures, inv.processes) in
     record {
-      processes = length-set boxes i new ∙ inv.processes;
-      same = λ p. same-letters boxes i old new h c.index_mut.ensures.value c.make_room.ensures.items p ∙ inv.same p;
-      no_less = λ p.
-          let a = inv.no_less p in
-          let b = more-room boxes i old new h c.index_mut.ensures.value c.make_room.ensures.len c.make_room.ensures.capacity p in
-          omega arith;
-      room = reserve-room boxes i old new h c.index_mut.ensures.value
-          c.args.letters.now c.loop-letter.letter-index c.letter-item.result c.loop-letter-test.true c.letter-item.is c.from-receiver.ensures
+      processes = length-set c.loop-letter.boxes.items c.from-receiver.result c.make_room.new.mailbox ∙ inv.processes;
+      same = λ p. same-letters one c.make_room.ensures.items p ∙ inv.same p;
+      no_less = λ p. let a = inv.no_less p in let b = more-room one c.make_room.ensures.len c.make_room.ensures.capacity p in omega arith;
+      room = reserve-room one c.args.letters.now c.loop-letter.letter-index c.letter-item.result c.loop-letter-test.true c.letter-item.is c.from-receiver.ensures
           c.make_room.ensures.len c.make_room.ensures.capacity (rw c.from-receiver.ensures at c.in_ok-make_room.ensures.ok) inv.room;
     }
 

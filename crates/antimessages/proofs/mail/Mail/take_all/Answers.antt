@@ -1,24 +1,17 @@
-use Rattle.std.proofs.Common.{◌<◌, length, map, slice_set, sym, ap, ◌∙◌, arith}
+use Rattle.std.proofs.Common.{map, slice_set, ap, ◌∙◌, arith}
 use Rattle.antimessages.specs.Mailing.{store_of, letters_for}
-use Rattle.antimessages.proofs.Boxes.{new-letters, other-letters}
+use Rattle.antimessages.proofs.Boxes.{IsChanged, changed, new-letters, other-letters}
 use Rattle.antimessages.proofs.mail.Mail.take_all.Goals as goal
 
+-- the process has another box
+box : (c : goal.After-self-1) → IsChanged (map store_of c.self.inside.boxes.items) (map store_of (slice_set c.self.inside.boxes.items c.args.process c.swap.new.x))
+    c.args.process c.index_mut.result.now c.swap.new.x
+box c =
+    rw c.from-2.ensures at
+    (changed c.self.inside.boxes.items c.from-2.result c.index_mut.result.now c.swap.new.x (omega (arith, c.self.inside.boxes.ok.0)) c.index_mut.ensures.value)
+
 pub returns-clause-left : goal.returns-clause-left
-returns-clause-left c =
-    let boxes = c.self.inside.boxes.items in
-    let i = c.from-2.result in
-    let old = c.index_mut.result.now in
-    let new = c.swap.new.x in
-    let h : i < length boxes = omega (arith, c.self.inside.boxes.ok.0) in
-    ap (λ p. letters_for p (map store_of (slice_set boxes i new))) (sym c.from-2.ensures) ∙
-    (new-letters boxes i old new h c.index_mut.ensures.value ∙
-    (ap (λ z. z.items) c.swap.ensures.x_after ∙ c.requires))
+returns-clause-left c = rw c.from-2.ensures (new-letters (box c) ∙ (ap (λ z. z.items) c.swap.ensures.x_after ∙ c.requires))
 
 pub returns-clause-others : goal.returns-clause-others
-returns-clause-others c = λ q n.
-    let boxes = c.self.inside.boxes.items in
-    let i = c.from-2.result in
-    let old = c.index_mut.result.now in
-    let new = c.swap.new.x in
-    let h : i < length boxes = omega (arith, c.self.inside.boxes.ok.0) in
-    other-letters boxes i old new h c.index_mut.ensures.value q (λ e. n (e ∙ c.from-2.ensures)) ∙ ap (letters_for q) c.self.view_is
+returns-clause-others c = λ q n. rw c.from-2.ensures (other-letters (box c) q n ∙ ap (letters_for q) c.self.view_is)
