@@ -1,5 +1,5 @@
 -- The signed counts with one letter in front, or one less.
-use Rattle.std.proofs.Common.{◌≡◌, true, not, List, ◌∷◌, ℤ, pos, ◌+ℤ◌, ◌-ℤ◌, refl, arith}
+use Rattle.std.proofs.Common.{◌≡◌, true, not, List, ◌∷◌, ℤ, pos, ◌+ℤ◌, ◌-ℤ◌, refl, sym, ◌∙◌, subst, arith}
 use Rattle.std.specs.Prelude.{◌≢◌}
 use Rattle.std.proofs.lemmas.Int.{ints}
 use Rattle.vlink.specs.declared.message.Message.{Message}
@@ -10,7 +10,7 @@ use Rattle.virtual_time.specs.Law.{Order, IsOrder, same, is_plus}
 use Rattle.virtual_time.proofs.Order.{same-refl, different}
 use Rattle.virtual_time.proofs.Letters.{counts-other}
 use Rattle.antimessages.specs.Letters.{weight}
-use Rattle.antimessages.specs.Counting.{signed_count}
+use Rattle.antimessages.specs.Counting.{signed_count, HaveSameCounts}
 
 module _ (order : Order Message) (O : IsOrder order) where
   -- the signed counts with one letter in front
@@ -31,8 +31,25 @@ module _ (order : Order Message) (O : IsOrder order) where
       let a = counts-other order O m l tally (different order O m l.message n) in
       λ i. pos (a.0 i) -ℤ pos (a.1 i)
 
-  pub opposite-weight : (s t : Sign) (a b : ℤ) → is_plus t ≡ not (is_plus s) → a ≡ b +ℤ weight t → b ≡ a +ℤ weight s
+  opposite-weight : (s t : Sign) (a b : ℤ) → is_plus t ≡ not (is_plus s) → a ≡ b +ℤ weight t → b ≡ a +ℤ weight s
   opposite-weight Plus Plus a b o e = cc
   opposite-weight Plus Minus a b o e = omega (arith, ints)
   opposite-weight Minus Plus a b o e = omega (arith, ints)
   opposite-weight Minus Minus a b o e = cc
+
+  -- the count of the letter's message changes by its weight, and no other one does
+  abbrev pub IsCounted : Letter → List Letter → List Letter → Type 0
+  IsCounted l old new = (signed_count order l.message new ≡ signed_count order l.message old +ℤ weight l.sign)
+      × ((m : Message) → m ≢ l.message → signed_count order m new ≡ signed_count order m old)
+
+  -- so it is with the letter more, and with one of the other sign less
+  pub one-more : (l : Letter) (new : List Letter) {inside old : List Letter} → inside ≡ old → HaveSameCounts order new (l ∷ inside) → IsCounted l old new
+  one-more l new {inside} same counts =
+      subst (λ z. IsCounted l z new) same (counts l.message ∙ count-mine l inside, λ m n. counts m ∙ count-other m l inside n)
+
+  pub one-less : (l : Letter) (t : Sign) (new : List Letter) {inside old : List Letter} → inside ≡ old → is_plus t ≡ not (is_plus l.sign) →
+      HaveSameCounts order inside (record { message = l.message; sign = t } ∷ new) → IsCounted l old new
+  one-less l t new same opposite counts =
+      let taken : Letter = record { message = l.message; sign = t } in
+      subst (λ z. IsCounted l z new) same
+      (opposite-weight l.sign t _ _ opposite (counts l.message ∙ count-mine taken new), λ m n. sym (counts m ∙ count-other m taken new n))

@@ -1,12 +1,13 @@
 -- What a letter put on its count_with, or taken off it, makes of the counts.
-use Rattle.std.proofs.Common.{◌≡◌, ℕ, ◌+◌, ◌-◌, ◌<◌, ◌==◌, ◌⊎◌, inl, inr, Bool, true, false, not, ◌&&◌, cond, nat_lt, List, [], ◌∷◌, Option, Some, None, pos, ◌-ℤ◌, refl, sym, ap, ◌∙◌, subst, arith, eqb-true, eq-eqb}
+use Rattle.std.proofs.Common.{◌≡◌, ℕ, ◌+◌, ◌-◌, ◌<◌, ◌==◌, ◌⊎◌, inl, inr, Bool, true, false, not, ◌&&◌, cond, nat_lt, List, [], ◌∷◌, Option, Some, None, pos, ◌-ℤ◌, refl, sym, ap, ◌∙◌, subst, arith}
 use Rattle.std.specs.Ordering.{nat_cmp, ordering_then, is_eq, match_ordering}
 use Rattle.std.specs.declared.cmp.Ordering.{Ordering}
 use Rattle.std.specs.declared.cmp.Ordering.TheVariants.{Less, Equal, Greater}
 use Rattle.std.specs.Cmp.{IsTotalOrder, tied_itself}
 use Rattle.std.specs.Map.{lookup, remove_entry}
 use Rattle.std.specs.BTreeMap.{is_at, insert_entry}
-use Rattle.std.proofs.lemmas.Bool.{both_ways, false_from_ne_true, cases_lt, lt-ltb, ltb-true}
+use Rattle.std.proofs.lemmas.Bool.{both_ways, false_from_ne_true, lt-ltb, ltb-true}
+use Rattle.std.proofs.lemmas.Bool.Decides.{nat_tests}
 use Rattle.std.proofs.lemmas.Int.{ints}
 use Rattle.vlink.specs.declared.message.Message.{Message}
 use Rattle.virtual_time.specs.declared.letter.Sign.{Sign}
@@ -28,13 +29,7 @@ first-equal Equal p h = refl
 first-equal Greater p h = cc
 
 cmp-eqb : (j k : ℕ) → is_eq (nat_cmp j k) ≡ (j == k)
-cmp-eqb j k = go (nat_lt j k) (j == k) refl refl
-  where
-    go : (b c : Bool) → nat_lt j k ≡ b → (j == k) ≡ c → is_eq (cond b Less (cond c Equal Greater)) ≡ c
-    go true true e f = absurd (let a = ltb-true j k e in let b = eqb-true j k f in omega arith)
-    go true false e f = refl
-    go false true e f = refl
-    go false false e f = refl
+cmp-eqb j k = grind (arith, nat_tests)
 
 -- the sign at an ordinal of a count_with
 pub sign-count_with : (s : Sign) (p n k j : ℕ) → pos p -ℤ pos n ≡ count_with s k → sign_at p n j ≡ cond (nat_lt j k) (Some s) None
@@ -48,30 +43,10 @@ sign-count_with Minus p n k j h =
     rw (a, b, not-lt j 0 (λ t. omega arith)) refl
 
 next : {X : Type 0} (x : Option X) (k j : ℕ) → cond (k == j) x (cond (nat_lt j k) x None) ≡ cond (nat_lt j (k + 1)) x None
-next x k j = go (k == j) (nat_lt j k) (nat_lt j (k + 1)) refl refl refl
-  where
-    go : (b c d : Bool) → (k == j) ≡ b → nat_lt j k ≡ c → nat_lt j (k + 1) ≡ d → cond b x (cond c x None) ≡ cond d x None
-    go true c true e f g = refl
-    go true c false e f g = absurd (both_ways _ g (lt-ltb j (k + 1) (let a = eqb-true k j e in omega arith)))
-    go false true true e f g = refl
-    go false true false e f g = absurd (both_ways _ g (lt-ltb j (k + 1) (let a = ltb-true j k f in omega arith)))
-    go false false true e f g =
-        absurd (let a = ltb-true j (k + 1) g in
-        elim (cases_lt j k) [ inl t ↦ both_ways _ f (lt-ltb j k t) | inr t ↦ both_ways _ e (eq-eqb k j (omega arith)) ])
-    go false false false e f g = refl
+next x k j = grind (arith, nat_tests)
 
 less : {X : Type 0} (x : Option X) (k j : ℕ) → cond (k == j) None (cond (nat_lt j (k + 1)) x None) ≡ cond (nat_lt j k) x None
-less x k j = go (k == j) (nat_lt j k) (nat_lt j (k + 1)) refl refl refl
-  where
-    go : (b c d : Bool) → (k == j) ≡ b → nat_lt j k ≡ c → nat_lt j (k + 1) ≡ d → cond b None (cond d x None) ≡ cond c x None
-    go true false d e f g = refl
-    go true true d e f g = absurd (let a = eqb-true k j e in let b = ltb-true j k f in omega arith)
-    go false true true e f g = refl
-    go false true false e f g = absurd (both_ways _ g (lt-ltb j (k + 1) (let a = ltb-true j k f in omega arith)))
-    go false false true e f g =
-        absurd (let a = ltb-true j (k + 1) g in
-        elim (cases_lt j k) [ inl t ↦ both_ways _ f (lt-ltb j k t) | inr t ↦ both_ways _ e (eq-eqb k j (omega arith)) ])
-    go false false false e f g = refl
+less x k j = grind (arith, nat_tests)
 
 -- one letter of a sign more
 more : (s : Sign) (p n q o k : ℕ) → q ≡ one_if (is_plus s && true) + p → o ≡ one_if (not (is_plus s) && true) + n →
