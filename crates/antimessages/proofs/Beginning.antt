@@ -1,5 +1,5 @@
 -- The first letter of a message, put where none counts; and the letters at the beginning, where they are one plus letter of a message.
-use Rattle.std.proofs.Common.{◌≡◌, ℕ, zero, suc, ◌-◌, ◌<◌, Bool, true, false, cond, nat_lt, List, [], ◌∷◌, slice_get, Some, None, Result, Ok, Err, OnOk, pos, refl, sym, ap, ◌∙◌, subst, arith}
+use Rattle.std.proofs.Common.{◌≡◌, ℕ, zero, suc, ◌<◌, true, cond, List, [], ◌∷◌, slice_get, Some, None, Result, Ok, Err, OnOk, pos, refl, sym, ap, ◌∙◌, subst, arith}
 use Rattle.std.specs.Prelude.{OnErr}
 use Rattle.std.specs.List.Sorted.{IsStrictlySortedBy}
 use Rattle.std.specs.Ordering.{nat_cmp, ordering_then, is_eq, is_lt, match_ordering}
@@ -8,7 +8,8 @@ use Rattle.std.specs.declared.cmp.Ordering.TheVariants.{Less, Equal, Greater}
 use Rattle.std.specs.Cmp.{IsTotalOrder, tied_itself}
 use Rattle.std.specs.Map.{lookup, keys_of}
 use Rattle.std.specs.BTreeMap.{is_at, insert_entry}
-use Rattle.std.proofs.lemmas.Bool.{lt-ltb, ltb-true}
+use Rattle.std.proofs.lemmas.Bool.{lt-ltb}
+use Rattle.std.proofs.lemmas.Bool.Decides.{nat_tests}
 use Rattle.std.proofs.lemmas.Int.{ints}
 use Rattle.std.proofs.lemmas.Map.{lookup-none}
 use Rattle.std.proofs.lemmas.Map.Entries.{none_below_head}
@@ -48,12 +49,7 @@ none-counts m es st h = at-zero (pluses message_order m (letters_of es)) (minuse
 
 -- where a plus stands at an ordinal, one stands at each lesser one
 plus-below : (p n k j : ℕ) → sign_at p n k ≡ Some Plus → j < k → sign_at p n j ≡ Some Plus
-plus-below p n k j h l = go (nat_lt k (p - n)) (nat_lt k (n - p)) refl refl h
-  where
-    go : (b c : Bool) → nat_lt k (p - n) ≡ b → nat_lt k (n - p) ≡ c → cond b (Some Plus) (cond c (Some Minus) None) ≡ Some Plus → sign_at p n j ≡ Some Plus
-    go true c e f x = let a = ltb-true k (p - n) e in rw (lt-ltb j (p - n) (omega arith)) refl
-    go false true e f x = absurd (let z : ⊥ = cc in z)
-    go false false e f x = absurd (let z : ⊥ = cc in z)
+plus-below p n k j h l = grind (arith, nat_tests)
 
 module _ (T : IsTotalOrder message_cmp) (U : IsTotalOrder occurrence_cmp) (X : (a b : Message) → message_cmp a b ≡ Equal → a ≡ b) (m : Message) where
   below : (j k : ℕ) → j < k → occurrence_cmp (occurrence_of m j) (occurrence_of m k) ≡ Less

@@ -1,8 +1,9 @@
 -- What a letter makes of its message, by the message's signed count before it.
-use Rattle.std.proofs.Common.{◌≡◌, sym, subst, ℕ, zero, suc, ◌+◌, ◌≤◌, inl, inr, true, false, nat_lt, List, Option, Some, None, pos, ◌-ℤ◌, refl, arith}
+use Rattle.std.proofs.Common.{◌≡◌, sym, subst, ℕ, zero, suc, ◌+◌, ◌≤◌, true, false, nat_lt, List, Option, Some, None, pos, ◌-ℤ◌, refl, arith}
 use Rattle.std.specs.Prelude.{◌≢◌}
 use Rattle.std.specs.Option.{MatchOption}
-use Rattle.std.proofs.lemmas.Bool.{cases_lt, lt-ltb, ltb-true, false_from_ne_true}
+use Rattle.std.proofs.lemmas.Bool.{ltb-true, false_from_ne_true}
+use Rattle.std.proofs.lemmas.Bool.Decides.{nat_tests}
 use Rattle.std.proofs.lemmas.Int.{ints}
 use Rattle.vlink.specs.declared.message.Message.{Message}
 use Rattle.vlink.specs.Letters.{Letter}
@@ -19,22 +20,16 @@ not-lt a b h = false_from_ne_true _ (λ t. let k = ltb-true a b t in omega arith
 
 -- what becomes of presence where there are p plus letters and q minus letters, and then one more of either
 plus-none : (p q : ℕ) → pos p -ℤ pos q ≡ pos 0 → change_between (nat_lt q p) (nat_lt (0 + q) (1 + p)) ≡ BecamePresent
-plus-none p q h = let e : p ≡ q = omega (arith, ints) in rw (not-lt q p (omega arith), lt-ltb (0 + q) (1 + p) (omega arith)) refl
+plus-none p q h = grind (arith, nat_tests, ints)
 
 plus-some : (p q : ℕ) → pos p -ℤ pos q ≢ pos 0 → change_between (nat_lt q p) (nat_lt (0 + q) (1 + p)) ≡ Same
-plus-some p q h = elim (cases_lt q p) [
-  | inl more ↦ rw (lt-ltb q p more, lt-ltb (0 + q) (1 + p) (omega arith)) refl
-  | inr less ↦ rw (not-lt q p less, not-lt (0 + q) (1 + p) (let n : p ≢ q = λ e. h (omega (arith, ints)) in omega arith)) refl
-]
+plus-some p q h = grind (arith, nat_tests, ints)
 
 minus-one : (p q : ℕ) → pos p -ℤ pos q ≡ pos 1 → change_between (nat_lt q p) (nat_lt (1 + q) (0 + p)) ≡ BecameAbsent
-minus-one p q h = let e : p ≡ 1 + q = omega (arith, ints) in rw (lt-ltb q p (omega arith), not-lt (1 + q) (0 + p) (omega arith)) refl
+minus-one p q h = grind (arith, nat_tests, ints)
 
 minus-other : (p q : ℕ) → pos p -ℤ pos q ≢ pos 1 → change_between (nat_lt q p) (nat_lt (1 + q) (0 + p)) ≡ Same
-minus-other p q h = elim (cases_lt q p) [
-  | inl more ↦ rw (lt-ltb q p more, lt-ltb (1 + q) (0 + p) (let n : p ≢ 1 + q = λ e. h (omega (arith, ints)) in omega arith)) refl
-  | inr less ↦ rw (not-lt q p less, not-lt (1 + q) (0 + p) (omega arith)) refl
-]
+minus-other p q h = grind (arith, nat_tests, ints)
 
 module _ (order : Order Message) (O : IsOrder order) (l : Letter) (tally : List Letter) where
   one : same order l.message l.message ≡ true

@@ -1,5 +1,5 @@
 -- What a letter put on its count_with, or taken off it, makes of the counts.
-use Rattle.std.proofs.Common.{◌≡◌, ℕ, ◌+◌, ◌-◌, ◌<◌, ◌==◌, ◌⊎◌, inl, inr, Bool, true, false, not, ◌&&◌, cond, nat_lt, List, [], ◌∷◌, Option, Some, None, pos, ◌-ℤ◌, refl, sym, ap, ◌∙◌, subst, arith}
+use Rattle.std.proofs.Common.{◌≡◌, ℕ, ◌+◌, ◌<◌, ◌==◌, ◌⊎◌, inl, inr, Bool, true, false, not, ◌&&◌, cond, nat_lt, List, [], ◌∷◌, Option, Some, None, pos, ◌-ℤ◌, refl, sym, ap, ◌∙◌, subst, arith}
 use Rattle.std.specs.Ordering.{nat_cmp, ordering_then, is_eq, match_ordering}
 use Rattle.std.specs.declared.cmp.Ordering.{Ordering}
 use Rattle.std.specs.declared.cmp.Ordering.TheVariants.{Less, Equal, Greater}
@@ -33,14 +33,8 @@ cmp-eqb j k = grind (arith, nat_tests)
 
 -- the sign at an ordinal of a count_with
 pub sign-count_with : (s : Sign) (p n k j : ℕ) → pos p -ℤ pos n ≡ count_with s k → sign_at p n j ≡ cond (nat_lt j k) (Some s) None
-sign-count_with Plus p n k j h =
-    let a : p - n ≡ k = omega (arith, ints) in
-    let b : n - p ≡ 0 = omega (arith, ints) in
-    rw (a, b, not-lt j 0 (λ t. omega arith)) refl
-sign-count_with Minus p n k j h =
-    let a : p - n ≡ 0 = omega (arith, ints) in
-    let b : n - p ≡ k = omega (arith, ints) in
-    rw (a, b, not-lt j 0 (λ t. omega arith)) refl
+sign-count_with Plus p n k j h = grind (arith, nat_tests, ints)
+sign-count_with Minus p n k j h = grind (arith, nat_tests, ints)
 
 next : {X : Type 0} (x : Option X) (k j : ℕ) → cond (k == j) x (cond (nat_lt j k) x None) ≡ cond (nat_lt j (k + 1)) x None
 next x k j = grind (arith, nat_tests)

@@ -1,5 +1,5 @@
 -- The first entry with a plus, of those behind all of a message, tells the first present message after it.
-use Rattle.std.proofs.Common.{◌≡◌, ℕ, zero, suc, ◌-◌, ◌<◌, ◌≤◌, ◌==◌, inl, inr, Bool, true, false, ◌&&◌, cond, nat_lt, List, [], ◌∷◌, filter, length, slice_get, Option, Some, None, refl, sym, ap, ◌∙◌, subst, arith, eqb-true}
+use Rattle.std.proofs.Common.{◌≡◌, ℕ, zero, suc, ◌-◌, ◌<◌, ◌≤◌, inl, inr, Bool, true, false, cond, List, [], ◌∷◌, filter, length, slice_get, Option, Some, None, refl, sym, ap, ◌∙◌, subst, arith}
 use Rattle.std.specs.List.{AllByRecursion, find}
 use Rattle.std.specs.Option.{option_map}
 use Rattle.std.specs.List.Sorted.{IsStrictlySortedBy}
@@ -10,7 +10,8 @@ use Rattle.std.specs.declared.ops.Bound.TheVariants.{Unbounded}
 use Rattle.std.specs.Map.{lookup, keys_of}
 use Rattle.std.specs.BTreeMap.{is_at}
 use Rattle.std.specs.BTreeMap.Range.{range_contains, entries_between}
-use Rattle.std.proofs.lemmas.Bool.{cases_lt, lt-ltb, ltb-true}
+use Rattle.std.proofs.lemmas.Bool.{cases_lt, lt-ltb}
+use Rattle.std.proofs.lemmas.Bool.Decides.{nat_tests}
 use Rattle.std.proofs.lemmas.List.Kept.{IsStrictlySortedBy-filter}
 use Rattle.std.proofs.lemmas.Map.Entries.{place_from_lookup, lookup-filter-keys}
 use Rattle.vlink.specs.declared.message.Message.{Message}
@@ -112,12 +113,7 @@ second-equal Greater p h = cc
 
 -- more plus letters than minus letters, where the first ordinal has a plus, and the other way round
 plus-present : (p n k : ℕ) → sign_at p n k ≡ Some Plus → n < p
-plus-present p n k h = go (nat_lt k (p - n)) (nat_lt k (n - p)) refl h
-  where
-    go : (b c : Bool) → nat_lt k (p - n) ≡ b → cond b (Some Plus) (cond c (Some Minus) None) ≡ Some Plus → n < p
-    go true c e x = let a = ltb-true k (p - n) e in omega arith
-    go false true e x = cc
-    go false false e x = cc
+plus-present p n k h = grind (arith, nat_tests)
 
 present-plus : (p n : ℕ) → n < p → sign_at p n 0 ≡ Some Plus
 present-plus p n h = rw (lt-ltb 0 (p - n) (omega arith)) refl
@@ -126,14 +122,7 @@ present-plus p n h = rw (lt-ltb 0 (p - n) (omega arith)) refl
 lies-after : (newest : Option Message) (o : Occurrence) → o.ordinal ≤ 18446744073709551615 →
     range_contains occurrence_cmp (behind newest) Unbounded o ≡ is_after message_order newest o.message
 lies-after None o h = refl
-lies-after (Some m) o h = go (message_cmp m o.message) (nat_lt 18446744073709551615 o.ordinal) (18446744073709551615 == o.ordinal) refl
-  where
-    go : (c : Ordering) (b d : Bool) → nat_lt 18446744073709551615 o.ordinal ≡ b → (is_lt (ordering_then c (cond b Less (cond d Equal Greater))) && true) ≡ is_lt c
-    go Less b d e = refl
-    go Greater b d e = refl
-    go Equal true d e = absurd (let a = ltb-true 18446744073709551615 o.ordinal e in omega arith)
-    go Equal false true e = refl
-    go Equal false false e = refl
+lies-after (Some m) o h = grind (arith, nat_tests)
 
 module _ (X : (a b : Message) → message_cmp a b ≡ Equal → a ≡ b) (O : IsOrder message_order) (es : List (Occurrence × Sign)) (st : AreTallied es)
     (up : IsStrictlySortedBy occurrence_cmp (keys_of es)) (small : length es < 9223372036854775808) (newest : Option Message) where
@@ -167,12 +156,7 @@ module _ (X : (a b : Message) → message_cmp a b ≡ Equal → a ≡ b) (O : Is
       record { place = p.0; key = p.1; at = p.2; own = own-message x p.1 p.3 }
     where
       low : (o p : ℕ) → is_eq (nat_cmp o p) ≡ true → o ≡ p
-      low o p t = go (nat_lt o p) (o == p) refl refl t
-        where
-          go : (b d : Bool) → nat_lt o p ≡ b → (o == p) ≡ d → is_eq (cond b Less (cond d Equal Greater)) ≡ true → o ≡ p
-          go true d e f z = cc
-          go false true e f z = eqb-true o p f
-          go false false e f z = cc
+      low o p t = grind (arith, nat_tests)
 
       lies : (k : Occurrence) → is_at (occurrence_cmp (occurrence_of x 0)) k ≡ true → range_contains occurrence_cmp (behind newest) Unbounded k ≡ true
       lies k t =

@@ -1,5 +1,5 @@
 -- The first present message after another one, once one letter more is tallied.
-use Rattle.std.proofs.Common.{◌≡◌, inl, inr, Bool, true, false, cond, List, ◌∷◌, Option, Some, None, pos, ◌-ℤ◌, refl, sym, ◌∙◌, subst}
+use Rattle.std.proofs.Common.{◌≡◌, inl, inr, Bool, true, false, cond, List, ◌∷◌, Option, Some, None, pos, ◌-ℤ◌, refl, sym, ◌∙◌, subst, arith}
 use Rattle.std.proofs.lemmas.Bool.{both_ways, cases_Bool, false_from_ne_true}
 use Rattle.virtual_time.specs.Law.{Order, IsOrder, same, lesser, IsPresent, is_present}
 use Rattle.virtual_time.specs.declared.letter.Letter.{Letter}
@@ -107,10 +107,7 @@ module _ {M : Type 0} (order : Order M) (O : IsOrder order) (newest : Option M) 
     ])
       where
         stays : (c d : Bool) → change_between c d ≡ Same → d ≡ c
-        stays true true e = refl
-        stays true false e = absurd (let z : ⊥ = cc in z)
-        stays false true e = absurd (let z : ⊥ = cc in z)
-        stays false false e = refl
+        stays c d e = grind arith
 
     pub next-more : change_by order l a ≡ BecamePresent → is_after order newest l.message ≡ true → present_after order newest b ≡ lesser order l.message (present_after order newest a)
     next-more e behind =
@@ -118,7 +115,4 @@ module _ {M : Type 0} (order : Order M) (O : IsOrder order) (newest : Option M) 
         after-more l.message a b others t.0 (here-now ∙ t.1) behind
       where
         toggled : (c d : Bool) → change_between c d ≡ BecamePresent → (c ≡ false) × (d ≡ true)
-        toggled true true e = absurd (let z : ⊥ = cc in z)
-        toggled true false e = absurd (let z : ⊥ = cc in z)
-        toggled false true e = (refl, refl)
-        toggled false false e = absurd (let z : ⊥ = cc in z)
+        toggled c d e = (grind arith, grind arith)

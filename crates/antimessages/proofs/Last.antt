@@ -1,5 +1,5 @@
 -- The last place of a message tells its count.
-use Rattle.std.proofs.Common.{◌≡◌, ℕ, suc, ◌+◌, ◌-◌, ◌<◌, ◌≤◌, ◌==◌, inl, inr, Bool, true, false, not, ◌&&◌, eq-eqb, cond, nat_lt, List, [], ◌∷◌, length, Option, Some, None, pos, ◌-ℤ◌, refl, sym, ◌∙◌, subst, arith}
+use Rattle.std.proofs.Common.{◌≡◌, ℕ, ◌+◌, ◌<◌, ◌≤◌, true, false, List, [], ◌∷◌, length, Option, Some, None, pos, ◌-ℤ◌, refl, sym, ◌∙◌, arith}
 use Rattle.std.specs.Option.{IsSome}
 use Rattle.std.specs.Ordering.{nat_cmp, ordering_then, is_lt, is_gt}
 use Rattle.std.specs.declared.cmp.Ordering.{Ordering}
@@ -7,13 +7,14 @@ use Rattle.std.specs.declared.cmp.Ordering.TheVariants.{Less, Equal, Greater}
 use Rattle.std.specs.Cmp.{IsTotalOrder, tied_itself}
 use Rattle.std.specs.Map.{lookup}
 use Rattle.std.specs.BTreeMap.{is_at}
-use Rattle.std.proofs.lemmas.Bool.{both_ways, cases_lt, lt-ltb, ltb-true}
+use Rattle.std.proofs.lemmas.Bool.{both_ways, lt-ltb}
+use Rattle.std.proofs.lemmas.Bool.Decides.{nat_tests}
 use Rattle.std.proofs.lemmas.Int.{ints}
 use Rattle.vlink.specs.declared.message.Message.{Message}
 use Rattle.virtual_time.specs.declared.letter.Sign.{Sign}
 use Rattle.virtual_time.specs.declared.letter.Sign.TheVariants.{Plus, Minus}
 use Rattle.vlink.specs.Order.{message_cmp, message_order}
-use Rattle.virtual_time.specs.Law.{pluses, minuses, is_plus, one_if, same}
+use Rattle.virtual_time.specs.Law.{pluses, minuses, same}
 use Rattle.virtual_time.proofs.Order.{one_if-le}
 use Rattle.antimessages.specs.declared.occurrence.Occurrence.{Occurrence}
 use Rattle.antimessages.specs.Counting.{signed_count}
@@ -24,67 +25,25 @@ some-of None h = refl
 some-of (Some x) h = absurd (h refl)
 
 pub at-zero : (p n : ℕ) → sign_at p n 0 ≡ None → pos p -ℤ pos n ≡ pos 0
-at-zero p n h = go (nat_lt 0 (p - n)) (nat_lt 0 (n - p)) refl refl h
-  where
-    go : (b c : Bool) → nat_lt 0 (p - n) ≡ b → nat_lt 0 (n - p) ≡ c → cond b (Some Plus) (cond c (Some Minus) None) ≡ None → pos p -ℤ pos n ≡ pos 0
-    go true c e f k = absurd (let z : ⊥ = cc in z)
-    go false true e f k = absurd (let z : ⊥ = cc in z)
-    go false false e f k =
-        elim (cases_lt 0 (p - n)) [
-          | inl t ↦ absurd (both_ways _ e (lt-ltb 0 (p - n) t))
-          | inr t ↦ elim (cases_lt 0 (n - p)) [ inl u ↦ absurd (both_ways _ f (lt-ltb 0 (n - p) u)) | inr u ↦ omega (arith, ints) ]
-        ]
+at-zero p n h = grind (arith, nat_tests, ints)
 
 -- the sign s at k and none above
 pub at-last : (s : Sign) (p n k : ℕ) → sign_at p n k ≡ Some s → sign_at p n (k + 1) ≡ None → pos p -ℤ pos n ≡ count_with s (k + 1)
-at-last s p n k h g = go (nat_lt k (p - n)) (nat_lt k (n - p)) (nat_lt (k + 1) (p - n)) (nat_lt (k + 1) (n - p)) refl refl refl refl h g
-  where
-    upper : (x : ℕ) → nat_lt (k + 1) x ≡ false → x ≤ k + 1
-    upper x e = elim (cases_lt (k + 1) x) [ inl t ↦ absurd (both_ways _ e (lt-ltb (k + 1) x t)) | inr t ↦ t ]
-
-    go : (b c d e : Bool) → nat_lt k (p - n) ≡ b → nat_lt k (n - p) ≡ c → nat_lt (k + 1) (p - n) ≡ d → nat_lt (k + 1) (n - p) ≡ e →
-        cond b (Some Plus) (cond c (Some Minus) None) ≡ Some s → cond d (Some Plus) (cond e (Some Minus) None) ≡ None → pos p -ℤ pos n ≡ count_with s (k + 1)
-    go b c true e i j u v x y = absurd (let z : ⊥ = cc in z)
-    go b c false true i j u v x y = absurd (let z : ⊥ = cc in z)
-    go true c false false i j u v x y =
-        let is_s : Plus ≡ s = cc in
-        subst (λ z. pos p -ℤ pos n ≡ count_with z (k + 1)) is_s (let a = ltb-true k (p - n) i in let b = upper (p - n) u in omega (arith, ints))
-    go false true false false i j u v x y =
-        let is_s : Minus ≡ s = cc in
-        subst (λ z. pos p -ℤ pos n ≡ count_with z (k + 1)) is_s (let a = ltb-true k (n - p) j in let b = upper (n - p) v in omega (arith, ints))
-    go false false false false i j u v x y = absurd (let z : ⊥ = cc in z)
+at-last Plus p n k h g = grind (arith, nat_tests, ints)
+at-last Minus p n k h g = grind (arith, nat_tests, ints)
 
 -- an ordinal that has a sign is below the number of letters
 pub within : (s : Sign) (p n k : ℕ) → sign_at p n k ≡ Some s → k < p + n
-within s p n k h = go (nat_lt k (p - n)) (nat_lt k (n - p)) refl refl h
-  where
-    go : (b c : Bool) → nat_lt k (p - n) ≡ b → nat_lt k (n - p) ≡ c → cond b (Some Plus) (cond c (Some Minus) None) ≡ Some s → k < p + n
-    go true c i j x = let a = ltb-true k (p - n) i in omega arith
-    go false true i j x = let a = ltb-true k (n - p) j in omega arith
-    go false false i j x = absurd (let z : ⊥ = cc in z)
+within s p n k h = grind (arith, nat_tests)
 
 pub at-most : (m : Message) (es : List (Occurrence × Sign)) → pluses message_order m (letters_of es) + minuses message_order m (letters_of es) ≤ length es
 at-most m [] = omega arith
-at-most m (e ∷ es) = go (is_plus e.1) (at-most m es)
-  where
-    go : (b : Bool) → pluses message_order m (letters_of es) + minuses message_order m (letters_of es) ≤ length es →
-        (one_if (b && same message_order m e.0.message) + pluses message_order m (letters_of es))
-        + (one_if (not b && same message_order m e.0.message) + minuses message_order m (letters_of es)) ≤ suc (length es)
-    go true i = let a = one_if-le (same message_order m e.0.message) in omega arith
-    go false i = let a = one_if-le (same message_order m e.0.message) in omega arith
+at-most m (e ∷ es) = let i = at-most m es in let a = one_if-le (same message_order m e.0.message) in grind arith
 
 module _ (T : IsTotalOrder message_cmp) (X : (a b : Message) → message_cmp a b ≡ Equal → a ≡ b) (m : Message) (top : ℕ) (es : List (Occurrence × Sign)) (st : AreTallied es) where
   -- the places of the message are not beyond the greatest one
   up_to : (k : ℕ) → k ≤ top → is_gt (occurrence_cmp (occurrence_of m k) (occurrence_of m top)) ≡ false
-  up_to k h = rw (tied_itself T m) (go (nat_lt k top) (k == top) refl refl)
-    where
-      go : (b c : Bool) → nat_lt k top ≡ b → (k == top) ≡ c → is_gt (cond b Less (cond c Equal Greater)) ≡ false
-      go true c e f = refl
-      go false true e f = refl
-      go false false e f = absurd (elim (cases_lt k top) [
-        | inl t ↦ both_ways _ e (lt-ltb k top t)
-        | inr t ↦ both_ways _ f (eq-eqb k top (omega arith))
-      ])
+  up_to k h = rw (tied_itself T m) (grind (arith, nat_tests))
 
   pub count-none : ((q : Occurrence) → is_gt (occurrence_cmp q (occurrence_of m top)) ≡ false → lookup (is_at (occurrence_cmp q)) es ≡ None) →
       signed_count message_order m (letters_of es) ≡ pos 0
