@@ -5,8 +5,6 @@ use Rattle.vlink.specs.Order.{message_order}
 use Rattle.vlink.specs.declared.message.Message.{Message}
 use Rattle.vlink.specs.declared.note.Note.{Note}
 use Rattle.virtual_time.specs.Law.{Rules, sent}
-use Rattle.reverse.specs.declared.sends.Sends.{Sends}
-use Rattle.reverse.specs.Plain.{Plain}
 use Rattle.reverse.specs.Rules.{is_before}
 use Rattle.antimessages.specs.Counting.{is_after}
 use Rattle.process_queues.specs.declared.past.Event.{Event}

@@ -1,22 +1,20 @@
 -- A letter of a message that does not come after all done events: whether that is done, and whether the letter makes it present or absent.
-use Rattle.std.proofs.Common.{◌≡◌, ℕ, zero, suc, ◌+◌, ◌≤◌, ◌<◌, ℤ, inl, inr, Bool, true, false, not, ◌&&◌, List, [], ◌∷◌, ◌++◌, length, map, drop, pos, ◌+ℤ◌, Option, Some, None, slice_get, slice_index_or, refl, sym, ap, ◌∙◌, subst, arith}
+use Rattle.std.proofs.Common.{◌≡◌, ℕ, ◌≤◌, ℤ, inl, inr, Bool, true, false, not, List, map, pos, ◌+ℤ◌, Some, slice_get, refl, sym, ap, ◌∙◌, subst, arith}
 use Rattle.std.specs.Prelude.{◌≢◌, IsTrue}
 use Rattle.std.proofs.lemmas.Int.{ints}
-use Rattle.std.proofs.lemmas.Bool.{false_from_ne_true, both_ways, cases_lt}
-use Rattle.std.proofs.lemmas.List.{drop-map, length-map}
-use Rattle.std.proofs.lemmas.List.Filters.{length-filter_both}
+use Rattle.std.proofs.lemmas.Bool.{both_ways, cases_lt}
 use Rattle.vlink.specs.declared.message.Message.{Message}
 use Rattle.vlink.specs.declared.note.Note.{Note}
-use Rattle.virtual_time.specs.Law.{Rules, IsOrder, one_if, same, times_in, IsIn, IsAscending, before, from_on, IsPresent, pluses, minuses, is_present, is_plus, Part, can_seal}
-use Rattle.virtual_time.proofs.Lists.{times-append, times-none, times-filter_out, in-head, in-cons}
-use Rattle.virtual_time.proofs.Order.{same-refl, less-asym}
-use Rattle.virtual_time.proofs.Ascending.{ascending-once, ascending-filter}
-use Rattle.virtual_time.proofs.Rolling.{roll-split, roll-undone}
-use Rattle.virtual_time.proofs.Presence.{present-true, present-from}
+use Rattle.virtual_time.specs.declared.letter.Sign.{Sign}
+use Rattle.virtual_time.specs.declared.letter.Sign.TheVariants.{Plus, Minus}
+use Rattle.virtual_time.specs.Law.{Rules, one_if, same, times_in, IsIn, IsPresent, pluses, minuses, is_plus, Part, can_seal}
+use Rattle.virtual_time.proofs.Lists.{in-head}
+use Rattle.virtual_time.proofs.Ascending.{ascending-once}
 use Rattle.vlink.specs.Order.{message_order}
 use Rattle.vlink.specs.Letters.{Letter}
 use Rattle.antimessages.proofs.After.{first_after-is}
-use Rattle.antimessages.specs.Counting.{signed_count, change_by, change_between, is_after, present_after}
+use Rattle.antimessages.proofs.Changes.{change-plus_none, change-plus_some, change-minus_one, change-minus_other}
+use Rattle.antimessages.specs.Counting.{signed_count, change_by, is_after, present_after}
 use Rattle.antimessages.specs.declared.tally.Change.TheVariants.{Same}
 use Rattle.process_queues.specs.declared.past.Event.{Event}
 use Rattle.process_queues.specs.Past.{newest_of}
@@ -26,87 +24,6 @@ use Rattle.process_queues.proofs.Counting.{OfMessages, one-left, not-one-left}
 use Rattle.process_queues.proofs.Next.{here, there, after-not_done, not_done-after, after-here}
 use Rattle.process_queues.proofs.Reading.{first-done}
 use Rattle.process_queues.proofs.Rolls.{done-messages}
-
--- what a letter makes of its message, by whether that is present before and afterwards
-module _ (l : Letter) (tally : List Letter) (b : Bool) (was : is_present message_order tally l.message ≡ b) where
-  pub change-none : is_present message_order (l ∷ tally) l.message ≡ b → change_by message_order l tally ≡ Same
-  change-none now = ap (λ z. change_between z (is_present message_order (l ∷ tally) l.message)) was ∙ (ap (change_between b) now ∙ both b)
-    where
-      both : (b : Bool) → change_between b b ≡ Same
-      both true = refl
-      both false = refl
-
-  pub change-some : is_present message_order (l ∷ tally) l.message ≡ not b → change_by message_order l tally ≢ Same
-  change-some now same = other b (sym (ap (λ z. change_between z (is_present message_order (l ∷ tally) l.message)) was ∙ ap (change_between b) now) ∙ same)
-    where
-      other : (b : Bool) → change_between b (not b) ≡ Same → ⊥
-      other true e = cc
-      other false e = cc
-
-module _ (O : IsOrder message_order) (tally : List Letter) (m : Message) where
-  pub is-absent : pluses message_order m tally ≤ minuses message_order m tally → is_present message_order tally m ≡ false
-  is-absent h = false_from_ne_true _ (λ t. let k = present-true message_order O tally m t in omega arith)
-
--- a letter, by how often its message is done and how many count beside the done events
-module _ (O : IsOrder message_order) {K : Type 0} (l : Letter) (t : List Letter) (done : List (Event K)) where
-  abbrev all : List Letter
-  all = with_done t done
-
-  brings : is_plus l.sign ≡ true → (pluses message_order l.message (l ∷ all) ≡ pluses message_order l.message all + 1)
-      × (minuses message_order l.message (l ∷ all) ≡ minuses message_order l.message all)
-  brings e =
-      let a = ap one_if (λ i. e i && same-refl message_order O l.message i) in
-      let b = ap one_if (λ i. not (e i) && same-refl message_order O l.message i) in
-      (omega (arith, a), omega (arith, b))
-
-  takes : is_plus l.sign ≡ false → (pluses message_order l.message (l ∷ all) ≡ pluses message_order l.message all)
-      × (minuses message_order l.message (l ∷ all) ≡ minuses message_order l.message all + 1)
-  takes e =
-      let a = ap one_if (λ i. e i && same-refl message_order O l.message i) in
-      let b = ap one_if (λ i. not (e i) && same-refl message_order O l.message i) in
-      (omega (arith, a), omega (arith, b))
-
-  -- it brings a message that is not done, or takes back one that is, and nothing else counts
-  pub toggled-zero : (b : Bool) → is_plus l.sign ≡ b → times O l.message done ≡ one_if (not b) → signed_count message_order l.message t ≡ pos 0 →
-      change_by message_order l all ≢ Same
-  toggled-zero true e d z =
-      let c = with_done-count O l.message t done in
-      let n = brings e in
-      change-some l all false (is-absent O all l.message (omega (arith, ints))) (present-from message_order O (l ∷ all) l.message (omega (arith, ints, n.0, n.1)))
-  toggled-zero false e d z =
-      let c = with_done-count O l.message t done in
-      let n = takes e in
-      change-some l all true (present-from message_order O all l.message (omega (arith, ints))) (is-absent O (l ∷ all) l.message (omega (arith, ints, n.0, n.1)))
-
-  -- such a message, of which something else counts
-  pub kept-other : (b : Bool) → is_plus l.sign ≡ b → times O l.message done ≡ one_if (not b) → signed_count message_order l.message t ≢ pos 0 →
-      (times O l.message done ≡ 1 → IsPresent message_order all l.message) →
-      (times O l.message done ≡ 0 → pluses message_order l.message all ≤ minuses message_order l.message all) → change_by message_order l all ≡ Same
-  kept-other true e d z some none =
-      let c = with_done-count O l.message t done in
-      let n = brings e in
-      let w = none d in
-      let x : pluses message_order l.message all ≢ minuses message_order l.message all = λ k. z (omega (arith, ints)) in
-      change-none l all false (is-absent O all l.message w) (is-absent O (l ∷ all) l.message (omega (arith, n.0, n.1)))
-  kept-other false e d z some none =
-      let c = with_done-count O l.message t done in
-      let n = takes e in
-      let w = some d in
-      let x : pluses message_order l.message all ≢ minuses message_order l.message all + 1 = λ k. z (omega (arith, ints)) in
-      change-none l all true (present-from message_order O all l.message w) (present-from message_order O (l ∷ all) l.message (omega (arith, n.0, n.1)))
-
-  -- it brings a message that is done, or takes back one that is not
-  pub kept-more : (b : Bool) → is_plus l.sign ≡ b → times O l.message done ≡ one_if b →
-      (times O l.message done ≡ 1 → IsPresent message_order all l.message) →
-      (times O l.message done ≡ 0 → pluses message_order l.message all ≤ minuses message_order l.message all) → change_by message_order l all ≡ Same
-  kept-more true e d some none =
-      let n = brings e in
-      let w = some d in
-      change-none l all true (present-from message_order O all l.message w) (present-from message_order O (l ∷ all) l.message (omega (arith, n.0, n.1)))
-  kept-more false e d some none =
-      let n = takes e in
-      let w = none d in
-      change-none l all false (is-absent O all l.message w) (is-absent O (l ∷ all) l.message (omega (arith, n.0, n.1)))
 
 -- a message that does not come after all done events is present just where it is done
 module _ {S K : Type 0} {r : Rules Message S K Note} (R : OfMessages r) {is_value : S → Message → Type 0} {opening : S} {part : Part Message S} {q : Queues S K}
@@ -144,23 +61,35 @@ module _ {S K : Type 0} {r : Rules Message S K Note} (R : OfMessages r) {is_valu
 -- what a letter makes of its message, which does not come after all done events
 module _ {S K : Type 0} {r : Rules Message S K Note} (R : OfMessages r) {is_value : S → Message → Type 0} {opening : S} {part : Part Message S} {q : Queues S K}
     (h : StandsFor r is_value opening part q) (l : Letter) (t : List Letter) (e : q.tally ≡ with_done t q.past.done) where
-  some-here : times R.messages l.message q.past.done ≡ 1 → IsPresent message_order (with_done t q.past.done) l.message
-  some-here d = subst (λ ls. IsPresent message_order ls l.message) e (done-present R h l.message d)
+  counted : signed_count message_order l.message q.tally ≡ signed_count message_order l.message t +ℤ pos (times R.messages l.message q.past.done)
+  counted = ap (signed_count message_order l.message) e ∙ with_done-count R.messages l.message t q.past.done
 
-  none-here : is_after r.order (newest_of (map (λ e. e.message) q.past.done)) l.message ≡ false → times R.messages l.message q.past.done ≡ 0 →
-      pluses message_order l.message (with_done t q.past.done) ≤ minuses message_order l.message (with_done t q.past.done)
-  none-here late d = subst (λ ls. pluses message_order l.message ls ≤ minuses message_order l.message ls) e (late-absent R h l.message late d)
+  -- it brings a message that is not done, or takes back one that is, and nothing else counts
+  pub toggles-it : times R.messages l.message q.past.done ≡ one_if (not (is_plus l.sign)) → signed_count message_order l.message t ≡ pos 0 →
+      change_by message_order l q.tally ≢ Same
+  toggles-it k z same = go l.sign refl k
+    where
+      go : (s : Sign) → l.sign ≡ s → times R.messages l.message q.past.done ≡ one_if (not (is_plus s)) → ⊥
+      go Plus i d = let c = counted in let bad = sym (change-plus_none message_order R.messages l q.tally i (omega (arith, ints))) ∙ same in cc
+      go Minus i d = let c = counted in let bad = sym (change-minus_one message_order R.messages l q.tally i (omega (arith, ints))) ∙ same in cc
 
-  pub toggles-it : times R.messages l.message q.past.done ≡ one_if (not (is_plus l.sign)) → signed_count message_order l.message t ≡ pos 0 → change_by message_order l q.tally ≢ Same
-  toggles-it k z = subst (λ ls. change_by message_order l ls ≢ Same) (sym e) (toggled-zero R.messages l t q.past.done (is_plus l.sign) refl k z)
+  -- such a message, of which something else counts
+  pub keeps-it : times R.messages l.message q.past.done ≡ one_if (not (is_plus l.sign)) → signed_count message_order l.message t ≢ pos 0 →
+      change_by message_order l q.tally ≡ Same
+  keeps-it k n = go l.sign refl k
+    where
+      go : (s : Sign) → l.sign ≡ s → times R.messages l.message q.past.done ≡ one_if (not (is_plus s)) → change_by message_order l q.tally ≡ Same
+      go Plus i d = let c = counted in change-plus_some message_order R.messages l q.tally i (λ x. n (omega (arith, ints)))
+      go Minus i d = let c = counted in change-minus_other message_order R.messages l q.tally i (λ x. n (omega (arith, ints)))
 
-  pub keeps-it : is_after r.order (newest_of (map (λ e. e.message) q.past.done)) l.message ≡ false → times R.messages l.message q.past.done ≡ one_if (not (is_plus l.sign)) →
-      signed_count message_order l.message t ≢ pos 0 → change_by message_order l q.tally ≡ Same
-  keeps-it late k z = ap (change_by message_order l) e ∙ kept-other R.messages l t q.past.done (is_plus l.sign) refl k z some-here (none-here late)
-
+  -- it brings a message that is done, or takes back one that is not
   pub keeps-done : is_after r.order (newest_of (map (λ e. e.message) q.past.done)) l.message ≡ false → times R.messages l.message q.past.done ≡ one_if (is_plus l.sign) →
       change_by message_order l q.tally ≡ Same
-  keeps-done late k = ap (change_by message_order l) e ∙ kept-more R.messages l t q.past.done (is_plus l.sign) refl k some-here (none-here late)
+  keeps-done late k = go l.sign refl k
+    where
+      go : (s : Sign) → l.sign ≡ s → times R.messages l.message q.past.done ≡ one_if (is_plus s) → change_by message_order l q.tally ≡ Same
+      go Plus i d = let p = done-present R h l.message d in change-plus_some message_order R.messages l q.tally i (λ x. omega (arith, ints))
+      go Minus i d = let p = late-absent R h l.message late d in change-minus_other message_order R.messages l q.tally i (λ x. omega (arith, ints))
 
 -- what counts beside the done events
 module _ {S K : Type 0} {r : Rules Message S K Note} (R : OfMessages r) {is_value : S → Message → Type 0} {opening : S} {part : Part Message S} {q : Queues S K}

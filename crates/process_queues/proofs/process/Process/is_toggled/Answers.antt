@@ -9,7 +9,7 @@ use Rattle.process_queues.proofs.Counting.{of-messages}
 use Rattle.process_queues.proofs.Rolls.{done-ascending}
 use Rattle.process_queues.proofs.Stragglers.{toggles-it, keeps-it, keeps-done}
 use Rattle.process_queues.proofs.process.Process.is_toggled.Given.{Over}
-use Rattle.process_queues.proofs.process.Process.is_toggled.Goals.{Joined-letter, in-Plus, in-Minus}
+use Rattle.process_queues.proofs.process.Process.is_toggled.Goals.{in-Plus, in-Minus}
 use Rattle.process_queues.proofs.process.Process.is_toggled.Goals as goal
 
 pub has_done-requires : goal.has_done-requires
@@ -26,10 +26,6 @@ apart g c = elim c.match-letter.branch [
   | in-Minus w ↦ w.has_done-is_other.ensures.done (sym w.is_other-is ∙ c.if-is_other.true) ∙ sym (ap (λ s. one_if (not (is_plus s))) w.in-Minus.is)
 ]
 
--- it does not come after all done events
-late : (g : Over) (c : Joined-letter g) → is_after message_order (newest_of (map (λ e. e.message) c.self.inside.past.done)) c.args.letter.now.message ≡ false
-late g c = subst (λ q. is_after message_order (newest_of (map (λ e. e.message) q.queues.past.done)) c.args.letter.now.message ≡ false) (sym c.self.view_is) c.requires
-
 pub returns-then-is_other-clause-toggled : goal.returns-then-is_other-clause-toggled
 returns-then-is_other-clause-toggled g c = λ zero same.
     let R = of-messages g.R.Reversible.plain g.R.Actor.counter c.actor_rules.ensures.order c.actor_rules.ensures.undoes in
@@ -40,7 +36,7 @@ pub returns-then-is_other-clause-same : goal.returns-then-is_other-clause-same
 returns-then-is_other-clause-same g c = λ some.
     let R = of-messages g.R.Reversible.plain g.R.Actor.counter c.actor_rules.ensures.order c.actor_rules.ensures.undoes in
     subst (λ q. change_by message_order c.args.letter.now q.queues.tally ≡ Same) c.self.view_is
-    (keeps-it R c.self.invariant.2 c.args.letter.now c.self.inside.tally refl (late g (goal.at.returns-then-is_other-clause-same g c).Joined-letter) (apart g c) (λ z. let t = c.is_zero.ensures.1 z in cc))
+    (keeps-it R c.self.invariant.2 c.args.letter.now c.self.inside.tally refl (apart g c) (λ z. let t = c.is_zero.ensures.1 z in cc))
 
 pub returns-else-is_other-clause-same : goal.returns-else-is_other-clause-same
 returns-else-is_other-clause-same g c = λ other.
@@ -50,5 +46,6 @@ returns-else-is_other-clause-same g c = λ other.
       | in-Plus w ↦ w.has_done.ensures.done (not-false _ (sym w.is_other-is ∙ other)) ∙ sym (ap (λ s. one_if (is_plus s)) w.in-Plus.is)
       | in-Minus w ↦ w.has_done-is_other.ensures.not_done (sym w.is_other-is ∙ other) ∙ sym (ap (λ s. one_if (is_plus s)) w.in-Minus.is)
     ] in
+    let late = subst (λ q. is_after message_order (newest_of (map (λ e. e.message) q.queues.past.done)) l.message ≡ false) (sym c.self.view_is) c.requires in
     subst (λ q. change_by message_order l q.queues.tally ≡ Same) c.self.view_is
-    (keeps-done R c.self.invariant.2 l c.self.inside.tally refl (late g (goal.at.returns-else-is_other-clause-same g c).Joined-letter) times)
+    (keeps-done R c.self.invariant.2 l c.self.inside.tally refl late times)
