@@ -94,6 +94,17 @@ module _ (O : IsOrder message_order) {K : Type 0} where
       (λ m a. present-same_count message_order m t (with_done t done)
       (let b = with_done-count m t done in let c = none m a in omega (arith, ints)))
 
+-- an event at a place is one of them
+inside-at : (O : IsOrder message_order) {K : Type 0} (es : List (Event K)) (k : ℕ) (e : Event K) → k < length es → e ≡ slice_index_or es k e →
+    IsIn message_order e.message (map (λ (x : Event K). x.message) es)
+inside-at O {K} es k e h at =
+    let behind = map (λ (x : Event K). x.message) (drop (suc k) es) in
+    let halves = ap (map (λ (x : Event K). x.message)) (sym (take-append-drop k es)) ∙
+    (map-append (λ (x : Event K). x.message) (take k es) (drop k es) ∙ ap (λ ds. map (λ (x : Event K). x.message) (take k es) ++ map (λ (x : Event K). x.message) ds) (drop-one es k e h at)) in
+    let a = ap (times_in message_order e.message) halves ∙ times-append message_order O e.message (map (λ (x : Event K). x.message) (take k es)) (e.message ∷ behind) in
+    let b = in-head message_order O e.message behind in
+    omega arith
+
 -- the first of the events from a place on is taken out of the letters that count
 pub taken-next : (O : IsOrder message_order) {K : Type 0} (es : List (Event K)) (k : ℕ) (e : Event K) → k < length es → e ≡ slice_index_or es k e →
     (rest old new : List Letter) → HaveSameCounts message_order old (map (λ (x : Event K). plus_of x.message) (drop k es) ++ rest) →
@@ -111,15 +122,6 @@ taken-next O {K} es k e h at rest old new counts not_owed less_by m = less (one_
     split : (x : Message) → signed_count message_order x old ≡ signed_count message_order x (plus_of e.message ∷ (map (λ (y : Event K). plus_of y.message) behind ++ rest))
     split x = counts x ∙ ap (λ ds. signed_count message_order x (map (λ (y : Event K). plus_of y.message) ds ++ rest)) there
 
-    inside : IsIn message_order e.message (map (λ (x : Event K). x.message) es)
-    inside =
-        let halves = ap (map (λ (x : Event K). x.message)) (sym (take-append-drop k es)) ∙
-        (map-append (λ (x : Event K). x.message) (take k es) (drop k es) ∙ ap (λ ds. map (λ (x : Event K). x.message) (take k es) ++ map (λ (x : Event K). x.message) ds) there) in
-        let a = ap (times_in message_order e.message) halves ∙
-        times-append message_order O e.message (map (λ (x : Event K). x.message) (take k es)) (e.message ∷ map (λ (x : Event K). x.message) behind) in
-        let b = in-head message_order O e.message (map (λ (x : Event K). x.message) behind) in
-        omega arith
-
     present : IsPresent message_order old e.message
     present =
         let s = same-refl message_order O e.message in
@@ -128,28 +130,23 @@ taken-next O {K} es k e h at rest old new counts not_owed less_by m = less (one_
         let c = pluses-append message_order O e.message (map (λ (x : Event K). plus_of x.message) behind) rest in
         let d = minuses-append message_order O e.message (map (λ (x : Event K). plus_of x.message) behind) rest in
         let f = minuses-done e.message behind in
-        let i = not_owed inside in
+        let i = not_owed (inside-at O es k e h at) in
         let j = split e.message in
         omega (arith, ints)
 
     less : (a b p n q o : ℕ) → pos (a + p) -ℤ pos (b + n) ≡ pos (a + q) -ℤ pos (b + o) → pos p -ℤ pos n ≡ pos q -ℤ pos o
     less a b p n q o t = omega (arith, ints)
 
-module _ {S K : Type 0} (r : Rules Message S K Note) (R : OfMessages r) where
-  -- how often a message is in a list, by the rules of messages alone
-  pub times-messages : (m : Message) (ms : List Message) → times_in r.order m ms ≡ times_in message_order m ms
-  times-messages m ms = ap (λ o. times_in o m ms) R.order_is
+-- how often a message is in a list, by the rules of messages alone
+pub times-messages : {S K : Type 0} (r : Rules Message S K Note) (R : OfMessages r) (m : Message) (ms : List Message) → times_in r.order m ms ≡ times_in message_order m ms
+times-messages r R m ms = ap (λ o. times_in o m ms) R.order_is
 
-  -- a done event at a place: its message is done once
-  pub one-at : (t : List Letter) (es : List (Event K)) → IsAscending r.order (map (λ (e : Event K). e.message) es) → (k : ℕ) (e : Event K) → k < length es → e ≡ slice_index_or es k e →
-      signed_count message_order e.message (with_done t es) ≡ signed_count message_order e.message t +ℤ pos 1
-  one-at t es up k e h at =
-      let m = e.message in
-      let halves = ap (map (λ (x : Event K). x.message)) (sym (take-append-drop k es)) ∙
-      (map-append (λ (x : Event K). x.message) (take k es) (drop k es) ∙ ap (λ ds. map (λ (x : Event K). x.message) (take k es) ++ map (λ (x : Event K). x.message) ds) (drop-one es k e h at)) in
-      let a = ap (times_in r.order m) halves ∙ times-append r.order R.order m (map (λ (x : Event K). x.message) (take k es)) (m ∷ map (λ (x : Event K). x.message) (drop (suc k) es)) in
-      let b = in-head r.order R.order m (map (λ (x : Event K). x.message) (drop (suc k) es)) in
-      let c = ascending-once r.order R.order m (map (λ (x : Event K). x.message) es) up in
-      let d = times-messages m (map (λ (x : Event K). x.message) es) in
-      let one : times R.messages m es ≡ 1 = omega arith in
-      with_done-count R.messages m t es ∙ ap (λ n. signed_count message_order m t +ℤ pos n) one
+-- a done event at a place: its message is done once
+pub one-at : {S K : Type 0} {r : Rules Message S K Note} (R : OfMessages r) (t : List Letter) (es : List (Event K)) → IsAscending r.order (map (λ (e : Event K). e.message) es) →
+    (k : ℕ) (e : Event K) → k < length es → e ≡ slice_index_or es k e → signed_count message_order e.message (with_done t es) ≡ signed_count message_order e.message t +ℤ pos 1
+one-at {r = r} R t es up k e h at =
+    let b = inside-at R.messages es k e h at in
+    let c = ascending-once r.order R.order e.message (map (λ (x : Event _). x.message) es) up in
+    let d = times-messages r R e.message (map (λ (x : Event _). x.message) es) in
+    let one : times R.messages e.message es ≡ 1 = omega arith in
+    with_done-count R.messages e.message t es ∙ ap (λ n. signed_count message_order e.message t +ℤ pos n) one

@@ -1,7 +1,6 @@
 -- How many done events can be committed, by the rules of an actor and by those of messages alone.
-use Rattle.std.proofs.Common.{◌≡◌, ℕ, zero, suc, ◌+◌, ◌≤◌, ◌==◌, Bool, true, false, ◌&&◌, cond, if◌then◌else◌, nat_lt, List, [], ◌∷◌, map, take, pos, ◌-ℤ◌, refl, sym, ap, ◌∙◌, arith, eq-eqb}
-use Rattle.std.specs.Cmp.{both_ways}
-use Rattle.std.proofs.lemmas.Bool.{eqb-true}
+use Rattle.std.proofs.Common.{◌≡◌, ℕ, zero, suc, ◌+◌, ◌≤◌, ◌==◌, ◌&&◌, if◌then◌else◌, nat_lt, List, [], ◌∷◌, map, take, pos, ◌-ℤ◌, refl, sym, ap, ◌∙◌, arith}
+use Rattle.std.proofs.lemmas.Bool.Decides.{nat_tests}
 use Rattle.std.proofs.lemmas.Int.{ints}
 use Rattle.vlink.specs.declared.message.Message.{Message}
 use Rattle.vlink.specs.declared.note.Note.{Note}
@@ -17,17 +16,11 @@ use Rattle.process_queues.proofs.Rolls.{done-messages}
 pub committable-within : {M : Type 0} (order : Order M) (g : ℕ) (tally : List (Letter M)) (n : ℕ) (ms : List M) → committable order g tally (take n ms) ≤ n
 committable-within order g tally zero ms = omega arith
 committable-within order g tally (suc n) [] = omega arith
-committable-within order g tally (suc n) (m ∷ ms) = go (can_commit order g tally m) (committable-within order g tally n ms)
-  where
-    go : (b : Bool) → committable order g tally (take n ms) ≤ n → cond b (suc (committable order g tally (take n ms))) 0 ≤ suc n
-    go true h = omega arith
-    go false h = omega arith
+committable-within order g tally (suc n) (m ∷ ms) = let i = committable-within order g tally n ms in grind arith
 
 -- one letter more of one sign than of the other, by the difference of their numbers
 same-one : (p q p' q' : ℕ) → pos p -ℤ pos q ≡ pos p' -ℤ pos q' → (p == q + 1) ≡ (p' == q' + 1)
-same-one p q p' q' e = both_ways (p == q + 1) (p' == q' + 1)
-    (λ t. eq-eqb p' (q' + 1) (let k = eqb-true p (q + 1) t in omega (arith, ints)))
-    (λ t. eq-eqb p (q + 1) (let k = eqb-true p' (q' + 1) t in omega (arith, ints)))
+same-one p q p' q' e = grind (arith, nat_tests, ints)
 
 can_commit-agree : (g : ℕ) (a b : List (Letter Message)) → HaveSameCounts message_order a b → (m : Message) → can_commit message_order g a m ≡ can_commit message_order g b m
 can_commit-agree g a b h m =

@@ -1,7 +1,7 @@
 -- The signed counts of a process, by the rules of its actor and by the order of messages.
-use Rattle.std.proofs.Common.{◌≡◌, ℕ, ◌+◌, ◌==◌, Bool, true, false, not, ◌&&◌, List, ◌∷◌, pos, ◌-ℤ◌, refl, ap, ◌∙◌, arith, eqb-true, eq-eqb}
+use Rattle.std.proofs.Common.{◌≡◌, ℕ, ◌+◌, ◌==◌, Bool, true, false, not, ◌&&◌, List, ◌∷◌, pos, ◌-ℤ◌, refl, ap, ◌∙◌, arith}
 use Rattle.std.specs.Prelude.{◌≢◌}
-use Rattle.std.proofs.lemmas.Bool.{false_from_ne_true}
+use Rattle.std.proofs.lemmas.Bool.Decides.{nat_tests}
 use Rattle.std.proofs.lemmas.Int.{ints}
 use Rattle.vlink.specs.declared.message.Message.{Message}
 use Rattle.vlink.specs.declared.note.Note.{Note}
@@ -67,10 +67,8 @@ module _ {S K : Type 0} (r : Rules Message S K Note) (R : OfMessages r) where
   -- the count is just 1
   pub one-left : (m : Message) (a b : List Letter) → HaveSameCounts message_order a b → signed_count message_order m b ≡ pos 1 →
       (pluses r.order m a == minuses r.order m a + 1) ≡ true
-  one-left m a b h e =
-      ap (λ o. pluses o m a == minuses o m a + 1) R.order_is ∙ eq-eqb _ _ (let i = h m in omega (arith, ints))
+  one-left m a b h e = ap (λ o. pluses o m a == minuses o m a + 1) R.order_is ∙ (let i = h m in grind (arith, nat_tests, ints))
 
   pub not-one-left : (m : Message) (a b : List Letter) → HaveSameCounts message_order a b → signed_count message_order m b ≢ pos 1 →
       (pluses r.order m a == minuses r.order m a + 1) ≡ false
-  not-one-left m a b h n = ap (λ o. pluses o m a == minuses o m a + 1) R.order_is ∙
-      false_from_ne_true _ (λ t. n (let k = eqb-true (pluses message_order m a) (minuses message_order m a + 1) t in let i = h m in omega (arith, ints)))
+  not-one-left m a b h n = ap (λ o. pluses o m a == minuses o m a + 1) R.order_is ∙ (let i = h m in grind (arith, nat_tests, ints))

@@ -1,5 +1,5 @@
 -- The events of a queue from a place on, and how many of them can be committed.
-use Rattle.std.proofs.Common.{◌≡◌, ℕ, suc, ◌+◌, ◌<◌, false, true, if◌then◌else◌, List, ◌∷◌, ◌∙◌, map, take, drop, length, get_or, slice_index_or, sym, ap, arith}
+use Rattle.std.proofs.Common.{◌≡◌, ℕ, suc, ◌+◌, ◌<◌, Bool, if◌then◌else◌, List, ◌∷◌, ◌∙◌, map, take, drop, length, get_or, slice_index_or, sym, ap, arith}
 use Rattle.std.proofs.lemmas.List.{length-take, length-map, get_or-take, get_or-map}
 use Rattle.std.proofs.Math.Seq.{drop-cons}
 use Rattle.vlink.specs.declared.message.Message.{Message}
@@ -28,28 +28,10 @@ from-place f es most n e i h p =
     next : suc n ≡ n + 1
     next = omega arith
 
-module _ {A : Type 0} (f : A → Message) (g : ℕ) (tally : List Letter) (es : List A) (most n : ℕ) (e : A) (i : n < most) (h : n < length es) (p : e ≡ slice_index_or es n e) where
-  pub none-from : false ≡ can_commit message_order g tally (f e) → committable message_order g tally (drop n (take most (map f es))) ≡ 0
-  none-from c = go
-    where
-      a : committable message_order g tally (drop n (take most (map f es))) ≡ committable message_order g tally (f e ∷ drop (n + 1) (take most (map f es)))
-      a = ap (committable message_order g tally) (from-place f es most n e i h p)
-
-      b : committable message_order g tally (f e ∷ drop (n + 1) (take most (map f es))) ≡ 0
-      b = ap (λ can. if can then suc (committable message_order g tally (drop (n + 1) (take most (map f es)))) else 0) (sym c)
-
-      go : committable message_order g tally (drop n (take most (map f es))) ≡ 0
-      go = omega (arith, a, b)
-
-  pub one-from : true ≡ can_commit message_order g tally (f e) →
-      committable message_order g tally (drop n (take most (map f es))) ≡ committable message_order g tally (drop (n + 1) (take most (map f es))) + 1
-  one-from c = go
-    where
-      a : committable message_order g tally (drop n (take most (map f es))) ≡ committable message_order g tally (f e ∷ drop (n + 1) (take most (map f es)))
-      a = ap (committable message_order g tally) (from-place f es most n e i h p)
-
-      b : committable message_order g tally (f e ∷ drop (n + 1) (take most (map f es))) ≡ suc (committable message_order g tally (drop (n + 1) (take most (map f es))))
-      b = ap (λ can. if can then suc (committable message_order g tally (drop (n + 1) (take most (map f es)))) else 0) (sym c)
-
-      go : committable message_order g tally (drop n (take most (map f es))) ≡ committable message_order g tally (drop (n + 1) (take most (map f es))) + 1
-      go = omega (arith, a, b)
+-- how many of the first ones can be committed from place n on, by whether the one at that place can be
+pub commits-from : {A : Type 0} (f : A → Message) (g : ℕ) (tally : List Letter) (es : List A) (most n : ℕ) (e : A) → n < most → n < length es → e ≡ slice_index_or es n e →
+    (can : Bool) → can ≡ can_commit message_order g tally (f e) →
+    committable message_order g tally (drop n (take most (map f es))) ≡ if can then suc (committable message_order g tally (drop (n + 1) (take most (map f es)))) else 0
+commits-from f g tally es most n e i h p can c =
+    ap (committable message_order g tally) (from-place f es most n e i h p) ∙
+    ap (λ can. if can then suc (committable message_order g tally (drop (n + 1) (take most (map f es)))) else 0) (sym c)

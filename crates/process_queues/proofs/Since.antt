@@ -1,5 +1,5 @@
 -- What the newest events sent, up to one that comes before a message.
-use Rattle.std.proofs.Common.{◌≡◌, ℕ, zero, suc, ◌+◌, ◌≤◌, ◌<◌, Bool, true, false, cond, List, [], ◌∷◌, ◌++◌, length, map, take, reverse, slice_index_or, Some, refl, sym, ap, ◌∙◌, arith}
+use Rattle.std.proofs.Common.{◌≡◌, ℕ, zero, suc, ◌+◌, ◌≤◌, ◌<◌, false, cond, List, [], ◌∷◌, ◌++◌, length, map, take, reverse, slice_index_or, Some, refl, sym, ap, ◌∙◌, arith}
 use Rattle.std.proofs.lemmas.List.{length-append, map-append, reverse-append}
 use Rattle.vlink.specs.Order.{message_order}
 use Rattle.vlink.specs.declared.message.Message.{Message}
@@ -18,11 +18,7 @@ sent_by (e ∷ es) = e.sent + sent_by es
 
 since-few : {K : Type 0} (m : Message) (es : List (Event K)) → sent_since m es ≤ sent_by es
 since-few m [] = omega arith
-since-few m (e ∷ es) = go (is_before e.message m) (since-few m es)
-  where
-    go : (b : Bool) → sent_since m es ≤ sent_by es → cond b 0 (e.sent + sent_since m es) ≤ e.sent + sent_by es
-    go true k = omega arith
-    go false k = omega arith
+since-few m (e ∷ es) = let k = since-few m es in grind arith
 
 by-append : {K : Type 0} (xs ys : List (Event K)) → sent_by (xs ++ ys) ≡ sent_by xs + sent_by ys
 by-append [] ys = omega arith

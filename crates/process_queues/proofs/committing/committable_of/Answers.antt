@@ -1,9 +1,8 @@
 use Rattle.std.proofs.Common.{arith}
-use Rattle.reverse.specs.Rules.{rules_of}
 use Rattle.process_queues.specs.Queues.{with_done}
 use Rattle.process_queues.proofs.Beside.{one-at}
 use Rattle.process_queues.proofs.Counting.{of-messages}
-use Rattle.process_queues.proofs.Places.{none-from, one-from}
+use Rattle.process_queues.proofs.Places.{commits-from}
 use Rattle.process_queues.proofs.committing.committable_of.Goals as goal
 
 pub returns-then-not-can_commit : goal.returns-then-not-can_commit
@@ -13,12 +12,11 @@ returns-then-not-can_commit g c =
     let t = c.loop-place-test.true in
     let i = c.loop-place.invariant in
     let es = c.args.events.now.items in
-    let r = rules_of g.R.Reversible.plain g.R.Actor.counter in
     let R = of-messages g.R.Reversible.plain g.R.Actor.counter c.actor_rules.ensures.order c.actor_rules.ensures.undoes in
     let can = c.if-not-can_commit.ensures (with_done c.args.tally.now es)
-    (one-at r R c.args.tally.now es c.requires c.loop-place.place c.index.result.now (omega arith) c.index.ensures) in
-    let z = none-from (λ e. e.message) c.args.moment (with_done c.args.tally.now es) es c.args.most c.loop-place.place c.index.result.now
-    (omega arith) (omega arith) c.index.ensures can in
+    (one-at R c.args.tally.now es c.requires c.loop-place.place c.index.result.now (omega arith) c.index.ensures) in
+    let z = commits-from (λ e. e.message) c.args.moment (with_done c.args.tally.now es) es c.args.most c.loop-place.place c.index.result.now
+    (omega arith) (omega arith) c.index.ensures _ can in
     omega arith
 
 pub loop-place-preserved : goal.loop-place-preserved
@@ -28,10 +26,9 @@ loop-place-preserved g c =
     let t = c.loop-place-test.true in
     let i = c.loop-place.invariant in
     let es = c.args.events.now.items in
-    let r = rules_of g.R.Reversible.plain g.R.Actor.counter in
     let R = of-messages g.R.Reversible.plain g.R.Actor.counter c.actor_rules.ensures.order c.actor_rules.ensures.undoes in
     let can = c.if-not-can_commit.ensures (with_done c.args.tally.now es)
-    (one-at r R c.args.tally.now es c.requires c.loop-place.place c.index.result.now (omega arith) c.index.ensures) in
-    let z = one-from (λ e. e.message) c.args.moment (with_done c.args.tally.now es) es c.args.most c.loop-place.place c.index.result.now
-    (omega arith) (omega arith) c.index.ensures can in
+    (one-at R c.args.tally.now es c.requires c.loop-place.place c.index.result.now (omega arith) c.index.ensures) in
+    let z = commits-from (λ e. e.message) c.args.moment (with_done c.args.tally.now es) es c.args.most c.loop-place.place c.index.result.now
+    (omega arith) (omega arith) c.index.ensures _ can in
     omega arith
