@@ -153,8 +153,10 @@ module _ (T : IsTotalOrder message_cmp) (U : IsTotalOrder occurrence_cmp) (X : (
     begins-taken O p rest e w updates =
         let first = begins-first p rest e in
         let more : IsOneMore (occurrence_of m 0, Plus) rest es =
-        subst (λ (x : Occurrence × Sign). IsOneMore x rest es) first (subst (λ xs. IsOneMore p rest xs) (sym e) (record { pluses_are = λ m. refl; minuses_are = λ m. refl })) in
-        let u = subst (λ (f : Occurrence → Occurrence → Ordering). (x : Occurrence) → lookup (is_at (f x)) rest ≡ cond (is_at (f p.0) x) None (lookup (is_at (f x)) es)) w updates in (
+        subst (λ (x : Occurrence × Sign). IsOneMore x rest es) first
+        (subst (λ xs. IsOneMore p rest xs) (sym e) (record { pluses_are = λ m. refl; minuses_are = λ m. refl })) in
+        let u = subst (λ (f : Occurrence → Occurrence → Ordering). (x : Occurrence) → lookup (is_at (f x)) rest ≡ cond (is_at (f p.0) x) None (lookup (is_at (f x)) es))
+        w updates in (
           take-tallied T X O m 0 Plus rest es st begins-one more
               (subst (λ (z : Occurrence × Sign). (x : Occurrence) → lookup (is_at (occurrence_cmp x)) rest ≡ cond (is_at (occurrence_cmp z.0) x) None (lookup (is_at (occurrence_cmp x)) es)) first u),
           counts-more (occurrence_of m 0, Plus) rest es more,

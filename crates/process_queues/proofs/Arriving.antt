@@ -85,7 +85,8 @@ module _ {S K : Type 0} {r : Rules Message S K Note} (R : OfMessages r) {is_valu
 
   -- the queues afterwards are those of the part that is made
   arrived-stands : (done : List Message) (state : S) (outbox : List Letter) (n : ℕ) → Arrives r opening part (counted l (drop 1 q.tray) done state outbox part) n →
-      (past' : Past S K) (tally' : List Letter) (q' : Queues S K) → BelongsTo r is_value opening (rows_there r opening part q) (counted l (drop 1 q.tray) done state outbox part) past' →
+      (past' : Past S K) (tally' : List Letter) (q' : Queues S K) →
+      BelongsTo r is_value opening (rows_there r opening part q) (counted l (drop 1 q.tray) done state outbox part) past' →
       HaveSameCounts message_order tally' (l ∷ q.tally) → q' ≡ record q { past = past'; tally = tally'; tray = drop 1 q.tray; outbox = outbox } →
       StandsFor r is_value opening (arrive r opening part) q'
   arrived-stands done state outbox n a past' tally' q' b counts f =

@@ -100,7 +100,8 @@ inside-at : (O : IsOrder message_order) {K : Type 0} (es : List (Event K)) (k : 
 inside-at O {K} es k e h at =
     let behind = map (λ (x : Event K). x.message) (drop (suc k) es) in
     let halves = ap (map (λ (x : Event K). x.message)) (sym (take-append-drop k es)) ∙
-    (map-append (λ (x : Event K). x.message) (take k es) (drop k es) ∙ ap (λ ds. map (λ (x : Event K). x.message) (take k es) ++ map (λ (x : Event K). x.message) ds) (drop-one es k e h at)) in
+    (map-append (λ (x : Event K). x.message) (take k es) (drop k es)
+    ∙ ap (λ ds. map (λ (x : Event K). x.message) (take k es) ++ map (λ (x : Event K). x.message) ds) (drop-one es k e h at)) in
     let a = ap (times_in message_order e.message) halves ∙ times-append message_order O e.message (map (λ (x : Event K). x.message) (take k es)) (e.message ∷ behind) in
     let b = in-head message_order O e.message behind in
     omega arith

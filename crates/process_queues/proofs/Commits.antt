@@ -32,7 +32,8 @@ committable-agree g a b h (m ∷ ms) =
     ap (λ can. if can then suc (committable message_order g a ms) else 0) (can_commit-agree g a b h m) ∙
     ap (λ n. if can_commit message_order g b m then suc n else 0) (committable-agree g a b h ms)
 
-pub committable-stands : {S K : Type 0} {r : Rules Message S K Note} → r.order ≡ message_order → {is_value : S → Message → Type 0} {opening : S} {part : Part Message S} {q : Queues S K} →
+pub committable-stands : {S K : Type 0} {r : Rules Message S K Note} → r.order ≡ message_order →
+    {is_value : S → Message → Type 0} {opening : S} {part : Part Message S} {q : Queues S K} →
     StandsFor r is_value opening part q → (g n : ℕ) → committable message_order g q.tally (take n (map (λ e. e.message) q.past.done)) ≡ committable r.order g part.tally (take n part.done)
 committable-stands same {part = part} {q} h g n =
     ap (λ ms. committable message_order g q.tally (take n ms)) (done-messages h.past) ∙

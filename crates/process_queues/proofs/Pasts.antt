@@ -54,7 +54,8 @@ module _ {S K : Type 0} (r : Rules Message S K Note) where
   as_many s (m ∷ ms) = let e = as_many (r.after s m) ms in omega arith
 
   -- the last event: the state now and its record came from it, at the state that the events before it led to
-  pub record CameLast (is_value : S → Message → Type 0) (start : S) (ms : List Message) (earlier : Rows) (e : Message) (past : Past S K) (front : List (Event K)) (event : Event K) : Type 0 where
+  pub record CameLast (is_value : S → Message → Type 0) (start : S) (ms : List Message) (earlier : Rows)
+      (e : Message) (past : Past S K) (front : List (Event K)) (event : Event K) : Type 0 where
     pub state : past.state ≡ r.after (reached r start ms) e
     pub event_is : event ≡ event_of r (reached r start ms) e
     pub front_is : front ≡ events_of r start ms

@@ -34,7 +34,8 @@ pub rolls-none : {S K : Type 0} {r : Rules Message S K Note} {is_value : S → M
 rolls-none {part = part} b o = record { now = part; belongs = b; outbox = o; same = refl }
 
 -- where m does not come after the newest event, there is one, which it does not come after
-pub record IsLate {S K : Type 0} (r : Rules Message S K Note) (is_value : S → Message → Type 0) (opening : S) (there : Rows) (m : Message) (part : Part Message S) (past : Past S K) : Type 0 where
+pub record IsLate {S K : Type 0} (r : Rules Message S K Note) (is_value : S → Message → Type 0) (opening : S)
+    (there : Rows) (m : Message) (part : Part Message S) (past : Past S K) : Type 0 where
   pub front : List Message
   pub event : Message
   pub done : part.done ≡ front ++ event ∷ []

@@ -21,12 +21,15 @@ pub returns-in_err-last-clause-count : goal.returns-in_err-last-clause-count
 returns-in_err-last-clause-count c =
     let w = c.occurrence_order.ensures in
     let r = range (goal.at.returns-in_err-last-clause-count c).After-range in
-    rw c.from_residual.ensures (count-none w.total w.exact c.args.message.now 18446744073709551615 c.args.signs.now.entries c.requires (λ q l. r.5 c.in_err-last.ensures.steps.0 q (tt, l)))
+    rw c.from_residual.ensures (count-none w.total w.exact c.args.message.now 18446744073709551615 c.args.signs.now.entries c.requires
+    (λ q l. r.5 c.in_err-last.ensures.steps.0 q (tt, l)))
 
 -- the last one stands at its ordinal of the message, of which there are fewer than the greatest
-here : (c : goal.After-result-1) → lookup (is_at (occurrence_cmp (occurrence_of c.args.message.now c.in_ok-last.last.now.ordinal))) c.args.signs.now.entries ≡ Some c.in_ok-last.sign.now
+here : (c : goal.After-result-1) → lookup (is_at (occurrence_cmp (occurrence_of c.args.message.now c.in_ok-last.last.now.ordinal))) c.args.signs.now.entries
+    ≡ Some c.in_ok-last.sign.now
 here c =
-    subst (λ x. lookup (is_at (occurrence_cmp (occurrence_of x c.in_ok-last.last.now.ordinal))) c.args.signs.now.entries ≡ Some c.in_ok-last.sign.now) (c.if-is_same.ensures.0 refl)
+    subst (λ x. lookup (is_at (occurrence_cmp (occurrence_of x c.in_ok-last.last.now.ordinal))) c.args.signs.now.entries ≡ Some c.in_ok-last.sign.now)
+    (c.if-is_same.ensures.0 refl)
     ((range (goal.at.returns-then-is_same-clause-count c).After-range).3 (c.in_ok-last.last.now, c.in_ok-last.sign.now) c.next_back.new.self c.in_ok-last.ensures.steps).1
 
 few : (c : goal.After-result-1) → length c.args.signs.now.entries < 18446744073709551615
@@ -43,7 +46,8 @@ returns-then-is_same-clause-count c =
 pub returns-then-is_same-clause-room : goal.returns-then-is_same-clause-room
 returns-then-is_same-clause-room c =
     let w = c.occurrence_order.ensures in
-    let t = room w.total w.exact c.args.message.now 18446744073709551615 c.args.signs.now.entries c.requires c.in_ok-last.last.now.ordinal c.in_ok-last.sign.now (here c) (few c) in
+    let t = room w.total w.exact c.args.message.now 18446744073709551615 c.args.signs.now.entries c.requires
+    c.in_ok-last.last.now.ordinal c.in_ok-last.sign.now (here c) (few c) in
     let l = c.len-len.ensures.len in
     let u = c.len-len.ensures.small in
     omega arith

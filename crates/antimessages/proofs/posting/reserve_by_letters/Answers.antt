@@ -19,10 +19,12 @@ index_mut-requires c =
 
 -- room was made in the box of the letter's receiver
 box : (c : After-make_room) → IsChanged (map store_of c.loop-letter.boxes.items)
-    (map store_of (slice_set c.loop-letter.boxes.items c.from-receiver.result c.make_room.new.mailbox)) c.from-receiver.result c.index_mut.result.now c.make_room.new.mailbox
+    (map store_of (slice_set c.loop-letter.boxes.items c.from-receiver.result c.make_room.new.mailbox))
+    c.from-receiver.result c.index_mut.result.now c.make_room.new.mailbox
 box c =
     let within = receiver-within c.args.letters.now _ c.requires c.loop-letter.letter-index c.letter-item.result c.loop-letter-test.true c.letter-item.is in
-    changed c.loop-letter.boxes.items c.from-receiver.result c.index_mut.result.now c.make_room.new.mailbox (omega (arith, c.from-receiver.ensures, c.loop-letter.invariant.processes))
+    changed c.loop-letter.boxes.items c.from-receiver.result c.index_mut.result.now c.make_room.new.mailbox
+    (omega (arith, c.from-receiver.ensures, c.loop-letter.invariant.processes))
     c.index_mut.ensures.value
 
 pub returns-in_err-make_room-clause-same : goal.returns-in_err-make_room-clause-same

@@ -8,7 +8,8 @@ use Rattle.antimessages.proofs.posting.reserve_by_receivers.Goals as goal
 
 -- room was made in the box of the receiver
 box : (c : After-make_room) → IsChanged (map store_of c.loop-receiver.boxes.items)
-    (map store_of (slice_set c.loop-receiver.boxes.items c.loop-receiver.receiver c.make_room.new.mailbox)) c.loop-receiver.receiver c.index_mut.result.now c.make_room.new.mailbox
+    (map store_of (slice_set c.loop-receiver.boxes.items c.loop-receiver.receiver c.make_room.new.mailbox))
+    c.loop-receiver.receiver c.index_mut.result.now c.make_room.new.mailbox
 box c = changed c.loop-receiver.boxes.items c.loop-receiver.receiver c.index_mut.result.now c.make_room.new.mailbox (omega (arith, c.args.boxes.now.ok.0)) c.index_mut.ensures.value
 
 pub returns-in_err-make_room-clause-same : goal.returns-in_err-make_room-clause-same

@@ -71,7 +71,8 @@ is_toggled-requires g c =
 
 -- it toggles nothing
 
-same : (g : Over) (c : goal.After-pop_front-then-not-is_toggled g) → change_by message_order c.in-Some.letter (with_done c.self.inside.tally c.self.inside.past.done) ≡ Same
+same : (g : Over) (c : goal.After-pop_front-then-not-is_toggled g) →
+    change_by message_order c.in-Some.letter (with_done c.self.inside.tally c.self.inside.past.done) ≡ Same
 same g c = subst (λ q. change_by message_order c.in-Some.letter q.queues.tally ≡ Same) (sym c.self.view_is) (c.if-not-is_toggled.ensures.same refl)
 
 pub returns-then-not-is_toggled-clause-arrived : goal.returns-then-not-is_toggled-clause-arrived
@@ -94,7 +95,8 @@ invariant_of-self-then-not-is_toggled g c =
     let l = c.in-Some.letter in
     let done = c.self.inside.past.done in
     let new = c.add-then-not-is_toggled.new.self in
-    let counts = with_done-same O new (l ∷ c.self.inside.tally) done (added-same_counts message_order O l new c.self.inside.tally c.in_ok-add.ensures.count c.in_ok-add.ensures.others) in (
+    let counts = with_done-same O new (l ∷ c.self.inside.tally) done
+    (added-same_counts message_order O l new c.self.inside.tally c.in_ok-add.ensures.count c.in_ok-add.ensures.others) in (
       i.0,
       arrive (rules_of g.R.Reversible.plain g.R.Actor.counter) i.0 i.1,
       returns-then-not-is_toggled-clause-arrived g c i.0 i.1 (rw (← c.self.view_is) i.2),
