@@ -1,5 +1,6 @@
 -- Clauses on results and errors.
-use Rattle.std.proofs.Common.{Result, Ok, Err, IfOk, OnOk, OnErr}
+use Rattle.std.proofs.Common.{◌≡◌, Result, Ok, Err, IfOk, OnOk, OnErr}
+use Rattle.std.specs.Result.{IsErrAnd}
 
 -- what holds in any case holds after an error
 pub after-error : {T E P : Type 0} → P → (r : Result T E) → OnErr r P
@@ -15,3 +16,8 @@ ok-weaker P Q follows (Err y) p = tt
 pub on-ok : {T E P Q : Type 0} → (P → Q) → (r : Result T E) → OnOk r P → OnOk r Q
 on-ok follows (Ok x) p = follows p
 on-ok follows (Err y) p = tt
+
+-- a fault that is passed on is that of the call
+pub passed-on : {T U E : Type 0} {d e : E} {r : Result T E} (q : Result U E) → IsErrAnd q (λ z. z ≡ d) → r ≡ Err d → q ≡ Err e → r ≡ Err e
+passed-on (Ok x) is was told = absurd is
+passed-on (Err y) is was told = cc

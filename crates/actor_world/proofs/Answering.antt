@@ -1,7 +1,6 @@
 -- What the answer to a step says of it.
 use Rattle.std.proofs.Common.{◌≡◌, ℕ, true, false, Result, Ok, Err, refl, sym, ◌∙◌, subst}
-use Rattle.std.specs.Prelude.{◌↔◌, OnOk, IfOk}
-use Rattle.std.proofs.lemmas.Bool.{false≢true}
+use Rattle.std.specs.Prelude.{◌↔◌, OnOk}
 use Rattle.vlink.specs.declared.message.Message.{Message}
 use Rattle.vlink.specs.declared.note.Note.{Note}
 use Rattle.virtual_time.specs.Law.{Rules, Simulation, World, start, run, is_enabled, effect, step}
@@ -57,18 +56,10 @@ module _ {S K : Type 0} (r : Rules Message S K Note) (number end : S → ℕ) (i
   stands-at y e answer s =
       subst (λ z. OnOk answer (AtEachWorld r number end is_placed is_value old (λ f w. StandsForWorld f is_value (step f z w) new))) (sym e) (answer-stands answer s)
 
-  answer-enabled : (answer : Result Done StepFault) → IsStepped r number end is_placed is_value x old new answer →
-      IfOk answer (λ done. AtEachWorld r number end is_placed is_value old (λ f w. (done ≡ Did) ↔ (is_enabled f x w ≡ true)))
-  answer-enabled (Ok Did) s = λ y laid steps h. (λ e. (s.did refl y laid steps h).0, λ e. refl)
-  answer-enabled (Ok NotEnabled) s = λ y laid steps h. (λ e. absurd cc, λ e. absurd (false≢true (sym (s.not_enabled refl y laid steps h) ∙ e)))
-  answer-enabled (Err fault) s = tt
-
-  pub enabled-at : (y : Step) → y ≡ x → (answer : Result Done StepFault) → IsStepped r number end is_placed is_value x old new answer →
-      IfOk answer (λ done. AtEachWorld r number end is_placed is_value old (λ f w. (done ≡ Did) ↔ (is_enabled f y w ≡ true)))
-  enabled-at y e answer s =
-      subst (λ z. IfOk answer (λ done. AtEachWorld r number end is_placed is_value old (λ f w. (done ≡ Did) ↔ (is_enabled f z w ≡ true)))) (sym e) (answer-enabled answer s)
-
   pub exhausted-at : (y : Step) → y ≡ x → (answer : Result Done StepFault) → IsStepped r number end is_placed is_value x old new answer →
       AtEachWorld r number end is_placed is_value old (λ f w. (answer ≡ Err Exhausted) ↔ IsExhausted f y w)
   exhausted-at y e answer s =
       subst (λ z. AtEachWorld r number end is_placed is_value old (λ f w. (answer ≡ Err Exhausted) ↔ IsExhausted f z w)) (sym e) s.exhausted
+
+-- when numbers are used up is told by the answer to a step
+pub ruleset answers = (exhausted-at)

@@ -9,7 +9,7 @@ use Rattle.std.proofs.lemmas.Option.{slice_get_cases, slice_get_within}
 use Rattle.vlink.specs.declared.message.Message.{Message}
 use Rattle.vlink.specs.declared.note.Note.{Note}
 use Rattle.vlink.specs.Letters.{Letter}
-use Rattle.virtual_time.specs.Law.{Rules, IsOrder, IsNamed, received_by, Part, delivered, emptied, floor_of, Simulation, Laws, World, start, run, is_enabled, effect, taken, gvt_over}
+use Rattle.virtual_time.specs.Law.{Rules, IsOrder, IsNamed, received_by, Part, delivered, emptied, floor_of, put, Simulation, Laws, World, start, run, is_enabled, effect, taken, gvt_over}
 use Rattle.virtual_time.specs.declared.step.Step.TheVariants.{Take, Post, Gvt}
 use Rattle.virtual_time.proofs.Letters.{named-head}
 use Rattle.virtual_time.proofs.Reading.{reached-keeps}
@@ -49,6 +49,23 @@ module _ {S K : Type 0} (f : Simulation Message S K Note) (is_value : S → Mess
   module _ (q' : Queues S K) (ps : List (Queues S K)) (ps-is : ps ≡ set old.processes p q') (mail : List Store) (boxes : length mail ≡ length old.mail)
       (floors : List ℕ) (floor_count : length floors ≡ length old.floors) (floors_others : (k : ℕ) → (k ≡ p → ⊥) → slice_get floors k ≡ slice_get old.floors k)
       (until : ℕ) (until-is : until ≡ old.until) where
+    -- what the process is, what mail there is and what floor the process has are another, and all else is as it was
+    exchanged : (part : Part Message S) → StandsFor f.rules is_value (f.opening p) part q' → q'.left ≡ q.left → (boxed : ℕ → List Letter) → ((k : ℕ) → k < f.processes → letters_for k mail ≡ boxed k) →
+        (floor : ℕ) → slice_get floors p ≡ Some floor →
+        StandsForWorld f is_value (record { parts = put p part w.parts; mail = boxed; floors = put p floor w.floors; gvt = w.gvt })
+        (record { processes = ps; mail = mail; floors = floors; gvt = old.gvt; until = until })
+    exchanged part stands kept boxed letters floor here' = record {
+      count = ap length ps-is ∙ (length-set old.processes p q' ∙ h.count);
+      parts = λ k o d. parts-set f is_value w old h p within part q' stands k o (subst (λ z. slice_get z k ≡ Some o) ps-is d);
+      whole = λ k o d. whole-set f is_value w old h p within q' (kept ∙ h.whole p q here) k o (subst (λ z. slice_get z k ≡ Some o) ps-is d);
+      boxes = boxes ∙ h.boxes;
+      mail = letters;
+      floor_count = floor_count ∙ h.floor_count;
+      floors = put_elim (λ k t. k < f.processes → slice_get floors k ≡ Some t) p floor w.floors (λ j. here') (λ k n j. floors_others k n ∙ h.floors k j);
+      gvt = h.gvt;
+      until = until-is ∙ h.until;
+    }
+
     pub took : (i : ℕ) (l : Letter) → slice_get (letters_for p old.mail) i ≡ Some l → Does f.rules is_value (λ opening. delivered l) q q' → q'.left ≡ q.left →
         letters_for p mail ≡ remove (letters_for p old.mail) i → ((k : ℕ) → (k ≡ p → ⊥) → letters_for k mail ≡ letters_for k old.mail) →
         slice_get floors p ≡ option_map (min (f.rules.order.time l.message)) (slice_get old.floors p) →
@@ -57,36 +74,19 @@ module _ {S K : Type 0} (f : Simulation Message S K Note) (is_value : S → Mess
     took i l e does kept left others lowered =
         subst (λ o. StandsForWorld f is_value (taken f p i w o) (record { processes = ps; mail = mail; floors = floors; gvt = old.gvt; until = until }))
         (sym (ap (λ ls. slice_get ls i) (sym (h.mail p within)) ∙ e))
-        (record {
-          count = ap length ps-is ∙ (length-set old.processes p q' ∙ h.count);
-          parts = λ k o d. parts-set f is_value w old h p within (delivered l (w.parts p)) q' (does (f.opening p) (w.parts p) part-here) k o (subst (λ z. slice_get z k ≡ Some o) ps-is d);
-          whole = λ k o d. whole-set f is_value w old h p within q' (kept ∙ h.whole p q here) k o (subst (λ z. slice_get z k ≡ Some o) ps-is d);
-          boxes = boxes ∙ h.boxes;
-          mail = put_elim (λ k ls. k < f.processes → letters_for k mail ≡ ls) p (remove (w.mail p) i) w.mail (λ j. left ∙ ap (λ z. remove z i) (h.mail p within)) (λ k n j. others k n ∙ h.mail k j);
-          floor_count = floor_count ∙ h.floor_count;
-          floors = put_elim (λ k t. k < f.processes → slice_get floors k ≡ Some t) p (min (f.rules.order.time l.message) (w.floors p)) w.floors
-              (λ j. lowered ∙ ap (option_map (min (f.rules.order.time l.message))) (h.floors p j)) (λ k n j. floors_others k n ∙ h.floors k j);
-          gvt = h.gvt;
-          until = until-is ∙ h.until;
-        })
+        (exchanged (delivered l (w.parts p)) (does (f.opening p) (w.parts p) part-here) kept _
+        (put_elim (λ k ls. k < f.processes → letters_for k mail ≡ ls) p (remove (w.mail p) i) w.mail (λ j. left ∙ ap (λ z. remove z i) (h.mail p within)) (λ k n j. others k n ∙ h.mail k j))
+        _ (lowered ∙ ap (option_map (min (f.rules.order.time l.message))) (h.floors p within)))
 
     pub did-post : Does f.rules is_value (λ opening. emptied) q q' → q'.left ≡ q.left →
         ((k : ℕ) → letters_for k mail ≡ letters_for k old.mail ++ received_by f.rules.order k q.outbox) →
         (floor : ℕ) → floor ≡ floor_of f.rules.order f.until (w.parts p) → slice_get floors p ≡ Some floor →
         StandsForWorld f is_value (effect f (Post p) w) (record { processes = ps; mail = mail; floors = floors; gvt = old.gvt; until = until })
     unfolding effect
-    did-post does kept sent floor floor-is here' = record {
-      count = ap length ps-is ∙ (length-set old.processes p q' ∙ h.count);
-      parts = λ k o d. parts-set f is_value w old h p within (emptied (w.parts p)) q' (does (f.opening p) (w.parts p) part-here) k o (subst (λ z. slice_get z k ≡ Some o) ps-is d);
-      whole = λ k o d. whole-set f is_value w old h p within q' (kept ∙ h.whole p q here) k o (subst (λ z. slice_get z k ≡ Some o) ps-is d);
-      boxes = boxes ∙ h.boxes;
-      mail = λ k j. sent k ∙ (ap (λ z. z ++ received_by f.rules.order k q.outbox) (h.mail k j) ∙ ap (λ z. w.mail k ++ received_by f.rules.order k z) part-here.outbox);
-      floor_count = floor_count ∙ h.floor_count;
-      floors = put_elim (λ k t. k < f.processes → slice_get floors k ≡ Some t) p (floor_of f.rules.order f.until (w.parts p)) w.floors
-          (λ j. here' ∙ ap (λ z. Some z) floor-is) (λ k n j. floors_others k n ∙ h.floors k j);
-      gvt = h.gvt;
-      until = until-is ∙ h.until;
-    }
+    did-post does kept sent floor floor-is here' =
+        exchanged (emptied (w.parts p)) (does (f.opening p) (w.parts p) part-here) kept _
+        (λ k j. sent k ∙ (ap (λ z. z ++ received_by f.rules.order k q.outbox) (h.mail k j) ∙ ap (λ z. w.mail k ++ received_by f.rules.order k z) part-here.outbox))
+        _ (here' ∙ ap (λ z. Some z) floor-is)
 
   pub post-enabled : is_enabled f (Post p) w ≡ true
   unfolding is_enabled
@@ -183,8 +183,9 @@ module _ {S K : Type 0} (r : Rules Message S K Note) (number end : S → ℕ) (i
       (letters-go r L.order x.processes (w.parts p).outbox (λ m j. ((k.sound p i).outbox_from m j).1)))
 
 module _ {S K : Type 0} (r : Rules Message S K Note) (number end : S → ℕ) (is_placed : S → Type 0) (is_value : S → Message → Type 0) (old : Holdings S K) where
-  pub floors-within : IsAWorld r number end is_placed is_value old → length old.floors ≡ length old.processes
-  floors-within world = world.3.floor_count ∙ sym world.3.count
+  -- each process has a floor
+  pub floors-within : IsAWorld r number end is_placed is_value old → (p : ℕ) → p < length old.processes → p < length old.floors
+  floors-within world p there = let a = world.3.floor_count in let b = world.3.count in omega arith
 
   pub take-none : (p : ℕ) → p < length old.processes → (i : ℕ) → slice_get (letters_for p old.mail) i ≡ None → IsStepped r number end is_placed is_value (Take p i) old old (Ok NotEnabled)
   take-none p there i e =

@@ -8,6 +8,3 @@ use Rattle.actor_world.specs.Worlds.{Holdings, StandsForWorld}
 module _ {S K : Type 0} (f : Simulation Message S K Note) (is_value : S → Message → Type 0) (w : World Message S) (held : Holdings S K) (h : StandsForWorld f is_value w held) where
   pub is-finished : held.gvt ≡ suc f.until → ((p : ℕ) → p < f.processes → (w.parts p).done ≡ []) → IsFinished f w
   is-finished g a = record { over = sym h.gvt ∙ g; all_committed = a }
-
-  pub finished-gvt : IsFinished f w → held.gvt ≡ suc f.until
-  finished-gvt d = h.gvt ∙ d.over

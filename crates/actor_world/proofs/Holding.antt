@@ -1,5 +1,5 @@
 -- What one step leaves, by its answer; and what is held when one process is another.
-use Rattle.std.proofs.Common.{◌≡◌, ℕ, ◌<◌, ◌⊎◌, inl, inr, true, false, List, map, length, get_or, slice_get, Some, Result, Ok, Err, refl, sym, ap, ◌∙◌, subst, arith, eq-eqb, ne_eqb}
+use Rattle.std.proofs.Common.{◌≡◌, ℕ, ◌<◌, ◌⊎◌, inl, inr, true, false, List, map, length, get_or, slice_get, Some, Ok, Err, refl, sym, ap, ◌∙◌, subst, arith, eq-eqb, ne_eqb}
 use Rattle.std.proofs.Math.ListN.{set}
 use Rattle.std.proofs.Math.Seq.{map-set_same}
 use Rattle.std.proofs.lemmas.Bool.{cases_eq, false≢true, lt-ltb}
@@ -14,9 +14,7 @@ use Rattle.virtual_time.specs.declared.step.Step.{Step}
 use Rattle.virtual_time.specs.declared.step.Step.TheVariants.{Take, Arrive, Run, Post, Gvt, Commit}
 use Rattle.reverse.specs.Setting.{simulation_of}
 use Rattle.process_queues.specs.Queues.{Queues, InHand, StandsFor}
-use Rattle.actor_world.specs.declared.done.Done.{Done}
 use Rattle.actor_world.specs.declared.done.Done.TheVariants.{Did, NotEnabled}
-use Rattle.actor_world.specs.declared.fault.StepFault.{StepFault}
 use Rattle.actor_world.specs.declared.fault.StepFault.TheVariants.{OutOfMemory, Exhausted}
 use Rattle.actor_world.specs.Worlds.{Holdings, StandsForWorld, HoldsTheSame, IsExhausted, AtEachWorld}
 use Rattle.actor_world.specs.Stepping.{IsStepped}
@@ -93,11 +91,6 @@ module _ {S K : Type 0} (r : Rules Message S K Note) (number end : S → ℕ) (i
     exhausted = λ y laid steps k. (λ e. h y laid steps k, λ d. refl);
   }
 
-  -- what is held is told otherwise
-  pub seen-as : (x : Step) (old seen new : Holdings S K) (answer : Result Done StepFault) → old ≡ seen →
-      IsStepped r number end is_placed is_value x old new answer → IsStepped r number end is_placed is_value x seen new answer
-  seen-as x old seen new answer e h = subst (λ held. IsStepped r number end is_placed is_value x held new answer) e h
-
 pub the_same : {S K : Type 0} (held : Holdings S K) → HoldsTheSame held held
 the_same held = record { processes = refl; boxes = refl; mail = λ p. refl; floors = refl; gvt = refl; until = refl }
 
@@ -130,9 +123,6 @@ pub read-written : {S K : Type 0} (vs : List (InHand S K)) (p i j : ℕ) (u v : 
 read-written {S} {K} vs p i j u v d e h k =
     let a = length-map vs (λ (z : InHand S K). z.queues) in
     k ∙ (ap (λ n. get_or (set vs i v) n u) (e ∙ sym d) ∙ get_or-set_same vs i v u (omega arith))
-
-pub same-at : {X : Type 0} (xs : List X) (p : ℕ) (x y : X) → slice_get xs p ≡ Some x → slice_get xs p ≡ Some y → x ≡ y
-same-at xs p x y a b = let c : Some x ≡ Some y = sym a ∙ b in cc
 
 -- a place of a list that has a new element
 set_here : {X : Type 0} (xs : List X) (p : ℕ) (x y : X) → p < length xs → slice_get (set xs p x) p ≡ Some y → x ≡ y

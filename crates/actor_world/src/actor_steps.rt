@@ -12,6 +12,7 @@ ghost use Rattle.actor_world.specs.Stepping.{IsStepped};
 use crate::actors::ActorWorld;
 use crate::done::Done;
 use crate::fault::StepFault;
+use fossil::is_early;
 use gvt::{gvt_law, horizon};
 use reverse::{Actor, actor_laws, actor_rules};
 use vlink::{Letter, Note, Step, Time};
@@ -20,6 +21,7 @@ impl<R: Actor> ActorWorld<R> {
     /// Does one step. What is held for a world is afterwards what the step makes of that world; a step that is not enabled, and one that
     /// is refused, leave it as it was. Steps that are not enabled and Gvt take no memory. `Exhausted` comes exactly at Run of a process
     /// that has a next message, and not enough numbers left for what one event can send.
+    #[tactic(auto, using(crate::proofs::Answering::answers))]
     pub fn step(&mut self, step: Step) -> Result<Done, StepFault>
         requires { IsAWorld (rules_of R.plain R.counter) R.number R.end R.is_placed R.is_value self.old }
         ensures stands { OnOk result (AtEachWorld (rules_of R.plain R.counter) R.number R.end R.is_placed R.is_value self.old
@@ -87,10 +89,11 @@ impl<R: Actor> ActorWorld<R> {
         requires there { process < length self.old.processes }
         ensures { IsStepped (rules_of R.plain R.counter) R.number R.end R.is_placed R.is_value (Arrive process) self.old self.new result }
     {
-        if self.processes[usize::from(process)].tray_len() == 0 {
+        let process = &mut self.processes[usize::from(process)];
+        if process.tray_len() == 0 {
             return Ok(Done::NotEnabled);
         }
-        self.processes[usize::from(process)].arrive()?;
+        process.arrive()?;
         Ok(Done::Did)
     }
 
@@ -137,8 +140,11 @@ impl<R: Actor> ActorWorld<R> {
         requires there { process < length self.old.processes }
         ensures { IsStepped (rules_of R.plain R.counter) R.number R.end R.is_placed R.is_value (Commit process) self.old self.new result }
     {
-        let committed = fossil::commit_oldest(&mut self.processes[usize::from(process)], self.gvt)?;
-        if !committed {
+        let process = &mut self.processes[usize::from(process)];
+        if !is_early(process.oldest(), self.gvt) {
+            return Ok(Done::NotEnabled);
+        }
+        if !process.seal_oldest()? {
             return Ok(Done::NotEnabled);
         }
         Ok(Done::Did)

@@ -6,17 +6,9 @@ use Rattle.std.proofs.Math.Seq.{map-set_same, drop-cons}
 use Rattle.book_share.specs.declared.Book.{Book}
 use Rattle.book_share.specs.declared.Share.{Share}
 use Rattle.exchange.specs.declared.mark.Mark.{Mark}
-use Rattle.exchange.specs.Views.{blank, book_of}
+use Rattle.exchange.specs.Views.{blank}
 
 module _ (books : List (Book Mark)) (n p : ℕ) (is : n ≡ p) where
-  -- what the book at this place is called, and what it tells
-  pub name-at : p < length books → (b : Book Mark) → b ≡ get_or books n b → (names : List ℕ) → map (λ b. b.name) books ≡ names → b.name ≡ slice_index names p
-  name-at within b at names are =
-      ap (λ b. b.name) at ∙ (ap (λ k. (get_or books k b).name) is ∙ (sym (get_or-map (λ (z : Book Mark). z.name) books p b 0 within) ∙ ap (λ ns. slice_index ns p) are))
-
-  pub value-at : p < length books → (b : Book Mark) → b ≡ get_or books n b → b.value ≡ book_of (map (λ b. b.value) books) p
-  value-at within b at = ap (λ b. b.value) at ∙ (ap (λ k. (get_or books k b).value) is ∙ sym (get_or-map (λ (z : Book Mark). z.value) books p b blank within))
-
   -- another book is there, of the same name
   pub names-set : (b c : Book Mark) → b ≡ get_or books n b → c.name ≡ b.name → map (λ b. b.name) (set books n c) ≡ map (λ b. b.name) books
   names-set b c at same = map-set_same (λ (z : Book Mark). z.name) books n c b (same ∙ ap (λ z. z.name) at)

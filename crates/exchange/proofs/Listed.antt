@@ -1,8 +1,8 @@
 -- The steps of a journal, entry by entry.
-use Rattle.std.proofs.Common.{◌≡◌, ℕ, zero, suc, ◌+◌, ◌<◌, ◌≤◌, List, [], ◌∷◌, ◌++◌, length, take, drop, slice_get, get_or, Some, None, refl, sym, ap, ◌∙◌, arith, drop-cons, length-append, append-nil, append_assoc}
+use Rattle.std.proofs.Common.{◌≡◌, ℕ, zero, suc, ◌+◌, ◌<◌, ◌≤◌, List, [], ◌∷◌, ◌++◌, length, take, drop, slice_get, Some, None, sym, ap, ◌∙◌, arith, drop-cons, length-append, append-nil, append_assoc}
 use Rattle.std.specs.Option.{option_map}
 use Rattle.std.proofs.lemmas.List.{take_more}
-use Rattle.std.proofs.lemmas.Option.{slice_get-map, slice_get_read, slice_get_within, get_or_from_slice_get}
+use Rattle.std.proofs.lemmas.Option.{slice_get-map, slice_get_within, get_or_from_slice_get}
 use Rattle.vlink.specs.declared.message.Message.{Message}
 use Rattle.virtual_time.specs.declared.step.Step.{Step}
 use Rattle.virtual_time.specs.Law.{Entry, steps_of, steps}
@@ -13,9 +13,8 @@ use Rattle.exchange.specs.Keeps.{entries_of}
 use Rattle.exchange.proofs.Lists.{slice_get-first, slice_get-rest}
 
 -- the entry that tokens show
-pub entry-there : (ts : List Tokens) (i : ℕ) (t : Tokens) → i < length ts → t ≡ get_or ts i t → slice_get (entries_of ts) i ≡ Some (seen_entry t.cell.value)
-entry-there ts i t h at =
-    slice_get-map (λ (u : Tokens). seen_entry u.cell.value) ts i ∙ ap (option_map (λ (u : Tokens). seen_entry u.cell.value)) (slice_get_read ts (length ts) i t refl h at)
+pub entry-there : (ts : List Tokens) (i : ℕ) (t : Tokens) → slice_get ts i ≡ Some t → slice_get (entries_of ts) i ≡ Some (seen_entry t.cell.value)
+entry-there ts i t found = slice_get-map (λ (u : Tokens). seen_entry u.cell.value) ts i ∙ ap (option_map (λ (u : Tokens). seen_entry u.cell.value)) found
 
 -- the entries from place i on
 steps-drop : (es : List (Entry Message)) (i : ℕ) (e : Entry Message) → slice_get es i ≡ Some e → steps (drop i es) ≡ steps_of e.process e.deed ++ steps (drop (i + 1) es)

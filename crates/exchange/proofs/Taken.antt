@@ -30,9 +30,9 @@ when-done (Ok v) e h = h
 when-done (Err v) e h = absurd (cc)
 
 -- so many letters are there and there is room for them, so all are taken
-pub all-taken : {E : Type 0} {room n count : ℕ} (r : Result ℕ E) (P : ℕ → Type 0) → OnErr r (room < min n count) → n ≤ room → n ≤ count → IfOk r (λ k. k ≡ min n count) → IfOk r P → P n
-all-taken (Ok k) P a b c d h = subst P (omega arith) h
-all-taken (Err e) P a b c d h = absurd (omega arith)
+pub all-taken : {E : Type 0} {room n count : ℕ} (r : Result ℕ E) → OnErr r (room < min n count) → n ≤ room → n ≤ count → IfOk r (λ k. k ≡ min n count) → r ≡ Ok n
+all-taken (Ok k) a b c d = ap (λ z. Ok z) (omega arith)
+all-taken (Err e) a b c d = absurd (omega arith)
 
 module _ {S K : Type 0} {r : Rules Message S K Note} {number end : S → ℕ} {is_placed : S → Type 0} {x : Setting S} {pages table : List ℕ} {ts : List Tokens} {mail : List Store} {floors : Floors}
     {gvt count : ℕ} {books : List Mark} (k : IsRecorded r number end is_placed x pages table ts mail floors gvt count books)

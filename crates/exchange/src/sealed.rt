@@ -4,12 +4,11 @@ ghost use Rattle.vlink.specs.Order.{message_order};
 ghost use Rattle.virtual_time.specs.Law.{rowed, rows_at, earlier, one};
 ghost use Rattle.reverse.specs.Rules.{rules_of};
 ghost use Rattle.reverse.specs.Setting.{simulation_of};
-ghost use Rattle.fossil.specs.Committed.{is_moment_before};
 ghost use Rattle.fossil.specs.Within.{rows_within};
 
 use crate::held::Held;
 use crate::run_of::ActorRun;
-use fossil::{let_rows_go, rows_between};
+use fossil::{is_early, let_rows_go, rows_between};
 use reverse::{Actor, actor_laws, actor_rules};
 use vlink::{Row, Time};
 
@@ -20,7 +19,7 @@ impl<'a, R: Actor, J: ActorRun<R>> Held<'a, R, J> {
         ensures { IsTrue result ↔ ((moment ≤ self.now.share.seen) × (earlier message_order moment self.now.part.done ≡ [])) }
     {
         actor_rules::<R>();
-        moment.ns() <= self.seen.ns() && !is_before(self.process.oldest(), moment)
+        moment.ns() <= self.seen.ns() && !is_early(self.process.oldest(), moment)
     }
 
     /// The rows of its committed events of the moments from `from` on and before `to`, in ns, in their order. None of these has left, since
@@ -48,15 +47,5 @@ impl<'a, R: Actor, J: ActorRun<R>> Held<'a, R, J> {
         actor_laws::<R>();
         let_rows_go(&mut self.process, moment);
         self.gone = self.gone.max(moment);
-    }
-}
-
-/// Whether there is a moment, and it is earlier than another.
-fn is_before(moment: Option<Time>, limit: Time) -> bool
-    ensures { result ≡ is_moment_before limit moment }
-{
-    match moment {
-        Some(moment) => moment < limit,
-        None => false,
     }
 }

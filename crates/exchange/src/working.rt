@@ -13,7 +13,7 @@ ghost use Rattle.exchange.specs.Effects.{Works, WorksSome, Runs, StopsAtArrival,
 use crate::gate::Gate;
 use crate::held::Held;
 use crate::run_of::ActorRun;
-use fossil::commit_oldest;
+use fossil::is_early;
 use journal::PoolFault;
 use reverse::{Actor, actor_laws};
 use virtual_time::Move;
@@ -158,14 +158,11 @@ impl<'a, R: Actor, J: ActorRun<R>> Held<'a, R, J> {
         ensures memory { IfErr result (λ fault. fault ≡ OutOfMemory) }
     {
         actor_laws::<R>();
-        let Some(oldest) = self.process.oldest() else {
-            return Ok(false);
-        };
-        if self.seen.ns() <= oldest.ns() {
+        if !is_early(self.process.oldest(), self.seen) {
             return Ok(false);
         }
         self.block.push(self.alloc, Move::Sealed)?;
-        match commit_oldest(&mut self.process, self.seen) {
+        match self.process.seal_oldest() {
             Ok(true) => Ok(true),
             Ok(false) => {
                 self.block.pop();

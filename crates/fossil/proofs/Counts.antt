@@ -1,7 +1,7 @@
 -- How many events are committed one after another, counted before the first of them is.
 use Rattle.std.proofs.Common.{◌≡◌, ℕ, zero, suc, ◌+◌, ◌<◌, ◌==◌, Bool, true, false, ◌&&◌, cond, if◌then◌else◌, nat_lt, List, [], ◌∷◌, take, Result, Ok, Err, refl, sym, ap, ◌∙◌, subst, arith, add-one}
 use Rattle.std.specs.Prelude.{OnOk, OnErr, IsErr}
-use Rattle.virtual_time.specs.Law.{Rules, IsOrder, IsIn, IsAscending, one_if, minus_of, pluses, minuses, Part, can_seal, sealed, seal_oldest}
+use Rattle.virtual_time.specs.Law.{Rules, IsOrder, IsIn, IsAscending, minus_of, pluses, minuses, Part, can_seal, sealed, seal_oldest}
 use Rattle.virtual_time.specs.declared.letter.Letter.{Letter}
 use Rattle.virtual_time.proofs.Order.{greater-different}
 use Rattle.virtual_time.proofs.Lists.{in-head}
@@ -30,13 +30,6 @@ module _ {M S K N : Type 0} (r : Rules M S K N) where
   sealed-last (suc n) part = ap (λ k. sealed_times r k part) (add-one (suc n)) ∙ (ap (λ k. sealed_times r k (seal_oldest r part)) (sym (add-one n)) ∙ sealed-last n (seal_oldest r part))
 
   -- one at most
-  pub once-count : (g : ℕ) (part : Part M S) → committed_below r g 1 part ≡ one_if (is_ready r g part)
-  once-count g part = go (is_ready r g part)
-    where
-      go : (b : Bool) → cond b 1 0 ≡ one_if b
-      go true = refl
-      go false = refl
-
   pub once-part : (g : ℕ) (part : Part M S) → sealed_times r (committed_below r g 1 part) part ≡ committed_once r g part
   once-part g part = go (is_ready r g part)
     where

@@ -1,5 +1,5 @@
 //! Fossil collection of one process.
-ghost use Rattle.std.specs.Prelude.{◌≡◌, ◌<◌, ◌≤◌, true, false, Ok, OnOk, OnErr, IfOk};
+ghost use Rattle.std.specs.Prelude.{◌≡◌, ◌<◌, ◌≤◌, OnOk, OnErr, IfOk};
 ghost use Rattle.vlink.specs.declared.message.Message.{Message};
 ghost use Rattle.virtual_time.specs.Law.{one_if, Part};
 ghost use Rattle.reverse.specs.Rules.{rules_of};
@@ -46,34 +46,8 @@ pub fn commit<R: Actor>(process: &mut Process<R>, gvt: Time, n: u64) -> Result<u
     Ok(count as u64)
 }
 
-/// Fossil collection of one event: the oldest done event is committed, if it is earlier than `gvt`, in ns, and its signed count is 1. The
-/// answer is whether it was. A refusal changes nothing.
-///
-/// - `committed`: the part for which the process stands afterwards.
-/// - `answer`: whether there was such an event, for each part for which the process stood.
-pub fn commit_oldest<R: Actor>(process: &mut Process<R>, gvt: Time) -> Result<bool, OutOfMemory>
-    ensures committed { OnOk result (Does (rules_of R.plain R.counter) R.is_value (λ opening. committed_once (rules_of R.plain R.counter) gvt) process.old.queues process.new.queues) }
-    ensures answer { IfOk result (λ done. (opening : R) (part : Part Message R) →
-        StandsFor (rules_of R.plain R.counter) R.is_value opening part process.old.queues → done ≡ is_ready (rules_of R.plain R.counter) gvt part) }
-    ensures refused { OnErr result ((opening : R) (part : Part Message R) →
-        StandsFor (rules_of R.plain R.counter) R.is_value opening part process.old.queues → is_ready (rules_of R.plain R.counter) gvt part ≡ true) }
-    ensures none { result ≡ Ok false → process.new.queues ≡ process.old.queues }
-    ensures tray { process.new.queues.tray ≡ process.old.queues.tray }
-    ensures left { process.new.queues.left ≡ process.old.queues.left }
-    ensures outbox { process.new.queues.outbox ≡ process.old.queues.outbox }
-    ensures unchanged { OnErr result (process.new.queues ≡ process.old.queues) }
-{
-    if !is_early(process.oldest(), gvt) {
-        return Ok(false);
-    }
-    match process.seal_oldest() {
-        Ok(done) => Ok(done),
-        Err(_) => Err(OutOfMemory),
-    }
-}
-
-/// Whether there is a moment, and it is earlier than another.
-fn is_early(moment: Option<Time>, limit: Time) -> bool
+/// Whether there is a moment, and it is earlier than another one: of the oldest done event and GVT, in ns, whether it can be undone no more.
+pub fn is_early(moment: Option<Time>, limit: Time) -> bool
     ensures { result ≡ is_moment_before limit moment }
 {
     match moment {

@@ -5,5 +5,5 @@
 mod collection;
 mod rows;
 
-pub use collection::{commit, commit_oldest};
+pub use collection::{commit, is_early};
 pub use rows::{let_rows_go, rows_between};

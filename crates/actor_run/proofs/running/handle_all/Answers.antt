@@ -1,9 +1,8 @@
-use Rattle.std.proofs.Common.{◌≡◌, ◌∙◌, refl, suc, true, false, Ok, Err, arith}
-use Rattle.std.proofs.lemmas.Result.{err_from_is_err_and}
-use Rattle.actor_run.specs.declared.fault.SimFault.TheVariants.{OutOfMemory, Exhausted}
+use Rattle.std.proofs.Common.{◌≡◌, ◌∙◌, refl, ap, suc, true, false, Ok, Err, arith}
+use Rattle.actor_run.specs.declared.fault.SimFault.TheVariants.{Exhausted}
 use Rattle.reverse.specs.Rules.{rules_of}
 use Rattle.reverse.specs.Setting.{simulation_of}
-use Rattle.actor_run.proofs.Errors.{after-error}
+use Rattle.actor_run.proofs.Errors.{after-error, passed-on}
 use Rattle.actor_run.proofs.Handling.{none-yet, one-more, never}
 use Rattle.actor_run.proofs.running.handle_all.Goals as goal
 
@@ -18,10 +17,7 @@ handle_first-requires g c =
 
 pub returns-in_err-handle_first-clause-exhausted : goal.returns-in_err-handle_first-clause-exhausted
 returns-in_err-handle_first-clause-exhausted g c = λ e rows taken x L n h.
-    let p = err_from_is_err_and c.from_residual.result c.from_residual.ensures.1 in
-    let q : p.0 ≡ c.in_err-handle_first.field-0.0 = p.2 in
-    let w : c.handle_first.result ≡ Err c.in_err-handle_first.field-0.0 = c.in_err-handle_first.was in
-    let k : c.handle_first.result ≡ Err Exhausted = cc in
+    let k = passed-on c.from_residual.result c.from_residual.ensures.1 c.in_err-handle_first.was e in
     let now = c.events.invariant.stands rows taken x L n h in
     (now.0, c.handle_first.ensures.exhausted k now.1 now.2 x L now.0 now.3)
 
@@ -33,9 +29,7 @@ returns-in_err-handle_first-clause-left g c = after-error (λ rows taken x L n h
 
 pub events-preserved : goal.events-preserved
 events-preserved g c =
-    let w : c.handle_first.result ≡ Ok c.in_ok-handle_first.field-0 = c.in_ok-handle_first.was in
-    let t : c.in_ok-handle_first.field-0 ≡ true = c.if-branch.true in
-    let k : c.handle_first.result ≡ Ok true = cc in
+    let k : c.handle_first.result ≡ Ok true = c.in_ok-handle_first.was ∙ ap (λ z. Ok z) c.if-branch.true in
     record {
       stands = λ rows taken x L n h.
           let now = c.events.invariant.stands rows taken x L n h in
@@ -55,9 +49,7 @@ events-preserved g c =
 pub returns-clause-whole : goal.returns-clause-whole
 returns-clause-whole g c = λ rows taken x L n h.
     let now = c.events.invariant.stands rows taken x L n h in
-    let w : c.handle_first.result ≡ Ok c.in_ok-handle_first.field-0 = c.in_ok-handle_first.was in
-    let t : c.in_ok-handle_first.field-0 ≡ false = c.if-branch.false in
-    let k : c.handle_first.result ≡ Ok false = cc in
+    let k : c.handle_first.result ≡ Ok false = c.in_ok-handle_first.was ∙ ap (λ z. Ok z) c.if-branch.false in
     let over = c.handle_first.ensures.over k now.1 now.2 x L now.0 now.3 in
     (now.1, over.0, (now.0, over.2, over.1.rows_are, over.1.states))
 
@@ -66,18 +58,13 @@ returns-clause-purpose g c = c.in_ok-handle_first.ensures.purpose ∙ c.events.i
 
 pub returns-in_err-handle_first-clause-memory : goal.returns-in_err-handle_first-clause-memory
 returns-in_err-handle_first-clause-memory g c = λ e rows taken x L n h.
-    let p = err_from_is_err_and c.from_residual.result c.from_residual.ensures.1 in
-    let q : p.0 ≡ c.in_err-handle_first.field-0.0 = p.2 in
-    let w : c.handle_first.result ≡ Err c.in_err-handle_first.field-0.0 = c.in_err-handle_first.was in
-    let k : c.handle_first.result ≡ Err OutOfMemory = cc in
+    let k = passed-on c.from_residual.result c.from_residual.ensures.1 c.in_err-handle_first.was e in
     let now = c.events.invariant.stands rows taken x L n h in
     (now.0, c.handle_first.ensures.memory k now.1 now.2 x L now.0 now.3)
 
 pub returns-clause-numbers : goal.returns-clause-numbers
 returns-clause-numbers g c = λ rows taken x L n h.
     let now = c.events.invariant.stands rows taken x L n h in
-    let w : c.handle_first.result ≡ Ok c.in_ok-handle_first.field-0 = c.in_ok-handle_first.was in
-    let t : c.in_ok-handle_first.field-0 ≡ false = c.if-branch.false in
-    let k : c.handle_first.result ≡ Ok false = cc in
+    let k : c.handle_first.result ≡ Ok false = c.in_ok-handle_first.was ∙ ap (λ z. Ok z) c.if-branch.false in
     let over = c.handle_first.ensures.over k now.1 now.2 x L now.0 now.3 in
     never (simulation_of (rules_of g.A.Reversible.plain g.A.Actor.counter) x) n now.0 now.4 over.2

@@ -2,14 +2,17 @@ use Rattle.std.proofs.Common.{refl, suc, ◌++◌, ◌∙◌, ap, sym, subst, le
 use Rattle.virtual_time.specs.Law.{rows_of}
 use Rattle.vlink.specs.declared.message.Message.{Message}
 use Rattle.vlink.specs.declared.time.TheConstants.{GREATEST_NS}
+use Rattle.vlink.specs.Letters.{Row}
 use Rattle.vlink.specs.Order.{message_order}
 use Rattle.reverse.specs.Rules.{rules_of}
 use Rattle.reverse.specs.Setting.{simulation_of}
-use Rattle.actor_run.specs.Running.{StandsAt}
+use Rattle.actor_run.specs.Running.{AtEach, IsCutOffAt, StandsAt}
 use Rattle.actor_run.proofs.Handling.{over, over-numbers, has-numbers, is_next, receiver_is, receiver_within, states_after, handled}
 use Rattle.actor_run.proofs.Errors.{after-error}
 use Rattle.actor_run.proofs.Loading.{load-falls}
 use Rattle.actor_run.proofs.running.handle_first.Goals as goal
+use Rattle.actor_run.proofs.running.handle_first.Given.{Over}
+use Rattle.actor_run.proofs.running.handle_first.Goals.{After-messages}
 
 pub returns-in_default-clause-over : goal.returns-in_default-clause-over
 returns-in_default-clause-over g c = λ e rows taken x L n h.
@@ -38,29 +41,25 @@ returns-then-not-act-clause-exhausted g c =
       c.if-not-act.ensures.exhausted refl _ (receiver_is f L n _ _ _ h c.in-Some.message c.pop.new.self one first),
     )
 
-pub returns-in_err-push_all-clause-left : goal.returns-in_err-push_all-clause-left
-returns-in_err-push_all-clause-left g c =
+-- after the receiver has acted, the actors stand as they do after one event more, and it had numbers left
+cut-off : (g : Over) (c : After-messages g) (rows : List Row) → AtEach (rules_of g.A.Reversible.plain g.A.Actor.counter) c.args.actors.now c.args.waiting.now rows
+    (λ f n. IsCutOffAt f n c.act.new.actors)
+cut-off g c rows x L n h =
     let one = c.in-Some.ensures.one in
     let first = c.in-Some.ensures.first in
-    after-error (λ rows taken x L n h.
     let f = simulation_of (rules_of g.A.Reversible.plain g.A.Actor.counter) x in
     let r = receiver_is f L n _ _ _ h c.in-Some.message c.pop.new.self one first in (
-      suc n,
+      has-numbers f L n _ _ _ h c.in-Some.message c.pop.new.self one first (c.if-not-act.ensures.numbers refl _ r),
       states_after f L n _ _ _ h c.in-Some.message c.pop.new.self one first c.act.new.actors (c.if-not-act.ensures.state refl _ r),
-    ))
-    c.from_residual.result
+    )
+
+pub returns-in_err-push_all-clause-left : goal.returns-in_err-push_all-clause-left
+returns-in_err-push_all-clause-left g c =
+    after-error (λ rows taken x L n h. (suc n, (cut-off g (goal.at.returns-in_err-push_all-clause-left g c).After-messages rows x L n h).1)) c.from_residual.result
 
 pub returns-in_err-record-clause-left : goal.returns-in_err-record-clause-left
 returns-in_err-record-clause-left g c =
-    let one = c.in-Some.ensures.one in
-    let first = c.in-Some.ensures.first in
-    after-error (λ rows taken x L n h.
-    let f = simulation_of (rules_of g.A.Reversible.plain g.A.Actor.counter) x in
-    let r = receiver_is f L n _ _ _ h c.in-Some.message c.pop.new.self one first in (
-      suc n,
-      states_after f L n _ _ _ h c.in-Some.message c.pop.new.self one first c.act.new.actors (c.if-not-act.ensures.state refl _ r),
-    ))
-    c.from_residual-in_err-record.result
+    after-error (λ rows taken x L n h. (suc n, (cut-off g (goal.at.returns-in_err-record-clause-left g c).After-messages rows x L n h).1)) c.from_residual-in_err-record.result
 
 pub record-requires : goal.record-requires
 record-requires g c = (c.requires.0, c.requires.1)
@@ -100,44 +99,17 @@ returns-in_default-clause-used_up g c = λ rows taken x L n h z.
 
 pub returns-in_err-push_all-clause-used_up : goal.returns-in_err-push_all-clause-used_up
 returns-in_err-push_all-clause-used_up g c = λ rows taken x L n h z.
-    let one = c.in-Some.ensures.one in
-    let first = c.in-Some.ensures.first in
-    let f = simulation_of (rules_of g.A.Reversible.plain g.A.Actor.counter) x in
-    let r = receiver_is f L n _ _ _ h c.in-Some.message c.pop.new.self one first in
-    absurd (has-numbers f L n _ _ _ h c.in-Some.message c.pop.new.self one first (c.if-not-act.ensures.numbers refl _ r) z)
+    absurd ((cut-off g (goal.at.returns-in_err-push_all-clause-used_up g c).After-messages rows x L n h).0 z)
 
 pub returns-in_err-record-clause-used_up : goal.returns-in_err-record-clause-used_up
 returns-in_err-record-clause-used_up g c = λ rows taken x L n h z.
-    let one = c.in-Some.ensures.one in
-    let first = c.in-Some.ensures.first in
-    let f = simulation_of (rules_of g.A.Reversible.plain g.A.Actor.counter) x in
-    let r = receiver_is f L n _ _ _ h c.in-Some.message c.pop.new.self one first in
-    absurd (has-numbers f L n _ _ _ h c.in-Some.message c.pop.new.self one first (c.if-not-act.ensures.numbers refl _ r) z)
+    absurd ((cut-off g (goal.at.returns-in_err-record-clause-used_up g c).After-messages rows x L n h).0 z)
 
 pub returns-clause-used_up : goal.returns-clause-used_up
-returns-clause-used_up g c = λ rows taken x L n h z.
-    let one = c.in-Some.ensures.one in
-    let first = c.in-Some.ensures.first in
-    let f = simulation_of (rules_of g.A.Reversible.plain g.A.Actor.counter) x in
-    let r = receiver_is f L n _ _ _ h c.in-Some.message c.pop.new.self one first in
-    absurd (has-numbers f L n _ _ _ h c.in-Some.message c.pop.new.self one first (c.if-not-act.ensures.numbers refl _ r) z)
+returns-clause-used_up g c = λ rows taken x L n h z. absurd ((cut-off g (goal.at.returns-clause-used_up g c).After-messages rows x L n h).0 z)
 
 pub returns-in_err-push_all-clause-memory : goal.returns-in_err-push_all-clause-memory
-returns-in_err-push_all-clause-memory g c = λ e rows taken x L n h.
-    let one = c.in-Some.ensures.one in
-    let first = c.in-Some.ensures.first in
-    let f = simulation_of (rules_of g.A.Reversible.plain g.A.Actor.counter) x in
-    let r = receiver_is f L n _ _ _ h c.in-Some.message c.pop.new.self one first in (
-      has-numbers f L n _ _ _ h c.in-Some.message c.pop.new.self one first (c.if-not-act.ensures.numbers refl _ r),
-      states_after f L n _ _ _ h c.in-Some.message c.pop.new.self one first c.act.new.actors (c.if-not-act.ensures.state refl _ r),
-    )
+returns-in_err-push_all-clause-memory g c = λ e rows taken. cut-off g (goal.at.returns-in_err-push_all-clause-memory g c).After-messages rows
 
 pub returns-in_err-record-clause-memory : goal.returns-in_err-record-clause-memory
-returns-in_err-record-clause-memory g c = λ e rows taken x L n h.
-    let one = c.in-Some.ensures.one in
-    let first = c.in-Some.ensures.first in
-    let f = simulation_of (rules_of g.A.Reversible.plain g.A.Actor.counter) x in
-    let r = receiver_is f L n _ _ _ h c.in-Some.message c.pop.new.self one first in (
-      has-numbers f L n _ _ _ h c.in-Some.message c.pop.new.self one first (c.if-not-act.ensures.numbers refl _ r),
-      states_after f L n _ _ _ h c.in-Some.message c.pop.new.self one first c.act.new.actors (c.if-not-act.ensures.state refl _ r),
-    )
+returns-in_err-record-clause-memory g c = λ e rows taken. cut-off g (goal.at.returns-in_err-record-clause-memory g c).After-messages rows

@@ -1,12 +1,10 @@
-use Rattle.std.proofs.Common.{◌≡◌, inl, inr, refl, subst, sym, List, [], Err}
+use Rattle.std.proofs.Common.{inl, inr, refl, subst, sym, List, []}
 use Rattle.reverse.specs.Rules.{rules_of}
-use Rattle.std.proofs.lemmas.Result.{err_from_is_err_and}
-use Rattle.actor_run.specs.declared.fault.SimFault.TheVariants.{OutOfMemory, Exhausted}
 use Rattle.vlink.specs.Letters.{Row}
 use Rattle.reverse.specs.Setting.{simulation_of}
 use Rattle.actor_run.specs.Running.{IsWholeRun}
 use Rattle.actor_run.proofs.Handling.{begun, started}
-use Rattle.actor_run.proofs.Errors.{after-error}
+use Rattle.actor_run.proofs.Errors.{after-error, passed-on}
 use Rattle.actor_run.proofs.running.run_actors.Goals as goal
 
 pub handle_all-requires : goal.handle_all-requires
@@ -26,10 +24,7 @@ returns-in_err-waiting-clause-left g c = after-error (λ x o L. begun (rules_of 
 
 pub returns-in_err-handle_all-clause-exhausted : goal.returns-in_err-handle_all-clause-exhausted
 returns-in_err-handle_all-clause-exhausted g c = λ e x o L.
-    let p = err_from_is_err_and c.from_residual-in_err-handle_all.result c.from_residual-in_err-handle_all.ensures.1 in
-    let q : p.0 ≡ c.in_err-handle_all.field-0.0 = p.2 in
-    let w : c.handle_all.result ≡ Err c.in_err-handle_all.field-0.0 = c.in_err-handle_all.was in
-    let k : c.handle_all.result ≡ Err Exhausted = cc in
+    let k = passed-on c.from_residual-in_err-handle_all.result c.from_residual-in_err-handle_all.ensures.1 c.in_err-handle_all.was e in
     c.handle_all.ensures.exhausted k [] c.none-all.ensures x L 0
     (started (rules_of g.A.Reversible.plain g.A.Actor.counter) x _ c.args.offers.now _ [] o c.in_ok-waiting.ensures.offered refl)
 
@@ -51,10 +46,7 @@ returns-in_err-waiting-clause-memory g c = λ e x o L. inl refl
 
 pub returns-in_err-handle_all-clause-memory : goal.returns-in_err-handle_all-clause-memory
 returns-in_err-handle_all-clause-memory g c = λ e x o L.
-    let p = err_from_is_err_and c.from_residual-in_err-handle_all.result c.from_residual-in_err-handle_all.ensures.1 in
-    let q : p.0 ≡ c.in_err-handle_all.field-0.0 = p.2 in
-    let w : c.handle_all.result ≡ Err c.in_err-handle_all.field-0.0 = c.in_err-handle_all.was in
-    let k : c.handle_all.result ≡ Err OutOfMemory = cc in
+    let k = passed-on c.from_residual-in_err-handle_all.result c.from_residual-in_err-handle_all.ensures.1 c.in_err-handle_all.was e in
     inr (c.handle_all.ensures.memory k [] c.none-all.ensures x L 0
     (started (rules_of g.A.Reversible.plain g.A.Actor.counter) x _ c.args.offers.now _ [] o c.in_ok-waiting.ensures.offered refl))
 

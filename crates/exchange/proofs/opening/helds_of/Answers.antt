@@ -1,60 +1,50 @@
-use Rattle.std.proofs.Common.{◌≡◌, ◌<◌, drop, length, slice_index, sym, ap, ◌∙◌, subst, arith}
+use Rattle.std.proofs.Common.{◌≡◌, ◌<◌, drop, get_or, length, slice_index, sym, ap, ◌∙◌, subst, arith}
 use Rattle.std.proofs.lemmas.Iterator.Adapters.{YieldsList-from_vec}
 use Rattle.std.proofs.lemmas.Iterator.Consumers.{YieldsList-turn, YieldsList-end}
 use Rattle.std.proofs.lemmas.List.{length_push}
 use Rattle.exchange.specs.Views.{opened_share}
 use Rattle.exchange.proofs.Books.{some-left, first-name, names-left, first-blank, blanks-left}
 use Rattle.exchange.proofs.Opened.{actor-opens, as-many, helds-more}
+use Rattle.exchange.proofs.opening.helds_of.Given.{Over}
+use Rattle.exchange.proofs.opening.helds_of.Goals.{In-Some}
 use Rattle.exchange.proofs.opening.helds_of.Goals as goal
+
+-- the actor stands behind those before it, and there is a name for it
+actor-at : (g : Over) (c : In-Some g) → (length c.loop-actor.yielded < length c.args.actors.items) × (c.in-Some.actor ≡ get_or c.args.actors.items (length c.loop-actor.yielded) c.in-Some.actor)
+actor-at g c =
+    let given = c.into_iter-actor-iterator.ensures.into_iter_gives in
+    let road = YieldsList-from_vec {s = c.into_iter-actor-iterator.result} c.args.actors.items given.0 (given.1 ∙ c.args.actors.ok.0) in
+    YieldsList-turn road c.loop-actor.yielded c.loop-actor.actor-iterator c.loop-actor.yielded_by c.next.result c.next.new.self c.in-Some.actor c.in-Some.is c.next.ensures.steps
+
+within : (g : Over) (c : In-Some g) → length c.loop-actor.yielded < length g.J.ActorRun.names
+within g c = omega (arith, (actor-at g c).0, c.requires.each_name, c.requires.count)
 
 pub open-requires-clause-actor : goal.open-requires-clause-actor
 open-requires-clause-actor g c =
     let x = g.J.ActorRun.setting in
-    let given = c.into_iter-actor-iterator.ensures.into_iter_gives in
-    let road = YieldsList-from_vec {s = c.into_iter-actor-iterator.result} c.args.actors.items given.0 (given.1 ∙ c.args.actors.ok.0) in
-    let yields = YieldsList-turn road c.loop-actor.yielded c.loop-actor.actor-iterator c.loop-actor.yielded_by c.next.result c.next.new.self c.in-Some.actor c.in-Some.is c.next.ensures.steps in
     let number : length c.loop-actor.yielded ≡ c.len-number.result = omega arith in
-    actor-opens x.processes x.opening c.args.actors.items c.requires.count c.requires.each (length c.loop-actor.yielded) c.in-Some.actor yields ∙ ap x.opening number
+    actor-opens x.processes x.opening c.args.actors.items c.requires.count c.requires.each (length c.loop-actor.yielded) c.in-Some.actor (actor-at g (goal.at.open-requires-clause-actor g c).In-Some) ∙ ap x.opening number
 
 pub overflow_cast-number : goal.overflow_cast-number
-overflow_cast-number g c =
-    let given = c.into_iter-actor-iterator.ensures.into_iter_gives in
-    let road = YieldsList-from_vec {s = c.into_iter-actor-iterator.result} c.args.actors.items given.0 (given.1 ∙ c.args.actors.ok.0) in
-    let yields = YieldsList-turn road c.loop-actor.yielded c.loop-actor.actor-iterator c.loop-actor.yielded_by c.next.result c.next.new.self c.in-Some.actor c.in-Some.is c.next.ensures.steps in
-    let within : length c.loop-actor.yielded < length g.J.ActorRun.names = omega (arith, yields.0, c.requires.each_name, c.requires.count) in
-    omega (arith, yields.0, c.requires.count, c.requires.few, c.loop-actor.invariant.count)
+overflow_cast-number g c = omega (arith, (actor-at g (goal.at.overflow_cast-number g c).In-Some).0, c.requires.count, c.requires.few, c.loop-actor.invariant.count)
 
 pub remove-share-requires : goal.remove-share-requires
 remove-share-requires g c =
-    let given = c.into_iter-actor-iterator.ensures.into_iter_gives in
-    let road = YieldsList-from_vec {s = c.into_iter-actor-iterator.result} c.args.actors.items given.0 (given.1 ∙ c.args.actors.ok.0) in
-    let yields = YieldsList-turn road c.loop-actor.yielded c.loop-actor.actor-iterator c.loop-actor.yielded_by c.next.result c.next.new.self c.in-Some.actor c.in-Some.is c.next.ensures.steps in
-    let within : length c.loop-actor.yielded < length g.J.ActorRun.names = omega (arith, yields.0, c.requires.each_name, c.requires.count) in
-    omega (arith, some-left g.J.ActorRun.names c.loop-actor.shares.items (length c.loop-actor.yielded) c.loop-actor.invariant.names within, c.loop-actor.shares.ok.0)
+    omega (arith, some-left g.J.ActorRun.names c.loop-actor.shares.items (length c.loop-actor.yielded) c.loop-actor.invariant.names (within g (goal.at.remove-share-requires g c).In-Some), c.loop-actor.shares.ok.0)
 
 pub open-requires-clause-name : goal.open-requires-clause-name
 open-requires-clause-name g c =
-    let given = c.into_iter-actor-iterator.ensures.into_iter_gives in
-    let road = YieldsList-from_vec {s = c.into_iter-actor-iterator.result} c.args.actors.items given.0 (given.1 ∙ c.args.actors.ok.0) in
-    let yields = YieldsList-turn road c.loop-actor.yielded c.loop-actor.actor-iterator c.loop-actor.yielded_by c.next.result c.next.new.self c.in-Some.actor c.in-Some.is c.next.ensures.steps in
-    let within : length c.loop-actor.yielded < length g.J.ActorRun.names = omega (arith, yields.0, c.requires.each_name, c.requires.count) in
     let number : length c.loop-actor.yielded ≡ c.len-number.result = omega arith in
-    first-name g.J.ActorRun.names c.loop-actor.shares.items (length c.loop-actor.yielded) c.loop-actor.invariant.names within c.remove-share.result c.remove-share.ensures.value ∙ ap (slice_index g.J.ActorRun.names) number
+    first-name g.J.ActorRun.names c.loop-actor.shares.items (length c.loop-actor.yielded) c.loop-actor.invariant.names (within g (goal.at.open-requires-clause-name g c).In-Some) c.remove-share.result c.remove-share.ensures.value
+    ∙ ap (slice_index g.J.ActorRun.names) number
 
 pub open-requires-clause-blank : goal.open-requires-clause-blank
 open-requires-clause-blank g c =
-    let given = c.into_iter-actor-iterator.ensures.into_iter_gives in
-    let road = YieldsList-from_vec {s = c.into_iter-actor-iterator.result} c.args.actors.items given.0 (given.1 ∙ c.args.actors.ok.0) in
-    let yields = YieldsList-turn road c.loop-actor.yielded c.loop-actor.actor-iterator c.loop-actor.yielded_by c.next.result c.next.new.self c.in-Some.actor c.in-Some.is c.next.ensures.steps in
-    let within : length c.loop-actor.yielded < length g.J.ActorRun.names = omega (arith, yields.0, c.requires.each_name, c.requires.count) in
-    first-blank g.J.ActorRun.names c.loop-actor.shares.items (length c.loop-actor.yielded) c.loop-actor.invariant.names within c.loop-actor.invariant.blanks c.remove-share.result c.remove-share.ensures.value
+    first-blank g.J.ActorRun.names c.loop-actor.shares.items (length c.loop-actor.yielded) c.loop-actor.invariant.names (within g (goal.at.open-requires-clause-blank g c).In-Some)
+    c.loop-actor.invariant.blanks c.remove-share.result c.remove-share.ensures.value
 
 pub loop-actor-preserved : goal.loop-actor-preserved
 loop-actor-preserved g c =
-    let given = c.into_iter-actor-iterator.ensures.into_iter_gives in
-    let road = YieldsList-from_vec {s = c.into_iter-actor-iterator.result} c.args.actors.items given.0 (given.1 ∙ c.args.actors.ok.0) in
-    let yields = YieldsList-turn road c.loop-actor.yielded c.loop-actor.actor-iterator c.loop-actor.yielded_by c.next.result c.next.new.self c.in-Some.actor c.in-Some.is c.next.ensures.steps in
-    let within : length c.loop-actor.yielded < length g.J.ActorRun.names = omega (arith, yields.0, c.requires.each_name, c.requires.count) in
     let x = g.J.ActorRun.setting in
     let pushed = c.push_reserved.ensures.items in
     let number : c.len-number.result ≡ length c.loop-actor.yielded = omega arith in
@@ -63,8 +53,9 @@ loop-actor-preserved g c =
       can = tt;
       ends = tt;
       count = as-many c.loop-actor.helds.items c.push_reserved.new.self.items c.in_ok-held.held c.loop-actor.yielded c.in-Some.actor pushed c.loop-actor.invariant.count;
-      room = omega arith;
-      names = names-left g.J.ActorRun.names c.loop-actor.shares.items (length c.loop-actor.yielded) c.loop-actor.invariant.names within c.remove-share.new.self.items c.remove-share.ensures.items ∙ ap (λ n. drop n g.J.ActorRun.names) (sym longer);
+      room = let at = (actor-at g (goal.at.loop-actor-preserved g c).In-Some).0 in omega arith;
+      names = names-left g.J.ActorRun.names c.loop-actor.shares.items (length c.loop-actor.yielded) c.loop-actor.invariant.names (within g (goal.at.loop-actor-preserved g c).In-Some)
+          c.remove-share.new.self.items c.remove-share.ensures.items ∙ ap (λ n. drop n g.J.ActorRun.names) (sym longer);
       blanks = blanks-left c.loop-actor.shares.items c.loop-actor.invariant.blanks c.remove-share.new.self.items c.remove-share.ensures.items;
       each = λ p i.
           helds-more x.opening c.loop-actor.helds.items c.push_reserved.new.self.items (length c.loop-actor.yielded) c.in_ok-held.held c.loop-actor.invariant.count c.loop-actor.invariant.each
@@ -79,8 +70,4 @@ returns-clause-count g c =
     c.loop-actor.invariant.count ∙ (end.1 ∙ c.requires.count)
 
 pub returns-clause-each : goal.returns-clause-each
-returns-clause-each g c =
-    let given = c.into_iter-actor-iterator.ensures.into_iter_gives in
-    let road = YieldsList-from_vec {s = c.into_iter-actor-iterator.result} c.args.actors.items given.0 (given.1 ∙ c.args.actors.ok.0) in
-    let end = YieldsList-end road c.loop-actor.yielded c.loop-actor.actor-iterator c.loop-actor.yielded_by c.next.result c.next.new.self c.in-None.is c.next.ensures.steps in
-    λ p i. c.loop-actor.invariant.each p (subst (λ n. p < n) (sym (end.1 ∙ c.requires.count)) i)
+returns-clause-each g c = λ p i. c.loop-actor.invariant.each p (subst (λ n. p < n) (sym (returns-clause-count g c) ∙ c.loop-actor.invariant.count) i)

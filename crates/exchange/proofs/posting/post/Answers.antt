@@ -15,27 +15,34 @@ use Rattle.exchange.proofs.Growth.{Fresh, entry-fresh, entries-are}
 use Rattle.exchange.proofs.Holding.{holds-posted}
 use Rattle.exchange.proofs.Outcomes.{when-ok, when-no-err}
 use Rattle.exchange.proofs.Posted.{outbox-goes, end-told, kept-posted, seen-low, kept-refused, part-posted, posts-some}
+use Rattle.exchange.proofs.posting.post.Given.{Over}
+use Rattle.exchange.proofs.posting.post.Goals.{In-Ok, After-join}
 use Rattle.exchange.proofs.posting.post.Goals as goal
 
-pub reserve_post-requires : goal.reserve_post-requires
-reserve_post-requires g c =
+-- what is in the outbox goes to processes
+goes : (g : Over) (c : After-join g) → All (λ l. l.message.receiver < length c.exchange.inside.mail) c.held.inside.process.queues.outbox
+goes g c =
     let k = c.exchange.invariant.2 in
     let h = c.held.invariant.0 in
-    let L = c.actor_laws.ensures g.J.ActorRun.setting k.laid in
     let part = rw (sym c.held.view_is, sym c.exchange.view_is) at c.join.ensures.part in
     let enabled = rw (sym c.held.view_is, sym c.exchange.view_is) at c.join.ensures.enabled in
-    outbox-goes k L c.held.inside.number h.number_is c.held.inside.block enabled _ part c.held.inside.process.queues.outbox h.stands.outbox
+    outbox-goes k (c.actor_laws.ensures g.J.ActorRun.setting k.laid) c.held.inside.number h.number_is c.held.inside.block enabled _ part c.held.inside.process.queues.outbox h.stands.outbox
+
+-- the entry that it writes
+new : (g : Over) (c : In-Ok g) →
+    Fresh g.J.ActorRun.pages c.exchange.inside.journal.items (told c.held.inside.number (place_in c.held.inside.last) (Posted c.held.inside.block))
+    (own_in c.held.inside.number (entries_of c.exchange.inside.journal.items)) c.in-Ok.tokens
+new g c =
+    let before = rw (sym c.held.view_is) at c.prior.ensures in
+    let mine = rw (sym c.held.view_is, sym c.exchange.view_is) at c.join.ensures.own in
+    entry-fresh c.exchange.invariant.2.same c.in-Ok.ensures.at c.in-Ok.ensures.value refl before.place (before.own ∙ mine) (ap (λ b. Posted b) c.replace.ensures.value) tt
+
+pub reserve_post-requires : goal.reserve_post-requires
+reserve_post-requires g c = goes g (goal.at.reserve_post-requires g c).After-join
 
 pub post-posted-requires : goal.post-posted-requires
 post-posted-requires g c =
-    let k = c.exchange.invariant.2 in
-    let h = c.held.invariant.0 in
-    let L = c.actor_laws.ensures g.J.ActorRun.setting k.laid in
-    let part = rw (sym c.held.view_is, sym c.exchange.view_is) at c.join.ensures.part in
-    let enabled = rw (sym c.held.view_is, sym c.exchange.view_is) at c.join.ensures.enabled in
-    let ls = c.held.inside.process.queues.outbox in
-    subst (λ n. All (λ l. l.message.receiver < n) ls) (sym c.reserve_post.ensures.processes)
-    (outbox-goes k L c.held.inside.number h.number_is c.held.inside.block enabled _ part ls h.stands.outbox)
+    subst (λ n. All (λ l. l.message.receiver < n) c.held.inside.process.queues.outbox) (sym c.reserve_post.ensures.processes) (goes g (goal.at.post-posted-requires g c).After-join)
 
 pub invariant_of-held : goal.invariant_of-held
 invariant_of-held g c =
@@ -47,18 +54,15 @@ invariant_of-held g c =
     let ts = c.exchange.inside.journal.items in
     let block = c.held.inside.block in
     let mine = rw (sym c.held.view_is, sym c.exchange.view_is) at c.join.ensures.own in
-    let before = rw (sym c.held.view_is) at c.prior.ensures in
-    let wrote = c.in-Ok.ensures in
-    let new : Fresh g.J.ActorRun.pages ts (told p (place_in c.held.inside.last) (Posted block)) (own_in p (entries_of ts)) c.in-Ok.tokens =
-    entry-fresh k.same wrote.at wrote.value refl before.place (before.own ∙ mine) (ap (λ b. Posted b) c.replace.ensures.value) tt in
+    let entry = new g (goal.at.invariant_of-held g c).In-Ok in
     let place : c.len-place.result ≡ length ts = c.len-place.ensures ∙ c.exchange.inside.journal.ok.0 in
     let room = when-no-err c.reserve_post.result (sym c.is_err.ensures.value ∙ c.if-is_err.false) c.reserve_post.ensures.room in
     let did = when-ok c.post-posted.result (c.post-posted.ensures.reserved room) c.post-posted.ensures.emptied in
     let queues = when-ok c.post-posted.result (c.post-posted.ensures.reserved room) c.post-posted.ensures.queues in (
       holds-posted h (c.actor_laws.ensures x k.laid)
           (Some (record { number = c.len-place.result; tokens = c.in-Ok.tokens }))
-          (subst (λ n. IsAt g.J.ActorRun.pages n c.in-Ok.tokens) (sym place) new.at, omega arith)
-          (new.own_is ∙ ap (λ z. z ++ acts_of (Posted block)) (sym mine))
+          (subst (λ n. IsAt g.J.ActorRun.pages n c.in-Ok.tokens) (sym place) entry.at, omega arith)
+          (entry.own_is ∙ ap (λ z. z ++ acts_of (Posted block)) (sym mine))
           c.post-posted.new.self.queues
           (did (x.opening p) _ h.stands)
           (ap (λ (z : Queues g.row.R.Denot g.row.R-Record.Denot). z.left) queues)
@@ -80,10 +84,7 @@ invariant_of-exchange-in-Ok g c =
     let mine = rw (sym c.held.view_is, sym c.exchange.view_is) at c.join.ensures.own in
     let part-is = rw (sym c.held.view_is, sym c.exchange.view_is) at c.join.ensures.part in
     let enabled = rw (sym c.held.view_is, sym c.exchange.view_is) at c.join.ensures.enabled in
-    let before = rw (sym c.held.view_is) at c.prior.ensures in
-    let wrote = c.in-Ok.ensures in
-    let new : Fresh g.J.ActorRun.pages ts (told p (place_in c.held.inside.last) (Posted block)) (own_in p (entries_of ts)) c.in-Ok.tokens =
-    entry-fresh k.same wrote.at wrote.value refl before.place (before.own ∙ mine) (ap (λ b. Posted b) c.replace.ensures.value) tt in
+    let entry = new g (goal.at.invariant_of-exchange-in-Ok g c).In-Ok in
     let place : c.len-place.result ≡ length ts = c.len-place.ensures ∙ c.exchange.inside.journal.ok.0 in
     let room = when-no-err c.reserve_post.result (sym c.is_err.ensures.value ∙ c.if-is_err.false) c.reserve_post.ensures.room in
     let is-ok = c.post-posted.ensures.reserved room in
@@ -95,12 +96,12 @@ invariant_of-exchange-in-Ok g c =
     let end = end-told r g.R.Reversible.is_value (x.opening p) (emptied part) c.post-posted.new.self.queues stands L.order g.R.Actor.end (λ s m. g.met.R.Actor.end_stays s m) x.until (k.laid.end_is p h.number_is) in (
       omega arith,
       c.exchange.invariant.1,
-      kept-posted k L p h.number_is block enabled part part-is new
+      kept-posted k L p h.number_is block enabled part part-is entry
           c.post-posted.new.mail (c.post-posted.ensures.processes ∙ c.reserve_post.ensures.processes)
           (λ q. posted q ∙ (λ j. c.reserve_post.ensures.same q j ++ received_by r.order q (h.stands.outbox j)))
           c.set.new.self c.set.ensures.processes c.set.ensures.until
           c.floor.result (c.floor.ensures (x.opening p) (emptied part) stands ∙ ap (λ n. floor_of r.order n (emptied part)) end) c.set.ensures.here c.set.ensures.others
-          c.write.new.journal.items wrote.journal _ (omega arith)
+          c.write.new.journal.items c.in-Ok.ensures.journal _ (omega arith)
           c.held.inside.seen (seen-low k p h.number_is (mark (place_in c.held.inside.last) c.held.inside.seen) fits)
           _ (c.tell_both.ensures.books ∙ (λ j. set (map (λ (b : Book Mark). b.value) books) p (mark (Some (place j)) c.held.inside.seen))),
       c.tell_both.ensures.names ∙ c.exchange.invariant.3,
@@ -124,18 +125,15 @@ returns-in-Ok-clause-ok g c =
     let block = c.held.inside.block in
     let seen = c.held.inside.seen in
     let mine = rw (sym c.held.view_is, sym c.exchange.view_is) at c.join.ensures.own in
-    let before = rw (sym c.held.view_is) at c.prior.ensures in
-    let wrote = c.in-Ok.ensures in
-    let new : Fresh g.J.ActorRun.pages ts (told p (place_in c.held.inside.last) (Posted block)) (own_in p (entries_of ts)) c.in-Ok.tokens =
-    entry-fresh k.same wrote.at wrote.value refl before.place (before.own ∙ mine) (ap (λ b. Posted b) c.replace.ensures.value) tt in
-    let own = new.own_is ∙ ap (λ z. z ++ acts_of (Posted block)) (sym mine) in
+    let entry = new g (goal.at.returns-in-Ok-clause-ok g c).In-Ok in
+    let own = entry.own_is ∙ ap (λ z. z ++ acts_of (Posted block)) (sym mine) in
     let none = c.replace.ensures.after ∙ c.new.ensures in
     let at : c.len-place.result ≡ length (entries_of ts) = c.len-place.ensures ∙ (c.exchange.inside.journal.ok.0 ∙ sym (length-map ts (λ (t : Tokens). seen_entry t.cell.value))) in
     let books = c.exchange.inside.books.items in
     let some : 0 < length block = omega arith in
     rw (sym c.held.view_is, sym c.exchange.view_is) (posts-some f _ _ _ _ block some
     (λ i. record {
-      entries = (ap entries_of wrote.journal ∙ entries-are new) i;
+      entries = (ap entries_of c.in-Ok.ensures.journal ∙ entries-are entry) i;
       books = (c.tell_both.ensures.books ∙ (λ j. set (map (λ (b : Book Mark). b.value) books) p (mark (Some (at j)) seen))) i;
       limit = c.exchange.inside.limit;
     })

@@ -3,7 +3,7 @@ use Rattle.std.specs.Option.{option_copied}
 use Rattle.std.specs.BinaryHeap.{heap_items}
 use Rattle.std.proofs.lemmas.List.Elements.{Contains-append_left}
 use Rattle.vlink.specs.declared.message.Message.{Message}
-use Rattle.actor_run.proofs.Waits.{NoneBefore, IsNotBeforeTop, top-first, not-before, sent-first, none-left, last-among, last-of-all}
+use Rattle.actor_run.proofs.Waits.{NoneBefore, IsNotBeforeTop, sent-first, none-left, last-among, last-of-all}
 use Rattle.actor_run.proofs.beside.Beside.first.Goals as goal
 
 pub returns-then-is_offer_next-clause-among : goal.returns-then-is_offer_next-clause-among
@@ -45,6 +45,5 @@ returns-clause-first c =
     let some : 0 < length sent = search rules in
     subst (λ (m : Message). NoneBefore m c.args.self.now) (sym c.message.ensures)
     (subst (NoneBefore x) c.self.view_is
-    (sent-first c.message_order.ensures.total sent offers x c.self.inside.falling
-    (top-first c.message_order.ensures.written x sent (c.in-Some.ensures.greatest c.self.inside.ordered))
-    (not-before sent offers x some c.in-Some.ensures.lookup (subst (IsNotBeforeTop sent) c.as_slice.ensures.value (c.if-is_offer_next.ensures.sent refl)))))
+    (sent-first c.message_order.ensures.total c.message_order.ensures.written sent offers x c.self.inside.falling (c.in-Some.ensures.greatest c.self.inside.ordered)
+    some c.in-Some.ensures.lookup (subst (IsNotBeforeTop sent) c.as_slice.ensures.value (c.if-is_offer_next.ensures.sent refl))))

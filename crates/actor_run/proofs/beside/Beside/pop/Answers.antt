@@ -3,7 +3,7 @@ use Rattle.std.specs.Prelude.{IsSomeAnd}
 use Rattle.std.specs.BinaryHeap.{heap_items}
 use Rattle.std.proofs.lemmas.List.Sorted.{IsPermutation-append_left, length_permutation}
 use Rattle.vlink.specs.declared.message.Message.{Message}
-use Rattle.actor_run.proofs.Waits.{NoneBefore, IsNotBeforeTop, offer-out, offer-first, top-first, not-before, sent-first, none-left}
+use Rattle.actor_run.proofs.Waits.{NoneBefore, IsNotBeforeTop, offer-out, offer-first, sent-first, none-left}
 use Rattle.actor_run.proofs.beside.Beside.pop.Goals as goal
 
 pub returns-then-is_offer_next-clause-one : goal.returns-then-is_offer_next-clause-one
@@ -45,5 +45,5 @@ returns-clause-first c =
     let over = c.in-Some.ensures.heap_order c.self.inside.ordered in
     subst (λ (m : Message). NoneBefore m c.args.self.now) (sym c.message.ensures)
     (subst (NoneBefore x) c.self.view_is
-    (sent-first c.message_order.ensures.total sent offers x c.self.inside.falling (top-first c.message_order.ensures.written x sent over.1)
-    (not-before sent offers x some c.in-Some.ensures.top (subst (IsNotBeforeTop sent) c.as_slice.ensures.value (c.if-is_offer_next.ensures.sent refl)))))
+    (sent-first c.message_order.ensures.total c.message_order.ensures.written sent offers x c.self.inside.falling over.1
+    some c.in-Some.ensures.top (subst (IsNotBeforeTop sent) c.as_slice.ensures.value (c.if-is_offer_next.ensures.sent refl))))

@@ -1,43 +1,55 @@
-use Rattle.std.proofs.Common.{◌<◌, length, Ok, Err, sym, ap, ◌∙◌, subst}
+use Rattle.std.proofs.Common.{◌≡◌, map, slice_get, Some, Ok, Err, refl, sym, ap, ◌∙◌}
 use Rattle.std.proofs.lemmas.Result.{err_from_is_err_and}
-use Rattle.virtual_time.specs.declared.step.Step.TheVariants.{Commit}
+use Rattle.virtual_time.specs.declared.moved.Move.TheVariants.{Sealed}
 use Rattle.reverse.specs.Rules.{rules_of}
-use Rattle.actor_world.specs.Worlds.{Holdings}
-use Rattle.actor_world.proofs.Holding.{queues-at, queues-set, queues-same, seen-as}
-use Rattle.actor_world.proofs.Acting.{commit-none, commit-did, commit-refused}
+use Rattle.reverse.specs.Setting.{simulation_of}
+use Rattle.process_queues.specs.Queues.{InHand}
+use Rattle.actor_world.specs.Faults.{fault_of}
+use Rattle.actor_world.proofs.Holding.{queues-at, queues-set, queues-same}
+use Rattle.actor_world.proofs.Acting.{can-commit, moved-none, moved-did, moved-refused}
+use Rattle.actor_world.proofs.actors.ActorWorld.commit.Given.{Over}
+use Rattle.actor_world.proofs.actors.ActorWorld.commit.Goals.{After-index_mut-process}
 use Rattle.actor_world.proofs.actors.ActorWorld.commit.Goals as goal
 
-pub returns-in_err-committed : goal.returns-in_err-committed
-returns-in_err-committed g c =
-    let r = rules_of g.R.Reversible.plain g.R.Actor.counter in
-    let p = c.args.process in
-    let vs = c.self.inside.processes.items in
-    let there = subst (λ (h : Holdings g.row.R.Denot g.row.R-Record.Denot). p < length h.processes) (sym c.self.view_is) c.requires.there in
-    let now = queues-at vs p c.from.result c.index_mut.result.now c.from.ensures there c.index_mut.ensures.value in
-    let e = err_from_is_err_and c.from_residual.result c.from_residual.ensures.1 in
-    let unchanged = queues-same vs c.from.result c.index_mut.result.now c.commit_oldest.new.process c.index_mut.ensures.value c.in_err-committed.ensures.unchanged in
-    seen-as r g.R.Actor.number g.R.Actor.end g.R.Actor.is_placed g.R.Reversible.is_value (Commit p) _ _ _ _ c.self.view_is
-    (commit-refused r g.R.Actor.number g.R.Actor.end g.R.Actor.is_placed g.R.Reversible.is_value _ p _ now c.in_err-committed.ensures.refused _ unchanged _ (e.1 ∙ ap (λ z. Err z) e.2))
+-- the process in hand
+here : (g : Over) (c : After-index_mut-process g) →
+    slice_get (map (λ (u : InHand g.row.R.Denot g.row.R-Record.Denot). u.queues) c.self.inside.processes.items) c.args.process ≡ Some c.index_mut-process.result.now.queues
+here g c =
+    queues-at c.self.inside.processes.items c.args.process c.from.result c.index_mut-process.result.now c.from.ensures
+    (rw (sym c.self.view_is) at c.requires.there) c.index_mut-process.ensures.value
 
-pub returns-then-not-committed : goal.returns-then-not-committed
-returns-then-not-committed g c =
-    let r = rules_of g.R.Reversible.plain g.R.Actor.counter in
-    let p = c.args.process in
-    let vs = c.self.inside.processes.items in
-    let there = subst (λ (h : Holdings g.row.R.Denot g.row.R-Record.Denot). p < length h.processes) (sym c.self.view_is) c.requires.there in
-    let now = queues-at vs p c.from.result c.index_mut.result.now c.from.ensures there c.index_mut.ensures.value in
-    let none = c.if-not-committed.true in
-    let unchanged = queues-same vs c.from.result c.index_mut.result.now c.commit_oldest.new.process c.index_mut.ensures.value (c.commit_oldest.ensures.none (c.in_ok-committed.was ∙ ap (λ z. Ok z) none)) in
-    seen-as r g.R.Actor.number g.R.Actor.end g.R.Actor.is_placed g.R.Reversible.is_value (Commit p) _ _ _ _ c.self.view_is
-    (commit-none r g.R.Actor.number g.R.Actor.end g.R.Actor.is_placed g.R.Reversible.is_value _ p _ now (λ opening part h. sym none ∙ c.in_ok-committed.ensures.answer opening part h) _ unchanged)
+pub returns-then-not-is_early : goal.returns-then-not-is_early
+returns-then-not-is_early g c =
+    let unchanged = queues-same c.self.inside.processes.items c.from.result c.index_mut-process.result.now c.index_mut-process.result.now c.index_mut-process.ensures.value refl in
+    rw (sym c.self.view_is)
+    (moved-none _ _ _ _ _ _ _ _ (here g (goal.at.returns-then-not-is_early g c).After-index_mut-process) Sealed
+    (λ x part h. can-commit (simulation_of (rules_of g.R.Reversible.plain g.R.Actor.counter) x) _ part (c.oldest.ensures (x.opening c.args.process) part h)
+    c.if-not-is_early.ensures refl) _ unchanged)
+
+pub returns-in_err-seal_oldest : goal.returns-in_err-seal_oldest
+returns-in_err-seal_oldest g c =
+    let e = err_from_is_err_and c.from_residual.result c.from_residual.ensures.1 in
+    let unchanged = queues-same c.self.inside.processes.items c.from.result c.index_mut-process.result.now c.seal_oldest.new.self c.index_mut-process.ensures.value c.in_err-seal_oldest.ensures.unchanged in
+    rw (sym c.self.view_is)
+    (moved-refused _ _ _ _ _ _ _ _ (here g (goal.at.returns-in_err-seal_oldest g c).After-index_mut-process) Sealed (λ x laid steps h d. d)
+    (λ x part h. can-commit (simulation_of (rules_of g.R.Reversible.plain g.R.Actor.counter) x) _ part (c.oldest.ensures (x.opening c.args.process) part h)
+    c.if-not-is_early.ensures (c.in_err-seal_oldest.ensures.refused (x.opening c.args.process) part h))
+    _ unchanged _ (e.1 ∙ ap (λ z. Err z) (e.2 ∙ ap fault_of c.in_err-seal_oldest.ensures.memory)))
+
+pub returns-then-not-branch : goal.returns-then-not-branch
+returns-then-not-branch g c =
+    let none = c.if-not-branch.true in
+    let unchanged = queues-same c.self.inside.processes.items c.from.result c.index_mut-process.result.now c.seal_oldest.new.self c.index_mut-process.ensures.value
+    (c.seal_oldest.ensures.idle (c.in_ok-seal_oldest.was ∙ ap (λ z. Ok z) none)) in
+    rw (sym c.self.view_is)
+    (moved-none _ _ _ _ _ _ _ _ (here g (goal.at.returns-then-not-branch g c).After-index_mut-process) Sealed
+    (λ x part h. can-commit (simulation_of (rules_of g.R.Reversible.plain g.R.Actor.counter) x) _ part (c.oldest.ensures (x.opening c.args.process) part h)
+    c.if-not-is_early.ensures (sym (c.in_ok-seal_oldest.ensures.answer (x.opening c.args.process) part h) ∙ none)) _ unchanged)
 
 pub returns : goal.returns
 returns g c =
-    let r = rules_of g.R.Reversible.plain g.R.Actor.counter in
-    let p = c.args.process in
-    let vs = c.self.inside.processes.items in
-    let there = subst (λ (h : Holdings g.row.R.Denot g.row.R-Record.Denot). p < length h.processes) (sym c.self.view_is) c.requires.there in
-    let now = queues-at vs p c.from.result c.index_mut.result.now c.from.ensures there c.index_mut.ensures.value in
-    seen-as r g.R.Actor.number g.R.Actor.end g.R.Actor.is_placed g.R.Reversible.is_value (Commit p) _ _ _ _ c.self.view_is
-    (commit-did r g.R.Actor.number g.R.Actor.end g.R.Actor.is_placed g.R.Reversible.is_value _ p _ now (λ opening part h. sym c.if-not-committed.false ∙ c.in_ok-committed.ensures.answer opening part h)
-    _ c.in_ok-committed.ensures.committed c.commit_oldest.ensures.left _ (queues-set vs p c.from.result c.commit_oldest.new.process c.from.ensures))
+    rw (sym c.self.view_is)
+    (moved-did _ _ _ _ _ _ _ _ (here g (goal.at.returns g c).After-index_mut-process) Sealed (λ x laid steps h d. d)
+    (λ x part h. can-commit (simulation_of (rules_of g.R.Reversible.plain g.R.Actor.counter) x) _ part (c.oldest.ensures (x.opening c.args.process) part h)
+    c.if-not-is_early.ensures (sym (c.in_ok-seal_oldest.ensures.answer (x.opening c.args.process) part h) ∙ c.if-not-branch.false))
+    _ c.in_ok-seal_oldest.ensures.sealed c.seal_oldest.ensures.left _ (queues-set c.self.inside.processes.items c.args.process c.from.result c.seal_oldest.new.self c.from.ensures))

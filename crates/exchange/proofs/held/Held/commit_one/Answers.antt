@@ -1,30 +1,42 @@
-use Rattle.std.proofs.Common.{◌≡◌, ◌<◌, ◌≤◌, arith, true, false, sym, ◌∙◌, subst}
-use Rattle.virtual_time.specs.Law.{after_moves, after_own}
+use Rattle.std.proofs.Common.{◌≡◌, true, false, [], refl, sym, ◌∙◌, subst}
+use Rattle.std.specs.Prelude.{◌≢◌}
+use Rattle.std.proofs.lemmas.Bool.{false≢true, and_parts}
+use Rattle.virtual_time.specs.Law.{can_move, earlier}
 use Rattle.virtual_time.specs.declared.moved.Move.TheVariants.{Sealed}
+use Rattle.vlink.specs.Order.{message_order}
 use Rattle.reverse.specs.Rules.{rules_of}
 use Rattle.reverse.specs.Setting.{simulation_of}
-use Rattle.process_queues.specs.Queues.{StandsFor}
-use Rattle.fossil.specs.Committed.{is_ready}
 use Rattle.exchange.specs.Views.{InShare}
-use Rattle.exchange.specs.Keeps.{own_of}
 use Rattle.exchange.proofs.Holding.{holds-moved}
-use Rattle.exchange.proofs.Moves.{in_hand, moved-view, commit-takes, ready-moves, ready-commits, none-early, none-oldest, early-oldest, late-oldest}
+use Rattle.exchange.proofs.Moves.{in_hand, moved-view, commit-takes, early-commits}
+use Rattle.exchange.proofs.Oldest.{oldest-tells}
 use Rattle.exchange.proofs.Outcomes.{on-err}
+use Rattle.exchange.proofs.held.Held.commit_one.Given.{Over}
+use Rattle.exchange.proofs.held.Held.commit_one.Goals.{After-push}
 use Rattle.exchange.proofs.held.Held.commit_one.Goals as goal
+
+-- behind the test, the oldest done event can be committed
+can-commit : (g : Over) (c : After-push g) →
+    can_move (simulation_of (rules_of g.R.Reversible.plain g.R.Actor.counter) g.J.ActorRun.setting) c.self.inside.seen Sealed
+    (in_hand (simulation_of (rules_of g.R.Reversible.plain g.R.Actor.counter) g.J.ActorRun.setting) c.self.inside.number c.self.inside.last c.self.inside.seen c.self.inside.gone c.self.inside.block).part ≡ true
+can-commit g c =
+    let h = c.self.invariant.0 in
+    early-commits (simulation_of (rules_of g.R.Reversible.plain g.R.Actor.counter) g.J.ActorRun.setting) (c.actor_laws.ensures g.J.ActorRun.setting h.laid) c.self.inside.number c.self.inside.seen _ h.safe
+    c.oldest.result (c.oldest.ensures _ _ h.stands) c.if-not-is_early.ensures
+
+-- and some done event is earlier than the GVT seen
+some-early : (g : Over) (c : After-push g) → earlier message_order c.args.self.now.share.seen c.args.self.now.part.done ≢ []
+some-early g c =
+    let h = c.self.invariant.0 in
+    rw (sym c.self.view_is)
+    (λ none. false≢true ((oldest-tells (rules_of g.R.Reversible.plain g.R.Actor.counter) (c.actor_laws.ensures g.J.ActorRun.setting h.laid).order c.self.inside.seen _ h.safe.well.ascending
+    c.oldest.result (c.oldest.ensures _ _ h.stands) true c.if-not-is_early.ensures).1 none))
 
 pub invariant_of-self-in-Ok-true : goal.invariant_of-self-in-Ok-true
 invariant_of-self-in-Ok-true g c =
-    let h = c.self.invariant.0 in
-    let r = rules_of g.R.Reversible.plain g.R.Actor.counter in
-    let x = g.J.ActorRun.setting in
-    let f = simulation_of r x in
-    let p = c.self.inside.number in
-    let seen = c.self.inside.seen in
-    let part = after_moves r (x.opening p) c.self.inside.block (after_own f p (own_of c.self.inside.last)) in
-    let ready : is_ready r seen part ≡ true = sym (c.in-Ok-true.ensures.answer _ _ h.stands) ∙ c.in-Ok-true.field-0-test in (
-      holds-moved h (c.actor_laws.ensures x h.laid) Sealed (ready-moves f seen part ready) c.commit_oldest.new.process.queues
-          (subst (λ z. StandsFor r g.R.Reversible.is_value (x.opening p) z c.commit_oldest.new.process.queues) (ready-commits f seen part ready) (c.in-Ok-true.ensures.committed _ _ h.stands))
-          c.commit_oldest.ensures.left c.push.new.self c.in_ok-push.ensures.pushed,
+    let h = c.self.invariant.0 in (
+      holds-moved h (c.actor_laws.ensures g.J.ActorRun.setting h.laid) Sealed (can-commit g (goal.at.invariant_of-self-in-Ok-true g c).After-push) c.seal_oldest.new.self.queues
+          (c.in-Ok-true.ensures.sealed _ _ h.stands) c.seal_oldest.ensures.left c.push.new.self c.in_ok-push.ensures.pushed,
       c.self.invariant.1,
     )
 
@@ -35,61 +47,24 @@ returns-in-Ok-true-clause-committed g c = λ yes.
 
 pub returns-in-Ok-true-clause-fewer : goal.returns-in-Ok-true-clause-fewer
 returns-in-Ok-true-clause-fewer g c = λ yes.
-    let h = c.self.invariant.0 in
-    let r = rules_of g.R.Reversible.plain g.R.Actor.counter in
-    let x = g.J.ActorRun.setting in
-    let f = simulation_of r x in
-    let p = c.self.inside.number in
-    let seen = c.self.inside.seen in
-    let part = after_moves r (x.opening p) c.self.inside.block (after_own f p (own_of c.self.inside.last)) in
-    let ready : is_ready r seen part ≡ true = sym (c.in-Ok-true.ensures.answer _ _ h.stands) ∙ c.in-Ok-true.field-0-test in
-    commit-takes f c.args.self.now (in_hand f p c.self.inside.last seen c.self.inside.gone c.push.new.self) seen (subst (λ (z : InShare g.row.R.Denot). is_ready r seen z.part ≡ true) c.self.view_is ready)
-    (moved-view f p c.self.inside.last seen c.self.inside.gone c.self.inside.block Sealed c.args.self.now c.self.view_is c.push.new.self c.in_ok-push.ensures.pushed)
+    let f = simulation_of (rules_of g.R.Reversible.plain g.R.Actor.counter) g.J.ActorRun.setting in
+    commit-takes f c.args.self.now _ c.self.inside.seen
+    (subst (λ (z : InShare g.row.R.Denot). can_move f c.self.inside.seen Sealed z.part ≡ true) c.self.view_is (can-commit g (goal.at.returns-in-Ok-true-clause-fewer g c).After-push))
+    (returns-in-Ok-true-clause-committed g c yes)
 
 pub returns-in-Ok-false-clause-none : goal.returns-in-Ok-false-clause-none
 returns-in-Ok-false-clause-none g c = λ no.
-    let h = c.self.invariant.0 in
-    let r = rules_of g.R.Reversible.plain g.R.Actor.counter in
-    let x = g.J.ActorRun.setting in
-    let f = simulation_of r x in
-    let p = c.self.inside.number in
-    let seen = c.self.inside.seen in
-    let part = after_moves r (x.opening p) c.self.inside.block (after_own f p (own_of c.self.inside.last)) in
-    let not_ready : is_ready r seen part ≡ false = sym (c.in-Ok-false.ensures.answer _ _ h.stands) ∙ c.in-Ok-false.field-0-test in
-    rw (sym c.self.view_is) (none-early f (c.actor_laws.ensures x h.laid) p seen part h.safe not_ready)
+    absurd (false≢true (sym c.in-Ok-false.field-0-test ∙ (c.in-Ok-false.ensures.answer _ _ c.self.invariant.0.stands ∙ (and_parts _ _ (can-commit g (goal.at.returns-in-Ok-false-clause-none g c).After-push)).1)))
 
-pub returns-in_default-clause-none : goal.returns-in_default-clause-none
-returns-in_default-clause-none g c = λ no.
+pub returns-then-not-is_early-clause-none : goal.returns-then-not-is_early-clause-none
+returns-then-not-is_early-clause-none g c = λ no.
     let h = c.self.invariant.0 in
-    let r = rules_of g.R.Reversible.plain g.R.Actor.counter in
-    let x = g.J.ActorRun.setting in
-    let f = simulation_of r x in
-    let p = c.self.inside.number in
-    let seen = c.self.inside.seen in
-    let part = after_moves r (x.opening p) c.self.inside.block (after_own f p (own_of c.self.inside.last)) in
-    rw (sym c.self.view_is) (none-oldest f seen part.done (sym (c.oldest.ensures _ _ h.stands) ∙ c.in_default.is))
-
-pub returns-then-ns-clause-none : goal.returns-then-ns-clause-none
-returns-then-ns-clause-none g c = λ no.
-    let h = c.self.invariant.0 in
-    let r = rules_of g.R.Reversible.plain g.R.Actor.counter in
-    let x = g.J.ActorRun.setting in
-    let f = simulation_of r x in
-    let p = c.self.inside.number in
-    let seen = c.self.inside.seen in
-    let part = after_moves r (x.opening p) c.self.inside.block (after_own f p (own_of c.self.inside.last)) in
-    let late : seen ≤ c.in-Some.oldest = omega arith in
-    rw (sym c.self.view_is) (none-early f (c.actor_laws.ensures x h.laid) p seen part h.safe (late-oldest f seen c.in-Some.oldest part (sym (c.in-Some.ensures _ _ h.stands)) late))
+    rw (sym c.self.view_is)
+    ((oldest-tells (rules_of g.R.Reversible.plain g.R.Actor.counter) (c.actor_laws.ensures g.J.ActorRun.setting h.laid).order c.self.inside.seen _ h.safe.well.ascending
+    c.oldest.result (c.oldest.ensures _ _ h.stands) false c.if-not-is_early.ensures).0 refl)
 
 pub returns-in_err-push-clause-left : goal.returns-in_err-push-clause-left
-returns-in_err-push-clause-left g c =
-    let h = c.self.invariant.0 in
-    let r = rules_of g.R.Reversible.plain g.R.Actor.counter in
-    let x = g.J.ActorRun.setting in
-    let f = simulation_of r x in
-    let p = c.self.inside.number in
-    let seen = c.self.inside.seen in
-    let part = after_moves r (x.opening p) c.self.inside.block (after_own f p (own_of c.self.inside.last)) in
-    let early : c.in-Some.oldest < seen = omega arith in
-    on-err c.from_residual.result
-    (rw (sym c.self.view_is) (early-oldest f seen c.in-Some.oldest part.done (sym (c.in-Some.ensures _ _ h.stands)) early))
+returns-in_err-push-clause-left g c = on-err c.from_residual.result (some-early g (goal.at.returns-in_err-push-clause-left g c).After-push)
+
+pub returns-in-Err-clause-left : goal.returns-in-Err-clause-left
+returns-in-Err-clause-left g c = some-early g (goal.at.returns-in-Err-clause-left g c).After-push
