@@ -1,7 +1,7 @@
 -- Where a process in hand lacks numbers, some run uses up numbers: after the steps of the journal, and those of its block.
 use Rattle.std.proofs.Common.{◌≡◌, ◌∙◌, ◌<◌, List, ◌++◌, map, sym, ap, subst}
 use Rattle.vlink.specs.declared.message.Message.{Message}
-use Rattle.virtual_time.specs.Law.{World, start, run, after_moves, Entry, step_by, steps, reach, AreEnabled}
+use Rattle.virtual_time.specs.Law.{World, start, after_moves, Entry, step_by, steps, reach, AreEnabled}
 use Rattle.virtual_time.proofs.Journal.{put_here, run-then, moves}
 use Rattle.netdesc.specs.Plan.{Plan}
 use Rattle.netdesc.specs.Faults.{process_count}
