@@ -34,7 +34,6 @@ use Rattle.exchange.proofs.mark.Mark.TheSendSync as mark
 use Rattle.nodes.proofs.node.Node.TheSendSync as node
 use Rattle.nodes.proofs.node.NodeRecord.TheSendSync as node_record
 use Rattle.worker_pool.specs.declared.network_run.NetworkRun.{Ghosts as NetworkGhosts}
-use Rattle.worker_pool.specs.contracts.network_run.Of as Of
 use Rattle.worker_pool.specs.contracts.locks.Locks as Locks
 use Rattle.worker_pool.specs.contracts.shared.Shared as Shared
 use Rattle.worker_pool.specs.contracts.shared.Shared.TheInside as SharedIn

@@ -1,10 +1,10 @@
 -- What holds of a run that is ended.
-use Rattle.std.proofs.Common.{◌≡◌, ◌≤◌, ◌∙◌, refl, ℕ, suc, ◌+◌, List, [], ◌++◌, filter, map, length, slice_get, sym, ap, subst, arith}
+use Rattle.std.proofs.Common.{◌≡◌, ◌≤◌, ◌∙◌, refl, ℕ, suc, ◌+◌, List, [], ◌++◌, filter, length, slice_get, sym, ap, subst, arith}
 use Rattle.std.specs.Prelude.{Some}
 use Rattle.std.proofs.lemmas.List.{nil_from_length}
 use Rattle.vlink.specs.declared.message.Message.{Message}
 use Rattle.vlink.specs.Letters.{Row}
-use Rattle.virtual_time.specs.Law.{rowed, Laws, one, Part, local, after_moves, IsWhole, Entry, steps, reach}
+use Rattle.virtual_time.specs.Law.{rowed, Laws, one, Part, after_moves, IsWhole, Entry, steps, reach}
 use Rattle.virtual_time.specs.declared.moved.Move.{Move}
 use Rattle.netdesc.specs.Plan.{Plan}
 use Rattle.netdesc.specs.Faults.{process_count}

@@ -1,5 +1,5 @@
 -- The rows that a process has for good in an interval are those of the one-thread run.
-use Rattle.std.proofs.Common.{◌≡◌, ◌↔◌, ℕ, ◌+◌, ◌/◌, ◌≤◌, ◌==◌, Bool, true, false, ◌&&◌, cond, max, nat_le, nat_lt, List, [], ◌∷◌, map, filter, refl, sym, ap, ◌∙◌, subst, arith, mul-div_cancel}
+use Rattle.std.proofs.Common.{◌≡◌, ◌↔◌, ℕ, ◌+◌, ◌/◌, ◌≤◌, ◌==◌, Bool, true, false, ◌&&◌, cond, max, nat_le, nat_lt, List, [], ◌∷◌, filter, refl, sym, ap, ◌∙◌, subst, arith, mul-div_cancel}
 use Rattle.vlink.specs.Letters.{Row}
 use Rattle.virtual_time.specs.Law.{earlier, one, rows_at}
 use Rattle.netdesc.specs.Plan.{Plan}

@@ -1,8 +1,17 @@
 -- What a run by workers is told, of what each of them ended with.
-use Rattle.std.specs.Prelude.{ℕ, ◌<◌, ◌≤◌, List, Result, Err, ⊤, IsOk, IfErr, OnOk}
+use Rattle.std.specs.Prelude.{ℕ, ◌+◌, ◌<◌, ◌≤◌, List, Result, Err, ⊤, IsOk, IsSome, IfErr, OnOk}
 use Rattle.std.specs.List.{All, Contains}
+use Rattle.vlink.specs.declared.message.Message.{Message}
+use Rattle.vlink.specs.Order.{message_order}
+use Rattle.vlink.specs.Numbering.{greatest_number}
+use Rattle.virtual_time.specs.Law.{Part, next_of}
+use Rattle.virtual_time.specs.declared.step.Step.{Step}
+use Rattle.netdesc.specs.Plan.{Plan}
+use Rattle.netdesc.specs.Faults.{process_count}
+use Rattle.nodes.specs.rules.Node.{NodeState}
 use Rattle.journal.specs.declared.fault.PoolFault.{PoolFault}
 use Rattle.journal.specs.Faults.{fault_number}
+use Rattle.seqsim.specs.Committed.{after}
 
 -- an outcome without a fault whose number is below that of this one
 abbrev pub HasNoLesser : PoolFault → Result ⊤ PoolFault → Type 0
@@ -13,6 +22,17 @@ pub record IsLeastOf (outcomes : List (Result ⊤ PoolFault)) (told : Result ⊤
   pub one : IfErr told (λ fault. Contains outcomes (Err fault))
   pub least : IfErr told (λ fault. All (HasNoLesser fault) outcomes)
   pub well : OnOk told (All IsOk outcomes)
+
+-- a process has a message to handle, and its actor not enough numbers left for all that one event can send
+abbrev pub LacksNumbers : Part Message NodeState → Type 0
+LacksNumbers part = IsSome (next_of message_order part) × (greatest_number < part.state.sender.counter + 24)
+
+-- in some run of the network numbers are used up: after these steps this process lacks them
+pub record UsesUpNumbers (plan : Plan) : Type 0 where
+  pub steps : List Step
+  pub process : ℕ
+  pub within : process < process_count plan
+  pub lacking : LacksNumbers ((after plan steps).parts process)
 
 -- there are workers to be started: some are asked for, and there is a process
 abbrev pub CanWantWorkers : ℕ → ℕ → Type 0

@@ -1,5 +1,5 @@
 -- A run that nobody picked, and a run that is ended.
-use Rattle.std.specs.Prelude.{◌≡◌, ◌≤◌, ℕ, Bool, true, false, List, [], map, length, slice_get, Some}
+use Rattle.std.specs.Prelude.{◌≡◌, ◌≤◌, ℕ, Bool, true, false, List, [], length, slice_get, Some}
 use Rattle.virtual_time.specs.declared.step.Step.{Step}
 use Rattle.vlink.specs.declared.message.Message.{Message}
 use Rattle.virtual_time.specs.Law.{Entry, reach, IsFinished}

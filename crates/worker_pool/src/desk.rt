@@ -17,6 +17,7 @@ use crate::locks::Locked;
 use crate::network_run::NetworkRun;
 use crate::rounds::schedule::Call;
 use crate::run_batch::RunBatch;
+use crate::run_fault::RunFault;
 use crate::segments::next_segment;
 use crossbeam_channel::{SendError, Sender};
 use journal::PoolFault;
@@ -173,12 +174,14 @@ impl<J: NetworkRun> TraceLock<J> {
         &self,
         rt: &T,
         locked: &mut Locked<'a, J>,
-    ) -> Result<(), PoolFault>
+    ) -> Result<(), RunFault<J>>
         ensures memory { IfErr result (λ fault. fault ≡ pool.OutOfMemory) }
     {
         for _ in rt.forever() {
-            if !self.give_segment(rt, locked)? {
-                return Ok(());
+            match self.give_segment(rt, locked) {
+                Ok(true) => {}
+                Ok(false) => return Ok(()),
+                Err(fault) => return Err(RunFault::other(fault)),
             }
         }
         unreachable!()

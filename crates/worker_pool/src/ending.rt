@@ -11,9 +11,9 @@ use crate::locks::{Locked, Locks};
 use crate::network_run::{NetworkRun, Of};
 use crate::pace::Pace;
 use crate::rounds::batch::{ExchangeLock, work_to};
+use crate::run_fault::RunFault;
 use crate::shared::Shared;
 use exchange::{Exchange, Gate};
-use journal::PoolFault;
 use nodes::Node;
 use std::alloc::{AllocError, Global};
 use std::sync::Wait;
@@ -70,7 +70,7 @@ impl<'a, J: NetworkRun> Unlocked<'a, J> {
         keeps_rows: bool,
         pace: &Pace,
         gate: &G,
-    ) -> Result<(), PoolFault>
+    ) -> Result<(), RunFault<J>>
         requires { until ≡ J.plan.until }
         ensures ended { OnOk result (IsEnded J.plan self.new.exchange.entries self.new.helds.items) }
         ensures kept { OnOk result (IsTrue keeps_rows → HaveGoneBy 0 self.new.helds.items) }
@@ -92,12 +92,14 @@ impl<'a, J: NetworkRun> Unlocked<'a, J> {
         rt: &T,
         pace: &Pace,
         gate: &G,
-    ) -> Result<(), PoolFault>
+    ) -> Result<(), RunFault<J>>
         ensures no_spawn { IfErr result (λ fault. fault ≢ Spawn) }
     {
         for held in self.helds.iter_mut() {
             self.exchange.take_letters(held)?;
-            work_to(held, u64::MAX, pace, gate)?;
+            if let Err(fault) = work_to(held, u64::MAX, pace, gate) {
+                return Err(self.exchange.fault_of(held, fault));
+            }
             self.exchange.give_block(held)?;
             if let Some(trace) = &self.trace {
                 trace.give_segments(rt, held)?;

@@ -14,6 +14,7 @@ mod pace;
 mod results;
 mod rounds;
 mod run_batch;
+mod run_fault;
 mod running;
 mod segments;
 mod shared;

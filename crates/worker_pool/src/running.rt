@@ -1,11 +1,11 @@
 //! The run of a network by workers.
 ghost use Rattle.std.specs.Prelude.{◌≡◌, length, IsNone, IfOk, IfErr, IfSome};
 ghost use Rattle.netdesc.specs.Faults.{process_count};
-ghost use Rattle.journal.specs.declared.fault.PoolFault.TheVariants.{Spawn};
+ghost use Rattle.journal.specs.declared.fault.PoolFault.TheVariants.{Exhausted, Spawn};
 ghost use Rattle.journal.specs.Names.{names};
 ghost use Rattle.trace_tables.specs.Tables.{tables_of};
 ghost use Rattle.seqsim.specs.Networks.{AreRowsOf};
-ghost use Rattle.worker_pool.specs.Outcomes.{CanWantWorkers};
+ghost use Rattle.worker_pool.specs.Outcomes.{CanWantWorkers, UsesUpNumbers};
 ghost use Rattle.worker_pool.specs.Runs.{IsEnded, IsJournalOf, HaveGoneBy};
 ghost use Rattle.worker_pool.specs.Written.{IsPlaceFault};
 
@@ -65,6 +65,7 @@ pub(crate) fn run_to_end<
     ensures ended { IfOk result (λ r. IsEnded J.plan r.0.exchange.entries r.0.helds.items) }
     ensures kept { IfOk result (λ r. IsNone trace → HaveGoneBy 0 r.0.helds.items) }
     ensures fault { IfOk result (λ r. IfSome r.1 IsPlaceFault) }
+    ensures exhausted { IfErr result (λ fault. fault ≡ Exhausted → UsesUpNumbers J.plan) }
     ensures spawn { IfErr result (λ fault. fault ≡ Spawn → CanWantWorkers pace.now.workers (process_count network.now)) }
     ensures watched { W.becomes watch.old watch.new }
 {
@@ -96,6 +97,7 @@ fn run_named<J: NetworkRun + Send + Sync, G: Gate + Sync, T: Threads + Wait + Sy
     ensures rows { IfOk result (λ o. AreRowsOf J.plan o.rows.items) }
     ensures tables { IfOk result (λ o. o.tables ≡ tables_of J.plan o.rows.items) }
     ensures finished { IfOk result (λ o. IsJournalOf J.plan o.journal.items) }
+    ensures exhausted { IfErr result (λ fault. fault ≡ Exhausted → UsesUpNumbers J.plan) }
     ensures spawn { IfErr result (λ fault. fault ≡ Spawn → CanWantWorkers pace.now.workers (process_count network.now)) }
 {
     let watch = &mut Unwatched;
@@ -117,10 +119,10 @@ fn run_named<J: NetworkRun + Send + Sync, G: Gate + Sync, T: Threads + Wait + Sy
 /// Rows and tables are those of the one-thread run, as `seqsim::run` has them, whatever the threads did, and the world after the journal's
 /// steps is finished. Nothing is said of how long the run waits for its threads, or that it ends.
 ///
-/// `OutOfMemory`: a growth was refused. `Exhausted`: a process had not enough numbers left for what its next message can send. `JournalFull`: the
-/// run takes more than 2^26 steps. `Spawn`: a worker cannot be started, so it comes only where there are workers and a process. `Torn`: a cell
-/// of the table, which is made here, was set already. One worker's refusal ends the others at their next turn; of the faults of several the one
-/// with the least number is answered. Of a run that is refused nothing is left.
+/// `OutOfMemory`: a growth was refused. `Exhausted`: a process had not enough numbers left for what its next message can send, so that some run of
+/// the network uses up numbers. `JournalFull`: the run takes more than 2^26 steps. `Spawn`: a worker cannot be started, so it comes only where there
+/// are workers and a process. `Torn`: a cell of the table, which is made here, was set already. One worker's refusal ends the others at their next
+/// turn; of the faults of several the one with the least number is answered. Of a run that is refused nothing is left.
 pub fn run<G: Gate + Sync, T: Threads + Wait + Sync>(
     rt: &T,
     alloc: Global,
@@ -131,6 +133,7 @@ pub fn run<G: Gate + Sync, T: Threads + Wait + Sync>(
     ensures rows { IfOk result (λ o. AreRowsOf network.now o.rows.items) }
     ensures tables { IfOk result (λ o. o.tables ≡ tables_of network.now o.rows.items) }
     ensures finished { IfOk result (λ o. IsJournalOf network.now o.journal.items) }
+    ensures exhausted { IfErr result (λ fault. fault ≡ Exhausted → UsesUpNumbers network.now) }
     ensures spawn { IfErr result (λ fault. fault ≡ Spawn → CanWantWorkers pace.workers (process_count network.now)) }
 {
     let table = Entries::new(alloc)?;

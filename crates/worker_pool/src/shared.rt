@@ -3,11 +3,13 @@ ghost use Rattle.std.specs.Prelude.{◌≡◌, ◌≢◌, ◌+◌, ◌<◌, ◌�
 ghost use Rattle.virtual_time.specs.Law.{steps, reach};
 ghost use Rattle.netdesc.specs.Faults.{process_count};
 ghost use Rattle.nodes.specs.rules.Simulation.{simulation_of};
-ghost use Rattle.journal.specs.declared.fault.PoolFault.TheVariants.{JournalFull, Spawn};
+ghost use Rattle.journal.specs.declared.fault.PoolFault.TheVariants.{Exhausted, JournalFull, Spawn};
+ghost use Rattle.worker_pool.specs.Outcomes.{LacksNumbers};
 ghost use Rattle.worker_pool.specs.Runs.{most_steps};
 
 use crate::locks::Locked;
 use crate::network_run::{NetworkRun, Of};
+use crate::run_fault::RunFault;
 use exchange::{Exchange, collect, post, publish};
 use journal::PoolFault;
 use nodes::Node;
@@ -54,7 +56,7 @@ impl<'a, J: NetworkRun> Shared<'a, J> {
 
     /// All letters in the mail of the process come to its tray. A process with a block, which a refusal left, takes none before that is posted.
     /// `JournalFull`: the steps would pass the most that a run can have.
-    pub(crate) fn take_letters(&mut self, locked: &mut Locked<'a, J>) -> Result<(), PoolFault>
+    pub(crate) fn take_letters(&mut self, locked: &mut Locked<'a, J>) -> Result<(), RunFault<J>>
         ensures full { result ≡ Err JournalFull → most_steps < length (steps self.old.entries)
             + length ((reach (simulation_of J.plan) self.old.entries).mail locked.old.number) }
         ensures no_spawn { IfErr result (λ fault. fault ≢ Spawn) }
@@ -62,23 +64,41 @@ impl<'a, J: NetworkRun> Shared<'a, J> {
         if locked.pending() != 0 {
             return Ok(());
         }
-        let _letters = collect(locked, &mut self.inner, u32::MAX)?;
-        Ok(())
+        match collect(locked, &mut self.inner, u32::MAX) {
+            Ok(_letters) => Ok(()),
+            Err(fault) => Err(RunFault::other(fault)),
+        }
     }
 
     /// What the process did goes to the journal, and its letters to the mail. `JournalFull`: the steps would pass the most that a run can have.
-    pub(crate) fn give_block(&mut self, locked: &mut Locked<'a, J>) -> Result<(), PoolFault>
+    pub(crate) fn give_block(&mut self, locked: &mut Locked<'a, J>) -> Result<(), RunFault<J>>
         ensures full { result ≡ Err JournalFull → most_steps < length (steps self.old.entries) + length locked.old.block + 1 }
         ensures no_spawn { IfErr result (λ fault. fault ≢ Spawn) }
     {
-        post(locked, &mut self.inner)
+        match post(locked, &mut self.inner) {
+            Ok(()) => Ok(()),
+            Err(fault) => Err(RunFault::other(fault)),
+        }
     }
 
     /// Sets GVT. The answer is GVT, in ns. `JournalFull`: there are as many steps as a run can have.
-    pub(crate) fn set_gvt(&mut self) -> Result<Time, PoolFault>
+    pub(crate) fn set_gvt(&mut self) -> Result<Time, RunFault<J>>
         ensures full { result ≡ Err JournalFull → most_steps ≤ length (steps self.old.entries) }
         ensures no_spawn { IfErr result (λ fault. fault ≢ Spawn) }
     {
-        publish(&mut self.inner)
+        match publish(&mut self.inner) {
+            Ok(gvt) => Ok(gvt),
+            Err(fault) => Err(RunFault::other(fault)),
+        }
+    }
+
+    /// The fault of a process at its work. Where it lacks numbers, it does so in a run: after the steps of the journal and those of its block.
+    pub(crate) fn fault_of(&self, locked: &Locked<'a, J>, fault: PoolFault) -> RunFault<J>
+        requires { fault ≡ Exhausted → LacksNumbers locked.now.part }
+        ensures { result ≡ fault }
+    {
+        let _process = locked.number();
+        self.inner.fits(locked);
+        RunFault::new(fault)
     }
 }

@@ -3,6 +3,7 @@ ghost use Rattle.std.specs.Prelude.{◌≡◌, ◌+◌, List, length, IfOk, IfEr
 ghost use Rattle.std.specs.Io.KnownBytes.{append_known};
 ghost use Rattle.vlink.specs.Letters.{Row};
 ghost use Rattle.netdesc.specs.Faults.{process_count};
+ghost use Rattle.journal.specs.declared.fault.PoolFault.TheVariants.{Exhausted};
 ghost use Rattle.journal.specs.Names.{names};
 ghost use Rattle.trace_segments.specs.declared.fault.OutFault.TheVariants.{Device};
 ghost use Rattle.trace_segments.specs.declared.trace_fault.TraceFault.TheVariants.{Out};
@@ -11,6 +12,7 @@ ghost use Rattle.trace_tables.specs.Tables.{tables_of};
 ghost use Rattle.trace_segments.specs.Text.{trace_text};
 ghost use Rattle.seqsim.specs.Networks.{AreRowsOf};
 ghost use Rattle.worker_pool.specs.Counts.{AreCountedBefore};
+ghost use Rattle.worker_pool.specs.Outcomes.{UsesUpNumbers};
 ghost use Rattle.worker_pool.specs.Runs.{IsEnded, IsJournalAsked};
 ghost use Rattle.worker_pool.specs.Written.{IsFaultOfTrace, IsPlaceFault, IsWritten};
 
@@ -58,10 +60,12 @@ fn traced_of<'a, J: NetworkRun, K: TraceRun, S: Sink + Drop>(
     requires network { network.now ≡ J.plan }
     requires ended { IfOk ran (λ r. IsEnded J.plan r.0.exchange.entries r.0.helds.items) }
     requires fault { IfOk ran (λ r. IfSome r.1 IsPlaceFault) }
+    requires exhausted { IfErr ran (λ fault. fault ≡ Exhausted → UsesUpNumbers J.plan) }
     ensures tables { IfOk result (λ t. (rows : List Row) × AreRowsOf J.plan rows × (t.outcome.tables ≡ tables_of J.plan rows)) }
     ensures each { IfOk result (λ t. (rows : List Row) → AreRowsOf J.plan rows → t.outcome.tables ≡ tables_of J.plan rows) }
     ensures journal { IfOk result (λ t. IsJournalAsked J.plan with_steps t.outcome.journal.items) }
     ensures written { IfOk result (λ t. IsWritten J.plan K.taken K.failures t.written (S.taken t.sink) (S.failures t.sink)) }
+    ensures exhausted { IfErr result (λ fault. fault ≡ Exhausted → UsesUpNumbers J.plan) }
 {
     let (ended, fault) = ran?;
     if !ended.have_gone_by(counted.end) {
@@ -106,6 +110,7 @@ fn traced_named<
     ensures each { IfOk result.0 (λ t. (rows : List Row) → AreRowsOf J.plan rows → t.outcome.tables ≡ tables_of J.plan rows) }
     ensures journal { IfOk result.0 (λ t. IsJournalAsked J.plan with_steps t.outcome.journal.items) }
     ensures written { IfOk result.0 (λ t. IsWritten J.plan K.taken K.failures t.written (S.taken t.sink) (S.failures t.sink)) }
+    ensures exhausted { IfErr result.0 (λ fault. fault ≡ Exhausted → UsesUpNumbers J.plan) }
     ensures watched { W.becomes watch result.1 }
 {
     let Ok((to, from)) = bounded(alloc, MOST_BATCHES) else {
@@ -131,6 +136,7 @@ fn traced_named<
             ensures each { IfOk result.0 (λ t. (rows : List Row) → AreRowsOf J.plan rows → t.outcome.tables ≡ tables_of J.plan rows) }
             ensures journal { IfOk result.0 (λ t. IsJournalAsked J.plan with_steps t.outcome.journal.items) }
             ensures written { IfOk result.0 (λ t. IsWritten J.plan K.taken K.failures t.written (S.taken t.sink) (S.failures t.sink)) }
+            ensures exhausted { IfErr result.0 (λ fault. fault ≡ Exhausted → UsesUpNumbers J.plan) }
             ensures watched { W.becomes watch result.1 }
         {
             let mut watch = watch;
@@ -191,6 +197,7 @@ pub fn run_traced<S: Sink + Drop + Send, G: Gate + Sync, T: Threads + Wait + Syn
     ensures device { IfOk result (λ t. IfErr t.written (λ fault. fault ≡ Out Device → S.failures t.sink ≡ S.failures sink + 1)) }
     ensures went_well { IfOk result (λ t. OnOk t.written (S.failures t.sink ≡ S.failures sink)) }
     ensures fault { IfOk result (λ t. IfErr t.written IsFaultOfTrace) }
+    ensures exhausted { IfErr result (λ fault. fault ≡ Exhausted → UsesUpNumbers network.now) }
     ensures watched { W.becomes watch.old watch.new }
 {
     let table = Entries::new(alloc)?;

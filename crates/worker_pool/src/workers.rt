@@ -13,6 +13,7 @@ use crate::rounds::batch::ExchangeLock;
 use crate::rounds::picker::Picker;
 use crate::rounds::schedule::{Schedule, schedule_of};
 use crate::rounds::worker::Worker;
+use crate::run_fault::RunFault;
 use actor_run::Watch;
 use exchange::Gate;
 use journal::PoolFault;
@@ -43,7 +44,7 @@ pub(crate) fn start_all<
     pace: &Pace,
     gate: &G,
     watch: W,
-) -> (Result<(), PoolFault>, W)
+) -> (Result<(), RunFault<J>>, W)
     requires { network.now ≡ J.plan }
     ensures spawn { IfErr result.0 (λ fault. fault ≡ Spawn → CanWantWorkers pace.now.workers (process_count J.plan)) }
     ensures watched { W.becomes watch result.1 }
@@ -53,7 +54,7 @@ pub(crate) fn start_all<
     }
     let workers = usize::from(pace.workers);
     let Ok((pickers, schedule)) = schedule_of(alloc, network, workers, lists_of(rt, workers)) else {
-        return (Err(PoolFault::OutOfMemory), watch);
+        return (Err(RunFault::other(PoolFault::OutOfMemory)), watch);
     };
     let schedule = &schedule;
     let stop = AtomicBool::new(false);
@@ -62,14 +63,14 @@ pub(crate) fn start_all<
     thread::scope(
         thread::scope_env(),
         rt,
-        |scope| -> (Result<(), PoolFault>, W)
+        |scope| -> (Result<(), RunFault<J>>, W)
             ensures watched { W.becomes watch result.1 }
         {
             let mut handles = Vec::new(alloc);
             let mut start = Ok(());
             for picker in pickers {
                 if handles.reserve(1).is_err() {
-                    start = refused(stop, PoolFault::OutOfMemory);
+                    start = refused(stop, RunFault::other(PoolFault::OutOfMemory));
                     break;
                 }
                 match scope.spawn(move || work(
@@ -77,7 +78,7 @@ pub(crate) fn start_all<
                 )) {
                     Ok(handle) => handles.push_reserved(handle),
                     Err(_) => {
-                        start = refused(stop, PoolFault::Spawn);
+                        start = refused(stop, RunFault::other(PoolFault::Spawn));
                         break;
                     }
                 }
@@ -107,19 +108,19 @@ fn show_gvt<J: NetworkRun, T: Wait, W: Watch>(rt: &T, schedule: &Schedule<J>, wa
 }
 
 /// The threads are joined, of which there are fewer than this many. The answer is the least fault of what they ended with, and of the start.
-fn joined<T: Threads + Wait>(
+fn joined<J: NetworkRun, T: Threads + Wait>(
     rt: &T,
     alloc: Global,
     most: usize,
-    start: Result<(), PoolFault>,
-    handles: Vec<JoinHandle<Result<(), PoolFault>>>,
-) -> Result<(), PoolFault> {
+    start: Result<(), RunFault<J>>,
+    handles: Vec<JoinHandle<Result<(), RunFault<J>>>>,
+) -> Result<(), RunFault<J>> {
     let mut outcomes = Vec::with_capacity(alloc, most)?;
     add_outcome(&mut outcomes, start)?;
     for handle in handles {
         add_outcome(&mut outcomes, handle.join(rt))?;
     }
-    least_fault(outcomes.as_slice())
+    least_fault(outcomes)
 }
 
 /// Among how many of so many workers the processes are dealt: one for each processor at most.
@@ -141,7 +142,7 @@ fn work<'s, 'a, J: NetworkRun, G: Gate, T: Wait>(
     pace: &'s Pace,
     gate: &'s G,
     stop: &'s AtomicBool,
-) -> Result<(), PoolFault> {
+) -> Result<(), RunFault<J>> {
     let mut worker = Worker {
         rt,
         picker,
@@ -165,7 +166,7 @@ fn work<'s, 'a, J: NetworkRun, G: Gate, T: Wait>(
 }
 
 /// Sets the flag that ends all workers, and answers the fault.
-fn refused(stop: &AtomicBool, fault: PoolFault) -> Result<(), PoolFault> {
+fn refused<J: NetworkRun>(stop: &AtomicBool, fault: RunFault<J>) -> Result<(), RunFault<J>> {
     stop.store(true, Ordering::SeqCst);
     Err(fault)
 }

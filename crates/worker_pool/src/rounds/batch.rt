@@ -1,6 +1,7 @@
 //! The turns of several processes that a worker holds at once.
-ghost use Rattle.std.specs.Prelude.{◌≢◌, IfErr};
-ghost use Rattle.journal.specs.declared.fault.PoolFault.TheVariants.{Spawn};
+ghost use Rattle.std.specs.Prelude.{◌≡◌, ◌≢◌, IfErr};
+ghost use Rattle.journal.specs.declared.fault.PoolFault.TheVariants.{Exhausted, Spawn};
+ghost use Rattle.worker_pool.specs.Outcomes.{LacksNumbers};
 
 use super::apart::Apart;
 use super::schedule::Call;
@@ -8,6 +9,7 @@ use super::{PAUSES_OF_TRY, TRIES};
 use crate::locks::Locked;
 use crate::network_run::NetworkRun;
 use crate::pace::Pace;
+use crate::run_fault::RunFault;
 use crate::shared::Shared;
 use exchange::{Gate, work};
 use journal::PoolFault;
@@ -27,7 +29,7 @@ pub(crate) fn collect_for<'s, 'a, J: NetworkRun, T: Wait>(
     rt: &T,
     batch: &mut Batch<'s, 'a, J>,
     lock: &ExchangeLock<'a, J>,
-) -> Result<(), PoolFault> {
+) -> Result<(), RunFault<J>> {
     let mut exchange = locked_soon(rt, lock);
     for locked in batch.iter_mut() {
         exchange.value.take_letters(&mut *locked)?;
@@ -40,7 +42,7 @@ pub(crate) fn post_for<'s, 'a, J: NetworkRun, T: Wait>(
     rt: &T,
     batch: &mut Batch<'s, 'a, J>,
     lock: &ExchangeLock<'a, J>,
-) -> Result<(), PoolFault> {
+) -> Result<(), RunFault<J>> {
     let mut exchange = locked_soon(rt, lock);
     for locked in batch.iter_mut() {
         exchange.value.give_block(&mut *locked)?;
@@ -69,6 +71,7 @@ pub(crate) fn work_to<'a, J: NetworkRun, G: Gate>(
     gate: &G,
 ) -> Result<(), PoolFault>
     ensures no_spawn { IfErr result (λ fault. fault ≢ Spawn) }
+    ensures exhausted { IfErr result (λ fault. fault ≡ Exhausted → LacksNumbers locked.new.part) }
 {
     let seen_ns = locked.share().seen.ns();
     let ahead_ns = limit_ns.saturating_sub(seen_ns).min(pace.window_ns);

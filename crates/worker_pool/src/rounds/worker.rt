@@ -10,8 +10,8 @@ use super::{
 use crate::locks::{Locked, Locks};
 use crate::network_run::NetworkRun;
 use crate::pace::Pace;
+use crate::run_fault::RunFault;
 use exchange::Gate;
-use journal::PoolFault;
 use std::alloc::AllocError;
 use std::sync::Wait;
 use std::sync::atomic::{AtomicBool, Ordering};
@@ -40,7 +40,7 @@ pub(crate) struct Worker<'s, 'a, J: NetworkRun, G: Gate, T: Wait> {
 impl<'s, 'a, J: NetworkRun, G: Gate, T: Wait> Worker<'s, 'a, J, G, T> {
     /// A turn for the worker's first process, and then round after round, until the run is over or the flag is set. It holds processes in this
     /// list, which is empty.
-    pub(crate) fn turns(&mut self, batch: &mut Batch<'s, 'a, J>) -> Result<(), PoolFault> {
+    pub(crate) fn turns(&mut self, batch: &mut Batch<'s, 'a, J>) -> Result<(), RunFault<J>> {
         let rt = self.rt;
         self.first_turn(batch)?;
         for _ in rt.forever() {
@@ -62,7 +62,7 @@ impl<'s, 'a, J: NetworkRun, G: Gate, T: Wait> Worker<'s, 'a, J, G, T> {
     }
 
     /// A turn for the process that has the worker's number, counted round and round, unless another worker has it.
-    fn first_turn(&mut self, batch: &mut Batch<'s, 'a, J>) -> Result<(), PoolFault> {
+    fn first_turn(&mut self, batch: &mut Batch<'s, 'a, J>) -> Result<(), RunFault<J>> {
         let process = self.picker.worker % self.locks.locks.len().max(1);
         let limit_ns = self.schedule.limit_ns(self.pace.window_ns);
         if let Some(hint) = self.schedule.hint_at(process) {
@@ -74,7 +74,7 @@ impl<'s, 'a, J: NetworkRun, G: Gate, T: Wait> Worker<'s, 'a, J, G, T> {
     }
 
     /// Turns for those processes of its list that are due; where there is none, for some of the others. The answer is whether there were any.
-    fn round(&mut self, batch: &mut Batch<'s, 'a, J>) -> Result<bool, PoolFault> {
+    fn round(&mut self, batch: &mut Batch<'s, 'a, J>) -> Result<bool, RunFault<J>> {
         let limit_ns = self.schedule.limit_ns(self.pace.window_ns);
         self.schedule.look(&mut self.picker, limit_ns);
         let mut has_turned = false;
@@ -175,7 +175,11 @@ impl<'s, 'a, J: NetworkRun, G: Gate, T: Wait> Worker<'s, 'a, J, G, T> {
 
     /// Turns of the processes that it holds, up to the limit, in ns; what the workers tell one another of them, and the segments of the trace that
     /// they can give. Then it holds none. Where the flag is set they get no turn.
-    fn give_turns(&mut self, batch: &mut Batch<'s, 'a, J>, limit_ns: u64) -> Result<(), PoolFault> {
+    fn give_turns(
+        &mut self,
+        batch: &mut Batch<'s, 'a, J>,
+        limit_ns: u64,
+    ) -> Result<(), RunFault<J>> {
         if self.stop.load(Ordering::SeqCst) {
             batch.clear();
             return Ok(());
@@ -183,7 +187,7 @@ impl<'s, 'a, J: NetworkRun, G: Gate, T: Wait> Worker<'s, 'a, J, G, T> {
         collect_for(self.rt, batch, self.exchange)?;
         self.calls.clear();
         for locked in batch.iter_mut() {
-            work_to(&mut *locked, limit_ns, self.pace, self.gate)?;
+            self.work(&mut *locked, limit_ns)?;
             list_calls(&mut self.calls, &*locked)?;
         }
         post_for(self.rt, batch, self.exchange)?;
@@ -194,12 +198,20 @@ impl<'s, 'a, J: NetworkRun, G: Gate, T: Wait> Worker<'s, 'a, J, G, T> {
         Ok(())
     }
 
+    /// The process works on its events before the limit, in ns. At a refusal the exchange tells whether numbers are used up.
+    fn work(&self, locked: &mut Locked<'a, J>, limit_ns: u64) -> Result<(), RunFault<J>> {
+        match work_to(locked, limit_ns, self.pace, self.gate) {
+            Ok(()) => Ok(()),
+            Err(fault) => Err(self.exchange.lock(self.rt).value.fault_of(locked, fault)),
+        }
+    }
+
     /// The segments of the trace that the processes can give go to its desk.
     fn give_segments(
         &mut self,
         batch: &mut Batch<'s, 'a, J>,
         limit_ns: u64,
-    ) -> Result<(), PoolFault> {
+    ) -> Result<(), RunFault<J>> {
         let Some(trace) = &self.locks.trace else {
             return Ok(());
         };
@@ -213,7 +225,7 @@ impl<'s, 'a, J: NetworkRun, G: Gate, T: Wait> Worker<'s, 'a, J, G, T> {
     }
 
     /// A round gave turns. Once in `ROUNDS_PER_GVT` of them GVT is set.
-    fn went_round(&mut self) -> Result<(), PoolFault> {
+    fn went_round(&mut self) -> Result<(), RunFault<J>> {
         self.looks = 0;
         self.rounds = self.rounds.wrapping_add(1);
         if self.rounds % ROUNDS_PER_GVT == 0 {
@@ -223,7 +235,7 @@ impl<'s, 'a, J: NetworkRun, G: Gate, T: Wait> Worker<'s, 'a, J, G, T> {
     }
 
     /// A round found nothing due. GVT is set where that is what is waited for, or once in `LOOKS_PER_GVT` looks.
-    fn found_nothing(&mut self) -> Result<(), PoolFault> {
+    fn found_nothing(&mut self) -> Result<(), RunFault<J>> {
         self.looks = self.looks.saturating_add(1);
         if self.looks % LOOKS_PER_GVT == 0 || self.needs_gvt() {
             self.set_gvt()?;
@@ -251,7 +263,7 @@ impl<'s, 'a, J: NetworkRun, G: Gate, T: Wait> Worker<'s, 'a, J, G, T> {
     }
 
     /// GVT is set, where a turn was given since it was set last, and no other thread is at the exchange.
-    fn set_gvt(&self) -> Result<(), PoolFault> {
+    fn set_gvt(&self) -> Result<(), RunFault<J>> {
         if !self.schedule.has_turned() {
             return Ok(());
         }

@@ -1,6 +1,9 @@
-use Rattle.std.proofs.Common.{take}
 use Rattle.worker_pool.specs.Outcomes.{IsLeastOf}
 use Rattle.worker_pool.proofs.outcomes.least_fault.Given as goal
 
 abbrev pub invariant-loop-outcome : goal.invariant-loop-outcome
-invariant-loop-outcome l = IsLeastOf (take l.outcome-index l.outcomes) l.told
+invariant-loop-outcome g l = record {
+  can : (goal.iterator-loop-outcome g).can_next l.outcome-iterator;
+  ends : (goal.iterator-loop-outcome g).is_finite l.outcome-iterator;
+  least : IsLeastOf l.yielded l.told;
+}

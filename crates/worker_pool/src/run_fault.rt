@@ -1,0 +1,78 @@
+//! A fault of a run.
+ghost use Rattle.std.specs.Prelude.{◌≡◌, ◌≢◌};
+ghost use Rattle.journal.specs.declared.fault.PoolFault.TheVariants.{Exhausted};
+ghost use Rattle.journal.specs.Faults.{fault_number};
+ghost use Rattle.worker_pool.specs.Outcomes.{UsesUpNumbers};
+
+use crate::network_run::NetworkRun;
+use journal::PoolFault;
+use std::alloc::AllocError;
+use std::marker::{Model, PhantomData};
+
+/// Why a run of a network is refused. By its type it is `Exhausted` only where some run of the network uses up numbers.
+///
+/// Clauses see it as the fault.
+#[derive(Drop)]
+pub(crate) struct RunFault<J: NetworkRun> {
+    fault: PoolFault,
+    of: PhantomData<J>,
+}
+
+impl<J: NetworkRun> Model for RunFault<J> {
+    ghost use Rattle.std.specs.Prelude.{◌≡◌};
+    ghost use Rattle.journal.specs.declared.fault.PoolFault.{PoolFault};
+    ghost use Rattle.journal.specs.declared.fault.PoolFault.TheVariants.{Exhausted};
+    ghost use Rattle.worker_pool.specs.Outcomes.{UsesUpNumbers};
+
+    ghost Value = { PoolFault };
+
+    ghost view = { λ f. f.fault };
+
+    ghost invariant = { λ f. f.fault ≡ Exhausted → UsesUpNumbers J.plan };
+}
+
+impl<J: NetworkRun> RunFault<J> {
+    /// A fault of the run.
+    pub(crate) fn new(fault: PoolFault) -> Self
+        requires { fault ≡ Exhausted → UsesUpNumbers J.plan }
+        ensures { result ≡ fault }
+    {
+        RunFault {
+            fault,
+            of: PhantomData,
+        }
+    }
+
+    /// A fault that is not `Exhausted`.
+    pub(crate) fn other(fault: PoolFault) -> Self
+        requires { fault ≢ Exhausted }
+        ensures { result ≡ fault }
+    {
+        RunFault::new(fault)
+    }
+
+    /// Its number, from 1 to 5.
+    pub(crate) fn number(&self) -> u8
+        ensures { result ≡ fault_number self.now }
+    {
+        self.fault.number()
+    }
+}
+
+impl<J: NetworkRun> From<AllocError> for RunFault<J> {
+    ghost use Rattle.journal.specs.declared.fault.PoolFault.TheVariants.{OutOfMemory};
+
+    ghost from_gives = { λ _ fault. fault ≡ OutOfMemory };
+
+    fn from(_: AllocError) -> Self {
+        RunFault::other(PoolFault::OutOfMemory)
+    }
+}
+
+impl<J: NetworkRun> From<RunFault<J>> for PoolFault {
+    ghost from_gives = { λ run fault. (fault ≡ run) × (fault ≡ Exhausted → UsesUpNumbers J.plan) };
+
+    fn from(run: RunFault<J>) -> Self {
+        run.fault
+    }
+}
