@@ -2,7 +2,7 @@
 use Rattle.std.proofs.Common.{◌≡◌, ◌∙◌, ◌≤◌, ℕ, Bool, true, false, List, Option, refl, sym, ap, subst, arith}
 use Rattle.std.specs.Io.KnownBytes.{append_known}
 use Rattle.std.specs.List.{flat_map}
-use Rattle.netdesc.specs.Plan.{Plan}
+use Rattle.netdesc.specs.Words.{Plan}
 use Rattle.afdxsim.specs.Orders.{IsHeard, heard_host}
 use Rattle.afdxsim.specs.Outside.{IsHost, Outside}
 use Rattle.afdxsim.specs.Progress.{HearsAsked, HearsProgress}

@@ -6,7 +6,7 @@ use Rattle.std.specs.List.{flat_map}
 use Rattle.std.proofs.Math.Seq.{take-append-add}
 use Rattle.std.proofs.lemmas.List.{append-nil, take-append-drop, take-append-le, take_more}
 use Rattle.std.proofs.lemmas.Grind.{flat_map-append}
-use Rattle.trace_segments.specs.Sinking.{IsBeginning}
+use Rattle.trace_segments.specs.Words.{IsBeginning}
 
 -- of this text, put behind what a sink had taken, a piece has gone out, and the rest is held
 pub record IsHeld (old now : Option (List ℕ)) (held text : List ℕ) : Type 0 where

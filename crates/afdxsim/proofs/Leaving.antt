@@ -3,7 +3,7 @@ use Rattle.std.proofs.Common.{◌≡◌, ◌∙◌, ℕ, List, [], ◌++◌, Opt
 use Rattle.std.specs.Prelude.{IfSome, is_some, option_map}
 use Rattle.std.specs.Io.KnownBytes.{append_known}
 use Rattle.virtual_time.specs.declared.step.Step.{Step}
-use Rattle.netdesc.specs.Plan.{Plan}
+use Rattle.netdesc.specs.Words.{Plan}
 use Rattle.journal_text.specs.Text.{steps_text}
 use Rattle.afdxsim.specs.Ending.{Took}
 use Rattle.afdxsim.specs.Files.{WritesAsked, WritesFile}

@@ -1,7 +1,6 @@
 -- What the program says of a network that is accepted.
 use Rattle.std.specs.Prelude.{ℕ, List, ◌++◌, length, codes, decimal}
-use Rattle.netdesc.specs.Plan.{Plan}
-use Rattle.netdesc.specs.Faults.{process_count}
+use Rattle.netdesc.specs.Words.{Plan, process_count}
 use Rattle.traffic.specs.Offers.{offers_of}
 
 -- the line that tells how many processes, virtual links and offers there are

@@ -1,7 +1,7 @@
 -- What the program leaves behind: files, and then what it shows on standard output; and why a file is not whole.
 use Rattle.std.specs.Prelude.{◌≡◌, ℕ, ◌+◌, [], List, Option, None, Some, IfSome}
-use Rattle.netdesc.specs.Plan.{Plan}
-use Rattle.trace_segments.specs.Sinking.{IsBeginning}
+use Rattle.netdesc.specs.Words.{Plan}
+use Rattle.trace_segments.specs.Words.{IsBeginning}
 use Rattle.afdxsim.specs.declared.fault.Fault.{Fault}
 use Rattle.afdxsim.specs.Outside.{Outside}
 use Rattle.afdxsim.specs.Sequencing.{IsFaultOfTrace, IsTraceText}

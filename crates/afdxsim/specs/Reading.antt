@@ -1,8 +1,7 @@
 -- What a read of a file gives, and what its bytes are as a description.
 use Rattle.std.specs.Prelude.{◌≡◌, ◌⊎◌, ℕ, List, Option, None, Some, IsUtf8}
 use Rattle.network_rows.specs.declared.fault.DescFault.TheVariants.{Syntax}
-use Rattle.netdesc.specs.Plan.{Plan}
-use Rattle.netdesc.specs.Description.{TellsFaultOf, Describes}
+use Rattle.netdesc.specs.Words.{Plan, TellsFaultOf, Describes}
 use Rattle.afdxsim.specs.declared.fault.Fault.{Fault}
 use Rattle.afdxsim.specs.declared.fault.Fault.TheVariants.{Description, JournalLine, JournalFull, CannotRead, CannotWriteFile, CannotWrite, Layout, OutOfMemory, Exhausted, Spawn, Torn}
 

@@ -1,13 +1,13 @@
 -- What the program writes of a one-thread run, and why it gives one up.
 use Rattle.std.specs.Prelude.{◌≡◌, ◌⊎◌, ℕ, Bool, true, false, List}
 use Rattle.vlink.specs.Letters.{Row}
-use Rattle.netdesc.specs.Plan.{Plan}
-use Rattle.nodes.specs.rules.Simulation.{simulation_of}
+use Rattle.netdesc.specs.Words.{Plan}
+use Rattle.nodes.specs.Words.{simulation_of}
 use Rattle.actor_run.specs.Running.{IsExhaustedAt}
 use Rattle.actor_run.specs.declared.fault.SimFault.{SimFault}
 use Rattle.actor_run.specs.declared.fault.SimFault.TheVariants as sim
 use Rattle.trace_tables.specs.Tables.{tables_of}
-use Rattle.trace_segments.specs.Text.{trace_text}
+use Rattle.trace_segments.specs.Words.{trace_text}
 use Rattle.trace_tables.specs.Text.{tables_text}
 use Rattle.seqsim.specs.Networks.{AreRowsOf}
 use Rattle.afdxsim.specs.declared.fault.Fault.{Fault}

@@ -3,8 +3,8 @@ ghost use Rattle.std.specs.Prelude.{◌≡◌, ◌⊎◌, List, IfOk, IfErr, str
 ghost use Rattle.vlink.specs.Letters.{Row};
 ghost use Rattle.virtual_time.specs.declared.step.Step.{Step};
 ghost use Rattle.virtual_time.specs.Law.{IsFinished};
-ghost use Rattle.netdesc.specs.Plan.{Plan};
-ghost use Rattle.nodes.specs.rules.Simulation.{simulation_of};
+ghost use Rattle.netdesc.specs.Words.{Plan};
+ghost use Rattle.nodes.specs.Words.{simulation_of};
 ghost use Rattle.trace_tables.specs.Tables.{tables_of};
 ghost use Rattle.seqsim.specs.Networks.{AreRowsOf};
 ghost use Rattle.seqsim.specs.Committed.{after};

@@ -1,6 +1,6 @@
 //! The journal with a text: its steps, read and then done on a network.
 ghost use Rattle.std.specs.Prelude.{◌≡◌, ◌⊎◌, IfOk, IfErr};
-ghost use Rattle.netdesc.specs.Plan.{Plan};
+ghost use Rattle.netdesc.specs.Words.{Plan};
 ghost use Rattle.timewarp.specs.Replayed.{IsReplayed};
 ghost use Rattle.afdxsim.specs.declared.fault.Fault.TheVariants.{OutOfMemory, Exhausted};
 ghost use Rattle.afdxsim.specs.Replaying.{fault_of_lines, IsJournal, IsExhaustedIn, IsFaultOfJournal};

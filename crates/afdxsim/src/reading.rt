@@ -1,6 +1,6 @@
 //! From a file to the network that it describes.
 ghost use Rattle.std.specs.Prelude.{◌≡◌, OnOk, IfOk, IfErr};
-ghost use Rattle.netdesc.specs.Description.{HasNoFault, Describes};
+ghost use Rattle.netdesc.specs.Words.{HasNoFault, Describes};
 ghost use Rattle.afdxsim.specs.Reading.{GivesNetwork, IsFaultOfFile, IsFaultOfNet, TellsOf};
 
 use crate::fault::Fault;

@@ -3,7 +3,7 @@ ghost use Rattle.std.specs.Prelude.{◌≡◌, ◌≢◌, ◌⊎◌, ◌+◌, If
 ghost use Rattle.std.specs.Io.KnownBytes.{append_known};
 ghost use Rattle.journal_text.specs.Text.{steps_text};
 ghost use Rattle.trace_segments.specs.declared.fault.OutFault.TheVariants.{Device, OutOfMemory};
-ghost use Rattle.trace_segments.specs.Sinking.{IsBeginning};
+ghost use Rattle.trace_segments.specs.Words.{IsBeginning};
 
 use journal_text::{LONGEST_LINE, push_step};
 use std::alloc::Global;

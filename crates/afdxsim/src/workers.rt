@@ -3,8 +3,7 @@ ghost use Rattle.std.specs.Prelude.{◌≡◌, ◌⊎◌, ◌+◌, ℕ, true, Li
 ghost use Rattle.vlink.specs.Letters.{Row};
 ghost use Rattle.trace_segments.specs.declared.fault.OutFault.TheVariants.{Device};
 ghost use Rattle.trace_segments.specs.declared.trace_fault.TraceFault.TheVariants.{Out};
-ghost use Rattle.trace_segments.specs.Sinking.{IsBeginning};
-ghost use Rattle.trace_segments.specs.Text.{trace_text};
+ghost use Rattle.trace_segments.specs.Words.{IsBeginning, trace_text};
 ghost use Rattle.trace_tables.specs.Text.{tables_text};
 ghost use Rattle.seqsim.specs.Networks.{AreRowsOf};
 ghost use Rattle.worker_pool.specs.Runs.{IsJournalAsked};

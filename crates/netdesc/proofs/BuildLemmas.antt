@@ -16,15 +16,9 @@ use Rattle.std.specs.List.Sorted.{IsNonDecreasing, IsNonDecreasingBy}
 use Rattle.network_rows.specs.declared.fault.DescFault.{DescFault}
 use Rattle.network_rows.specs.declared.rows.LinkRow.{LinkRow}
 use Rattle.network_rows.specs.declared.rows.Rows.{Rows}
-use Rattle.netdesc.specs.Limits.{greatest_processes}
+use Rattle.netdesc.specs.Words.{greatest_processes, each, each_after, when, top, place_by, names_of, is_among, number_of, Plan, NodePlan, node_plan, link_plan, plan_of, directions, lines_of, faults_of, unknown_names, double_names, not_links, not_trees, too_many, unknown_at_link, process_count, IsAccepted}
 use Rattle.netdesc.specs.declared.wiring.Link.{Link}
 use Rattle.netdesc.specs.declared.wiring.Direction.{Direction}
-use Rattle.netdesc.specs.Rows.{each, each_after, when, top, place_by}
-use Rattle.netdesc.specs.Names.{names_of, is_among, number_of}
-use Rattle.netdesc.specs.Plan.{Plan, NodePlan, node_plan, link_plan, plan_of}
-use Rattle.netdesc.specs.Lines.{directions, lines_of}
-use Rattle.netdesc.specs.Faults.{faults_of, unknown_names, double_names, not_links, not_trees, too_many, unknown_at_link, process_count}
-use Rattle.netdesc.specs.Accepted.{IsAccepted}
 
 -- a link ends at nodes up to this number; so does a line
 abbrev pub EndsWithin : ℕ → Link → Type 0

@@ -6,7 +6,7 @@ use Rattle.std.specs.BTreeSet.{BTreeSet, contains, Updates}
 use Rattle.std.specs.HashSet as hash
 use Rattle.std.proofs.lemmas.List.{take_more, take-append-drop}
 use Rattle.std.proofs.lemmas.List.Folds.{list_any-append}
-use Rattle.netdesc.specs.Trees.{has_double}
+use Rattle.netdesc.specs.Words.{has_double}
 use Rattle.netdesc.proofs.JoinLemmas.{==-flip, is_eq-nat_cmp}
 
 regroup : (a e h b f : Bool) → e ≡ f → ((a || (e || false)) || (h || b)) ≡ ((a || h) || (f || b))

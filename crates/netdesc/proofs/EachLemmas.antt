@@ -8,8 +8,7 @@ use Rattle.std.proofs.lemmas.List.Sums.{count_by_more_yes, count_by_more_no}
 use Rattle.std.proofs.lemmas.List.Elements.{Contains-get_or}
 use Rattle.std.proofs.lemmas.List.Folds.{list_any-append, list_any-from_Any}
 use Rattle.network_rows.specs.declared.fault.DescFault.{DescFault}
-use Rattle.netdesc.specs.Rows.{each, each_after, when}
-use Rattle.netdesc.specs.Faults.{Tells}
+use Rattle.netdesc.specs.Words.{each, each_after, when, Tells}
 
 pub each_after-append : {X Y : Type 0} (f : List X → X → List Y) (earlier xs ys : List X) → each_after f earlier (xs ++ ys) ≡ each_after f earlier xs ++ each_after f (earlier ++ xs) ys
 each_after-append f earlier [] ys = ap (λ e. each_after f e ys) (sym (append-nil earlier))

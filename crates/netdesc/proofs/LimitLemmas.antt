@@ -15,10 +15,7 @@ use Rattle.network_rows.specs.declared.rows.VlRow.{VlRow}
 use Rattle.network_rows.specs.ValueTypes.{is_within}
 use Rattle.network_rows.specs.Within.{IsNodeWithin, IsNodeKindWithin, IsVirtualLinkWithin, IsVlWithin}
 use Rattle.network_rows.specs.declared.rows.VirtualLink.{VirtualLink}
-use Rattle.netdesc.specs.Names.{names_of}
-use Rattle.netdesc.specs.Plan.{Plan, NodePlan, VlPlan, node_plan, vl_plan}
-use Rattle.netdesc.specs.Accepted.{IsAccepted}
-use Rattle.netdesc.specs.Limits.{IsLinkInLimits, IsKindInLimits}
+use Rattle.netdesc.specs.Words.{names_of, Plan, NodePlan, VlPlan, node_plan, vl_plan, IsAccepted, IsLinkInLimits, IsKindInLimits}
 use Rattle.netdesc.proofs.BuildLemmas.{read-item}
 
 both-true : (a b : Bool) → (a && b) ≡ true → (a ≡ true) × (b ≡ true)

@@ -8,11 +8,7 @@ use Rattle.std.proofs.lemmas.Bool.Decides.{nat_tests}
 use Rattle.std.proofs.lemmas.List.{append-nil}
 use Rattle.netdesc.specs.declared.wiring.Link.{Link}
 use Rattle.netdesc.specs.declared.wiring.Direction.{Direction}
-use Rattle.netdesc.specs.Rows.{each_after, place_by}
-use Rattle.netdesc.specs.Plan.{Plan, NodePlan}
-use Rattle.netdesc.specs.Wiring.{goes, joins, is_linked, is_no_link, link_between}
-use Rattle.netdesc.specs.Lines.{port_at, directions, lines_of, line_at, line_between}
-use Rattle.netdesc.specs.PortLaws.{Faces}
+use Rattle.netdesc.specs.Words.{each_after, place_by, Plan, NodePlan, goes, joins, is_linked, is_no_link, link_between, port_at, directions, lines_of, line_at, line_between, Faces}
 use Rattle.netdesc.proofs.PlaceLemmas.{is_some-place_by}
 use Rattle.netdesc.proofs.JoinLemmas.{goes-true, ||-flip, link_between-flip}
 use Rattle.netdesc.proofs.HopLemmas.{or-left, or-right}

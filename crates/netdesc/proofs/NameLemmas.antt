@@ -9,9 +9,7 @@ use Rattle.std.proofs.lemmas.Slice.Eq.{bytes_eq-Decides}
 use Rattle.std.proofs.lemmas.List.{take_more, map-append, length-map, length-take-le}
 use Rattle.std.proofs.lemmas.Map.Text.{hash_map_updates_str}
 use Rattle.network_rows.specs.declared.rows.NodeRow.{NodeRow}
-use Rattle.netdesc.specs.Plan.{node_plan}
-use Rattle.netdesc.specs.Names.{names_of, place_among, number_of}
-use Rattle.netdesc.specs.Code.Finding.{AreNumbers}
+use Rattle.netdesc.specs.Words.{node_plan, names_of, place_among, number_of, AreNumbers}
 use Rattle.netdesc.proofs.PlaceLemmas.{or_else, or_else-none, place_by-push}
 
 -- equal texts, tested from either side

@@ -6,8 +6,7 @@ use Rattle.std.specs.declared.cmp.Ordering.TheVariants.{Less, Equal, Greater}
 use Rattle.std.specs.BTreeSet.{insert_key}
 use Rattle.std.proofs.lemmas.List.{length-append}
 use Rattle.std.specs.Option.{option_to_list}
-use Rattle.netdesc.specs.Plan.{VlPlan}
-use Rattle.netdesc.specs.Trees.{last_of, end_of, ends_of, rising_from, destinations_of}
+use Rattle.netdesc.specs.Words.{VlPlan, last_of, end_of, ends_of, rising_from, destinations_of}
 
 -- a number more is at most one number more
 one-of : (o : Ordering) (n x : ℕ) (xs more : List ℕ) → length more ≤ length xs + 1 → length (match_ordering o (n ∷ x ∷ xs) (x ∷ xs) (x ∷ more)) ≤ length (x ∷ xs) + 1

@@ -3,7 +3,7 @@ use Rattle.std.proofs.Common.{◌≡◌, ℕ, zero, suc, ◌+◌, ◌<◌, Bool,
 use Rattle.std.specs.Option.{option_map}
 use Rattle.std.specs.List.{list_any}
 use Rattle.std.proofs.lemmas.Bool.{cases_Bool, false≢true}
-use Rattle.netdesc.specs.Rows.{place_by}
+use Rattle.netdesc.specs.Words.{place_by}
 
 -- the first of two that is there
 abbrev pub or_else : {X : Type 0} → Option X → Option X → Option X

@@ -12,16 +12,9 @@ use Rattle.network_rows.specs.declared.rows.NodeKind.TheVariants.{EndSystem}
 use Rattle.network_rows.specs.declared.rows.Rate.{Rate}
 use Rattle.network_rows.specs.declared.rows.Rate.TheVariants.{Mbit10, Mbit100}
 use Rattle.network_rows.specs.Within.{IsLinkWithin}
-use Rattle.netdesc.specs.Limits.{greatest_ports}
+use Rattle.netdesc.specs.Words.{greatest_ports, each, each_after, names_of, Plan, NodePlan, link_plan, byte_ns_of, plan_of, is_end_system, is_switch_of, port_at, directions, lines_of, unknown_names, double_names, not_links, not_trees, too_many, too_many_at_node, touches, IsAccepted}
 use Rattle.netdesc.specs.declared.wiring.Link.{Link}
 use Rattle.netdesc.specs.declared.wiring.Direction.{Direction}
-use Rattle.netdesc.specs.Rows.{each, each_after}
-use Rattle.netdesc.specs.Names.{names_of}
-use Rattle.netdesc.specs.Plan.{Plan, NodePlan, link_plan, byte_ns_of, plan_of}
-use Rattle.netdesc.specs.Wiring.{is_end_system, is_switch_of}
-use Rattle.netdesc.specs.Lines.{port_at, directions, lines_of}
-use Rattle.netdesc.specs.Faults.{unknown_names, double_names, not_links, not_trees, too_many, too_many_at_node, touches}
-use Rattle.netdesc.specs.Accepted.{IsAccepted}
 use Rattle.netdesc.proofs.BuildLemmas.{BothEnds, front-none, behind-none, when-none, ends-below, read-item}
 use Rattle.netdesc.proofs.EachLemmas.{each-at, length-before}
 use Rattle.netdesc.proofs.LimitLemmas.{bounds}

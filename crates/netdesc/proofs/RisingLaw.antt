@@ -15,7 +15,7 @@ use Rattle.std.proofs.lemmas.List.Kept.{Contains-from_dedup, Contains-dedup_nat}
 use Rattle.std.proofs.lemmas.List.Sorted.{Contains-permutation, IsPermutation-sym}
 use Rattle.std.proofs.lemmas.Map.Keys.{IsStrictlyIncreasing-from_sorted, IsStrictlyIncreasing-dedup, sorted_from_strictly_increasing}
 use Rattle.std.proofs.Math.Dec.{eqb}
-use Rattle.netdesc.specs.Trees.{IsRisingOf, rising_from, rising}
+use Rattle.netdesc.specs.Words.{IsRisingOf, rising_from, rising}
 use Rattle.netdesc.proofs.MemberLemmas.{Has, has-from_contains, contains-from_has, has-rising, rising-has}
 
 -- all are above a number

@@ -8,10 +8,7 @@ use Rattle.std.proofs.lemmas.List.Elements.{Contains-append_left, Contains-push}
 use Rattle.std.proofs.lemmas.List.Sorted.{IsPermutation-map}
 use Rattle.std.proofs.lemmas.Map.Keys.{IsDistinct-IsPermutation, IsStrictlyIncreasing-from_distinct}
 use Rattle.std.proofs.Math.Dec.{eqb}
-use Rattle.netdesc.specs.Rows.{each, each_after}
-use Rattle.netdesc.specs.Plan.{Plan, VlPlan, plan_of}
-use Rattle.netdesc.specs.Faults.{unknown_names, double_names, double_at_vl}
-use Rattle.netdesc.specs.Accepted.{IsAccepted, id_of, ids_of}
+use Rattle.netdesc.specs.Words.{each, each_after, Plan, VlPlan, plan_of, unknown_names, double_names, double_at_vl, IsAccepted, id_of, ids_of}
 use Rattle.netdesc.proofs.BuildLemmas.{front-none, behind-none, when-none}
 use Rattle.netdesc.proofs.WayLemmas.{list_any-contains}
 

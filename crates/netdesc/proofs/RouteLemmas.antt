@@ -9,10 +9,7 @@ use Rattle.vlink.specs.declared.frame.Net.{Net}
 use Rattle.vlink.specs.declared.frame.VlId.{VlId}
 use Rattle.netdesc.specs.declared.wiring.Direction.{Direction}
 use Rattle.netdesc.specs.declared.wiring.Way.{Way}
-use Rattle.netdesc.specs.Plan.{Plan, VlPlan}
-use Rattle.netdesc.specs.Trees.{all_hops}
-use Rattle.netdesc.specs.Lines.{lines_of, line_between, lines_over, route_over, out_at, in_at, ways_over, leaves, comes_in, arrivals_of, departures_of}
-use Rattle.netdesc.specs.PortLaws.{IsInput, IsOutput, Precedes, Faces, FacesPredecessor, FacesSuccessor, IsArrival, IsDeparture}
+use Rattle.netdesc.specs.Words.{Plan, VlPlan, all_hops, lines_of, line_between, lines_over, route_over, out_at, in_at, ways_over, leaves, comes_in, arrivals_of, departures_of, IsInput, IsOutput, Precedes, Faces, FacesPredecessor, FacesSuccessor, IsArrival, IsDeparture}
 use Rattle.netdesc.proofs.MemberLemmas.{Has, has-from_contains, contains-from_has, has-option, option-has, has-flat_map, flat_map-has, has-rising, rising-has}
 use Rattle.netdesc.proofs.HopLemmas.{hop, hop-of-both, both-of-hop}
 use Rattle.netdesc.proofs.JoinLemmas.{link_between-flip}

@@ -8,12 +8,7 @@ use Rattle.std.proofs.lemmas.List.Sorted.{All-permutation}
 use Rattle.std.proofs.lemmas.Option.{slice_get_read, slice_get_within}
 use Rattle.vlink.specs.declared.frame.Net.{Net}
 use Rattle.vlink.specs.declared.frame.Net.TheVariants.{A, B}
-use Rattle.netdesc.specs.Rows.{each_after}
-use Rattle.netdesc.specs.Plan.{Plan, NodePlan, VlPlan, plan_of}
-use Rattle.netdesc.specs.Wiring.{passes, is_end_kind, is_end_system}
-use Rattle.netdesc.specs.Trees.{first_of, is_bad_path, is_no_tree, source_among, source_of, differ, is_none}
-use Rattle.netdesc.specs.Faults.{unknown_names, double_names, not_links, not_trees, too_many, no_tree_at_vl}
-use Rattle.netdesc.specs.Accepted.{IsAccepted}
+use Rattle.netdesc.specs.Words.{each_after, Plan, NodePlan, VlPlan, plan_of, passes, is_end_kind, is_end_system, first_of, is_bad_path, is_no_tree, source_among, source_of, differ, is_none, unknown_names, double_names, not_links, not_trees, too_many, no_tree_at_vl, IsAccepted}
 use Rattle.netdesc.proofs.BuildLemmas.{front-none, behind-none, when-none, not-false, read-item}
 
 -- an end system that is there

@@ -7,11 +7,7 @@ use Rattle.vlink.specs.declared.frame.Net.TheVariants.{A, B}
 use Rattle.network_rows.specs.declared.rows.NodeKind.{NodeKind}
 use Rattle.network_rows.specs.declared.rows.NodeKind.TheVariants.{EndSystem, Switch}
 use Rattle.netdesc.specs.declared.wiring.Link.{Link}
-use Rattle.netdesc.specs.Plan.{Plan, NodePlan, VlPlan}
-use Rattle.netdesc.specs.Wiring.{passes, is_same_net, is_switch_kind, is_end_system, is_switch_of, is_linked, is_no_link, goes}
-use Rattle.netdesc.specs.Trees.{is_bad_path, is_no_tree, has_other_way, all_hops}
-use Rattle.netdesc.specs.Faults.{is_gap, has_gap}
-use Rattle.netdesc.specs.PortLaws.{paths_on, IsInput, Precedes, Faces, GoesThrough, ExactlyOne, port_for}
+use Rattle.netdesc.specs.Words.{Plan, NodePlan, VlPlan, passes, is_same_net, is_switch_kind, is_end_system, is_switch_of, is_linked, is_no_link, goes, is_bad_path, is_no_tree, has_other_way, all_hops, is_gap, has_gap, paths_on, IsInput, Precedes, Faces, GoesThrough, ExactlyOne, port_for}
 use Rattle.netdesc.proofs.MemberLemmas.{Has, has-from_contains}
 use Rattle.netdesc.proofs.BuildLemmas.{not-false}
 use Rattle.netdesc.proofs.JoinLemmas.{goes-true}

@@ -8,8 +8,7 @@ use Rattle.std.proofs.lemmas.List.{take-append-drop}
 use Rattle.std.proofs.lemmas.List.Elements.{Contains-append_left, Contains-push, Contains-push_cases, Contains-get_or}
 use Rattle.std.proofs.lemmas.List.Folds.{list_any_none, list_any-from_Any}
 use Rattle.netdesc.specs.declared.wiring.Hop.{Hop}
-use Rattle.netdesc.specs.Trees.{is_other_way, has_other_way}
-use Rattle.netdesc.specs.Code.Finding.{AreWaysBy, AreWays}
+use Rattle.netdesc.specs.Words.{is_other_way, has_other_way, AreWaysBy, AreWays}
 
 -- a test that one element passes
 pub list_any-contains : {X : Type 0} (p : X → Bool) (xs : List X) (x : X) → Contains xs x → p x ≡ true → list_any p xs ≡ true

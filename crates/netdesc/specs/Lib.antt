@@ -10,3 +10,4 @@ pub mod Description
 pub mod Limits
 pub mod PortLaws
 pub mod Code
+pub mod Words

@@ -15,15 +15,11 @@ use Rattle.output_port.specs.declared.event.PutRecord.{PutRecord}
 use Rattle.nodes.specs.declared.equipment_record.EquipmentRecord.TheVariants as kept
 use Rattle.nodes.specs.declared.source.Source.{Source}
 use Rattle.reverse.specs.Sending.{silent}
-use Rattle.nodes.specs.rules.Finding.{Found, find}
+use Rattle.nodes.specs.Words.{Found, find, exists, found-again, found-there, EndSystemState, asked, full, lost, regulated, source_at, source_number, reception_at, reception_number, ending_on, is_on, check_of, received, reception-again, ReceivedCameFrom, RegulatedCameFrom, SendingCameFrom, delivery_kept, regulated_kept, EndSystemCameFrom, IsRegulatedValue}
 use Rattle.nodes.specs.declared.reception.Reception.{Reception}
-use Rattle.nodes.specs.rules.Ports.{exists}
 use Rattle.integrity.specs.Integrity.{integrity}
-use Rattle.nodes.specs.laws.Places.{found-again, found-there}
-use Rattle.nodes.specs.rules.EndSystem.{EndSystemState, asked, full, lost, regulated, source_at, source_number, reception_at, reception_number, ending_on, is_on, check_of, received, taken}
-use Rattle.nodes.specs.laws.EndSystem.{reception-again}
-use Rattle.nodes.specs.undoing.EndSystemElements.{ReceivedCameFrom, RegulatedCameFrom, SendingCameFrom}
-use Rattle.nodes.specs.undoing.EndSystem.{delivery_kept, regulated_kept, taken_kept, EndSystemCameFrom, IsRegulatedValue}
+use Rattle.nodes.specs.rules.EndSystem.{taken}
+use Rattle.nodes.specs.undoing.EndSystem.{taken_kept}
 
 -- a regulator that releases a frame has room in its queue
 pub full-released : (e : RegEvent) (frame : Frame) → full e (Released frame) ≡ silent

@@ -10,10 +10,8 @@ use Rattle.std.proofs.lemmas.List.{take-append-drop}
 use Rattle.std.proofs.lemmas.List.Elements.{recursion_from_All}
 use Rattle.std.proofs.lemmas.Map.Keys.{sorted_head, sorted_tail}
 use Rattle.netdesc.specs.declared.wiring.Way.{Way}
-use Rattle.netdesc.specs.Plan.{VlPlan}
-use Rattle.netdesc.specs.Accepted.{ids_of}
-use Rattle.nodes.specs.rules.Meeting.{with_ways}
-use Rattle.nodes.specs.laws.Grouping.{groups, grouped}
+use Rattle.netdesc.specs.Words.{VlPlan, ids_of}
+use Rattle.nodes.specs.Words.{with_ways, groups, grouped}
 
 -- the ways are all of the virtual link with this number; the first of them, if there is one, is not
 abbrev pub AreOf : ℕ → List Way → Type 0

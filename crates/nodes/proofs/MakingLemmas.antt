@@ -10,17 +10,10 @@ use Rattle.std.proofs.lemmas.Map.Keys.{sorted_head, sorted_tail, sorted_from_str
 use Rattle.netdesc.specs.declared.too_many.TheConstants.{GREATEST_PORTS}
 use Rattle.nodes.specs.declared.meeting.Meeting.{Meeting}
 use Rattle.netdesc.specs.declared.wiring.Way.{Way}
-use Rattle.netdesc.specs.Plan.{Plan, VlPlan}
-use Rattle.netdesc.specs.Accepted.{IsAccepted, ids_of}
-use Rattle.netdesc.specs.Trees.{is_none}
+use Rattle.netdesc.specs.Words.{Plan, VlPlan, IsAccepted, ids_of, is_none}
 use Rattle.netdesc.proofs.RisingLemmas.{ids-rise}
 use Rattle.nodes.specs.declared.meeting.Side.TheVariants.{Out, In}
-use Rattle.nodes.specs.rules.Meeting.{ways_at, with_ways, ports_by, meeting, meetings}
-use Rattle.nodes.specs.rules.EndSystem.{source_number, reception_number}
-use Rattle.nodes.specs.rules.Switch.{transit_number}
-use Rattle.nodes.specs.rules.Opening.{source_of, reception_of, transit_of}
-use Rattle.nodes.specs.rules.Finding.{place_of, found_at}
-use Rattle.nodes.specs.laws.Making.{number_met, ports_among, ports_found, source_met, reception_met, transit_met}
+use Rattle.nodes.specs.Words.{ways_at, with_ways, ports_by, meeting, meetings, source_number, reception_number, transit_number, source_of, reception_of, transit_of, place_of, found_at, number_met, ports_among, ports_found, source_met, reception_met, transit_met}
 use Rattle.nodes.proofs.GroupLemmas.{below}
 
 -- the ports of the first virtual link, or of a later one

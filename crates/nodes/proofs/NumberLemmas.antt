@@ -10,7 +10,7 @@ use Rattle.std.proofs.lemmas.List.{get_or-map, length-map}
 use Rattle.std.proofs.lemmas.List.Sorted.{IsNonDecreasingBy-from_default}
 use Rattle.std.proofs.lemmas.Map.Keys.{below_from_sorted, sorted_tail, non_decreasing_from_sorted}
 use Rattle.std.proofs.lemmas.Option.{none-some, same_Some, slice_get-get_or}
-use Rattle.nodes.specs.rules.Finding.{place_of, find, found_at, IsRising}
+use Rattle.nodes.specs.Words.{place_of, find, found_at, IsRising}
 
 -- the number at a place is found there, since each one before it is less
 pub place-there : (numbers : List ℕ) (id i : ℕ) → IsRising numbers → i < length numbers → get_or numbers i 0 ≡ id → place_of numbers id ≡ Some i

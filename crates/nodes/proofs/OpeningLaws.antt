@@ -4,9 +4,9 @@ use Rattle.std.specs.Prelude.{slice_get, IfSome, filter, not}
 use Rattle.std.specs.Option.{option_map}
 use Rattle.nodes.specs.declared.source.Source.{Source}
 use Rattle.netdesc.specs.declared.wiring.Way.{Way}
-use Rattle.netdesc.specs.Trees.{is_none}
+use Rattle.netdesc.specs.Words.{is_none, Plan, NodePlan, VlPlan, IsAccepted, lines_of, process_count}
 use Rattle.nodes.specs.declared.meeting.Side.TheVariants.{Out}
-use Rattle.nodes.specs.rules.Meeting.{ways_at, with_ways}
+use Rattle.nodes.specs.Words.{ways_at, with_ways, leaves_by, wire_among, wires_of, outlet_of, ports_of, source_of, node_opening, equipment_opening, line_opening, opening, AllWires, IsPlacedEquipment, IsPlaced, IsWiredEquipment, IsWired}
 use Rattle.std.specs.List.{AllByRecursion, range_with_len}
 use Rattle.std.proofs.lemmas.List.Elements.{All-from_recursion}
 use Rattle.std.proofs.lemmas.Option.{slice_get_within, none-some}
@@ -14,17 +14,11 @@ use Rattle.network_rows.specs.declared.rows.NodeKind.{NodeKind}
 use Rattle.network_rows.specs.declared.rows.NodeKind.TheVariants as kind
 use Rattle.netdesc.specs.declared.wiring.Direction.{Direction}
 use Rattle.netdesc.specs.declared.too_many.TheConstants.{GREATEST_PORTS}
-use Rattle.netdesc.specs.Plan.{Plan, NodePlan, VlPlan}
-use Rattle.netdesc.specs.Accepted.{IsAccepted}
-use Rattle.netdesc.specs.Lines.{lines_of}
-use Rattle.netdesc.specs.Faults.{process_count}
 use Rattle.netdesc.proofs.BuildLemmas.{line-read, length-lines}
 use Rattle.netdesc.proofs.PortLemmas.{line-within}
 use Rattle.netdesc.proofs.LimitLemmas.{kind-read, link-read}
 use Rattle.nodes.specs.declared.ports.Wire.{Wire}
 use Rattle.nodes.specs.declared.equipment.Equipment.TheVariants as equipment
-use Rattle.nodes.specs.rules.Opening.{leaves_by, wire_among, wires_of, outlet_of, ports_of, source_of, node_opening, equipment_opening, line_opening, opening}
-use Rattle.nodes.specs.rules.Placed.{AllWires, IsPlacedEquipment, IsPlaced, IsWiredEquipment, IsWired}
 
 -- what holds of each line, as the wire of a process behind these, holds of the wire that is found
 wire-holds : (P : Wire → Type 0) (n q process : ℕ) (lines : List Direction) →

@@ -3,17 +3,10 @@ use Rattle.std.proofs.Common.{◌≡◌, ℕ, ◌-◌, ◌≤◌, length, map, a
 use Rattle.std.specs.Prelude.{slice_get}
 use Rattle.std.proofs.lemmas.Option.{slice_get_past}
 use Rattle.netdesc.specs.declared.too_many.TheConstants.{GREATEST_PORTS}
-use Rattle.netdesc.specs.Plan.{Plan}
-use Rattle.netdesc.specs.Accepted.{IsAccepted}
-use Rattle.netdesc.specs.Lines.{lines_of}
+use Rattle.netdesc.specs.Words.{Plan, IsAccepted, lines_of}
 use Rattle.nodes.specs.declared.meeting.Side.TheVariants.{Out, In}
 use Rattle.nodes.specs.declared.equipment.Equipment.TheVariants as equipment
-use Rattle.nodes.specs.rules.Meeting.{ways_at, with_ways, meetings}
-use Rattle.nodes.specs.rules.EndSystem.{EndSystemState}
-use Rattle.nodes.specs.rules.Switch.{SwitchState}
-use Rattle.nodes.specs.rules.Line.{LineState}
-use Rattle.nodes.specs.rules.Opening.{line_opening, equipment_opening, ports_of, end_system_opening, switch_opening}
-use Rattle.nodes.specs.laws.Making.{source_met, reception_met, transit_met}
+use Rattle.nodes.specs.Words.{ways_at, with_ways, meetings, EndSystemState, SwitchState, LineState, line_opening, equipment_opening, ports_of, end_system_opening, switch_opening, source_met, reception_met, transit_met}
 use Rattle.nodes.proofs.MakingLemmas.{sources-made, receptions-made, transits-made}
 
 pub switch-made : (plan : Plan) (n latency bytes : ℕ) → IsAccepted plan → (s : SwitchState) → s.latency ≡ latency

@@ -11,11 +11,9 @@ use Rattle.reverse.specs.Plain.{CameFrom}
 use Rattle.reverse.specs.Sending.{silent}
 use Rattle.nodes.specs.declared.equipment_record.EquipmentRecord.TheVariants as kept
 use Rattle.nodes.specs.declared.transit.Transit.{Transit}
-use Rattle.nodes.specs.rules.Finding.{Found}
-use Rattle.nodes.specs.rules.Ports.{exists}
-use Rattle.nodes.specs.rules.Switch.{SwitchState, transit_at, transit_number, entered, taken}
-use Rattle.nodes.specs.undoing.Switch.{taken_kept, IsEnteredValue, IsTakenValue, SwitchCameFrom}
-use Rattle.nodes.specs.laws.Places.{found-again}
+use Rattle.nodes.specs.Words.{Found, exists, SwitchState, transit_at, transit_number, entered, IsEnteredValue, IsTakenValue, SwitchCameFrom, found-again}
+use Rattle.nodes.specs.rules.Switch.{taken}
+use Rattle.nodes.specs.undoing.Switch.{taken_kept}
 
 -- the number of the virtual link stays
 pub entered-number : (t q : ℕ) (frame : Frame) (transit : Transit) → transit_number (entered t q frame transit) ≡ transit_number transit

@@ -11,18 +11,12 @@ use Rattle.std.proofs.lemmas.Map.Keys.{sorted_head, sorted_tail, sorted_from_str
 use Rattle.netdesc.specs.declared.too_many.TheConstants.{GREATEST_PORTS}
 use Rattle.netdesc.specs.declared.wiring.Direction.{Direction}
 use Rattle.netdesc.specs.declared.wiring.Way.{Way}
-use Rattle.netdesc.specs.Plan.{Plan, VlPlan}
-use Rattle.netdesc.specs.Accepted.{IsAccepted, ids_of}
-use Rattle.netdesc.specs.Trees.{is_none}
-use Rattle.netdesc.specs.Lines.{lines_of, out_at, in_at, ways_over, route_over, place_of_vl}
+use Rattle.netdesc.specs.Words.{Plan, VlPlan, IsAccepted, ids_of, is_none, lines_of, out_at, in_at, ways_over, route_over, place_of_vl}
 use Rattle.netdesc.proofs.PortLemmas.{line-within}
 use Rattle.netdesc.proofs.RisingLemmas.{ids-rise}
 use Rattle.nodes.specs.declared.meeting.Side.{Side}
 use Rattle.nodes.specs.declared.meeting.Side.TheVariants.{Out, In}
-use Rattle.nodes.specs.rules.Meeting.{ways_at, with_ways, first_port, ports_by, meeting, meetings}
-use Rattle.nodes.specs.rules.Finding.{IsRising}
-use Rattle.nodes.specs.laws.Making.{number_met}
-use Rattle.nodes.specs.laws.Grouping.{met, met_by, vl_with, all_met}
+use Rattle.nodes.specs.Words.{ways_at, with_ways, first_port, ports_by, meeting, meetings, IsRising, number_met, met, met_by, vl_with, all_met}
 use Rattle.nodes.proofs.GroupLemmas.{AreOf, below, groups-flat_map}
 
 abbrev pub IsFound : List VlPlan → VlPlan → Type 0

@@ -7,7 +7,7 @@ use Rattle.netdesc.specs.declared.wiring.Direction.{Direction}
 use Rattle.netdesc.proofs.PlaceLemmas.{or_else, or_else-stored}
 use Rattle.netdesc.proofs.EachLemmas.{take-read}
 use Rattle.nodes.specs.declared.ports.Wire.{Wire}
-use Rattle.nodes.specs.rules.Opening.{leaves_by, wire_among}
+use Rattle.nodes.specs.Words.{leaves_by, wire_among}
 
 abbrev wire_of : ℕ → Direction → Option Wire
 wire_of process line = Some (record { line = process; byte_ns = line.byte_ns })

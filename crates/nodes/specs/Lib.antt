@@ -2,3 +2,4 @@
 pub mod laws
 pub mod rules
 pub mod undoing
+pub mod Words

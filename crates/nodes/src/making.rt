@@ -1,6 +1,6 @@
 //! The virtual links of a node in their opening states.
 ghost use Rattle.std.specs.Prelude.{◌≡◌, All, map, IfOk};
-ghost use Rattle.netdesc.specs.Limits.{IsLinkInLimits};
+ghost use Rattle.netdesc.specs.Words.{IsLinkInLimits};
 ghost use Rattle.nodes.specs.rules.Finding.{IsRising};
 ghost use Rattle.nodes.specs.rules.Opening.{regulator_of, receiving_of, account_of, measure_of, port_priority};
 ghost use Rattle.nodes.specs.laws.Making.{number_met, end_met, source_met, reception_met, ports_among, transit_met};

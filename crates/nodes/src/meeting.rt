@@ -2,7 +2,7 @@
 ghost use Rattle.std.specs.Prelude.{◌≡◌, ◌<◌, ◌≤◌, ◌++◌, ◌∷◌, All, length, map, take, drop, IfOk, OnOk};
 ghost use Rattle.std.specs.List.{flat_map};
 ghost use Rattle.netdesc.specs.declared.too_many.TheConstants.{GREATEST_PORTS};
-ghost use Rattle.netdesc.specs.Limits.{IsLinkInLimits};
+ghost use Rattle.netdesc.specs.Words.{IsLinkInLimits};
 ghost use Rattle.nodes.specs.rules.Finding.{IsRising};
 ghost use Rattle.nodes.specs.rules.Meeting.{ports_by, ways_at, meetings};
 ghost use Rattle.nodes.specs.laws.Grouping.{groups, met, all_met};

@@ -1,8 +1,7 @@
 //! All processes of a network in their opening states.
 ghost use Rattle.std.specs.Prelude.{◌≡◌, ◌<◌, length, slice_get, IfOk};
 ghost use Rattle.netdesc.specs.declared.too_many.TheConstants.{GREATEST_PORTS};
-ghost use Rattle.netdesc.specs.Faults.{process_count};
-ghost use Rattle.netdesc.specs.Lines.{lines_of};
+ghost use Rattle.netdesc.specs.Words.{process_count, lines_of};
 ghost use Rattle.nodes.specs.rules.Opening.{end_system_opening, switch_opening, line_opening, equipment_opening, opening};
 
 use crate::end_system::EndSystem;

@@ -14,7 +14,7 @@ use Rattle.virtual_time.proofs.OneThread.{right, nothing_outside}
 use Rattle.virtual_time.proofs.OneThreadLater.{over-same}
 use Rattle.virtual_time.proofs.Kept.{IsKept, start-kept}
 use Rattle.virtual_time.proofs.KeptRun.{run-kept}
-use Rattle.trace_segments.specs.Places.{gathered}
+use Rattle.trace_segments.specs.Words.{gathered}
 
 left-nothing : {M : Type 0} → (xs ys : List M) → xs ++ ys ≡ [] → xs ≡ []
 left-nothing [] ys e = refl

@@ -5,16 +5,10 @@ use Rattle.virtual_time.specs.Law.{IsOrder, IsReached}
 use Rattle.virtual_time.proofs.Reading.{reached-keeps}
 use Rattle.reverse.proofs.Members.{in-all}
 use Rattle.reverse.specs.Setting.{AreInStates, IsLaidOut, Opens}
-use Rattle.netdesc.specs.Plan.{Plan}
-use Rattle.netdesc.specs.Accepted.{IsAccepted}
-use Rattle.netdesc.specs.Faults.{process_count}
+use Rattle.netdesc.specs.Words.{Plan, IsAccepted, process_count}
 use Rattle.traffic.specs.Offers.{offers_of}
 use Rattle.traffic.specs.Lawful.{IsOfNetwork, HasLawfulOffers}
-use Rattle.nodes.specs.rules.Node.{NodeState}
-use Rattle.nodes.specs.rules.Placed.{IsPlaced, IsWired}
-use Rattle.nodes.specs.laws.NodeSending.{sends-near, wiring-stays}
-use Rattle.nodes.specs.rules.Opening.{opening}
-use Rattle.nodes.specs.rules.Simulation.{simulation_of}
+use Rattle.nodes.specs.Words.{NodeState, IsPlaced, IsWired, sends-near, wiring-stays, opening, simulation_of}
 use Rattle.nodes.proofs.OpeningLaws.{opening-placed, opening-wired}
 use Rattle.seqsim.specs.Networks.{setting_of}
 

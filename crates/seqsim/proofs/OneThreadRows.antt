@@ -16,7 +16,7 @@ use Rattle.virtual_time.proofs.Order.{less-asym}
 use Rattle.virtual_time.proofs.Least.{least-some}
 use Rattle.virtual_time.proofs.Lists.{times-append, times-one}
 use Rattle.virtual_time.proofs.OneThread.{right}
-use Rattle.trace_segments.specs.Ordered.{AreInMessageOrder, AreAtReceivers}
+use Rattle.trace_segments.specs.Words.{AreInMessageOrder, AreAtReceivers}
 
 abbrev is_before : Row → Row → Bool
 is_before x y = is_lt (message_cmp x.message y.message)

@@ -8,7 +8,7 @@ use Rattle.vlink.specs.Order.{message_cmp}
 use Rattle.vlink.specs.Letters.{Row}
 use Rattle.virtual_time.specs.Law.{rowed, rows_at, Simulation, Laws, one, start, run, IsWhole}
 use Rattle.virtual_time.specs.declared.step.Step.{Step}
-use Rattle.trace_segments.specs.Ordered.{AreInMessageOrder, AreAtReceivers, rows_of_event}
+use Rattle.trace_segments.specs.Words.{AreInMessageOrder, AreAtReceivers, rows_of_event}
 use Rattle.seqsim.proofs.CommittedRows.{rows-whole}
 use Rattle.seqsim.proofs.OneThreadRows.{one-here, one-ordered}
 

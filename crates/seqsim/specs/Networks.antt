@@ -3,12 +3,9 @@ use Rattle.std.specs.Prelude.{◌≡◌, ℕ, [], map, List}
 use Rattle.vlink.specs.Letters.{Row}
 use Rattle.virtual_time.specs.Law.{one}
 use Rattle.reverse.specs.Setting.{Setting}
-use Rattle.netdesc.specs.Plan.{Plan}
-use Rattle.netdesc.specs.Faults.{process_count}
+use Rattle.netdesc.specs.Words.{Plan, process_count}
 use Rattle.traffic.specs.Offers.{offers_of}
-use Rattle.nodes.specs.rules.Node.{NodeState}
-use Rattle.nodes.specs.rules.Opening.{opening}
-use Rattle.nodes.specs.rules.Simulation.{simulation_of}
+use Rattle.nodes.specs.Words.{NodeState, opening, simulation_of}
 
 -- what a network simulates, but for the rules of its nodes and lines
 abbrev pub setting_of : Plan → Setting NodeState

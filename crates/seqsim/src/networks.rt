@@ -1,8 +1,7 @@
 //! Networks meet the laws of a simulation.
 ghost use Rattle.virtual_time.specs.Law.{Laws};
 ghost use Rattle.reverse.specs.Setting.{IsLaidOut};
-ghost use Rattle.nodes.specs.rules.Placed.{IsPlaced};
-ghost use Rattle.nodes.specs.rules.Simulation.{simulation_of};
+ghost use Rattle.nodes.specs.Words.{IsPlaced, simulation_of};
 ghost use Rattle.seqsim.specs.Networks.{setting_of};
 
 use netdesc::Network;

@@ -4,11 +4,9 @@ ghost use Rattle.vlink.specs.Order.{message_order};
 ghost use Rattle.vlink.specs.Letters.{Row};
 ghost use Rattle.virtual_time.specs.Law.{rowed, rows_at, one, IsFinished};
 ghost use Rattle.virtual_time.specs.declared.step.Step.{Step};
-ghost use Rattle.netdesc.specs.Faults.{process_count};
-ghost use Rattle.nodes.specs.rules.Opening.{opening};
-ghost use Rattle.nodes.specs.rules.Simulation.{simulation_of};
-ghost use Rattle.trace_segments.specs.Places.{gathered};
-ghost use Rattle.trace_segments.specs.Ordered.{AreInMessageOrder, rows_of_event};
+ghost use Rattle.netdesc.specs.Words.{process_count};
+ghost use Rattle.nodes.specs.Words.{opening, simulation_of};
+ghost use Rattle.trace_segments.specs.Words.{gathered, AreInMessageOrder, rows_of_event};
 ghost use Rattle.seqsim.specs.Committed.{after, AreCommittedRows};
 ghost use Rattle.seqsim.specs.Networks.{AreRowsOf};
 

@@ -1,9 +1,8 @@
 //! The run of a network.
 ghost use Rattle.std.specs.Prelude.{◌≡◌, ℕ, Err, OnOk, IfOk};
 ghost use Rattle.reverse.specs.Setting.{AreInStates};
-ghost use Rattle.netdesc.specs.Faults.{process_count};
-ghost use Rattle.nodes.specs.rules.Opening.{opening};
-ghost use Rattle.nodes.specs.rules.Simulation.{simulation_of};
+ghost use Rattle.netdesc.specs.Words.{process_count};
+ghost use Rattle.nodes.specs.Words.{opening, simulation_of};
 ghost use Rattle.trace_tables.specs.Tables.{tables_of};
 ghost use Rattle.actor_run.specs.declared.fault.SimFault.TheVariants.{Exhausted};
 ghost use Rattle.actor_run.specs.Running.{IsExhaustedAt, HasNumbersFrom};

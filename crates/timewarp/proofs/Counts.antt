@@ -4,7 +4,7 @@ use Rattle.std.proofs.lemmas.Bool.{not-true}
 use Rattle.virtual_time.specs.declared.step.Step.{Step}
 use Rattle.virtual_time.specs.declared.step.Step.TheVariants.{Take, Arrive, Run, Post, Gvt, Commit}
 use Rattle.virtual_time.specs.Law.{one_if, Simulation, World, is_enabled, step, run, start}
-use Rattle.nodes.specs.rules.Simulation.{simulation_of}
+use Rattle.nodes.specs.Words.{simulation_of}
 use Rattle.antimessages.specs.Steps.{names_none}
 use Rattle.timewarp.specs.declared.replaying.Replay.{Replay}
 use Rattle.timewarp.specs.Replaying.{did, not_enabled, refused}

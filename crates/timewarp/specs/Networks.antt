@@ -1,11 +1,9 @@
 -- The worlds of a network that a program holds.
 use Rattle.std.specs.Prelude.{List}
 use Rattle.virtual_time.specs.declared.step.Step.{Step}
-use Rattle.netdesc.specs.Plan.{Plan}
+use Rattle.netdesc.specs.Words.{Plan}
 use Rattle.nodes.specs.declared.node.NodeRecord.{NodeRecord}
-use Rattle.nodes.specs.rules.Node.{NodeState}
-use Rattle.nodes.specs.undoing.Node.{IsNodeValue}
-use Rattle.nodes.specs.rules.Simulation.{simulation_of}
+use Rattle.nodes.specs.Words.{NodeState, IsNodeValue, simulation_of}
 use Rattle.seqsim.specs.Committed.{after}
 use Rattle.actor_world.specs.Worlds.{Holdings, StandsForWorld}
 

@@ -2,7 +2,7 @@
 use Rattle.std.specs.Prelude.{◌≡◌, List, map}
 use Rattle.virtual_time.specs.declared.step.Step.{Step}
 use Rattle.virtual_time.specs.Law.{start}
-use Rattle.nodes.specs.rules.Simulation.{simulation_of}
+use Rattle.nodes.specs.Words.{simulation_of}
 use Rattle.timewarp.specs.declared.replaying.Replay.{Replay}
 use Rattle.timewarp.specs.Networks.{IsAfter}
 use Rattle.timewarp.specs.Replaying as count

@@ -3,7 +3,7 @@ ghost use Rattle.std.specs.Prelude.{◌≡◌, ℕ, List, map, IfOk, IfErr};
 ghost use Rattle.vlink.specs.Letters.{Row};
 ghost use Rattle.virtual_time.specs.declared.step.Step.{Step};
 ghost use Rattle.virtual_time.specs.Law.{IsFinished};
-ghost use Rattle.nodes.specs.rules.Simulation.{simulation_of};
+ghost use Rattle.nodes.specs.Words.{simulation_of};
 ghost use Rattle.trace_tables.specs.Tables.{tables_of};
 ghost use Rattle.seqsim.specs.Networks.{AreRowsOf};
 ghost use Rattle.actor_world.specs.declared.fault.StepFault.TheVariants.{OutOfMemory};

@@ -3,9 +3,7 @@ use Rattle.std.proofs.Common.{◌≡◌, ◌∙◌, ℕ, ◌+◌, ◌<◌, ◌�
 use Rattle.std.specs.Prelude.{◌||◌, nat_le, Some, None}
 use Rattle.std.proofs.lemmas.Grind.{common_steps}
 use Rattle.trace_segments.specs.declared.segment_fault.SegmentFault.TheVariants.{Stranger}
-use Rattle.trace_segments.specs.Intervals.{cut}
-use Rattle.trace_segments.specs.Gathering.{Gathering, taken_of, is_stranger, place_fault, segment_fault}
-use Rattle.trace_segments.specs.Segments.{SegmentRows}
+use Rattle.trace_segments.specs.Words.{cut, Gathering, taken_of, is_stranger, place_fault, segment_fault, SegmentRows}
 use Rattle.trace_segments.proofs.IntervalLemmas.{inside-cut, few-intervals}
 
 -- a segment of the run and of one of its processes

@@ -7,7 +7,7 @@ use Rattle.std.proofs.lemmas.List.Elements.{filter-append, filter_passes, recurs
 use Rattle.std.proofs.lemmas.Map.Views.{exact_unsigned_eq}
 use Rattle.virtual_time.specs.Law.{rows_at}
 use Rattle.vlink.specs.Letters.{Row}
-use Rattle.trace_segments.specs.Places.{gathered}
+use Rattle.trace_segments.specs.Words.{gathered}
 
 -- the rows are of this process
 abbrev pub AreAt : ℕ → List Row → Type 0

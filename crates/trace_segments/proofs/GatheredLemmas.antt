@@ -5,10 +5,7 @@ use Rattle.std.specs.List.{flat_map, range_with_len, repeat}
 use Rattle.std.proofs.lemmas.Bool.{cases_lt}
 use Rattle.std.proofs.lemmas.List.{length-map, length-set}
 use Rattle.vlink.specs.Letters.{Row}
-use Rattle.trace_segments.specs.Places.{gathered}
-use Rattle.trace_segments.specs.Gathered.{segments_from, AreOfRows}
-use Rattle.trace_segments.specs.Gathering.{segments_at, with_segment, are_all_there, first_of, first_rows}
-use Rattle.trace_segments.specs.Intervals.{cut, rows_within}
+use Rattle.trace_segments.specs.Words.{gathered, segments_from, AreOfRows, segments_at, with_segment, are_all_there, first_of, first_rows, cut, rows_within}
 use Rattle.trace_segments.proofs.WaitingLemmas.{latter}
 
 -- the rows of one interval

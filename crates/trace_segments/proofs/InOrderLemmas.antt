@@ -13,9 +13,7 @@ use Rattle.virtual_time.specs.Law.{rows_at}
 use Rattle.vlink.specs.declared.message.Message.{Message}
 use Rattle.vlink.specs.Order.{message_cmp}
 use Rattle.vlink.specs.Letters.{Row}
-use Rattle.trace_segments.specs.Places.{gathered}
-use Rattle.trace_segments.specs.Intervals.{cut, interval_count, rows_within, rows_before, rows_from}
-use Rattle.trace_segments.specs.Ordered.{AreInMessageOrder, AreAtReceivers, IsInOrder, rows_of_event}
+use Rattle.trace_segments.specs.Words.{gathered, cut, interval_count, rows_within, rows_before, rows_from, AreInMessageOrder, AreAtReceivers, IsInOrder, rows_of_event}
 use Rattle.trace_segments.proofs.GatherLemmas.{filter-gathered, same-gathered}
 use Rattle.trace_segments.proofs.IntervalLemmas.{cut-first, cut-rises, cut-last}
 use Rattle.trace_segments.proofs.RowOrderLemmas.{same-by-event, events-by-place}

@@ -4,8 +4,7 @@ use Rattle.std.specs.Prelude.{◌&&◌, nat_le, nat_lt}
 use Rattle.std.specs.List.{filter}
 use Rattle.virtual_time.specs.Law.{rows_at}
 use Rattle.vlink.specs.Letters.{Row}
-use Rattle.trace_segments.specs.Intervals.{interval_width, interval_count, cut, HasInterval, rows_within}
-use Rattle.trace_segments.specs.Segments.{is_at_within}
+use Rattle.trace_segments.specs.Words.{interval_width, interval_count, cut, HasInterval, rows_within, is_at_within}
 
 -- an interval begins at its number of widths, and behind the last one is the moment behind the end
 pub cut-inside : (until k : ℕ) → HasInterval until k → cut until k ≡ k * interval_width until

@@ -19,7 +19,7 @@ use Rattle.vlink.specs.declared.message.Message.{Message}
 use Rattle.vlink.specs.declared.note.Note.TheVariants.{Delivered}
 use Rattle.vlink.specs.Order.{message_cmp}
 use Rattle.vlink.specs.Letters.{Row}
-use Rattle.trace_segments.specs.Ordered.{AreInMessageOrder, rows_of_event, AreAtReceivers}
+use Rattle.trace_segments.specs.Words.{AreInMessageOrder, rows_of_event, AreAtReceivers}
 use Rattle.trace_segments.proofs.SortedLemmas.{filters-swap, filter-narrower, one-sorted}
 
 abbrev IsHere : Row → Type 0

@@ -6,12 +6,7 @@ use Rattle.std.proofs.lemmas.List.{length-set}
 use Rattle.vlink.specs.Letters.{Row}
 use Rattle.trace_segments.specs.declared.segment_fault.SegmentFault.{SegmentFault}
 use Rattle.trace_segments.specs.declared.segment_fault.SegmentFault.TheVariants.{Stranger}
-use Rattle.trace_segments.specs.Places.{gathered}
-use Rattle.trace_segments.specs.Gathered.{AreOfRows, IsOfRows}
-use Rattle.trace_segments.specs.Gathering.{Gathering, taken_of, is_stranger, place_fault, segment_fault, with_segment, Waits, Gives}
-use Rattle.trace_segments.specs.Intervals.{cut, rows_within}
-use Rattle.trace_segments.specs.Ordered.{IsInOrder}
-use Rattle.trace_segments.specs.Segments.{SegmentRows, BatchRows}
+use Rattle.trace_segments.specs.Words.{gathered, AreOfRows, IsOfRows, Gathering, taken_of, is_stranger, place_fault, segment_fault, with_segment, Waits, Gives, cut, rows_within, IsInOrder, SegmentRows, BatchRows}
 use Rattle.trace_segments.proofs.GatheredLemmas.{interval_rows, with-of-rows, left-of-rows, firsts-are}
 
 -- it is of one of the processes

@@ -6,7 +6,7 @@ use Rattle.std.proofs.lemmas.Bool.{cases_lt}
 use Rattle.std.proofs.lemmas.Grind.{common_steps}
 use Rattle.std.proofs.lemmas.List.Elements.{filter-append}
 use Rattle.vlink.specs.Letters.{Row}
-use Rattle.trace_segments.specs.Intervals.{rows_within, rows_before, rows_from}
+use Rattle.trace_segments.specs.Words.{rows_within, rows_before, rows_from}
 
 abbrev pub time_of : Row → ℕ
 time_of row = row.message.time

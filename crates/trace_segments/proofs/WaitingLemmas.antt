@@ -6,7 +6,7 @@ use Rattle.std.proofs.lemmas.List.{append-nil, take_more}
 use Rattle.std.proofs.lemmas.Grind.{flat_map-append}
 use Rattle.std.proofs.Math.Seq.{take-append_seam}
 use Rattle.vlink.specs.Letters.{Row}
-use Rattle.trace_segments.specs.Gathering.{segments_at, with_segment, are_all_there, AreFew}
+use Rattle.trace_segments.specs.Words.{segments_at, with_segment, are_all_there, AreFew}
 
 -- one more of the same
 pub repeat-more : {X : Type 0} (x : X) (n : ℕ) → repeat n (x ∷ []) ++ x ∷ [] ≡ repeat (suc n) (x ∷ [])

@@ -7,7 +7,7 @@ use Rattle.std.specs.declared.vec.Vec.{Vec}
 use Rattle.std.proofs.lemmas.List.{append-nil, take_more}
 use Rattle.std.proofs.lemmas.Grind.{flat_map-append}
 use Rattle.csv.specs.declared.writer.Writer.{Writer}
-use Rattle.trace_segments.specs.Writing.{Holds, Adds}
+use Rattle.trace_segments.specs.Words.{Holds, Adds}
 
 -- a list up to one place more, where this is read
 pub take-read : {X : Type 0} (xs : List X) (i : ℕ) (x : X) → i < length xs → x ≡ get_or xs i x → take (i + 1) xs ≡ take i xs ++ x ∷ []

@@ -10,3 +10,4 @@ pub mod Segments
 pub mod Gathering
 pub mod Gathered
 pub mod WrittenTrace
+pub mod Words

@@ -2,8 +2,7 @@
 use Rattle.std.specs.Prelude.{ℕ, ◌+◌, ◌==◌, ◌&&◌, cond, not, nat_lt, Bool, List, Option, Some, None}
 use Rattle.std.specs.List.{flat_map}
 use Rattle.vlink.specs.Letters.{Row}
-use Rattle.netdesc.specs.Plan.{Plan}
-use Rattle.netdesc.specs.Faults.{process_count}
+use Rattle.netdesc.specs.Words.{Plan, process_count}
 use Rattle.trace_segments.specs.declared.fault.OutFault.TheVariants.{Device}
 use Rattle.trace_segments.specs.declared.segment_fault.SegmentFault.TheVariants.{Gap, Double}
 use Rattle.trace_segments.specs.declared.trace_fault.TraceFault.{TraceFault}

@@ -8,7 +8,7 @@ use Rattle.std.specs.declared.cmp.Ordering.TheVariants.{Less, Equal, Greater}
 use Rattle.std.specs.Ordering.{nat_cmp, match_ordering}
 use Rattle.std.specs.BTreeSet.{insert_key}
 use Rattle.std.proofs.lemmas.Cmp.{ranked}
-use Rattle.netdesc.specs.Trees.{rising, rising_from}
+use Rattle.netdesc.specs.Words.{rising, rising_from}
 
 -- all are above a number
 abbrev pub AllAbove : ℕ → List ℕ → Type 0

@@ -7,14 +7,14 @@ use Rattle.virtual_time.specs.Law.{rows_at}
 use Rattle.vlink.specs.declared.note.Note.{Note}
 use Rattle.vlink.specs.declared.note.Note.TheVariants.{Delivered, Dropped}
 use Rattle.vlink.specs.Letters.{Row}
-use Rattle.netdesc.specs.Plan.{Plan}
+use Rattle.netdesc.specs.Words.{Plan}
 use Rattle.trace_tables.specs.declared.destination.Destination.{Destination}
 use Rattle.trace_tables.specs.declared.loss.Loss.{Loss}
 use Rattle.trace_tables.specs.Counting.{is_loss, times_lost}
 use Rattle.trace_tables.specs.Destinations.{destinations_in}
 use Rattle.trace_tables.specs.Latencies.{Counts, counts_of, latency_in, latency_at, latencies_of}
 use Rattle.trace_tables.specs.Losses.{cause_number}
-use Rattle.trace_segments.specs.Known.{is_known}
+use Rattle.trace_segments.specs.Words.{is_known}
 use Rattle.trace_tables.specs.Tables.{TableLists, counted_at, latency_table, drop_table, tables_of}
 use Rattle.trace_tables.proofs.DeliveryLemmas.{map-same}
 use Rattle.trace_tables.proofs.DropCountLemmas.{same-drops}

@@ -4,10 +4,10 @@ use Rattle.std.specs.List.{count_by}
 use Rattle.vlink.specs.declared.note.Note.{Note}
 use Rattle.vlink.specs.declared.note.Note.TheVariants.{Delivered, Dropped}
 use Rattle.vlink.specs.Letters.{Row}
-use Rattle.netdesc.specs.Plan.{Plan}
+use Rattle.netdesc.specs.Words.{Plan}
 use Rattle.trace_tables.specs.declared.loss.Loss.{Loss}
 use Rattle.trace_tables.specs.Losses.{cause_number}
-use Rattle.trace_segments.specs.Known.{is_known}
+use Rattle.trace_segments.specs.Words.{is_known}
 
 -- a note at this process tells this loss: a drop of its virtual link, at its process, for its cause
 abbrev pub is_loss : Loss → ℕ → Note → Bool

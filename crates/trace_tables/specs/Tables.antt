@@ -2,8 +2,8 @@
 use Rattle.std.specs.Prelude.{ℕ, cond, List, [], map}
 use Rattle.std.specs.List.{flat_map}
 use Rattle.vlink.specs.Letters.{Row}
-use Rattle.netdesc.specs.Plan.{Plan, VlPlan}
-use Rattle.trace_segments.specs.Known.{is_known}
+use Rattle.netdesc.specs.Words.{Plan, VlPlan}
+use Rattle.trace_segments.specs.Words.{is_known}
 use Rattle.trace_tables.specs.declared.destination.Destination.{Destination}
 use Rattle.trace_tables.specs.declared.loss.Loss.{Loss}
 use Rattle.trace_tables.specs.Destinations.{destinations_in}

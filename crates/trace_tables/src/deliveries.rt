@@ -1,7 +1,7 @@
 //! Latencies by destination.
 ghost use Rattle.std.specs.Prelude.{◌≡◌, ◌-◌, ◌^◌, ◌<◌, [], map, IfOk, OnOk};
 ghost use Rattle.std.specs.List.Sorted.{IsStrictlyIncreasing};
-ghost use Rattle.netdesc.specs.Accepted.{ids_of};
+ghost use Rattle.netdesc.specs.Words.{ids_of};
 ghost use Rattle.trace_tables.specs.Destinations.{destination, counts_in, with_destinations, with_latency_at};
 ghost use Rattle.trace_tables.specs.Tables.{latency_table};
 

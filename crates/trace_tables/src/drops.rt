@@ -1,7 +1,7 @@
 //! How often frames were lost.
 ghost use Rattle.std.specs.Prelude.{◌≡◌, ◌∷◌, ◌-◌, ◌^◌, ◌<◌, [], cond, OnOk};
 ghost use Rattle.trace_tables.specs.Losses.{count_in, with_loss, with_losses};
-ghost use Rattle.trace_segments.specs.Known.{is_in_network};
+ghost use Rattle.trace_segments.specs.Words.{is_in_network};
 
 use crate::loss::{Loss, loss_order};
 use netdesc::Network;

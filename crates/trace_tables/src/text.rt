@@ -3,7 +3,7 @@ ghost use Rattle.std.specs.Prelude.{map, OnOk};
 ghost use Rattle.std.specs.List.{flat_map};
 ghost use Rattle.trace_tables.specs.Destinations.{destination};
 ghost use Rattle.trace_tables.specs.Text.{tables_head, latency_line, destination_line, latency_text, loss_line, drop_line, drop_text};
-ghost use Rattle.trace_segments.specs.Writing.{Adds};
+ghost use Rattle.trace_segments.specs.Words.{Adds};
 
 use crate::deliveries::latencies_at;
 use crate::destination::Destination;

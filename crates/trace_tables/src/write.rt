@@ -2,7 +2,7 @@
 ghost use Rattle.std.specs.Prelude.{◌≡◌, ◌≢◌, ◌+◌, OnOk, IfOk, IfErr};
 ghost use Rattle.std.specs.Io.KnownBytes.{append_known};
 ghost use Rattle.trace_segments.specs.declared.fault.OutFault.TheVariants.{Device};
-ghost use Rattle.trace_segments.specs.Sinking.{IsBeginning};
+ghost use Rattle.trace_segments.specs.Words.{IsBeginning};
 ghost use Rattle.trace_tables.specs.Text.{tables_text};
 
 use crate::tables::Tables;

@@ -12,10 +12,7 @@ use Rattle.rand_pcg.specs.Lcg.{started, increment_of, advance}
 use Rattle.rand_pcg.specs.Pcg.{multiplier_64}
 use Rattle.vlink.specs.declared.message.Message.{Message}
 use Rattle.network_rows.specs.declared.rows.VirtualLink.{VirtualLink}
-use Rattle.netdesc.specs.Limits.{IsLinkInLimits}
-use Rattle.netdesc.specs.Plan.{Plan, VlPlan}
-use Rattle.netdesc.specs.Trees.{source_of}
-use Rattle.netdesc.specs.Accepted.{IsAccepted, id_of, ids_of}
+use Rattle.netdesc.specs.Words.{IsLinkInLimits, Plan, VlPlan, source_of, IsAccepted, id_of, ids_of}
 use Rattle.netdesc.proofs.BuildLemmas.{read-item}
 use Rattle.netdesc.proofs.SourceLemmas.{HasSource, all-have}
 use Rattle.traffic.specs.Offers.{generator_at, word_of, due_of, moment_of, due_count, come_until, offer_of, offers_from, offers_of_vl}

@@ -12,10 +12,7 @@ use Rattle.virtual_time.proofs.Lists.{times-append, times-none, times-filter, ti
 use Rattle.virtual_time.proofs.Numbers.{numbered-once}
 use Rattle.network_rows.specs.declared.rows.VirtualLink.{VirtualLink}
 use Rattle.netdesc.specs.declared.too_many.TheConstants.{GREATEST_PROCESSES}
-use Rattle.netdesc.specs.Plan.{Plan, VlPlan}
-use Rattle.netdesc.specs.Trees.{source_of}
-use Rattle.netdesc.specs.Faults.{process_count}
-use Rattle.netdesc.specs.Accepted.{IsAccepted, id_of, ids_of}
+use Rattle.netdesc.specs.Words.{Plan, VlPlan, source_of, process_count, IsAccepted, id_of, ids_of}
 use Rattle.netdesc.proofs.RisingLemmas.{ids-rise}
 use Rattle.netdesc.proofs.SourceLemmas.{HasSource, all-have, end-system-below}
 use Rattle.traffic.specs.Offers.{sender_of, offer_of, due_count, offers_from, offers_of_vl}

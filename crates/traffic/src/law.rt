@@ -3,7 +3,7 @@ ghost use Rattle.std.specs.Prelude.{ℕ, ◌<◌, ◌≤◌, ◌↔◌};
 ghost use Rattle.vlink.specs.declared.message.Message.{Message};
 ghost use Rattle.virtual_time.specs.Law.{Simulation};
 ghost use Rattle.network_rows.specs.declared.rows.VirtualLink.{VirtualLink};
-ghost use Rattle.netdesc.specs.Limits.{IsLinkInLimits};
+ghost use Rattle.netdesc.specs.Words.{IsLinkInLimits};
 ghost use Rattle.traffic.specs.Offers.{due_of, due_count};
 ghost use Rattle.traffic.specs.Lawful.{IsOfNetwork, HasLawfulOffers};
 

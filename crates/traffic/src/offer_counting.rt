@@ -1,7 +1,7 @@
 //! How many offers there are, without a list of them.
 ghost use Rattle.std.specs.Prelude.{◌≡◌, ℕ, ◌+◌, ◌*◌, ◌≤◌, ◌<◌, ◌↔◌, length, nat_le};
 ghost use Rattle.vlink.specs.declared.time.TheConstants.{LATEST_NS};
-ghost use Rattle.netdesc.specs.Limits.{IsLinkInLimits};
+ghost use Rattle.netdesc.specs.Words.{IsLinkInLimits};
 ghost use Rattle.traffic.specs.Offers.{due_of, moment_of, due_count, offers_from, offers_of};
 
 use crate::drawing::{due_count, moment};

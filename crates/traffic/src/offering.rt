@@ -1,7 +1,7 @@
 //! The offers of all virtual links.
 ghost use Rattle.std.specs.Prelude.{◌≡◌, ◌++◌, ◌+◌, ◌<◌, Some, length, slice_get, take, OnOk, IfOk, option_and_then};
 ghost use Rattle.std.specs.List.{flat_map};
-ghost use Rattle.netdesc.specs.Trees.{source_of};
+ghost use Rattle.netdesc.specs.Words.{source_of};
 ghost use Rattle.traffic.specs.Offers.{offers_of_vl, offers_of};
 
 use crate::drawing::{due_count, push_offers};

@@ -9,10 +9,8 @@ use Rattle.std.proofs.lemmas.Bool.{cases_eq, cases_lt, lt-ltb, eqb-true}
 use Rattle.std.proofs.lemmas.List.Elements.{filter-append}
 use Rattle.virtual_time.specs.Law.{rows_at}
 use Rattle.vlink.specs.Letters.{Row}
-use Rattle.netdesc.specs.Plan.{Plan}
-use Rattle.netdesc.specs.Faults.{process_count}
-use Rattle.trace_segments.specs.Intervals.{rows_within, rows_before, rows_from}
-use Rattle.trace_segments.specs.Segments.{BatchRows}
+use Rattle.netdesc.specs.Words.{Plan, process_count}
+use Rattle.trace_segments.specs.Words.{rows_within, rows_before, rows_from, BatchRows}
 use Rattle.trace_tables.specs.SoFar.{SoFarLists, AreInTables, IsSoFar}
 use Rattle.trace_tables.specs.Tables.{TableLists, tables_of}
 use Rattle.trace_segments.proofs.SortedLemmas.{filters-swap}

@@ -6,11 +6,8 @@ use Rattle.vlink.specs.declared.message.Message.{Message}
 use Rattle.vlink.specs.Letters.{Row}
 use Rattle.virtual_time.specs.Law.{rowed, Laws, one, Part, after_moves, IsWhole, Entry, steps, reach}
 use Rattle.virtual_time.specs.declared.moved.Move.{Move}
-use Rattle.netdesc.specs.Plan.{Plan}
-use Rattle.netdesc.specs.Faults.{process_count}
-use Rattle.nodes.specs.rules.Node.{NodeState}
-use Rattle.nodes.specs.rules.Opening.{opening}
-use Rattle.nodes.specs.rules.Simulation.{simulation_of}
+use Rattle.netdesc.specs.Words.{Plan, process_count}
+use Rattle.nodes.specs.Words.{NodeState, opening, simulation_of}
 use Rattle.exchange.specs.Views.{InShare}
 use Rattle.seqsim.specs.Committed.{after, AreCommittedRows}
 use Rattle.seqsim.specs.Networks.{AreRowsOf}

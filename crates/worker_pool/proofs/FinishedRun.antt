@@ -10,17 +10,13 @@ use Rattle.std.proofs.lemmas.Grind.{common_steps}
 use Rattle.std.proofs.lemmas.List.{length-append, length-take-le}
 use Rattle.virtual_time.specs.Law.{rows_at}
 use Rattle.vlink.specs.Letters.{Row}
-use Rattle.netdesc.specs.Plan.{Plan}
-use Rattle.netdesc.specs.Faults.{process_count}
+use Rattle.netdesc.specs.Words.{Plan, process_count}
 use Rattle.trace_segments.specs.declared.fault.OutFault.{OutFault}
 use Rattle.trace_segments.specs.declared.fault.OutFault.TheVariants.{Device, OutOfMemory, Layout}
 use Rattle.trace_segments.specs.declared.segment_fault.SegmentFault.TheVariants.{Gap}
 use Rattle.trace_segments.specs.declared.trace_fault.TraceFault.{TraceFault}
 use Rattle.trace_segments.specs.declared.trace_fault.TraceFault.TheVariants.{Segment, Out}
-use Rattle.trace_segments.specs.Intervals.{rows_before, rows_from}
-use Rattle.trace_segments.specs.Sinking.{IsBeginning}
-use Rattle.trace_segments.specs.Text.{trace_line, trace_text}
-use Rattle.trace_segments.specs.WrittenTrace.{WrittenTrace, lacks_head, end_fault}
+use Rattle.trace_segments.specs.Words.{rows_before, rows_from, IsBeginning, trace_line, trace_text, WrittenTrace, lacks_head, end_fault}
 use Rattle.trace_segments.proofs.TimeLemmas.{all-before}
 use Rattle.seqsim.specs.Networks.{AreRowsOf}
 use Rattle.worker_pool.specs.Traces.{AreLawfulRows, HasLawfulRows, IsTraceOfRun, text_before}

@@ -5,13 +5,9 @@ use Rattle.std.specs.List.{repeat}
 use Rattle.std.proofs.lemmas.List.{length-map, length-set}
 use Rattle.virtual_time.specs.Law.{rows_at}
 use Rattle.vlink.specs.Letters.{Row}
-use Rattle.netdesc.specs.Plan.{Plan}
-use Rattle.netdesc.specs.Faults.{process_count}
-use Rattle.trace_segments.specs.Gathered.{IsOfRows}
+use Rattle.netdesc.specs.Words.{Plan, process_count}
+use Rattle.trace_segments.specs.Words.{IsOfRows, Gathering, no_segments, segment_fault, with_segment, Waits, Gives, rows_within, SegmentRows, BatchRows}
 use Rattle.trace_segments.specs.declared.segment_fault.SegmentFault.{SegmentFault}
-use Rattle.trace_segments.specs.Gathering.{Gathering, no_segments, segment_fault, with_segment, Waits, Gives}
-use Rattle.trace_segments.specs.Intervals.{rows_within}
-use Rattle.trace_segments.specs.Segments.{SegmentRows, BatchRows}
 use Rattle.trace_segments.proofs.IntervalLemmas.{cut-rises}
 use Rattle.seqsim.specs.Networks.{AreRowsOf}
 use Rattle.worker_pool.specs.Segments.{IsSegmentOfRun}

@@ -10,12 +10,10 @@ use Rattle.vlink.specs.Letters.{Row}
 use Rattle.virtual_time.specs.Law.{rows_of, rowed, rows_at, least, Simulation, Laws, one, handle}
 use Rattle.virtual_time.proofs.Least.{least-some}
 use Rattle.virtual_time.proofs.OneThread.{right, nothing_outside}
-use Rattle.netdesc.specs.Plan.{Plan}
-use Rattle.netdesc.specs.Faults.{process_count}
+use Rattle.netdesc.specs.Words.{Plan, process_count}
 use Rattle.nodes.specs.declared.node.NodeRecord.{NodeRecord}
-use Rattle.nodes.specs.rules.Node.{NodeState}
-use Rattle.nodes.specs.rules.Simulation.{simulation_of}
-use Rattle.trace_segments.specs.Ordered.{AreInMessageOrder, AreAtReceivers}
+use Rattle.nodes.specs.Words.{NodeState, simulation_of}
+use Rattle.trace_segments.specs.Words.{AreInMessageOrder, AreAtReceivers}
 use Rattle.seqsim.specs.Networks.{AreRowsOf}
 use Rattle.seqsim.proofs.OneThreadRows.{one-here, one-ordered}
 use Rattle.worker_pool.specs.Traces.{HasLawfulRows}

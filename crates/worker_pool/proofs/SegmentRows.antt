@@ -2,12 +2,10 @@
 use Rattle.std.proofs.Common.{◌≡◌, ◌↔◌, ℕ, ◌+◌, ◌/◌, ◌≤◌, ◌==◌, Bool, true, false, ◌&&◌, cond, max, nat_le, nat_lt, List, [], ◌∷◌, filter, refl, sym, ap, ◌∙◌, subst, arith, mul-div_cancel}
 use Rattle.vlink.specs.Letters.{Row}
 use Rattle.virtual_time.specs.Law.{earlier, one, rows_at}
-use Rattle.netdesc.specs.Plan.{Plan}
-use Rattle.nodes.specs.rules.Node.{NodeState}
-use Rattle.nodes.specs.rules.Simulation.{simulation_of}
+use Rattle.netdesc.specs.Words.{Plan}
+use Rattle.nodes.specs.Words.{NodeState, simulation_of}
 use Rattle.exchange.specs.Views.{InShare}
-use Rattle.trace_segments.specs.Intervals.{interval_width, cut, HasInterval, rows_within}
-use Rattle.trace_segments.specs.Segments.{SegmentRows, segment_of}
+use Rattle.trace_segments.specs.Words.{interval_width, cut, HasInterval, rows_within, SegmentRows, segment_of}
 use Rattle.trace_segments.proofs.IntervalLemmas.{cut-inside, cut-rises}
 use Rattle.seqsim.specs.Networks.{AreRowsOf}
 use Rattle.worker_pool.specs.Segments.{IsIntervalSealed, IsSegmentOfRun}

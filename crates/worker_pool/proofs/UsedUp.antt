@@ -3,11 +3,8 @@ use Rattle.std.proofs.Common.{◌≡◌, ◌∙◌, ◌<◌, List, ◌++◌, map
 use Rattle.vlink.specs.declared.message.Message.{Message}
 use Rattle.virtual_time.specs.Law.{World, start, after_moves, Entry, step_by, steps, reach, AreEnabled}
 use Rattle.virtual_time.proofs.Journal.{put_here, run-then, moves}
-use Rattle.netdesc.specs.Plan.{Plan}
-use Rattle.netdesc.specs.Faults.{process_count}
-use Rattle.nodes.specs.rules.Node.{NodeState}
-use Rattle.nodes.specs.rules.Opening.{opening}
-use Rattle.nodes.specs.rules.Simulation.{simulation_of}
+use Rattle.netdesc.specs.Words.{Plan, process_count}
+use Rattle.nodes.specs.Words.{NodeState, opening, simulation_of}
 use Rattle.exchange.specs.Views.{InShare}
 use Rattle.seqsim.specs.Committed.{after}
 use Rattle.worker_pool.specs.Outcomes.{LacksNumbers, UsesUpNumbers}

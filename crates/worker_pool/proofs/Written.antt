@@ -4,18 +4,14 @@ use Rattle.std.specs.Prelude.{⊤, IfSome}
 use Rattle.std.specs.Io.KnownBytes.{append_known}
 use Rattle.std.proofs.lemmas.Grind.{common_steps}
 use Rattle.vlink.specs.Letters.{Row}
-use Rattle.netdesc.specs.Plan.{Plan}
+use Rattle.netdesc.specs.Words.{Plan}
 use Rattle.trace_segments.specs.declared.fault.OutFault.{OutFault}
 use Rattle.trace_segments.specs.declared.fault.OutFault.TheVariants.{Device}
 use Rattle.trace_segments.specs.declared.segment_fault.SegmentFault.{SegmentFault}
 use Rattle.trace_segments.specs.declared.segment_fault.SegmentFault.TheVariants.{Gap, Double, Stranger, OutOfMemory}
 use Rattle.trace_segments.specs.declared.trace_fault.TraceFault.{TraceFault}
 use Rattle.trace_segments.specs.declared.trace_fault.TraceFault.TheVariants.{Segment, Out}
-use Rattle.trace_segments.specs.Gathering.{Gathering, segment_fault}
-use Rattle.trace_segments.specs.Segments.{SegmentRows, BatchRows}
-use Rattle.trace_segments.specs.Sinking.{IsBeginning}
-use Rattle.trace_segments.specs.Text.{trace_text}
-use Rattle.trace_segments.specs.WrittenTrace.{WrittenTrace, batch_fault, lacks_head, end_fault}
+use Rattle.trace_segments.specs.Words.{Gathering, segment_fault, SegmentRows, BatchRows, IsBeginning, trace_text, WrittenTrace, batch_fault, lacks_head, end_fault}
 use Rattle.seqsim.specs.Networks.{AreRowsOf}
 use Rattle.worker_pool.specs.Written.{outcome_of, IsPlaceFault, IsFaultOfTrace, IsWritten}
 

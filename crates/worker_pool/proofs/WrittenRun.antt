@@ -5,17 +5,12 @@ use Rattle.std.specs.Io.KnownBytes.{append_known}
 use Rattle.std.specs.List.{flat_map}
 use Rattle.std.proofs.lemmas.Grind.{common_steps}
 use Rattle.vlink.specs.Letters.{Row}
-use Rattle.netdesc.specs.Plan.{Plan}
+use Rattle.netdesc.specs.Words.{Plan}
 use Rattle.trace_segments.specs.declared.fault.OutFault.{OutFault}
 use Rattle.trace_segments.specs.declared.fault.OutFault.TheVariants.{Device, OutOfMemory, Layout}
 use Rattle.trace_segments.specs.declared.trace_fault.TraceFault.{TraceFault}
 use Rattle.trace_segments.specs.declared.trace_fault.TraceFault.TheVariants.{Out}
-use Rattle.trace_segments.specs.Intervals.{rows_within, rows_before, rows_from}
-use Rattle.trace_segments.specs.Ordered.{AreInMessageOrder}
-use Rattle.trace_segments.specs.Segments.{BatchRows}
-use Rattle.trace_segments.specs.Sinking.{IsBeginning}
-use Rattle.trace_segments.specs.Text.{trace_line, trace_text}
-use Rattle.trace_segments.specs.WrittenTrace.{WrittenTrace, next_text, batch_fault}
+use Rattle.trace_segments.specs.Words.{rows_within, rows_before, rows_from, AreInMessageOrder, BatchRows, IsBeginning, trace_line, trace_text, WrittenTrace, next_text, batch_fault}
 use Rattle.seqsim.specs.Networks.{AreRowsOf}
 use Rattle.worker_pool.specs.Traces.{HasLawfulRows, IsBatchOfRun, IsTraceOfRun, text_before}
 use Rattle.worker_pool.proofs.GatheredRun.{none-of}

@@ -1,8 +1,8 @@
 -- The tables of a run, as far as its trace is sent. Times are in ns.
 use Rattle.std.specs.Prelude.{◌≡◌, ℕ, List}
 use Rattle.vlink.specs.Letters.{Row}
-use Rattle.netdesc.specs.Plan.{Plan}
-use Rattle.trace_segments.specs.Intervals.{rows_before}
+use Rattle.netdesc.specs.Words.{Plan}
+use Rattle.trace_segments.specs.Words.{rows_before}
 use Rattle.trace_tables.specs.SoFar.{SoFarLists, IsSoFar}
 use Rattle.seqsim.specs.Networks.{AreRowsOf}
 

@@ -6,9 +6,8 @@ use Rattle.vlink.specs.Order.{message_order}
 use Rattle.vlink.specs.Numbering.{greatest_number}
 use Rattle.virtual_time.specs.Law.{Part, next_of}
 use Rattle.virtual_time.specs.declared.step.Step.{Step}
-use Rattle.netdesc.specs.Plan.{Plan}
-use Rattle.netdesc.specs.Faults.{process_count}
-use Rattle.nodes.specs.rules.Node.{NodeState}
+use Rattle.netdesc.specs.Words.{Plan, process_count}
+use Rattle.nodes.specs.Words.{NodeState}
 use Rattle.journal.specs.declared.fault.PoolFault.{PoolFault}
 use Rattle.journal.specs.Faults.{fault_number}
 use Rattle.seqsim.specs.Committed.{after}

@@ -3,10 +3,8 @@ use Rattle.std.specs.Prelude.{◌≡◌, ◌≤◌, ℕ, Bool, true, false, List
 use Rattle.virtual_time.specs.declared.step.Step.{Step}
 use Rattle.vlink.specs.declared.message.Message.{Message}
 use Rattle.virtual_time.specs.Law.{Entry, reach, IsFinished}
-use Rattle.netdesc.specs.Plan.{Plan}
-use Rattle.netdesc.specs.Faults.{process_count}
-use Rattle.nodes.specs.rules.Node.{NodeState}
-use Rattle.nodes.specs.rules.Simulation.{simulation_of}
+use Rattle.netdesc.specs.Words.{Plan, process_count}
+use Rattle.nodes.specs.Words.{NodeState, simulation_of}
 use Rattle.exchange.specs.Views.{InShare}
 use Rattle.seqsim.specs.Committed.{after}
 

@@ -2,12 +2,10 @@
 use Rattle.std.specs.Prelude.{◌≡◌, ℕ, ◌+◌, ◌≤◌, List, []}
 use Rattle.vlink.specs.Letters.{Row}
 use Rattle.virtual_time.specs.Law.{earlier}
-use Rattle.netdesc.specs.Plan.{Plan}
-use Rattle.nodes.specs.rules.Node.{NodeState}
-use Rattle.nodes.specs.rules.Simulation.{simulation_of}
+use Rattle.netdesc.specs.Words.{Plan}
+use Rattle.nodes.specs.Words.{NodeState, simulation_of}
 use Rattle.exchange.specs.Views.{InShare}
-use Rattle.trace_segments.specs.Intervals.{cut, HasInterval}
-use Rattle.trace_segments.specs.Segments.{SegmentRows, segment_of}
+use Rattle.trace_segments.specs.Words.{cut, HasInterval, SegmentRows, segment_of}
 use Rattle.seqsim.specs.Networks.{AreRowsOf}
 
 -- interval k is the next one at a process, and it is for good: there is such an interval, the rows before it have left and no others, its end

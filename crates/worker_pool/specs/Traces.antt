@@ -5,16 +5,8 @@ use Rattle.std.specs.Io.KnownBytes.{append_known}
 use Rattle.std.specs.List.{All}
 use Rattle.virtual_time.specs.Law.{rows_at}
 use Rattle.vlink.specs.Letters.{Row}
-use Rattle.netdesc.specs.Plan.{Plan}
-use Rattle.netdesc.specs.Faults.{process_count}
-use Rattle.trace_segments.specs.Gathered.{IsOfRows}
-use Rattle.trace_segments.specs.Gathering.{Gathering}
-use Rattle.trace_segments.specs.Intervals.{rows_within, rows_before}
-use Rattle.trace_segments.specs.Ordered.{AreInMessageOrder, AreAtReceivers}
-use Rattle.trace_segments.specs.Segments.{BatchRows}
-use Rattle.trace_segments.specs.Sinking.{IsBeginning}
-use Rattle.trace_segments.specs.Text.{trace_text}
-use Rattle.trace_segments.specs.WrittenTrace.{WrittenTrace}
+use Rattle.netdesc.specs.Words.{Plan, process_count}
+use Rattle.trace_segments.specs.Words.{IsOfRows, Gathering, rows_within, rows_before, AreInMessageOrder, AreAtReceivers, BatchRows, IsBeginning, trace_text, WrittenTrace}
 use Rattle.seqsim.specs.Networks.{AreRowsOf}
 
 -- rows in message order, each of the process that received its message, none of a process that the network lacks, and none later than the

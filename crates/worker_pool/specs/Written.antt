@@ -2,14 +2,13 @@
 use Rattle.std.specs.Prelude.{◌≡◌, ◌≢◌, ℕ, ◌+◌, List, Option, Some, None, Result, Ok, Err, OnOk, IfErr, ⊤}
 use Rattle.std.specs.Io.KnownBytes.{append_known}
 use Rattle.vlink.specs.Letters.{Row}
-use Rattle.netdesc.specs.Plan.{Plan}
+use Rattle.netdesc.specs.Words.{Plan}
 use Rattle.trace_segments.specs.declared.fault.OutFault.TheVariants.{Device}
 use Rattle.trace_segments.specs.declared.segment_fault.SegmentFault.{SegmentFault}
 use Rattle.trace_segments.specs.declared.segment_fault.SegmentFault.TheVariants.{Stranger, OutOfMemory}
 use Rattle.trace_segments.specs.declared.trace_fault.TraceFault.{TraceFault}
 use Rattle.trace_segments.specs.declared.trace_fault.TraceFault.TheVariants.{Segment, Out}
-use Rattle.trace_segments.specs.Sinking.{IsBeginning}
-use Rattle.trace_segments.specs.Text.{trace_text}
+use Rattle.trace_segments.specs.Words.{IsBeginning, trace_text}
 use Rattle.seqsim.specs.Networks.{AreRowsOf}
 
 -- a segment or a batch is missing, or comes twice

@@ -2,12 +2,11 @@
 ghost use Rattle.std.specs.Prelude.{◌≡◌, ◌≢◌, ◌<◌, ◌⊎◌, ℕ, None, Some, Ok, Err, IsOk, OnOk, IfOk, IfErr, IfSome, IfNone, OnErr};
 ghost use Rattle.vlink.specs.declared.time.TheConstants.{GREATEST_NS};
 ghost use Rattle.std.proofs.Props.{props};
-ghost use Rattle.netdesc.specs.Faults.{process_count};
+ghost use Rattle.netdesc.specs.Words.{process_count};
 ghost use Rattle.journal.specs.declared.fault.PoolFault.TheVariants as pool;
 ghost use Rattle.trace_segments.specs.declared.segment_fault.SegmentFault.{SegmentFault};
 ghost use Rattle.trace_segments.specs.declared.segment_fault.SegmentFault.TheVariants.{OutOfMemory};
-ghost use Rattle.trace_segments.specs.Gathering.{no_segments, segment_fault, Waits, Gives};
-ghost use Rattle.trace_segments.specs.Segments.{BatchRows};
+ghost use Rattle.trace_segments.specs.Words.{no_segments, segment_fault, Waits, Gives, BatchRows};
 ghost use Rattle.worker_pool.specs.Segments.{IsSegmentOfRun};
 ghost use Rattle.worker_pool.specs.Traces.{HasLawfulRows, IsGatheringOfRun};
 ghost use Rattle.worker_pool.specs.Written.{IsPlaceFault, first_of};

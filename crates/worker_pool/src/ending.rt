@@ -1,7 +1,7 @@
 //! The end of a run: one thread has all in hand, and gives turns until everything is committed.
 ghost use Rattle.std.specs.Prelude.{◌≡◌, ◌≢◌, ◌<◌, ℕ, true, [], length, slice_get, Some, IsTrue, IfErr, OnOk};
-ghost use Rattle.netdesc.specs.Faults.{process_count};
-ghost use Rattle.nodes.specs.rules.Node.{NodeState};
+ghost use Rattle.netdesc.specs.Words.{process_count};
+ghost use Rattle.nodes.specs.Words.{NodeState};
 ghost use Rattle.journal.specs.declared.fault.PoolFault.TheVariants.{Spawn};
 ghost use Rattle.exchange.specs.Views.{InShare};
 ghost use Rattle.worker_pool.specs.Runs.{IsOfWorld, IsEnded, HaveGoneBy};

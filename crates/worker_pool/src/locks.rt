@@ -1,7 +1,6 @@
 //! The locks of the processes of a run.
 ghost use Rattle.std.specs.Prelude.{◌≡◌, ◌≤◌, ℕ, length, IfOk, IfErr};
-ghost use Rattle.netdesc.specs.Faults.{process_count};
-ghost use Rattle.netdesc.specs.Limits.{greatest_processes};
+ghost use Rattle.netdesc.specs.Words.{process_count, greatest_processes};
 ghost use Rattle.journal.specs.declared.fault.PoolFault.TheVariants.{OutOfMemory};
 
 use crate::desk::TraceLock;

@@ -7,7 +7,7 @@ use std::marker::{Brand, PhantomData};
 /// shares it has. It has no bytes, and who calls at `Brand` picks all three.
 pub trait NetworkRun {
     ghost use Rattle.std.specs.Prelude.{ℕ, List};
-    ghost use Rattle.netdesc.specs.Plan.{Plan};
+    ghost use Rattle.netdesc.specs.Words.{Plan};
 
     /// The network that is simulated.
     ghost plan: { Plan };

@@ -1,7 +1,7 @@
 //! The exchange of a network at the start.
 ghost use Rattle.std.specs.Prelude.{◌≡◌, ℕ, ◌<◌, ◌≤◌, [], replicate, length, slice_get, Some, IfOk, IfErr};
-ghost use Rattle.netdesc.specs.Faults.{process_count};
-ghost use Rattle.nodes.specs.rules.Opening.{opening};
+ghost use Rattle.netdesc.specs.Words.{process_count};
+ghost use Rattle.nodes.specs.Words.{opening};
 ghost use Rattle.journal.specs.Names.{names};
 ghost use Rattle.journal.specs.declared.fault.PoolFault.TheVariants.{OutOfMemory};
 ghost use Rattle.exchange.specs.Views.{blank, opened_share};

@@ -1,6 +1,6 @@
 //! The run of a network by workers.
 ghost use Rattle.std.specs.Prelude.{◌≡◌, length, IsNone, IfOk, IfErr, IfSome};
-ghost use Rattle.netdesc.specs.Faults.{process_count};
+ghost use Rattle.netdesc.specs.Words.{process_count};
 ghost use Rattle.journal.specs.declared.fault.PoolFault.TheVariants.{Exhausted, Spawn};
 ghost use Rattle.journal.specs.Names.{names};
 ghost use Rattle.trace_tables.specs.Tables.{tables_of};

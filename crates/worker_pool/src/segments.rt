@@ -2,7 +2,7 @@
 ghost use Rattle.std.specs.Prelude.{◌≡◌, ◌+◌, ◌<◌, ◌↔◌, ℕ, IsSome, MatchOption, IfSome, IfNone, IfOk, IfErr, OnErr};
 ghost use Rattle.vlink.specs.declared.time.TheConstants.{GREATEST_NS};
 ghost use Rattle.journal.specs.declared.fault.PoolFault.TheVariants.{OutOfMemory};
-ghost use Rattle.trace_segments.specs.Intervals.{cut, HasInterval};
+ghost use Rattle.trace_segments.specs.Words.{cut, HasInterval};
 ghost use Rattle.worker_pool.specs.Segments.{IsIntervalSealed, IsNextSegment, IsSegmentOfRun};
 
 use crate::network_run::{NetworkRun, Of};

@@ -1,8 +1,8 @@
 //! The exchange that all workers of a run share.
 ghost use Rattle.std.specs.Prelude.{◌≡◌, ◌≢◌, ◌+◌, ◌<◌, ◌≤◌, length, IfErr, Err};
 ghost use Rattle.virtual_time.specs.Law.{steps, reach};
-ghost use Rattle.netdesc.specs.Faults.{process_count};
-ghost use Rattle.nodes.specs.rules.Simulation.{simulation_of};
+ghost use Rattle.netdesc.specs.Words.{process_count};
+ghost use Rattle.nodes.specs.Words.{simulation_of};
 ghost use Rattle.journal.specs.declared.fault.PoolFault.TheVariants.{Exhausted, JournalFull, Spawn};
 ghost use Rattle.worker_pool.specs.Outcomes.{LacksNumbers};
 ghost use Rattle.worker_pool.specs.Runs.{most_steps};

@@ -1,7 +1,7 @@
 //! What is asked of a run beside its trace: its tables, and its steps where they are wanted. No row is listed for it.
 ghost use Rattle.std.specs.Prelude.{◌≡◌, List, length, IfOk, IfErr};
 ghost use Rattle.vlink.specs.Letters.{Row};
-ghost use Rattle.netdesc.specs.Faults.{process_count};
+ghost use Rattle.netdesc.specs.Words.{process_count};
 ghost use Rattle.journal.specs.declared.fault.PoolFault.TheVariants.{OutOfMemory, Exhausted, Spawn};
 ghost use Rattle.journal.specs.Names.{names};
 ghost use Rattle.trace_tables.specs.Tables.{tables_of};

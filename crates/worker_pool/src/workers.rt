@@ -1,6 +1,6 @@
 //! Threads that give turns to processes.
 ghost use Rattle.std.specs.Prelude.{◌≡◌, IfErr};
-ghost use Rattle.netdesc.specs.Faults.{process_count};
+ghost use Rattle.netdesc.specs.Words.{process_count};
 ghost use Rattle.journal.specs.declared.fault.PoolFault.TheVariants.{Spawn};
 ghost use Rattle.worker_pool.specs.Outcomes.{CanWantWorkers};
 

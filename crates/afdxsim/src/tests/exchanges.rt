@@ -1,6 +1,6 @@
 //! What the calls on an exchange of a network and on its processes come to. What is expected was worked out by hand.
 ghost use Rattle.std.specs.Prelude.{◌≡◌, length};
-ghost use Rattle.netdesc.specs.Faults.{process_count};
+ghost use Rattle.netdesc.specs.Words.{process_count};
 ghost use Rattle.journal.specs.Names.{names};
 
 use super::changes::changed;

@@ -3,8 +3,7 @@ use Rattle.std.specs.Prelude.{ℕ, ◌==◌, if◌then◌else◌, List, [], ◌�
 use Rattle.std.specs.List.{flat_map}
 use Rattle.std.specs.Option.{option_map, option_and_then, option_to_list}
 use Rattle.netdesc.specs.declared.wiring.Way.{Way}
-use Rattle.netdesc.specs.Plan.{Plan, VlPlan}
-use Rattle.netdesc.specs.Lines.{place_of_vl}
+use Rattle.netdesc.specs.Words.{Plan, VlPlan, place_of_vl}
 use Rattle.nodes.specs.declared.meeting.Meeting.{Meeting}
 use Rattle.nodes.specs.rules.Meeting.{ports_by}
 

@@ -3,9 +3,7 @@ use Rattle.std.specs.Prelude.{ℕ, ◌==◌, not, Bool, List, [], ◌∷◌, map
 use Rattle.std.specs.List.{list_any, range_with_len}
 use Rattle.netdesc.specs.declared.too_many.TheConstants.{GREATEST_PORTS}
 use Rattle.netdesc.specs.declared.wiring.Way.{Way}
-use Rattle.netdesc.specs.Plan.{Plan, VlPlan}
-use Rattle.netdesc.specs.Trees.{is_none}
-use Rattle.netdesc.specs.Lines.{lines_of, leaves, comes_in}
+use Rattle.netdesc.specs.Words.{Plan, VlPlan, is_none, lines_of, leaves, comes_in}
 use Rattle.nodes.specs.declared.meeting.Meeting.{Meeting}
 use Rattle.nodes.specs.declared.meeting.Side.{Side}
 use Rattle.nodes.specs.declared.meeting.Side.TheVariants.{Out, In}

@@ -21,8 +21,7 @@ use Rattle.netdesc.specs.declared.too_many.TheConstants.{GREATEST_PORTS}
 use Rattle.network_rows.specs.declared.rows.VirtualLink.{VirtualLink}
 use Rattle.netdesc.specs.declared.wiring.Direction.{Direction}
 use Rattle.netdesc.specs.declared.wiring.Way.{Way}
-use Rattle.netdesc.specs.Plan.{Plan, NodePlan, VlPlan}
-use Rattle.netdesc.specs.Lines.{lines_of, outages_of}
+use Rattle.netdesc.specs.Words.{Plan, NodePlan, VlPlan, lines_of, outages_of}
 use Rattle.nodes.specs.declared.meeting.Side.TheVariants.{Out, In}
 use Rattle.nodes.specs.declared.equipment.Equipment.{Equipment}
 use Rattle.nodes.specs.declared.equipment.Equipment.TheVariants as equipment

@@ -1,6 +1,6 @@
 //! A hint: a process that may have something to do.
 ghost use Rattle.std.specs.Prelude.{◌≡◌, ◌<◌};
-ghost use Rattle.netdesc.specs.Faults.{process_count};
+ghost use Rattle.netdesc.specs.Words.{process_count};
 
 use crate::network_run::NetworkRun;
 use std::marker::PhantomData;

@@ -1,6 +1,6 @@
 //! When each process has something to do next, and how far the workers have come.
 ghost use Rattle.std.specs.Prelude.{◌≡◌, ◌<◌};
-ghost use Rattle.netdesc.specs.Faults.{process_count};
+ghost use Rattle.netdesc.specs.Words.{process_count};
 
 use super::apart::Apart;
 use super::dealing::homes;

@@ -1,5 +1,5 @@
 use Rattle.std.proofs.Common.{subst}
-use Rattle.netdesc.specs.Description.{HasNoFault}
+use Rattle.netdesc.specs.Words.{HasNoFault}
 use Rattle.afdxsim.proofs.reading.network_in.Goals as goal
 
 pub returns-clause-sound : goal.returns-clause-sound

@@ -1,5 +1,5 @@
 use Rattle.std.proofs.Common.{◌≡◌, ◌∙◌, refl, ap}
-use Rattle.trace_segments.specs.Text.{trace_text}
+use Rattle.trace_segments.specs.Words.{trace_text}
 use Rattle.afdxsim.specs.Orders.{heard_host}
 use Rattle.afdxsim.specs.Sequencing.{IsTraceText}
 use Rattle.afdxsim.proofs.Heard.{begins_beside, heard_beside}

@@ -1,5 +1,5 @@
 use Rattle.std.proofs.Common.{◌≡◌, ◌∙◌, Some, List, ℕ, inl, inr, refl, sym, subst}
-use Rattle.trace_segments.specs.Text.{trace_text}
+use Rattle.trace_segments.specs.Words.{trace_text}
 use Rattle.seqsim.specs.Networks.{AreRowsOf}
 use Rattle.afdxsim.specs.Files.{IsFaultOfTraceFile, LeavesSeq}
 use Rattle.afdxsim.specs.Sequencing.{IsTraceText}

@@ -1,7 +1,6 @@
 use Rattle.std.proofs.Common.{◌≡◌, ◌<◌, true, false, length, take, get_or, arith, ap, sym, refl, inr, Some}
 use Rattle.network_rows.specs.declared.fault.DescFault.TheVariants.{DoubleName}
-use Rattle.netdesc.specs.Wiring.{joins, is_linked}
-use Rattle.netdesc.specs.Faults.{double_at_link}
+use Rattle.netdesc.specs.Words.{joins, is_linked, double_at_link}
 use Rattle.netdesc.proofs.EachLemmas.{Tells-each, each-none, length-before}
 use Rattle.netdesc.proofs.PlaceLemmas.{place_by-before}
 use Rattle.netdesc.proofs.JoinLemmas.{joins-own, no_link}

@@ -3,9 +3,7 @@ use Rattle.std.specs.Str.{bytes_eq}
 use Rattle.std.proofs.lemmas.List.{length-map}
 use Rattle.std.proofs.lemmas.Slice.Eq.{bytes_eq-Decides}
 use Rattle.network_rows.specs.declared.fault.DescFault.TheVariants.{DoubleName}
-use Rattle.netdesc.specs.Names.{names_of, is_among, place_among}
-use Rattle.netdesc.specs.Plan.{node_plan}
-use Rattle.netdesc.specs.Faults.{double_at_node}
+use Rattle.netdesc.specs.Words.{names_of, is_among, place_among, node_plan, double_at_node}
 use Rattle.netdesc.proofs.EachLemmas.{Tells-mapped, none-mapped, length-before-mapped, read-map}
 use Rattle.netdesc.proofs.NameLemmas.{names_of-before}
 use Rattle.netdesc.proofs.PlaceLemmas.{place_by-before}

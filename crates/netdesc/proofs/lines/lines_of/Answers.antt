@@ -4,11 +4,7 @@ use Rattle.std.specs.Prelude.{All}
 use Rattle.netdesc.proofs.BuildLemmas.{LeadsWithin, All-lines}
 use Rattle.std.proofs.lemmas.List.Sums.{count_by-le-length}
 use Rattle.vlink.specs.declared.frame.Net.TheVariants.{A}
-use Rattle.netdesc.specs.Rows.{each}
-use Rattle.netdesc.specs.Plan.{node_plan}
-use Rattle.netdesc.specs.Wiring.{is_end_system, is_switch_of}
-use Rattle.netdesc.specs.Faults.{touches}
-use Rattle.netdesc.specs.Lines.{port_at, both, directions}
+use Rattle.netdesc.specs.Words.{each, node_plan, is_end_system, is_switch_of, touches, port_at, both, directions}
 use Rattle.netdesc.proofs.EachLemmas.{each-more, count_by-more}
 use Rattle.netdesc.proofs.JoinLemmas.{no_link}
 use Rattle.netdesc.proofs.lines.lines_of.Goals as goal

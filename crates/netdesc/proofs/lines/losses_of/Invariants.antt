@@ -1,7 +1,6 @@
 use Rattle.std.proofs.Common.{◌≡◌, ℕ, ◌<◌, ◌++◌, drop, vec_len}
 use Rattle.std.specs.Prelude.{filter}
-use Rattle.netdesc.specs.Lines.{is_outage_of}
-use Rattle.netdesc.specs.Code.Views.{outages_at}
+use Rattle.netdesc.specs.Words.{is_outage_of, outages_at}
 use Rattle.netdesc.proofs.lines.losses_of.Given as goal
 
 abbrev pub invariant-loop-outage : goal.invariant-loop-outage

@@ -1,6 +1,5 @@
 use Rattle.std.proofs.Common.{◌≡◌, drop, map}
-use Rattle.netdesc.specs.Faults.{has_gap}
-use Rattle.netdesc.specs.Code.Views.{items_of}
+use Rattle.netdesc.specs.Words.{has_gap, items_of}
 use Rattle.netdesc.proofs.no_link.has_gap.Given as goal
 
 abbrev pub invariant-loop-path : goal.invariant-loop-path

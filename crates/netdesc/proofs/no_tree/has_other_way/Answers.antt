@@ -1,7 +1,7 @@
 use Rattle.std.proofs.Common.{◌≡◌, ◌<◌, ◌==◌, length, take, sym, subst, arith}
 use Rattle.std.proofs.lemmas.List.{take_more, take_all}
 use Rattle.std.specs.HashMap.{get}
-use Rattle.netdesc.specs.Code.Finding.{AreWays}
+use Rattle.netdesc.specs.Words.{AreWays}
 use Rattle.netdesc.proofs.WayLemmas.{no-other-way, other-way-at, no_hop}
 use Rattle.netdesc.proofs.no_tree.has_other_way.Goals as goal
 

@@ -1,7 +1,6 @@
 use Rattle.std.proofs.Common.{◌≡◌, ◌++◌, [], refl}
 use Rattle.std.proofs.lemmas.Result.{err_from_is_err_and}
-use Rattle.netdesc.specs.Code.RowLists.{plan_in}
-use Rattle.netdesc.specs.Faults.{double_names, not_links}
+use Rattle.netdesc.specs.Words.{plan_in, double_names, not_links}
 use Rattle.netdesc.proofs.EachLemmas.{Tells-front, Tells-behind}
 use Rattle.netdesc.proofs.reading.check_numbered.Goals as goal
 

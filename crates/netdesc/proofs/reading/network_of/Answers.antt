@@ -2,9 +2,7 @@ use Rattle.std.proofs.Common.{◌≡◌, List, Result, Ok, Err, map, refl, ap, s
 use Rattle.network_rows.specs.declared.fault.DescFault.{DescFault}
 use Rattle.network_rows.specs.declared.fault.DescFault.TheVariants.{OutOfMemory}
 use Rattle.network_rows.specs.declared.rows.Rows.{Rows}
-use Rattle.netdesc.specs.Plan.{Plan, VlPlan, node_plan}
-use Rattle.netdesc.specs.Faults.{faults_of, Tells}
-use Rattle.netdesc.specs.Accepted.{IsPlanOf}
+use Rattle.netdesc.specs.Words.{Plan, VlPlan, node_plan, faults_of, Tells, IsPlanOf}
 use Rattle.netdesc.proofs.reading.network_of.Goals as goal
 
 pub new-requires : goal.new-requires

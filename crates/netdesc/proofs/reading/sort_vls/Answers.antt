@@ -1,6 +1,6 @@
 use Rattle.std.proofs.Common.{rules}
 use Rattle.std.proofs.lemmas.List.Sorted.{IsNonDecreasingBy-from_sort_by_key}
-use Rattle.netdesc.specs.Accepted.{id_of}
+use Rattle.netdesc.specs.Words.{id_of}
 use Rattle.netdesc.proofs.BuildLemmas.{rising-map}
 use Rattle.netdesc.proofs.reading.sort_vls.Goals as goal
 

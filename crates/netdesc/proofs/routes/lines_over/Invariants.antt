@@ -1,6 +1,6 @@
 use Rattle.std.proofs.Common.{◌≡◌, ◌++◌, drop}
 use Rattle.std.specs.List.{flat_map}
-use Rattle.netdesc.specs.Lines.{lines_over}
+use Rattle.netdesc.specs.Words.{lines_over}
 use Rattle.netdesc.proofs.routes.lines_over.Given as goal
 
 abbrev pub invariant-loop-hop : goal.invariant-loop-hop

@@ -3,9 +3,7 @@ use Rattle.std.specs.List.{flat_map}
 use Rattle.std.proofs.lemmas.List.{drop_more}
 use Rattle.netdesc.specs.declared.wiring.Way.{Way}
 use Rattle.netdesc.specs.declared.routes.End.TheVariants.{From, To}
-use Rattle.netdesc.specs.Plan.{VlPlan}
-use Rattle.netdesc.specs.Lines.{leaves, comes_in, ways_over}
-use Rattle.netdesc.specs.Code.Views.{ways_at, way_at}
+use Rattle.netdesc.specs.Words.{VlPlan, leaves, comes_in, ways_over, ways_at, way_at}
 use Rattle.netdesc.proofs.routes.meetings_of.Goals as goal
 
 -- what one virtual link more puts behind

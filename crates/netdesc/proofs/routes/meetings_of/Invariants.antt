@@ -1,7 +1,6 @@
 use Rattle.std.proofs.Common.{◌≡◌, ℕ, ◌<◌, ◌++◌, drop, vec_len}
 use Rattle.std.specs.List.{flat_map}
-use Rattle.netdesc.specs.Lines.{leaves, comes_in}
-use Rattle.netdesc.specs.Code.Views.{ways_at}
+use Rattle.netdesc.specs.Words.{leaves, comes_in, ways_at}
 use Rattle.netdesc.proofs.routes.meetings_of.Given as goal
 
 abbrev pub invariant-loop-vl : goal.invariant-loop-vl

@@ -1,6 +1,5 @@
 use Rattle.std.proofs.Common.{◌≡◌, ◌++◌, drop, map}
-use Rattle.netdesc.specs.Trees.{all_hops}
-use Rattle.netdesc.specs.Code.Views.{items_of}
+use Rattle.netdesc.specs.Words.{all_hops, items_of}
 use Rattle.netdesc.proofs.routes.push_all.Given as goal
 
 abbrev pub invariant-loop-path : goal.invariant-loop-path

@@ -1,6 +1,5 @@
 use Rattle.std.proofs.Common.{◌≡◌, ◌++◌, drop, map}
-use Rattle.netdesc.specs.Trees.{ends_of}
-use Rattle.netdesc.specs.Code.Views.{items_of}
+use Rattle.netdesc.specs.Words.{ends_of, items_of}
 use Rattle.netdesc.proofs.routes.push_ends.Given as goal
 
 abbrev pub invariant-loop-path : goal.invariant-loop-path

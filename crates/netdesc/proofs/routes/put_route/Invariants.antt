@@ -1,6 +1,5 @@
 use Rattle.std.proofs.Common.{◌≡◌, ℕ, ◌<◌, ◌++◌, drop, vec_len}
-use Rattle.netdesc.specs.Lines.{ways_over}
-use Rattle.netdesc.specs.Code.Views.{ways_at, way_at}
+use Rattle.netdesc.specs.Words.{ways_over, ways_at, way_at}
 use Rattle.netdesc.proofs.routes.put_route.Given as goal
 
 abbrev pub invariant-loop-k : goal.invariant-loop-k

@@ -1,5 +1,5 @@
 use Rattle.std.proofs.Common.{◌<◌, ◌==◌, ◌&&◌, cond, is_none, length, take, get_or, None, Some, arith, ap, sym, ◌∙◌}
-use Rattle.netdesc.specs.Lines.{place_of_vl}
+use Rattle.netdesc.specs.Words.{place_of_vl}
 use Rattle.netdesc.proofs.PlaceLemmas.{or_else, or_else-stored, place_by-push}
 use Rattle.netdesc.proofs.EachLemmas.{take-read, length-before}
 use Rattle.netdesc.proofs.tables.places_of.Goals as goal

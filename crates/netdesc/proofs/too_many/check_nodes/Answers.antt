@@ -3,12 +3,8 @@ use Rattle.std.proofs.lemmas.List.{get_or_read}
 use Rattle.std.specs.Prelude.{slice_get}
 use Rattle.network_rows.specs.declared.key.Section.TheVariants.{Node}
 use Rattle.network_rows.specs.declared.fault.DescFault.{DescFault}
-use Rattle.netdesc.specs.Rows.{when}
+use Rattle.netdesc.specs.Words.{when, greatest_ports, NodePlan, node_plan, is_end_system, too_many_at_node, touches, Tells}
 use Rattle.network_rows.specs.declared.fault.DescFault.TheVariants.{TooMany}
-use Rattle.netdesc.specs.Limits.{greatest_ports}
-use Rattle.netdesc.specs.Plan.{NodePlan, node_plan}
-use Rattle.netdesc.specs.Wiring.{is_end_system}
-use Rattle.netdesc.specs.Faults.{too_many_at_node, touches, Tells}
 use Rattle.netdesc.proofs.EachLemmas.{Tells-mapped, none-mapped, length-before-mapped}
 use Rattle.netdesc.proofs.too_many.check_nodes.Goals as goal
 

@@ -1,7 +1,5 @@
 use Rattle.std.proofs.Common.{◌≡◌, [], take, map}
-use Rattle.netdesc.specs.Rows.{each}
-use Rattle.netdesc.specs.Plan.{node_plan}
-use Rattle.netdesc.specs.Faults.{too_many_at_node}
+use Rattle.netdesc.specs.Words.{each, node_plan, too_many_at_node}
 use Rattle.netdesc.proofs.too_many.check_nodes.Given as goal
 
 abbrev pub invariant-loop-i : goal.invariant-loop-i

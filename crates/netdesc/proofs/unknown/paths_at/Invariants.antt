@@ -1,9 +1,6 @@
 use Rattle.std.proofs.Common.{◌≡◌, false, take, map}
 use Rattle.std.specs.List.{list_any}
-use Rattle.netdesc.specs.Names.{names_of}
-use Rattle.netdesc.specs.Plan.{path_numbers}
-use Rattle.netdesc.specs.Faults.{is_unknown}
-use Rattle.netdesc.specs.Code.Views.{lists_of}
+use Rattle.netdesc.specs.Words.{names_of, path_numbers, is_unknown, lists_of}
 use Rattle.netdesc.proofs.unknown.paths_at.Given as goal
 
 abbrev pub invariant-loop-k : goal.invariant-loop-k

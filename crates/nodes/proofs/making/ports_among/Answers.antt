@@ -1,8 +1,7 @@
 use Rattle.std.proofs.Common.{refl, ap, sym, ◌∙◌}
 use Rattle.std.specs.Option.{option_and_then}
 use Rattle.nodes.specs.declared.meeting.Meeting.{Meeting}
-use Rattle.nodes.specs.rules.Finding.{found_at}
-use Rattle.nodes.specs.laws.Making.{number_met, ports_found}
+use Rattle.nodes.specs.Words.{found_at, number_met, ports_found}
 use Rattle.nodes.proofs.NumberLemmas.{found-read}
 use Rattle.nodes.proofs.making.ports_among.Goals as goal
 

@@ -1,5 +1,5 @@
 use Rattle.std.proofs.Common.{◌≡◌, map, take}
-use Rattle.nodes.specs.laws.Making.{source_met}
+use Rattle.nodes.specs.Words.{source_met}
 use Rattle.nodes.proofs.making.sources_of.Given as goal
 
 abbrev pub invariant-loop-met : goal.invariant-loop-met

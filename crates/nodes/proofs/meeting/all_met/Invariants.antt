@@ -1,8 +1,8 @@
 use Rattle.std.proofs.Common.{◌≡◌, ◌<◌, ◌++◌, length}
 use Rattle.std.specs.Prelude.{All}
 use Rattle.netdesc.specs.declared.too_many.TheConstants.{GREATEST_PORTS}
-use Rattle.netdesc.specs.Limits.{IsLinkInLimits}
-use Rattle.nodes.specs.laws.Grouping.{all_met}
+use Rattle.netdesc.specs.Words.{IsLinkInLimits}
+use Rattle.nodes.specs.Words.{all_met}
 use Rattle.nodes.proofs.meeting.all_met.Given as goal
 
 abbrev pub invariant-loop-rest : goal.invariant-loop-rest

@@ -3,15 +3,11 @@ use Rattle.std.specs.Prelude.{All, IfOk}
 use Rattle.netdesc.specs.declared.too_many.TheConstants.{GREATEST_PORTS}
 use Rattle.std.specs.List.{flat_map}
 use Rattle.netdesc.specs.declared.wiring.Way.{Way}
-use Rattle.netdesc.specs.Plan.{Plan}
-use Rattle.netdesc.specs.Accepted.{IsAccepted}
+use Rattle.netdesc.specs.Words.{Plan, IsAccepted}
 use Rattle.nodes.specs.declared.meeting.Side.{Side}
 use Rattle.nodes.specs.declared.meeting.Meeting.{Meeting}
-use Rattle.nodes.specs.rules.Meeting.{ways_at, meetings}
-use Rattle.nodes.specs.rules.Finding.{IsRising}
-use Rattle.nodes.specs.laws.Making.{number_met}
+use Rattle.nodes.specs.Words.{ways_at, meetings, IsRising, number_met, all_met}
 use Rattle.std.proofs.lemmas.Result.{IfOk-weaker}
-use Rattle.nodes.specs.laws.Grouping.{all_met}
 use Rattle.nodes.proofs.WayLemmas.{ways-own, ways-within, all_met-is, meetings-rise}
 use Rattle.nodes.proofs.meeting.meetings.Goals as goal
 

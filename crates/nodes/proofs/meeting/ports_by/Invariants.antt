@@ -1,6 +1,6 @@
 use Rattle.std.proofs.Common.{◌≡◌, ℕ, ◌<◌, false, length, take, get_or}
 use Rattle.netdesc.specs.declared.too_many.TheConstants.{GREATEST_PORTS}
-use Rattle.nodes.specs.rules.Meeting.{is_by}
+use Rattle.nodes.specs.Words.{is_by}
 use Rattle.nodes.proofs.meeting.ports_by.Given as goal
 
 abbrev pub invariant-loop-way : goal.invariant-loop-way

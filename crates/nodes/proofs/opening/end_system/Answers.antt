@@ -1,10 +1,8 @@
 use Rattle.std.proofs.Common.{map, ap, sym, ◌∙◌, subst}
 use Rattle.std.specs.Prelude.{All}
-use Rattle.netdesc.specs.Limits.{IsLinkInLimits}
+use Rattle.netdesc.specs.Words.{IsLinkInLimits}
 use Rattle.nodes.specs.declared.meeting.Meeting.{Meeting}
-use Rattle.nodes.specs.rules.Finding.{IsRising}
-use Rattle.nodes.specs.rules.EndSystem.{source_number, reception_number}
-use Rattle.nodes.specs.laws.Making.{number_met, source_met, reception_met}
+use Rattle.nodes.specs.Words.{IsRising, source_number, reception_number, number_met, source_met, reception_met}
 use Rattle.nodes.proofs.MakingLemmas.{source-numbers, reception-numbers}
 use Rattle.nodes.proofs.OpeningLemmas.{end_system-made}
 use Rattle.nodes.proofs.opening.end_system.Goals as goal

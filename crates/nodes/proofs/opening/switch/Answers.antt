@@ -1,10 +1,8 @@
 use Rattle.std.proofs.Common.{List, map, refl, ap, sym, ◌∙◌, subst}
 use Rattle.std.specs.Prelude.{All}
-use Rattle.netdesc.specs.Limits.{IsLinkInLimits}
+use Rattle.netdesc.specs.Words.{IsLinkInLimits}
 use Rattle.nodes.specs.declared.meeting.Meeting.{Meeting}
-use Rattle.nodes.specs.rules.Finding.{IsRising}
-use Rattle.nodes.specs.rules.Switch.{transit_number}
-use Rattle.nodes.specs.laws.Making.{number_met, transit_met}
+use Rattle.nodes.specs.Words.{IsRising, transit_number, number_met, transit_met}
 use Rattle.nodes.proofs.MakingLemmas.{transit-numbers}
 use Rattle.nodes.proofs.OpeningLemmas.{switch-made}
 use Rattle.nodes.proofs.opening.switch.Goals as goal

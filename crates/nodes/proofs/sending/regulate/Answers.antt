@@ -3,7 +3,7 @@ use Rattle.std.proofs.lemmas.List.{append-nil}
 use Rattle.vlink.specs.declared.note.Note.{Note}
 use Rattle.bag_regulator.specs.declared.event.RegOut.{RegOut}
 use Rattle.reverse.specs.Sending.{joined, replied, OutboundState}
-use Rattle.nodes.specs.rules.EndSystem.{asked, full, released_reply}
+use Rattle.nodes.specs.Words.{asked, full, released_reply}
 use Rattle.nodes.proofs.SendingLemmas.{replied-joined}
 use Rattle.nodes.proofs.EndSystemLemmas.{full-released, asked-quiet}
 use Rattle.nodes.proofs.sending.regulate.Goals as goal

@@ -1,8 +1,7 @@
 use Rattle.std.proofs.Common.{ap, ◌∙◌, sym}
 use Rattle.vlink.specs.declared.frame.Net.TheVariants.{A, B}
 use Rattle.reverse.specs.Sending.{OutboundState, replied}
-use Rattle.nodes.specs.rules.Ports.{PortsState}
-use Rattle.nodes.specs.rules.EndSystem.{copied_reply, released_reply}
+use Rattle.nodes.specs.Words.{PortsState, copied_reply, released_reply}
 use Rattle.nodes.proofs.SendingLemmas.{replied-joined}
 use Rattle.nodes.proofs.sending.release.Goals as goal
 

@@ -1,7 +1,6 @@
 use Rattle.std.proofs.Common.{◌≡◌, ◌+◌, ◌≤◌, length, drop}
 use Rattle.reverse.specs.Sending.{replied}
-use Rattle.nodes.specs.rules.Outputs.{marked_from}
-use Rattle.nodes.specs.rules.Switch.{forwarded}
+use Rattle.nodes.specs.Words.{marked_from, forwarded}
 use Rattle.nodes.proofs.switch.forward.Given as goal
 
 -- what was sent so far and what the ports from this one on ask for is the whole

@@ -1,5 +1,5 @@
 use Rattle.std.proofs.Common.{◌≡◌, map, take, option_map}
-use Rattle.nodes.specs.rules.Opening.{outlet_of}
+use Rattle.nodes.specs.Words.{outlet_of}
 use Rattle.nodes.proofs.wiring.ports_of.Given as goal
 
 abbrev pub invariant-loop-wire : goal.invariant-loop-wire

@@ -1,7 +1,6 @@
 use Rattle.std.proofs.Common.{refl, sym, subst, arith}
-use Rattle.nodes.specs.rules.Simulation.{simulation_of}
-use Rattle.trace_segments.specs.Places.{gathered}
-use Rattle.trace_segments.specs.Ordered.{AreInMessageOrder}
+use Rattle.nodes.specs.Words.{simulation_of}
+use Rattle.trace_segments.specs.Words.{gathered, AreInMessageOrder}
 use Rattle.seqsim.proofs.CommittedRows.{rows-gathered, rows-all}
 use Rattle.seqsim.proofs.OneThreadRows.{one-ordered}
 use Rattle.seqsim.proofs.RowsByProcess.{ordered-rows, ordered-committed}

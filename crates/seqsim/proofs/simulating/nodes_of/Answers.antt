@@ -1,4 +1,4 @@
-use Rattle.nodes.specs.rules.Opening.{opening}
+use Rattle.nodes.specs.Words.{opening}
 use Rattle.seqsim.proofs.StatesLemmas.{states-more}
 use Rattle.seqsim.proofs.simulating.nodes_of.Goals as goal
 

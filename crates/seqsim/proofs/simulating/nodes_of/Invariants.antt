@@ -1,4 +1,4 @@
-use Rattle.nodes.specs.rules.Opening.{opening}
+use Rattle.nodes.specs.Words.{opening}
 use Rattle.reverse.specs.Setting.{AreInStates}
 use Rattle.seqsim.proofs.simulating.nodes_of.Given as goal
 

@@ -1,6 +1,6 @@
 use Rattle.std.proofs.Common.{◌≡◌, ◌+◌, ◌<◌, ℕ, Some, map, slice_get, take}
 use Rattle.virtual_time.specs.declared.step.Step.{Step}
-use Rattle.nodes.specs.rules.Simulation.{simulation_of}
+use Rattle.nodes.specs.Words.{simulation_of}
 use Rattle.actor_world.specs.Worlds.{IsExhausted}
 use Rattle.seqsim.specs.Committed.{after}
 use Rattle.timewarp.specs.Replayed.{IsReplayed}

@@ -1,6 +1,6 @@
 use Rattle.std.proofs.Common.{ℕ, refl, ◌+◌, ◌<◌, ◌≤◌, ◌*◌, ◌∙◌, ◌⊎◌, inl, inr, sym, ap}
 use Rattle.std.proofs.lemmas.Bool.{cases_lt}
-use Rattle.trace_segments.specs.Intervals.{interval_width}
+use Rattle.trace_segments.specs.Words.{interval_width}
 use Rattle.trace_segments.proofs.IntervalLemmas.{cut-inside, cut-behind}
 use Rattle.trace_segments.proofs.interval.cut.Goals as goal
 

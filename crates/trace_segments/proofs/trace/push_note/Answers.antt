@@ -1,7 +1,6 @@
 use Rattle.std.proofs.Common.{ℕ, List, [], ◌∷◌, ap, sym, ◌∙◌, subst, OnOk}
 use Rattle.std.specs.Prelude.{decimal}
-use Rattle.trace_segments.specs.Text.{line, note_fields}
-use Rattle.trace_segments.specs.Writing.{Adds}
+use Rattle.trace_segments.specs.Words.{line, note_fields, Adds}
 use Rattle.trace_segments.proofs.trace.push_note.Goals as goal
 
 pub returns-in-Delivered : goal.returns-in-Delivered

@@ -1,8 +1,6 @@
 use Rattle.std.proofs.Common.{◌≡◌, ℕ, List, [], ◌∷◌, ap, sym, ◌∙◌, subst, OnOk, cond, true}
 use Rattle.std.specs.Prelude.{decimal}
-use Rattle.trace_segments.specs.Known.{is_known, is_in_network}
-use Rattle.trace_segments.specs.Text.{line, place_name, note_fields}
-use Rattle.trace_segments.specs.Writing.{Adds}
+use Rattle.trace_segments.specs.Words.{is_known, is_in_network, line, place_name, note_fields, Adds}
 use Rattle.trace_segments.proofs.trace.push_row.Goals as goal
 
 pub returns : goal.returns

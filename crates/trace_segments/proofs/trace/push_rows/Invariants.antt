@@ -1,7 +1,6 @@
 use Rattle.std.proofs.Common.{take}
 use Rattle.std.specs.List.{flat_map}
-use Rattle.trace_segments.specs.Text.{trace_line}
-use Rattle.trace_segments.specs.Writing.{Adds}
+use Rattle.trace_segments.specs.Words.{trace_line, Adds}
 use Rattle.trace_segments.proofs.trace.push_rows.Given as goal
 
 abbrev pub invariant-loop-row : goal.invariant-loop-row

@@ -1,6 +1,6 @@
 use Rattle.std.proofs.Common.{◌≡◌, take}
 use Rattle.std.specs.List.{flat_map}
-use Rattle.trace_segments.specs.Gathering.{first_of}
+use Rattle.trace_segments.specs.Words.{first_of}
 use Rattle.trace_segments.proofs.waiting.first_rows.Given as goal
 
 abbrev pub invariant-loop-segments : goal.invariant-loop-segments

@@ -1,7 +1,6 @@
 use Rattle.std.proofs.Common.{◌≡◌, ℕ, List, []}
 use Rattle.std.specs.List.{flat_map}
-use Rattle.trace_segments.specs.Text.{trace_line}
-use Rattle.trace_segments.specs.Writing.{Holds}
+use Rattle.trace_segments.specs.Words.{trace_line, Holds}
 use Rattle.trace_segments.proofs.WritingLemmas.{if-ok}
 use Rattle.trace_segments.proofs.write.line_bytes.Goals as goal
 

@@ -1,7 +1,7 @@
 use Rattle.std.proofs.Common.{[], map, take, ap, sym, ◌∙◌, add-one, arith}
 use Rattle.std.proofs.lemmas.List.{take_all}
 use Rattle.std.proofs.lemmas.Map.Keys.{sorted_from_strictly_increasing}
-use Rattle.netdesc.specs.Accepted.{ids_of}
+use Rattle.netdesc.specs.Words.{ids_of}
 use Rattle.trace_tables.specs.Destinations.{destination, destinations_in, with_destinations}
 use Rattle.trace_tables.proofs.DestinationLemmas.{destinations-more, none-counted, with_destinations-append}
 use Rattle.trace_tables.proofs.ListLemmas.{rises-of}

@@ -1,4 +1,4 @@
-use Rattle.trace_segments.specs.Places.{gathered}
+use Rattle.trace_segments.specs.Words.{gathered}
 use Rattle.trace_tables.proofs.PlaceLemmas.{same-tables}
 use Rattle.trace_segments.proofs.GatherLemmas.{same-gathered}
 use Rattle.trace_tables.proofs.laws.tables_by_place.Goals as goal

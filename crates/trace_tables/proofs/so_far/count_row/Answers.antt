@@ -1,12 +1,12 @@
 use Rattle.std.proofs.Common.{◌≤◌, [], ◌∷◌, cond, length, ap, sym, subst, ◌∙◌, arith}
 use Rattle.std.proofs.lemmas.Result.{on_ok_weaker}
 use Rattle.std.proofs.lemmas.Map.Keys.{sorted_from_strictly_increasing}
-use Rattle.netdesc.specs.Accepted.{ids_of}
+use Rattle.netdesc.specs.Words.{ids_of}
 use Rattle.trace_tables.specs.declared.loss.Loss.{Loss}
 use Rattle.trace_tables.specs.Destinations.{counts_in, destination, destinations_in, with_latency_at}
 use Rattle.trace_tables.specs.Latencies.{latency_in}
 use Rattle.trace_tables.specs.Losses.{count_in, with_losses}
-use Rattle.trace_segments.specs.Known.{is_in_network}
+use Rattle.trace_segments.specs.Words.{is_in_network}
 use Rattle.trace_tables.specs.Tables.{latency_table}
 use Rattle.trace_tables.proofs.DeliveryLemmas.{delivered, dropped, few}
 use Rattle.trace_tables.proofs.DropCountLemmas.{few-lost, none-lost, one-lost}

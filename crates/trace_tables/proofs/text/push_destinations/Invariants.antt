@@ -2,7 +2,7 @@ use Rattle.std.proofs.Common.{map, take}
 use Rattle.std.specs.List.{flat_map}
 use Rattle.trace_tables.specs.Destinations.{destination}
 use Rattle.trace_tables.specs.Text.{destination_line}
-use Rattle.trace_segments.specs.Writing.{Adds}
+use Rattle.trace_segments.specs.Words.{Adds}
 use Rattle.trace_tables.proofs.text.push_destinations.Given as goal
 
 abbrev pub invariant-loop-place : goal.invariant-loop-place

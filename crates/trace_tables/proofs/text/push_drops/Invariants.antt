@@ -1,6 +1,6 @@
 use Rattle.std.proofs.Common.{◌≡◌, ℕ, List, ◌++◌}
 use Rattle.trace_tables.specs.Text.{drop_text}
-use Rattle.trace_segments.specs.Writing.{Adds}
+use Rattle.trace_segments.specs.Words.{Adds}
 use Rattle.trace_tables.proofs.text.push_drops.Given as goal
 
 abbrev pub invariant-loop-loss : goal.invariant-loop-loss

@@ -1,7 +1,6 @@
 use Rattle.std.proofs.Common.{◌≡◌, ℕ, List, [], ◌∷◌, subst, OnOk}
 use Rattle.std.specs.Prelude.{codes}
-use Rattle.trace_segments.specs.Text.{line}
-use Rattle.trace_segments.specs.Writing.{Adds}
+use Rattle.trace_segments.specs.Words.{line, Adds}
 use Rattle.trace_tables.proofs.text.push_head.Goals as goal
 
 pub returns : goal.returns

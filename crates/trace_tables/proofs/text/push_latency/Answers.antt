@@ -1,7 +1,6 @@
 use Rattle.std.proofs.Common.{◌≡◌, ℕ, List, [], ◌∷◌, ap, ◌∙◌, subst, OnOk}
 use Rattle.std.specs.Prelude.{codes, decimal}
-use Rattle.trace_segments.specs.Text.{line, place_name}
-use Rattle.trace_segments.specs.Writing.{Adds}
+use Rattle.trace_segments.specs.Words.{line, place_name, Adds}
 use Rattle.trace_tables.proofs.text.push_latency.Goals as goal
 
 pub returns : goal.returns

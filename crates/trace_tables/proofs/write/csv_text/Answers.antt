@@ -1,6 +1,6 @@
 use Rattle.std.proofs.Common.{◌≡◌, ℕ, List, [], ◌++◌, ap}
 use Rattle.trace_tables.specs.Text.{tables_head, latency_text, drop_text, tables_text}
-use Rattle.trace_segments.specs.Writing.{Holds}
+use Rattle.trace_segments.specs.Words.{Holds}
 use Rattle.trace_segments.proofs.WritingLemmas.{adds-more, adds-same, if-ok}
 use Rattle.trace_tables.proofs.write.csv_text.Goals as goal
 

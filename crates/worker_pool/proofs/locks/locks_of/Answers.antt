@@ -1,5 +1,5 @@
 use Rattle.std.proofs.Common.{◌≤◌, ap, ◌∙◌, sym, subst}
-use Rattle.netdesc.specs.Faults.{process_count}
+use Rattle.netdesc.specs.Words.{process_count}
 use Rattle.worker_pool.proofs.locks.locks_of.Goals as goal
 
 pub invariant_of-result : goal.invariant_of-result

@@ -1,5 +1,5 @@
 use Rattle.std.proofs.Common.{◌/◌, ◌∙◌, sym, ap, arith}
-use Rattle.trace_segments.specs.Intervals.{cut}
+use Rattle.trace_segments.specs.Words.{cut}
 use Rattle.trace_segments.proofs.IntervalLemmas.{cut-inside}
 use Rattle.worker_pool.proofs.SegmentRows.{begins-one}
 use Rattle.worker_pool.proofs.segments.interval_at.Goals as goal

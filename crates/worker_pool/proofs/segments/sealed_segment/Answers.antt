@@ -2,8 +2,7 @@ use Rattle.std.proofs.Common.{◌≡◌, ◌∙◌, ◌↔◌, ◌+◌, ap}
 use Rattle.std.specs.Prelude.{Option, IsSome, IfSome}
 use Rattle.std.proofs.lemmas.Option.{IfSome_then}
 use Rattle.actor_run.proofs.Errors.{ok-weaker}
-use Rattle.trace_segments.specs.Intervals.{cut, HasInterval}
-use Rattle.trace_segments.specs.Segments.{SegmentRows, segment_of}
+use Rattle.trace_segments.specs.Words.{cut, HasInterval, SegmentRows, segment_of}
 use Rattle.worker_pool.specs.Segments.{IsIntervalSealed, IsSegmentOfRun}
 use Rattle.worker_pool.proofs.SegmentRows.{segment-at, some-at}
 use Rattle.worker_pool.proofs.segments.sealed_segment.Goals as goal

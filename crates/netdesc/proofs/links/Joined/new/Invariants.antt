@@ -1,5 +1,5 @@
 use Rattle.std.proofs.Common.{take}
-use Rattle.netdesc.specs.Code.Finding.{AreJoined}
+use Rattle.netdesc.specs.Words.{AreJoined}
 use Rattle.netdesc.proofs.links.Joined.new.Given as goal
 
 abbrev pub invariant-loop-i : goal.invariant-loop-i

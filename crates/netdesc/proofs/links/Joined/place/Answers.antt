@@ -1,5 +1,5 @@
 use Rattle.std.proofs.Common.{◌≡◌, ap, ◌∙◌, is_some}
-use Rattle.netdesc.specs.Wiring.{joins, link_between}
+use Rattle.netdesc.specs.Words.{joins, link_between}
 use Rattle.netdesc.proofs.PlaceLemmas.{is_some-place_by}
 use Rattle.netdesc.proofs.links.Joined.place.Goals as goal
 

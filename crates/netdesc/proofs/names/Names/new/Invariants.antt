@@ -1,6 +1,5 @@
 use Rattle.std.proofs.Common.{take}
-use Rattle.netdesc.specs.Names.{names_of}
-use Rattle.netdesc.specs.Code.Finding.{AreNumbers}
+use Rattle.netdesc.specs.Words.{names_of, AreNumbers}
 use Rattle.netdesc.proofs.names.Names.new.Given as goal
 
 abbrev pub invariant-loop-i : goal.invariant-loop-i

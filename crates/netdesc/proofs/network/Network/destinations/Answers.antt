@@ -1,7 +1,6 @@
 use Rattle.std.proofs.Common.{◌≡◌, length, map, Some, ap, sym, ◌∙◌, arith}
 use Rattle.std.proofs.lemmas.List.{length-map}
-use Rattle.netdesc.specs.Trees.{destinations_of}
-use Rattle.netdesc.specs.Code.Views.{items_of}
+use Rattle.netdesc.specs.Words.{destinations_of, items_of}
 use Rattle.netdesc.proofs.BuildLemmas.{read-made}
 use Rattle.netdesc.proofs.network.Network.destinations.Goals as goal
 

@@ -2,8 +2,7 @@ use Rattle.std.proofs.Common.{◌≡◌, ◌<◌, length, map, Some, ap, sym, �
 use Rattle.std.specs.Prelude.{slice_get}
 use Rattle.std.specs.Option.{option_map}
 use Rattle.std.proofs.lemmas.List.{length-map}
-use Rattle.netdesc.specs.Plan.{node_plan}
-use Rattle.netdesc.specs.Accepted.{IsAccepted}
+use Rattle.netdesc.specs.Words.{node_plan, IsAccepted}
 use Rattle.netdesc.proofs.BuildLemmas.{map-both, read-made}
 use Rattle.netdesc.proofs.LimitLemmas.{kind-read}
 use Rattle.netdesc.proofs.network.Network.kind.Goals as goal

@@ -1,8 +1,7 @@
 use Rattle.std.proofs.Common.{◌≡◌, ◌<◌, length, Some, ap, sym, ◌∙◌, subst, arith}
 use Rattle.std.specs.Prelude.{slice_get}
 use Rattle.std.proofs.lemmas.Option.{slice_get_read}
-use Rattle.netdesc.specs.Lines.{lines_of}
-use Rattle.netdesc.specs.Accepted.{IsAccepted}
+use Rattle.netdesc.specs.Words.{lines_of, IsAccepted}
 use Rattle.netdesc.proofs.BuildLemmas.{line-read}
 use Rattle.netdesc.proofs.PortLemmas.{line-within}
 use Rattle.netdesc.proofs.network.Network.line.Goals as goal

@@ -1,6 +1,6 @@
 use Rattle.std.proofs.Common.{◌≡◌, length, map, string_bytes, Some, ap, sym, ◌∙◌, arith}
 use Rattle.std.proofs.lemmas.List.{length-map}
-use Rattle.netdesc.specs.Lines.{lines_of, line_name}
+use Rattle.netdesc.specs.Words.{lines_of, line_name}
 use Rattle.netdesc.proofs.BuildLemmas.{read-made}
 use Rattle.netdesc.proofs.network.Network.line_name.Goals as goal
 

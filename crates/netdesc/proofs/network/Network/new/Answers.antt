@@ -1,9 +1,7 @@
 use Rattle.std.proofs.Common.{◌≡◌, length, map, ap, sym, ◌∙◌, subst, arith}
 use Rattle.std.specs.Prelude.{All}
 use Rattle.std.proofs.lemmas.List.{length-map}
-use Rattle.netdesc.specs.Names.{names_of}
-use Rattle.netdesc.specs.Plan.{node_plan, link_plan, plan_of}
-use Rattle.netdesc.specs.Code.Tables.{plan_with, AreTables}
+use Rattle.netdesc.specs.Words.{names_of, node_plan, link_plan, plan_of, plan_with, AreTables}
 use Rattle.netdesc.proofs.BuildLemmas.{EndsWithin, links-within, few-processes}
 use Rattle.netdesc.proofs.network.Network.new.Goals as goal
 

@@ -1,8 +1,7 @@
 use Rattle.std.proofs.Common.{◌≤◌, subst, arith}
 use Rattle.std.proofs.lemmas.List.{length-map}
 use Rattle.netdesc.specs.declared.too_many.TheConstants.{GREATEST_PROCESSES}
-use Rattle.netdesc.specs.Plan.{node_plan}
-use Rattle.netdesc.specs.Faults.{process_count}
+use Rattle.netdesc.specs.Words.{node_plan, process_count}
 use Rattle.netdesc.proofs.BuildLemmas.{few-accepted}
 use Rattle.netdesc.proofs.network.Network.process_count.Goals as goal
 

@@ -1,7 +1,6 @@
 use Rattle.std.proofs.Common.{refl, ap, sym, ◌∙◌, subst}
 use Rattle.std.specs.Option.{option_and_then, IsSome}
-use Rattle.netdesc.specs.Trees.{source_of}
-use Rattle.netdesc.specs.Accepted.{IsAccepted}
+use Rattle.netdesc.specs.Words.{source_of, IsAccepted}
 use Rattle.netdesc.proofs.SourceLemmas.{vl-read, end-system-is, end-system-below}
 use Rattle.netdesc.proofs.network.Network.source.Goals as goal
 

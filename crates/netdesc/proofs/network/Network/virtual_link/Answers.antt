@@ -1,7 +1,7 @@
 use Rattle.std.proofs.Common.{◌≡◌, Some, ap, sym, ◌∙◌, subst}
 use Rattle.std.specs.Prelude.{slice_get}
 use Rattle.std.specs.Option.{option_map}
-use Rattle.netdesc.specs.Accepted.{IsAccepted}
+use Rattle.netdesc.specs.Words.{IsAccepted}
 use Rattle.netdesc.proofs.SourceLemmas.{vl-read}
 use Rattle.netdesc.proofs.LimitLemmas.{link-read}
 use Rattle.netdesc.proofs.network.Network.virtual_link.Goals as goal

@@ -1,5 +1,5 @@
 use Rattle.std.proofs.Common.{subst}
-use Rattle.netdesc.specs.Accepted.{IsAccepted}
+use Rattle.netdesc.specs.Words.{IsAccepted}
 use Rattle.netdesc.proofs.RisingLemmas.{ids-rise}
 use Rattle.netdesc.proofs.network.Network.vl_count.Goals as goal
 

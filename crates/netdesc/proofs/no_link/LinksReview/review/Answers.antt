@@ -1,8 +1,7 @@
 use Rattle.std.proofs.Common.{◌≡◌, ◌||◌, true, false, map, ap, sym, ◌∙◌, refl, inr, Some}
 use Rattle.vlink.specs.declared.frame.Net.TheVariants.{A, B}
 use Rattle.network_rows.specs.declared.fault.DescFault.TheVariants.{NotALink}
-use Rattle.netdesc.specs.Plan.{node_plan}
-use Rattle.netdesc.specs.Wiring.{leads, is_no_link}
+use Rattle.netdesc.specs.Words.{node_plan, leads, is_no_link}
 use Rattle.netdesc.proofs.EachLemmas.{list_any-push}
 use Rattle.netdesc.proofs.no_link.LinksReview.review.Goals as goal
 

@@ -1,8 +1,7 @@
 use Rattle.std.proofs.Common.{◌≡◌, ◌<◌, ℕ, List, [], ◌∷◌, ◌++◌, length, map, refl, ap, sym, ◌∙◌, arith}
 use Rattle.std.proofs.lemmas.Bool.Decides.{nat_tests}
 use Rattle.std.proofs.lemmas.List.{length-map}
-use Rattle.netdesc.specs.Trees.{source_among}
-use Rattle.netdesc.specs.Code.Views.{items_of}
+use Rattle.netdesc.specs.Words.{source_among, items_of}
 use Rattle.netdesc.proofs.plan.Routed.source.Goals as goal
 
 -- where there are no paths on A, and where there are some

@@ -1,5 +1,4 @@
-use Rattle.netdesc.specs.Names.{names_of}
-use Rattle.netdesc.specs.Plan.{link_plan}
+use Rattle.netdesc.specs.Words.{names_of, link_plan}
 use Rattle.netdesc.proofs.EachLemmas.{map-push}
 use Rattle.netdesc.proofs.unknown.LinksReview.review.Goals as goal
 

@@ -1,5 +1,4 @@
-use Rattle.netdesc.specs.Names.{names_of}
-use Rattle.netdesc.specs.Plan.{outage_plan}
+use Rattle.netdesc.specs.Words.{names_of, outage_plan}
 use Rattle.netdesc.proofs.EachLemmas.{map-push}
 use Rattle.netdesc.proofs.unknown.OutagesReview.review.Goals as goal
 

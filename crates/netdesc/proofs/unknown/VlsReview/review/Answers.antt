@@ -1,5 +1,4 @@
-use Rattle.netdesc.specs.Names.{names_of}
-use Rattle.netdesc.specs.Plan.{vl_plan}
+use Rattle.netdesc.specs.Words.{names_of, vl_plan}
 use Rattle.netdesc.proofs.EachLemmas.{map-push}
 use Rattle.netdesc.proofs.unknown.VlsReview.review.Goals as goal
 

@@ -2,8 +2,7 @@ use Rattle.std.proofs.Common.{◌≡◌, Some, ap, ◌∙◌, sym, subst, slice_
 use Rattle.vlink.specs.declared.note.Cause.TheVariants.{Unknown}
 use Rattle.bag_regulator.specs.Regulator.{regulator}
 use Rattle.reverse.specs.Sending.{joined, replied}
-use Rattle.nodes.specs.rules.EndSystem.{EndSystemState, asked, full, lost, regulated, released_out, released_reply, source_at, source_number}
-use Rattle.nodes.specs.undoing.EndSystem.{regulated_kept, regulated_kept_by, AreCopiesValues, IsRegulatedValue}
+use Rattle.nodes.specs.Words.{EndSystemState, asked, full, lost, regulated, released_out, released_reply, source_at, source_number, regulated_kept, regulated_kept_by, AreCopiesValues, IsRegulatedValue}
 use Rattle.nodes.proofs.NumberLemmas.{found-read, rising-kept}
 use Rattle.nodes.proofs.end_system.EndSystem.regulate.Goals as goal
 

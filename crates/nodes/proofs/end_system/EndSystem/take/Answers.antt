@@ -1,6 +1,7 @@
 use Rattle.std.proofs.Common.{◌≡◌, Some, ap, ◌∙◌, sym, subst, slice_set, refl}
 use Rattle.reverse.specs.Sending.{replied}
-use Rattle.nodes.specs.rules.EndSystem.{EndSystemState, received, reception_at, reception_number, taken}
+use Rattle.nodes.specs.rules.EndSystem.{taken}
+use Rattle.nodes.specs.Words.{EndSystemState, received, reception_at, reception_number}
 use Rattle.nodes.specs.undoing.EndSystem.{taken_kept}
 use Rattle.nodes.proofs.NumberLemmas.{rising-kept}
 use Rattle.nodes.proofs.EndSystemLemmas.{reception-found}

@@ -1,9 +1,6 @@
 use Rattle.std.proofs.Common.{◌≡◌, ap, ◌∙◌, sym, subst, slice_set}
 use Rattle.bag_regulator.specs.Regulator.{undone}
-use Rattle.nodes.specs.undoing.Ports.{unput}
-use Rattle.nodes.specs.rules.EndSystem.{EndSystemState, source_number}
-use Rattle.nodes.specs.undoing.EndSystemElements.{RegulatedCameFrom, SendingCameFrom}
-use Rattle.nodes.specs.undoing.EndSystem.{unregulated, unregulated_by}
+use Rattle.nodes.specs.Words.{unput, EndSystemState, source_number, RegulatedCameFrom, SendingCameFrom, unregulated, unregulated_by}
 use Rattle.nodes.proofs.NumberLemmas.{found-read, rising-kept}
 use Rattle.nodes.proofs.EndSystemLemmas.{sending-came}
 use Rattle.nodes.proofs.end_system.EndSystem.unregulate.Goals as goal

@@ -1,7 +1,6 @@
 use Rattle.std.proofs.Common.{◌≡◌, ap, ◌∙◌, sym, subst, slice_set, refl}
-use Rattle.nodes.specs.rules.EndSystem.{EndSystemState, reception_number}
+use Rattle.nodes.specs.Words.{EndSystemState, reception_number, unreceived, untaken, untaken_by, EndSystemCameFrom}
 use Rattle.vlink.specs.declared.message.Body.TheVariants as body
-use Rattle.nodes.specs.undoing.EndSystem.{unreceived, untaken, untaken_by, EndSystemCameFrom}
 use Rattle.nodes.proofs.NumberLemmas.{rising-kept}
 use Rattle.nodes.proofs.EndSystemLemmas.{reception-found, receiving-came}
 use Rattle.nodes.proofs.end_system.EndSystem.untake.Goals as goal

@@ -1,5 +1,5 @@
 use Rattle.std.proofs.Common.{sym, subst}
-use Rattle.nodes.specs.rules.Placed.{IsPlacedEquipment}
+use Rattle.nodes.specs.Words.{IsPlacedEquipment}
 use Rattle.nodes.proofs.OpeningLaws.{opening-placed}
 use Rattle.nodes.proofs.node.Node.new.Goals as goal
 

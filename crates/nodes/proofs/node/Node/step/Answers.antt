@@ -1,8 +1,6 @@
 use Rattle.std.proofs.Common.{ap, sym, ◌∙◌, subst}
 use Rattle.reverse.specs.Sending.{Sender}
-use Rattle.nodes.specs.rules.Node.{NodeState, handled}
-use Rattle.nodes.specs.rules.Placed.{IsPlacedEquipment}
-use Rattle.nodes.specs.laws.NodeSending.{place-stays}
+use Rattle.nodes.specs.Words.{NodeState, handled, IsPlacedEquipment, place-stays}
 use Rattle.nodes.proofs.node.Node.step.Goals as goal
 
 pub invariant_of-self : goal.invariant_of-self

@@ -1,9 +1,6 @@
 use Rattle.std.proofs.Common.{◌≡◌, ap, sym, ◌∙◌, subst}
-use Rattle.nodes.specs.rules.Node.{NodeState, after}
-use Rattle.nodes.specs.undoing.Node.{equipment_restored}
+use Rattle.nodes.specs.Words.{NodeState, after, equipment_restored, IsPlacedEquipment, node-undoes}
 use Rattle.nodes.specs.declared.node.NodeRecord.{NodeRecord}
-use Rattle.nodes.specs.rules.Placed.{IsPlacedEquipment}
-use Rattle.nodes.specs.laws.Node.{node-undoes}
 use Rattle.nodes.proofs.node.NodeReversible.undo.Goals as goal
 
 -- the node is back where it was when the message came

@@ -1,5 +1,5 @@
 use Rattle.std.proofs.Common.{◌≡◌, ◌≤◌, ◌++◌, length, drop}
-use Rattle.nodes.specs.rules.Outputs.{marked_from}
+use Rattle.nodes.specs.Words.{marked_from}
 use Rattle.nodes.proofs.outputs.Outputs.new.Given as goal
 
 -- the ports so far and those from this one on are all

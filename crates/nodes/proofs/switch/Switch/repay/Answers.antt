@@ -1,8 +1,7 @@
 use Rattle.std.proofs.Common.{◌≡◌, ap, ◌∙◌, sym, subst, slice_set, refl}
 use Rattle.policer.specs.Account.{account}
 use Rattle.policer.specs.declared.account.Arrival.{Arrival}
-use Rattle.nodes.specs.rules.Switch.{SwitchState, transit_number}
-use Rattle.nodes.specs.undoing.Switch.{unjudged}
+use Rattle.nodes.specs.Words.{SwitchState, transit_number, unjudged}
 use Rattle.nodes.proofs.NumberLemmas.{found-read, rising-kept}
 use Rattle.nodes.proofs.SwitchLemmas.{judging-came}
 use Rattle.nodes.proofs.switch.Switch.repay.Goals as goal

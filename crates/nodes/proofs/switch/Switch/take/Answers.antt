@@ -1,7 +1,8 @@
 use Rattle.std.proofs.Common.{◌≡◌, Some, ap, ◌∙◌, sym, subst, slice_set}
 use Rattle.reverse.specs.Sending.{replied}
-use Rattle.nodes.specs.rules.Switch.{SwitchState, entered, entered_reply, taken, transit_at, transit_number}
-use Rattle.nodes.specs.undoing.Switch.{taken_kept, IsTakenValue}
+use Rattle.nodes.specs.rules.Switch.{taken}
+use Rattle.nodes.specs.Words.{SwitchState, entered, entered_reply, transit_at, transit_number, IsTakenValue}
+use Rattle.nodes.specs.undoing.Switch.{taken_kept}
 use Rattle.nodes.proofs.NumberLemmas.{found-read, rising-kept}
 use Rattle.nodes.proofs.SwitchLemmas.{entered-number}
 use Rattle.nodes.proofs.switch.Switch.take.Goals as goal

@@ -1,8 +1,8 @@
 use Rattle.std.proofs.Common.{◌≡◌, ◌∙◌, ◌+◌, true, false, map, Err, refl, sym, ap, subst, arith}
 use Rattle.std.specs.Prelude.{is_ok}
 use Rattle.std.proofs.lemmas.Bool.{false≢true, false_from_ne_true}
-use Rattle.nodes.specs.rules.Simulation.{simulation_of}
-use Rattle.netdesc.specs.Plan.{Plan}
+use Rattle.nodes.specs.Words.{simulation_of}
+use Rattle.netdesc.specs.Words.{Plan}
 use Rattle.antimessages.specs.Steps.{names_none}
 use Rattle.timewarp.specs.declared.replaying.Replay.{Replay}
 use Rattle.actor_world.specs.declared.done.Done.TheVariants.{Did, NotEnabled}

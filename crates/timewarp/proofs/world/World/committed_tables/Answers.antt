@@ -2,11 +2,8 @@ use Rattle.std.proofs.Common.{◌≡◌, ◌++◌, ◌+◌, ℕ, List, [], map, 
 use Rattle.vlink.specs.Letters.{Row}
 use Rattle.virtual_time.specs.Law.{rowed, Laws}
 use Rattle.virtual_time.specs.declared.step.Step.{Step}
-use Rattle.netdesc.specs.Plan.{Plan}
-use Rattle.netdesc.specs.Faults.{process_count}
-use Rattle.nodes.specs.undoing.Node.{IsNodeValue}
-use Rattle.nodes.specs.rules.Placed.{IsPlaced}
-use Rattle.nodes.specs.rules.Simulation.{simulation_of}
+use Rattle.netdesc.specs.Words.{Plan, process_count}
+use Rattle.nodes.specs.Words.{IsNodeValue, IsPlaced, simulation_of}
 use Rattle.trace_tables.specs.SoFar.{SoFarLists, IsSoFar}
 use Rattle.trace_tables.specs.Tables.{TableLists, tables_of}
 use Rattle.seqsim.specs.Networks.{setting_of}

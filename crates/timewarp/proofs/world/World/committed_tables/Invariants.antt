@@ -1,7 +1,7 @@
 use Rattle.std.proofs.Common.{List}
 use Rattle.vlink.specs.Letters.{Row}
 use Rattle.virtual_time.specs.declared.step.Step.{Step}
-use Rattle.nodes.specs.rules.Simulation.{simulation_of}
+use Rattle.nodes.specs.Words.{simulation_of}
 use Rattle.trace_tables.specs.SoFar.{IsSoFar}
 use Rattle.seqsim.specs.Committed.{after}
 use Rattle.timewarp.specs.Networks.{IsAfter}

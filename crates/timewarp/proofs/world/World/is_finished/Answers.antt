@@ -1,8 +1,7 @@
 use Rattle.std.proofs.Common.{◌≡◌, ◌↔◌, ◌+◌, ◌<◌, ℕ, suc, Bool, List, [], IsTrue, subst, arith}
 use Rattle.virtual_time.specs.Law.{IsFinished}
 use Rattle.virtual_time.specs.declared.step.Step.{Step}
-use Rattle.nodes.specs.undoing.Node.{IsNodeValue}
-use Rattle.nodes.specs.rules.Simulation.{simulation_of}
+use Rattle.nodes.specs.Words.{IsNodeValue, simulation_of}
 use Rattle.seqsim.specs.Networks.{setting_of}
 use Rattle.seqsim.specs.Committed.{after}
 use Rattle.timewarp.specs.Networks.{NetworkWorld, IsAfter}

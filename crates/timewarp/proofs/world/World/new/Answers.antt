@@ -2,14 +2,10 @@ use Rattle.std.proofs.Common.{◌≡◌, ◌∙◌, List, [], sym}
 use Rattle.vlink.specs.declared.message.Message.{Message}
 use Rattle.virtual_time.specs.Law.{run, start}
 use Rattle.reverse.specs.Setting.{AreInStates, Opens}
-use Rattle.netdesc.specs.Faults.{process_count}
-use Rattle.netdesc.specs.Plan.{Plan}
+use Rattle.netdesc.specs.Words.{process_count, Plan}
 use Rattle.traffic.specs.Offers.{offers_of}
 use Rattle.nodes.specs.declared.node.NodeRecord.{NodeRecord}
-use Rattle.nodes.specs.rules.Node.{NodeState}
-use Rattle.nodes.specs.undoing.Node.{IsNodeValue}
-use Rattle.nodes.specs.rules.Opening.{opening}
-use Rattle.nodes.specs.rules.Simulation.{simulation_of}
+use Rattle.nodes.specs.Words.{NodeState, IsNodeValue, opening, simulation_of}
 use Rattle.seqsim.specs.Networks.{setting_of}
 use Rattle.actor_world.specs.Worlds.{Holdings, StandsForWorld}
 use Rattle.timewarp.specs.Networks.{IsAfter}

@@ -1,7 +1,7 @@
 use Rattle.std.proofs.Common.{◌≡◌, ◌↔◌, ◌++◌, true, List, [], ◌∷◌, Err, OnOk, OnErr, IfOk, subst}
 use Rattle.virtual_time.specs.Law.{is_enabled}
 use Rattle.virtual_time.specs.declared.step.Step.{Step}
-use Rattle.nodes.specs.rules.Simulation.{simulation_of}
+use Rattle.nodes.specs.Words.{simulation_of}
 use Rattle.seqsim.specs.Networks.{setting_of}
 use Rattle.actor_world.specs.declared.done.Done.TheVariants.{Did}
 use Rattle.actor_world.specs.declared.fault.StepFault.TheVariants.{Exhausted}

@@ -2,7 +2,7 @@ use Rattle.std.proofs.Common.{◌∙◌, List, sym, ap, subst}
 use Rattle.vlink.specs.Letters.{Row}
 use Rattle.virtual_time.specs.Law.{Laws, IsFinished, IsWhole, rows_at}
 use Rattle.virtual_time.specs.declared.step.Step.{Step}
-use Rattle.nodes.specs.rules.Simulation.{simulation_of}
+use Rattle.nodes.specs.Words.{simulation_of}
 use Rattle.seqsim.specs.Networks.{AreRowsOf}
 use Rattle.seqsim.specs.Committed.{after, AreCommittedRows}
 use Rattle.timewarp.specs.Networks.{NetworkWorld}

@@ -2,8 +2,7 @@ use Rattle.std.proofs.Common.{◌≡◌, List, length, subst}
 use Rattle.std.specs.Prelude.{IfSome}
 use Rattle.virtual_time.specs.Law.{IsLeft, undo_all}
 use Rattle.virtual_time.specs.declared.step.Step.{Step}
-use Rattle.nodes.specs.rules.Opening.{opening}
-use Rattle.nodes.specs.rules.Simulation.{simulation_of}
+use Rattle.nodes.specs.Words.{opening, simulation_of}
 use Rattle.seqsim.specs.Committed.{after}
 use Rattle.timewarp.specs.Networks.{NetworkWorld, IsAfter}
 use Rattle.timewarp.proofs.NetworkWorlds.{undone-at, left-at, within}

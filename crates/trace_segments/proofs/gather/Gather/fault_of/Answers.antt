@@ -1,5 +1,5 @@
 use Rattle.std.proofs.Common.{◌≡◌, ◌<◌, ℕ, ◌+◌, length, sym, ap, ◌∙◌, subst, arith}
-use Rattle.trace_segments.specs.Gathering.{Gathering, segment_fault, segments_at}
+use Rattle.trace_segments.specs.Words.{Gathering, segment_fault, segments_at}
 use Rattle.trace_segments.proofs.FaultLemmas.{known-fault}
 use Rattle.trace_segments.proofs.WaitingLemmas.{segments_at-read}
 use Rattle.trace_segments.proofs.gather.Gather.fault_of.Goals as goal

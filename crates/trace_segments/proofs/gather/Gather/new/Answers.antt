@@ -1,5 +1,5 @@
 use Rattle.std.proofs.Common.{sym, subst}
-use Rattle.trace_segments.specs.Gathering.{AreFew}
+use Rattle.trace_segments.specs.Words.{AreFew}
 use Rattle.trace_segments.proofs.WaitingLemmas.{few-none}
 use Rattle.trace_segments.proofs.gather.Gather.new.Goals as goal
 

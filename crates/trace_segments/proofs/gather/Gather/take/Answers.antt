@@ -1,6 +1,5 @@
 use Rattle.std.proofs.Common.{◌≡◌, ℕ, ◌+◌, ◌<◌, None, length, sym, subst, ◌∙◌}
-use Rattle.trace_segments.specs.Gathering.{Gathering, AreFew, segments_at, segment_fault, taken_of, with_segment}
-use Rattle.trace_segments.specs.Segments.{SegmentRows}
+use Rattle.trace_segments.specs.Words.{Gathering, AreFew, segments_at, segment_fault, taken_of, with_segment, SegmentRows}
 use Rattle.trace_segments.proofs.FaultLemmas.{taken-few}
 use Rattle.trace_segments.proofs.WaitingLemmas.{few-with, few-left}
 use Rattle.trace_segments.proofs.gather.Gather.take.Goals as goal

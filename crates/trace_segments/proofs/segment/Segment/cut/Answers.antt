@@ -1,5 +1,5 @@
 use Rattle.std.proofs.Common.{◌+◌, refl}
-use Rattle.trace_segments.specs.Intervals.{cut}
+use Rattle.trace_segments.specs.Words.{cut}
 use Rattle.trace_segments.proofs.IntervalLemmas.{within-at}
 use Rattle.trace_segments.proofs.segment.Segment.cut.Goals as goal
 

@@ -3,14 +3,10 @@ use mathlib.Core.Logic.{∥∥₁_elim, ∥∥₁_map, ∥∥₁_map₂}
 use Rattle.std.proofs.Props.{props}
 use Rattle.std.specs.Prelude.{Option, Result, IfSome, IfErr}
 use Rattle.virtual_time.specs.Law.{rows_at}
-use Rattle.netdesc.specs.Faults.{process_count}
+use Rattle.netdesc.specs.Words.{process_count}
 use Rattle.trace_segments.specs.declared.segment_fault.SegmentFault.{SegmentFault}
 use Rattle.trace_segments.specs.declared.segment_fault.SegmentFault.TheVariants.{OutOfMemory}
-use Rattle.trace_segments.specs.Places.{gathered}
-use Rattle.trace_segments.specs.Gathering.{segment_fault, Gives}
-use Rattle.trace_segments.specs.Intervals.{rows_within}
-use Rattle.trace_segments.specs.Ordered.{IsInOrder}
-use Rattle.trace_segments.specs.Segments.{BatchRows}
+use Rattle.trace_segments.specs.Words.{gathered, segment_fault, Gives, rows_within, IsInOrder, BatchRows}
 use Rattle.worker_pool.proofs.GatheredRun.{none-of, own-rows, segment-gathered, given-batch}
 use Rattle.worker_pool.specs.Written.{IsPlaceFault}
 use Rattle.worker_pool.proofs.Written.{segment-told}

@@ -1,7 +1,6 @@
 use Rattle.std.proofs.Common.{◌∙◌, ap, subst}
 use Rattle.virtual_time.specs.Law.{rows_at}
-use Rattle.netdesc.specs.Plan.{Plan}
-use Rattle.netdesc.specs.Faults.{process_count}
+use Rattle.netdesc.specs.Words.{Plan, process_count}
 use Rattle.worker_pool.specs.Traces.{HasLawfulRows}
 use Rattle.worker_pool.proofs.GatheredRun.{none-gathered}
 use Rattle.worker_pool.proofs.desk.Desk.new.Goals as goal

@@ -1,6 +1,6 @@
 use Rattle.std.proofs.Common.{◌≡◌, subst}
 use Rattle.std.specs.Prelude.{Option, IfSome}
-use Rattle.trace_segments.specs.Segments.{SegmentRows}
+use Rattle.trace_segments.specs.Words.{SegmentRows}
 use Rattle.worker_pool.specs.Segments.{IsNextSegment}
 use Rattle.worker_pool.proofs.SegmentRows.{segment-by-name}
 use Rattle.worker_pool.proofs.desk.TraceLock.give_segment.Goals as goal

@@ -1,6 +1,6 @@
 use Rattle.std.proofs.Common.{sym, subst, arith}
 use Rattle.virtual_time.specs.Law.{steps, Laws}
-use Rattle.nodes.specs.rules.Simulation.{simulation_of}
+use Rattle.nodes.specs.Words.{simulation_of}
 use Rattle.seqsim.specs.Committed.{after}
 use Rattle.seqsim.proofs.CommittedRows.{rows-none}
 use Rattle.worker_pool.proofs.Ended.{AreCommittedBelow, rows-next, rows-complete}

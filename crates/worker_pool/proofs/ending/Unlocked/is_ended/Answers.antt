@@ -1,6 +1,6 @@
 use Rattle.std.proofs.Common.{◌≡◌, subst, arith}
 use Rattle.virtual_time.specs.Law.{reach}
-use Rattle.nodes.specs.rules.Simulation.{simulation_of}
+use Rattle.nodes.specs.Words.{simulation_of}
 use Rattle.exchange.specs.Views.{Ledger}
 use Rattle.worker_pool.proofs.Ended.{ended}
 use Rattle.worker_pool.proofs.ending.Unlocked.is_ended.Goals as goal

@@ -3,9 +3,9 @@ use Rattle.vlink.specs.declared.message.Message.{Message}
 use Rattle.vlink.specs.Letters.{Row}
 use Rattle.virtual_time.specs.Law.{steps, IsFinished}
 use Rattle.virtual_time.specs.declared.step.Step.{Step}
-use Rattle.netdesc.specs.Plan.{Plan}
-use Rattle.nodes.specs.rules.Simulation.{simulation_of}
-use Rattle.trace_segments.specs.Ordered.{AreInMessageOrder, rows_of_event}
+use Rattle.netdesc.specs.Words.{Plan}
+use Rattle.nodes.specs.Words.{simulation_of}
+use Rattle.trace_segments.specs.Words.{AreInMessageOrder, rows_of_event}
 use Rattle.seqsim.specs.Committed.{after, AreCommittedRows}
 use Rattle.seqsim.specs.Networks.{AreRowsOf}
 use Rattle.worker_pool.proofs.ending.Unlocked.rows.Goals as goal

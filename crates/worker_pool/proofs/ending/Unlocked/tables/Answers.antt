@@ -1,8 +1,8 @@
 use Rattle.std.proofs.Common.{◌≡◌, ◌∙◌, ℕ, ◌+◌, refl, sym, ap, subst, arith}
 use Rattle.std.specs.Prelude.{Option, IfSome}
 use Rattle.virtual_time.specs.Law.{steps, Laws}
-use Rattle.netdesc.specs.Plan.{Plan}
-use Rattle.nodes.specs.rules.Simulation.{simulation_of}
+use Rattle.netdesc.specs.Words.{Plan}
+use Rattle.nodes.specs.Words.{simulation_of}
 use Rattle.trace_tables.specs.SoFar.{SoFarLists, IsSoFar}
 use Rattle.trace_tables.specs.Tables.{tables_of}
 use Rattle.worker_pool.specs.Counts.{AreCountedBefore}

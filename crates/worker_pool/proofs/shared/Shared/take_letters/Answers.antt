@@ -1,5 +1,5 @@
 use Rattle.std.proofs.Common.{◌∙◌}
-use Rattle.nodes.specs.rules.Simulation.{simulation_of}
+use Rattle.nodes.specs.Words.{simulation_of}
 use Rattle.worker_pool.proofs.Limit.{collect-limit}
 use Rattle.worker_pool.proofs.shared.Shared.take_letters.Goals as goal
 
