@@ -42,8 +42,8 @@ fn act<A: Actor>(actors: &mut [A], message: &Message, out: &mut Outbound) -> boo
     ensures later { result ≡ true → All (λ m. message.now.time < m.time) out.new.messages }
     ensures in_limits { result ≡ true → All (λ m. m.time ≤ GREATEST_NS) out.new.messages }
     ensures unchanged { result ≡ false → actors.new ≡ actors.old }
-    ensures exhausted { result ≡ false → (s : A) → slice_get actors.old message.now.receiver ≡ Some s → greatest_number < A.counter s + 24 }
-    ensures numbers { result ≡ true → (s : A) → slice_get actors.old message.now.receiver ≡ Some s → A.counter s + 24 ≤ greatest_number }
+    ensures exhausted { result ≡ false → (s : A) → slice_get actors.old message.now.receiver ≡ Some s → greatest_number < A.plain.counter s + 24 }
+    ensures numbers { result ≡ true → (s : A) → slice_get actors.old message.now.receiver ≡ Some s → A.plain.counter s + 24 ≤ greatest_number }
 {
     let actor = &mut actors[usize::from(message.receiver)];
     if !actor.has_numbers() {
@@ -64,20 +64,20 @@ fn handle_first<A: Actor, R: Recorder>(
     out: &mut Outbound,
     moment: &mut Time,
 ) -> Result<bool, SimFault>
-    requires { (rows : List Row) × R.has_taken recorder.old rows × IsRunning (rules_of A.plain A.counter) actors.old waiting.old rows }
-    ensures handled { result ≡ Ok true → (rows : List Row) → R.has_taken recorder.old rows → AtEach (rules_of A.plain A.counter) actors.old waiting.old rows
+    requires { (rows : List Row) × R.has_taken recorder.old rows × IsRunning (rules_of A.plain) actors.old waiting.old rows }
+    ensures handled { result ≡ Ok true → (rows : List Row) → R.has_taken recorder.old rows → AtEach (rules_of A.plain) actors.old waiting.old rows
         (λ f n. (later : List Row) × R.has_taken recorder.new later × StandsAt f (suc n) actors.new waiting.new later) }
     ensures smaller { result ≡ Ok true → load GREATEST_NS waiting.new < load GREATEST_NS waiting.old }
-    ensures over { result ≡ Ok false → (rows : List Row) → R.has_taken recorder.old rows → AtEach (rules_of A.plain A.counter) actors.old waiting.old rows
+    ensures over { result ≡ Ok false → (rows : List Row) → R.has_taken recorder.old rows → AtEach (rules_of A.plain) actors.old waiting.old rows
         (λ f n. R.has_taken recorder.new rows × StandsAt f n actors.new waiting.new rows × ((one f n).waiting ≡ [])) }
     ensures purpose { OnOk result (R.purpose recorder.new ≡ R.purpose recorder.old) }
     ensures exhausted { result ≡ Err Exhausted → (rows : List Row) → R.has_taken recorder.old rows →
-        AtEach (rules_of A.plain A.counter) actors.old waiting.old rows IsExhaustedAt }
-    ensures used_up { (rows : List Row) → R.has_taken recorder.old rows → AtEach (rules_of A.plain A.counter) actors.old waiting.old rows
+        AtEach (rules_of A.plain) actors.old waiting.old rows IsExhaustedAt }
+    ensures used_up { (rows : List Row) → R.has_taken recorder.old rows → AtEach (rules_of A.plain) actors.old waiting.old rows
         (λ f n. IsExhaustedAt f n → result ≡ Err Exhausted) }
     ensures memory { result ≡ Err OutOfMemory → (rows : List Row) → R.has_taken recorder.old rows →
-        AtEach (rules_of A.plain A.counter) actors.old waiting.old rows (λ f n. IsCutOffAt f n actors.new) }
-    ensures left { OnErr result ((rows : List Row) → R.has_taken recorder.old rows → AtEach (rules_of A.plain A.counter) actors.old waiting.old rows
+        AtEach (rules_of A.plain) actors.old waiting.old rows (λ f n. IsCutOffAt f n actors.new) }
+    ensures left { OnErr result ((rows : List Row) → R.has_taken recorder.old rows → AtEach (rules_of A.plain) actors.old waiting.old rows
         (λ f n. AreOnTheWay f actors.new)) }
 {
     let Some(message) = waiting.pop() else {
@@ -107,17 +107,17 @@ pub fn handle_all<A: Actor, R: Recorder, W: Watch>(
     recorder: &mut R,
     watch: &mut W,
 ) -> Result<(), SimFault>
-    requires { (rows : List Row) × R.has_taken recorder.old rows × IsRunning (rules_of A.plain A.counter) actors.old waiting.old rows }
-    ensures whole { OnOk result ((rows : List Row) → R.has_taken recorder.old rows → AtEach (rules_of A.plain A.counter) actors.old waiting.old rows
+    requires { (rows : List Row) × R.has_taken recorder.old rows × IsRunning (rules_of A.plain) actors.old waiting.old rows }
+    ensures whole { OnOk result ((rows : List Row) → R.has_taken recorder.old rows → AtEach (rules_of A.plain) actors.old waiting.old rows
         (λ f n. (later : List Row) × R.has_taken recorder.new later × IsWholeRun f later actors.new)) }
     ensures purpose { OnOk result (R.purpose recorder.new ≡ R.purpose recorder.old) }
     ensures exhausted { result ≡ Err Exhausted → (rows : List Row) → R.has_taken recorder.old rows →
-        AtEach (rules_of A.plain A.counter) actors.old waiting.old rows (λ f n. (k : ℕ) × IsExhaustedAt f k) }
-    ensures numbers { OnOk result ((rows : List Row) → R.has_taken recorder.old rows → AtEach (rules_of A.plain A.counter) actors.old waiting.old rows
+        AtEach (rules_of A.plain) actors.old waiting.old rows (λ f n. (k : ℕ) × IsExhaustedAt f k) }
+    ensures numbers { OnOk result ((rows : List Row) → R.has_taken recorder.old rows → AtEach (rules_of A.plain) actors.old waiting.old rows
         HasNumbersFrom) }
     ensures memory { result ≡ Err OutOfMemory → (rows : List Row) → R.has_taken recorder.old rows →
-        AtEach (rules_of A.plain A.counter) actors.old waiting.old rows (λ f n. (k : ℕ) × IsCutOffAt f k actors.new) }
-    ensures left { OnErr result ((rows : List Row) → R.has_taken recorder.old rows → AtEach (rules_of A.plain A.counter) actors.old waiting.old rows
+        AtEach (rules_of A.plain) actors.old waiting.old rows (λ f n. (k : ℕ) × IsCutOffAt f k actors.new) }
+    ensures left { OnErr result ((rows : List Row) → R.has_taken recorder.old rows → AtEach (rules_of A.plain) actors.old waiting.old rows
         (λ f n. AreOnTheWay f actors.new)) }
     ensures watched { W.becomes watch.old watch.new }
 {
@@ -144,13 +144,13 @@ pub fn run_actors<A: Actor, W: Watch>(
     offers: &[Message],
     watch: &mut W,
 ) -> Result<Vec<Row>, SimFault>
-    requires { CanRun (rules_of A.plain A.counter) actors.old offers.now }
-    ensures whole { IfOk result (λ rows. OfEach (rules_of A.plain A.counter) actors.old offers.now (λ f. IsWholeRun f rows.items actors.new)) }
-    ensures exhausted { result ≡ Err Exhausted → OfEach (rules_of A.plain A.counter) actors.old offers.now (λ f. (n : ℕ) × IsExhaustedAt f n) }
-    ensures numbers { OnOk result (OfEach (rules_of A.plain A.counter) actors.old offers.now (λ f. HasNumbersFrom f 0)) }
-    ensures memory { result ≡ Err OutOfMemory → OfEach (rules_of A.plain A.counter) actors.old offers.now
+    requires { CanRun (rules_of A.plain) actors.old offers.now }
+    ensures whole { IfOk result (λ rows. OfEach (rules_of A.plain) actors.old offers.now (λ f. IsWholeRun f rows.items actors.new)) }
+    ensures exhausted { result ≡ Err Exhausted → OfEach (rules_of A.plain) actors.old offers.now (λ f. (n : ℕ) × IsExhaustedAt f n) }
+    ensures numbers { OnOk result (OfEach (rules_of A.plain) actors.old offers.now (λ f. HasNumbersFrom f 0)) }
+    ensures memory { result ≡ Err OutOfMemory → OfEach (rules_of A.plain) actors.old offers.now
         (λ f. (actors.new ≡ actors.old) ⊎ ((n : ℕ) × IsCutOffAt f n actors.new)) }
-    ensures left { OnErr result (OfEach (rules_of A.plain A.counter) actors.old offers.now (λ f. AreOnTheWay f actors.new)) }
+    ensures left { OnErr result (OfEach (rules_of A.plain) actors.old offers.now (λ f. AreOnTheWay f actors.new)) }
     ensures watched { W.becomes watch.old watch.new }
 {
     let mut waiting = Waiting::with_offers(alloc, offers, actors.len())?;

@@ -23,16 +23,16 @@ impl<R: Actor> ActorWorld<R> {
     /// that has a next message, and not enough numbers left for what one event can send.
     #[tactic(auto, using(crate::proofs::Answering::answers))]
     pub fn step(&mut self, step: Step) -> Result<Done, StepFault>
-        requires { IsAWorld (rules_of R.plain R.counter) R.number R.end R.is_placed R.is_value self.old }
-        ensures stands { OnOk result (AtEachWorld (rules_of R.plain R.counter) R.number R.end R.is_placed R.is_value self.old
+        requires { IsAWorld (rules_of R.plain) R.number R.end R.is_placed R.is_value self.old }
+        ensures stands { OnOk result (AtEachWorld (rules_of R.plain) R.number R.end R.is_placed R.is_value self.old
             (λ f w. StandsForWorld f R.is_value (stepped f step w) self.new)) }
-        ensures enabled { IfOk result (λ done. AtEachWorld (rules_of R.plain R.counter) R.number R.end R.is_placed R.is_value self.old
+        ensures enabled { IfOk result (λ done. AtEachWorld (rules_of R.plain) R.number R.end R.is_placed R.is_value self.old
             (λ f w. (done ≡ Did) ↔ (is_enabled f step w ≡ true))) }
         ensures unchanged { result ≢ Ok Did → HoldsTheSame self.old self.new }
         ensures no_process { (result ≡ Err NoProcess) ↔ (names_none (length self.old.processes) step ≡ true) }
-        ensures exhausted { AtEachWorld (rules_of R.plain R.counter) R.number R.end R.is_placed R.is_value self.old
+        ensures exhausted { AtEachWorld (rules_of R.plain) R.number R.end R.is_placed R.is_value self.old
             (λ f w. (result ≡ Err Exhausted) ↔ IsExhausted f step w) }
-        ensures memory { result ≡ Err OutOfMemory → AtEachWorld (rules_of R.plain R.counter) R.number R.end R.is_placed R.is_value self.old
+        ensures memory { result ≡ Err OutOfMemory → AtEachWorld (rules_of R.plain) R.number R.end R.is_placed R.is_value self.old
             (λ f w. is_enabled f step w ≡ true) }
         ensures gvt { step ≡ Gvt → result ≡ Ok Did }
     {
@@ -51,7 +51,7 @@ impl<R: Actor> ActorWorld<R> {
 
     /// Whether the step names a process, and there is none of that number.
     fn names_none(&self, step: &Step) -> bool
-        requires { IsAWorld (rules_of R.plain R.counter) R.number R.end R.is_placed R.is_value self.now }
+        requires { IsAWorld (rules_of R.plain) R.number R.end R.is_placed R.is_value self.now }
         ensures answer { result ≡ names_none (length self.now.processes) step.now }
         ensures few { length self.now.processes < 65536 }
     {
@@ -69,9 +69,9 @@ impl<R: Actor> ActorWorld<R> {
     /// The letter number `place`, from 0, of the process's mail goes to the back of its tray, and its floor falls to the letter's time
     /// if that is lower.
     fn take(&mut self, process: u16, place: u32) -> Result<Done, StepFault>
-        requires world { IsAWorld (rules_of R.plain R.counter) R.number R.end R.is_placed R.is_value self.old }
+        requires world { IsAWorld (rules_of R.plain) R.number R.end R.is_placed R.is_value self.old }
         requires there { process < length self.old.processes }
-        ensures { IsStepped (rules_of R.plain R.counter) R.number R.end R.is_placed R.is_value (Take process place) self.old self.new result }
+        ensures { IsStepped (rules_of R.plain) R.number R.end R.is_placed R.is_value (Take process place) self.old self.new result }
     {
         let Some(letter) = self.mail.look(process, place as usize) else {
             return Ok(Done::NotEnabled);
@@ -85,9 +85,9 @@ impl<R: Actor> ActorWorld<R> {
 
     /// The front letter of the process's tray is tallied, with a rollback where its message becomes present or absent.
     fn arrive(&mut self, process: u16) -> Result<Done, StepFault>
-        requires world { IsAWorld (rules_of R.plain R.counter) R.number R.end R.is_placed R.is_value self.old }
+        requires world { IsAWorld (rules_of R.plain) R.number R.end R.is_placed R.is_value self.old }
         requires there { process < length self.old.processes }
-        ensures { IsStepped (rules_of R.plain R.counter) R.number R.end R.is_placed R.is_value (Arrive process) self.old self.new result }
+        ensures { IsStepped (rules_of R.plain) R.number R.end R.is_placed R.is_value (Arrive process) self.old self.new result }
     {
         let process = &mut self.processes[usize::from(process)];
         if process.tray_len() == 0 {
@@ -99,9 +99,9 @@ impl<R: Actor> ActorWorld<R> {
 
     /// The first unhandled message of the process is handled.
     fn run(&mut self, process: u16) -> Result<Done, StepFault>
-        requires world { IsAWorld (rules_of R.plain R.counter) R.number R.end R.is_placed R.is_value self.old }
+        requires world { IsAWorld (rules_of R.plain) R.number R.end R.is_placed R.is_value self.old }
         requires there { process < length self.old.processes }
-        ensures { IsStepped (rules_of R.plain R.counter) R.number R.end R.is_placed R.is_value (Run process) self.old self.new result }
+        ensures { IsStepped (rules_of R.plain) R.number R.end R.is_placed R.is_value (Run process) self.old self.new result }
     {
         actor_rules::<R>();
         let Some(_message) = self.processes[usize::from(process)].run_with(&mut self.out)? else {
@@ -112,9 +112,9 @@ impl<R: Actor> ActorWorld<R> {
 
     /// The process's outbox goes to the mail, and its floor is what it still has in hand.
     fn post(&mut self, process: u16) -> Result<Done, StepFault>
-        requires world { IsAWorld (rules_of R.plain R.counter) R.number R.end R.is_placed R.is_value self.old }
+        requires world { IsAWorld (rules_of R.plain) R.number R.end R.is_placed R.is_value self.old }
         requires there { process < length self.old.processes }
-        ensures { IsStepped (rules_of R.plain R.counter) R.number R.end R.is_placed R.is_value (Post process) self.old self.new result }
+        ensures { IsStepped (rules_of R.plain) R.number R.end R.is_placed R.is_value (Post process) self.old self.new result }
     {
         actor_laws::<R>();
         self.processes[usize::from(process)].post(&mut self.mail)?;
@@ -125,8 +125,8 @@ impl<R: Actor> ActorWorld<R> {
 
     /// GVT is the least of all floors and of the times of all letters in the mail. It takes no memory.
     fn set_gvt(&mut self) -> Done
-        requires world { IsAWorld (rules_of R.plain R.counter) R.number R.end R.is_placed R.is_value self.old }
-        ensures stepped { IsStepped (rules_of R.plain R.counter) R.number R.end R.is_placed R.is_value Gvt self.old self.new (Ok result) }
+        requires world { IsAWorld (rules_of R.plain) R.number R.end R.is_placed R.is_value self.old }
+        ensures stepped { IsStepped (rules_of R.plain) R.number R.end R.is_placed R.is_value Gvt self.old self.new (Ok result) }
         ensures did { result ≡ Did }
     {
         gvt_law::<R, R::Record, Note>();
@@ -136,9 +136,9 @@ impl<R: Actor> ActorWorld<R> {
 
     /// The process's oldest done event is committed, if it is earlier than GVT and its signed count is 1.
     fn commit(&mut self, process: u16) -> Result<Done, StepFault>
-        requires world { IsAWorld (rules_of R.plain R.counter) R.number R.end R.is_placed R.is_value self.old }
+        requires world { IsAWorld (rules_of R.plain) R.number R.end R.is_placed R.is_value self.old }
         requires there { process < length self.old.processes }
-        ensures { IsStepped (rules_of R.plain R.counter) R.number R.end R.is_placed R.is_value (Commit process) self.old self.new result }
+        ensures { IsStepped (rules_of R.plain) R.number R.end R.is_placed R.is_value (Commit process) self.old self.new result }
     {
         let process = &mut self.processes[usize::from(process)];
         if !is_early(process.oldest(), self.gvt) {

@@ -57,9 +57,9 @@ impl<R: Actor + Drop> ActorWorld<R> {
     ) -> Result<Self, StepFault>
         requires few { length actors.items < 65536 }
         requires end { until < GREATEST_NS }
-        requires layout { CanOpen (rules_of R.plain R.counter) R.number R.end R.is_placed R.is_value actors.items offers.now until }
+        requires layout { CanOpen (rules_of R.plain) R.number R.end R.is_placed R.is_value actors.items offers.now until }
         ensures opens { IfOk result (λ world. (x : Setting R) → Opens x actors.items offers.now → x.until ≡ until →
-            StandsForWorld (simulation_of (rules_of R.plain R.counter) x) R.is_value (start (simulation_of (rules_of R.plain R.counter) x)) world) }
+            StandsForWorld (simulation_of (rules_of R.plain) x) R.is_value (start (simulation_of (rules_of R.plain) x)) world) }
         ensures memory { IfErr result (λ fault. fault ≡ OutOfMemory) }
     {
         actor_rules::<R>();
@@ -94,7 +94,7 @@ impl<R: Actor + Drop> ActorWorld<R> {
     /// The letter number `place`, from 0, of the mail of process `process`: the one that the step Take would take. None where there is
     /// none, or no such process.
     pub fn look(&self, process: u32, place: u32) -> Option<Letter>
-        requires { IsAWorld (rules_of R.plain R.counter) R.number R.end R.is_placed R.is_value self.now }
+        requires { IsAWorld (rules_of R.plain) R.number R.end R.is_placed R.is_value self.now }
         ensures { result ≡ slice_get (letters_for process self.now.mail) place }
     {
         if process >= u32::from(self.floors.processes()) {
@@ -105,7 +105,7 @@ impl<R: Actor + Drop> ActorWorld<R> {
 
     /// Whether every done event of every process is committed.
     pub fn all_committed(&self) -> bool
-        ensures { AtEachWorld (rules_of R.plain R.counter) R.number R.end R.is_placed R.is_value self.now
+        ensures { AtEachWorld (rules_of R.plain) R.number R.end R.is_placed R.is_value self.now
             (λ f w. IsTrue result ↔ ((p : ℕ) → p < f.processes → (w.parts p).done ≡ [])) }
     {
         for process in &self.processes {
@@ -119,7 +119,7 @@ impl<R: Actor + Drop> ActorWorld<R> {
     /// How many events of process `process` are committed.
     pub fn committed(&self, process: u32) -> u64
         requires { process < length self.now.processes }
-        ensures { AtEachWorld (rules_of R.plain R.counter) R.number R.end R.is_placed R.is_value self.now (λ f w. result ≡ length (w.parts process).committed) }
+        ensures { AtEachWorld (rules_of R.plain) R.number R.end R.is_placed R.is_value self.now (λ f w. result ≡ length (w.parts process).committed) }
     {
         self.processes[process as usize].committed()
     }
@@ -127,7 +127,7 @@ impl<R: Actor + Drop> ActorWorld<R> {
     /// The rows of the committed events of process `process`, in their order.
     pub fn sealed(&self, process: u32) -> &[Row]
         requires { process < length self.now.processes }
-        ensures { AtEachWorld (rules_of R.plain R.counter) R.number R.end R.is_placed R.is_value self.now
+        ensures { AtEachWorld (rules_of R.plain) R.number R.end R.is_placed R.is_value self.now
             (λ f w. result.now ≡ rowed f.rules (f.opening process) (w.parts process).committed) }
     {
         self.processes[process as usize].sealed()
@@ -137,9 +137,9 @@ impl<R: Actor + Drop> ActorWorld<R> {
     /// no such process. Nothing is sent.
     pub fn undo_all(self, process: u32) -> Option<R>
         ensures none { IsNone result ↔ (length self.processes ≤ process) }
-        ensures undone { IfSome result (λ actor. AtEachWorld (rules_of R.plain R.counter) R.number R.end R.is_placed R.is_value self
+        ensures undone { IfSome result (λ actor. AtEachWorld (rules_of R.plain) R.number R.end R.is_placed R.is_value self
             (λ f w. actor ≡ undo_all f.rules (f.opening process) (w.parts process))) }
-        ensures reached { IfSome result (λ actor. AtEachWorld (rules_of R.plain R.counter) R.number R.end R.is_placed R.is_value self
+        ensures reached { IfSome result (λ actor. AtEachWorld (rules_of R.plain) R.number R.end R.is_placed R.is_value self
             (λ f w. actor ≡ reached f.rules (f.opening process) (w.parts process).committed)) }
     {
         let ActorWorld { mut processes, .. } = self;
@@ -155,7 +155,7 @@ fn processes_of<R: Actor + Drop>(
     alloc: Global,
     actors: Vec<R>,
 ) -> Result<Vec<Process<R>>, StepFault>
-    ensures processes { IfOk result (λ processes. AreOpened (rules_of R.plain R.counter) R.is_value actors.items (map (λ process. process.queues) processes.items)) }
+    ensures processes { IfOk result (λ processes. AreOpened (rules_of R.plain) R.is_value actors.items (map (λ process. process.queues) processes.items)) }
     ensures memory { IfErr result (λ fault. fault ≡ OutOfMemory) }
 {
     let mut processes = Vec::new(alloc);

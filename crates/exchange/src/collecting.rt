@@ -32,12 +32,12 @@ pub fn collect<'a, R: Actor, J: ActorRun<R>>(
     most: u32,
 ) -> Result<u32, PoolFault>
     requires posted { held.old.block ≡ [] }
-    ensures ok { IfOk result (λ count. Collects (simulation_of (rules_of R.plain R.counter) J.setting) most exchange.old held.old exchange.new held.new count) }
+    ensures ok { IfOk result (λ count. Collects (simulation_of (rules_of R.plain) J.setting) most exchange.old held.old exchange.new held.new count) }
     ensures unchanged { OnErr result ((exchange.new ≡ exchange.old) × (held.new ≡ held.old)) }
     ensures full { result ≡ Err JournalFull → exchange.old.limit < length (steps exchange.old.entries)
-        + min most (length ((reach (simulation_of (rules_of R.plain R.counter) J.setting) exchange.old.entries).mail held.old.number)) }
+        + min most (length ((reach (simulation_of (rules_of R.plain) J.setting) exchange.old.entries).mail held.old.number)) }
     ensures limited { exchange.old.limit < length (steps exchange.old.entries)
-        + min most (length ((reach (simulation_of (rules_of R.plain R.counter) J.setting) exchange.old.entries).mail held.old.number)) → result ≡ Err JournalFull }
+        + min most (length ((reach (simulation_of (rules_of R.plain) J.setting) exchange.old.entries).mail held.old.number)) → result ≡ Err JournalFull }
     ensures faults { IfErr result (λ fault. (fault ≡ OutOfMemory) ⊎ ((fault ≡ JournalFull) ⊎ (fault ≡ Torn))) }
 {
     actor_laws::<R>();
@@ -82,11 +82,11 @@ fn see<'a, R: Actor, J: ActorRun<R>>(held: &mut Held<'a, R, J>, exchange: &mut E
     ensures exchange { exchange.new ≡ record {
       entries = exchange.old.entries;
       books = set exchange.old.books held.old.number (mark held.old.share.place
-          (reach (simulation_of (rules_of R.plain R.counter) J.setting) exchange.old.entries).gvt);
+          (reach (simulation_of (rules_of R.plain) J.setting) exchange.old.entries).gvt);
       limit = exchange.old.limit;
     } }
     ensures held { held.new ≡ record held.old {
-      share = mark held.old.share.place (reach (simulation_of (rules_of R.plain R.counter) J.setting) exchange.old.entries).gvt;
+      share = mark held.old.share.place (reach (simulation_of (rules_of R.plain) J.setting) exchange.old.entries).gvt;
     } }
 {
     actor_laws::<R>();

@@ -43,7 +43,7 @@ impl<'a, R: Actor, J: ActorRun<R>> Model for Exchange<'a, R, J> {
     ghost view = { λ x. record { entries = entries_of x.journal.items; books = map (λ b. b.value) x.books.items; limit = x.limit } };
 
     ghost invariant = { λ x. (x.steps ≤ x.limit) × (x.limit ≤ 67108864) ×
-        IsRecorded (rules_of R.plain R.counter) R.number R.end R.is_placed J.setting J.pages (names x.table.now.pages.items)
+        IsRecorded (rules_of R.plain) R.number R.end R.is_placed J.setting J.pages (names x.table.now.pages.items)
         x.journal.items x.mail x.floors x.gvt x.steps (map (λ b. b.value) x.books.items) ×
         (map (λ b. b.name) x.books.items ≡ J.names) };
 }
@@ -58,7 +58,7 @@ impl<'a, R: Actor, J: ActorRun<R>> Exchange<'a, R, J> {
 
     /// GVT, in ns.
     pub fn gvt(&self) -> Time
-        ensures { result ≡ (reach (simulation_of (rules_of R.plain R.counter) J.setting) self.now.entries).gvt }
+        ensures { result ≡ (reach (simulation_of (rules_of R.plain) J.setting) self.now.entries).gvt }
     {
         self.gvt
     }
@@ -66,7 +66,7 @@ impl<'a, R: Actor, J: ActorRun<R>> Exchange<'a, R, J> {
     /// The letter number `place`, from 0, of the mail of process `process`. None where there is none, or no such process.
     pub fn look(&self, process: u16, place: usize) -> Option<Letter>
         ensures letter { process < J.setting.processes → result
-            ≡ slice_get ((reach (simulation_of (rules_of R.plain R.counter) J.setting) self.now.entries).mail process) place }
+            ≡ slice_get ((reach (simulation_of (rules_of R.plain) J.setting) self.now.entries).mail process) place }
     {
         self.mail.look(process, place)
     }

@@ -17,11 +17,11 @@ impl<'a, R: Actor, J: ActorRun<R>> Exchange<'a, R, J> {
     pub fn fits(&self, held: &Held<'a, R, J>) -> bool
         ensures yes { result ≡ true }
         ensures same { held.now.share ≡ book_of self.now.books held.now.number }
-        ensures part { held.now.part ≡ after_moves (rules_of R.plain R.counter) (J.setting.opening held.now.number) held.now.block
-            ((reach (simulation_of (rules_of R.plain R.counter) J.setting) self.now.entries).parts held.now.number) }
-        ensures enabled { AreEnabled (simulation_of (rules_of R.plain R.counter) J.setting) (J.setting.opening held.now.number)
-            (reach (simulation_of (rules_of R.plain R.counter) J.setting) self.now.entries).gvt held.now.block
-            ((reach (simulation_of (rules_of R.plain R.counter) J.setting) self.now.entries).parts held.now.number) }
+        ensures part { held.now.part ≡ after_moves (rules_of R.plain) (J.setting.opening held.now.number) held.now.block
+            ((reach (simulation_of (rules_of R.plain) J.setting) self.now.entries).parts held.now.number) }
+        ensures enabled { AreEnabled (simulation_of (rules_of R.plain) J.setting) (J.setting.opening held.now.number)
+            (reach (simulation_of (rules_of R.plain) J.setting) self.now.entries).gvt held.now.block
+            ((reach (simulation_of (rules_of R.plain) J.setting) self.now.entries).parts held.now.number) }
         ensures own { held.now.own ≡ own_in held.now.number self.now.entries }
     {
         self.join(held);
@@ -31,11 +31,11 @@ impl<'a, R: Actor, J: ActorRun<R>> Exchange<'a, R, J> {
     /// Share and book are equal, so that both speak of one entry. A call does nothing: its caller learns what the clauses say.
     pub(crate) fn join(&self, held: &Held<'a, R, J>)
         ensures same { held.now.share ≡ book_of self.now.books held.now.number }
-        ensures part { held.now.part ≡ after_moves (rules_of R.plain R.counter) (J.setting.opening held.now.number) held.now.block
-            ((reach (simulation_of (rules_of R.plain R.counter) J.setting) self.now.entries).parts held.now.number) }
-        ensures enabled { AreEnabled (simulation_of (rules_of R.plain R.counter) J.setting) (J.setting.opening held.now.number)
-            (reach (simulation_of (rules_of R.plain R.counter) J.setting) self.now.entries).gvt held.now.block
-            ((reach (simulation_of (rules_of R.plain R.counter) J.setting) self.now.entries).parts held.now.number) }
+        ensures part { held.now.part ≡ after_moves (rules_of R.plain) (J.setting.opening held.now.number) held.now.block
+            ((reach (simulation_of (rules_of R.plain) J.setting) self.now.entries).parts held.now.number) }
+        ensures enabled { AreEnabled (simulation_of (rules_of R.plain) J.setting) (J.setting.opening held.now.number)
+            (reach (simulation_of (rules_of R.plain) J.setting) self.now.entries).gvt held.now.block
+            ((reach (simulation_of (rules_of R.plain) J.setting) self.now.entries).parts held.now.number) }
         ensures own { held.now.own ≡ own_in held.now.number self.now.entries }
     {
         let _limit = self.limit;

@@ -51,15 +51,15 @@ impl<'a, R: Actor, J: ActorRun<R>> Model for Held<'a, R, J> {
 
     ghost view = { λ h. record {
       number = h.number;
-      part = after_moves (rules_of R.plain R.counter) (J.setting.opening h.number) h.block
-          (after_own (simulation_of (rules_of R.plain R.counter) J.setting) h.number (own_of h.last));
+      part = after_moves (rules_of R.plain) (J.setting.opening h.number) h.block
+          (after_own (simulation_of (rules_of R.plain) J.setting) h.number (own_of h.last));
       block = h.block;
       own = own_of h.last;
       share = record { place = place_in h.last; seen = h.seen };
       gone = h.gone;
     } };
 
-    ghost invariant = { λ h. Holds (rules_of R.plain R.counter) R.number R.end R.is_placed J.setting R.is_value J.pages (names h.table.now.pages.items)
+    ghost invariant = { λ h. Holds (rules_of R.plain) R.number R.end R.is_placed J.setting R.is_value J.pages (names h.table.now.pages.items)
         h.number h.seen h.gone h.block h.last h.process.queues × Tells J.names h.number h.share (record { place = place_in h.last; seen = h.seen }) };
 }
 
@@ -102,7 +102,7 @@ impl<'a, R: Actor, J: ActorRun<R>> Held<'a, R, J> {
 
     /// The rows of its committed events, in their order, where none has left.
     pub fn sealed(&self) -> &[Row]
-        ensures { self.now.gone ≡ 0 → result.now ≡ rowed (rules_of R.plain R.counter) (J.setting.opening self.now.number) self.now.part.committed }
+        ensures { self.now.gone ≡ 0 → result.now ≡ rowed (rules_of R.plain) (J.setting.opening self.now.number) self.now.part.committed }
     {
         self.process.sealed()
     }

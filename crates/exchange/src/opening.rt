@@ -37,7 +37,7 @@ impl<'a, R: Actor + Drop, J: ActorRun<R>> Exchange<'a, R, J> {
         requires opens { Opens J.setting actors.items offers.now }
         requires until { until ≡ J.setting.until }
         requires end { until < GREATEST_NS }
-        requires layout { IsLaidOut (rules_of R.plain R.counter) R.number R.end R.is_placed J.setting }
+        requires layout { IsLaidOut (rules_of R.plain) R.number R.end R.is_placed J.setting }
         requires table { names table.now.pages.items ≡ J.pages }
         requires names { pairs ≡ J.names }
         requires each { length J.names ≡ J.setting.processes }
@@ -81,7 +81,7 @@ fn helds_of<'a, R: Actor + Drop, J: ActorRun<R>>(
 ) -> Result<Vec<Held<'a, R, J>>, PoolFault>
     requires count { length actors.items ≡ J.setting.processes }
     requires each { (p : ℕ) → p < J.setting.processes → slice_get actors.items p ≡ Some (J.setting.opening p) }
-    requires layout { IsLaidOut (rules_of R.plain R.counter) R.number R.end R.is_placed J.setting }
+    requires layout { IsLaidOut (rules_of R.plain) R.number R.end R.is_placed J.setting }
     requires table { names table.now.pages.items ≡ J.pages }
     requires names { map (λ s. s.name) shares.items ≡ J.names }
     requires each_name { length J.names ≡ J.setting.processes }
@@ -115,7 +115,7 @@ impl<'a, R: Actor, J: ActorRun<R>> Held<'a, R, J> {
         requires actor { actor ≡ J.setting.opening number }
         requires name { share.name ≡ slice_index J.names number }
         requires blank { share.value ≡ blank }
-        requires layout { IsLaidOut (rules_of R.plain R.counter) R.number R.end R.is_placed J.setting }
+        requires layout { IsLaidOut (rules_of R.plain) R.number R.end R.is_placed J.setting }
         requires table { names table.now.pages.items ≡ J.pages }
         ensures opened { IfOk result (λ held. held ≡ opened_share J.setting.opening number) }
         ensures memory { IfErr result (λ fault. fault ≡ OutOfMemory) }

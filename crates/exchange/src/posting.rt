@@ -25,7 +25,7 @@ pub fn post<'a, R: Actor, J: ActorRun<R>>(
     held: &mut Held<'a, R, J>,
     exchange: &mut Exchange<'a, R, J>,
 ) -> Result<(), PoolFault>
-    ensures ok { OnOk result (Posts (simulation_of (rules_of R.plain R.counter) J.setting) exchange.old held.old exchange.new held.new) }
+    ensures ok { OnOk result (Posts (simulation_of (rules_of R.plain) J.setting) exchange.old held.old exchange.new held.new) }
     ensures unchanged { OnErr result ((exchange.new ≡ exchange.old) × (held.new ≡ held.old)) }
     ensures full { result ≡ Err JournalFull →
         (0 < length held.old.block) × (exchange.old.limit < length (steps exchange.old.entries) + length held.old.block + 1) }

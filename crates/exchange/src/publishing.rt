@@ -21,10 +21,10 @@ use vlink::{Note, Time};
 pub fn publish<'a, R: Actor, J: ActorRun<R>>(
     exchange: &mut Exchange<'a, R, J>,
 ) -> Result<Time, PoolFault>
-    ensures ok { IfOk result (λ gvt. Publishes (simulation_of (rules_of R.plain R.counter) J.setting) exchange.old exchange.new gvt) }
+    ensures ok { IfOk result (λ gvt. Publishes (simulation_of (rules_of R.plain) J.setting) exchange.old exchange.new gvt) }
     ensures unchanged { OnErr result (exchange.new ≡ exchange.old) }
-    ensures full { result ≡ Err JournalFull → IsHeldBack (simulation_of (rules_of R.plain R.counter) J.setting) exchange.old × (exchange.old.limit ≤ length (steps exchange.old.entries)) }
-    ensures limited { IsHeldBack (simulation_of (rules_of R.plain R.counter) J.setting) exchange.old → exchange.old.limit ≤ length (steps exchange.old.entries) → result ≡ Err JournalFull }
+    ensures full { result ≡ Err JournalFull → IsHeldBack (simulation_of (rules_of R.plain) J.setting) exchange.old × (exchange.old.limit ≤ length (steps exchange.old.entries)) }
+    ensures limited { IsHeldBack (simulation_of (rules_of R.plain) J.setting) exchange.old → exchange.old.limit ≤ length (steps exchange.old.entries) → result ≡ Err JournalFull }
     ensures faults { IfErr result (λ fault. (fault ≡ OutOfMemory) ⊎ ((fault ≡ JournalFull) ⊎ (fault ≡ Torn))) }
 {
     actor_laws::<R>();

@@ -30,11 +30,11 @@ impl<'a, R: Actor, J: ActorRun<R>> Held<'a, R, J> {
     pub fn rows_between(&self, from: Time, to: Time) -> &[Row]
         requires { self.now.gone ≤ from }
         ensures rows { result.now
-            ≡ rows_within (rules_of R.plain R.counter) from to (rowed (rules_of R.plain R.counter) (J.setting.opening self.now.number) self.now.part.committed) }
+            ≡ rows_within (rules_of R.plain) from to (rowed (rules_of R.plain) (J.setting.opening self.now.number) self.now.part.committed) }
         ensures whole { to ≤ self.now.share.seen → earlier message_order to self.now.part.done ≡ [] →
-            (event_count : ℕ) → (one (simulation_of (rules_of R.plain R.counter) J.setting) event_count).waiting ≡ [] → result.now
-            ≡ rows_within (rules_of R.plain R.counter) from to (rows_at self.now.number
-            (one (simulation_of (rules_of R.plain R.counter) J.setting) event_count).rows) }
+            (event_count : ℕ) → (one (simulation_of (rules_of R.plain) J.setting) event_count).waiting ≡ [] → result.now
+            ≡ rows_within (rules_of R.plain) from to (rows_at self.now.number
+            (one (simulation_of (rules_of R.plain) J.setting) event_count).rows) }
     {
         actor_laws::<R>();
         rows_between(&self.process, from, to)

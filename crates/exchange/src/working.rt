@@ -32,10 +32,10 @@ pub fn work<'a, R: Actor, J: ActorRun<R>, G: Gate>(
     window: u64,
     gate: &G,
 ) -> Result<u64, PoolFault>
-    ensures ok { IfOk result (λ count. Works (simulation_of (rules_of R.plain R.counter) J.setting) turn window held.old held.new count) }
-    ensures some { IfErr result (λ fault. WorksSome (simulation_of (rules_of R.plain R.counter) J.setting) turn window held.old held.new fault) }
+    ensures ok { IfOk result (λ count. Works (simulation_of (rules_of R.plain) J.setting) turn window held.old held.new count) }
+    ensures some { IfErr result (λ fault. WorksSome (simulation_of (rules_of R.plain) J.setting) turn window held.old held.new fault) }
     ensures exhausted { result ≡ Err Exhausted → IsSome (next_of message_order held.new.part)
-        × (greatest_number < R.counter held.new.part.state + 24) }
+        × (greatest_number < R.plain.counter held.new.part.state + 24) }
     ensures faults { IfErr result (λ fault. (fault ≡ OutOfMemory) ⊎ (fault ≡ Exhausted)) }
 {
     let before = held.pending();
@@ -48,8 +48,8 @@ pub fn work<'a, R: Actor, J: ActorRun<R>, G: Gate>(
 impl<'a, R: Actor, J: ActorRun<R>> Held<'a, R, J> {
     /// All letters of the tray arrive.
     fn arrive_all(&mut self) -> Result<(), PoolFault>
-        ensures arrived { OnOk result (self.new ≡ moved_by (simulation_of (rules_of R.plain R.counter) J.setting) (replicate (length self.old.part.tray) Arrived) self.old) }
-        ensures some { IfErr result (λ fault. StopsAtArrival (simulation_of (rules_of R.plain R.counter) J.setting) self.old self.new fault) }
+        ensures arrived { OnOk result (self.new ≡ moved_by (simulation_of (rules_of R.plain) J.setting) (replicate (length self.old.part.tray) Arrived) self.old) }
+        ensures some { IfErr result (λ fault. StopsAtArrival (simulation_of (rules_of R.plain) J.setting) self.old self.new fault) }
     {
         let letters = self.tray_len();
         for arrived in 0..letters {
@@ -68,7 +68,7 @@ impl<'a, R: Actor, J: ActorRun<R>> Held<'a, R, J> {
     /// The front letter of the tray, which there is, arrives.
     fn arrive(&mut self) -> Result<(), PoolFault>
         requires { 0 < length self.old.part.tray }
-        ensures arrived { OnOk result (self.new ≡ moved_by (simulation_of (rules_of R.plain R.counter) J.setting) (Arrived ∷ []) self.old) }
+        ensures arrived { OnOk result (self.new ≡ moved_by (simulation_of (rules_of R.plain) J.setting) (Arrived ∷ []) self.old) }
         ensures tray { OnOk result (length self.new.part.tray + 1 ≡ length self.old.part.tray) }
         ensures unchanged { OnErr result (self.new ≡ self.old) }
         ensures memory { IfErr result (λ fault. fault ≡ OutOfMemory) }
@@ -86,8 +86,8 @@ impl<'a, R: Actor, J: ActorRun<R>> Held<'a, R, J> {
 
     /// Messages that are earlier than the GVT seen and `window`, in ns, are handled, `turn` at most, as long as there are any.
     fn run_early<G: Gate>(&mut self, turn: u32, window: u64, gate: &G) -> Result<(), PoolFault>
-        ensures ran { OnOk result (Runs (simulation_of (rules_of R.plain R.counter) J.setting) turn (self.old.share.seen + window) self.old self.new) }
-        ensures some { IfErr result (λ fault. StopsAtRun (simulation_of (rules_of R.plain R.counter) J.setting) turn (self.old.share.seen + window) self.old self.new fault) }
+        ensures ran { OnOk result (Runs (simulation_of (rules_of R.plain) J.setting) turn (self.old.share.seen + window) self.old self.new) }
+        ensures some { IfErr result (λ fault. StopsAtRun (simulation_of (rules_of R.plain) J.setting) turn (self.old.share.seen + window) self.old self.new fault) }
         ensures faults { IfErr result (λ fault. (fault ≡ OutOfMemory) ⊎ (fault ≡ Exhausted)) }
     {
         for run in 0..turn {
@@ -100,13 +100,13 @@ impl<'a, R: Actor, J: ActorRun<R>> Held<'a, R, J> {
 
     /// The next message is handled, if there is one that is earlier than the GVT seen and `window`, in ns. The answer is whether there was.
     fn run_next<G: Gate>(&mut self, window: u64, gate: &G) -> Result<bool, PoolFault>
-        ensures ran { IfOk result (λ ran. ran ≡ true → self.new ≡ moved_by (simulation_of (rules_of R.plain R.counter) J.setting) (Ran ∷ []) self.old) }
-        ensures early { IfOk result (λ ran. ran ≡ true → IsDueBefore (simulation_of (rules_of R.plain R.counter) J.setting) (self.old.share.seen + window) self.old.part) }
-        ensures idle { IfOk result (λ ran. ran ≡ false → IsIdleBefore (simulation_of (rules_of R.plain R.counter) J.setting) (self.old.share.seen + window) self.old.part) }
+        ensures ran { IfOk result (λ ran. ran ≡ true → self.new ≡ moved_by (simulation_of (rules_of R.plain) J.setting) (Ran ∷ []) self.old) }
+        ensures early { IfOk result (λ ran. ran ≡ true → IsDueBefore (simulation_of (rules_of R.plain) J.setting) (self.old.share.seen + window) self.old.part) }
+        ensures idle { IfOk result (λ ran. ran ≡ false → IsIdleBefore (simulation_of (rules_of R.plain) J.setting) (self.old.share.seen + window) self.old.part) }
         ensures stays { IfOk result (λ ran. ran ≡ false → self.new ≡ self.old) }
         ensures unchanged { OnErr result (self.new ≡ self.old) }
-        ensures due { OnErr result (IsDueBefore (simulation_of (rules_of R.plain R.counter) J.setting) (self.old.share.seen + window) self.old.part) }
-        ensures numbers { IfErr result (λ fault. (fault ≡ Exhausted) ↔ WantsNumbers (simulation_of (rules_of R.plain R.counter) J.setting) self.old.part) }
+        ensures due { OnErr result (IsDueBefore (simulation_of (rules_of R.plain) J.setting) (self.old.share.seen + window) self.old.part) }
+        ensures numbers { IfErr result (λ fault. (fault ≡ Exhausted) ↔ WantsNumbers (simulation_of (rules_of R.plain) J.setting) self.old.part) }
         ensures faults { IfErr result (λ fault. (fault ≡ OutOfMemory) ⊎ (fault ≡ Exhausted)) }
     {
         actor_laws::<R>();
@@ -136,9 +136,9 @@ impl<'a, R: Actor, J: ActorRun<R>> Held<'a, R, J> {
 
     /// All done events that are earlier than the GVT seen are committed.
     fn commit_all(&mut self) -> Result<(), PoolFault>
-        ensures committed { OnOk result ((commits : ℕ) × (self.new ≡ moved_by (simulation_of (rules_of R.plain R.counter) J.setting) (replicate commits Sealed) self.old)
+        ensures committed { OnOk result ((commits : ℕ) × (self.new ≡ moved_by (simulation_of (rules_of R.plain) J.setting) (replicate commits Sealed) self.old)
             × (earlier message_order self.old.share.seen self.new.part.done ≡ [])) }
-        ensures some { IfErr result (λ fault. StopsAtCommit (simulation_of (rules_of R.plain R.counter) J.setting) self.old self.new fault) }
+        ensures some { IfErr result (λ fault. StopsAtCommit (simulation_of (rules_of R.plain) J.setting) self.old self.new fault) }
     {
         loop {
             if !self.commit_one()? {
@@ -149,7 +149,7 @@ impl<'a, R: Actor, J: ActorRun<R>> Held<'a, R, J> {
 
     /// The oldest done event is committed, if it is earlier than the GVT seen. The answer is whether it was.
     fn commit_one(&mut self) -> Result<bool, PoolFault>
-        ensures committed { IfOk result (λ done. done ≡ true → self.new ≡ moved_by (simulation_of (rules_of R.plain R.counter) J.setting) (Sealed ∷ []) self.old) }
+        ensures committed { IfOk result (λ done. done ≡ true → self.new ≡ moved_by (simulation_of (rules_of R.plain) J.setting) (Sealed ∷ []) self.old) }
         ensures fewer { IfOk result (λ done. done ≡ true → length self.new.part.done < length self.old.part.done) }
         ensures none { IfOk result (λ done. done ≡ false → earlier message_order self.old.share.seen self.old.part.done ≡ []) }
         ensures stays { IfOk result (λ done. done ≡ false → self.new ≡ self.old) }

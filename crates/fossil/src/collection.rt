@@ -20,12 +20,12 @@ use vlink::Time;
 /// - `one`, `one_part`: of one event at most, whether there was one, and what became of the part.
 /// - `reserved`: a refusal comes only where there was not room for all of them.
 pub fn commit<R: Actor>(process: &mut Process<R>, gvt: Time, n: u64) -> Result<u64, OutOfMemory>
-    ensures committed { IfOk result (λ count. Does (rules_of R.plain R.counter) R.is_value (λ opening. sealed_times (rules_of R.plain R.counter) count) process.old.queues process.new.queues) }
+    ensures committed { IfOk result (λ count. Does (rules_of R.plain) R.is_value (λ opening. sealed_times (rules_of R.plain) count) process.old.queues process.new.queues) }
     ensures answer { IfOk result (λ count. (opening : R) (part : Part Message R) →
-        StandsFor (rules_of R.plain R.counter) R.is_value opening part process.old.queues → count ≡ committed_below (rules_of R.plain R.counter) gvt n part) }
+        StandsFor (rules_of R.plain) R.is_value opening part process.old.queues → count ≡ committed_below (rules_of R.plain) gvt n part) }
     ensures one { n ≡ 1 → IfOk result (λ count. (opening : R) (part : Part Message R) →
-        StandsFor (rules_of R.plain R.counter) R.is_value opening part process.old.queues → count ≡ one_if (is_ready (rules_of R.plain R.counter) gvt part)) }
-    ensures one_part { n ≡ 1 → OnOk result (Does (rules_of R.plain R.counter) R.is_value (λ opening. committed_once (rules_of R.plain R.counter) gvt) process.old.queues process.new.queues) }
+        StandsFor (rules_of R.plain) R.is_value opening part process.old.queues → count ≡ one_if (is_ready (rules_of R.plain) gvt part)) }
+    ensures one_part { n ≡ 1 → OnOk result (Does (rules_of R.plain) R.is_value (λ opening. committed_once (rules_of R.plain) gvt) process.old.queues process.new.queues) }
     ensures within { IfOk result (λ count. count ≤ n) }
     ensures none { IfOk result (λ count. count ≡ 0 → process.new.queues ≡ process.old.queues) }
     ensures tray { process.new.queues.tray ≡ process.old.queues.tray }
@@ -33,7 +33,7 @@ pub fn commit<R: Actor>(process: &mut Process<R>, gvt: Time, n: u64) -> Result<u
     ensures outbox { process.new.queues.outbox ≡ process.old.queues.outbox }
     ensures unchanged { OnErr result (process.new.queues ≡ process.old.queues) }
     ensures reserved { OnErr result ((opening : R) (part : Part Message R) →
-        StandsFor (rules_of R.plain R.counter) R.is_value opening part process.old.queues → process.old.committed_room < committed_below (rules_of R.plain R.counter) gvt n part) }
+        StandsFor (rules_of R.plain) R.is_value opening part process.old.queues → process.old.committed_room < committed_below (rules_of R.plain) gvt n part) }
 {
     actor_rules::<R>();
     let count = process.committable(gvt, n as usize);

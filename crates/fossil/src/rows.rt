@@ -17,13 +17,13 @@ use vlink::{Row, Time};
 /// - `there`: they are such rows of those that have not left.
 /// - `whole`: where no row has left but such as are earlier than `from`, they are all such rows.
 pub fn rows_between<R: Actor>(process: &Process<R>, from: Time, to: Time) -> &[Row]
-    requires { (opening : R) × (part : Part Message R) × StandsFor (rules_of R.plain R.counter) R.is_value opening part process.now.queues
-        × AreInTime (rules_of R.plain R.counter) (rowed (rules_of R.plain R.counter) opening part.committed) }
-    ensures there { (opening : R) (part : Part Message R) → StandsFor (rules_of R.plain R.counter) R.is_value opening part process.now.queues →
-        result.now ≡ rows_within (rules_of R.plain R.counter) from to (rows_there (rules_of R.plain R.counter) opening part process.now.queues) }
-    ensures whole { (opening : R) (part : Part Message R) → StandsFor (rules_of R.plain R.counter) R.is_value opening part process.now.queues →
-        AreFirstBefore (rules_of R.plain R.counter) from process.now.queues.left (rowed (rules_of R.plain R.counter) opening part.committed) →
-        result.now ≡ rows_within (rules_of R.plain R.counter) from to (rowed (rules_of R.plain R.counter) opening part.committed) }
+    requires { (opening : R) × (part : Part Message R) × StandsFor (rules_of R.plain) R.is_value opening part process.now.queues
+        × AreInTime (rules_of R.plain) (rowed (rules_of R.plain) opening part.committed) }
+    ensures there { (opening : R) (part : Part Message R) → StandsFor (rules_of R.plain) R.is_value opening part process.now.queues →
+        result.now ≡ rows_within (rules_of R.plain) from to (rows_there (rules_of R.plain) opening part process.now.queues) }
+    ensures whole { (opening : R) (part : Part Message R) → StandsFor (rules_of R.plain) R.is_value opening part process.now.queues →
+        AreFirstBefore (rules_of R.plain) from process.now.queues.left (rowed (rules_of R.plain) opening part.committed) →
+        result.now ≡ rows_within (rules_of R.plain) from to (rowed (rules_of R.plain) opening part.committed) }
 {
     let rows = process.sealed();
     let begin = count_before(rows, from);
@@ -38,19 +38,19 @@ pub fn rows_between<R: Actor>(process: &Process<R>, from: Time, to: Time) -> &[R
 /// - `early`: where all rows that had left are earlier than a limit that is not before the moment, so are all that have left.
 /// - `late`: those that are still there are of the moment or later, where all rows of committed events are fewer than 2^64.
 pub fn let_rows_go<R: Actor>(process: &mut Process<R>, moment: Time)
-    requires { (opening : R) × (part : Part Message R) × StandsFor (rules_of R.plain R.counter) R.is_value opening part process.old.queues
-        × AreInTime (rules_of R.plain R.counter) (rowed (rules_of R.plain R.counter) opening part.committed) }
-    ensures stands { Does (rules_of R.plain R.counter) R.is_value (λ opening part. part) process.old.queues process.new.queues }
-    ensures gone { (opening : R) (part : Part Message R) → StandsFor (rules_of R.plain R.counter) R.is_value opening part process.old.queues →
+    requires { (opening : R) × (part : Part Message R) × StandsFor (rules_of R.plain) R.is_value opening part process.old.queues
+        × AreInTime (rules_of R.plain) (rowed (rules_of R.plain) opening part.committed) }
+    ensures stands { Does (rules_of R.plain) R.is_value (λ opening part. part) process.old.queues process.new.queues }
+    ensures gone { (opening : R) (part : Part Message R) → StandsFor (rules_of R.plain) R.is_value opening part process.old.queues →
         (count : ℕ) × (process.new.queues.left ≡ process.old.queues.left + count)
-        × AreFirstBefore (rules_of R.plain R.counter) moment count (rows_there (rules_of R.plain R.counter) opening part process.old.queues) }
-    ensures early { (opening : R) (part : Part Message R) → StandsFor (rules_of R.plain R.counter) R.is_value opening part process.old.queues →
+        × AreFirstBefore (rules_of R.plain) moment count (rows_there (rules_of R.plain) opening part process.old.queues) }
+    ensures early { (opening : R) (part : Part Message R) → StandsFor (rules_of R.plain) R.is_value opening part process.old.queues →
         (limit : ℕ) → moment ≤ limit →
-        AreFirstBefore (rules_of R.plain R.counter) limit process.old.queues.left (rowed (rules_of R.plain R.counter) opening part.committed) →
-        AreFirstBefore (rules_of R.plain R.counter) limit process.new.queues.left (rowed (rules_of R.plain R.counter) opening part.committed) }
-    ensures late { (opening : R) (part : Part Message R) → StandsFor (rules_of R.plain R.counter) R.is_value opening part process.old.queues →
-        length (rowed (rules_of R.plain R.counter) opening part.committed) < 2 ^ 64 →
-        AreFrom (rules_of R.plain R.counter) moment (rows_there (rules_of R.plain R.counter) opening part process.new.queues) }
+        AreFirstBefore (rules_of R.plain) limit process.old.queues.left (rowed (rules_of R.plain) opening part.committed) →
+        AreFirstBefore (rules_of R.plain) limit process.new.queues.left (rowed (rules_of R.plain) opening part.committed) }
+    ensures late { (opening : R) (part : Part Message R) → StandsFor (rules_of R.plain) R.is_value opening part process.old.queues →
+        length (rowed (rules_of R.plain) opening part.committed) < 2 ^ 64 →
+        AreFrom (rules_of R.plain) moment (rows_there (rules_of R.plain) opening part process.new.queues) }
 {
     let count = count_before(process.sealed(), moment);
     let _gone = process.let_rows_go(count);

@@ -18,4 +18,5 @@ integrity = record {
   out = λ previous n. if passes previous n then Passed else Refused;
   saves = λ previous n. previous;
   before = λ now n previous. previous;
+  counter = λ previous. 0;
 }

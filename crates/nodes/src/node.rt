@@ -144,8 +144,6 @@ impl Actor for Node {
 
     ghost end = { λ s. s.sender.until };
 
-    ghost counter = { λ s. s.sender.counter };
-
     ghost is_placed = { IsPlaced };
 
     ghost numbers_suffice = { λ s h. h };

@@ -141,6 +141,7 @@ port =
       out = λ p e. (outcome p e).answer;
       saves = λ p e. (outcome p e).kept;
       before = λ p e kept. undone p kept;
+      counter = λ p. 0;
     }
 
 -- no more bytes wait than may

@@ -24,8 +24,8 @@ pub record OfMessages {S K : Type 0} (r : Rules Message S K Note) : Type 0 where
   pub undoes : (s : S) (e : Message) → r.undo (r.after s e) e (r.kept s e) ≡ s
 
 -- an actor's rules are
-pub of-messages : {S K : Type 0} (plain : Plain S Message Sends K) (counter : S → ℕ) → IsOrder message_order → IsReversible plain → OfMessages (rules_of plain counter)
-of-messages plain counter O law = record {
+pub of-messages : {S K : Type 0} (plain : Plain S Message Sends K) → IsOrder message_order → IsReversible plain → OfMessages (rules_of plain)
+of-messages plain O law = record {
   order = O;
   messages = O;
   order_is = refl;

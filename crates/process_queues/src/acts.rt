@@ -23,8 +23,8 @@ impl<R: Actor> Process<R> {
     /// before it is undone, the newest first, and what these events sent goes to the outbox as antimessages, the last sent first. The
     /// answer is how many events that undid, or none where the tray is empty.
     pub fn arrive(&mut self) -> Result<Option<u64>, ProcFault>
-        ensures arrived { OnOk result (Does (rules_of R.plain R.counter) R.is_value (arrive (rules_of R.plain R.counter)) self.old.queues self.new.queues) }
-        ensures answer { IfOk result (λ undone. (opening : R) (part : Part Message R) → StandsFor (rules_of R.plain R.counter) R.is_value opening part self.old.queues →
+        ensures arrived { OnOk result (Does (rules_of R.plain) R.is_value (arrive (rules_of R.plain)) self.old.queues self.new.queues) }
+        ensures answer { IfOk result (λ undone. (opening : R) (part : Part Message R) → StandsFor (rules_of R.plain) R.is_value opening part self.old.queues →
             MatchOption undone (part.tray ≡ []) (λ count. (part.tray ≢ []) × (count ≡ undone_by message_order part part.tray))) }
         ensures tray { OnOk result (self.new.queues.tray ≡ drop 1 self.old.queues.tray) }
         ensures left { self.new.queues.left ≡ self.old.queues.left }
@@ -76,17 +76,17 @@ impl<R: Actor> Process<R> {
     /// The first present message that is not done is handled: it joins the done events, and what it sends goes to the outbox.
     /// The answer is that message, or none where there is none.
     pub fn run(&mut self) -> Result<Option<Message>, ProcFault>
-        ensures ran { OnOk result (Does (rules_of R.plain R.counter) R.is_value (λ opening. run_one (rules_of R.plain R.counter)) self.old.queues self.new.queues) }
+        ensures ran { OnOk result (Does (rules_of R.plain) R.is_value (λ opening. run_one (rules_of R.plain)) self.old.queues self.new.queues) }
         ensures handled { IfOk result (λ message. (opening : R) (part : Part Message R) →
-            StandsFor (rules_of R.plain R.counter) R.is_value opening part self.old.queues → message ≡ next_of message_order part) }
+            StandsFor (rules_of R.plain) R.is_value opening part self.old.queues → message ≡ next_of message_order part) }
         ensures next { IfOk result (λ message. message ≡ next_in self.old.queues) }
         ensures tray { self.new.queues.tray ≡ self.old.queues.tray }
         ensures left { self.new.queues.left ≡ self.old.queues.left }
         ensures exhausted { (result ≡ Err Exhausted) ↔
-            IsSome (next_in self.old.queues) × (greatest_number < R.counter (state_in self.old.queues) + 24) }
+            IsSome (next_in self.old.queues) × (greatest_number < R.plain.counter (state_in self.old.queues) + 24) }
         ensures idle { result ≡ Ok None → self.new.queues ≡ self.old.queues }
         ensures refused { OnErr result ((opening : R) (part : Part Message R) →
-            StandsFor (rules_of R.plain R.counter) R.is_value opening part self.old.queues → IsSome (next_of message_order part)) }
+            StandsFor (rules_of R.plain) R.is_value opening part self.old.queues → IsSome (next_of message_order part)) }
         ensures unchanged { OnErr result (self.new.queues ≡ self.old.queues) }
     {
         let mut out = Outbound::new(0, Time::default(), 0);
@@ -95,17 +95,17 @@ impl<R: Actor> Process<R> {
 
     /// Does what `run` does. `out` is room for what the event sends and notes: a caller that handles one event after another makes it once.
     pub fn run_with(&mut self, out: &mut Outbound) -> Result<Option<Message>, ProcFault>
-        ensures ran { OnOk result (Does (rules_of R.plain R.counter) R.is_value (λ opening. run_one (rules_of R.plain R.counter)) self.old.queues self.new.queues) }
+        ensures ran { OnOk result (Does (rules_of R.plain) R.is_value (λ opening. run_one (rules_of R.plain)) self.old.queues self.new.queues) }
         ensures handled { IfOk result (λ message. (opening : R) (part : Part Message R) →
-            StandsFor (rules_of R.plain R.counter) R.is_value opening part self.old.queues → message ≡ next_of message_order part) }
+            StandsFor (rules_of R.plain) R.is_value opening part self.old.queues → message ≡ next_of message_order part) }
         ensures next { IfOk result (λ message. message ≡ next_in self.old.queues) }
         ensures tray { self.new.queues.tray ≡ self.old.queues.tray }
         ensures left { self.new.queues.left ≡ self.old.queues.left }
         ensures exhausted { (result ≡ Err Exhausted) ↔
-            IsSome (next_in self.old.queues) × (greatest_number < R.counter (state_in self.old.queues) + 24) }
+            IsSome (next_in self.old.queues) × (greatest_number < R.plain.counter (state_in self.old.queues) + 24) }
         ensures idle { result ≡ Ok None → self.new.queues ≡ self.old.queues }
         ensures refused { OnErr result ((opening : R) (part : Part Message R) →
-            StandsFor (rules_of R.plain R.counter) R.is_value opening part self.old.queues → IsSome (next_of message_order part)) }
+            StandsFor (rules_of R.plain) R.is_value opening part self.old.queues → IsSome (next_of message_order part)) }
         ensures unchanged { OnErr result (self.new.queues ≡ self.old.queues) }
     {
         actor_rules::<R>();
@@ -124,9 +124,9 @@ impl<R: Actor> Process<R> {
     /// The oldest done event is committed, where its signed count is just 1: it leaves the done events and the counts, and its rows are
     /// sealed. The answer is whether there was one. Where there is room for a committed event this takes no memory and succeeds.
     pub fn seal_oldest(&mut self) -> Result<bool, ProcFault>
-        ensures sealed { OnOk result (Does (rules_of R.plain R.counter) R.is_value (λ opening. seal_oldest (rules_of R.plain R.counter)) self.old.queues self.new.queues) }
+        ensures sealed { OnOk result (Does (rules_of R.plain) R.is_value (λ opening. seal_oldest (rules_of R.plain)) self.old.queues self.new.queues) }
         ensures answer { IfOk result (λ done. (opening : R) (part : Part Message R) →
-            StandsFor (rules_of R.plain R.counter) R.is_value opening part self.old.queues → done ≡ can_seal message_order part part.done) }
+            StandsFor (rules_of R.plain) R.is_value opening part self.old.queues → done ≡ can_seal message_order part part.done) }
         ensures tray { self.new.queues.tray ≡ self.old.queues.tray }
         ensures left { self.new.queues.left ≡ self.old.queues.left }
         ensures outbox { self.new.queues.outbox ≡ self.old.queues.outbox }
@@ -134,7 +134,7 @@ impl<R: Actor> Process<R> {
         ensures unchanged { OnErr result (self.new.queues ≡ self.old.queues) }
         ensures idle { result ≡ Ok false → self.new.queues ≡ self.old.queues }
         ensures refused { OnErr result ((opening : R) (part : Part Message R) →
-            StandsFor (rules_of R.plain R.counter) R.is_value opening part self.old.queues → can_seal message_order part part.done ≡ true) }
+            StandsFor (rules_of R.plain) R.is_value opening part self.old.queues → can_seal message_order part part.done ≡ true) }
         ensures reserved { OnErr result (self.old.committed_room ≡ 0) }
         ensures memory { IfErr result (λ fault. fault ≡ OutOfMemory) }
     {
@@ -157,9 +157,9 @@ impl<R: Actor> Process<R> {
     /// Undoes all done events, the newest first, each by its record, and gives the actor back. Nothing is sent.
     pub fn undo_all(self) -> R
         ensures undone { (opening : R) (part : Part Message R) →
-            StandsFor (rules_of R.plain R.counter) R.is_value opening part self.queues → result ≡ undo_all (rules_of R.plain R.counter) opening part }
+            StandsFor (rules_of R.plain) R.is_value opening part self.queues → result ≡ undo_all (rules_of R.plain) opening part }
         ensures committed { (opening : R) (part : Part Message R) →
-            StandsFor (rules_of R.plain R.counter) R.is_value opening part self.queues → result ≡ reached (rules_of R.plain R.counter) opening part.committed }
+            StandsFor (rules_of R.plain) R.is_value opening part self.queues → result ≡ reached (rules_of R.plain) opening part.committed }
     {
         let Process { past, .. } = self;
         past.undo_all()

@@ -23,7 +23,7 @@ impl<R: Actor> Process<R> {
     /// in ns, or whose signed count is not 1. So many can be committed one after another. It takes no memory.
     pub fn committable(&self, moment: Time, most: usize) -> usize
         ensures within { result ≤ most }
-        ensures stands { (opening : R) (part : Part Message R) → StandsFor (rules_of R.plain R.counter) R.is_value opening part self.now.queues →
+        ensures stands { (opening : R) (part : Part Message R) → StandsFor (rules_of R.plain) R.is_value opening part self.now.queues →
             result ≡ committable message_order moment part.tally (take most part.done) }
     {
         actor_rules::<R>();

@@ -19,9 +19,9 @@ use reverse::{Actor, actor_rules};
 ///
 /// A call does nothing: its caller learns what the clauses say.
 pub fn process_laws<R: Actor>()
-    ensures sends { (opening : R) (part : Part Message R) (queues : Queues R R.Record) → StandsFor (rules_of R.plain R.counter) R.is_value opening part queues →
-        (act : Act Message) → act ≢ Emptying → (m : Message) → SendsKept (rules_of R.plain R.counter) opening part (acted (rules_of R.plain R.counter) opening act part) m }
-    ensures sent_once { (opening : R) (events : List Message) (m : Message) → times_in message_order m (sent (rules_of R.plain R.counter) opening events) ≤ 1 }
+    ensures sends { (opening : R) (part : Part Message R) (queues : Queues R R.Record) → StandsFor (rules_of R.plain) R.is_value opening part queues →
+        (act : Act Message) → act ≢ Emptying → (m : Message) → SendsKept (rules_of R.plain) opening part (acted (rules_of R.plain) opening act part) m }
+    ensures sent_once { (opening : R) (events : List Message) (m : Message) → times_in message_order m (sent (rules_of R.plain) opening events) ≤ 1 }
 {
     actor_rules::<R>();
 }

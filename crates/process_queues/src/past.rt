@@ -140,9 +140,9 @@ impl<R: Actor> Past<R> {
         out: &mut Outbound,
         outbox: &mut Outbox,
     ) -> Result<(), OutOfMemory>
-        requires { R.counter self.old.state + 24 ≤ greatest_number }
-        ensures handled { OnOk result (self.new ≡ handled_past (rules_of R.plain R.counter) self.old message.now) }
-        ensures sent { OnOk result (outbox.new.letters ≡ outbox.old.letters ++ map plus_of ((rules_of R.plain R.counter).sends self.old.state message.now)) }
+        requires { R.plain.counter self.old.state + 24 ≤ greatest_number }
+        ensures handled { OnOk result (self.new ≡ handled_past (rules_of R.plain) self.old message.now) }
+        ensures sent { OnOk result (outbox.new.letters ≡ outbox.old.letters ++ map plus_of ((rules_of R.plain).sends self.old.state message.now)) }
         ensures valid { OnOk result (R.is_value self.old.state message.now) }
         ensures unchanged { OnErr result (self.new ≡ self.old) }
         ensures kept { OnErr result (outbox.new.letters ≡ outbox.old.letters) }
@@ -165,14 +165,14 @@ impl<R: Actor> Past<R> {
 
     /// The oldest event, which there is, is forgotten; its rows stay, behind those of the events before it. The answer is how many they are.
     pub(crate) fn forget_oldest(&mut self) -> u8
-        requires { FirstDone (rules_of R.plain R.counter) R.is_value self.old }
+        requires { FirstDone (rules_of R.plain) R.is_value self.old }
         ensures forgotten { (start : R) (ms : List Message) (e : Message) (earlier : Rows) →
-            IsPastOf (rules_of R.plain R.counter) R.is_value start (e ∷ ms) earlier self.old →
-            IsPastOf (rules_of R.plain R.counter) R.is_value ((rules_of R.plain R.counter).after start e) ms
-            (earlier ++ rows_of message_order e ((rules_of R.plain R.counter).notes start e)) self.new }
+            IsPastOf (rules_of R.plain) R.is_value start (e ∷ ms) earlier self.old →
+            IsPastOf (rules_of R.plain) R.is_value ((rules_of R.plain).after start e) ms
+            (earlier ++ rows_of message_order e ((rules_of R.plain).notes start e)) self.new }
         ensures noted { (start : R) (ms : List Message) (e : Message) (earlier : Rows) →
-            IsPastOf (rules_of R.plain R.counter) R.is_value start (e ∷ ms) earlier self.old →
-            result ≡ length ((rules_of R.plain R.counter).notes start e) }
+            IsPastOf (rules_of R.plain) R.is_value start (e ∷ ms) earlier self.old →
+            result ≡ length ((rules_of R.plain).notes start e) }
         ensures state { self.new.state ≡ self.old.state }
     {
         let Some(event) = self.done.pop_front() else {

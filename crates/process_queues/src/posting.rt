@@ -32,7 +32,7 @@ impl<R: Actor> Process<R> {
     /// for them this takes no memory and succeeds.
     pub fn post(&mut self, mail: &mut Mail) -> Result<(), ProcFault>
         requires { All (λ letter. letter.message.receiver < length mail.old) self.old.queues.outbox }
-        ensures emptied { OnOk result (Does (rules_of R.plain R.counter) R.is_value (λ opening. emptied) self.old.queues self.new.queues) }
+        ensures emptied { OnOk result (Does (rules_of R.plain) R.is_value (λ opening. emptied) self.old.queues self.new.queues) }
         ensures posted { OnOk result ((p : ℕ) → letters_for p mail.new ≡ letters_for p mail.old ++ received_by message_order p self.old.queues.outbox) }
         ensures queues { OnOk result (self.new.queues ≡ record self.old.queues { outbox = [] }) }
         ensures processes { length mail.new ≡ length mail.old }

@@ -65,7 +65,7 @@ impl<R: Actor> Model for Process<R> {
       committed_room = vec_capacity p.committed - vec_len p.committed;
     } };
 
-    ghost invariant = { λ p. (opening : R) × (part : Part Message R) × StandsFor (rules_of R.plain R.counter) R.is_value opening part
+    ghost invariant = { λ p. (opening : R) × (part : Part Message R) × StandsFor (rules_of R.plain) R.is_value opening part
         (record {
           past = p.past;
           left = p.left;
@@ -80,7 +80,7 @@ impl<R: Actor> Model for Process<R> {
 impl<R: Actor> Process<R> {
     /// A process that has done nothing, with this actor in its opening state. It takes no memory yet, so that it succeeds.
     pub fn new(alloc: Global, actor: R) -> Result<Self, ProcFault>
-        ensures stands { IfOk result (λ process. StandsFor (rules_of R.plain R.counter) R.is_value actor (opened actor) process.queues) }
+        ensures stands { IfOk result (λ process. StandsFor (rules_of R.plain) R.is_value actor (opened actor) process.queues) }
         ensures left { IfOk result (λ process. process.queues.left ≡ 0) }
         ensures succeeds { IsOk result }
         ensures memory { IfErr result (λ fault. fault ≡ OutOfMemory) }
@@ -101,7 +101,7 @@ impl<R: Actor> Process<R> {
     ///
     /// A call does nothing: its caller learns what the clause says.
     pub fn stands(&self)
-        ensures { (opening : R) × (part : Part Message R) × StandsFor (rules_of R.plain R.counter) R.is_value opening part self.now.queues }
+        ensures { (opening : R) × (part : Part Message R) × StandsFor (rules_of R.plain) R.is_value opening part self.now.queues }
     {
         let _tray = &self.tray;
     }
@@ -109,7 +109,7 @@ impl<R: Actor> Process<R> {
     /// The signed count of a message: how many plus letters of it arrived, less the minus letters. A committed event's letter does not
     /// count any more.
     pub fn count(&self, message: &Message) -> i128
-        ensures { (opening : R) (part : Part Message R) → StandsFor (rules_of R.plain R.counter) R.is_value opening part self.now.queues →
+        ensures { (opening : R) (part : Part Message R) → StandsFor (rules_of R.plain) R.is_value opening part self.now.queues →
             result ≡ signed_count message_order message.now part.tally }
     {
         actor_rules::<R>();
@@ -118,7 +118,7 @@ impl<R: Actor> Process<R> {
 
     /// The moment of the oldest done event, if there is one.
     pub fn oldest(&self) -> Option<Time>
-        ensures { (opening : R) (part : Part Message R) → StandsFor (rules_of R.plain R.counter) R.is_value opening part self.now.queues →
+        ensures { (opening : R) (part : Part Message R) → StandsFor (rules_of R.plain) R.is_value opening part self.now.queues →
             result ≡ option_map (λ m. m.time) (slice_get part.done 0) }
     {
         self.past.oldest_time()
@@ -126,7 +126,7 @@ impl<R: Actor> Process<R> {
 
     /// How many events are committed.
     pub fn committed(&self) -> u64
-        ensures { (opening : R) (part : Part Message R) → StandsFor (rules_of R.plain R.counter) R.is_value opening part self.now.queues →
+        ensures { (opening : R) (part : Part Message R) → StandsFor (rules_of R.plain) R.is_value opening part self.now.queues →
             result ≡ length part.committed }
     {
         self.committed.len() as u64
@@ -134,8 +134,8 @@ impl<R: Actor> Process<R> {
 
     /// The rows of the committed events but those that have left, in their order.
     pub fn sealed(&self) -> &[Row]
-        ensures { (opening : R) (part : Part Message R) → StandsFor (rules_of R.plain R.counter) R.is_value opening part self.now.queues →
-            result.now ≡ rows_there (rules_of R.plain R.counter) opening part self.now.queues }
+        ensures { (opening : R) (part : Part Message R) → StandsFor (rules_of R.plain) R.is_value opening part self.now.queues →
+            result.now ≡ rows_there (rules_of R.plain) opening part self.now.queues }
     {
         &self.past.rows()[..self.sealed]
     }
@@ -150,7 +150,7 @@ impl<R: Actor> Process<R> {
     /// The oldest rows of committed events leave, `count` or all that are still there where these are fewer. The answer is how many. None
     /// leaves beyond the greatest number that `left` can tell. It takes no memory.
     pub fn let_rows_go(&mut self, count: usize) -> usize
-        ensures stands { Does (rules_of R.plain R.counter) R.is_value (λ opening part. part) self.old.queues self.new.queues }
+        ensures stands { Does (rules_of R.plain) R.is_value (λ opening part. part) self.old.queues self.new.queues }
         ensures left { self.new.queues.left ≡ self.old.queues.left + result }
         ensures count { result ≡ min (min count self.old.queues.sealed) (2 ^ 64 - 1 - self.old.queues.left) }
         ensures queues { self.new.queues ≡ record self.old.queues {
@@ -194,7 +194,7 @@ impl<R: Actor> Process<R> {
     /// The message that is handled next: the first present one that is not done, if there is one.
     pub fn next(&self) -> Option<Message>
         ensures next { result ≡ next_in self.now.queues }
-        ensures stands { (opening : R) (part : Part Message R) → StandsFor (rules_of R.plain R.counter) R.is_value opening part self.now.queues →
+        ensures stands { (opening : R) (part : Part Message R) → StandsFor (rules_of R.plain) R.is_value opening part self.now.queues →
             result ≡ next_of message_order part }
     {
         actor_rules::<R>();
@@ -203,7 +203,7 @@ impl<R: Actor> Process<R> {
 
     /// Whether its actor has enough numbers left for what one event can send. Where it has not, `run` is refused for that.
     pub fn has_numbers(&self) -> bool
-        ensures { IsTrue result ↔ (R.counter (state_in self.now.queues) + 24 ≤ greatest_number) }
+        ensures { IsTrue result ↔ (R.plain.counter (state_in self.now.queues) + 24 ≤ greatest_number) }
     {
         self.past.actor().has_numbers()
     }
@@ -211,7 +211,7 @@ impl<R: Actor> Process<R> {
     /// A moment that nothing in hand is earlier than, as a post sets it: the least time of the tray's letters and of the present messages
     /// that are not done, or the moment after the end.
     pub fn floor(&self) -> Time
-        ensures { (opening : R) (part : Part Message R) → StandsFor (rules_of R.plain R.counter) R.is_value opening part self.now.queues →
+        ensures { (opening : R) (part : Part Message R) → StandsFor (rules_of R.plain) R.is_value opening part self.now.queues →
             result ≡ floor_of message_order (R.end (state_in self.now.queues)) part }
     {
         floor_of_tray::<R>(&self.tray, self.floor_of_messages())
@@ -219,7 +219,7 @@ impl<R: Actor> Process<R> {
 
     /// The least time of the present messages that are not done, or the moment after the end.
     fn floor_of_messages(&self) -> Time
-        ensures { (opening : R) (part : Part Message R) → StandsFor (rules_of R.plain R.counter) R.is_value opening part self.now.queues →
+        ensures { (opening : R) (part : Part Message R) → StandsFor (rules_of R.plain) R.is_value opening part self.now.queues →
             result ≡ floor_of message_order (R.end (state_in self.now.queues)) (record part { tray = [] }) }
     {
         actor_rules::<R>();
@@ -243,7 +243,7 @@ impl<R: Actor> Process<R> {
 
     /// The letter comes to the back of the tray.
     pub fn deliver(&mut self, letter: Letter) -> Result<(), ProcFault>
-        ensures delivered { OnOk result (Does (rules_of R.plain R.counter) R.is_value (λ opening. delivered letter) self.old.queues self.new.queues) }
+        ensures delivered { OnOk result (Does (rules_of R.plain) R.is_value (λ opening. delivered letter) self.old.queues self.new.queues) }
         ensures tray { OnOk result (self.new.queues ≡ record self.old.queues { tray = self.old.queues.tray ++ letter ∷ [] }) }
         ensures room { OnOk result (self.old.room ≤ self.new.room + 1) }
         ensures unchanged { OnErr result (self.new.queues ≡ self.old.queues) }
@@ -263,7 +263,7 @@ impl<R: Actor> Process<R> {
         process: u16,
         most: usize,
     ) -> Result<usize, ProcFault>
-        ensures delivered { IfOk result (λ count. Does (rules_of R.plain R.counter) R.is_value
+        ensures delivered { IfOk result (λ count. Does (rules_of R.plain) R.is_value
             (λ opening. delivered_all (take count (letters_for process mail.old))) self.old.queues self.new.queues) }
         ensures count { IfOk result (λ count. count ≡ min most (length (letters_for process mail.old))) }
         ensures queues { IfOk result (λ count. self.new.queues ≡ record self.old.queues { tray = self.old.queues.tray ++ take count (letters_for process mail.old) }) }

@@ -17,7 +17,7 @@ use vlink::{Letter, Message, Sign};
 impl<R: Actor> Past<R> {
     /// How many messages the done events sent that do not come before the message: so many antimessages their undoing gives.
     pub(crate) fn sent_since(&self, message: &Message) -> usize
-        requires { (opening : R) × (there : Rows) × (part : Part Message R) × BelongsTo (rules_of R.plain R.counter) R.is_value opening there part self.now }
+        requires { (opening : R) × (there : Rows) × (part : Part Message R) × BelongsTo (rules_of R.plain) R.is_value opening there part self.now }
         ensures { result ≡ sent_since message.now (reverse self.now.done) }
     {
         let events = self.done.len();
@@ -36,12 +36,12 @@ impl<R: Actor> Past<R> {
     /// Every done event that does not come before the message is undone, the newest first; what it sent goes to the outbox as
     /// antimessages, the last sent first. The outbox has room for them. The answer is how many events were undone.
     pub(crate) fn roll_back(&mut self, message: &Message, outbox: &mut Outbox) -> u64
-        requires some { (opening : R) × (there : Rows) × (part : Part Message R) × BelongsTo (rules_of R.plain R.counter) R.is_value opening there part self.old }
+        requires some { (opening : R) × (there : Rows) × (part : Part Message R) × BelongsTo (rules_of R.plain) R.is_value opening there part self.old }
         requires room { sent_since message.now (reverse self.old.done) ≤ outbox.old.room }
-        ensures rolled { (opening : R) (there : Rows) (part : Part Message R) → BelongsTo (rules_of R.plain R.counter) R.is_value opening there part self.old →
-            BelongsTo (rules_of R.plain R.counter) R.is_value opening there (rolled_back (rules_of R.plain R.counter) opening message.now part) self.new }
-        ensures posted { (opening : R) (there : Rows) (part : Part Message R) → BelongsTo (rules_of R.plain R.counter) R.is_value opening there part self.old →
-            outbox.old.letters ≡ part.outbox → outbox.new.letters ≡ (rolled_back (rules_of R.plain R.counter) opening message.now part).outbox }
+        ensures rolled { (opening : R) (there : Rows) (part : Part Message R) → BelongsTo (rules_of R.plain) R.is_value opening there part self.old →
+            BelongsTo (rules_of R.plain) R.is_value opening there (rolled_back (rules_of R.plain) opening message.now part) self.new }
+        ensures posted { (opening : R) (there : Rows) (part : Part Message R) → BelongsTo (rules_of R.plain) R.is_value opening there part self.old →
+            outbox.old.letters ≡ part.outbox → outbox.new.letters ≡ (rolled_back (rules_of R.plain) opening message.now part).outbox }
         ensures count { result + length self.new.done ≡ length self.old.done }
     {
         actor_rules::<R>();
@@ -54,8 +54,8 @@ impl<R: Actor> Past<R> {
 
     /// Undoes all done events, the newest first, each by its record, and gives the actor back. Nothing is sent.
     pub(crate) fn undo_all(self) -> R
-        requires { (start : R) × (ms : List Message) × (earlier : Rows) × IsPastOf (rules_of R.plain R.counter) R.is_value start ms earlier self }
-        ensures { (start : R) (ms : List Message) (earlier : Rows) → IsPastOf (rules_of R.plain R.counter) R.is_value start ms earlier self → result ≡ start }
+        requires { (start : R) × (ms : List Message) × (earlier : Rows) × IsPastOf (rules_of R.plain) R.is_value start ms earlier self }
+        ensures { (start : R) (ms : List Message) (earlier : Rows) → IsPastOf (rules_of R.plain) R.is_value start ms earlier self → result ≡ start }
     {
         actor_rules::<R>();
         let Past {
@@ -72,14 +72,14 @@ impl<R: Actor> Past<R> {
     /// The newest event, which there is, is undone by its record; what it sent goes to the outbox as antimessages, the last sent first.
     /// The outbox has room for it.
     pub(crate) fn undo_newest(&mut self, outbox: &mut Outbox)
-        requires some { LastDone (rules_of R.plain R.counter) R.is_value self.old }
+        requires some { LastDone (rules_of R.plain) R.is_value self.old }
         requires room { (front : List (Event R.Record)) (event : Event R.Record) → self.old.done ≡ front ++ event ∷ [] → event.sent ≤ outbox.old.room }
         ensures undone { (start : R) (ms : List Message) (e : Message) (earlier : Rows) →
-            IsPastOf (rules_of R.plain R.counter) R.is_value start (ms ++ e ∷ []) earlier self.old →
-            IsPastOf (rules_of R.plain R.counter) R.is_value start ms earlier self.new }
+            IsPastOf (rules_of R.plain) R.is_value start (ms ++ e ∷ []) earlier self.old →
+            IsPastOf (rules_of R.plain) R.is_value start ms earlier self.new }
         ensures sent { (start : R) (ms : List Message) (e : Message) (earlier : Rows) →
-            IsPastOf (rules_of R.plain R.counter) R.is_value start (ms ++ e ∷ []) earlier self.old →
-            outbox.new.letters ≡ outbox.old.letters ++ map minus_of (reverse ((rules_of R.plain R.counter).sends (reached (rules_of R.plain R.counter) start ms) e)) }
+            IsPastOf (rules_of R.plain) R.is_value start (ms ++ e ∷ []) earlier self.old →
+            outbox.new.letters ≡ outbox.old.letters ++ map minus_of (reverse ((rules_of R.plain).sends (reached (rules_of R.plain) start ms) e)) }
         ensures room { (front : List (Event R.Record)) (event : Event R.Record) → self.old.done ≡ front ++ event ∷ [] →
             (self.new.done ≡ front) × (outbox.old.room ≤ outbox.new.room + event.sent) }
         ensures fewer { length self.new.done + 1 ≡ length self.old.done }

@@ -29,4 +29,5 @@ redundancy = record {
   out = λ r frame. if is_delivered r frame then Delivered else Duplicate;
   saves = λ r frame. r.last;
   before = λ now frame last. record now { last = last };
+  counter = λ r. 0;
 }

@@ -9,7 +9,7 @@ answers_of plain s [] = []
 answers_of plain s (e ∷ es) = plain.out s e ∷ answers_of plain (plain.after s e) es
 
 -- the answers of an actor, as long as it has numbers for all that one event can send
-abbrev pub answers_within : {S E O K : Type 0} → Plain S E O K → (S → ℕ) → S → List E → List O
-answers_within plain counter s [] = []
-answers_within plain counter s (e ∷ es) =
-    if nat_le (counter s + 24) greatest_number then plain.out s e ∷ answers_within plain counter (plain.after s e) es else []
+abbrev pub answers_within : {S E O K : Type 0} → Plain S E O K → S → List E → List O
+answers_within plain s [] = []
+answers_within plain s (e ∷ es) =
+    if nat_le (plain.counter s + 24) greatest_number then plain.out s e ∷ answers_within plain (plain.after s e) es else []

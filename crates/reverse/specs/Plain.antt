@@ -1,5 +1,5 @@
 -- What an element does, as plain functions of its state and an event, and the law of undoing.
-use Rattle.std.specs.Prelude.{◌≡◌}
+use Rattle.std.specs.Prelude.{◌≡◌, ℕ}
 
 -- states S, events E, answers O and records K
 pub record Plain (S E O K : Type 0) : Type 0 where
@@ -9,6 +9,8 @@ pub record Plain (S E O K : Type 0) : Type 0 where
   pub saves : S → E → K
   -- the state before the event, from the state after it and the record
   pub before : S → E → K → S
+  -- of what sends messages, the number of the next one; 0 of what sends none
+  pub counter : S → ℕ
 
 -- the inverse law: undoing what an event made of a state, by the record that it left, gives back the state
 abbrev pub IsReversible : {S E O K : Type 0} → Plain S E O K → Type 0

@@ -1,5 +1,5 @@
 -- The rules that an actor gives to the law of virtual time: messages in their order, and the actor's plain functions.
-use Rattle.std.specs.Prelude.{ℕ, Bool}
+use Rattle.std.specs.Prelude.{Bool}
 use Rattle.vlink.specs.declared.message.Message.{Message}
 use Rattle.vlink.specs.declared.note.Note.{Note}
 use Rattle.vlink.specs.Order.{message_order}
@@ -11,15 +11,15 @@ use Rattle.reverse.specs.Plain.{Plain}
 abbrev pub is_before : Message → Message → Bool
 is_before a b = message_order.less a b
 
--- the rules of an actor with these plain functions, whose next message has this number
-abbrev pub rules_of : {S K : Type 0} → Plain S Message Sends K → (S → ℕ) → Rules Message S K Note
-rules_of plain counter =
+-- the rules of an actor with these plain functions
+abbrev pub rules_of : {S K : Type 0} → Plain S Message Sends K → Rules Message S K Note
+rules_of plain =
     record {
       order = message_order;
       after = plain.after;
       sends = λ s m. (plain.out s m).messages.items;
       notes = λ s m. (plain.out s m).notes.items;
-      counter = counter;
+      counter = plain.counter;
       kept = plain.saves;
       undo = plain.before;
     }

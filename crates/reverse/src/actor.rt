@@ -18,9 +18,6 @@ pub trait Actor: Reversible<Event = Message, Out = Sends> {
     /// The end time of the run in ns: later messages are left out.
     ghost end: { Self → ℕ };
 
-    /// The number of the next message sent.
-    ghost counter: { Self → ℕ };
-
     /// The fixed parts of the state are those of a process: its delays are at least 1 ns, and the like.
     ghost is_placed: { Self → Type 0 };
 
@@ -36,7 +33,7 @@ pub trait Actor: Reversible<Event = Message, Out = Sends> {
 
     /// Whether the sender has numbers left for all that one event can send.
     fn has_numbers(&self) -> bool
-        ensures { IsTrue result ↔ (counter self.now + 24 ≤ greatest_number) };
+        ensures { IsTrue result ↔ (Self.plain.counter self.now + 24 ≤ greatest_number) };
 
     /// Handles the event just as `apply` does, and leaves in `out` what it sends and notes, in place of what was there. So a caller that
     /// handles one event after another makes the room for what is sent once.
@@ -54,7 +51,7 @@ pub trait Actor: Reversible<Event = Message, Out = Sends> {
     }
 
     /// Nothing but numbers is asked for.
-    ghost numbers_suffice: { (s : Self) → counter s + 24 ≤ greatest_number → Self.can_apply s };
+    ghost numbers_suffice: { (s : Self) → Self.plain.counter s + 24 ≤ greatest_number → Self.can_apply s };
 
     /// An event keeps the number of the process, the end time and the fixed parts.
     ghost number_stays: { (s : Self) (e : Message) → number (Self.plain.after s e) ≡ number s };
@@ -71,8 +68,8 @@ pub trait Actor: Reversible<Event = Message, Out = Sends> {
     ghost timely_sends: { (s : Self) (e : Message) → All (λ m. m.time ≤ end s) (Self.plain.out s e).messages.items };
 
     /// The numbers go on from the counter, one for each message.
-    ghost numbered_sends: { (s : Self) (e : Message) → IsNumbered (λ m. m.number) (counter s) (Self.plain.out s e).messages.items };
+    ghost numbered_sends: { (s : Self) (e : Message) → IsNumbered (λ m. m.number) (Self.plain.counter s) (Self.plain.out s e).messages.items };
 
     ghost counter_grows: { (s : Self) (e : Message) →
-        counter (Self.plain.after s e) ≡ counter s + length (Self.plain.out s e).messages.items };
+        Self.plain.counter (Self.plain.after s e) ≡ Self.plain.counter s + length (Self.plain.out s e).messages.items };
 }

@@ -39,7 +39,7 @@ pub fn act_and_undo<R: Actor>(
     answers: &mut Vec<Sends>,
 ) -> Result<(), AllocError>
     ensures back { actor.new ≡ actor.old }
-    ensures answers { OnOk result (answers.new.items ≡ answers.old.items ++ answers_within R.plain R.counter actor.old messages.now) }
+    ensures answers { OnOk result (answers.new.items ≡ answers.old.items ++ answers_within R.plain actor.old messages.now) }
 {
     let [first, rest @ ..] = messages else {
         return Ok(());

@@ -11,8 +11,8 @@ use crate::rules::actor_rules;
 ///
 /// A call does nothing: its caller learns what the clause says.
 pub fn actor_laws<A: Actor>()
-    ensures { (x : Setting A) → IsLaidOut (rules_of A.plain A.counter) A.number A.end A.is_placed x →
-        Laws (simulation_of (rules_of A.plain A.counter) x) }
+    ensures { (x : Setting A) → IsLaidOut (rules_of A.plain) A.number A.end A.is_placed x →
+        Laws (simulation_of (rules_of A.plain) x) }
 {
     actor_rules::<A>();
 }

@@ -15,11 +15,11 @@ use vlink::lawful_order;
 /// A call does nothing: its caller learns what the clauses say.
 pub fn actor_rules<R: Actor>()
     ensures order { IsOrder message_order }
-    ensures sender { (s : R) (e m : Message) → IsIn message_order m ((rules_of R.plain R.counter).sends s e) → m.sender ≡ R.number s }
-    ensures later { (s : R) (e m : Message) → R.is_placed s → IsIn message_order m ((rules_of R.plain R.counter).sends s e) → e.time < m.time }
-    ensures in_time { (s : R) (e m : Message) → IsIn message_order m ((rules_of R.plain R.counter).sends s e) → m.time ≤ R.end s }
-    ensures numbered { (s : R) (e : Message) → IsNumbered (λ m. m.number) (R.counter s) ((rules_of R.plain R.counter).sends s e) }
-    ensures counter_grows { (s : R) (e : Message) → R.counter (R.plain.after s e) ≡ R.counter s + length ((rules_of R.plain R.counter).sends s e) }
+    ensures sender { (s : R) (e m : Message) → IsIn message_order m ((rules_of R.plain).sends s e) → m.sender ≡ R.number s }
+    ensures later { (s : R) (e m : Message) → R.is_placed s → IsIn message_order m ((rules_of R.plain).sends s e) → e.time < m.time }
+    ensures in_time { (s : R) (e m : Message) → IsIn message_order m ((rules_of R.plain).sends s e) → m.time ≤ R.end s }
+    ensures numbered { (s : R) (e : Message) → IsNumbered (λ m. m.number) (R.plain.counter s) ((rules_of R.plain).sends s e) }
+    ensures counter_grows { (s : R) (e : Message) → R.plain.counter (R.plain.after s e) ≡ R.plain.counter s + length ((rules_of R.plain).sends s e) }
     ensures undoes { (s : R) (e : Message) → R.plain.before (R.plain.after s e) e (R.plain.saves s e) ≡ s }
 {
     lawful_order();

@@ -16,7 +16,7 @@ use Rattle.sample_actor.specs.declared.summing.SumRecord.{SumRecord}
 use Rattle.sample_actor.specs.Summing.{summing, sends}
 
 abbrev summing_rules : Rules Message Summing SumRecord Note
-summing_rules = rules_of summing (λ s. s.counter)
+summing_rules = rules_of summing
 
 -- one process, this actor, and one offer
 abbrev pub setting : Summing → Message → Setting Summing

@@ -21,4 +21,5 @@ summing =
       out = λ s e. record { messages = record { items = sends s e }; notes = record { items = [] } };
       saves = λ s e. record { sum = s.sum; counter = s.counter };
       before = λ s e kept. record s { sum = kept.sum; counter = kept.counter };
+      counter = λ s. s.counter;
     }

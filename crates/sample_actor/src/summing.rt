@@ -98,8 +98,6 @@ impl Actor for Summing {
 
     ghost end = { λ s. s.until };
 
-    ghost counter = { λ s. s.counter };
-
     ghost is_placed = { λ s. ⊤ };
 
     ghost numbers_suffice = { λ s h. h };

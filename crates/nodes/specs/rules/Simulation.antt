@@ -12,7 +12,7 @@ use Rattle.nodes.specs.rules.Opening.{opening}
 
 abbrev pub simulation_of : Plan → Simulation Message NodeState NodeRecord Note
 simulation_of plan = record {
-  rules = rules_of node (λ s. s.sender.counter);
+  rules = rules_of node;
   processes = process_count plan;
   until = plan.until;
   opening = opening plan;

@@ -48,4 +48,5 @@ node = record {
     sender = record s.sender { counter = s.sender.counter - k.sends };
     equipment = equipment_restored m k.equipment s.equipment;
   };
+  counter = λ s. s.sender.counter;
 }

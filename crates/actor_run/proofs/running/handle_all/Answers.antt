@@ -7,7 +7,7 @@ use Rattle.actor_run.proofs.Handling.{none-yet, one-more, never}
 use Rattle.actor_run.proofs.running.handle_all.Goals as goal
 
 pub events-init : goal.events-init
-events-init g c = record { stands = λ rows taken x L n h. (n, rows, taken, h, none-yet (simulation_of (rules_of g.A.Reversible.plain g.A.Actor.counter) x) n); purpose = refl; unseen = omega arith; watched = g.met.W.Watch.stays c.args.watch.now }
+events-init g c = record { stands = λ rows taken x L n h. (n, rows, taken, h, none-yet (simulation_of (rules_of g.A.Reversible.plain) x) n); purpose = refl; unseen = omega arith; watched = g.met.W.Watch.stays c.args.watch.now }
 
 pub handle_first-requires : goal.handle_first-requires
 handle_first-requires g c =
@@ -34,7 +34,7 @@ events-preserved g c =
       stands = λ rows taken x L n h.
           let now = c.events.invariant.stands rows taken x L n h in
           let handled = c.handle_first.ensures.handled k now.1 now.2 x L now.0 now.3 in
-          let f = simulation_of (rules_of g.A.Reversible.plain g.A.Actor.counter) x in (
+          let f = simulation_of (rules_of g.A.Reversible.plain) x in (
             suc now.0,
             handled.0,
             handled.1,
@@ -67,4 +67,4 @@ returns-clause-numbers g c = λ rows taken x L n h.
     let now = c.events.invariant.stands rows taken x L n h in
     let k : c.handle_first.result ≡ Ok false = c.in_ok-handle_first.was ∙ ap (λ z. Ok z) c.if-branch.false in
     let over = c.handle_first.ensures.over k now.1 now.2 x L now.0 now.3 in
-    never (simulation_of (rules_of g.A.Reversible.plain g.A.Actor.counter) x) n now.0 now.4 over.2
+    never (simulation_of (rules_of g.A.Reversible.plain) x) n now.0 now.4 over.2

@@ -10,7 +10,7 @@ use Rattle.actor_run.proofs.running.handle_all.Given as goal
 
 abbrev pub invariant-events : goal.invariant-events
 invariant-events g l = record {
-  stands : (rows : List Row) → g.R.Recorder.has_taken l.initial.recorder rows → AtEach (rules_of g.A.Reversible.plain g.A.Actor.counter) l.initial.actors l.initial.waiting rows
+  stands : (rows : List Row) → g.R.Recorder.has_taken l.initial.recorder rows → AtEach (rules_of g.A.Reversible.plain) l.initial.actors l.initial.waiting rows
       (λ f n. (k : ℕ) × (later : List Row) × g.R.Recorder.has_taken l.recorder later × StandsAt f k l.actors l.waiting later × HadNumbers f n k);
   purpose : g.R.Recorder.purpose l.recorder ≡ g.R.Recorder.purpose l.initial.recorder;
   unseen : l.unseen < EVENTS_PER_LOOK;

@@ -16,7 +16,7 @@ use Rattle.actor_run.proofs.running.handle_first.Goals.{After-messages}
 
 pub returns-in_default-clause-over : goal.returns-in_default-clause-over
 returns-in_default-clause-over g c = λ e rows taken x L n h.
-    let f = simulation_of (rules_of g.A.Reversible.plain g.A.Actor.counter) x in (
+    let f = simulation_of (rules_of g.A.Reversible.plain) x in (
       taken,
       subst (λ (heap : List Message). StandsAt f n c.args.actors.now heap rows) (sym c.in_default.ensures.unchanged) h,
       over f L n _ _ _ h c.in_default.ensures.none,
@@ -27,7 +27,7 @@ act-requires g c =
     let one = c.in-Some.ensures.one in
     let first = c.in-Some.ensures.first in
     let now = c.requires.2 in
-    let f = simulation_of (rules_of g.A.Reversible.plain g.A.Actor.counter) now.0 in
+    let f = simulation_of (rules_of g.A.Reversible.plain) now.0 in
     receiver_within f now.1 now.2 _ _ _ now.3 c.in-Some.message c.pop.new.self one first
 
 pub returns-then-not-act-clause-exhausted : goal.returns-then-not-act-clause-exhausted
@@ -35,19 +35,19 @@ returns-then-not-act-clause-exhausted g c =
     let one = c.in-Some.ensures.one in
     let first = c.in-Some.ensures.first in
     λ e rows taken x L n h.
-    let f = simulation_of (rules_of g.A.Reversible.plain g.A.Actor.counter) x in (
+    let f = simulation_of (rules_of g.A.Reversible.plain) x in (
       c.in-Some.message,
       is_next f L n _ _ _ h c.in-Some.message c.pop.new.self one first,
       c.if-not-act.ensures.exhausted refl _ (receiver_is f L n _ _ _ h c.in-Some.message c.pop.new.self one first),
     )
 
 -- after the receiver has acted, the actors stand as they do after one event more, and it had numbers left
-cut-off : (g : Over) (c : After-messages g) (rows : List Row) → AtEach (rules_of g.A.Reversible.plain g.A.Actor.counter) c.args.actors.now c.args.waiting.now rows
+cut-off : (g : Over) (c : After-messages g) (rows : List Row) → AtEach (rules_of g.A.Reversible.plain) c.args.actors.now c.args.waiting.now rows
     (λ f n. IsCutOffAt f n c.act.new.actors)
 cut-off g c rows x L n h =
     let one = c.in-Some.ensures.one in
     let first = c.in-Some.ensures.first in
-    let f = simulation_of (rules_of g.A.Reversible.plain g.A.Actor.counter) x in
+    let f = simulation_of (rules_of g.A.Reversible.plain) x in
     let r = receiver_is f L n _ _ _ h c.in-Some.message c.pop.new.self one first in (
       has-numbers f L n _ _ _ h c.in-Some.message c.pop.new.self one first (c.if-not-act.ensures.numbers refl _ r),
       states_after f L n _ _ _ h c.in-Some.message c.pop.new.self one first c.act.new.actors (c.if-not-act.ensures.state refl _ r),
@@ -69,7 +69,7 @@ returns-clause-handled g c =
     let one = c.in-Some.ensures.one in
     let first = c.in-Some.ensures.first in
     λ e rows taken x L n h.
-    let f = simulation_of (rules_of g.A.Reversible.plain g.A.Actor.counter) x in
+    let f = simulation_of (rules_of g.A.Reversible.plain) x in
     let r = receiver_is f L n _ _ _ h c.in-Some.message c.pop.new.self one first in
     let later = rows ++ rows_of message_order c.in-Some.message c.notes.result.now in (
       later,
@@ -94,7 +94,7 @@ returns-clause-smaller g c =
 
 pub returns-in_default-clause-used_up : goal.returns-in_default-clause-used_up
 returns-in_default-clause-used_up g c = λ rows taken x L n h z.
-    let f = simulation_of (rules_of g.A.Reversible.plain g.A.Actor.counter) x in
+    let f = simulation_of (rules_of g.A.Reversible.plain) x in
     absurd (over-numbers f L n _ _ _ h c.in_default.ensures.none z)
 
 pub returns-in_err-push_all-clause-used_up : goal.returns-in_err-push_all-clause-used_up

@@ -8,7 +8,7 @@ use Rattle.actor_world.proofs.actors.processes_of.Goals as goal
 
 pub loop-actor-preserved : goal.loop-actor-preserved
 loop-actor-preserved g c =
-    let r = rules_of g.R.Reversible.plain g.R.Actor.counter in
+    let r = rules_of g.R.Reversible.plain in
     let v = g.R.Reversible.is_value in
     let queues = λ (process : InHand g.row.R.Denot g.row.R-Record.Denot). process.queues in
     record {

@@ -34,7 +34,7 @@ pub invariant_of-held : goal.invariant_of-held
 invariant_of-held g c =
     let k = c.exchange.invariant.2 in
     let h = c.held.invariant.0 in
-    let r = rules_of g.R.Reversible.plain g.R.Actor.counter in
+    let r = rules_of g.R.Reversible.plain in
     let x = g.J.ActorRun.setting in
     let p = c.held.inside.number in
     let none = rw (sym c.held.view_is) at c.requires.posted in

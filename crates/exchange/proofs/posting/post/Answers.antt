@@ -48,7 +48,7 @@ pub invariant_of-held : goal.invariant_of-held
 invariant_of-held g c =
     let k = c.exchange.invariant.2 in
     let h = c.held.invariant.0 in
-    let r = rules_of g.R.Reversible.plain g.R.Actor.counter in
+    let r = rules_of g.R.Reversible.plain in
     let x = g.J.ActorRun.setting in
     let p = c.held.inside.number in
     let ts = c.exchange.inside.journal.items in
@@ -74,7 +74,7 @@ pub invariant_of-exchange-in-Ok : goal.invariant_of-exchange-in-Ok
 invariant_of-exchange-in-Ok g c =
     let k = c.exchange.invariant.2 in
     let h = c.held.invariant.0 in
-    let r = rules_of g.R.Reversible.plain g.R.Actor.counter in
+    let r = rules_of g.R.Reversible.plain in
     let x = g.J.ActorRun.setting in
     let L = c.actor_laws.ensures x k.laid in
     let p = c.held.inside.number in
@@ -119,7 +119,7 @@ invariant_of-exchange-in-Err g c =
 pub returns-in-Ok-clause-ok : goal.returns-in-Ok-clause-ok
 returns-in-Ok-clause-ok g c =
     let k = c.exchange.invariant.2 in
-    let f = simulation_of (rules_of g.R.Reversible.plain g.R.Actor.counter) g.J.ActorRun.setting in
+    let f = simulation_of (rules_of g.R.Reversible.plain) g.J.ActorRun.setting in
     let p = c.held.inside.number in
     let ts = c.exchange.inside.journal.items in
     let block = c.held.inside.block in

@@ -24,14 +24,14 @@ invariant_of-exchange g c =
 pub returns-then-eq-clause-ok : goal.returns-then-eq-clause-ok
 returns-then-eq-clause-ok g c =
     let k = c.exchange.invariant.2 in
-    let f = simulation_of (rules_of g.R.Reversible.plain g.R.Actor.counter) g.J.ActorRun.setting in
+    let f = simulation_of (rules_of g.R.Reversible.plain) g.J.ActorRun.setting in
     let gvt = c.horizon-gvt.ensures ∙ gvt-told k c.gvt_law.ensures (λ m. refl) in
     rw (sym c.exchange.view_is) (gvt, publishes-none f _ _ _ (ap (λ z. c.horizon-gvt.result == z) (sym k.gvt_is) ∙ (sym c.eq.ensures ∙ c.if-eq.true)) refl)
 
 pub returns-in-Ok-clause-ok : goal.returns-in-Ok-clause-ok
 returns-in-Ok-clause-ok g c =
     let k = c.exchange.invariant.2 in
-    let f = simulation_of (rules_of g.R.Reversible.plain g.R.Actor.counter) g.J.ActorRun.setting in
+    let f = simulation_of (rules_of g.R.Reversible.plain) g.J.ActorRun.setting in
     let wrote = c.in-Ok.ensures in
     let gvt = c.horizon-gvt.ensures ∙ gvt-told k c.gvt_law.ensures (λ m. refl) in
     let longer = ap entries_of wrote.journal ∙ entries-are (entry-fresh k.same wrote.at wrote.value refl refl refl refl tt) in

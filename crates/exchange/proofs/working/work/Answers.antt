@@ -8,7 +8,7 @@ use Rattle.exchange.proofs.working.work.Goals as goal
 
 pub returns-in_err-commit_all-clause-some : goal.returns-in_err-commit_all-clause-some
 returns-in_err-commit_all-clause-some g c =
-    let f = simulation_of (rules_of g.R.Reversible.plain g.R.Actor.counter) g.J.ActorRun.setting in
+    let f = simulation_of (rules_of g.R.Reversible.plain) g.J.ActorRun.setting in
     if-err (WorksSome f c.args.turn c.args.window c.args.held.now c.commit_all.new.self) c.in_err-commit_all.field-0.0 c.from_residual-in_err-commit_all.result c.from_residual-in_err-commit_all.ensures.1
     (inr (inr (
       c.run_early.new.self,
@@ -18,7 +18,7 @@ returns-in_err-commit_all-clause-some g c =
 
 pub returns-clause-ok : goal.returns-clause-ok
 returns-clause-ok g c =
-    let f = simulation_of (rules_of g.R.Reversible.plain g.R.Actor.counter) g.J.ActorRun.setting in
+    let f = simulation_of (rules_of g.R.Reversible.plain) g.J.ActorRun.setting in
     let ran = c.in_ok-run_early.ensures.ran in
     let sealed = c.in_ok-commit_all.ensures.committed in
     works f c.args.turn c.args.window c.args.held.now c.arrive_all.new.self c.run_early.new.self c.commit_all.new.self ran.runs sealed.0 c.in_ok-arrive_all.ensures.arrived ran.did sealed.1

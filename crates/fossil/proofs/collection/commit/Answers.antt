@@ -8,7 +8,7 @@ use Rattle.fossil.proofs.collection.commit.Goals as goal
 
 pub loop-sealed-preserved : goal.loop-sealed-preserved
 loop-sealed-preserved g c =
-    let r = rules_of g.R.Reversible.plain g.R.Actor.counter in
+    let r = rules_of g.R.Reversible.plain in
     let v = g.R.Reversible.is_value in
     let i = c.loop-sealed.invariant in
     let some : 0 < c.loop-sealed.process.committed_room = omega arith in
@@ -27,11 +27,11 @@ loop-sealed-preserved g c =
 pub returns-clause-answer : goal.returns-clause-answer
 returns-clause-answer g c opening part h =
     c.committable-count.ensures.stands opening part h ∙
-    committable-below (rules_of g.R.Reversible.plain g.R.Actor.counter) c.actor_rules.ensures.order c.args.gvt c.args.n part h.past.ascending
+    committable-below (rules_of g.R.Reversible.plain) c.actor_rules.ensures.order c.args.gvt c.args.n part h.past.ascending
 
 pub returns-clause-one_part : goal.returns-clause-one_part
 returns-clause-one_part g c one opening part h =
-    let r = rules_of g.R.Reversible.plain g.R.Actor.counter in
+    let r = rules_of g.R.Reversible.plain in
     let v = g.R.Reversible.is_value in
     let all : c.loop-sealed.sealed ≡ c.committable-count.result = omega arith in
     let count : c.loop-sealed.sealed ≡ committed_below r c.args.gvt 1 part =
@@ -42,5 +42,5 @@ returns-clause-one_part g c one opening part h =
 pub returns-then-is_err-clause-reserved : goal.returns-then-is_err-clause-reserved
 returns-then-is_err-clause-reserved g c opening part h =
     subst (λ z. c.args.process.now.committed_room < z) (c.committable-count.ensures.stands opening part h ∙
-    committable-below (rules_of g.R.Reversible.plain g.R.Actor.counter) c.actor_rules.ensures.order c.args.gvt c.args.n part h.past.ascending)
+    committable-below (rules_of g.R.Reversible.plain) c.actor_rules.ensures.order c.args.gvt c.args.n part h.past.ascending)
     (on_err-is (c.args.process.now.committed_room < c.committable-count.result) c.reserve_rows.result c.reserve_rows.ensures.reserved (sym c.if-is_err.ensures.value))

@@ -13,7 +13,7 @@ count_before-count-requires g c =
 
 pub returns-clause-gone : goal.returns-clause-gone
 returns-clause-gone g c opening part h =
-    let rows = rowed (rules_of g.R.Reversible.plain g.R.Actor.counter) opening part.committed in (
+    let rows = rowed (rules_of g.R.Reversible.plain) opening part.committed in (
       c.let_rows_go-gone.result,
       c.let_rows_go-gone.ensures.left,
       next-early c.args.moment c.args.process.now.queues.left c.count_before-count.result c.sealed.result.now rows (c.sealed.ensures opening part h)
@@ -22,7 +22,7 @@ returns-clause-gone g c opening part h =
 
 pub returns-clause-early : goal.returns-clause-early
 returns-clause-early g c opening part h limit le early =
-    let r = rules_of g.R.Reversible.plain g.R.Actor.counter in
+    let r = rules_of g.R.Reversible.plain in
     let rows = rowed r opening part.committed in
     subst (λ n. AreFirstBefore r limit n rows) (sym c.let_rows_go-gone.ensures.left)
     (first-early c.args.moment c.args.process.now.queues.left c.count_before-count.result c.sealed.result.now rows (c.sealed.ensures opening part h)
@@ -30,7 +30,7 @@ returns-clause-early g c opening part h limit le early =
 
 pub returns-clause-late : goal.returns-clause-late
 returns-clause-late g c opening part h few =
-    let r = rules_of g.R.Reversible.plain g.R.Actor.counter in
+    let r = rules_of g.R.Reversible.plain in
     let rows = rowed r opening part.committed in
     let old = c.args.process.now.queues.left in
     let there = c.sealed.ensures opening part h in

@@ -17,7 +17,7 @@ count_before-requires g c =
 
 pub returns-clause-there : goal.returns-clause-there
 returns-clause-there g c opening part stands =
-    let r = rules_of g.R.Reversible.plain g.R.Actor.counter in
+    let r = rules_of g.R.Reversible.plain in
     let rows = c.sealed-rows.result.now in
     let here = window (λ row. row.message.time) c.args.from c.args.to rows c.count_before-begin.result c.count_before.result c.max-end.result
     c.count_before-begin.ensures.point c.count_before.ensures.point c.count_before.ensures.within c.max-end.ensures in
@@ -25,6 +25,6 @@ returns-clause-there g c opening part stands =
 
 pub returns-clause-whole : goal.returns-clause-whole
 returns-clause-whole g c opening part stands early =
-    let r = rules_of g.R.Reversible.plain g.R.Actor.counter in
+    let r = rules_of g.R.Reversible.plain in
     returns-clause-there g c opening part stands ∙
     rows-kept r c.args.from c.args.to c.args.process.now.queues.left (rowed r opening part.committed) early

@@ -14,7 +14,7 @@ reached-has r O x p s Good step g h = subst Good (sym h.1) (reached-keeps r O Go
 
 pub returns : goal.returns
 returns g c = λ x h.
-    let r = rules_of g.A.Reversible.plain g.A.Actor.counter in
+    let r = rules_of g.A.Reversible.plain in
     let O = c.actor_rules.ensures.order in
     record {
       order = O;

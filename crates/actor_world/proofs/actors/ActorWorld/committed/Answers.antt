@@ -8,7 +8,7 @@ use Rattle.actor_world.proofs.actors.ActorWorld.committed.Goals as goal
 
 pub returns : goal.returns
 returns g c = λ x laid steps h.
-    let f = simulation_of (rules_of g.R.Reversible.plain g.R.Actor.counter) x in
+    let f = simulation_of (rules_of g.R.Reversible.plain) x in
     let w = run f steps (start f) in
     let p = c.args.process in
     let there = subst (λ (o : Holdings g.row.R.Denot g.row.R-Record.Denot). p < length o.processes) (sym c.self.view_is) c.requires in

@@ -8,13 +8,13 @@ use Rattle.actor_world.proofs.actors.ActorWorld.new.Goals as goal
 pub with_letters-requires : goal.with_letters-requires
 with_letters-requires g c =
     rw c.in_ok-letters.ensures
-    (offers-go (rules_of g.R.Reversible.plain g.R.Actor.counter) c.actor_rules.ensures.order g.R.Actor.number g.R.Actor.end g.R.Actor.is_placed g.R.Reversible.is_value
+    (offers-go (rules_of g.R.Reversible.plain) c.actor_rules.ensures.order g.R.Actor.number g.R.Actor.end g.R.Actor.is_placed g.R.Reversible.is_value
     c.args.actors.items c.args.offers.now c.args.until c.requires.layout _ (omega (arith, c.len-count.ensures, c.args.actors.ok.0)))
 
 pub returns-clause-opens : goal.returns-clause-opens
 returns-clause-opens g c = λ x o e.
     let floors = c.in_ok-floors.ensures in
-    opens (rules_of g.R.Reversible.plain g.R.Actor.counter) g.R.Reversible.is_value x c.args.actors.items c.args.offers.now o
+    opens (rules_of g.R.Reversible.plain) g.R.Reversible.is_value x c.args.actors.items c.args.offers.now o
     _ c.in_ok-processes.ensures.processes
     c.in_ok-mail.mail (omega (arith, c.len-count.ensures, c.in_ok-mail.ensures.processes, c.args.actors.ok.0))
     (λ p. c.in_ok-mail.ensures.letters p ∙ ap (received_by message_order p) c.in_ok-letters.ensures)

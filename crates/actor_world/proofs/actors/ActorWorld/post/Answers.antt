@@ -34,7 +34,7 @@ set-requires g c = rw (sym c.self.view_is) at (floors-within _ _ _ _ _ _ c.requi
 
 pub returns : goal.returns
 returns g c =
-    let r = rules_of g.R.Reversible.plain g.R.Actor.counter in
+    let r = rules_of g.R.Reversible.plain in
     let vs = c.self.inside.processes.items in
     let read = read-written vs c.args.process c.from.result c.from-2.result c.index.result.now c.post.new.self c.from.ensures c.from-2.ensures (rw (sym c.self.view_is) at c.requires.there) c.index.ensures in
     let floor = subst (λ (u : InHand g.row.R.Denot g.row.R-Record.Denot). (opening : g.row.R.Denot) (part : Part Message g.row.R.Denot) →

@@ -9,6 +9,6 @@ pub returns-clause-stepped : goal.returns-clause-stepped
 returns-clause-stepped g c =
     rw (sym c.self.view_is)
     (gvt-did _ _ _ _ _ _ _ (λ x laid steps h.
-    let f = simulation_of (rules_of g.R.Reversible.plain g.R.Actor.counter) x in
+    let f = simulation_of (rules_of g.R.Reversible.plain) x in
     c.horizon-self-inside.ensures
     ∙ c.gvt_law.ensures f (λ m. refl) (run f steps (start f)) c.self.inside.floors c.self.inside.mail (sym h.floor_count) (sym h.boxes) (sym h.until) h.floors h.mail))

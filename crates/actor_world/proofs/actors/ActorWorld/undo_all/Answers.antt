@@ -11,10 +11,10 @@ use Rattle.actor_world.proofs.actors.ActorWorld.undo_all.Goals.{After-swap_remov
 use Rattle.actor_world.proofs.actors.ActorWorld.undo_all.Goals as goal
 
 -- the process that is taken out stands for that of each world
-stands : (g : Over) (c : After-swap_remove g) → AtEachWorld (rules_of g.R.Reversible.plain g.R.Actor.counter) g.R.Actor.number g.R.Actor.end g.R.Actor.is_placed g.R.Reversible.is_value c.args.self
+stands : (g : Over) (c : After-swap_remove g) → AtEachWorld (rules_of g.R.Reversible.plain) g.R.Actor.number g.R.Actor.end g.R.Actor.is_placed g.R.Reversible.is_value c.args.self
     (λ f w. StandsFor f.rules g.R.Reversible.is_value (f.opening c.args.process) (w.parts c.args.process) c.swap_remove.result.queues)
 stands g c = λ x laid steps h.
-    let f = simulation_of (rules_of g.R.Reversible.plain g.R.Actor.counter) x in
+    let f = simulation_of (rules_of g.R.Reversible.plain) x in
     let p = c.args.process in
     let vs = c.self.inside.processes.items in
     let there : p < length (map (λ (u : InHand g.row.R.Denot g.row.R-Record.Denot). u.queues) vs) =

@@ -18,7 +18,7 @@ with_letters-requires g c =
 
 pub invariant_of-exchange : goal.invariant_of-exchange
 invariant_of-exchange g c =
-    let r = rules_of g.R.Reversible.plain g.R.Actor.counter in
+    let r = rules_of g.R.Reversible.plain in
     let x = g.J.ActorRun.setting in
     let actors = c.args.actors.ok.0 ∙ c.requires.opens.actors_open.count in
     let count = c.len-count.ensures ∙ actors in

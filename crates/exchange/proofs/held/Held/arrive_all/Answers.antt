@@ -7,7 +7,7 @@ use Rattle.exchange.proofs.held.Held.arrive_all.Goals as goal
 
 pub loop-arrived-preserved : goal.loop-arrived-preserved
 loop-arrived-preserved g c =
-    let f = simulation_of (rules_of g.R.Reversible.plain g.R.Actor.counter) g.J.ActorRun.setting in
+    let f = simulation_of (rules_of g.R.Reversible.plain) g.J.ActorRun.setting in
     record {
       did = moved-more f c.loop-arrived.arrived Arrived c.args.self.now c.loop-arrived.self c.arrive.new.self c.loop-arrived.invariant.did c.in_ok-arrive.ensures.arrived;
       left = let a = c.in_ok-arrive.ensures.tray in let b = c.loop-arrived.invariant.left in omega arith;

@@ -7,6 +7,6 @@ use Rattle.exchange.proofs.held.Held.arrive_all.Given as goal
 
 abbrev pub invariant-loop-arrived : goal.invariant-loop-arrived
 invariant-loop-arrived g l = record {
-  did : l.self ≡ moved_by (simulation_of (rules_of g.R.Reversible.plain g.R.Actor.counter) g.J.ActorRun.setting) (replicate l.arrived Arrived) l.fn.self;
+  did : l.self ≡ moved_by (simulation_of (rules_of g.R.Reversible.plain) g.J.ActorRun.setting) (replicate l.arrived Arrived) l.fn.self;
   left : l.arrived + length l.self.part.tray ≡ l.letters;
 }

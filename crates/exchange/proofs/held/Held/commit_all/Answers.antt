@@ -7,6 +7,6 @@ use Rattle.exchange.proofs.held.Held.commit_all.Goals as goal
 
 pub loop-preserved : goal.loop-preserved
 loop-preserved g c =
-    let f = simulation_of (rules_of g.R.Reversible.plain g.R.Actor.counter) g.J.ActorRun.setting in
+    let f = simulation_of (rules_of g.R.Reversible.plain) g.J.ActorRun.setting in
     let i = c.loop.invariant in
     (i.0 + 1, moved-more f i.0 Sealed c.args.self.now c.loop.self c.commit_one.new.self i.1 (c.in_ok-commit_one.ensures.committed c.if-not-branch.false))

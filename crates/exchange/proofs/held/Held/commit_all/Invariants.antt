@@ -7,7 +7,7 @@ use Rattle.exchange.proofs.held.Held.commit_all.Given as goal
 
 abbrev pub invariant-loop : goal.invariant-loop
 invariant-loop g l =
-    (commits : ℕ) × (l.self ≡ moved_by (simulation_of (rules_of g.R.Reversible.plain g.R.Actor.counter) g.J.ActorRun.setting) (replicate commits Sealed) l.fn.self)
+    (commits : ℕ) × (l.self ≡ moved_by (simulation_of (rules_of g.R.Reversible.plain) g.J.ActorRun.setting) (replicate commits Sealed) l.fn.self)
 
 abbrev pub decreases-loop : goal.decreases-loop
 decreases-loop g l = length l.self.part.done

@@ -6,5 +6,5 @@ use Rattle.exchange.proofs.held.Held.let_rows_go.Goals as goal
 pub let_rows_go-requires : goal.let_rows_go-requires
 let_rows_go-requires g c =
     let h = c.self.invariant.0 in
-    let f = simulation_of (rules_of g.R.Reversible.plain g.R.Actor.counter) g.J.ActorRun.setting in
+    let f = simulation_of (rules_of g.R.Reversible.plain) g.J.ActorRun.setting in
     (_, _, h.stands, committed-in-time f (c.actor_laws.ensures g.J.ActorRun.setting h.laid) c.self.inside.number c.self.inside.seen _ h.safe)

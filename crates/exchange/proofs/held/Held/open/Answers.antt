@@ -7,7 +7,7 @@ use Rattle.exchange.proofs.held.Held.open.Goals as goal
 
 pub invariant_of-result : goal.invariant_of-result
 invariant_of-result g c =
-    let r = rules_of g.R.Reversible.plain g.R.Actor.counter in
+    let r = rules_of g.R.Reversible.plain in
     let q = c.in-Ok.process.queues in
     let stands = subst (λ s. StandsFor r g.R.Reversible.is_value s (opened s) q) c.requires.actor c.in-Ok.ensures.stands in (
       holds-opened c.requires.layout c.requires.table (c.actor_laws.ensures g.J.ActorRun.setting c.requires.layout) g.R.Reversible.is_value c.args.number c.requires.within

@@ -8,7 +8,7 @@ use Rattle.exchange.proofs.held.Held.run_early.Goals as goal
 
 pub loop-run-preserved : goal.loop-run-preserved
 loop-run-preserved g c =
-    let f = simulation_of (rules_of g.R.Reversible.plain g.R.Actor.counter) g.J.ActorRun.setting in
+    let f = simulation_of (rules_of g.R.Reversible.plain) g.J.ActorRun.setting in
     let i = c.loop-run.invariant in
     let next = c.in_ok-run_next.ensures.early c.if-not-branch.false in
     let seen = ap (λ (z : InShare g.row.R.Denot). z.share.seen) i.did in

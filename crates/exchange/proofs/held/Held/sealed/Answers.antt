@@ -10,7 +10,7 @@ use Rattle.exchange.proofs.held.Held.sealed.Goals as goal
 pub returns : goal.returns
 returns g c =
     let h = c.self.invariant.0 in
-    let r = rules_of g.R.Reversible.plain g.R.Actor.counter in
+    let r = rules_of g.R.Reversible.plain in
     let x = g.J.ActorRun.setting in
     let p = c.self.inside.number in
     let part = after_moves r (x.opening p) c.self.inside.block (after_own (simulation_of r x) p (own_of c.self.inside.last)) in

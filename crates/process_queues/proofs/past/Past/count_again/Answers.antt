@@ -9,7 +9,7 @@ use Rattle.process_queues.proofs.past.Past.count_again.Goals as goal
 
 pub returns-in-Ok-clause-counts : goal.returns-in-Ok-clause-counts
 returns-in-Ok-clause-counts g c = λ m.
-    let R = of-messages g.R.Reversible.plain g.R.Actor.counter c.actor_rules.ensures.order c.actor_rules.ensures.undoes in
+    let R = of-messages g.R.Reversible.plain c.actor_rules.ensures.order c.actor_rules.ensures.undoes in
     let l = c.args.letter in
     let old = c.count_back-tallied.new.tally in
     let t = c.if-tallied-place.true in

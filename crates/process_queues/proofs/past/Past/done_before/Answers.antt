@@ -6,7 +6,7 @@ use Rattle.process_queues.proofs.past.Past.done_before.Goals as goal
 
 pub returns-then-is_before : goal.returns-then-is_before
 returns-then-is_before g c =
-    let r = rules_of g.R.Reversible.plain g.R.Actor.counter in
+    let r = rules_of g.R.Reversible.plain in
     let e = c.index.result.now in
     let l = c.len-events.ensures in
     let d = ap (λ p. length p.done) c.self.view_is in

@@ -44,7 +44,7 @@ pub returns-clause-rolled : goal.returns-clause-rolled
 returns-clause-rolled g c opening there part b =
     let h = c.loop-self.invariant.rolls opening there part b in
     let e = rolls-end c.actor_rules.ensures.order h (sym c.is_before.ensures ∙ c.loop-self-test.false) in
-    let k = subst (λ p. BelongsTo (rules_of g.R.Reversible.plain g.R.Actor.counter) g.R.Reversible.is_value opening there p c.loop-self.self) e h.belongs in
+    let k = subst (λ p. BelongsTo (rules_of g.R.Reversible.plain) g.R.Reversible.is_value opening there p c.loop-self.self) e h.belongs in
     record { past_of = k.past_of; state = k.state; ascending = k.ascending }
 
 pub returns-clause-posted : goal.returns-clause-posted
@@ -52,7 +52,7 @@ returns-clause-posted g c opening there part b o =
     let h = c.loop-self.invariant.rolls opening there part b in
     let e = rolls-end c.actor_rules.ensures.order h (sym c.is_before.ensures ∙ c.loop-self-test.false) in
     h.outbox ∙ (ap (λ p. p.outbox) e ∙
-    ap (λ ls. (rolled_back (rules_of g.R.Reversible.plain g.R.Actor.counter) opening c.args.message.now (record part { outbox = ls })).outbox) o)
+    ap (λ ls. (rolled_back (rules_of g.R.Reversible.plain) opening c.args.message.now (record part { outbox = ls })).outbox) o)
 
 pub undo_newest-requires-clause-room : goal.undo_newest-requires-clause-room
 undo_newest-requires-clause-room g c front event d =

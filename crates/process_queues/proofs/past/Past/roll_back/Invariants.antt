@@ -8,9 +8,9 @@ use Rattle.process_queues.proofs.past.Past.roll_back.Given as goal
 
 abbrev pub invariant-loop-self : goal.invariant-loop-self
 invariant-loop-self g l = record {
-  rolls : (opening : _) (there : Rows) (part : Part Message _) → BelongsTo (rules_of g.R.Reversible.plain g.R.Actor.counter) g.R.Reversible.is_value opening there part l.initial.self →
-      Rolls (rules_of g.R.Reversible.plain g.R.Actor.counter) g.R.Reversible.is_value opening there l.message (record part { outbox = l.initial.outbox.letters }) l.self l.outbox.letters;
-  some : (opening : _) × (there : Rows) × (part : Part Message _) × BelongsTo (rules_of g.R.Reversible.plain g.R.Actor.counter) g.R.Reversible.is_value opening there part l.initial.self;
+  rolls : (opening : _) (there : Rows) (part : Part Message _) → BelongsTo (rules_of g.R.Reversible.plain) g.R.Reversible.is_value opening there part l.initial.self →
+      Rolls (rules_of g.R.Reversible.plain) g.R.Reversible.is_value opening there l.message (record part { outbox = l.initial.outbox.letters }) l.self l.outbox.letters;
+  some : (opening : _) × (there : Rows) × (part : Part Message _) × BelongsTo (rules_of g.R.Reversible.plain) g.R.Reversible.is_value opening there part l.initial.self;
   room : sent_since l.message (reverse l.self.done) ≤ l.outbox.room;
   fewer : length l.self.done ≤ length l.initial.self.done;
 }

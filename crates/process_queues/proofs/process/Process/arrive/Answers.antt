@@ -34,7 +34,7 @@ invariant_of-self-in_err-count_again g c = rw (c.in_ok-reserve.ensures.same, c.i
 
 pub returns-then-is_before-clause-arrived : goal.returns-then-is_before-clause-arrived
 returns-then-is_before-clause-arrived g c opening part h =
-    let R = of-messages g.R.Reversible.plain g.R.Actor.counter c.actor_rules.ensures.order c.actor_rules.ensures.undoes in
+    let R = of-messages g.R.Reversible.plain c.actor_rules.ensures.order c.actor_rules.ensures.undoes in
     let k = rw (← c.self.view_is) at h in
     still-stands R k c.in-Some.letter (search rules) (inr (sym c.if-is_before.ensures)) c.self.inside.tally c.add.new.self _ refl
     (added-same_counts message_order R.messages c.in-Some.letter c.add.new.self c.self.inside.tally c.in_ok-change.ensures.count c.in_ok-change.ensures.others)
@@ -42,19 +42,19 @@ returns-then-is_before-clause-arrived g c opening part h =
 
 pub returns-then-is_before-clause-answer : goal.returns-then-is_before-clause-answer
 returns-then-is_before-clause-answer g c opening part h =
-    let R = of-messages g.R.Reversible.plain g.R.Actor.counter c.actor_rules.ensures.order c.actor_rules.ensures.undoes in
+    let R = of-messages g.R.Reversible.plain c.actor_rules.ensures.order c.actor_rules.ensures.undoes in
     still-answer R (rw (← c.self.view_is) at h) c.in-Some.letter (search rules) (inr (sym c.if-is_before.ensures))
 
 pub invariant_of-self-then-is_before : goal.invariant_of-self-then-is_before
 invariant_of-self-then-is_before g c =
-    let R = of-messages g.R.Reversible.plain g.R.Actor.counter c.actor_rules.ensures.order c.actor_rules.ensures.undoes in
+    let R = of-messages g.R.Reversible.plain c.actor_rules.ensures.order c.actor_rules.ensures.undoes in
     let i = c.self.invariant in
     let l = c.in-Some.letter in
     let t = c.self.inside.tally in
     let newest = c.newest.ensures in
     let stands = returns-then-is_before-clause-arrived g c i.0 i.1 (rw (← c.self.view_is) i.2) in (
       i.0,
-      arrive (rules_of g.R.Reversible.plain g.R.Actor.counter) i.0 i.1,
+      arrive (rules_of g.R.Reversible.plain) i.0 i.1,
       stands,
       c.next_with-self-inside.ensures t
           (added-same_counts message_order R.messages l c.add.new.self t c.in_ok-change.ensures.count c.in_ok-change.ensures.others) c.in_ok-change.ensures.change
@@ -77,7 +77,7 @@ same g c = subst (λ q. change_by message_order c.in-Some.letter q.queues.tally 
 
 pub returns-then-not-is_toggled-clause-arrived : goal.returns-then-not-is_toggled-clause-arrived
 returns-then-not-is_toggled-clause-arrived g c opening part h =
-    let R = of-messages g.R.Reversible.plain g.R.Actor.counter c.actor_rules.ensures.order c.actor_rules.ensures.undoes in
+    let R = of-messages g.R.Reversible.plain c.actor_rules.ensures.order c.actor_rules.ensures.undoes in
     let k = rw (← c.self.view_is) at h in
     still-stands R k c.in-Some.letter (search rules) (inl (same g c)) c.self.inside.tally c.add-then-not-is_toggled.new.self _ refl
     (added-same_counts message_order R.messages c.in-Some.letter c.add-then-not-is_toggled.new.self c.self.inside.tally c.in_ok-add.ensures.count c.in_ok-add.ensures.others)
@@ -85,7 +85,7 @@ returns-then-not-is_toggled-clause-arrived g c opening part h =
 
 pub returns-then-not-is_toggled-clause-answer : goal.returns-then-not-is_toggled-clause-answer
 returns-then-not-is_toggled-clause-answer g c opening part h =
-    let R = of-messages g.R.Reversible.plain g.R.Actor.counter c.actor_rules.ensures.order c.actor_rules.ensures.undoes in
+    let R = of-messages g.R.Reversible.plain c.actor_rules.ensures.order c.actor_rules.ensures.undoes in
     still-answer R (rw (← c.self.view_is) at h) c.in-Some.letter (search rules) (inl (same g c))
 
 pub invariant_of-self-then-not-is_toggled : goal.invariant_of-self-then-not-is_toggled
@@ -98,7 +98,7 @@ invariant_of-self-then-not-is_toggled g c =
     let counts = with_done-same O new (l ∷ c.self.inside.tally) done
     (added-same_counts message_order O l new c.self.inside.tally c.in_ok-add.ensures.count c.in_ok-add.ensures.others) in (
       i.0,
-      arrive (rules_of g.R.Reversible.plain g.R.Actor.counter) i.0 i.1,
+      arrive (rules_of g.R.Reversible.plain) i.0 i.1,
       returns-then-not-is_toggled-clause-arrived g c i.0 i.1 (rw (← c.self.view_is) i.2),
       i.3 ∙ next-same message_order O (newest_of (map (λ e. e.message) done)) l (with_done c.self.inside.tally done) (with_done new done) counts (same g c),
     )
@@ -108,31 +108,31 @@ invariant_of-self-then-not-is_toggled g c =
 pub sent_since-requires : goal.sent_since-requires
 sent_since-requires g c =
     let i = c.self.invariant in
-    (i.0, drop c.self.inside.left (rowed (rules_of g.R.Reversible.plain g.R.Actor.counter) i.0 (i.1).committed), i.1, i.2.past)
+    (i.0, drop c.self.inside.left (rowed (rules_of g.R.Reversible.plain) i.0 (i.1).committed), i.1, i.2.past)
 
 pub done_before-place-requires : goal.done_before-place-requires
 done_before-place-requires g c = done-ascending c.self.invariant.2.past
 
 pub count_again-requires-clause-within : goal.count_again-requires-clause-within
 count_again-requires-clause-within g c =
-    before-within (rules_of g.R.Reversible.plain g.R.Actor.counter) c.in-Some.letter.message c.self.inside.past.done c.done_before-place.result c.done_before-place.ensures
+    before-within (rules_of g.R.Reversible.plain) c.in-Some.letter.message c.self.inside.past.done c.done_before-place.result c.done_before-place.ensures
 
 pub count_again-requires-clause-not_owed : goal.count_again-requires-clause-not_owed
 count_again-requires-clause-not_owed g c m j =
-    let R = of-messages g.R.Reversible.plain g.R.Actor.counter c.actor_rules.ensures.order c.actor_rules.ensures.undoes in
+    let R = of-messages g.R.Reversible.plain c.actor_rules.ensures.order c.actor_rules.ensures.undoes in
     not-owed R c.self.invariant.2 m c.self.inside.tally refl j
 
 pub roll_back-undone-requires-clause-some : goal.roll_back-undone-requires-clause-some
 roll_back-undone-requires-clause-some g c =
     let i = c.self.invariant in
-    (i.0, drop c.self.inside.left (rowed (rules_of g.R.Reversible.plain g.R.Actor.counter) i.0 (i.1).committed), i.1, i.2.past)
+    (i.0, drop c.self.inside.left (rowed (rules_of g.R.Reversible.plain) i.0 (i.1).committed), i.1, i.2.past)
 
 toggled : (g : Over) (c : goal.After-self-2-1 g) → change_by message_order c.in-Some.letter (with_done c.self.inside.tally c.self.inside.past.done) ≢ Same
 toggled g c = subst (λ q. change_by message_order c.in-Some.letter q.queues.tally ≢ Same) (sym c.self.view_is) (c.if-not-is_toggled.ensures.toggled refl)
 
 pub returns-clause-arrived : goal.returns-clause-arrived
 returns-clause-arrived g c opening part h =
-    let R = of-messages g.R.Reversible.plain g.R.Actor.counter c.actor_rules.ensures.order c.actor_rules.ensures.undoes in
+    let R = of-messages g.R.Reversible.plain c.actor_rules.ensures.order c.actor_rules.ensures.undoes in
     let k = rw (← c.self.view_is) at h in
     let first : slice_get c.self.inside.tray.items 0 ≡ Some c.in-Some.letter = search rules in
     let b = tallied-belongs R k c.in-Some.letter first in
@@ -142,7 +142,7 @@ returns-clause-arrived g c opening part h =
 
 pub returns-clause-answer : goal.returns-clause-answer
 returns-clause-answer g c opening part h =
-    let R = of-messages g.R.Reversible.plain g.R.Actor.counter c.actor_rules.ensures.order c.actor_rules.ensures.undoes in
+    let R = of-messages g.R.Reversible.plain c.actor_rules.ensures.order c.actor_rules.ensures.undoes in
     let k = rw (← c.self.view_is) at h in
     let first : slice_get c.self.inside.tray.items 0 ≡ Some c.in-Some.letter = search rules in
     let b = tallied-belongs R k c.in-Some.letter first in
@@ -150,11 +150,11 @@ returns-clause-answer g c opening part h =
 
 pub invariant_of-self-2 : goal.invariant_of-self-2
 invariant_of-self-2 g c =
-    let R = of-messages g.R.Reversible.plain g.R.Actor.counter c.actor_rules.ensures.order c.actor_rules.ensures.undoes in
+    let R = of-messages g.R.Reversible.plain c.actor_rules.ensures.order c.actor_rules.ensures.undoes in
     let i = c.self.invariant in
     let stands = returns-clause-arrived g c i.0 i.1 (rw (← c.self.view_is) i.2) in (
       i.0,
-      arrive (rules_of g.R.Reversible.plain g.R.Actor.counter) i.0 i.1,
+      arrive (rules_of g.R.Reversible.plain) i.0 i.1,
       stands,
       c.next_after-self-inside.ensures ∙ (ap (λ o. present_after message_order o c.count_again.new.tally) c.newest-2.ensures ∙
           sym (next-beside R stands c.count_again.new.tally refl)),

@@ -8,6 +8,6 @@ pub invariant_of-result : goal.invariant_of-result
 invariant_of-result g c = (
   c.args.actor,
   opened c.args.actor,
-  opened-stands (rules_of g.R.Reversible.plain g.R.Actor.counter) g.R.Reversible.is_value c.args.actor _ (search rules),
+  opened-stands (rules_of g.R.Reversible.plain) g.R.Reversible.is_value c.args.actor _ (search rules),
   search rules,
 )

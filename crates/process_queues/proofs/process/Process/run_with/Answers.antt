@@ -15,7 +15,7 @@ use Rattle.process_queues.proofs.process.Process.run_with.Goals as goal
 
 pub returns-in_default-clause-ran : goal.returns-in_default-clause-ran
 returns-in_default-clause-ran g c = λ opening part h.
-    let r = rules_of g.R.Reversible.plain g.R.Actor.counter in
+    let r = rules_of g.R.Reversible.plain in
     let next : None ≡ next_of r.order part = sym c.in_default.is ∙ c.next.ensures.stands opening part h in
     subst (λ z. StandsFor r g.R.Reversible.is_value opening z c.args.self.now.queues) (ap (handled r part) next) h
 
@@ -34,8 +34,8 @@ returns-clause-handled g c = λ opening part h. sym c.in-Some.is ∙ c.next.ensu
 
 pub returns-clause-ran : goal.returns-clause-ran
 returns-clause-ran g c = λ opening part h.
-    let r = rules_of g.R.Reversible.plain g.R.Actor.counter in
-    let R = of-messages g.R.Reversible.plain g.R.Actor.counter c.actor_rules.ensures.order c.actor_rules.ensures.undoes in
+    let r = rules_of g.R.Reversible.plain in
+    let R = of-messages g.R.Reversible.plain c.actor_rules.ensures.order c.actor_rules.ensures.undoes in
     let k = rw (← c.self.view_is) at h in
     let m = c.in-Some.message in
     let t = c.self.inside.tally in
@@ -51,11 +51,11 @@ invariant_of-self g c = rw (c.in_err-handle.ensures.unchanged, c.in_err-handle.e
 
 pub invariant_of-self-2 : goal.invariant_of-self-2
 invariant_of-self-2 g c =
-    let R = of-messages g.R.Reversible.plain g.R.Actor.counter c.actor_rules.ensures.order c.actor_rules.ensures.undoes in
+    let R = of-messages g.R.Reversible.plain c.actor_rules.ensures.order c.actor_rules.ensures.undoes in
     let i = c.self.invariant in
     let stands = returns-clause-ran g c i.0 i.1 (rw (← c.self.view_is) i.2) in (
       i.0,
-      run_one (rules_of g.R.Reversible.plain g.R.Actor.counter) i.1,
+      run_one (rules_of g.R.Reversible.plain) i.1,
       stands,
       c.next_after-self-inside.ensures ∙ (ap (λ o. present_after message_order o c.take_present.new.self) c.newest.ensures ∙
           sym (next-beside R stands c.take_present.new.self refl)),

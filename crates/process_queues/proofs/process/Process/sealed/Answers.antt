@@ -8,4 +8,4 @@ pub returns : goal.returns
 returns g c opening part h =
     let k = rw (← c.self.view_is) at h in
     ap (take c.self.inside.sealed) c.rows.ensures ∙
-    (sealed-rows k ∙ ap (λ q. rows_there (rules_of g.R.Reversible.plain g.R.Actor.counter) opening part q.queues) c.self.view_is)
+    (sealed-rows k ∙ ap (λ q. rows_there (rules_of g.R.Reversible.plain) opening part q.queues) c.self.view_is)

@@ -7,6 +7,6 @@ use Rattle.process_queues.proofs.process.Process.undo_all.Goals as goal
 
 pub returns-clause-undone : goal.returns-clause-undone
 returns-clause-undone g c opening part h =
-    let r = rules_of g.R.Reversible.plain g.R.Actor.counter in
+    let r = rules_of g.R.Reversible.plain in
     let k = subst (λ q. StandsFor r g.R.Reversible.is_value opening part q.queues) (sym c.self.view_is) h in
     c.undo_all.ensures _ part.done _ k.past.past_of ∙ sym (undo_all-well r (λ s. ⊤) opening (λ s e t. g.met.R.Reversible.undoes s e) part h.well)
