@@ -7,9 +7,9 @@ use Rattle.std.proofs.lemmas.Bool.{lt-ltb}
 use Rattle.vlink.specs.declared.message.Message.{Message}
 use Rattle.vlink.specs.declared.note.Note.{Note}
 use Rattle.vlink.specs.Numbering.{greatest_number}
-use Rattle.virtual_time.specs.Law.{Rules, Part, acted, Moves, can_move, can_seal, is_early, step_by, Simulation, World, start, run, is_enabled, effect, with_part}
+use Rattle.virtual_time.specs.Law.{Rules, Part, acted, Moves, can_move, can_commit, is_early, step_by, Simulation, World, start, run, is_enabled, effect, with_part}
 use Rattle.virtual_time.specs.declared.moved.Move.{Move}
-use Rattle.virtual_time.specs.declared.moved.Move.TheVariants.{Arrived, Ran, Sealed}
+use Rattle.virtual_time.specs.declared.moved.Move.TheVariants.{Arrived, Ran, Committed}
 use Rattle.reverse.specs.Setting.{Setting, simulation_of}
 use Rattle.fossil.specs.Committed.{is_moment_before}
 use Rattle.process_queues.specs.declared.fault.ProcFault.{ProcFault}
@@ -27,7 +27,7 @@ use Rattle.actor_world.proofs.Holding.{process-within, with_part-stands, HasNumb
 
 -- whether the oldest done event can be committed, by its moment and its counts
 pub can-commit : {S K : Type 0} (f : Simulation Message S K Note) (g : ℕ) (part : Part Message S) {first : Option ℕ} {early seals : Bool} →
-    first ≡ option_map f.rules.order.time (slice_get part.done 0) → early ≡ is_moment_before g first → can_seal f.rules.order part part.done ≡ seals → can_move f g Sealed part ≡ (early && seals)
+    first ≡ option_map f.rules.order.time (slice_get part.done 0) → early ≡ is_moment_before g first → can_commit f.rules.order part part.done ≡ seals → can_move f g Committed part ≡ (early && seals)
 can-commit f g part {early = early} e told sealed = λ i. go part.done (told ∙ ap (is_moment_before g) e) i && sealed i
   where
     go : (ms : List Message) → early ≡ is_moment_before g (option_map f.rules.order.time (slice_get ms 0)) → is_early f g ms ≡ early
@@ -41,13 +41,13 @@ module _ {S K : Type 0} (f : Simulation Message S K Note) (is_value : S → Mess
   unfolding is_enabled
   enabled-is Arrived = rw (lt-ltb p f.processes (process-within f is_value w old h p q here)) refl
   enabled-is Ran = rw (lt-ltb p f.processes (process-within f is_value w old h p q here)) refl
-  enabled-is Sealed = rw (lt-ltb p f.processes (process-within f is_value w old h p q here), h.gvt) refl
+  enabled-is Committed = rw (lt-ltb p f.processes (process-within f is_value w old h p q here), h.gvt) refl
 
   effect-is : (m : Move) → effect f (step_by p m) w ≡ with_part f p (acted f.rules (f.opening p) (Moves m) (w.parts p)) w
   unfolding effect
   effect-is Arrived = refl
   effect-is Ran = refl
-  effect-is Sealed = refl
+  effect-is Committed = refl
 
   -- what it does leaves the other processes, the mail and the floors
   moved : (m : Move) (q' : Queues S K) → Does f.rules is_value (λ opening. acted f.rules opening (Moves m)) q q' → q'.left ≡ q.left → (ps : List (Queues S K)) → ps ≡ set old.processes p q' →

@@ -5,9 +5,9 @@ use Rattle.std.proofs.lemmas.List.Elements.{All-nil}
 use Rattle.vlink.specs.declared.message.Message.{Message}
 use Rattle.vlink.specs.declared.note.Note.{Note}
 use Rattle.vlink.specs.Letters.{Letter, Row}
-use Rattle.virtual_time.specs.Law.{Rules, rowed, reached, Part, next_of, handled, arrived, is_toggled, rolled_back, tallied, can_seal, sealed, Act, acted, local, Deliver, Emptying, Moves}
+use Rattle.virtual_time.specs.Law.{Rules, rowed, reached, Part, next_of, handled, arrived, is_toggled, rolled_back, tallied, can_commit, oldest_committed, Act, acted, local, Deliver, Emptying, Moves}
 use Rattle.virtual_time.proofs.Handling.{rowed-append}
-use Rattle.virtual_time.specs.declared.moved.Move.TheVariants.{Arrived, Ran, Sealed}
+use Rattle.virtual_time.specs.declared.moved.Move.TheVariants.{Arrived, Ran, Committed}
 use Rattle.process_queues.specs.Queues.{Queues, StandsFor}
 use Rattle.fossil.specs.Within.{AreFirstBefore}
 
@@ -46,11 +46,11 @@ module _ {S K : Type 0} (r : Rules Message S K Note) where
     running-grows part None = stays part.committed
     running-grows part (Some m) = stays part.committed
 
-    sealing-grows : (part : Part Message S) (ms : List Message) → Grows part.committed (cond (can_seal r.order part ms) (sealed r part ms) part).committed
-    sealing-grows part [] = stays part.committed
-    sealing-grows part (m ∷ rest) = go (can_seal r.order part (m ∷ rest))
+    committing-grows : (part : Part Message S) (ms : List Message) → Grows part.committed (cond (can_commit r.order part ms) (oldest_committed r part ms) part).committed
+    committing-grows part [] = stays part.committed
+    committing-grows part (m ∷ rest) = go (can_commit r.order part (m ∷ rest))
       where
-        go : (b : Bool) → Grows part.committed (cond b (sealed r part (m ∷ rest)) part).committed
+        go : (b : Bool) → Grows part.committed (cond b (oldest_committed r part (m ∷ rest)) part).committed
         go true = (m ∷ [], refl)
         go false = stays part.committed
 
@@ -58,7 +58,7 @@ module _ {S K : Type 0} (r : Rules Message S K Note) where
     act-grows (Deliver l) part = stays part.committed
     act-grows (Moves Arrived) part = arriving-grows part part.tray
     act-grows (Moves Ran) part = running-grows part (next_of r.order part)
-    act-grows (Moves Sealed) part = sealing-grows part part.done
+    act-grows (Moves Committed) part = committing-grows part part.done
     act-grows Emptying part = stays part.committed
 
     acts-grow : (acts : List (Act Message)) (part : Part Message S) → Grows part.committed (local r o acts part).committed

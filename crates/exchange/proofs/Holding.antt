@@ -6,7 +6,7 @@ use Rattle.vlink.specs.declared.message.Message.{Message}
 use Rattle.vlink.specs.declared.note.Note.{Note}
 use Rattle.virtual_time.specs.Law.{Rules, rowed, Simulation, Laws, Part, opened, emptied, acted, local, after_moves, Emptying, Moves, IsSafePart, MayAct, Posted, acts_of, steps, own_in, reach, after_own, can_move, AreEnabled}
 use Rattle.virtual_time.specs.declared.moved.Move.{Move}
-use Rattle.virtual_time.specs.declared.moved.Move.TheVariants.{Arrived, Ran, Sealed}
+use Rattle.virtual_time.specs.declared.moved.Move.TheVariants.{Arrived, Ran, Committed}
 use Rattle.virtual_time.proofs.Journal.{local-append, emptied-last, enabled-later}
 use Rattle.virtual_time.proofs.SafePart.{acted-safe, world-safe}
 use Rattle.reverse.specs.Setting.{Setting, simulation_of}
@@ -34,7 +34,7 @@ module _ {S K : Type 0} (f : Simulation Message S K Note) where
   may-move : (g : ℕ) (m : Move) (part : Part Message S) → can_move f g m part ≡ true → MayAct f g (Moves m) part
   may-move g Arrived part e = tt
   may-move g Ran part e = tt
-  may-move g Sealed part e = (and_parts _ _ e).0
+  may-move g Committed part e = (and_parts _ _ e).0
 
 module _ {S K : Type 0} {r : Rules Message S K Note} {number end : S → ℕ} {is_placed : S → Type 0} {x : Setting S} where
   module _ {is_value : S → Message → Type 0} {pages table : List ℕ} {p seen gone : ℕ} {block : List Move} {last : Option EntryPlace} {q : Queues S K}

@@ -6,9 +6,9 @@ use Rattle.std.proofs.lemmas.List.{replicate_more}
 use Rattle.vlink.specs.declared.message.Message.{Message}
 use Rattle.vlink.specs.declared.note.Note.{Note}
 use Rattle.vlink.specs.Letters.{Letter}
-use Rattle.virtual_time.specs.Law.{IsIn, pluses, minuses, Simulation, Laws, Part, next_of, can_seal, sealed, tallied, is_toggled, rolled_back, arrived, is_early, after_moves, IsSafePart, after_own, can_move}
+use Rattle.virtual_time.specs.Law.{IsIn, pluses, minuses, Simulation, Laws, Part, next_of, can_commit, oldest_committed, tallied, is_toggled, rolled_back, arrived, is_early, after_moves, IsSafePart, after_own, can_move}
 use Rattle.virtual_time.specs.declared.moved.Move.{Move}
-use Rattle.virtual_time.specs.declared.moved.Move.TheVariants.{Arrived, Ran, Sealed}
+use Rattle.virtual_time.specs.declared.moved.Move.TheVariants.{Arrived, Ran, Committed}
 use Rattle.virtual_time.proofs.Lists.{in-head}
 use Rattle.fossil.specs.Committed.{is_moment_before}
 use Rattle.journal.specs.declared.tokens.EntryPlace.{EntryPlace}
@@ -65,11 +65,11 @@ module _ {S K : Type 0} (f : Simulation Message S K Note) where
   arrival-takes h h' some e = ap (λ (z : InShare S). length z.part.tray + 1) e ∙ tray-less (f.opening h.number) h.part h.part.tray some
 
   -- each commit takes one done event
-  done-less : (part : Part Message S) (ms : List Message) → part.done ≡ ms → can_seal f.rules.order part ms ≡ true → length (cond (can_seal f.rules.order part ms) (sealed f.rules part ms) part).done < length ms
+  done-less : (part : Part Message S) (ms : List Message) → part.done ≡ ms → can_commit f.rules.order part ms ≡ true → length (cond (can_commit f.rules.order part ms) (oldest_committed f.rules part ms) part).done < length ms
   done-less part [] e c = absurd (cc)
   done-less part (m ∷ rest) e c = rw c (omega arith)
 
-  pub commit-takes : (h h' : InShare S) (g : ℕ) → can_move f g Sealed h.part ≡ true → h' ≡ moved_by f (Sealed ∷ []) h → length h'.part.done < length h.part.done
+  pub commit-takes : (h h' : InShare S) (g : ℕ) → can_move f g Committed h.part ≡ true → h' ≡ moved_by f (Committed ∷ []) h → length h'.part.done < length h.part.done
   commit-takes h h' g can e =
       subst (λ (z : InShare S). length z.part.done < length h.part.done) (sym e) (done-less h.part h.part.done refl (and_parts _ _ can).1)
 
@@ -87,10 +87,10 @@ module _ {S K : Type 0} (f : Simulation Message S K Note) where
 
   -- an oldest done event that is earlier than g can be committed, since a process that is safe counts it just once
   pub early-commits : Laws f → (p g : ℕ) (part : Part Message S) → IsSafePart f p g part →
-      (first : Option ℕ) → first ≡ option_map f.rules.order.time (slice_get part.done 0) → true ≡ is_moment_before g first → can_move f g Sealed part ≡ true
+      (first : Option ℕ) → first ≡ option_map f.rules.order.time (slice_get part.done 0) → true ≡ is_moment_before g first → can_move f g Committed part ≡ true
   early-commits L p g part s first e before = go part.done refl (before ∙ ap (is_moment_before g) e)
     where
-      go : (ms : List Message) → part.done ≡ ms → true ≡ is_moment_before g (option_map f.rules.order.time (slice_get ms 0)) → (is_early f g ms && can_seal f.rules.order part ms) ≡ true
+      go : (ms : List Message) → part.done ≡ ms → true ≡ is_moment_before g (option_map f.rules.order.time (slice_get ms 0)) → (is_early f g ms && can_commit f.rules.order part ms) ≡ true
       go [] d early = absurd (cc)
       go (m ∷ ms) d early =
           let one = s.counts_one m (subst (λ z. IsIn f.rules.order m z) (sym d) (in-head f.rules.order L.order m ms)) (ltb-true _ _ (sym early)) in

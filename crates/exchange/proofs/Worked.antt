@@ -4,23 +4,23 @@ use Rattle.std.proofs.lemmas.List.{length-replicate}
 use Rattle.vlink.specs.declared.message.Message.{Message}
 use Rattle.vlink.specs.declared.note.Note.{Note}
 use Rattle.virtual_time.specs.Law.{earlier, Simulation}
-use Rattle.virtual_time.specs.declared.moved.Move.TheVariants.{Arrived, Ran, Sealed}
+use Rattle.virtual_time.specs.declared.moved.Move.TheVariants.{Arrived, Ran, Committed}
 use Rattle.exchange.specs.Views.{InShare}
 use Rattle.exchange.specs.Effects.{moved_by, turn, all_arrived, Runs, RanEarly, IsIdleBefore, Works}
 use Rattle.exchange.proofs.Moves.{moved-none, moved-chain}
 
 turn-length : (a r c : ℕ) → length (turn a r c) ≡ a + r + c
 turn-length a r c =
-    let both = length-append (replicate a Arrived ++ replicate r Ran) (replicate c Sealed) in
+    let both = length-append (replicate a Arrived ++ replicate r Ran) (replicate c Committed) in
     let first = length-append (replicate a Arrived) (replicate r Ran) in
-    omega (arith, length-replicate a Arrived, length-replicate r Ran, length-replicate c Sealed)
+    omega (arith, length-replicate a Arrived, length-replicate r Ran, length-replicate c Committed)
 
 module _ {S K : Type 0} (f : Simulation Message S K Note) (a r c : ℕ) (h h1 h2 h3 : InShare S) where
-  moved-turn : h1 ≡ moved_by f (replicate a Arrived) h → h2 ≡ moved_by f (replicate r Ran) h1 → h3 ≡ moved_by f (replicate c Sealed) h2 → h3 ≡ moved_by f (turn a r c) h
-  moved-turn arrived ran sealed =
-      sealed ∙
-      (ap (moved_by f (replicate c Sealed)) (ran ∙ (ap (moved_by f (replicate r Ran)) arrived ∙ moved-chain f (replicate a Arrived) (replicate r Ran) h)) ∙
-      moved-chain f (replicate a Arrived ++ replicate r Ran) (replicate c Sealed) h)
+  moved-turn : h1 ≡ moved_by f (replicate a Arrived) h → h2 ≡ moved_by f (replicate r Ran) h1 → h3 ≡ moved_by f (replicate c Committed) h2 → h3 ≡ moved_by f (turn a r c) h
+  moved-turn arrived ran committed =
+      committed ∙
+      (ap (moved_by f (replicate c Committed)) (ran ∙ (ap (moved_by f (replicate r Ran)) arrived ∙ moved-chain f (replicate a Arrived) (replicate r Ran) h)) ∙
+      moved-chain f (replicate a Arrived ++ replicate r Ran) (replicate c Committed) h)
 
 -- all arrive, then messages are handled
 pub ran-after : {S K : Type 0} (f : Simulation Message S K Note) (most window : ℕ) (h h1 h2 : InShare S) → h1 ≡ all_arrived f h → Runs f most (h1.share.seen + window) h1 h2 →
@@ -28,13 +28,13 @@ pub ran-after : {S K : Type 0} (f : Simulation Message S K Note) (most window : 
 ran-after f most window h h1 h2 arrived ran = subst (λ (z : InShare _). Runs f most (z.share.seen + window) z h2) arrived ran
 
 module _ {S K : Type 0} (f : Simulation Message S K Note) (most window : ℕ) (h h1 h2 h3 : InShare S) (r c : ℕ) where
-  pub works : h1 ≡ moved_by f (replicate (length h.part.tray) Arrived) h → h2 ≡ moved_by f (replicate r Ran) h1 → h3 ≡ moved_by f (replicate c Sealed) h2 →
+  pub works : h1 ≡ moved_by f (replicate (length h.part.tray) Arrived) h → h2 ≡ moved_by f (replicate r Ran) h1 → h3 ≡ moved_by f (replicate c Committed) h2 →
       r ≤ most → RanEarly f (h1.share.seen + window) r h1.part → (r ≡ most) ⊎ IsIdleBefore f (h1.share.seen + window) h2.part →
       earlier f.rules.order h2.share.seen h3.part.done ≡ [] →
       (before after : ℕ) → before ≡ length h.block → after ≡ length h3.block → Works f most window h h3 (after - before)
-  works arrived ran sealed within early idle below before after old new =
+  works arrived ran committed within early idle below before after old new =
       let a = length h.part.tray in
-      let did = moved-turn f a r c h h1 h2 h3 arrived ran sealed in
+      let did = moved-turn f a r c h h1 h2 h3 arrived ran committed in
       let seen = ap (λ (z : InShare S). z.share.seen) arrived in
       record {
         runs = r;

@@ -6,7 +6,7 @@ use Rattle.vlink.specs.Numbering.{greatest_number}
 use Rattle.vlink.specs.Letters.{Letter}
 use Rattle.virtual_time.specs.Law.{earlier, Part, emptied, next_of, run_one, Simulation, gvt_over, local, after_moves, Deed, Took, Posted, Published, Entry, acts_of, reach}
 use Rattle.virtual_time.specs.declared.moved.Move.{Move}
-use Rattle.virtual_time.specs.declared.moved.Move.TheVariants.{Arrived, Ran, Sealed}
+use Rattle.virtual_time.specs.declared.moved.Move.TheVariants.{Arrived, Ran, Committed}
 use Rattle.journal.specs.declared.fault.PoolFault.{PoolFault}
 use Rattle.journal.specs.declared.fault.PoolFault.TheVariants.{OutOfMemory, Exhausted}
 use Rattle.exchange.specs.declared.mark.Mark.{Mark}
@@ -22,7 +22,7 @@ mark place seen = record { place = place; seen = seen }
 
 -- so many arrivals, then so many runs, then so many commits
 abbrev pub turn : ℕ → ℕ → ℕ → List Move
-turn arrivals runs commits = replicate arrivals Arrived ++ replicate runs Ran ++ replicate commits Sealed
+turn arrivals runs commits = replicate arrivals Arrived ++ replicate runs Ran ++ replicate commits Committed
 
 module _ {S K : Type 0} (f : Simulation Message S K Note) where
   -- these letters go from the front of the mail to the tray, and book and share note the GVT of the Exchange; none makes no entry
@@ -147,7 +147,7 @@ module _ {S K : Type 0} (f : Simulation Message S K Note) where
   -- refused as an event was to be committed: there is one that is earlier than the GVT seen
   pub record StopsAtCommit (h k : InShare S) (fault : PoolFault) : Type 0 where
     pub commits : ℕ
-    pub did : k ≡ moved_by (replicate commits Sealed) h
+    pub did : k ≡ moved_by (replicate commits Committed) h
     pub left : earlier f.rules.order h.share.seen k.part.done ≢ []
     pub memory : fault ≡ OutOfMemory
 

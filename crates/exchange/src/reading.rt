@@ -136,6 +136,6 @@ fn step_of_move(process: u32, moved: Move) -> Step
     match moved {
         Move::Arrived => Step::Arrive { process },
         Move::Ran => Step::Run { process },
-        Move::Sealed => Step::Commit { process },
+        Move::Committed => Step::Commit { process },
     }
 }

@@ -4,7 +4,7 @@ ghost use Rattle.vlink.specs.Order.{message_order};
 ghost use Rattle.vlink.specs.declared.message.Message.{Message};
 ghost use Rattle.vlink.specs.Numbering.{greatest_number};
 ghost use Rattle.virtual_time.specs.Law.{earlier, next_of};
-ghost use Rattle.virtual_time.specs.declared.moved.Move.TheVariants.{Arrived, Ran, Sealed};
+ghost use Rattle.virtual_time.specs.declared.moved.Move.TheVariants.{Arrived, Ran, Committed};
 ghost use Rattle.reverse.specs.Rules.{rules_of};
 ghost use Rattle.reverse.specs.Setting.{simulation_of};
 ghost use Rattle.journal.specs.declared.fault.PoolFault.TheVariants.{OutOfMemory, Exhausted};
@@ -136,7 +136,7 @@ impl<'a, R: Actor, J: ActorRun<R>> Held<'a, R, J> {
 
     /// All done events that are earlier than the GVT seen are committed.
     fn commit_all(&mut self) -> Result<(), PoolFault>
-        ensures committed { OnOk result ((commits : ℕ) × (self.new ≡ moved_by (simulation_of (rules_of R.plain) J.setting) (replicate commits Sealed) self.old)
+        ensures committed { OnOk result ((commits : ℕ) × (self.new ≡ moved_by (simulation_of (rules_of R.plain) J.setting) (replicate commits Committed) self.old)
             × (earlier message_order self.old.share.seen self.new.part.done ≡ [])) }
         ensures some { IfErr result (λ fault. StopsAtCommit (simulation_of (rules_of R.plain) J.setting) self.old self.new fault) }
     {
@@ -149,7 +149,7 @@ impl<'a, R: Actor, J: ActorRun<R>> Held<'a, R, J> {
 
     /// The oldest done event is committed, if it is earlier than the GVT seen. The answer is whether it was.
     fn commit_one(&mut self) -> Result<bool, PoolFault>
-        ensures committed { IfOk result (λ done. done ≡ true → self.new ≡ moved_by (simulation_of (rules_of R.plain) J.setting) (Sealed ∷ []) self.old) }
+        ensures committed { IfOk result (λ done. done ≡ true → self.new ≡ moved_by (simulation_of (rules_of R.plain) J.setting) (Committed ∷ []) self.old) }
         ensures fewer { IfOk result (λ done. done ≡ true → length self.new.part.done < length self.old.part.done) }
         ensures none { IfOk result (λ done. done ≡ false → earlier message_order self.old.share.seen self.old.part.done ≡ []) }
         ensures stays { IfOk result (λ done. done ≡ false → self.new ≡ self.old) }
@@ -161,7 +161,7 @@ impl<'a, R: Actor, J: ActorRun<R>> Held<'a, R, J> {
         if !is_early(self.process.oldest(), self.seen) {
             return Ok(false);
         }
-        self.block.push(self.alloc, Move::Sealed)?;
+        self.block.push(self.alloc, Move::Committed)?;
         match self.process.seal_oldest() {
             Ok(true) => Ok(true),
             Ok(false) => {

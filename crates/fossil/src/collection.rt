@@ -4,7 +4,7 @@ ghost use Rattle.vlink.specs.declared.message.Message.{Message};
 ghost use Rattle.virtual_time.specs.Law.{one_if, Part};
 ghost use Rattle.reverse.specs.Rules.{rules_of};
 ghost use Rattle.process_queues.specs.Queues.{StandsFor, Does};
-ghost use Rattle.fossil.specs.Committed.{is_moment_before, is_ready, sealed_times, committed_below, committed_once};
+ghost use Rattle.fossil.specs.Committed.{is_moment_before, is_ready, committed_times, committed_below, committed_once};
 
 use antimessages::OutOfMemory;
 use process_queues::Process;
@@ -20,7 +20,7 @@ use vlink::Time;
 /// - `one`, `one_part`: of one event at most, whether there was one, and what became of the part.
 /// - `reserved`: a refusal comes only where there was not room for all of them.
 pub fn commit<R: Actor>(process: &mut Process<R>, gvt: Time, n: u64) -> Result<u64, OutOfMemory>
-    ensures committed { IfOk result (λ count. Does (rules_of R.plain) R.is_value (λ opening. sealed_times (rules_of R.plain) count) process.old.queues process.new.queues) }
+    ensures committed { IfOk result (λ count. Does (rules_of R.plain) R.is_value (λ opening. committed_times (rules_of R.plain) count) process.old.queues process.new.queues) }
     ensures answer { IfOk result (λ count. (opening : R) (part : Part Message R) →
         StandsFor (rules_of R.plain) R.is_value opening part process.old.queues → count ≡ committed_below (rules_of R.plain) gvt n part) }
     ensures one { n ≡ 1 → IfOk result (λ count. (opening : R) (part : Part Message R) →
@@ -40,7 +40,7 @@ pub fn commit<R: Actor>(process: &mut Process<R>, gvt: Time, n: u64) -> Result<u
     if process.reserve_rows(count).is_err() {
         return Err(OutOfMemory);
     }
-    for sealed in 0..count {
+    for committed in 0..count {
         let _done = process.seal_oldest();
     }
     Ok(count as u64)

@@ -28,13 +28,13 @@ impl Turn {
         ensures { result ≡ slice_get (turn_moves self) at }
     {
         let ran = self.arrivals as usize;
-        let sealed = ran + self.runs as usize;
+        let handled = ran + self.runs as usize;
         if at < ran {
             Some(Move::Arrived)
-        } else if at < sealed {
+        } else if at < handled {
             Some(Move::Ran)
-        } else if at < sealed + self.commits as usize {
-            Some(Move::Sealed)
+        } else if at < handled + self.commits as usize {
+            Some(Move::Committed)
         } else {
             None
         }
@@ -58,7 +58,7 @@ impl Turn {
                 }
                 self.runs += 1;
             }
-            Move::Sealed => {
+            Move::Committed => {
                 if self.commits == u32::MAX {
                     return false;
                 }

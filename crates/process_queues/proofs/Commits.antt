@@ -9,7 +9,7 @@ use Rattle.virtual_time.specs.declared.letter.Letter.{Letter}
 use Rattle.vlink.specs.Order.{message_order}
 use Rattle.antimessages.specs.Counting.{HaveSameCounts}
 use Rattle.process_queues.specs.Queues.{Queues, StandsFor}
-use Rattle.process_queues.specs.Committing.{can_commit, committable}
+use Rattle.process_queues.specs.Committing.{is_committable, committable}
 use Rattle.process_queues.proofs.Rolls.{done-messages}
 
 -- no more than are looked at
@@ -22,15 +22,15 @@ committable-within order g tally (suc n) (m ∷ ms) = let i = committable-within
 same-one : (p q p' q' : ℕ) → pos p -ℤ pos q ≡ pos p' -ℤ pos q' → (p == q + 1) ≡ (p' == q' + 1)
 same-one p q p' q' e = grind (arith, nat_tests, ints)
 
-can_commit-agree : (g : ℕ) (a b : List (Letter Message)) → HaveSameCounts message_order a b → (m : Message) → can_commit message_order g a m ≡ can_commit message_order g b m
-can_commit-agree g a b h m =
+is_committable-agree : (g : ℕ) (a b : List (Letter Message)) → HaveSameCounts message_order a b → (m : Message) → is_committable message_order g a m ≡ is_committable message_order g b m
+is_committable-agree g a b h m =
     ap (λ one. nat_lt m.time g && one) (same-one (pluses message_order m a) (minuses message_order m a) (pluses message_order m b) (minuses message_order m b) (h m))
 
 committable-agree : (g : ℕ) (a b : List (Letter Message)) → HaveSameCounts message_order a b → (ms : List Message) → committable message_order g a ms ≡ committable message_order g b ms
 committable-agree g a b h [] = refl
 committable-agree g a b h (m ∷ ms) =
-    ap (λ can. if can then suc (committable message_order g a ms) else 0) (can_commit-agree g a b h m) ∙
-    ap (λ n. if can_commit message_order g b m then suc n else 0) (committable-agree g a b h ms)
+    ap (λ can. if can then suc (committable message_order g a ms) else 0) (is_committable-agree g a b h m) ∙
+    ap (λ n. if is_committable message_order g b m then suc n else 0) (committable-agree g a b h ms)
 
 pub committable-stands : {S K : Type 0} {r : Rules Message S K Note} → r.order ≡ message_order →
     {is_value : S → Message → Type 0} {opening : S} {part : Part Message S} {q : Queues S K} →

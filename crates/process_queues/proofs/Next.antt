@@ -3,7 +3,7 @@ use Rattle.std.proofs.Common.{◌≡◌, ◌+◌, ◌==◌, inl, inr, Bool, true
 use Rattle.std.proofs.lemmas.Bool.{cases_lt}
 use Rattle.vlink.specs.declared.message.Message.{Message}
 use Rattle.vlink.specs.declared.note.Note.{Note}
-use Rattle.virtual_time.specs.Law.{Rules, IsOrder, IsIn, times_in, one_if, same, IsPresent, minus_of, pluses, minuses, Part, next_of, can_seal, sealed, seal_oldest}
+use Rattle.virtual_time.specs.Law.{Rules, IsOrder, IsIn, times_in, one_if, same, IsPresent, minus_of, pluses, minuses, Part, next_of, can_commit, oldest_committed, commit_oldest}
 use Rattle.virtual_time.proofs.Letters.{counts-other}
 use Rattle.virtual_time.proofs.Lists.{times-none}
 use Rattle.virtual_time.proofs.Order.{same_cases, same-refl}
@@ -108,11 +108,11 @@ module _ {S K : Type 0} (r : Rules Message S K Note) (O : IsOrder r.order) (part
           let b = eqb-true (pluses r.order m part.tally) (minuses r.order m part.tally + 1) one in
           omega arith
 
-  next-sealed : next_of r.order (sealed r part (m ∷ rest)) ≡ next_of r.order part
-  next-sealed = go (next_of r.order part) refl
+  next-committed : next_of r.order (oldest_committed r part (m ∷ rest)) ≡ next_of r.order part
+  next-committed = go (next_of r.order part) refl
     where
-      go : (o : Option Message) → next_of r.order part ≡ o → next_of r.order (sealed r part (m ∷ rest)) ≡ o
-      go None e = none-next_from r O (sealed r part (m ∷ rest)) (λ x present.
+      go : (o : Option Message) → next_of r.order part ≡ o → next_of r.order (oldest_committed r part (m ∷ rest)) ≡ o
+      go None e = none-next_from r O (oldest_committed r part (m ∷ rest)) (λ x present.
           elim (cases_lt 0 (times_in r.order x rest)) [
             | inl j ↦ j
             | inr z ↦ absurd (
@@ -124,22 +124,22 @@ module _ {S K : Type 0} (r : Rules Message S K Note) (O : IsOrder r.order) (part
       go (Some x) e =
           let k = next-is r O part x e in
           let w = waits x k.present k.not_done in
-          next-from r O (sealed r part (m ∷ rest)) x (record {
+          next-from r O (oldest_committed r part (m ∷ rest)) x (record {
             present = w.0;
             not_done = w.1;
             first = λ y present z. let v = waited y present z in k.first y v.0 v.1;
           })
 
-next-seal_oldest : {S K : Type 0} (r : Rules Message S K Note) → IsOrder r.order → (part : Part Message S) → next_of r.order (seal_oldest r part) ≡ next_of r.order part
-next-seal_oldest r O part = go part.done refl (can_seal r.order part part.done) refl
+next-commit_oldest : {S K : Type 0} (r : Rules Message S K Note) → IsOrder r.order → (part : Part Message S) → next_of r.order (commit_oldest r part) ≡ next_of r.order part
+next-commit_oldest r O part = go part.done refl (can_commit r.order part part.done) refl
   where
-    go : (ds : List Message) → part.done ≡ ds → (b : Bool) → can_seal r.order part ds ≡ b → next_of r.order (cond b (sealed r part ds) part) ≡ next_of r.order part
+    go : (ds : List Message) → part.done ≡ ds → (b : Bool) → can_commit r.order part ds ≡ b → next_of r.order (cond b (oldest_committed r part ds) part) ≡ next_of r.order part
     go [] e true w = refl
     go [] e false w = refl
-    go (m ∷ rest) e true w = next-sealed r O part m rest e w
+    go (m ∷ rest) e true w = next-committed r O part m rest e w
     go (m ∷ rest) e false w = refl
 
 pub next-kept : {S K : Type 0} {r : Rules Message S K Note} (R : OfMessages r) {is_value : S → Message → Type 0} {opening : S} {part : Part Message S} {old new : Queues S K} →
-    StandsFor r is_value opening part old → StandsFor r is_value opening (seal_oldest r part) new → next_in new ≡ next_in old
+    StandsFor r is_value opening part old → StandsFor r is_value opening (commit_oldest r part) new → next_in new ≡ next_in old
 next-kept {S} {K} {r} R {is_value} {opening} {part} {old} {new} h k =
-    sym (next-stands r R is_value opening (seal_oldest r part) new k) ∙ (next-seal_oldest r R.order part ∙ next-stands r R is_value opening part old h)
+    sym (next-stands r R is_value opening (commit_oldest r part) new k) ∙ (next-commit_oldest r R.order part ∙ next-stands r R is_value opening part old h)

@@ -5,7 +5,7 @@ use Rattle.std.proofs.Math.Seq.{drop-cons}
 use Rattle.vlink.specs.declared.message.Message.{Message}
 use Rattle.vlink.specs.Order.{message_order}
 use Rattle.vlink.specs.Letters.{Letter}
-use Rattle.process_queues.specs.Committing.{can_commit, committable}
+use Rattle.process_queues.specs.Committing.{is_committable, committable}
 
 -- those from place k on, by the one at that place
 pub drop-one : {A : Type 0} (es : List A) (k : ℕ) (e : A) → k < length es → e ≡ slice_index_or es k e → drop k es ≡ e ∷ drop (suc k) es
@@ -30,7 +30,7 @@ from-place f es most n e i h p =
 
 -- how many of the first ones can be committed from place n on, by whether the one at that place can be
 pub commits-from : {A : Type 0} (f : A → Message) (g : ℕ) (tally : List Letter) (es : List A) (most n : ℕ) (e : A) → n < most → n < length es → e ≡ slice_index_or es n e →
-    (can : Bool) → can ≡ can_commit message_order g tally (f e) →
+    (can : Bool) → can ≡ is_committable message_order g tally (f e) →
     committable message_order g tally (drop n (take most (map f es))) ≡ if can then suc (committable message_order g tally (drop (n + 1) (take most (map f es)))) else 0
 commits-from f g tally es most n e i h p can c =
     ap (committable message_order g tally) (from-place f es most n e i h p) ∙

@@ -4,11 +4,11 @@ use Rattle.std.specs.Prelude.{⊤}
 use Rattle.std.proofs.lemmas.List.{length-append, length-drop, drop-drop, drop-append-le}
 use Rattle.vlink.specs.declared.message.Message.{Message}
 use Rattle.vlink.specs.declared.note.Note.{Note}
-use Rattle.virtual_time.specs.Law.{Rules, reached, rowed, rows_of, plus_of, Part, opened, delivered, emptied, next_of, handled, run_one, can_seal, sealed, seal_oldest, IsWell}
+use Rattle.virtual_time.specs.Law.{Rules, reached, rowed, rows_of, plus_of, Part, opened, delivered, emptied, next_of, handled, run_one, can_commit, oldest_committed, commit_oldest, IsWell}
 use Rattle.virtual_time.proofs.Handling.{reached-append, rowed-append}
 use Rattle.virtual_time.proofs.WellStep.{opened-well, delivered-well, emptied-well}
 use Rattle.virtual_time.proofs.WellRun.{run-well}
-use Rattle.virtual_time.proofs.WellSeal.{seal-well}
+use Rattle.virtual_time.proofs.WellCommit.{commit-well}
 use Rattle.vlink.specs.Order.{message_order}
 use Rattle.vlink.specs.Letters.{Letter}
 use Rattle.antimessages.specs.Counting.{HaveSameCounts, signed_count}
@@ -94,15 +94,15 @@ module _ {S K : Type 0} {r : Rules Message S K Note} {is_value : S → Message �
         well = subst (IsWell r (λ s. ⊤) opening) (ap (handled r part) next) (run-well r R.order (λ s. ⊤) (λ s e g. R.undoes s e) opening part h.well tt).well
 
     -- the oldest done event is committed
-    pub sealed-stands : (m : Message) (rest : List Message) (past' : Past S K) (t : List Letter) → part.done ≡ m ∷ rest → can_seal r.order part part.done ≡ true →
+    pub commit-stands : (m : Message) (rest : List Message) (past' : Past S K) (t : List Letter) → part.done ≡ m ∷ rest → can_commit r.order part part.done ≡ true →
         IsPastOf r is_value (r.after (reached r opening part.committed) m) rest
         (rows_there r opening part q ++ rows_of message_order m (r.notes (reached r opening part.committed) m)) past' →
         past'.state ≡ q.past.state → q.tally ≡ with_done t q.past.done →
         q' ≡ record q { past = past'; sealed = q.sealed + length (r.notes (reached r opening part.committed) m); committed = q.committed + 1; tally = with_done t past'.done } →
-        StandsFor r is_value opening (seal_oldest r part) q'
-    sealed-stands m rest past' t d c p s e f =
+        StandsFor r is_value opening (commit_oldest r part) q'
+    commit-stands m rest past' t d c p s e f =
         subst (λ z. StandsFor r is_value opening z q') (sym seals)
-        (subst (StandsFor r is_value opening (sealed r part (m ∷ rest))) (sym f) (record {
+        (subst (StandsFor r is_value opening (oldest_committed r part (m ∷ rest))) (sym f) (record {
           past = record {
             past_of = subst (λ z. IsPastOf r is_value z rest (drop q.left (rowed r opening (part.committed ++ m ∷ []))) past') (sym (reached-append r opening part.committed (m ∷ [])))
                 (subst (λ z. IsPastOf r is_value (r.after (reached r opening part.committed) m) rest z past') (sym there) p);
@@ -125,8 +125,8 @@ module _ {S K : Type 0} {r : Rules Message S K Note} {is_value : S → Message �
           well = well;
         }))
       where
-        seals : seal_oldest r part ≡ sealed r part (m ∷ rest)
-        seals = ap (λ b. cond b (sealed r part part.done) part) c ∙ ap (sealed r part) d
+        seals : commit_oldest r part ≡ oldest_committed r part (m ∷ rest)
+        seals = ap (λ b. cond b (oldest_committed r part part.done) part) c ∙ ap (oldest_committed r part) d
 
         rows : rowed r opening (part.committed ++ m ∷ []) ≡ rowed r opening part.committed ++ rows_of message_order m (r.notes (reached r opening part.committed) m)
         rows = rowed-append r opening part.committed (m ∷ []) ∙
@@ -136,13 +136,13 @@ module _ {S K : Type 0} {r : Rules Message S K Note} {is_value : S → Message �
             rows_there r opening part q ++ rows_of message_order m (r.notes (reached r opening part.committed) m)
         there = ap (drop q.left) rows ∙ drop-append-le q.left (rowed r opening part.committed) _ (let k = h.sealed in omega arith)
 
-        well : IsWell r (λ s. ⊤) opening (sealed r part (m ∷ rest))
-        well = subst (IsWell r (λ s. ⊤) opening) seals (seal-well r R.order (λ s. ⊤) (λ s e g. R.undoes s e) opening part h.well).well
+        well : IsWell r (λ s. ⊤) opening (oldest_committed r part (m ∷ rest))
+        well = subst (IsWell r (λ s. ⊤) opening) seals (commit-well r R.order (λ s. ⊤) (λ s e g. R.undoes s e) opening part h.well).well
 
   -- it stays
-  pub seal-stays : {opening : S} {part : Part Message S} {q : Queues S K} → StandsFor r is_value opening part q → can_seal r.order part part.done ≡ false →
-      StandsFor r is_value opening (seal_oldest r part) q
-  seal-stays {opening} {part} {q} h c = subst (λ z. StandsFor r is_value opening z q) (sym (ap (λ b. cond b (sealed r part part.done) part) c)) h
+  pub commit-stays : {opening : S} {part : Part Message S} {q : Queues S K} → StandsFor r is_value opening part q → can_commit r.order part part.done ≡ false →
+      StandsFor r is_value opening (commit_oldest r part) q
+  commit-stays {opening} {part} {q} h c = subst (λ z. StandsFor r is_value opening z q) (sym (ap (λ b. cond b (oldest_committed r part part.done) part) c)) h
 
   -- the oldest rows of committed events leave
   pub gone-stands : {opening : S} {part : Part Message S} {q q' : Queues S K} → StandsFor r is_value opening part q → (n : ℕ) → n ≤ q.sealed →

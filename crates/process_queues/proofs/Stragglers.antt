@@ -7,7 +7,7 @@ use Rattle.vlink.specs.declared.message.Message.{Message}
 use Rattle.vlink.specs.declared.note.Note.{Note}
 use Rattle.virtual_time.specs.declared.letter.Sign.{Sign}
 use Rattle.virtual_time.specs.declared.letter.Sign.TheVariants.{Plus, Minus}
-use Rattle.virtual_time.specs.Law.{Rules, one_if, same, times_in, IsIn, IsPresent, pluses, minuses, is_plus, Part, can_seal}
+use Rattle.virtual_time.specs.Law.{Rules, one_if, same, times_in, IsIn, IsPresent, pluses, minuses, is_plus, Part, can_commit}
 use Rattle.virtual_time.proofs.Lists.{in-head}
 use Rattle.virtual_time.proofs.Ascending.{ascending-once}
 use Rattle.vlink.specs.Order.{message_order}
@@ -122,8 +122,8 @@ module _ {S K : Type 0} {r : Rules Message S K Note} (R : OfMessages r) {is_valu
 
   -- the oldest done event can be committed just where nothing else of its message counts
   pub seals : (event : Event K) → slice_get q.past.done 0 ≡ Some event →
-      (signed_count message_order event.message t ≡ pos 0 → can_seal r.order part part.done ≡ true)
-      × (signed_count message_order event.message t ≢ pos 0 → can_seal r.order part part.done ≡ false)
+      (signed_count message_order event.message t ≡ pos 0 → can_commit r.order part part.done ≡ true)
+      × (signed_count message_order event.message t ≢ pos 0 → can_commit r.order part part.done ≡ false)
   seals event first =
       let m = event.message in
       let f = first-done h event first in
@@ -132,6 +132,6 @@ module _ {S K : Type 0} {r : Rules Message S K Note} (R : OfMessages r) {is_valu
       let up = ascending-once r.order R.order m part.done h.past.ascending in
       let i = subst (λ ds. IsIn r.order m ds) (sym f.1) (in-head r.order R.order m f.0) in
       let one : times R.messages m q.past.done ≡ 1 = omega arith in (
-        λ z. ap (can_seal r.order part) f.1 ∙ one-left r R m part.tally q.tally h.counts (omega (arith, ints)),
-        λ n. ap (can_seal r.order part) f.1 ∙ not-one-left r R m part.tally q.tally h.counts (λ k. n (omega (arith, ints))),
+        λ z. ap (can_commit r.order part) f.1 ∙ one-left r R m part.tally q.tally h.counts (omega (arith, ints)),
+        λ n. ap (can_commit r.order part) f.1 ∙ not-one-left r R m part.tally q.tally h.counts (λ k. n (omega (arith, ints))),
       )

@@ -2,7 +2,7 @@
 ghost use Rattle.std.specs.Prelude.{map, ◌≡◌, ◌≢◌, ◌+◌, ◌-◌, ◌<◌, ◌≤◌, ◌⊎◌, ◌↔◌, [], false, true, drop, IsTrue, IsSome, Option, None, Ok, MatchOption, OnOk, OnErr, IfOk, IfErr, Some, pos, vec_len, vec_capacity};
 ghost use Rattle.vlink.specs.declared.message.Message.{Message};
 ghost use Rattle.vlink.specs.Numbering.{greatest_number};
-ghost use Rattle.virtual_time.specs.Law.{reached, Part, arrive, undone_by, run_one, next_of, can_seal, seal_oldest, undo_all};
+ghost use Rattle.virtual_time.specs.Law.{reached, Part, arrive, undone_by, run_one, next_of, can_commit, commit_oldest, undo_all};
 ghost use Rattle.reverse.specs.Rules.{rules_of};
 ghost use Rattle.vlink.specs.Order.{message_order};
 ghost use Rattle.antimessages.specs.Counting.{signed_count, change_by, is_after};
@@ -124,9 +124,9 @@ impl<R: Actor> Process<R> {
     /// The oldest done event is committed, where its signed count is just 1: it leaves the done events and the counts, and its rows are
     /// sealed. The answer is whether there was one. Where there is room for a committed event this takes no memory and succeeds.
     pub fn seal_oldest(&mut self) -> Result<bool, ProcFault>
-        ensures sealed { OnOk result (Does (rules_of R.plain) R.is_value (λ opening. seal_oldest (rules_of R.plain)) self.old.queues self.new.queues) }
+        ensures sealed { OnOk result (Does (rules_of R.plain) R.is_value (λ opening. commit_oldest (rules_of R.plain)) self.old.queues self.new.queues) }
         ensures answer { IfOk result (λ done. (opening : R) (part : Part Message R) →
-            StandsFor (rules_of R.plain) R.is_value opening part self.old.queues → done ≡ can_seal message_order part part.done) }
+            StandsFor (rules_of R.plain) R.is_value opening part self.old.queues → done ≡ can_commit message_order part part.done) }
         ensures tray { self.new.queues.tray ≡ self.old.queues.tray }
         ensures left { self.new.queues.left ≡ self.old.queues.left }
         ensures outbox { self.new.queues.outbox ≡ self.old.queues.outbox }
@@ -134,7 +134,7 @@ impl<R: Actor> Process<R> {
         ensures unchanged { OnErr result (self.new.queues ≡ self.old.queues) }
         ensures idle { result ≡ Ok false → self.new.queues ≡ self.old.queues }
         ensures refused { OnErr result ((opening : R) (part : Part Message R) →
-            StandsFor (rules_of R.plain) R.is_value opening part self.old.queues → can_seal message_order part part.done ≡ true) }
+            StandsFor (rules_of R.plain) R.is_value opening part self.old.queues → can_commit message_order part part.done ≡ true) }
         ensures reserved { OnErr result (self.old.committed_room ≡ 0) }
         ensures memory { IfErr result (λ fault. fault ≡ OutOfMemory) }
     {

@@ -7,7 +7,7 @@ ghost use Rattle.vlink.specs.Order.{message_order};
 ghost use Rattle.vlink.specs.Letters.{Letter};
 ghost use Rattle.antimessages.specs.Counting.{signed_count};
 ghost use Rattle.process_queues.specs.declared.fault.ProcFault.TheVariants.{OutOfMemory};
-ghost use Rattle.process_queues.specs.Committing.{can_commit, committable};
+ghost use Rattle.process_queues.specs.Committing.{is_committable, committable};
 ghost use Rattle.process_queues.specs.Queues.{StandsFor, with_done};
 
 use crate::fault::ProcFault;
@@ -30,7 +30,7 @@ impl<R: Actor> Process<R> {
         committable_of::<R>(&self.tally, moment, self.past.done(), most)
     }
 
-    /// Makes room for so many committed events: as long as no other call comes between, so many calls of `seal_oldest` take no memory.
+    /// Makes room for so many committed events: as long as no other call comes between, so many calls of `commit_oldest` take no memory.
     pub fn reserve_rows(&mut self, events: usize) -> Result<(), ProcFault>
         ensures room { OnOk result (events ≤ self.new.committed_room) }
         ensures same { self.new.queues ≡ self.old.queues }
@@ -56,7 +56,7 @@ fn committable_of<R: Actor>(
     actor_rules::<R>();
     let limit = most.min(events.len());
     for place in 0..limit {
-        if !can_commit(tally, moment, &events[place].message) {
+        if !is_committable(tally, moment, &events[place].message) {
             return place;
         }
     }
@@ -64,9 +64,9 @@ fn committable_of<R: Actor>(
 }
 
 /// Whether a done event with this message can be committed: nothing counts of its message beside the letter that brought it.
-fn can_commit(tally: &Tally, moment: Time, message: &Message) -> bool
+fn is_committable(tally: &Tally, moment: Time, message: &Message) -> bool
     ensures { (all : List Letter) → signed_count message_order message.now all ≡ signed_count message_order message.now tally.now +ℤ pos 1 →
-        result ≡ can_commit message_order moment all message.now }
+        result ≡ is_committable message_order moment all message.now }
 {
     message.time < moment && tally.is_zero(message)
 }

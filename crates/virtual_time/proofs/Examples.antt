@@ -5,10 +5,10 @@ use Rattle.virtual_time.specs.Rules.{Rules}
 use Rattle.virtual_time.specs.Lists.{same}
 use Rattle.virtual_time.specs.Letters.{plus_of, minus_of, pluses, minuses, is_present}
 use Rattle.virtual_time.specs.declared.letter.Letter.{Letter}
-use Rattle.virtual_time.specs.Part.{Part, opened, unhandled, undone_by, next_of, can_seal}
+use Rattle.virtual_time.specs.Part.{Part, opened, unhandled, undone_by, next_of, can_commit}
 use Rattle.virtual_time.specs.Own.{Act, local}
 use Rattle.virtual_time.specs.Own.Act.{Deliver, Emptying, Moves}
-use Rattle.virtual_time.specs.declared.moved.Move.TheVariants.{Arrived, Ran, Sealed}
+use Rattle.virtual_time.specs.declared.moved.Move.TheVariants.{Arrived, Ran, Committed}
 
 record Note : Type 0 where
   time : ℕ
@@ -144,11 +144,11 @@ twice-undone : undone_by adder.order (after (arrival (plus_of (at 10 2 0)) ++ Mo
 unfolding same is_present unhandled
 twice-undone = refl
 
-twice-can_seal : can_seal adder.order (after (arrival (plus_of (at 10 2 0)) ++ Moves Ran ∷ arrival (plus_of (at 10 2 0)))) (at 10 2 0 ∷ []) ≡ false
+twice-can_commit : can_commit adder.order (after (arrival (plus_of (at 10 2 0)) ++ Moves Ran ∷ arrival (plus_of (at 10 2 0)))) (at 10 2 0 ∷ []) ≡ false
 unfolding same is_present unhandled
-twice-can_seal = refl
+twice-can_commit = refl
 
-twice-done : (after (arrival (plus_of (at 10 2 0)) ++ Moves Ran ∷ arrival (plus_of (at 10 2 0)) ++ Moves Sealed ∷ [])).done ≡ at 10 2 0 ∷ []
+twice-done : (after (arrival (plus_of (at 10 2 0)) ++ Moves Ran ∷ arrival (plus_of (at 10 2 0)) ++ Moves Committed ∷ [])).done ≡ at 10 2 0 ∷ []
 unfolding same is_present unhandled
 twice-done = refl
 
@@ -158,6 +158,6 @@ twice_back-undone : undone_by adder.order (after (arrival (plus_of (at 10 2 0)) 
 unfolding same is_present unhandled
 twice_back-undone = refl
 
-twice_back-committed : (after (arrival (plus_of (at 10 2 0)) ++ Moves Ran ∷ arrival (plus_of (at 10 2 0)) ++ arrival (minus_of (at 10 2 0)) ++ Moves Sealed ∷ [])).committed ≡ at 10 2 0 ∷ []
+twice_back-committed : (after (arrival (plus_of (at 10 2 0)) ++ Moves Ran ∷ arrival (plus_of (at 10 2 0)) ++ arrival (minus_of (at 10 2 0)) ++ Moves Committed ∷ [])).committed ≡ at 10 2 0 ∷ []
 unfolding same is_present unhandled
 twice_back-committed = refl

@@ -4,7 +4,7 @@ use Rattle.std.proofs.lemmas.Bool.{cases_eq, lt-ltb, ltb-true, and_parts}
 use Rattle.virtual_time.specs.Simulation.{Simulation, put}
 use Rattle.virtual_time.specs.Letters.{lowest, times_of, received_by}
 use Rattle.virtual_time.specs.declared.letter.Letter.{Letter}
-use Rattle.virtual_time.specs.Part.{Part, opened, delivered, emptied, floor_of, arrive, run_one, seal_oldest}
+use Rattle.virtual_time.specs.Part.{Part, opened, delivered, emptied, floor_of, arrive, run_one, commit_oldest}
 use Rattle.virtual_time.specs.World.{World, start, taken, with_part, gvt_over, is_early, is_enabled, effect, step, run}
 use Rattle.virtual_time.specs.declared.step.Step.{Step}
 use Rattle.virtual_time.specs.declared.step.Step.TheVariants.{Take, Post}
@@ -12,7 +12,7 @@ use Rattle.virtual_time.specs.Own.{Act, acted, local, after_moves}
 use Rattle.virtual_time.specs.Own.Act.{Deliver, Emptying, Moves}
 use Rattle.virtual_time.specs.Journal.{Posted, Published, Entry, step_by, steps_of, steps, acts_of, own_in, reach, after_own, can_move, AreEnabled, fetched, delivered_block}
 use Rattle.virtual_time.specs.declared.moved.Move.{Move}
-use Rattle.virtual_time.specs.declared.moved.Move.TheVariants.{Arrived, Ran, Sealed}
+use Rattle.virtual_time.specs.declared.moved.Move.TheVariants.{Arrived, Ran, Committed}
 
 -- one place of a function
 pub put_here : {X : Type 0} (p : ℕ) (x : X) (g : ℕ → X) → put p x g p ≡ x
@@ -105,7 +105,7 @@ module _ {M S K N : Type 0} (f : Simulation M S K N) where
   unfolding step is_enabled effect
   move-does p i Arrived w e = rw (lt-ltb p f.processes i) (ap (λ b. cond b (with_part f p (arrive f.rules (f.opening p) (w.parts p)) w) w) e)
   move-does p i Ran w e = rw (lt-ltb p f.processes i) (ap (λ b. cond b (with_part f p (run_one f.rules (w.parts p)) w) w) e)
-  move-does p i Sealed w e = rw (lt-ltb p f.processes i) (ap (λ b. cond b (with_part f p (seal_oldest f.rules (w.parts p)) w) w) e)
+  move-does p i Committed w e = rw (lt-ltb p f.processes i) (ap (λ b. cond b (with_part f p (commit_oldest f.rules (w.parts p)) w) w) e)
 
   pub moves : (p : ℕ) → p < f.processes → (ms : List Move) (w : World M S) → AreEnabled f (f.opening p) w.gvt ms (w.parts p) →
       run f (map (step_by p) ms) w ≡ with_part f p (after_moves f.rules (f.opening p) ms (w.parts p)) w
@@ -154,7 +154,7 @@ module _ {M S K N : Type 0} (f : Simulation M S K N) where
   enabled-later o g h l [] part a = tt
   enabled-later o g h l (Arrived ∷ ms) part a = (a.0, enabled-later o g h l ms _ a.1)
   enabled-later o g h l (Ran ∷ ms) part a = (a.0, enabled-later o g h l ms _ a.1)
-  enabled-later o g h l (Sealed ∷ ms) part a =
+  enabled-later o g h l (Committed ∷ ms) part a =
       let b = and_parts _ _ a.0 in
       (rw (early-later g h l part.done b.0) b.1, enabled-later o g h l ms _ a.1)
 

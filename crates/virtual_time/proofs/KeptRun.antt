@@ -2,7 +2,7 @@
 use Rattle.std.proofs.Common.{◌&&◌, ◌≡◌, ◌<◌, ◌≤◌, Bool, true, false, cond, nat_lt, List, [], ◌∷◌, ◌++◌, Option, Some, None, refl, arith, slice_get}
 use Rattle.std.proofs.lemmas.Bool.{and_parts, ltb-true}
 use Rattle.virtual_time.specs.declared.letter.Letter.{Letter}
-use Rattle.virtual_time.specs.Part.{can_seal}
+use Rattle.virtual_time.specs.Part.{can_commit}
 use Rattle.virtual_time.specs.Simulation.{Simulation, Laws}
 use Rattle.virtual_time.specs.World.{World, taken, is_early, is_enabled, effect, step, run}
 use Rattle.virtual_time.specs.declared.step.Step.{Step}
@@ -36,7 +36,7 @@ module _ {M S K N : Type 0} (f : Simulation M S K N) (L : Laws f) where
   effect-kept (Post p) w k e = post-kept f L w k p (ltb-true p f.processes e)
   effect-kept Gvt w k e = gvt-kept f L w k
   effect-kept (Commit p) w k e =
-      let a = and_parts (nat_lt p f.processes) (is_early f w.gvt (w.parts p).done && can_seal f.rules.order (w.parts p) (w.parts p).done) e in
+      let a = and_parts (nat_lt p f.processes) (is_early f w.gvt (w.parts p).done && can_commit f.rules.order (w.parts p) (w.parts p).done) e in
       let i = ltb-true p f.processes a.0 in
       part-kept f L w k p i _ (commit-step f L w.gvt (w.floors p) p i (w.parts p) (k.sound p i) (and_parts _ _ a.1).0)
 

@@ -3,7 +3,7 @@ use Rattle.std.proofs.Common.{◌≡◌, ℕ, ◌==◌, ◌⊎◌, inl, inr, Boo
 use Rattle.std.proofs.lemmas.Bool.{cases_eq}
 use Rattle.virtual_time.specs.Simulation.{Simulation, put}
 use Rattle.virtual_time.specs.declared.letter.Letter.{Letter}
-use Rattle.virtual_time.specs.Part.{Part, delivered, emptied, arrive, run_one, seal_oldest}
+use Rattle.virtual_time.specs.Part.{Part, delivered, emptied, arrive, run_one, commit_oldest}
 use Rattle.virtual_time.specs.World.{World, is_enabled, effect, step, run, taken}
 use Rattle.virtual_time.specs.declared.step.Step.{Step}
 use Rattle.virtual_time.specs.declared.step.Step.TheVariants.{Take, Arrive, Run, Post, Gvt, Commit}
@@ -38,7 +38,7 @@ module _ {M S K N : Type 0} (f : Simulation M S K N) where
   effect-own p (Run q) w = at_put p q _ _ w (λ e. ap (λ z. run_one f.rules (w.parts z)) (sym e))
   effect-own p (Post q) w = at_put p q _ _ w (λ e. ap (λ z. emptied (w.parts z)) (sym e))
   effect-own p Gvt w = refl
-  effect-own p (Commit q) w = at_put p q _ _ w (λ e. ap (λ z. seal_oldest f.rules (w.parts z)) (sym e))
+  effect-own p (Commit q) w = at_put p q _ _ w (λ e. ap (λ z. commit_oldest f.rules (w.parts z)) (sym e))
 
   step-own : (p : ℕ) (x : Step) (w : World M S) →
       (step f x w).parts p ≡ local f.rules (f.opening p) (cond (is_enabled f x w) (acts_of f p x w) []) (w.parts p)

@@ -4,7 +4,7 @@ use Rattle.std.proofs.lemmas.Bool.{ltb-true}
 use Rattle.virtual_time.specs.Lists.{one_if, times_in, IsIn, IsAscending}
 use Rattle.virtual_time.specs.Simulation.{Simulation, Laws, IsReached}
 use Rattle.virtual_time.specs.Letters.{minus_of, pluses, minuses}
-use Rattle.virtual_time.specs.Part.{Part, can_seal, sealed, seal_oldest}
+use Rattle.virtual_time.specs.Part.{Part, can_commit, oldest_committed, commit_oldest}
 use Rattle.virtual_time.specs.World.{is_early}
 use Rattle.virtual_time.proofs.Order.{same-refl, less-different}
 use Rattle.virtual_time.proofs.Lists.{times-append, in-head, in-push}
@@ -12,14 +12,14 @@ use Rattle.virtual_time.proofs.Ascending.{ascending-across}
 use Rattle.virtual_time.proofs.Letters.{counts-other, named-cons}
 use Rattle.virtual_time.proofs.Presence.{present-taken_back}
 use Rattle.virtual_time.proofs.WellStep.{IsWellStep}
-use Rattle.virtual_time.proofs.WellSeal.{seal-history, seal-well}
+use Rattle.virtual_time.proofs.WellCommit.{commit-history, commit-well}
 use Rattle.virtual_time.proofs.Sound.{IsSound, IsStep, no-step, law-of}
 
 module _ {M S K N : Type 0} (f : Simulation M S K N) (L : Laws f) where
   module _ (g floor p : ℕ) (part : Part M S) (s : IsSound f L g floor p part) (m : M) (rest : List M) (e : part.done ≡ m ∷ rest)
       (early : f.rules.order.time m < g) (one_left : pluses f.rules.order m part.tally ≡ minuses f.rules.order m part.tally + 1) where
     history-same : (part.committed ++ m ∷ []) ++ rest ≡ part.committed ++ part.done
-    history-same = seal-history part.committed m rest part.done e
+    history-same = commit-history part.committed m rest part.done e
 
     m-done : IsIn f.rules.order m part.done
     m-done = subst (λ z. IsIn f.rules.order m z) (sym e) (in-head f.rules.order L.order m rest)
@@ -27,7 +27,7 @@ module _ {M S K N : Type 0} (f : Simulation M S K N) (L : Laws f) where
     counts-m : pluses f.rules.order m (minus_of m ∷ part.tally) ≡ minuses f.rules.order m (minus_of m ∷ part.tally)
     counts-m = let a = ap one_if (same-refl f.rules.order L.order m) in let b = one_left in omega arith
 
-    committed-step : IsWellStep f.rules (IsReached f p) (f.opening p) part (sealed f.rules part (m ∷ rest)) → IsStep f L g floor p part (sealed f.rules part (m ∷ rest))
+    committed-step : IsWellStep f.rules (IsReached f p) (f.opening p) part (oldest_committed f.rules part (m ∷ rest)) → IsStep f L g floor p part (oldest_committed f.rules part (m ∷ rest))
     committed-step w = record {
       sound = record {
         well = w.well;
@@ -57,18 +57,18 @@ module _ {M S K N : Type 0} (f : Simulation M S K N) (L : Laws f) where
     }
 
   pub commit-step : (g floor p : ℕ) → p < f.processes → (part : Part M S) → IsSound f L g floor p part →
-      is_early f g part.done ≡ true → IsStep f L g floor p part (seal_oldest f.rules part)
+      is_early f g part.done ≡ true → IsStep f L g floor p part (commit_oldest f.rules part)
   commit-step g floor p i part s t =
-      go part.done refl t (seal-well f.rules L.order (IsReached f p) (law-of f L p i) (f.opening p) part s.well)
+      go part.done refl t (commit-well f.rules L.order (IsReached f p) (law-of f L p i) (f.opening p) part s.well)
     where
       go : (ms : List M) → part.done ≡ ms → is_early f g ms ≡ true →
-          IsWellStep f.rules (IsReached f p) (f.opening p) part (cond (can_seal f.rules.order part ms) (sealed f.rules part ms) part) →
-          IsStep f L g floor p part (cond (can_seal f.rules.order part ms) (sealed f.rules part ms) part)
+          IsWellStep f.rules (IsReached f p) (f.opening p) part (cond (can_commit f.rules.order part ms) (oldest_committed f.rules part ms) part) →
+          IsStep f L g floor p part (cond (can_commit f.rules.order part ms) (oldest_committed f.rules part ms) part)
       go [] e h w = no-step f L g floor p part s
       go (m ∷ rest) e h w = pick (pluses f.rules.order m part.tally == minuses f.rules.order m part.tally + 1) refl w
         where
           pick : (b : Bool) → (pluses f.rules.order m part.tally == minuses f.rules.order m part.tally + 1) ≡ b →
-              IsWellStep f.rules (IsReached f p) (f.opening p) part (cond b (sealed f.rules part (m ∷ rest)) part) →
-              IsStep f L g floor p part (cond b (sealed f.rules part (m ∷ rest)) part)
+              IsWellStep f.rules (IsReached f p) (f.opening p) part (cond b (oldest_committed f.rules part (m ∷ rest)) part) →
+              IsStep f L g floor p part (cond b (oldest_committed f.rules part (m ∷ rest)) part)
           pick true k v = committed-step g floor p part s m rest e (ltb-true _ _ h) (eqb-true _ _ k) v
           pick false k v = no-step f L g floor p part s

@@ -8,8 +8,8 @@ use Rattle.virtual_time.specs.Own.Act.{Deliver, Emptying, Moves}
 use Rattle.virtual_time.proofs.WellStep.{delivered-well, emptied-well}
 use Rattle.virtual_time.proofs.WellArrive.{arrive-well}
 use Rattle.virtual_time.proofs.WellRun.{run-well}
-use Rattle.virtual_time.proofs.WellSeal.{seal-well}
-use Rattle.virtual_time.specs.declared.moved.Move.TheVariants.{Arrived, Ran, Sealed}
+use Rattle.virtual_time.proofs.WellCommit.{commit-well}
+use Rattle.virtual_time.specs.declared.moved.Move.TheVariants.{Arrived, Ran, Committed}
 
 module _ {M S K N : Type 0} (r : Rules M S K N) (O : IsOrder r.order) (Good : S → Type 0)
     (law : (s : S) (e : M) → Good s → r.undo (r.after s e) e (r.kept s e) ≡ s) (opening : S) where
@@ -17,7 +17,7 @@ module _ {M S K N : Type 0} (r : Rules M S K N) (O : IsOrder r.order) (Good : S 
   act-well (Deliver l) part w g = delivered-well r Good opening l part w
   act-well (Moves Arrived) part w g = (arrive-well r O Good law opening part w).well
   act-well (Moves Ran) part w g = (run-well r O Good law opening part w (g refl)).well
-  act-well (Moves Sealed) part w g = (seal-well r O Good law opening part w).well
+  act-well (Moves Committed) part w g = (commit-well r O Good law opening part w).well
   act-well Emptying part w g = emptied-well r Good opening part w
 
   pub act-sends : (a : Act M) (part : Part M S) → IsWell r Good opening part → (a ≡ Moves Ran → Good part.state) → (a ≡ Emptying → ⊥) →
@@ -25,5 +25,5 @@ module _ {M S K N : Type 0} (r : Rules M S K N) (O : IsOrder r.order) (Good : S 
   act-sends (Deliver l) part w g n m = refl
   act-sends (Moves Arrived) part w g n m = (arrive-well r O Good law opening part w).sends m
   act-sends (Moves Ran) part w g n m = (run-well r O Good law opening part w (g refl)).sends m
-  act-sends (Moves Sealed) part w g n m = (seal-well r O Good law opening part w).sends m
+  act-sends (Moves Committed) part w g n m = (commit-well r O Good law opening part w).sends m
   act-sends Emptying part w g n m = absurd (n refl)

@@ -1,11 +1,11 @@
 -- The journal of a run by workers: the steps in the order in which they were done, put together by what one process did at one go.
 use Rattle.std.specs.Prelude.{◌≡◌, ℕ, ◌==◌, Bool, true, false, ◌&&◌, suc, Some, None, nat_lt, if◌then◌else◌, List, [], ◌∷◌, ◌++◌, map, length, replicate, is_some, Option, ⊤}
 use Rattle.virtual_time.specs.declared.moved.Move.{Move}
-use Rattle.virtual_time.specs.declared.moved.Move.TheVariants.{Arrived, Ran, Sealed}
+use Rattle.virtual_time.specs.declared.moved.Move.TheVariants.{Arrived, Ran, Committed}
 use Rattle.virtual_time.specs.Simulation.{Simulation, put}
 use Rattle.virtual_time.specs.Letters.{lowest, received_by, times_of}
 use Rattle.virtual_time.specs.declared.letter.Letter.{Letter}
-use Rattle.virtual_time.specs.Part.{Part, next_of, can_seal, opened, emptied, floor_of}
+use Rattle.virtual_time.specs.Part.{Part, next_of, can_commit, opened, emptied, floor_of}
 use Rattle.virtual_time.specs.World.{World, start, run, is_early}
 use Rattle.virtual_time.specs.declared.step.Step.{Step}
 use Rattle.virtual_time.specs.declared.step.Step.TheVariants.{Take, Arrive, Run, Post, Gvt, Commit}
@@ -28,7 +28,7 @@ pub record Entry (M : Type 0) : Type 0 where
 abbrev pub step_by : ℕ → Move → Step
 step_by p Arrived = Arrive p
 step_by p Ran = Run p
-step_by p Sealed = Commit p
+step_by p Committed = Commit p
 
 -- the steps for which an entry stands
 abbrev pub steps_of : {M : Type 0} → ℕ → Deed M → List Step
@@ -64,7 +64,7 @@ module _ {M S K N : Type 0} (f : Simulation M S K N) where
   abbrev pub can_move : ℕ → Move → Part M S → Bool
   can_move g Arrived part = nat_lt 0 (length part.tray)
   can_move g Ran part = is_some (next_of f.rules.order part)
-  can_move g Sealed part = is_early f g part.done && can_seal f.rules.order part part.done
+  can_move g Committed part = is_early f g part.done && can_commit f.rules.order part part.done
 
   -- each of these steps can be done when it comes
   abbrev pub AreEnabled : S → ℕ → List Move → Part M S → Type 0

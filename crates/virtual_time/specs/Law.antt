@@ -8,7 +8,7 @@ pub use Rattle.virtual_time.specs.OneThread.{IsBelow, IsLeft, OneThread, events,
 unfoldable pub use Rattle.virtual_time.specs.OneThread.{one}
 pub use Rattle.virtual_time.specs.Own.{Act, acted, after_moves, local}
 pub use Rattle.virtual_time.specs.Own.Act.{Deliver, Emptying, Moves}
-pub use Rattle.virtual_time.specs.Part.{Part, arrive, arrived, can_seal, tallied, delivered, emptied, floor_of, handled, is_toggled, next_of, opened, rolled_back, run_one, seal_oldest, sealed, undo_all, undone_by}
+pub use Rattle.virtual_time.specs.Part.{Part, arrive, arrived, can_commit, tallied, delivered, emptied, floor_of, handled, is_toggled, next_of, opened, rolled_back, run_one, commit_oldest, oldest_committed, undo_all, undone_by}
 unfoldable pub use Rattle.virtual_time.specs.Part.{unhandled}
 pub use Rattle.virtual_time.specs.Rules.{IsOrder, Order, Rules, reached, rowed, rows_at, rows_of, sent}
 pub use Rattle.virtual_time.specs.Safe.{CountLaw, IsFinished, IsWhole, NothingBefore, Safe, history}

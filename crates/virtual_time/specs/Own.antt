@@ -4,8 +4,8 @@ use Rattle.virtual_time.specs.Rules.{Rules}
 use Rattle.virtual_time.specs.Simulation.{Simulation}
 use Rattle.virtual_time.specs.declared.letter.Letter.{Letter}
 use Rattle.virtual_time.specs.declared.moved.Move.{Move}
-use Rattle.virtual_time.specs.declared.moved.Move.TheVariants.{Arrived, Ran, Sealed}
-use Rattle.virtual_time.specs.Part.{Part, delivered, emptied, arrive, run_one, seal_oldest}
+use Rattle.virtual_time.specs.declared.moved.Move.TheVariants.{Arrived, Ran, Committed}
+use Rattle.virtual_time.specs.Part.{Part, delivered, emptied, arrive, run_one, commit_oldest}
 use Rattle.virtual_time.specs.World.{World, is_enabled, step}
 use Rattle.virtual_time.specs.declared.step.Step.{Step}
 use Rattle.virtual_time.specs.declared.step.Step.TheVariants.{Take, Arrive, Run, Post, Gvt, Commit}
@@ -21,7 +21,7 @@ abbrev pub acted : {M S K N : Type 0} → Rules M S K N → S → Act M → Part
 acted r opening (Deliver l) part = delivered l part
 acted r opening (Moves Arrived) part = arrive r opening part
 acted r opening (Moves Ran) part = run_one r part
-acted r opening (Moves Sealed) part = seal_oldest r part
+acted r opening (Moves Committed) part = commit_oldest r part
 acted r opening Emptying part = emptied part
 
 -- the process alone after these acts
@@ -46,7 +46,7 @@ module _ {M S K N : Type 0} (f : Simulation M S K N) where
   acts_of p (Run q) w = if p == q then Moves Ran ∷ [] else []
   acts_of p (Post q) w = if p == q then Emptying ∷ [] else []
   acts_of p Gvt w = []
-  acts_of p (Commit q) w = if p == q then Moves Sealed ∷ [] else []
+  acts_of p (Commit q) w = if p == q then Moves Committed ∷ [] else []
 
   -- the acts of p over a list of steps from a world on; a step that is not enabled is no act
   unfoldable pub own : ℕ → List Step → World M S → List (Act M)

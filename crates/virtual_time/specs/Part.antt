@@ -67,10 +67,10 @@ module _ {M : Type 0} (o : Order M) where
   abbrev pub next_of : {S : Type 0} → Part M S → Option M
   next_of part = least o (unhandled part.tally part.done)
 
-  -- of these done events the oldest can be sealed: its signed count is just 1
-  abbrev pub can_seal : {S : Type 0} → Part M S → List M → Bool
-  can_seal part [] = false
-  can_seal part (m ∷ rest) = pluses o m part.tally == minuses o m part.tally + 1
+  -- of these done events the oldest can be committed: its signed count is just 1
+  abbrev pub can_commit : {S : Type 0} → Part M S → List M → Bool
+  can_commit part [] = false
+  can_commit part (m ∷ rest) = pluses o m part.tally == minuses o m part.tally + 1
 
 module _ {M S K N : Type 0} (r : Rules M S K N) where
   -- rollback: every done event that does not come before m is undone, the newest first, and the messages
@@ -127,9 +127,9 @@ module _ {M S K N : Type 0} (r : Rules M S K N) where
   run_one part = handled part (next_of r.order part)
 
   -- of these done events the oldest is committed, and its count falls from 1 to 0
-  abbrev pub sealed : Part M S → List M → Part M S
-  sealed part [] = part
-  sealed part (m ∷ rest) =
+  abbrev pub oldest_committed : Part M S → List M → Part M S
+  oldest_committed part [] = part
+  oldest_committed part (m ∷ rest) =
       record {
         committed = part.committed ++ m ∷ [];
         done = rest;
@@ -140,8 +140,8 @@ module _ {M S K N : Type 0} (r : Rules M S K N) where
       }
 
   -- the oldest done event is committed, if its signed count is just 1
-  abbrev pub seal_oldest : Part M S → Part M S
-  seal_oldest part = if can_seal r.order part part.done then sealed part part.done else part
+  abbrev pub commit_oldest : Part M S → Part M S
+  commit_oldest part = if can_commit r.order part part.done then oldest_committed part part.done else part
 
   -- undo all: the state that is left when the done events are undone, the newest first, each with its record
   abbrev pub undo_all : S → Part M S → S

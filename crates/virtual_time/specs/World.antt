@@ -5,7 +5,7 @@ use Rattle.virtual_time.specs.declared.step.Step.TheVariants.{Take, Arrive, Run,
 use Rattle.virtual_time.specs.Simulation.{Simulation, put}
 use Rattle.virtual_time.specs.Letters.{plus_of, lowest, received_by, times_of}
 use Rattle.virtual_time.specs.declared.letter.Letter.{Letter}
-use Rattle.virtual_time.specs.Part.{Part, opened, delivered, emptied, floor_of, arrive, run_one, next_of, can_seal, seal_oldest}
+use Rattle.virtual_time.specs.Part.{Part, opened, delivered, emptied, floor_of, arrive, run_one, next_of, can_commit, commit_oldest}
 
 pub record World (M S : Type 0) : Type 0 where
   pub parts : ℕ → Part M S
@@ -69,7 +69,7 @@ module _ {M S K N : Type 0} (f : Simulation M S K N) where
   is_enabled (Run p) w = nat_lt p f.processes && is_some (next_of f.rules.order (w.parts p))
   is_enabled (Post p) w = nat_lt p f.processes
   is_enabled Gvt w = true
-  is_enabled (Commit p) w = nat_lt p f.processes && (is_early w.gvt (w.parts p).done && can_seal f.rules.order (w.parts p) (w.parts p).done)
+  is_enabled (Commit p) w = nat_lt p f.processes && (is_early w.gvt (w.parts p).done && can_commit f.rules.order (w.parts p) (w.parts p).done)
 
   -- what an enabled step does
   unfoldable pub effect : Step → World M S → World M S
@@ -78,7 +78,7 @@ module _ {M S K N : Type 0} (f : Simulation M S K N) where
   effect (Run p) w = with_part p (run_one f.rules (w.parts p)) w
   effect (Post p) w = posted p w
   effect Gvt w = record { parts = w.parts; mail = w.mail; floors = w.floors; gvt = gvt_over f.processes w }
-  effect (Commit p) w = with_part p (seal_oldest f.rules (w.parts p)) w
+  effect (Commit p) w = with_part p (commit_oldest f.rules (w.parts p)) w
 
   -- one step: where it is not enabled, the world stays as it is
   unfoldable pub step : Step → World M S → World M S

@@ -7,5 +7,5 @@ pub enum Move {
     /// Its first unhandled message was handled.
     Ran,
     /// Its oldest done event was committed.
-    Sealed,
+    Committed,
 }

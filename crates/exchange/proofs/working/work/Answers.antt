@@ -20,6 +20,6 @@ pub returns-clause-ok : goal.returns-clause-ok
 returns-clause-ok g c =
     let f = simulation_of (rules_of g.R.Reversible.plain) g.J.ActorRun.setting in
     let ran = c.in_ok-run_early.ensures.ran in
-    let sealed = c.in_ok-commit_all.ensures.committed in
-    works f c.args.turn c.args.window c.args.held.now c.arrive_all.new.self c.run_early.new.self c.commit_all.new.self ran.runs sealed.0 c.in_ok-arrive_all.ensures.arrived ran.did sealed.1
-    ran.within ran.early ran.idle sealed.2 c.pending-before.result c.pending.result c.pending-before.ensures c.pending.ensures
+    let committed = c.in_ok-commit_all.ensures.committed in
+    works f c.args.turn c.args.window c.args.held.now c.arrive_all.new.self c.run_early.new.self c.commit_all.new.self ran.runs committed.0 c.in_ok-arrive_all.ensures.arrived ran.did committed.1
+    ran.within ran.early ran.idle committed.2 c.pending-before.result c.pending.result c.pending-before.ensures c.pending.ensures

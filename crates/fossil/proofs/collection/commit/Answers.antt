@@ -1,22 +1,22 @@
 use Rattle.std.proofs.Common.{◌≡◌, ◌<◌, sym, ap, ◌∙◌, subst, arith}
-use Rattle.virtual_time.specs.Law.{seal_oldest}
+use Rattle.virtual_time.specs.Law.{commit_oldest}
 use Rattle.reverse.specs.Rules.{rules_of}
 use Rattle.process_queues.specs.Queues.{StandsFor, Does}
-use Rattle.fossil.specs.Committed.{sealed_times, committed_below}
-use Rattle.fossil.proofs.Counts.{on_ok-room, on_err-is, sealed-last, once-part, committable-below}
+use Rattle.fossil.specs.Committed.{committed_times, committed_below}
+use Rattle.fossil.proofs.Counts.{on_ok-room, on_err-is, committed-last, once-part, committable-below}
 use Rattle.fossil.proofs.collection.commit.Goals as goal
 
-pub loop-sealed-preserved : goal.loop-sealed-preserved
-loop-sealed-preserved g c =
+pub loop-committed-preserved : goal.loop-committed-preserved
+loop-committed-preserved g c =
     let r = rules_of g.R.Reversible.plain in
     let v = g.R.Reversible.is_value in
-    let i = c.loop-sealed.invariant in
-    let some : 0 < c.loop-sealed.process.committed_room = omega arith in
-    let seals = on_ok-room (Does r v (λ opening. seal_oldest r) c.loop-sealed.process.queues c.seal_oldest-done.new.self.queues) c.seal_oldest-done.result
-    c.loop-sealed.process.committed_room c.seal_oldest-done.ensures.sealed c.seal_oldest-done.ensures.reserved some in
+    let i = c.loop-committed.invariant in
+    let some : 0 < c.loop-committed.process.committed_room = omega arith in
+    let seals = on_ok-room (Does r v (λ opening. commit_oldest r) c.loop-committed.process.queues c.seal_oldest-done.new.self.queues) c.seal_oldest-done.result
+    c.loop-committed.process.committed_room c.seal_oldest-done.ensures.sealed c.seal_oldest-done.ensures.reserved some in
     record {
-      committed = λ opening part h. subst (λ z. StandsFor r v opening z c.seal_oldest-done.new.self.queues) (sym (sealed-last r c.loop-sealed.sealed part))
-          (seals opening (sealed_times r c.loop-sealed.sealed part) (i.committed opening part h));
+      committed = λ opening part h. subst (λ z. StandsFor r v opening z c.seal_oldest-done.new.self.queues) (sym (committed-last r c.loop-committed.committed part))
+          (seals opening (committed_times r c.loop-committed.committed part) (i.committed opening part h));
       room = let room = c.seal_oldest-done.ensures.room in omega arith;
       none = λ e. absurd (omega arith);
       tray = c.seal_oldest-done.ensures.tray ∙ i.tray;
@@ -33,11 +33,11 @@ pub returns-clause-one_part : goal.returns-clause-one_part
 returns-clause-one_part g c one opening part h =
     let r = rules_of g.R.Reversible.plain in
     let v = g.R.Reversible.is_value in
-    let all : c.loop-sealed.sealed ≡ c.committable-count.result = omega arith in
-    let count : c.loop-sealed.sealed ≡ committed_below r c.args.gvt 1 part =
+    let all : c.loop-committed.committed ≡ c.committable-count.result = omega arith in
+    let count : c.loop-committed.committed ≡ committed_below r c.args.gvt 1 part =
     all ∙ (returns-clause-answer g c opening part h ∙ ap (λ n. committed_below r c.args.gvt n part) one) in
-    subst (λ z. StandsFor r v opening z c.loop-sealed.process.queues) (ap (λ n. sealed_times r n part) count ∙ once-part r c.args.gvt part)
-    (c.loop-sealed.invariant.committed opening part h)
+    subst (λ z. StandsFor r v opening z c.loop-committed.process.queues) (ap (λ n. committed_times r n part) count ∙ once-part r c.args.gvt part)
+    (c.loop-committed.invariant.committed opening part h)
 
 pub returns-then-is_err-clause-reserved : goal.returns-then-is_err-clause-reserved
 returns-then-is_err-clause-reserved g c opening part h =

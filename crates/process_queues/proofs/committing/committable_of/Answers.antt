@@ -5,15 +5,15 @@ use Rattle.process_queues.proofs.Counting.{of-messages}
 use Rattle.process_queues.proofs.Places.{commits-from}
 use Rattle.process_queues.proofs.committing.committable_of.Goals as goal
 
-pub returns-then-not-can_commit : goal.returns-then-not-can_commit
-returns-then-not-can_commit g c =
+pub returns-then-not-is_committable : goal.returns-then-not-is_committable
+returns-then-not-is_committable g c =
     let m = c.min-limit.ensures in
     let l = c.len.ensures in
     let t = c.loop-place-test.true in
     let i = c.loop-place.invariant in
     let es = c.args.events.now.items in
     let R = of-messages g.R.Reversible.plain c.actor_rules.ensures.order c.actor_rules.ensures.undoes in
-    let can = c.if-not-can_commit.ensures (with_done c.args.tally.now es)
+    let can = c.if-not-is_committable.ensures (with_done c.args.tally.now es)
     (one-at R c.args.tally.now es c.requires c.loop-place.place c.index.result.now (omega arith) c.index.ensures) in
     let z = commits-from (λ e. e.message) c.args.moment (with_done c.args.tally.now es) es c.args.most c.loop-place.place c.index.result.now
     (omega arith) (omega arith) c.index.ensures _ can in
@@ -27,7 +27,7 @@ loop-place-preserved g c =
     let i = c.loop-place.invariant in
     let es = c.args.events.now.items in
     let R = of-messages g.R.Reversible.plain c.actor_rules.ensures.order c.actor_rules.ensures.undoes in
-    let can = c.if-not-can_commit.ensures (with_done c.args.tally.now es)
+    let can = c.if-not-is_committable.ensures (with_done c.args.tally.now es)
     (one-at R c.args.tally.now es c.requires c.loop-place.place c.index.result.now (omega arith) c.index.ensures) in
     let z = commits-from (λ e. e.message) c.args.moment (with_done c.args.tally.now es) es c.args.most c.loop-place.place c.index.result.now
     (omega arith) (omega arith) c.index.ensures _ can in

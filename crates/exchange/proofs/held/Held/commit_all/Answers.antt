@@ -1,5 +1,5 @@
 use Rattle.std.proofs.Common.{◌+◌}
-use Rattle.virtual_time.specs.declared.moved.Move.TheVariants.{Sealed}
+use Rattle.virtual_time.specs.declared.moved.Move.TheVariants.{Committed}
 use Rattle.reverse.specs.Rules.{rules_of}
 use Rattle.reverse.specs.Setting.{simulation_of}
 use Rattle.exchange.proofs.Moves.{moved-more}
@@ -9,4 +9,4 @@ pub loop-preserved : goal.loop-preserved
 loop-preserved g c =
     let f = simulation_of (rules_of g.R.Reversible.plain) g.J.ActorRun.setting in
     let i = c.loop.invariant in
-    (i.0 + 1, moved-more f i.0 Sealed c.args.self.now c.loop.self c.commit_one.new.self i.1 (c.in_ok-commit_one.ensures.committed c.if-not-branch.false))
+    (i.0 + 1, moved-more f i.0 Committed c.args.self.now c.loop.self c.commit_one.new.self i.1 (c.in_ok-commit_one.ensures.committed c.if-not-branch.false))

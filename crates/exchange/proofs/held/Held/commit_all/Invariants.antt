@@ -1,5 +1,5 @@
 use Rattle.std.proofs.Common.{◌≡◌, ℕ, length, replicate}
-use Rattle.virtual_time.specs.declared.moved.Move.TheVariants.{Sealed}
+use Rattle.virtual_time.specs.declared.moved.Move.TheVariants.{Committed}
 use Rattle.reverse.specs.Rules.{rules_of}
 use Rattle.reverse.specs.Setting.{simulation_of}
 use Rattle.exchange.specs.Effects.{moved_by}
@@ -7,7 +7,7 @@ use Rattle.exchange.proofs.held.Held.commit_all.Given as goal
 
 abbrev pub invariant-loop : goal.invariant-loop
 invariant-loop g l =
-    (commits : ℕ) × (l.self ≡ moved_by (simulation_of (rules_of g.R.Reversible.plain) g.J.ActorRun.setting) (replicate commits Sealed) l.fn.self)
+    (commits : ℕ) × (l.self ≡ moved_by (simulation_of (rules_of g.R.Reversible.plain) g.J.ActorRun.setting) (replicate commits Committed) l.fn.self)
 
 abbrev pub decreases-loop : goal.decreases-loop
 decreases-loop g l = length l.self.part.done

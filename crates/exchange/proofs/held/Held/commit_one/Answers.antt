@@ -2,7 +2,7 @@ use Rattle.std.proofs.Common.{◌≡◌, true, false, [], refl, sym, ◌∙◌, 
 use Rattle.std.specs.Prelude.{◌≢◌}
 use Rattle.std.proofs.lemmas.Bool.{false≢true, and_parts}
 use Rattle.virtual_time.specs.Law.{can_move, earlier}
-use Rattle.virtual_time.specs.declared.moved.Move.TheVariants.{Sealed}
+use Rattle.virtual_time.specs.declared.moved.Move.TheVariants.{Committed}
 use Rattle.vlink.specs.Order.{message_order}
 use Rattle.reverse.specs.Rules.{rules_of}
 use Rattle.reverse.specs.Setting.{simulation_of}
@@ -17,7 +17,7 @@ use Rattle.exchange.proofs.held.Held.commit_one.Goals as goal
 
 -- behind the test, the oldest done event can be committed
 can-commit : (g : Over) (c : After-push g) →
-    can_move (simulation_of (rules_of g.R.Reversible.plain) g.J.ActorRun.setting) c.self.inside.seen Sealed
+    can_move (simulation_of (rules_of g.R.Reversible.plain) g.J.ActorRun.setting) c.self.inside.seen Committed
     (in_hand (simulation_of (rules_of g.R.Reversible.plain) g.J.ActorRun.setting) c.self.inside.number c.self.inside.last c.self.inside.seen c.self.inside.gone c.self.inside.block).part ≡ true
 can-commit g c =
     let h = c.self.invariant.0 in
@@ -35,21 +35,21 @@ some-early g c =
 pub invariant_of-self-in-Ok-true : goal.invariant_of-self-in-Ok-true
 invariant_of-self-in-Ok-true g c =
     let h = c.self.invariant.0 in (
-      holds-moved h (c.actor_laws.ensures g.J.ActorRun.setting h.laid) Sealed (can-commit g (goal.at.invariant_of-self-in-Ok-true g c).After-push) c.seal_oldest.new.self.queues
+      holds-moved h (c.actor_laws.ensures g.J.ActorRun.setting h.laid) Committed (can-commit g (goal.at.invariant_of-self-in-Ok-true g c).After-push) c.seal_oldest.new.self.queues
           (c.in-Ok-true.ensures.sealed _ _ h.stands) c.seal_oldest.ensures.left c.push.new.self c.in_ok-push.ensures.pushed,
       c.self.invariant.1,
     )
 
 pub returns-in-Ok-true-clause-committed : goal.returns-in-Ok-true-clause-committed
 returns-in-Ok-true-clause-committed g c = λ yes.
-    moved-view (simulation_of (rules_of g.R.Reversible.plain) g.J.ActorRun.setting) c.self.inside.number c.self.inside.last c.self.inside.seen c.self.inside.gone c.self.inside.block Sealed
+    moved-view (simulation_of (rules_of g.R.Reversible.plain) g.J.ActorRun.setting) c.self.inside.number c.self.inside.last c.self.inside.seen c.self.inside.gone c.self.inside.block Committed
     c.args.self.now c.self.view_is c.push.new.self c.in_ok-push.ensures.pushed
 
 pub returns-in-Ok-true-clause-fewer : goal.returns-in-Ok-true-clause-fewer
 returns-in-Ok-true-clause-fewer g c = λ yes.
     let f = simulation_of (rules_of g.R.Reversible.plain) g.J.ActorRun.setting in
     commit-takes f c.args.self.now _ c.self.inside.seen
-    (subst (λ (z : InShare g.row.R.Denot). can_move f c.self.inside.seen Sealed z.part ≡ true) c.self.view_is (can-commit g (goal.at.returns-in-Ok-true-clause-fewer g c).After-push))
+    (subst (λ (z : InShare g.row.R.Denot). can_move f c.self.inside.seen Committed z.part ≡ true) c.self.view_is (can-commit g (goal.at.returns-in-Ok-true-clause-fewer g c).After-push))
     (returns-in-Ok-true-clause-committed g c yes)
 
 pub returns-in-Ok-false-clause-none : goal.returns-in-Ok-false-clause-none

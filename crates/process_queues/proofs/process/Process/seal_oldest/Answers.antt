@@ -1,13 +1,13 @@
 use Rattle.std.proofs.Common.{◌≡◌, ◌+◌, [], ◌∷◌, length, refl, sym, ap, ◌∙◌}
 use Rattle.std.proofs.lemmas.List.{length-append}
 use Rattle.std.specs.Option.{option_copied}
-use Rattle.virtual_time.specs.Law.{seal_oldest}
+use Rattle.virtual_time.specs.Law.{commit_oldest}
 use Rattle.reverse.specs.Rules.{rules_of}
 use Rattle.process_queues.proofs.Counting.{of-messages}
 use Rattle.process_queues.proofs.Stragglers.{seals}
 use Rattle.process_queues.proofs.Next.{next-kept}
 use Rattle.process_queues.proofs.Reading.{first-done}
-use Rattle.process_queues.proofs.Standing.{sealed-stands, seal-stays}
+use Rattle.process_queues.proofs.Standing.{commit-stands, commit-stays}
 use Rattle.process_queues.proofs.Taking.{err-gives}
 use Rattle.process_queues.proofs.process.Process.seal_oldest.Goals as goal
 
@@ -33,7 +33,7 @@ returns-then-not-is_zero-clause-answer g c = λ opening part h.
 pub returns-then-not-is_zero-clause-sealed : goal.returns-then-not-is_zero-clause-sealed
 returns-then-not-is_zero-clause-sealed g c = λ opening part h.
     let k = rw (← c.self.view_is) at h in
-    rw c.in_ok-reserve_if_zero.ensures.same (seal-stays k (sym (returns-then-not-is_zero-clause-answer g c opening part h)))
+    rw c.in_ok-reserve_if_zero.ensures.same (commit-stays k (sym (returns-then-not-is_zero-clause-answer g c opening part h)))
 
 pub forget_oldest-noted-requires : goal.forget_oldest-noted-requires
 forget_oldest-noted-requires g c =
@@ -54,7 +54,7 @@ returns-clause-sealed g c opening part h =
     let noted = c.from.ensures ∙ c.forget_oldest-noted.ensures.noted _ first.0 _ _ first.2 in
     let more : length c.push_reserved.new.self.items ≡ length c.self.inside.committed.items + 1 =
     ap length (c.push_reserved.ensures.items) ∙ (length-append c.reserve_if_zero.new.committed.items (c.forget_oldest-noted.result ∷ []) ∙ ap (λ xs. length xs + 1) c.in_ok-reserve_if_zero.ensures.same) in
-    sealed-stands R k c.in-Some.event.now.message first.0 c.forget_oldest-noted.new.self c.self.inside.tally first.1 (sym (returns-clause-answer g c opening part h))
+    commit-stands R k c.in-Some.event.now.message first.0 c.forget_oldest-noted.new.self c.self.inside.tally first.1 (sym (returns-clause-answer g c opening part h))
     (c.forget_oldest-noted.ensures.forgotten _ first.0 _ _ first.2) c.forget_oldest-noted.ensures.state refl (rw (noted, more) refl)
 
 pub invariant_of-self-2 : goal.invariant_of-self-2
@@ -62,4 +62,4 @@ invariant_of-self-2 g c =
     let R = of-messages g.R.Reversible.plain c.actor_rules.ensures.order c.actor_rules.ensures.undoes in
     let i = c.self.invariant in
     let sealed = returns-clause-sealed g c i.0 i.1 (rw (← c.self.view_is) i.2) in
-    (i.0, seal_oldest (rules_of g.R.Reversible.plain) i.1, sealed, i.3 ∙ sym (next-kept R i.2 sealed))
+    (i.0, commit_oldest (rules_of g.R.Reversible.plain) i.1, sealed, i.3 ∙ sym (next-kept R i.2 sealed))

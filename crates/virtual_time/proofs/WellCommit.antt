@@ -3,7 +3,7 @@ use Rattle.std.proofs.Common.{◌≡◌, ◌+◌, ◌==◌, Bool, true, false, c
 use Rattle.virtual_time.specs.Rules.{Rules, IsOrder, reached, sent}
 use Rattle.virtual_time.specs.Lists.{one_if, times_in, IsIn, IsAscending}
 use Rattle.virtual_time.specs.Letters.{minus_of, pluses, minuses}
-use Rattle.virtual_time.specs.Part.{Part, can_seal, sealed, seal_oldest}
+use Rattle.virtual_time.specs.Part.{Part, can_commit, oldest_committed, commit_oldest}
 use Rattle.virtual_time.specs.Well.{IsWell, HoldsAlong}
 use Rattle.virtual_time.proofs.Order.{greater-different}
 use Rattle.virtual_time.proofs.Letters.{counts-other}
@@ -12,14 +12,14 @@ use Rattle.virtual_time.proofs.Handling.{reached-append}
 use Rattle.virtual_time.proofs.WellStep.{IsWellStep, no_step-well}
 
 -- the committed and then the done events are the same list as before
-pub seal-history : {M : Type 0} (cs : List M) (m : M) (rest ds : List M) → ds ≡ m ∷ rest → (cs ++ m ∷ []) ++ rest ≡ cs ++ ds
-seal-history cs m rest ds e = append_assoc cs (m ∷ []) rest ∙ ap (λ z. cs ++ z) (sym e)
+pub commit-history : {M : Type 0} (cs : List M) (m : M) (rest ds : List M) → ds ≡ m ∷ rest → (cs ++ m ∷ []) ++ rest ≡ cs ++ ds
+commit-history cs m rest ds e = append_assoc cs (m ∷ []) rest ∙ ap (λ z. cs ++ z) (sym e)
 
 module _ {M S K N : Type 0} (r : Rules M S K N) (O : IsOrder r.order) (Good : S → Type 0)
     (law : (s : S) (e : M) → Good s → r.undo (r.after s e) e (r.kept s e) ≡ s) (opening : S) where
-  sealed-well : (part : Part M S) → IsWell r Good opening part → (m : M) (rest : List M) → part.done ≡ m ∷ rest →
-      pluses r.order m part.tally ≡ minuses r.order m part.tally + 1 → IsWellStep r Good opening part (sealed r part (m ∷ rest))
-  sealed-well part w m rest e one_left = record {
+  oldest_committed-well : (part : Part M S) → IsWell r Good opening part → (m : M) (rest : List M) → part.done ≡ m ∷ rest →
+      pluses r.order m part.tally ≡ minuses r.order m part.tally + 1 → IsWellStep r Good opening part (oldest_committed r part (m ∷ rest))
+  oldest_committed-well part w m rest e one_left = record {
     well = record {
       state_is = w.state_is ∙ ap (reached r opening) (sym history-same);
       good = subst (λ z. HoldsAlong r Good z rest) (sym (reached-append r opening part.committed (m ∷ [])))
@@ -37,7 +37,7 @@ module _ {M S K N : Type 0} (r : Rules M S K N) (O : IsOrder r.order) (Good : S 
   }
     where
       history-same : (part.committed ++ m ∷ []) ++ rest ≡ part.committed ++ part.done
-      history-same = seal-history part.committed m rest part.done e
+      history-same = commit-history part.committed m rest part.done e
 
       up : IsAscending r.order (m ∷ rest)
       up = subst (λ z. IsAscending r.order z) e w.ascending
@@ -45,13 +45,13 @@ module _ {M S K N : Type 0} (r : Rules M S K N) (O : IsOrder r.order) (Good : S 
       rest-in : (x : M) → IsIn r.order x rest → IsIn r.order x part.done
       rest-in x j = subst (λ z. IsIn r.order x z) (sym e) (let a : IsIn r.order x (m ∷ rest) = omega arith in a)
 
-  pub seal-well : (part : Part M S) → IsWell r Good opening part → IsWellStep r Good opening part (seal_oldest r part)
-  seal-well part w = go part.done refl
+  pub commit-well : (part : Part M S) → IsWell r Good opening part → IsWellStep r Good opening part (commit_oldest r part)
+  commit-well part w = go part.done refl
     where
-      go : (ms : List M) → part.done ≡ ms → IsWellStep r Good opening part (cond (can_seal r.order part ms) (sealed r part ms) part)
+      go : (ms : List M) → part.done ≡ ms → IsWellStep r Good opening part (cond (can_commit r.order part ms) (oldest_committed r part ms) part)
       go [] e = no_step-well r Good opening part w
       go (m ∷ rest) e = pick (pluses r.order m part.tally == minuses r.order m part.tally + 1) refl
         where
-          pick : (b : Bool) → (pluses r.order m part.tally == minuses r.order m part.tally + 1) ≡ b → IsWellStep r Good opening part (cond b (sealed r part (m ∷ rest)) part)
-          pick true h = sealed-well part w m rest e (eqb-true _ _ h)
+          pick : (b : Bool) → (pluses r.order m part.tally == minuses r.order m part.tally + 1) ≡ b → IsWellStep r Good opening part (cond b (oldest_committed r part (m ∷ rest)) part)
+          pick true h = oldest_committed-well part w m rest e (eqb-true _ _ h)
           pick false h = no_step-well r Good opening part w
