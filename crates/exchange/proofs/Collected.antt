@@ -21,10 +21,10 @@ use Rattle.gvt.specs.Horizon.{Floors}
 use Rattle.process_queues.specs.Queues.{Queues, StandsFor, Does, delivered_all}
 use Rattle.journal.specs.declared.tokens.Tokens.{Tokens}
 use Rattle.exchange.specs.declared.mark.Mark.{Mark}
-use Rattle.exchange.specs.Views.{Ledger, InShare, blank, book_of}
-use Rattle.exchange.specs.Keeps.{entries_of, IsBooked, AreBooked, IsRecorded}
-use Rattle.exchange.specs.Effects.{told, mark, collects}
-use Rattle.exchange.proofs.Growth.{Fresh, books-set, kept-more}
+use Rattle.exchange.specs.Views.{Ledger, HeldState, blank, mark_of}
+use Rattle.exchange.specs.Keeps.{entries_of, IsMarked, AreMarked, IsRecorded}
+use Rattle.exchange.specs.Effects.{told, mark_at, collects}
+use Rattle.exchange.proofs.Growth.{Fresh, marks-set, kept-more}
 
 -- the deliveries of these letters
 delivered-local : {S K : Type 0} (r : Rules Message S K Note) (o : S) (ls : List Letter) (part : Part Message S) → delivered_all ls part ≡ local r o (map (λ l. Deliver l) ls) part
@@ -49,37 +49,37 @@ pub floor-more : (ls : List Letter) (i : ℕ) (l : Letter) → i < length ls →
 floor-more ls i l h e None now new a b = b ∙ ap (option_map (min l.message.time)) a
 floor-more ls i l h e (Some d) now new a b = b ∙ (ap (option_map (min l.message.time)) a ∙ ap (λ z. Some z) (sym (times-more d ls i l h e)))
 
--- the book of one process tells of the same entry, and of a GVT that is not later
-pub books-seen : {processes gvt : ℕ} {ts : List Tokens} {books : List Mark} → AreBooked processes ts gvt books → (p : ℕ) → p < processes → (m : Mark) →
-    m.place ≡ (book_of books p).place → m.seen ≤ gvt → AreBooked processes ts gvt (set books p m)
-books-seen {processes = processes} {gvt = gvt} {ts = ts} {books = books} old p i m place low = record {
-  count = length-set books p m ∙ old.count;
+-- the mark of one process tells of the same entry, and of a GVT that is not later
+pub marks-seen : {processes gvt : ℕ} {ts : List Tokens} {marks : List Mark} → AreMarked processes ts gvt marks → (p : ℕ) → p < processes → (m : Mark) →
+    m.place ≡ (mark_of marks p).place → m.seen ≤ gvt → AreMarked processes ts gvt (set marks p m)
+marks-seen {processes = processes} {gvt = gvt} {ts = ts} {marks = marks} old p i m place low = record {
+  count = length-set marks p m ∙ old.count;
   place_is = λ q j. same-place q ∙ old.place_is q j;
-  booked = λ q j. subst (λ o. IsBooked ts q o) (sym (same-place q)) (old.booked q j);
+  marked = λ q j. subst (λ o. IsMarked ts q o) (sym (same-place q)) (old.marked q j);
   seen_low = λ q j. elim (cases_eq q p) [
     | inl d ↦ subst (λ (z : Mark). z.seen ≤ gvt) (sym (at-here q d)) low
     | inr n ↦ subst (λ (z : Mark). z.seen ≤ gvt) (sym (elsewhere q n)) (old.seen_low q j)
   ];
 }
   where
-    at-here : (q : ℕ) → q ≡ p → book_of (set books p m) q ≡ m
-    at-here q d = ap (book_of (set books p m)) d ∙ get_or-set_same books p m blank (let a = old.count in omega arith)
+    at-here : (q : ℕ) → q ≡ p → mark_of (set marks p m) q ≡ m
+    at-here q d = ap (mark_of (set marks p m)) d ∙ get_or-set_same marks p m blank (let a = old.count in omega arith)
 
-    elsewhere : (q : ℕ) → (q ≡ p → ⊥) → book_of (set books p m) q ≡ book_of books q
-    elsewhere q n = get_or-set_other books p q m blank n
+    elsewhere : (q : ℕ) → (q ≡ p → ⊥) → mark_of (set marks p m) q ≡ mark_of marks q
+    elsewhere q n = get_or-set_other marks p q m blank n
 
-    same-place : (q : ℕ) → (book_of (set books p m) q).place ≡ (book_of books q).place
+    same-place : (q : ℕ) → (mark_of (set marks p m) q).place ≡ (mark_of marks q).place
     same-place q = elim (cases_eq q p) [
-      | inl d ↦ ap (λ (z : Mark). z.place) (at-here q d) ∙ (place ∙ ap (λ z. (book_of books z).place) (sym d))
+      | inl d ↦ ap (λ (z : Mark). z.place) (at-here q d) ∙ (place ∙ ap (λ z. (mark_of marks z).place) (sym d))
       | inr n ↦ ap (λ (z : Mark). z.place) (elsewhere q n)
     ]
 
 module _ {S K : Type 0} {r : Rules Message S K Note} {number end : S → ℕ} {is_placed : S → Type 0} {x : Setting S} {pages table : List ℕ} {ts : List Tokens} {mail : List Store} {floors : Floors}
-    {gvt count : ℕ} {books : List Mark} (k : IsRecorded r number end is_placed x pages table ts mail floors gvt count books) where
-  -- other books, and room in the mail
-  pub kept-as : (mail' : List Store) → length mail' ≡ length mail → ((q : ℕ) → letters_for q mail' ≡ letters_for q mail) → (books' : List Mark) → AreBooked x.processes ts gvt books' →
-      IsRecorded r number end is_placed x pages table ts mail' floors gvt count books'
-  kept-as mail' boxes letters books' booked = record {
+    {gvt count : ℕ} {marks : List Mark} (k : IsRecorded r number end is_placed x pages table ts mail floors gvt count marks) where
+  -- other marks, and room in the mail
+  pub kept-as : (mail' : List Store) → length mail' ≡ length mail → ((q : ℕ) → letters_for q mail' ≡ letters_for q mail) → (marks' : List Mark) → AreMarked x.processes ts gvt marks' →
+      IsRecorded r number end is_placed x pages table ts mail' floors gvt count marks'
+  kept-as mail' boxes letters marks' marked = record {
     laid = k.laid;
     same = k.same;
     placed = k.placed;
@@ -93,7 +93,7 @@ module _ {S K : Type 0} {r : Rules Message S K Note} {number end : S → ℕ} {i
     count_is = k.count_is;
     enough = k.enough;
     parts_is = k.parts_is;
-    booked = booked;
+    marked = marked;
   }
 
   -- the first letters of the mail of a process are collected
@@ -104,14 +104,14 @@ module _ {S K : Type 0} {r : Rules Message S K Note} {number end : S → ℕ} {i
       slice_get floors'.floors p ≡ option_map (λ d. lowest d (times_of r.order xs)) (slice_get floors.floors p) →
       ((q : ℕ) → (q ≡ p → ⊥) → slice_get floors'.floors q ≡ slice_get floors.floors q) →
       (ts' : List Tokens) → ts' ≡ ts ++ t ∷ [] → (count' : ℕ) → count' ≡ count + length xs →
-      (books' : List Mark) → books' ≡ set books p (mark (Some (length ts)) gvt) →
-      IsRecorded r number end is_placed x pages table ts' mail' floors' gvt count' books'
-  kept-collected p i xs rest front some {t = t} new mail' boxes left others floors' floor_count until here elsewhere ts' more count' counts books' books-are =
+      (marks' : List Mark) → marks' ≡ set marks p (mark_at (Some (length ts)) gvt) →
+      IsRecorded r number end is_placed x pages table ts' mail' floors' gvt count' marks'
+  kept-collected p i xs rest front some {t = t} new mail' boxes left others floors' floor_count until here elsewhere ts' more count' counts marks' marks-are =
       let f = simulation_of r x in
       let w = reach f (entries_of ts) in
       let many : length (steps_of {M = Message} p (Took xs)) ≡ length xs = length-replicate (length xs) (Step.Take p 0) in
-      subst (λ us. IsRecorded r number end is_placed x pages table us mail' floors' gvt count' books') (sym more)
-      (subst (λ bs. IsRecorded r number end is_placed x pages table (ts ++ t ∷ []) mail' floors' gvt count' bs) (sym books-are)
+      subst (λ us. IsRecorded r number end is_placed x pages table us mail' floors' gvt count' marks') (sym more)
+      (subst (λ bs. IsRecorded r number end is_placed x pages table (ts ++ t ∷ []) mail' floors' gvt count' bs) (sym marks-are)
       (kept-more k new (fetched f p xs rest w) (takes f p i xs rest w (sym (k.mail_is p i) ∙ front)) refl
       mail' boxes
       (put_elim (λ q ls. q < x.processes → letters_for q mail' ≡ ls) p rest w.mail (λ j. left) (λ q n j. others q n ∙ k.mail_is q j))
@@ -119,7 +119,7 @@ module _ {S K : Type 0} {r : Rules Message S K Note} {number end : S → ℕ} {i
       (put_elim (λ q n. q < x.processes → slice_get floors'.floors q ≡ Some n) p (lowest (w.floors p) (times_of r.order xs)) w.floors
       (λ j. here ∙ ap (option_map (λ d. lowest d (times_of r.order xs))) (k.floors_is p j)) (λ q n j. elsewhere q n ∙ k.floors_is q j))
       gvt k.gvt_is count' (counts ∙ ap (λ n. count + n) (sym many)) (subst (λ n. 0 < n) (sym many) some)
-      (set books p (mark (Some (length ts)) gvt)) (books-set new k.booked (λ q. refl) i refl gvt (omega arith))))
+      (set marks p (mark_at (Some (length ts)) gvt)) (marks-set new k.marked (λ q. refl) i refl gvt (omega arith))))
 
 -- a process without a block, after these letters were collected for it
 pub part-collected : {S K : Type 0} (f : Simulation Message S K Note) (p : ℕ) (own own' : List (Act Message)) (block : List Move) (xs : List Letter) → block ≡ [] → own' ≡ own ++ acts_of (Took xs) →
@@ -138,39 +138,39 @@ stands-collected f is_value p own own' block xs q q' none more stands does =
     (does (f.opening p) part stands)
 
 -- and what contracts see of it
-pub share-collected : {S K : Type 0} (f : Simulation Message S K Note) (p : ℕ) (own own' : List (Act Message)) (block : List Move) (xs : List Letter) (m m' : Mark) (gone : ℕ) →
+pub mark-collected : {S K : Type 0} (f : Simulation Message S K Note) (p : ℕ) (own own' : List (Act Message)) (block : List Move) (xs : List Letter) (m m' : Mark) (gone : ℕ) →
     block ≡ [] → own' ≡ own ++ acts_of (Took xs) → m ≡ m' →
-    ◌≡◌ {A = InShare S}
-    (record { number = p; part = after_moves f.rules (f.opening p) block (after_own f p own'); block = block; own = own'; share = m; gone = gone })
+    ◌≡◌ {A = HeldState S}
+    (record { number = p; part = after_moves f.rules (f.opening p) block (after_own f p own'); block = block; own = own'; mark = m; gone = gone })
     (record {
       number = p;
       part = local f.rules (f.opening p) (acts_of (Took xs)) (after_moves f.rules (f.opening p) block (after_own f p own));
       block = [];
       own = own ++ acts_of (Took xs);
-      share = m';
+      mark = m';
       gone = gone;
     })
-share-collected f p own own' block xs m m' gone none more same =
+mark-collected f p own own' block xs m m' gone none more same =
     λ i. record {
       number = p;
       part = (ap (λ b. after_moves f.rules (f.opening p) b (after_own f p own')) none ∙ part-collected f p own own' block xs none more) i;
       block = none i;
       own = more i;
-      share = same i;
+      mark = same i;
       gone = gone;
     }
 
-module _ {S K : Type 0} (f : Simulation Message S K Note) (x : Ledger) (h : InShare S) (y : Ledger) (k : InShare S) where
+module _ {S K : Type 0} (f : Simulation Message S K Note) (x : Ledger) (h : HeldState S) (y : Ledger) (k : HeldState S) where
   -- some were there
   pub collects-some : (xs ys : List Letter) → ys ≡ xs → 0 < length ys →
-      y ≡ record { entries = x.entries ++ told h.number h.share.place (Took ys) ∷ []; books = set x.books h.number (mark (Some (length x.entries)) (reach f x.entries).gvt); limit = x.limit } →
-      k ≡ record h { part = local f.rules (f.opening h.number) (acts_of (Took ys)) h.part; block = []; own = h.own ++ acts_of (Took ys); share = mark (Some (length x.entries)) (reach f x.entries).gvt } →
+      y ≡ record { entries = x.entries ++ told h.number h.mark.place (Took ys) ∷ []; marks = set x.marks h.number (mark_at (Some (length x.entries)) (reach f x.entries).gvt); limit = x.limit } →
+      k ≡ record h { part = local f.rules (f.opening h.number) (acts_of (Took ys)) h.part; block = []; own = h.own ++ acts_of (Took ys); mark = mark_at (Some (length x.entries)) (reach f x.entries).gvt } →
       collects f xs x h y k
   collects-some xs ys is some a b = subst (λ z. collects f z x h y k) is (go ys some a b)
     where
       go : (zs : List Letter) → 0 < length zs →
-          y ≡ record { entries = x.entries ++ told h.number h.share.place (Took zs) ∷ []; books = set x.books h.number (mark (Some (length x.entries)) (reach f x.entries).gvt); limit = x.limit } →
-          k ≡ record h { part = local f.rules (f.opening h.number) (acts_of (Took zs)) h.part; block = []; own = h.own ++ acts_of (Took zs); share = mark (Some (length x.entries)) (reach f x.entries).gvt } →
+          y ≡ record { entries = x.entries ++ told h.number h.mark.place (Took zs) ∷ []; marks = set x.marks h.number (mark_at (Some (length x.entries)) (reach f x.entries).gvt); limit = x.limit } →
+          k ≡ record h { part = local f.rules (f.opening h.number) (acts_of (Took zs)) h.part; block = []; own = h.own ++ acts_of (Took zs); mark = mark_at (Some (length x.entries)) (reach f x.entries).gvt } →
           collects f zs x h y k
       go [] some a b = absurd (omega arith)
       go (l ∷ ls) some a b = (a, b)

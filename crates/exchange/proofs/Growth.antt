@@ -16,9 +16,9 @@ use Rattle.journal.specs.Places.{IsAt}
 use Rattle.journal.specs.declared.entry.Entry.{Entry as Told}
 use Rattle.journal.specs.declared.tokens.Tokens.{Tokens}
 use Rattle.exchange.specs.declared.mark.Mark.{Mark}
-use Rattle.exchange.specs.Views.{blank, book_of}
-use Rattle.exchange.specs.Keeps.{entries_of, IsBooked, AreBooked, IsDeedWithinMail, IsEntryWithinMail, IsRecorded}
-use Rattle.exchange.specs.Effects.{told, mark}
+use Rattle.exchange.specs.Views.{blank, mark_of}
+use Rattle.exchange.specs.Keeps.{entries_of, IsMarked, AreMarked, IsDeedWithinMail, IsEntryWithinMail, IsRecorded}
+use Rattle.exchange.specs.Effects.{told, mark_at}
 use Rattle.exchange.proofs.Lists.{slice_get-last, slice_get-more, slice_get-push}
 
 entries-push : (ts : List Tokens) (t : Tokens) → entries_of (ts ++ t ∷ []) ≡ entries_of ts ++ seen_entry t.cell.value ∷ []
@@ -66,9 +66,9 @@ module _ {pages : List ℕ} {ts : List Tokens} {e : Entry Message} {own : List (
   own-same : (q : ℕ) → cond (q == e.process) (acts_of e.deed) [] ≡ [] → own_in q (entries_of (ts ++ t ∷ [])) ≡ own_in q (entries_of ts)
   own-same q none = own-more q ∙ (ap (λ z. own_in q (entries_of ts) ++ z) none ∙ append-nil (own_in q (entries_of ts)))
 
-  booked-same : (q : ℕ) (o : Option ℕ) → cond (q == e.process) (acts_of e.deed) [] ≡ [] → IsBooked ts q o → IsBooked (ts ++ t ∷ []) q o
-  booked-same q None none b = own-same q none ∙ b
-  booked-same q (Some k) none b = (b.0, slice_get-more ts (t ∷ []) k b.0 b.1, b.2 ∙ sym (own-same q none))
+  marked-same : (q : ℕ) (o : Option ℕ) → cond (q == e.process) (acts_of e.deed) [] ≡ [] → IsMarked ts q o → IsMarked (ts ++ t ∷ []) q o
+  marked-same q None none b = own-same q none ∙ b
+  marked-same q (Some k) none b = (b.0, slice_get-more ts (t ∷ []) k b.0 b.1, b.2 ∙ sym (own-same q none))
 
   -- what it tells is all of its process
   pub own-now : own ≡ own_in e.process (entries_of ts) → entry_own t.cell.value ≡ own_in e.process (entries_of (ts ++ t ∷ []))
@@ -77,8 +77,8 @@ module _ {pages : List ℕ} {ts : List Tokens} {e : Entry Message} {own : List (
       (ap (λ z. z ++ acts_of e.deed) mine ∙
       (ap (λ b. own_in e.process (entries_of ts) ++ cond b (acts_of e.deed) []) (sym (eq-eqb e.process e.process refl)) ∙ sym (own-more e.process)))
 
-  booked-here : own ≡ own_in e.process (entries_of ts) → IsBooked (ts ++ t ∷ []) e.process (Some (length ts))
-  booked-here mine = (t, slice_get-last ts t, own-now mine)
+  marked-here : own ≡ own_in e.process (entries_of ts) → IsMarked (ts ++ t ∷ []) e.process (Some (length ts))
+  marked-here mine = (t, slice_get-last ts t, own-now mine)
 
   placed-more : ((k : ℕ) (u : Tokens) → slice_get ts k ≡ Some u → IsAt pages k u) → (k : ℕ) (u : Tokens) → slice_get (ts ++ t ∷ []) k ≡ Some u → IsAt pages k u
   placed-more old k u h =
@@ -88,16 +88,16 @@ module _ {pages : List ℕ} {ts : List Tokens} {e : Entry Message} {own : List (
   within_mail-more old k u h =
       elim (slice_get-push ts t u k h) [ inl d ↦ old k u d | inr d ↦ subst (λ (z : Tokens). IsEntryWithinMail z.cell.value) d.1 new.within_mail ]
 
-module _ {processes gvt : ℕ} {pages : List ℕ} {ts : List Tokens} {e : Entry Message} {own : List (Act Message)} {t : Tokens} {books : List Mark}
-    (new : Fresh pages ts e own t) (old : AreBooked processes ts gvt books) where
+module _ {processes gvt : ℕ} {pages : List ℕ} {ts : List Tokens} {e : Entry Message} {own : List (Act Message)} {t : Tokens} {marks : List Mark}
+    (new : Fresh pages ts e own t) (old : AreMarked processes ts gvt marks) where
   -- an entry that is no process's
-  pub books-stay : ((q : ℕ) → is_of q e.process e.deed ≡ false) → acts_of e.deed ≡ [] → (gvt' : ℕ) → gvt ≤ gvt' → AreBooked processes (ts ++ t ∷ []) gvt' books
-  books-stay none nothing gvt' rises = record {
+  pub marks-stay : ((q : ℕ) → is_of q e.process e.deed ≡ false) → acts_of e.deed ≡ [] → (gvt' : ℕ) → gvt ≤ gvt' → AreMarked processes (ts ++ t ∷ []) gvt' marks
+  marks-stay none nothing gvt' rises = record {
     count = old.count;
     place_is = λ q i.
         old.place_is q i ∙
         sym (ap (last_place q) (entries-are new) ∙ (last-push q (entries_of ts) e ∙ ap (λ b. cond b (Some (length (entries_of ts))) (last_place q (entries_of ts))) (none q)));
-    booked = λ q i. booked-same new q _ (ap (λ z. cond (q == e.process) z []) nothing ∙ cond-same (q == e.process)) (old.booked q i);
+    marked = λ q i. marked-same new q _ (ap (λ z. cond (q == e.process) z []) nothing ∙ cond-same (q == e.process)) (old.marked q i);
     seen_low = λ q i. let a = old.seen_low q i in omega arith;
   }
     where
@@ -106,17 +106,17 @@ module _ {processes gvt : ℕ} {pages : List ℕ} {ts : List Tokens} {e : Entry 
       cond-same false = refl
 
   -- an entry of one process
-  pub books-set : ((q : ℕ) → is_of q e.process e.deed ≡ (q == e.process)) → e.process < processes → own ≡ own_in e.process (entries_of ts) → (seen : ℕ) → seen ≤ gvt →
-      AreBooked processes (ts ++ t ∷ []) gvt (set books e.process (mark (Some (length ts)) seen))
-  books-set mine here same seen low = record {
-    count = length-set books e.process (mark (Some (length ts)) seen) ∙ old.count;
+  pub marks-set : ((q : ℕ) → is_of q e.process e.deed ≡ (q == e.process)) → e.process < processes → own ≡ own_in e.process (entries_of ts) → (seen : ℕ) → seen ≤ gvt →
+      AreMarked processes (ts ++ t ∷ []) gvt (set marks e.process (mark_at (Some (length ts)) seen))
+  marks-set mine here same seen low = record {
+    count = length-set marks e.process (mark_at (Some (length ts)) seen) ∙ old.count;
     place_is = λ q i. elim (cases_eq q e.process) [
       | inl d ↦ ap (λ (z : Mark). z.place) (at-here q d) ∙ sym (last-is q ∙ ap (λ b. cond b (Some (length ts)) (last_place q (entries_of ts))) (eq-eqb q e.process d))
       | inr n ↦ ap (λ (z : Mark). z.place) (elsewhere q n) ∙ (old.place_is q i ∙ sym (last-is q ∙ ap (λ b. cond b (Some (length ts)) (last_place q (entries_of ts))) (ne_eqb q e.process n)))
     ];
-    booked = λ q i. elim (cases_eq q e.process) [
-      | inl d ↦ subst (λ (z : Mark). IsBooked (ts ++ t ∷ []) q z.place) (sym (at-here q d)) (subst (λ z. IsBooked (ts ++ t ∷ []) z (Some (length ts))) (sym d) (booked-here new same))
-      | inr n ↦ subst (λ (z : Mark). IsBooked (ts ++ t ∷ []) q z.place) (sym (elsewhere q n)) (booked-same new q _ (ap (λ b. cond b (acts_of e.deed) []) (ne_eqb q e.process n)) (old.booked q i))
+    marked = λ q i. elim (cases_eq q e.process) [
+      | inl d ↦ subst (λ (z : Mark). IsMarked (ts ++ t ∷ []) q z.place) (sym (at-here q d)) (subst (λ z. IsMarked (ts ++ t ∷ []) z (Some (length ts))) (sym d) (marked-here new same))
+      | inr n ↦ subst (λ (z : Mark). IsMarked (ts ++ t ∷ []) q z.place) (sym (elsewhere q n)) (marked-same new q _ (ap (λ b. cond b (acts_of e.deed) []) (ne_eqb q e.process n)) (old.marked q i))
     ];
     seen_low = λ q i. elim (cases_eq q e.process) [
       | inl d ↦ subst (λ (z : Mark). z.seen ≤ gvt) (sym (at-here q d)) low
@@ -124,13 +124,13 @@ module _ {processes gvt : ℕ} {pages : List ℕ} {ts : List Tokens} {e : Entry 
     ];
   }
     where
-      at-here : (q : ℕ) → q ≡ e.process → book_of (set books e.process (mark (Some (length ts)) seen)) q ≡ mark (Some (length ts)) seen
+      at-here : (q : ℕ) → q ≡ e.process → mark_of (set marks e.process (mark_at (Some (length ts)) seen)) q ≡ mark_at (Some (length ts)) seen
       at-here q d =
-          ap (book_of (set books e.process (mark (Some (length ts)) seen))) d ∙
-          get_or-set_same books e.process (mark (Some (length ts)) seen) blank (let a = old.count in omega arith)
+          ap (mark_of (set marks e.process (mark_at (Some (length ts)) seen))) d ∙
+          get_or-set_same marks e.process (mark_at (Some (length ts)) seen) blank (let a = old.count in omega arith)
 
-      elsewhere : (q : ℕ) → (q ≡ e.process → ⊥) → book_of (set books e.process (mark (Some (length ts)) seen)) q ≡ book_of books q
-      elsewhere q n = get_or-set_other books e.process q (mark (Some (length ts)) seen) blank n
+      elsewhere : (q : ℕ) → (q ≡ e.process → ⊥) → mark_of (set marks e.process (mark_at (Some (length ts)) seen)) q ≡ mark_of marks q
+      elsewhere q n = get_or-set_other marks e.process q (mark_at (Some (length ts)) seen) blank n
 
       last-is : (q : ℕ) → last_place q (entries_of (ts ++ t ∷ [])) ≡ cond (q == e.process) (Some (length ts)) (last_place q (entries_of ts))
       last-is q =
@@ -139,7 +139,7 @@ module _ {processes gvt : ℕ} {pages : List ℕ} {ts : List Tokens} {e : Entry 
           (λ j. cond (mine q j) (Some (length-map ts (λ (u : Tokens). seen_entry u.cell.value) j)) (last_place q (entries_of ts))))
 
 module _ {S K : Type 0} {r : Rules Message S K Note} {number end : S → ℕ} {is_placed : S → Type 0} {x : Setting S} {pages table : List ℕ} {ts : List Tokens} {mail : List Store} {floors : Floors}
-    {gvt count : ℕ} {books : List Mark} (k : IsRecorded r number end is_placed x pages table ts mail floors gvt count books)
+    {gvt count : ℕ} {marks : List Mark} (k : IsRecorded r number end is_placed x pages table ts mail floors gvt count marks)
     {e : Entry Message} {own : List (Act Message)} {t : Tokens} (new : Fresh pages ts e own t) where
   -- the world after the entry
   reach-more : (w : World Message S) → run (simulation_of r x) (steps_of e.process e.deed) (reach (simulation_of r x) (entries_of ts)) ≡ w →
@@ -153,9 +153,9 @@ module _ {S K : Type 0} {r : Rules Message S K Note} {number end : S → ℕ} {i
       (floors' : Floors) → length floors'.floors ≡ length floors.floors → floors'.until ≡ floors.until →
       ((q : ℕ) → q < x.processes → slice_get floors'.floors q ≡ Some (w.floors q)) →
       (gvt' : ℕ) → gvt' ≡ w.gvt → (count' : ℕ) → count' ≡ count + length (steps_of {M = Message} e.process e.deed) → 0 < length (steps_of {M = Message} e.process e.deed) →
-      (books' : List Mark) → AreBooked x.processes (ts ++ t ∷ []) gvt' books' →
-      IsRecorded r number end is_placed x pages table (ts ++ t ∷ []) mail' floors' gvt' count' books'
-  kept-more w is parts mail' boxes letters floors' floor_count until each gvt' gvt-is count' counts some books' booked =
+      (marks' : List Mark) → AreMarked x.processes (ts ++ t ∷ []) gvt' marks' →
+      IsRecorded r number end is_placed x pages table (ts ++ t ∷ []) mail' floors' gvt' count' marks'
+  kept-more w is parts mail' boxes letters floors' floor_count until each gvt' gvt-is count' counts some marks' marked =
       let f = simulation_of r x in
       let world = reach-more w is in
       record {
@@ -175,7 +175,7 @@ module _ {S K : Type 0} {r : Rules Message S K Note} {number end : S → ℕ} {i
             ap (λ (z : World Message S). z.parts q) (ap (reach f) (entries-are new)) ∙
             (parts-push f (entries_of ts) e (ap (λ (z : World Message S). z.parts) (reach-push f (entries_of ts) e ∙ is) ∙ parts) k.parts_is q ∙
             ap (λ z. after_own f q (own_in q z)) (sym (entries-are new)));
-        booked = booked;
+        marked = marked;
       }
     where
       steps-count : length (steps (entries_of ts ++ e ∷ [])) ≡ length (steps (entries_of ts)) + length (steps_of {M = Message} e.process e.deed)

@@ -86,8 +86,8 @@ module _ {S K : Type 0} {r : Rules Message S K Note} {number end : S → ℕ} {i
   holds-at {is_value = is_value} {pages = pages} {p = p} {seen = seen} {gone = gone} {block = block} {last = last} {q = q} h table' e =
       subst (λ z. Holds r number end is_placed x is_value pages z p seen gone block last q) (h.same ∙ sym e) h
 
-  module _ {pages table : List ℕ} {ts : List Tokens} {mail : List Store} {floors : Floors} {gvt count : ℕ} {books : List Mark}
-      (k : IsRecorded r number end is_placed x pages table ts mail floors gvt count books) where
+  module _ {pages table : List ℕ} {ts : List Tokens} {mail : List Store} {floors : Floors} {gvt count : ℕ} {marks : List Mark}
+      (k : IsRecorded r number end is_placed x pages table ts mail floors gvt count marks) where
     -- what a process's own entries make of it is the process of the world
     world-part : (p : ℕ) (last : Option EntryPlace) → own_of last ≡ own_in p (entries_of ts) →
         after_own (simulation_of r x) p (own_of last) ≡ (reach (simulation_of r x) (entries_of ts)).parts p

@@ -1,4 +1,4 @@
--- Book and share name one entry.
+-- Both marks of a process name one entry.
 use Rattle.std.proofs.Common.{◌≡◌, ℕ, ◌<◌, ◌≤◌, List, length, slice_get, get_or, Option, Some, None, refl, sym, ap, ◌∙◌, subst}
 use Rattle.std.proofs.lemmas.Option.{slice_get_within, slice_get_read}
 use Rattle.vlink.specs.declared.message.Message.{Message}
@@ -14,17 +14,17 @@ use Rattle.journal.specs.Places.{IsAt}
 use Rattle.journal.specs.declared.tokens.Tokens.{Tokens}
 use Rattle.journal.specs.declared.tokens.EntryPlace.{EntryPlace}
 use Rattle.exchange.specs.declared.mark.Mark.{Mark}
-use Rattle.exchange.specs.Views.{book_of}
-use Rattle.exchange.specs.Keeps.{entries_of, own_of, place_in, IsBooked, IsLast, IsRecorded, Holds}
-use Rattle.exchange.specs.Effects.{mark}
+use Rattle.exchange.specs.Views.{mark_of}
+use Rattle.exchange.specs.Keeps.{entries_of, own_of, place_in, IsMarked, IsLast, IsRecorded, Holds}
+use Rattle.exchange.specs.Effects.{mark_at}
 use Rattle.exchange.proofs.Holding.{joined}
 
 module _ {S K : Type 0} {r : Rules Message S K Note} {number end : S → ℕ} {is_placed : S → Type 0} {x : Setting S} {pages table : List ℕ} {ts : List Tokens} {mail : List Store} {floors : Floors}
-    {gvt count : ℕ} {books : List Mark} (k : IsRecorded r number end is_placed x pages table ts mail floors gvt count books)
+    {gvt count : ℕ} {marks : List Mark} (k : IsRecorded r number end is_placed x pages table ts mail floors gvt count marks)
     {is_value : S → Message → Type 0} {table' : List ℕ} {p seen gone : ℕ} {block : List Move} {last : Option EntryPlace} {q : Queues S K}
-    (h : Holds r number end is_placed x is_value pages table' p seen gone block last q) (fits : mark (place_in last) seen ≡ book_of books p) where
+    (h : Holds r number end is_placed x is_value pages table' p seen gone block last q) (fits : mark_at (place_in last) seen ≡ mark_of marks p) where
   low : seen ≤ gvt
-  low = subst (λ s. s ≤ gvt) (sym (ap (λ (m : Mark). m.seen) fits)) (k.booked.seen_low p h.number_is)
+  low = subst (λ s. s ≤ gvt) (sym (ap (λ (m : Mark). m.seen) fits)) (k.marked.seen_low p h.number_is)
 
   abbrev Told : Type 0
   Told =
@@ -35,12 +35,12 @@ module _ {S K : Type 0} {r : Rules Message S K Note} {number end : S → ℕ} {i
   -- there is no entry of the process
   pub none-joined : last ≡ None → Told
   none-joined none =
-      joined k h low (ap own_of none ∙ sym (subst (λ o. IsBooked ts p o) (sym (ap (λ (m : Mark). m.place) fits) ∙ ap place_in none) (k.booked.booked p h.number_is)))
+      joined k h low (ap own_of none ∙ sym (subst (λ o. IsMarked ts p o) (sym (ap (λ (m : Mark). m.place) fits) ∙ ap place_in none) (k.marked.marked p h.number_is)))
 
   -- there is one: the tokens of the journal at its place and those in hand are of one cell
   module _ (l : EntryPlace) (some : last ≡ Some l) where
-    named : IsBooked ts p (Some l.number)
-    named = subst (λ o. IsBooked ts p o) (sym (ap (λ (m : Mark). m.place) fits) ∙ ap place_in some) (k.booked.booked p h.number_is)
+    named : IsMarked ts p (Some l.number)
+    named = subst (λ o. IsMarked ts p o) (sym (ap (λ (m : Mark). m.place) fits) ∙ ap place_in some) (k.marked.marked p h.number_is)
 
     pub some-within : l.number < length ts
     some-within = slice_get_within ts l.number named.0 named.1

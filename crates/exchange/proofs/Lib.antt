@@ -1,4 +1,4 @@
-mod Books
+mod Marks
 mod Collected
 mod Gone
 mod Growth

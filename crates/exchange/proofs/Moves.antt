@@ -12,37 +12,37 @@ use Rattle.virtual_time.specs.declared.moved.Move.TheVariants.{Arrived, Ran, Com
 use Rattle.virtual_time.proofs.Lists.{in-head}
 use Rattle.fossil.specs.Committed.{is_moment_before}
 use Rattle.journal.specs.declared.tokens.EntryPlace.{EntryPlace}
-use Rattle.exchange.specs.Views.{InShare}
+use Rattle.exchange.specs.Views.{HeldState}
 use Rattle.exchange.specs.Keeps.{own_of, place_in}
-use Rattle.exchange.specs.Effects.{moved_by, mark, RanEarly}
+use Rattle.exchange.specs.Effects.{moved_by, mark_at, RanEarly}
 use Rattle.exchange.proofs.Holding.{moved-then}
 
 module _ {S K : Type 0} (f : Simulation Message S K Note) where
   -- no step, one after some, and some after some
-  pub moved-none : (h : InShare S) → h ≡ moved_by f [] h
+  pub moved-none : (h : HeldState S) → h ≡ moved_by f [] h
   moved-none h = λ i. record h { block = sym (append-nil h.block) i }
 
-  pub moved-chain : (ms ns : List Move) (h : InShare S) → moved_by f ns (moved_by f ms h) ≡ moved_by f (ms ++ ns) h
+  pub moved-chain : (ms ns : List Move) (h : HeldState S) → moved_by f ns (moved_by f ms h) ≡ moved_by f (ms ++ ns) h
   moved-chain ms ns h = λ i. record h { part = sym (moved-then f (f.opening h.number) ms ns h.part) i; block = append_assoc h.block ms ns i }
 
-  pub moved-more : (k : ℕ) (m : Move) (h h' h'' : InShare S) → h' ≡ moved_by f (replicate k m) h → h'' ≡ moved_by f (m ∷ []) h' → h'' ≡ moved_by f (replicate (k + 1) m) h
+  pub moved-more : (k : ℕ) (m : Move) (h h' h'' : HeldState S) → h' ≡ moved_by f (replicate k m) h → h'' ≡ moved_by f (m ∷ []) h' → h'' ≡ moved_by f (replicate (k + 1) m) h
   moved-more k m h h' h'' a b =
       b ∙ (ap (moved_by f (m ∷ [])) a ∙ (moved-chain (replicate k m) (m ∷ []) h ∙ ap (λ ms. moved_by f ms h) (replicate_more k m)))
 
   -- what contracts see of a process in hand, of which the journal tells last in this entry
-  abbrev pub in_hand : ℕ → Option EntryPlace → ℕ → ℕ → List Move → InShare S
+  abbrev pub in_hand : ℕ → Option EntryPlace → ℕ → ℕ → List Move → HeldState S
   in_hand p last seen gone ms =
       record {
         number = p;
         part = after_moves f.rules (f.opening p) ms (after_own f p (own_of last));
         block = ms;
         own = own_of last;
-        share = mark (place_in last) seen;
+        mark = mark_at (place_in last) seen;
         gone = gone;
       }
 
   -- and after one step more
-  pub moved-view : (p : ℕ) (last : Option EntryPlace) (seen gone : ℕ) (ms : List Move) (m : Move) (h : InShare S) → in_hand p last seen gone ms ≡ h → (ms' : List Move) → ms' ≡ ms ++ m ∷ [] →
+  pub moved-view : (p : ℕ) (last : Option EntryPlace) (seen gone : ℕ) (ms : List Move) (m : Move) (h : HeldState S) → in_hand p last seen gone ms ≡ h → (ms' : List Move) → ms' ≡ ms ++ m ∷ [] →
       in_hand p last seen gone ms' ≡ moved_by f (m ∷ []) h
   moved-view p last seen gone ms m h is ms' e = one ∙ ap (moved_by f (m ∷ [])) is
     where
@@ -61,17 +61,17 @@ module _ {S K : Type 0} (f : Simulation Message S K Note) where
       go true = omega arith
       go false = omega arith
 
-  pub arrival-takes : (h h' : InShare S) → 0 < length h.part.tray → h' ≡ moved_by f (Arrived ∷ []) h → length h'.part.tray + 1 ≡ length h.part.tray
-  arrival-takes h h' some e = ap (λ (z : InShare S). length z.part.tray + 1) e ∙ tray-less (f.opening h.number) h.part h.part.tray some
+  pub arrival-takes : (h h' : HeldState S) → 0 < length h.part.tray → h' ≡ moved_by f (Arrived ∷ []) h → length h'.part.tray + 1 ≡ length h.part.tray
+  arrival-takes h h' some e = ap (λ (z : HeldState S). length z.part.tray + 1) e ∙ tray-less (f.opening h.number) h.part h.part.tray some
 
   -- each commit takes one done event
   done-less : (part : Part Message S) (ms : List Message) → part.done ≡ ms → can_commit f.rules.order part ms ≡ true → length (cond (can_commit f.rules.order part ms) (oldest_committed f.rules part ms) part).done < length ms
   done-less part [] e c = absurd (cc)
   done-less part (m ∷ rest) e c = rw c (omega arith)
 
-  pub commit-takes : (h h' : InShare S) (g : ℕ) → can_move f g Committed h.part ≡ true → h' ≡ moved_by f (Committed ∷ []) h → length h'.part.done < length h.part.done
+  pub commit-takes : (h h' : HeldState S) (g : ℕ) → can_move f g Committed h.part ≡ true → h' ≡ moved_by f (Committed ∷ []) h → length h'.part.done < length h.part.done
   commit-takes h h' g can e =
-      subst (λ (z : InShare S). length z.part.done < length h.part.done) (sym e) (done-less h.part h.part.done refl (and_parts _ _ can).1)
+      subst (λ (z : HeldState S). length z.part.done < length h.part.done) (sym e) (done-less h.part h.part.done refl (and_parts _ _ can).1)
 
   -- one run more that is early
   early-push : (limit k : ℕ) (o : S) (part : Part Message S) → RanEarly f limit k part → (m : Message) → next_of f.rules.order (after_moves f.rules o (replicate k Ran) part) ≡ Some m →
@@ -79,11 +79,11 @@ module _ {S K : Type 0} (f : Simulation Message S K Note) where
   early-push limit zero o part a m e t = (m, e, t, tt)
   early-push limit (suc k) o part a m e t = (a.0, a.1, a.2, early-push limit k o _ a.3 m e t)
 
-  pub early-more : (limit k : ℕ) (h h' : InShare S) → h' ≡ moved_by f (replicate k Ran) h → RanEarly f limit k h.part →
+  pub early-more : (limit k : ℕ) (h h' : HeldState S) → h' ≡ moved_by f (replicate k Ran) h → RanEarly f limit k h.part →
       ((m : Message) × (next_of f.rules.order h'.part ≡ Some m) × (f.rules.order.time m < limit)) → RanEarly f limit (k + 1) h.part
   early-more limit k h h' is a next =
       subst (λ n. RanEarly f limit n h.part) (let e : suc k ≡ k + 1 = omega arith in e)
-      (early-push limit k (f.opening h.number) h.part a next.0 (ap (λ (z : InShare S). next_of f.rules.order z.part) (sym is) ∙ next.1) next.2)
+      (early-push limit k (f.opening h.number) h.part a next.0 (ap (λ (z : HeldState S). next_of f.rules.order z.part) (sym is) ∙ next.1) next.2)
 
   -- an oldest done event that is earlier than g can be committed, since a process that is safe counts it just once
   pub early-commits : Laws f → (p g : ℕ) (part : Part Message S) → IsSafePart f p g part →

@@ -18,8 +18,8 @@ use Rattle.process_queues.specs.Queues.{Queues, StandsFor}
 use Rattle.journal.specs.declared.tokens.Tokens.{Tokens}
 use Rattle.journal.specs.declared.tokens.EntryPlace.{EntryPlace}
 use Rattle.exchange.specs.declared.mark.Mark.{Mark}
-use Rattle.exchange.specs.Views.{InShare, blank, book_of, opened_share}
-use Rattle.exchange.specs.Keeps.{IsBooked, IsRecorded, Holds}
+use Rattle.exchange.specs.Views.{HeldState, blank, mark_of, opened_held}
+use Rattle.exchange.specs.Keeps.{IsMarked, IsRecorded, Holds}
 use Rattle.exchange.proofs.Gone.{gone-none}
 use Rattle.exchange.proofs.Lists.{slice_get-last, slice_get-more}
 
@@ -43,13 +43,13 @@ pub as-many : {X Y : Type 0} (hs more : List X) (h : X) (ys : List Y) (y : Y) �
 as-many hs more h ys y pushed count = ap length pushed ∙ (length_push hs h ∙ (ap (λ n. n + 1) count ∙ sym (length_push ys y)))
 
 -- one process more
-pub helds-more : {S : Type 0} (opening : ℕ → S) (hs more : List (InShare S)) (n : ℕ) (h : InShare S) → length hs ≡ n → ((p : ℕ) → p < n → slice_get hs p ≡ Some (opened_share opening p)) →
-    h ≡ opened_share opening n → more ≡ hs ++ h ∷ [] → (p : ℕ) → p < n + 1 → slice_get more p ≡ Some (opened_share opening p)
+pub helds-more : {S : Type 0} (opening : ℕ → S) (hs more : List (HeldState S)) (n : ℕ) (h : HeldState S) → length hs ≡ n → ((p : ℕ) → p < n → slice_get hs p ≡ Some (opened_held opening p)) →
+    h ≡ opened_held opening n → more ≡ hs ++ h ∷ [] → (p : ℕ) → p < n + 1 → slice_get more p ≡ Some (opened_held opening p)
 helds-more opening hs more n h count each is pushed p i =
     ap (λ z. slice_get z p) pushed ∙
     elim (cases_eq p n) [
-      | inl d ↦ ap (slice_get (hs ++ h ∷ [])) (d ∙ sym count) ∙ (slice_get-last hs h ∙ (ap (λ z. Some z) is ∙ ap (λ m. Some (opened_share opening m)) (sym d)))
-      | inr d ↦ slice_get-more hs (h ∷ []) p (opened_share opening p) (each p (omega arith))
+      | inl d ↦ ap (slice_get (hs ++ h ∷ [])) (d ∙ sym count) ∙ (slice_get-last hs h ∙ (ap (λ z. Some z) is ∙ ap (λ m. Some (opened_held opening m)) (sym d)))
+      | inr d ↦ slice_get-more hs (h ∷ []) p (opened_held opening p) (each p (omega arith))
     ]
 
 module _ {S K : Type 0} {r : Rules Message S K Note} {number end : S → ℕ} {is_placed : S → Type 0} {x : Setting S} (laid : IsLaidOut r number end is_placed x) where
@@ -60,10 +60,10 @@ module _ {S K : Type 0} {r : Rules Message S K Note} {number end : S → ℕ} {i
   module _ {pages table : List ℕ} (same : table ≡ pages) where
     pub kept-opened : (mail : List Store) → length mail ≡ x.processes → ((p : ℕ) → letters_for p mail ≡ received_by r.order p (map plus_of x.offers)) →
         (floors : Floors) → length floors.floors ≡ x.processes → floors.until ≡ x.until → ((p : ℕ) → p < x.processes → slice_get floors.floors p ≡ Some (suc x.until)) →
-        (books : List Mark) → books ≡ replicate x.processes blank → (ts : List Tokens) → ts ≡ [] → (gvt : ℕ) → gvt ≡ 0 → IsRecorded r number end is_placed x pages table ts mail floors gvt 0 books
+        (marks : List Mark) → marks ≡ replicate x.processes blank → (ts : List Tokens) → ts ≡ [] → (gvt : ℕ) → gvt ≡ 0 → IsRecorded r number end is_placed x pages table ts mail floors gvt 0 marks
     unfolding run
-    kept-opened mail boxes letters floors floor_count until each books blanks ts none gvt zero-is =
-        subst (λ us. IsRecorded r number end is_placed x pages table us mail floors gvt 0 books) (sym none) (record {
+    kept-opened mail boxes letters floors floor_count until each marks blanks ts none gvt zero-is =
+        subst (λ us. IsRecorded r number end is_placed x pages table us mail floors gvt 0 marks) (sym none) (record {
           laid = laid;
           same = same;
           placed = λ k t h. absurd (cc);
@@ -77,16 +77,16 @@ module _ {S K : Type 0} {r : Rules Message S K Note} {number end : S → ℕ} {i
           count_is = refl;
           enough = omega arith;
           parts_is = λ q. refl;
-          booked = record {
+          marked = record {
             count = ap length blanks ∙ length-replicate x.processes blank;
             place_is = λ p i. ap (λ (m : Mark). m.place) (at p i);
-            booked = λ p i. subst (λ (m : Mark). IsBooked [] p m.place) (sym (at p i)) refl;
+            marked = λ p i. subst (λ (m : Mark). IsMarked [] p m.place) (sym (at p i)) refl;
             seen_low = λ p i. subst (λ (m : Mark). m.seen ≤ gvt) (sym (at p i)) (omega arith);
           };
         })
       where
-        at : (p : ℕ) → p < x.processes → book_of books p ≡ blank
-        at p i = ap (λ bs. book_of bs p) blanks ∙ get_or-replicate x.processes p blank blank i
+        at : (p : ℕ) → p < x.processes → mark_of marks p ≡ blank
+        at p i = ap (λ bs. mark_of bs p) blanks ∙ get_or-replicate x.processes p blank blank i
 
     pub holds-opened : Laws (simulation_of r x) → (is_value : S → Message → Type 0) (p : ℕ) → p < x.processes → (q : Queues S K) → StandsFor r is_value (x.opening p) (opened (x.opening p)) q → q.left ≡ 0 →
         (block : List Move) → block ≡ [] → (last : Option EntryPlace) → last ≡ None → (seen : ℕ) → seen ≡ 0 →

@@ -21,11 +21,11 @@ use Rattle.gvt.specs.Horizon.{Floors}
 use Rattle.process_queues.specs.Queues.{Queues, StandsFor}
 use Rattle.journal.specs.declared.tokens.Tokens.{Tokens}
 use Rattle.exchange.specs.declared.mark.Mark.{Mark}
-use Rattle.exchange.specs.Views.{Ledger, InShare, book_of}
+use Rattle.exchange.specs.Views.{Ledger, HeldState, mark_of}
 use Rattle.exchange.specs.Keeps.{entries_of, IsRecorded}
-use Rattle.exchange.specs.Effects.{told, mark, posts as posts-effect}
+use Rattle.exchange.specs.Effects.{told, mark_at, posts as posts-effect}
 use Rattle.exchange.proofs.Collected.{kept-as}
-use Rattle.exchange.proofs.Growth.{Fresh, books-set, kept-more}
+use Rattle.exchange.proofs.Growth.{Fresh, marks-set, kept-more}
 
 -- letters to processes of which there are so many
 letters-go : {S K : Type 0} (r : Rules Message S K Note) (O : IsOrder r.order) (n : ℕ) (ls : List Letter) → ((m : Message) → IsNamed r.order m ls → r.order.receiver m < n) →
@@ -42,7 +42,7 @@ end-told r is_value opening part q h O end stays until is =
     (reached-keeps r O (λ s. end s ≡ until) (λ s m e. stays s m ∙ e) opening (part.committed ++ part.done) is)
 
 module _ {S K : Type 0} {r : Rules Message S K Note} {number end : S → ℕ} {is_placed : S → Type 0} {x : Setting S} {pages table : List ℕ} {ts : List Tokens} {mail : List Store} {floors : Floors}
-    {gvt count : ℕ} {books : List Mark} (k : IsRecorded r number end is_placed x pages table ts mail floors gvt count books) (L : Laws (simulation_of r x)) (p : ℕ) (i : p < x.processes) (block : List Move)
+    {gvt count : ℕ} {marks : List Mark} (k : IsRecorded r number end is_placed x pages table ts mail floors gvt count marks) (L : Laws (simulation_of r x)) (p : ℕ) (i : p < x.processes) (block : List Move)
     (enabled : AreEnabled (simulation_of r x) (x.opening p) (reach (simulation_of r x) (entries_of ts)).gvt block ((reach (simulation_of r x) (entries_of ts)).parts p))
     (part : Part Message S) (part-is : part ≡ after_moves r (x.opening p) block ((reach (simulation_of r x) (entries_of ts)).parts p)) where
   -- what is in its outbox goes to processes
@@ -63,35 +63,35 @@ module _ {S K : Type 0} {r : Rules Message S K Note} {number end : S → ℕ} {i
       (floor : ℕ) → floor ≡ floor_of r.order x.until part → slice_get floors'.floors p ≡ Some floor →
       ((q : ℕ) → (q ≡ p → ⊥) → slice_get floors'.floors q ≡ slice_get floors.floors q) →
       (ts' : List Tokens) → ts' ≡ ts ++ t ∷ [] → (count' : ℕ) → count' ≡ count + (length block + 1) →
-      (seen : ℕ) → seen ≤ gvt → (books' : List Mark) → books' ≡ set books p (mark (Some (length ts)) seen) →
-      IsRecorded r number end is_placed x pages table ts' mail' floors' gvt count' books'
-  kept-posted {t = t} new mail' boxes letters floors' floor_count until floor floor-is here others ts' more count' counts seen low books' books-are =
+      (seen : ℕ) → seen ≤ gvt → (marks' : List Mark) → marks' ≡ set marks p (mark_at (Some (length ts)) seen) →
+      IsRecorded r number end is_placed x pages table ts' mail' floors' gvt count' marks'
+  kept-posted {t = t} new mail' boxes letters floors' floor_count until floor floor-is here others ts' more count' counts seen low marks' marks-are =
       let f = simulation_of r x in
       let w = reach f (entries_of ts) in
       let done = after_moves r (x.opening p) block (w.parts p) in
       let many : length (steps_of {M = Message} p (Posted block)) ≡ length block + 1 =
       length-append (map (step_by p) block) (Step.Post p ∷ []) ∙ ap (λ n. n + 1) (length-map block (step_by p)) in
-      subst (λ us. IsRecorded r number end is_placed x pages table us mail' floors' gvt count' books') (sym more)
-      (subst (λ bs. IsRecorded r number end is_placed x pages table (ts ++ t ∷ []) mail' floors' gvt count' bs) (sym books-are)
+      subst (λ us. IsRecorded r number end is_placed x pages table us mail' floors' gvt count' marks') (sym more)
+      (subst (λ bs. IsRecorded r number end is_placed x pages table (ts ++ t ∷ []) mail' floors' gvt count' bs) (sym marks-are)
       (kept-more k new (delivered_block f p block w) (posts f p i block w enabled) (ap (λ z. put p z w.parts) (sym (emptied-last f (x.opening p) block (w.parts p))))
       mail' boxes (λ q j. letters q ∙ (λ n. k.mail_is q j n ++ received_by r.order q (part-is n).outbox))
       floors' floor_count until
       (put_elim (λ q n. q < x.processes → slice_get floors'.floors q ≡ Some n) p (floor_of r.order x.until done) w.floors
       (λ j. here ∙ ap (λ z. Some z) (floor-is ∙ ap (floor_of r.order x.until) part-is)) (λ q n j. others q n ∙ k.floors_is q j))
       gvt k.gvt_is count' (counts ∙ ap (λ n. count + n) (sym many)) (omega arith)
-      (set books p (mark (Some (length ts)) seen)) (books-set new k.booked (λ q. refl) i refl seen low)))
+      (set marks p (mark_at (Some (length ts)) seen)) (marks-set new k.marked (λ q. refl) i refl seen low)))
 
 module _ {S K : Type 0} {r : Rules Message S K Note} {number end : S → ℕ} {is_placed : S → Type 0} {x : Setting S} {pages table : List ℕ} {ts : List Tokens} {mail : List Store} {floors : Floors}
-    {gvt count : ℕ} {books : List Mark} (k : IsRecorded r number end is_placed x pages table ts mail floors gvt count books) where
+    {gvt count : ℕ} {marks : List Mark} (k : IsRecorded r number end is_placed x pages table ts mail floors gvt count marks) where
   -- a process that fits saw no later GVT
-  pub seen-low : (p : ℕ) → p < x.processes → (m : Mark) → m ≡ book_of books p → m.seen ≤ gvt
-  seen-low p i m fits = subst (λ (z : Mark). z.seen ≤ gvt) (sym fits) (k.booked.seen_low p i)
+  pub seen-low : (p : ℕ) → p < x.processes → (m : Mark) → m ≡ mark_of marks p → m.seen ≤ gvt
+  seen-low p i m fits = subst (λ (z : Mark). z.seen ≤ gvt) (sym fits) (k.marked.seen_low p i)
 
   -- a refusal leaves room in the mail at most
   pub kept-refused : (ts' : List Tokens) → ts' ≡ ts → (mail' : List Store) → length mail' ≡ length mail → ((q : ℕ) → letters_for q mail' ≡ letters_for q mail) →
-      IsRecorded r number end is_placed x pages table ts' mail' floors gvt count books
+      IsRecorded r number end is_placed x pages table ts' mail' floors gvt count marks
   kept-refused ts' same mail' boxes letters =
-      subst (λ us. IsRecorded r number end is_placed x pages table us mail' floors gvt count books) (sym same) (kept-as k mail' boxes letters books k.booked)
+      subst (λ us. IsRecorded r number end is_placed x pages table us mail' floors gvt count marks) (sym same) (kept-as k mail' boxes letters marks k.marked)
 
 -- a process alone, when its block is in the journal
 pub part-posted : {S K : Type 0} (f : Simulation Message S K Note) (p : ℕ) (own own' : List (Act Message)) (block block' : List Move) → own' ≡ own ++ acts_of (Posted block) → block' ≡ [] →
@@ -100,10 +100,10 @@ part-posted f p own own' block block' more none =
     ap (λ b. after_moves f.rules (f.opening p) b (after_own f p own')) none ∙
     (ap (after_own f p) more ∙ (local-append f (f.opening p) own (acts_of (Posted block)) (opened (f.opening p)) ∙ emptied-last f (f.opening p) block (after_own f p own)))
 
-module _ {S K : Type 0} (f : Simulation Message S K Note) (x : Ledger) (h : InShare S) (y : Ledger) (k : InShare S) where
+module _ {S K : Type 0} (f : Simulation Message S K Note) (x : Ledger) (h : HeldState S) (y : Ledger) (k : HeldState S) where
   pub posts-some : (ms : List Move) → 0 < length ms →
-      y ≡ record { entries = x.entries ++ told h.number h.share.place (Posted ms) ∷ []; books = set x.books h.number (mark (Some (length x.entries)) h.share.seen); limit = x.limit } →
-      k ≡ record h { part = emptied h.part; block = []; own = h.own ++ acts_of (Posted ms); share = mark (Some (length x.entries)) h.share.seen } →
+      y ≡ record { entries = x.entries ++ told h.number h.mark.place (Posted ms) ∷ []; marks = set x.marks h.number (mark_at (Some (length x.entries)) h.mark.seen); limit = x.limit } →
+      k ≡ record h { part = emptied h.part; block = []; own = h.own ++ acts_of (Posted ms); mark = mark_at (Some (length x.entries)) h.mark.seen } →
       posts-effect f ms x h y k
   posts-some [] some a b = absurd (omega arith)
   posts-some (m ∷ ms) some a b = (a, b)

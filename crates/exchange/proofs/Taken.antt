@@ -18,11 +18,11 @@ use Rattle.journal.specs.declared.tokens.Tokens.{Tokens}
 use Rattle.journal.specs.declared.tokens.EntryPlace.{EntryPlace}
 use Rattle.exchange.specs.declared.mark.Mark.{Mark}
 use Rattle.exchange.specs.Keeps.{entries_of, own_of, place_in, IsRecorded, Holds}
-use Rattle.exchange.specs.Effects.{told, mark, Collects}
+use Rattle.exchange.specs.Effects.{told, mark_at, Collects}
 use Rattle.exchange.proofs.Growth.{Fresh, entries-are, own-now}
 use Rattle.exchange.proofs.Holding.{holds-at, holds-seen}
 use Rattle.exchange.proofs.Gone.{gone-stays}
-use Rattle.exchange.proofs.Collected.{kept-collected, stands-collected, part-collected, share-collected, collects-some}
+use Rattle.exchange.proofs.Collected.{kept-collected, stands-collected, part-collected, mark-collected, collects-some}
 
 -- a call that was not refused
 pub when-done : {T E P : Type 0} (r : Result T E) → is_err r ≡ false → OnOk r P → P
@@ -35,12 +35,12 @@ all-taken (Ok k) a b c d = ap (λ z. Ok z) (omega arith)
 all-taken (Err e) a b c d = absurd (omega arith)
 
 module _ {S K : Type 0} {r : Rules Message S K Note} {number end : S → ℕ} {is_placed : S → Type 0} {x : Setting S} {pages table : List ℕ} {ts : List Tokens} {mail : List Store} {floors : Floors}
-    {gvt count : ℕ} {books : List Mark} (k : IsRecorded r number end is_placed x pages table ts mail floors gvt count books)
+    {gvt count : ℕ} {marks : List Mark} (k : IsRecorded r number end is_placed x pages table ts mail floors gvt count marks)
     {is_value : S → Message → Type 0} {table' : List ℕ} {p seen gone : ℕ} {block : List Move} {last : Option EntryPlace} {q : Queues S K}
     (h : Holds r number end is_placed x is_value pages table' p seen gone block last q) (n : ℕ) (within : n ≤ length (letters_for p mail)) (some : 0 < n)
     {t : Tokens} (new : Fresh pages ts (told p (place_in last) (Took (take n (letters_for p mail)))) (own_in p (entries_of ts)) t)
     (ts' : List Tokens) (more : ts' ≡ ts ++ t ∷ []) (at : ℕ) (at-is : at ≡ length ts)
-    (books' : List Mark) (told-is : books' ≡ set books p (mark (Some at) gvt)) where
+    (marks' : List Mark) (told-is : marks' ≡ set marks p (mark_at (Some at) gvt)) where
   many : length (take n (letters_for p mail)) ≡ n
   many = omega (arith, length-take n (letters_for p mail))
 
@@ -49,19 +49,19 @@ module _ {S K : Type 0} {r : Rules Message S K Note} {number end : S → ℕ} {i
       (floors' : Floors) → length floors'.floors ≡ length floors.floors → floors'.until ≡ floors.until →
       slice_get floors'.floors p ≡ option_map (λ d. lowest d (times_of r.order (take n (letters_for p mail)))) (slice_get floors.floors p) →
       ((q : ℕ) → (q ≡ p → ⊥) → slice_get floors'.floors q ≡ slice_get floors.floors q) →
-      IsRecorded r number end is_placed x pages table ts' mail' floors' gvt (count + n) books'
+      IsRecorded r number end is_placed x pages table ts' mail' floors' gvt (count + n) marks'
   kept-taken mail' boxes left others floors' floor_count until here elsewhere =
       let xs = take n (letters_for p mail) in
       kept-collected k p h.number_is xs (drop n (letters_for p mail)) (sym (take-append-drop n (letters_for p mail))) (subst (λ m. 0 < m) (sym many) some) new
       mail' boxes left others floors' floor_count until here elsewhere ts' more (count + n) (ap (λ m. count + m) (sym many))
-      books' (told-is ∙ (λ i. set books p (mark (Some (at-is i)) gvt)))
+      marks' (told-is ∙ (λ i. set marks p (mark_at (Some (at-is i)) gvt)))
 
   module _ (none : block ≡ []) (mine : own_of last ≡ own_in p (entries_of ts)) where
     own : entry_own t.cell.value ≡ own_of last ++ acts_of (Took (take n (letters_for p mail)))
     own = new.own_is ∙ ap (λ z. z ++ acts_of (Took (take n (letters_for p mail)))) (sym mine)
 
     -- what the Held keeps
-    pub holds-taken : {mail' : List Store} {floors' : Floors} {count' : ℕ} → IsRecorded r number end is_placed x pages table ts' mail' floors' gvt count' books' → Laws (simulation_of r x) → count' ≤ 67108864 →
+    pub holds-taken : {mail' : List Store} {floors' : Floors} {count' : ℕ} → IsRecorded r number end is_placed x pages table ts' mail' floors' gvt count' marks' → Laws (simulation_of r x) → count' ≤ 67108864 →
         (q₁ q' : Queues S K) → q₁ ≡ q → Does r is_value (λ opening. delivered_all (take n (letters_for p mail))) q₁ q' → q'.left ≡ q₁.left →
         Holds r number end is_placed x is_value pages table' p gvt gone block (Some (record { number = at; tokens = t })) q'
     holds-taken kept L few q₁ q' same does left =
@@ -81,22 +81,22 @@ module _ {S K : Type 0} {r : Rules Message S K Note} {number end : S → ℕ} {i
     -- what was done
     pub collects-taken : (most limit : ℕ) → n ≡ min most (length (letters_for p mail)) →
         Collects (simulation_of r x) most
-        (record { entries = entries_of ts; books = books; limit = limit })
+        (record { entries = entries_of ts; marks = marks; limit = limit })
         (record {
           number = p;
           part = after_moves r (x.opening p) block (after_own (simulation_of r x) p (own_of last));
           block = block;
           own = own_of last;
-          share = mark (place_in last) seen;
+          mark = mark_at (place_in last) seen;
           gone = gone;
         })
-        (record { entries = entries_of ts'; books = books'; limit = limit })
+        (record { entries = entries_of ts'; marks = marks'; limit = limit })
         (record {
           number = p;
           part = after_moves r (x.opening p) block (after_own (simulation_of r x) p (entry_own t.cell.value));
           block = block;
           own = entry_own t.cell.value;
-          share = mark (Some at) gvt;
+          mark = mark_at (Some at) gvt;
           gone = gone;
         })
         n
@@ -110,8 +110,8 @@ module _ {S K : Type 0} {r : Rules Message S K Note} {number end : S → ℕ} {i
           collects-some f _ _ _ _ (take most (w.mail p)) xs same (subst (λ m. 0 < m) (sym many) some)
               (λ i. record {
                 entries = (ap entries_of more ∙ entries-are new) i;
-                books = (told-is ∙ (λ j. set books p (mark (Some (place j)) (k.gvt_is j)))) i;
+                marks = (told-is ∙ (λ j. set marks p (mark_at (Some (place j)) (k.gvt_is j)))) i;
                 limit = limit;
               })
-              (share-collected f p (own_of last) (entry_own t.cell.value) block xs (mark (Some at) gvt) (mark (Some (length (entries_of ts))) w.gvt) gone none own (λ i. mark (Some (place i)) (k.gvt_is i))),
+              (mark-collected f p (own_of last) (entry_own t.cell.value) block xs (mark_at (Some at) gvt) (mark_at (Some (length (entries_of ts))) w.gvt) gone none own (λ i. mark_at (Some (place i)) (k.gvt_is i))),
         )

@@ -10,72 +10,72 @@ use Rattle.virtual_time.specs.declared.moved.Move.TheVariants.{Arrived, Ran, Com
 use Rattle.journal.specs.declared.fault.PoolFault.{PoolFault}
 use Rattle.journal.specs.declared.fault.PoolFault.TheVariants.{OutOfMemory, Exhausted}
 use Rattle.exchange.specs.declared.mark.Mark.{Mark}
-use Rattle.exchange.specs.Views.{Ledger, InShare}
+use Rattle.exchange.specs.Views.{Ledger, HeldState}
 
 -- process p tells this, and its entry before that stands at this place
 abbrev pub told : ℕ → Option ℕ → Deed Message → Entry Message
 told p prior deed = record { process = p; prior = prior; deed = deed }
 
 -- the last entry stands here, and GVT was seen at this moment
-abbrev pub mark : Option ℕ → ℕ → Mark
-mark place seen = record { place = place; seen = seen }
+abbrev pub mark_at : Option ℕ → ℕ → Mark
+mark_at place seen = record { place = place; seen = seen }
 
 -- so many arrivals, then so many runs, then so many commits
 abbrev pub turn : ℕ → ℕ → ℕ → List Move
 turn arrivals runs commits = replicate arrivals Arrived ++ replicate runs Ran ++ replicate commits Committed
 
 module _ {S K : Type 0} (f : Simulation Message S K Note) where
-  -- these letters go from the front of the mail to the tray, and book and share note the GVT of the Exchange; none makes no entry
-  abbrev pub collects : List Letter → Ledger → InShare S → Ledger → InShare S → Type 0
+  -- these letters go from the front of the mail to the tray, and both marks note the GVT of the Exchange; none makes no entry
+  abbrev pub collects : List Letter → Ledger → HeldState S → Ledger → HeldState S → Type 0
   collects [] x h y k =
       (y ≡ record {
         entries = x.entries;
-        books = set x.books h.number (mark h.share.place (reach f x.entries).gvt);
+        marks = set x.marks h.number (mark_at h.mark.place (reach f x.entries).gvt);
         limit = x.limit;
       })
-      × (k ≡ record h { share = mark h.share.place (reach f x.entries).gvt })
+      × (k ≡ record h { mark = mark_at h.mark.place (reach f x.entries).gvt })
   collects (a ∷ more) x h y k =
       (y ≡ record {
-        entries = x.entries ++ told h.number h.share.place (Took (a ∷ more)) ∷ [];
-        books = set x.books h.number (mark (Some (length x.entries)) (reach f x.entries).gvt);
+        entries = x.entries ++ told h.number h.mark.place (Took (a ∷ more)) ∷ [];
+        marks = set x.marks h.number (mark_at (Some (length x.entries)) (reach f x.entries).gvt);
         limit = x.limit;
       })
       × (k ≡ record h {
         part = local f.rules (f.opening h.number) (acts_of (Took (a ∷ more))) h.part;
         block = [];
         own = h.own ++ acts_of (Took (a ∷ more));
-        share = mark (Some (length x.entries)) (reach f x.entries).gvt;
+        mark = mark_at (Some (length x.entries)) (reach f x.entries).gvt;
       })
 
   -- the first letters of its mail, so many or all where there are fewer, are collected
-  abbrev pub Collects : ℕ → Ledger → InShare S → Ledger → InShare S → ℕ → Type 0
+  abbrev pub Collects : ℕ → Ledger → HeldState S → Ledger → HeldState S → ℕ → Type 0
   Collects most x h y k count =
       (count ≡ length (take most ((reach f x.entries).mail h.number)))
       × collects (take most ((reach f x.entries).mail h.number)) x h y k
 
   -- the block goes to the journal, and the outbox to the mail; an empty block changes nothing
-  abbrev pub posts : List Move → Ledger → InShare S → Ledger → InShare S → Type 0
+  abbrev pub posts : List Move → Ledger → HeldState S → Ledger → HeldState S → Type 0
   posts [] x h y k = (y ≡ x) × (k ≡ h)
   posts (m ∷ ms) x h y k =
       (y ≡ record {
-        entries = x.entries ++ told h.number h.share.place (Posted (m ∷ ms)) ∷ [];
-        books = set x.books h.number (mark (Some (length x.entries)) h.share.seen);
+        entries = x.entries ++ told h.number h.mark.place (Posted (m ∷ ms)) ∷ [];
+        marks = set x.marks h.number (mark_at (Some (length x.entries)) h.mark.seen);
         limit = x.limit;
       })
       × (k ≡ record h {
         part = emptied h.part;
         block = [];
         own = h.own ++ acts_of (Posted (m ∷ ms));
-        share = mark (Some (length x.entries)) h.share.seen;
+        mark = mark_at (Some (length x.entries)) h.mark.seen;
       })
 
-  abbrev pub Posts : Ledger → InShare S → Ledger → InShare S → Type 0
+  abbrev pub Posts : Ledger → HeldState S → Ledger → HeldState S → Type 0
   Posts x h y k = posts h.block x h y k
 
   -- GVT is set; where it is the one of before there is no entry
   abbrev pub publishes : Bool → Ledger → Ledger → Type 0
   publishes true x y = y ≡ x
-  publishes false x y = y ≡ record { entries = x.entries ++ told 0 None Published ∷ []; books = x.books; limit = x.limit }
+  publishes false x y = y ≡ record { entries = x.entries ++ told 0 None Published ∷ []; marks = x.marks; limit = x.limit }
 
   -- GVT is not what floors and mail tell
   abbrev pub IsHeldBack : Ledger → Type 0
@@ -87,7 +87,7 @@ module _ {S K : Type 0} (f : Simulation Message S K Note) where
       × publishes (t == (reach f x.entries).gvt) x y
 
   -- the process did these steps, and they joined the block
-  abbrev pub moved_by : List Move → InShare S → InShare S
+  abbrev pub moved_by : List Move → HeldState S → HeldState S
   moved_by ms h = record h { part = after_moves f.rules (f.opening h.number) ms h.part; block = h.block ++ ms }
 
   -- a message that is earlier than the limit is handled next
@@ -109,18 +109,18 @@ module _ {S K : Type 0} (f : Simulation Message S K Note) where
 
   -- all letters of the tray arrive; then messages are handled that are earlier than the GVT seen and the window, `turn` at most, as long as
   -- there are any; then all done events below the GVT seen are committed
-  pub record Works (most window : ℕ) (h k : InShare S) (count : ℕ) : Type 0 where
+  pub record Works (most window : ℕ) (h k : HeldState S) (count : ℕ) : Type 0 where
     pub runs : ℕ
     pub commits : ℕ
     pub did : k ≡ moved_by (turn (length h.part.tray) runs commits) h
     pub told_count : count ≡ length h.part.tray + runs + commits
     pub within : runs ≤ most
-    pub early : RanEarly (h.share.seen + window) runs (moved_by (replicate (length h.part.tray) Arrived) h).part
-    pub idle : (runs ≡ most) ⊎ IsIdleBefore (h.share.seen + window) (moved_by (turn (length h.part.tray) runs 0) h).part
-    pub committed_below : earlier f.rules.order h.share.seen k.part.done ≡ []
+    pub early : RanEarly (h.mark.seen + window) runs (moved_by (replicate (length h.part.tray) Arrived) h).part
+    pub idle : (runs ≡ most) ⊎ IsIdleBefore (h.mark.seen + window) (moved_by (turn (length h.part.tray) runs 0) h).part
+    pub committed_below : earlier f.rules.order h.mark.seen k.part.done ≡ []
 
   -- messages that are earlier than the limit are handled, so many at most, as long as there are any
-  pub record Runs (most limit : ℕ) (h k : InShare S) : Type 0 where
+  pub record Runs (most limit : ℕ) (h k : HeldState S) : Type 0 where
     pub runs : ℕ
     pub did : k ≡ moved_by (replicate runs Ran) h
     pub within : runs ≤ most
@@ -128,7 +128,7 @@ module _ {S K : Type 0} (f : Simulation Message S K Note) where
     pub idle : (runs ≡ most) ⊎ IsIdleBefore limit k.part
 
   -- refused as a letter of the tray was to arrive: only some letters arrived
-  pub record StopsAtArrival (h k : InShare S) (fault : PoolFault) : Type 0 where
+  pub record StopsAtArrival (h k : HeldState S) (fault : PoolFault) : Type 0 where
     pub arrivals : ℕ
     pub did : k ≡ moved_by (replicate arrivals Arrived) h
     pub left : arrivals < length h.part.tray
@@ -136,7 +136,7 @@ module _ {S K : Type 0} (f : Simulation Message S K Note) where
 
   -- refused as a message was to be handled: fewer were handled than can be, each of them earlier than the limit, as the next one is.
   -- That numbers are wanting is told exactly where they are
-  pub record StopsAtRun (most limit : ℕ) (h k : InShare S) (fault : PoolFault) : Type 0 where
+  pub record StopsAtRun (most limit : ℕ) (h k : HeldState S) (fault : PoolFault) : Type 0 where
     pub runs : ℕ
     pub did : k ≡ moved_by (replicate runs Ran) h
     pub within : runs < most
@@ -145,19 +145,19 @@ module _ {S K : Type 0} (f : Simulation Message S K Note) where
     pub numbers : (fault ≡ Exhausted) ↔ WantsNumbers k.part
 
   -- refused as an event was to be committed: there is one that is earlier than the GVT seen
-  pub record StopsAtCommit (h k : InShare S) (fault : PoolFault) : Type 0 where
+  pub record StopsAtCommit (h k : HeldState S) (fault : PoolFault) : Type 0 where
     pub commits : ℕ
     pub did : k ≡ moved_by (replicate commits Committed) h
-    pub left : earlier f.rules.order h.share.seen k.part.done ≢ []
+    pub left : earlier f.rules.order h.mark.seen k.part.done ≢ []
     pub memory : fault ≡ OutOfMemory
 
   -- all letters of the tray arrive
-  abbrev pub all_arrived : InShare S → InShare S
+  abbrev pub all_arrived : HeldState S → HeldState S
   all_arrived h = moved_by (replicate (length h.part.tray) Arrived) h
 
   -- a refusal comes at a step of `Works` that was to be done, and all before it were done: an arrival, a run, or a commit
-  abbrev pub WorksSome : ℕ → ℕ → InShare S → InShare S → PoolFault → Type 0
+  abbrev pub WorksSome : ℕ → ℕ → HeldState S → HeldState S → PoolFault → Type 0
   WorksSome most window h k fault =
       StopsAtArrival h k fault ⊎
-      (StopsAtRun most (h.share.seen + window) (all_arrived h) k fault ⊎
-      ((ran : InShare S) × Runs most (h.share.seen + window) (all_arrived h) ran × StopsAtCommit ran k fault))
+      (StopsAtRun most (h.mark.seen + window) (all_arrived h) k fault ⊎
+      ((ran : HeldState S) × Runs most (h.mark.seen + window) (all_arrived h) ran × StopsAtCommit ran k fault))

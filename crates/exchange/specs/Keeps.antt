@@ -17,9 +17,9 @@ use Rattle.journal.specs.declared.entry.Deed.TheVariants.{Collect, Post, Publish
 use Rattle.journal.specs.declared.entry.Entry.{Entry as Told}
 use Rattle.journal.specs.declared.tokens.Tokens.{Tokens}
 use Rattle.journal.specs.declared.tokens.EntryPlace.{EntryPlace}
-use Rattle.book_share.specs.declared.Share.{Share}
+use Rattle.halves.specs.declared.RightHalf.{RightHalf}
 use Rattle.exchange.specs.declared.mark.Mark.{Mark}
-use Rattle.exchange.specs.Views.{book_of}
+use Rattle.exchange.specs.Views.{mark_of}
 
 -- the entries of which these tokens are
 abbrev pub entries_of : List Tokens → List (Entry Message)
@@ -36,16 +36,16 @@ place_in None = None
 place_in (Some last) = Some last.number
 
 -- at this place stands an entry that tells all that process p did or had done to it
-abbrev pub IsBooked : List Tokens → ℕ → Option ℕ → Type 0
-IsBooked ts p None = own_in p (entries_of ts) ≡ []
-IsBooked ts p (Some k) = (t : Tokens) × (slice_get ts k ≡ Some t) × (entry_own t.cell.value ≡ own_in p (entries_of ts))
+abbrev pub IsMarked : List Tokens → ℕ → Option ℕ → Type 0
+IsMarked ts p None = own_in p (entries_of ts) ≡ []
+IsMarked ts p (Some k) = (t : Tokens) × (slice_get ts k ≡ Some t) × (entry_own t.cell.value ≡ own_in p (entries_of ts))
 
--- each process has a book, which names its last entry and a GVT that is not later than this one
-pub record AreBooked (processes : ℕ) (ts : List Tokens) (gvt : ℕ) (books : List Mark) : Type 0 where
-  pub count : length books ≡ processes
-  pub place_is : (p : ℕ) → p < processes → (book_of books p).place ≡ last_place p (entries_of ts)
-  pub booked : (p : ℕ) → p < processes → IsBooked ts p (book_of books p).place
-  pub seen_low : (p : ℕ) → p < processes → (book_of books p).seen ≤ gvt
+-- each process has a mark, which names its last entry and a GVT that is not later than this one
+pub record AreMarked (processes : ℕ) (ts : List Tokens) (gvt : ℕ) (marks : List Mark) : Type 0 where
+  pub count : length marks ≡ processes
+  pub place_is : (p : ℕ) → p < processes → (mark_of marks p).place ≡ last_place p (entries_of ts)
+  pub marked : (p : ℕ) → p < processes → IsMarked ts p (mark_of marks p).place
+  pub seen_low : (p : ℕ) → p < processes → (mark_of marks p).seen ≤ gvt
 
 -- where so many letters were taken from the mail, it had so many for this process
 abbrev pub IsDeedWithinMail : ℕ → Deed → Type 0
@@ -61,15 +61,15 @@ abbrev pub IsLast : List ℕ → Option EntryPlace → Type 0
 IsLast pages None = ⊤
 IsLast pages (Some last) = IsAt pages last.number last.tokens × (last.number < 2 ^ 26)
 
--- the share of process p is that of the book with its name, and tells this
-pub record Tells (names : List ℕ) (p : ℕ) (share : Share Mark) (m : Mark) : Type 0 where
-  pub name : share.name ≡ slice_index names p
-  pub value : share.value ≡ m
+-- this half is of the mark of process p by its name, and tells this
+pub record Tells (names : List ℕ) (p : ℕ) (mark : RightHalf Mark) (m : Mark) : Type 0 where
+  pub name : mark.name ≡ slice_index names p
+  pub value : mark.value ≡ m
 
 module _ {S K : Type 0} (r : Rules Message S K Note) (number end : S → ℕ) (is_placed : S → Type 0) (x : Setting S) where
   -- an Exchange over the table whose pages have these names: its n entries are the first n cells, mail, floors and GVT are those of the
-  -- world after them, each process is what its own entries make of it, and each book names the last of these
-  pub record IsRecorded (pages table : List ℕ) (ts : List Tokens) (mail : List Store) (floors : Floors) (gvt count : ℕ) (books : List Mark) : Type 0 where
+  -- world after them, each process is what its own entries make of it, and each mark names the last of these
+  pub record IsRecorded (pages table : List ℕ) (ts : List Tokens) (mail : List Store) (floors : Floors) (gvt count : ℕ) (marks : List Mark) : Type 0 where
     pub laid : IsLaidOut r number end is_placed x
     pub same : table ≡ pages
     pub placed : (k : ℕ) (t : Tokens) → slice_get ts k ≡ Some t → IsAt pages k t
@@ -83,7 +83,7 @@ module _ {S K : Type 0} (r : Rules Message S K Note) (number end : S → ℕ) (i
     pub count_is : count ≡ length (steps (entries_of ts))
     pub enough : length ts ≤ count
     pub parts_is : (q : ℕ) → (reach (simulation_of r x) (entries_of ts)).parts q ≡ after_own (simulation_of r x) q (own_in q (entries_of ts))
-    pub booked : AreBooked x.processes ts gvt books
+    pub marked : AreMarked x.processes ts gvt marks
 
   -- a Held: it stands for what its last entry and then its block make of it, in which each step could be done at the GVT that it saw, it is
   -- safe below that, and the rows of committed events that left it are of moments before `gone`

@@ -5,30 +5,30 @@ use Rattle.virtual_time.specs.Law.{Part, opened, Act, Entry}
 use Rattle.virtual_time.specs.declared.moved.Move.{Move}
 use Rattle.exchange.specs.declared.mark.Mark.{Mark}
 
--- the entries of the journal, the book of each process, and how many steps the journal can have
+-- the entries of the journal, the mark of each process, and how many steps the journal can have
 pub record Ledger : Type 0 where
   pub entries : List (Entry Message)
-  pub books : List Mark
+  pub marks : List Mark
   pub limit : ℕ
 
 -- a process: its number, what it has in hand, the steps that it did alone and that are not in the journal yet, what the journal tells of
--- it alone, its share, and the moment, in ns, before which rows of its committed events may have left; none has where that is 0
-pub record InShare (S : Type 0) : Type 0 where
+-- it alone, its mark, and the moment, in ns, before which rows of its committed events may have left; none has where that is 0
+pub record HeldState (S : Type 0) : Type 0 where
   pub number : ℕ
   pub part : Part Message S
   pub block : List Move
   pub own : List (Act Message)
-  pub share : Mark
+  pub mark : Mark
   pub gone : ℕ
 
 -- of a process that is not in the journal yet
 abbrev pub blank : Mark
 blank = record { place = None; seen = 0 }
 
--- the book of process p
-abbrev pub book_of : List Mark → ℕ → Mark
-book_of books p = get_or books p blank
+-- the mark of process p
+abbrev pub mark_of : List Mark → ℕ → Mark
+mark_of marks p = get_or marks p blank
 
 -- process p that has done nothing, from its opening state
-abbrev pub opened_share : {S : Type 0} → (ℕ → S) → ℕ → InShare S
-opened_share opening p = record { number = p; part = opened (opening p); block = []; own = []; share = blank; gone = 0 }
+abbrev pub opened_held : {S : Type 0} → (ℕ → S) → ℕ → HeldState S
+opened_held opening p = record { number = p; part = opened (opening p); block = []; own = []; mark = blank; gone = 0 }

@@ -9,7 +9,7 @@ ghost use Rattle.antimessages.specs.Mailing.{letters_for};
 ghost use Rattle.journal.specs.declared.fault.PoolFault.TheVariants.{OutOfMemory, JournalFull, Torn};
 ghost use Rattle.journal.specs.Deeds.{seen_deed, prior_own, place_of};
 ghost use Rattle.exchange.specs.Keeps.{IsDeedWithinMail};
-ghost use Rattle.exchange.specs.Effects.{Collects, mark};
+ghost use Rattle.exchange.specs.Effects.{Collects, mark_at};
 
 use crate::exchange::Exchange;
 use crate::held::Held;
@@ -22,7 +22,7 @@ use reverse::{Actor, actor_laws};
 use std::snapshot::Snapshot;
 
 /// The first letters of the mail of a process, `most` or all where there are fewer, go to its tray, with one entry in the journal
-/// where there are any. Share and book note the GVT of the exchange. The answer is how many letters were taken.
+/// where there are any. Both marks note the GVT of the exchange. The answer is how many letters were taken.
 ///
 /// Any refusal leaves both as they were. `JournalFull`: exactly where the steps would pass the limit, which is looked at before any growth.
 /// `Torn`: the entry's cell was set already, which is seen after all growths.
@@ -64,7 +64,7 @@ pub fn collect<'a, R: Actor, J: ActorRun<R>>(
                 place: Some(place),
                 seen: exchange.gvt,
             };
-            tell_both(&mut exchange.books, &mut held.share, held.number, &mark);
+            tell_both(&mut exchange.marks, &mut held.mark, held.number, &mark);
             held.last = Some(EntryPlace {
                 number: place,
                 tokens,
@@ -76,26 +76,26 @@ pub fn collect<'a, R: Actor, J: ActorRun<R>>(
     }
 }
 
-/// Share and book of a process note the GVT of the exchange.
+/// Both marks of a process note the GVT of the exchange.
 fn see<'a, R: Actor, J: ActorRun<R>>(held: &mut Held<'a, R, J>, exchange: &mut Exchange<'a, R, J>)
     requires posted { held.old.block ≡ [] }
     ensures exchange { exchange.new ≡ record {
       entries = exchange.old.entries;
-      books = set exchange.old.books held.old.number (mark held.old.share.place
+      marks = set exchange.old.marks held.old.number (mark_at held.old.mark.place
           (reach (simulation_of (rules_of R.plain) J.setting) exchange.old.entries).gvt);
       limit = exchange.old.limit;
     } }
     ensures held { held.new ≡ record held.old {
-      share = mark held.old.share.place (reach (simulation_of (rules_of R.plain) J.setting) exchange.old.entries).gvt;
+      mark = mark_at held.old.mark.place (reach (simulation_of (rules_of R.plain) J.setting) exchange.old.entries).gvt;
     } }
 {
     actor_laws::<R>();
     exchange.join(held);
     let mark = Mark {
-        place: held.share().place,
+        place: held.mark().place,
         seen: exchange.gvt,
     };
-    tell_both(&mut exchange.books, &mut held.share, held.number, &mark);
+    tell_both(&mut exchange.marks, &mut held.mark, held.number, &mark);
     held.seen = exchange.gvt;
 }
 
@@ -103,7 +103,7 @@ fn see<'a, R: Actor, J: ActorRun<R>>(held: &mut Held<'a, R, J>, exchange: &mut E
 fn entry_of<'a, R: Actor, J: ActorRun<R>>(held: &Held<'a, R, J>, mail: &Mail, count: u32) -> Entry
     requires enough { count ≤ length (letters_for held.now.number mail.now) }
     ensures process { result.process ≡ held.now.number }
-    ensures place { place_of result.prior ≡ held.now.share.place }
+    ensures place { place_of result.prior ≡ held.now.mark.place }
     ensures own { prior_own result.prior ≡ held.now.own }
     ensures deed { seen_deed held.now.number result.deed ≡ Took (take count (letters_for held.now.number mail.now)) }
     ensures within_mail { IsDeedWithinMail held.now.number result.deed }

@@ -8,14 +8,14 @@ ghost use Rattle.reverse.specs.Setting.{simulation_of};
 use crate::mark::Mark;
 use crate::run_of::ActorRun;
 use antimessages::Mail;
-use book_share::Book;
+use halves::LeftHalf;
 use gvt::Floors;
 use journal::{Entries, Tokens};
 use reverse::Actor;
 use std::marker::{Model, PhantomData};
 use vlink::{Letter, Time};
 
-/// Mail, floors and GVT of all processes, the journal of what they did, and a book for each.
+/// Mail, floors and GVT of all processes, the journal of what they did, and a mark for each.
 #[derive(Drop)]
 pub struct Exchange<'a, R: Actor, J: ActorRun<R>> {
     pub(crate) table: &'a Entries,
@@ -25,8 +25,8 @@ pub struct Exchange<'a, R: Actor, J: ActorRun<R>> {
     pub(crate) journal: Vec<Tokens<'a>>,
     /// For how many steps the entries stand.
     pub(crate) steps: u64,
-    /// The book of each process, in order. They have no bytes.
-    pub(crate) books: Vec<Book<Mark>>,
+    /// The half of the mark of each process, in order. They have no bytes.
+    pub(crate) marks: Vec<LeftHalf<Mark>>,
     pub(crate) limit: u64,
     pub(crate) of: PhantomData<(J, R)>,
 }
@@ -40,12 +40,12 @@ impl<'a, R: Actor, J: ActorRun<R>> Model for Exchange<'a, R, J> {
 
     ghost Value = { Ledger };
 
-    ghost view = { λ x. record { entries = entries_of x.journal.items; books = map (λ b. b.value) x.books.items; limit = x.limit } };
+    ghost view = { λ x. record { entries = entries_of x.journal.items; marks = map (λ b. b.value) x.marks.items; limit = x.limit } };
 
     ghost invariant = { λ x. (x.steps ≤ x.limit) × (x.limit ≤ 67108864) ×
         IsRecorded (rules_of R.plain) R.number R.end R.is_placed J.setting J.pages (names x.table.now.pages.items)
-        x.journal.items x.mail x.floors x.gvt x.steps (map (λ b. b.value) x.books.items) ×
-        (map (λ b. b.name) x.books.items ≡ J.names) };
+        x.journal.items x.mail x.floors x.gvt x.steps (map (λ b. b.value) x.marks.items) ×
+        (map (λ b. b.name) x.marks.items ≡ J.names) };
 }
 
 impl<'a, R: Actor, J: ActorRun<R>> Exchange<'a, R, J> {

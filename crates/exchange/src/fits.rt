@@ -3,20 +3,20 @@ ghost use Rattle.std.specs.Prelude.{◌≡◌, true, map};
 ghost use Rattle.virtual_time.specs.Law.{local, after_moves, own_in, reach, AreEnabled};
 ghost use Rattle.reverse.specs.Rules.{rules_of};
 ghost use Rattle.reverse.specs.Setting.{simulation_of};
-ghost use Rattle.exchange.specs.Views.{book_of};
+ghost use Rattle.exchange.specs.Views.{mark_of};
 
 use crate::exchange::Exchange;
 use crate::held::Held;
 use crate::run_of::ActorRun;
-use book_share::agree;
+use halves::agree;
 use reverse::Actor;
 
 impl<'a, R: Actor, J: ActorRun<R>> Exchange<'a, R, J> {
-    /// Whether share and book are equal: always, since a share has one book, and each call writes both. So the process in hand is what the
+    /// Whether both marks are equal: always, since they are the halves of one value, and each call writes both. So the process in hand is what the
     /// journal and then its block make of it, and each step of the block can be done there. It takes no memory.
     pub fn fits(&self, held: &Held<'a, R, J>) -> bool
         ensures yes { result ≡ true }
-        ensures same { held.now.share ≡ book_of self.now.books held.now.number }
+        ensures same { held.now.mark ≡ mark_of self.now.marks held.now.number }
         ensures part { held.now.part ≡ after_moves (rules_of R.plain) (J.setting.opening held.now.number) held.now.block
             ((reach (simulation_of (rules_of R.plain) J.setting) self.now.entries).parts held.now.number) }
         ensures enabled { AreEnabled (simulation_of (rules_of R.plain) J.setting) (J.setting.opening held.now.number)
@@ -28,9 +28,9 @@ impl<'a, R: Actor, J: ActorRun<R>> Exchange<'a, R, J> {
         true
     }
 
-    /// Share and book are equal, so that both speak of one entry. A call does nothing: its caller learns what the clauses say.
+    /// Both marks are equal, so that they speak of one entry. A call does nothing: its caller learns what the clauses say.
     pub(crate) fn join(&self, held: &Held<'a, R, J>)
-        ensures same { held.now.share ≡ book_of self.now.books held.now.number }
+        ensures same { held.now.mark ≡ mark_of self.now.marks held.now.number }
         ensures part { held.now.part ≡ after_moves (rules_of R.plain) (J.setting.opening held.now.number) held.now.block
             ((reach (simulation_of (rules_of R.plain) J.setting) self.now.entries).parts held.now.number) }
         ensures enabled { AreEnabled (simulation_of (rules_of R.plain) J.setting) (J.setting.opening held.now.number)
@@ -46,10 +46,10 @@ impl<'a, R: Actor, J: ActorRun<R>> Exchange<'a, R, J> {
         }
     }
 
-    /// A share tells what its book tells. A call does nothing: its caller learns what the clause says.
+    /// One half of a mark tells what the other tells. A call does nothing: its caller learns what the clause says.
     pub(crate) fn meet(&self, held: &Held<'a, R, J>)
-        ensures { held.now.share ≡ book_of self.now.books held.now.number }
+        ensures { held.now.mark ≡ mark_of self.now.marks held.now.number }
     {
-        agree(&self.books[usize::from(held.number)], &held.share);
+        agree(&self.marks[usize::from(held.number)], &held.mark);
     }
 }

@@ -7,7 +7,7 @@ ghost use Rattle.journal.specs.Deeds.{prior_own, place_of};
 
 use crate::mark::Mark;
 use crate::run_of::ActorRun;
-use book_share::Share;
+use halves::RightHalf;
 use journal::{Block, Entries, EntryPlace, Prior};
 use process_queues::Process;
 use reverse::{Actor, Outbound};
@@ -16,7 +16,7 @@ use std::marker::{Model, PhantomData};
 use std::snapshot::Snapshot;
 use vlink::{Letter, Message, Row, Time};
 
-/// A process, the block of the steps that it did alone since its last post, and its share: where the journal tells of it last, and the GVT
+/// A process, the block of the steps that it did alone since its last post, and its mark: where the journal tells of it last, and the GVT
 /// that it saw. Rows of its committed events can leave it, the oldest ones first.
 #[derive(Drop)]
 pub struct Held<'a, R: Actor, J: ActorRun<R>> {
@@ -28,8 +28,8 @@ pub struct Held<'a, R: Actor, J: ActorRun<R>> {
     pub(crate) block: Block,
     pub(crate) last: Option<EntryPlace<'a>>,
     pub(crate) seen: Time,
-    /// The one share of its book, which tells place and GVT too. It has no bytes.
-    pub(crate) share: Share<Mark>,
+    /// Its half of its mark, which tells place and GVT too. It has no bytes.
+    pub(crate) mark: RightHalf<Mark>,
     /// The rows of committed events that have left are of moments before this one.
     pub(crate) gone: Time,
     /// Room for what one event sends and notes.
@@ -44,10 +44,10 @@ impl<'a, R: Actor, J: ActorRun<R>> Model for Held<'a, R, J> {
     ghost use Rattle.reverse.specs.Rules.{rules_of};
     ghost use Rattle.reverse.specs.Setting.{simulation_of};
     ghost use Rattle.journal.specs.Names.{names};
-    ghost use Rattle.exchange.specs.Views.{InShare};
+    ghost use Rattle.exchange.specs.Views.{HeldState};
     ghost use Rattle.exchange.specs.Keeps.{Holds, Tells, own_of, place_in};
 
-    ghost Value = { InShare R };
+    ghost Value = { HeldState R };
 
     ghost view = { λ h. record {
       number = h.number;
@@ -55,12 +55,12 @@ impl<'a, R: Actor, J: ActorRun<R>> Model for Held<'a, R, J> {
           (after_own (simulation_of (rules_of R.plain) J.setting) h.number (own_of h.last));
       block = h.block;
       own = own_of h.last;
-      share = record { place = place_in h.last; seen = h.seen };
+      mark = record { place = place_in h.last; seen = h.seen };
       gone = h.gone;
     } };
 
     ghost invariant = { λ h. Holds (rules_of R.plain) R.number R.end R.is_placed J.setting R.is_value J.pages (names h.table.now.pages.items)
-        h.number h.seen h.gone h.block h.last h.process.queues × Tells J.names h.number h.share (record { place = place_in h.last; seen = h.seen }) };
+        h.number h.seen h.gone h.block h.last h.process.queues × Tells J.names h.number h.mark (record { place = place_in h.last; seen = h.seen }) };
 }
 
 impl<'a, R: Actor, J: ActorRun<R>> Held<'a, R, J> {
@@ -79,9 +79,9 @@ impl<'a, R: Actor, J: ActorRun<R>> Held<'a, R, J> {
         self.block.len() as u64
     }
 
-    /// Its share.
-    pub fn share(&self) -> Mark
-        ensures { result ≡ self.now.share }
+    /// Its mark.
+    pub fn mark(&self) -> Mark
+        ensures { result ≡ self.now.mark }
     {
         let place = match &self.last {
             Some(last) => Some(last.number),
@@ -131,7 +131,7 @@ impl<'a, R: Actor, J: ActorRun<R>> Held<'a, R, J> {
     /// The entry that its next one follows.
     pub(crate) fn prior(&self) -> Prior
         ensures own { prior_own result ≡ self.now.own }
-        ensures place { place_of result ≡ self.now.share.place }
+        ensures place { place_of result ≡ self.now.mark.place }
     {
         match &self.last {
             Some(last) => Prior::After(

@@ -5,7 +5,7 @@ ghost use Rattle.reverse.specs.Rules.{rules_of};
 ghost use Rattle.reverse.specs.Setting.{Opens, IsLaidOut};
 ghost use Rattle.journal.specs.Names.{names};
 ghost use Rattle.journal.specs.declared.fault.PoolFault.TheVariants.{OutOfMemory};
-ghost use Rattle.exchange.specs.Views.{blank, opened_share};
+ghost use Rattle.exchange.specs.Views.{blank, opened_held};
 
 use crate::exchange::Exchange;
 use crate::held::Held;
@@ -13,7 +13,7 @@ use crate::mark::Mark;
 use crate::pairs::Pairs;
 use crate::run_of::ActorRun;
 use antimessages::{Mail, plus_letters};
-use book_share::Share;
+use halves::RightHalf;
 use gvt::Floors;
 use journal::{Block, Entries, PoolFault};
 use process_queues::Process;
@@ -44,9 +44,9 @@ impl<'a, R: Actor + Drop, J: ActorRun<R>> Exchange<'a, R, J> {
         requires few { J.setting.processes ≤ 4096 }
         requires some { 1 ≤ limit }
         requires most { limit ≤ 67108864 }
-        ensures exchange { IfOk result (λ r. r.0 ≡ record { entries = []; books = replicate J.setting.processes blank; limit = limit }) }
+        ensures exchange { IfOk result (λ r. r.0 ≡ record { entries = []; marks = replicate J.setting.processes blank; limit = limit }) }
         ensures count { IfOk result (λ r. length r.1.items ≡ J.setting.processes) }
-        ensures helds { IfOk result (λ r. (p : ℕ) → p < J.setting.processes → slice_get r.1.items p ≡ Some (opened_share J.setting.opening p)) }
+        ensures helds { IfOk result (λ r. (p : ℕ) → p < J.setting.processes → slice_get r.1.items p ≡ Some (opened_held J.setting.opening p)) }
         ensures memory { IfErr result (λ fault. fault ≡ OutOfMemory) }
     {
         actor_laws::<R>();
@@ -54,8 +54,8 @@ impl<'a, R: Actor + Drop, J: ActorRun<R>> Exchange<'a, R, J> {
         let letters = plus_letters(alloc, offers)?;
         let mail = Mail::with_letters(alloc, count, &letters)?;
         let floors = Floors::new(alloc, count, until)?;
-        let Pairs { books, shares } = pairs;
-        let helds = helds_of(alloc, actors, shares, until, table)?;
+        let Pairs { lefts, rights } = pairs;
+        let helds = helds_of(alloc, actors, rights, until, table)?;
         let exchange = Exchange {
             table,
             mail,
@@ -63,7 +63,7 @@ impl<'a, R: Actor + Drop, J: ActorRun<R>> Exchange<'a, R, J> {
             gvt: Time::default(),
             journal: Vec::new(alloc),
             steps: 0,
-            books,
+            marks: lefts,
             limit,
             of: PhantomData,
         };
@@ -75,7 +75,7 @@ impl<'a, R: Actor + Drop, J: ActorRun<R>> Exchange<'a, R, J> {
 fn helds_of<'a, R: Actor + Drop, J: ActorRun<R>>(
     alloc: Global,
     actors: Vec<R>,
-    mut shares: Vec<Share<Mark>>,
+    mut marks: Vec<RightHalf<Mark>>,
     until: Time,
     table: &'a Entries,
 ) -> Result<Vec<Held<'a, R, J>>, PoolFault>
@@ -83,19 +83,19 @@ fn helds_of<'a, R: Actor + Drop, J: ActorRun<R>>(
     requires each { (p : ℕ) → p < J.setting.processes → slice_get actors.items p ≡ Some (J.setting.opening p) }
     requires layout { IsLaidOut (rules_of R.plain) R.number R.end R.is_placed J.setting }
     requires table { names table.now.pages.items ≡ J.pages }
-    requires names { map (λ s. s.name) shares.items ≡ J.names }
+    requires names { map (λ s. s.name) marks.items ≡ J.names }
     requires each_name { length J.names ≡ J.setting.processes }
-    requires blanks { map (λ s. s.value) shares.items ≡ replicate (length shares.items) blank }
+    requires blanks { map (λ s. s.value) marks.items ≡ replicate (length marks.items) blank }
     requires few { J.setting.processes ≤ 4096 }
     ensures count { IfOk result (λ helds. length helds.items ≡ J.setting.processes) }
-    ensures each { IfOk result (λ helds. (p : ℕ) → p < J.setting.processes → slice_get helds.items p ≡ Some (opened_share J.setting.opening p)) }
+    ensures each { IfOk result (λ helds. (p : ℕ) → p < J.setting.processes → slice_get helds.items p ≡ Some (opened_held J.setting.opening p)) }
     ensures memory { IfErr result (λ fault. fault ≡ OutOfMemory) }
 {
     let mut helds = Vec::with_capacity(alloc, actors.len())?;
     for actor in actors {
         let number = helds.len() as u16;
-        let share = shares.remove(0);
-        let held = Held::open(alloc, number, actor, share, until, table)?;
+        let mark = marks.remove(0);
+        let held = Held::open(alloc, number, actor, mark, until, table)?;
         helds.push_reserved(held);
     }
     Ok(helds)
@@ -107,17 +107,17 @@ impl<'a, R: Actor, J: ActorRun<R>> Held<'a, R, J> {
         alloc: Global,
         number: u16,
         actor: R,
-        share: Share<Mark>,
+        mark: RightHalf<Mark>,
         until: Time,
         table: &'a Entries,
     ) -> Result<Self, PoolFault>
         requires within { number < J.setting.processes }
         requires actor { actor ≡ J.setting.opening number }
-        requires name { share.name ≡ slice_index J.names number }
-        requires blank { share.value ≡ blank }
+        requires name { mark.name ≡ slice_index J.names number }
+        requires blank { mark.value ≡ blank }
         requires layout { IsLaidOut (rules_of R.plain) R.number R.end R.is_placed J.setting }
         requires table { names table.now.pages.items ≡ J.pages }
-        ensures opened { IfOk result (λ held. held ≡ opened_share J.setting.opening number) }
+        ensures opened { IfOk result (λ held. held ≡ opened_held J.setting.opening number) }
         ensures memory { IfErr result (λ fault. fault ≡ OutOfMemory) }
     {
         actor_laws::<R>();
@@ -130,7 +130,7 @@ impl<'a, R: Actor, J: ActorRun<R>> Held<'a, R, J> {
                 block: Block::new(),
                 last: None,
                 seen: Time::default(),
-                share,
+                mark,
                 gone: Time::default(),
                 out: Outbound::new(number, until, 0),
                 alloc,

@@ -1,20 +1,20 @@
-//! A book and a share for each process of a run.
+//! Two halves of a mark for each process of a run.
 ghost use Rattle.std.specs.Prelude.{◌≡◌, ℕ, List, map, replicate, length, ◌+◌, OnOk, IfOk, IfErr};
 ghost use Rattle.journal.specs.declared.fault.PoolFault.TheVariants.{OutOfMemory};
 ghost use Rattle.exchange.specs.Views.{blank};
 
 use crate::mark::Mark;
-use book_share::{Book, Share, pair};
+use halves::{LeftHalf, RightHalf, pair};
 use journal::PoolFault;
 use std::alloc::Global;
 use std::marker::Model;
 use vlink::Time;
 
-/// Books, each with its one share, in order, before an exchange and its processes have them. They have no bytes. A clause sees their names.
+/// The two halves of marks, in order, before an exchange and its processes have them. They have no bytes. A clause sees their names.
 #[derive(Drop)]
 pub struct Pairs {
-    pub(crate) books: Vec<Book<Mark>>,
-    pub(crate) shares: Vec<Share<Mark>>,
+    pub(crate) lefts: Vec<LeftHalf<Mark>>,
+    pub(crate) rights: Vec<RightHalf<Mark>>,
 }
 
 impl Model for Pairs {
@@ -23,11 +23,11 @@ impl Model for Pairs {
 
     ghost Value = { List ℕ };
 
-    ghost view = { λ p. map (λ b. b.name) p.books.items };
+    ghost view = { λ p. map (λ b. b.name) p.lefts.items };
 
-    ghost invariant = { λ p. (map (λ s. s.name) p.shares.items ≡ map (λ b. b.name) p.books.items)
-        × (map (λ b. b.value) p.books.items ≡ replicate (length p.books.items) blank)
-        × (map (λ s. s.value) p.shares.items ≡ replicate (length p.shares.items) blank) };
+    ghost invariant = { λ p. (map (λ s. s.name) p.rights.items ≡ map (λ b. b.name) p.lefts.items)
+        × (map (λ b. b.value) p.lefts.items ≡ replicate (length p.lefts.items) blank)
+        × (map (λ s. s.value) p.rights.items ≡ replicate (length p.rights.items) blank) };
 }
 
 impl Pairs {
@@ -41,8 +41,8 @@ impl Pairs {
             seen: Time::default(),
         };
         let mut pairs = Pairs {
-            books: Vec::with_capacity(alloc, count)?,
-            shares: Vec::with_capacity(alloc, count)?,
+            lefts: Vec::with_capacity(alloc, count)?,
+            rights: Vec::with_capacity(alloc, count)?,
         };
         for made in 0..count {
             pairs.add(&blank)?;
@@ -56,11 +56,11 @@ impl Pairs {
         ensures more { OnOk result (length self.new ≡ length self.old + 1) }
         ensures memory { IfErr result (λ fault. fault ≡ OutOfMemory) }
     {
-        self.books.reserve(1)?;
-        self.shares.reserve(1)?;
-        let (book, share) = pair(mark);
-        self.books.push_reserved(book);
-        self.shares.push_reserved(share);
+        self.lefts.reserve(1)?;
+        self.rights.reserve(1)?;
+        let (left, right) = pair(mark);
+        self.lefts.push_reserved(left);
+        self.rights.push_reserved(right);
         Ok(())
     }
 }

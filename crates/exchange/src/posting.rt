@@ -60,7 +60,7 @@ pub fn post<'a, R: Actor, J: ActorRun<R>>(
                 place: Some(place),
                 seen: held.seen,
             };
-            tell_both(&mut exchange.books, &mut held.share, held.number, &mark);
+            tell_both(&mut exchange.marks, &mut held.mark, held.number, &mark);
             held.last = Some(EntryPlace {
                 number: place,
                 tokens,

@@ -13,6 +13,6 @@ pub trait ActorRun<R: Actor> {
     /// The names of the pages of the table that its entries are written to.
     ghost pages: { List ℕ };
 
-    /// The names of the books and shares, one for each process.
+    /// The names of the marks, one for each process.
     ghost names: { List ℕ };
 }

@@ -16,7 +16,7 @@ impl<'a, R: Actor, J: ActorRun<R>> Held<'a, R, J> {
     /// Whether its events before a moment, in ns, are all committed and are for good: the moment is not later than the GVT that it saw, and no
     /// done event is earlier.
     pub fn is_sealed_before(&self, moment: Time) -> bool
-        ensures { IsTrue result ↔ ((moment ≤ self.now.share.seen) × (earlier message_order moment self.now.part.done ≡ [])) }
+        ensures { IsTrue result ↔ ((moment ≤ self.now.mark.seen) × (earlier message_order moment self.now.part.done ≡ [])) }
     {
         actor_rules::<R>();
         moment.ns() <= self.seen.ns() && !is_early(self.process.oldest(), moment)
@@ -31,7 +31,7 @@ impl<'a, R: Actor, J: ActorRun<R>> Held<'a, R, J> {
         requires { self.now.gone ≤ from }
         ensures rows { result.now
             ≡ rows_within (rules_of R.plain) from to (rowed (rules_of R.plain) (J.setting.opening self.now.number) self.now.part.committed) }
-        ensures whole { to ≤ self.now.share.seen → earlier message_order to self.now.part.done ≡ [] →
+        ensures whole { to ≤ self.now.mark.seen → earlier message_order to self.now.part.done ≡ [] →
             (event_count : ℕ) → (one (simulation_of (rules_of R.plain) J.setting) event_count).waiting ≡ [] → result.now
             ≡ rows_within (rules_of R.plain) from to (rows_at self.now.number
             (one (simulation_of (rules_of R.plain) J.setting) event_count).rows) }

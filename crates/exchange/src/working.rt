@@ -86,8 +86,8 @@ impl<'a, R: Actor, J: ActorRun<R>> Held<'a, R, J> {
 
     /// Messages that are earlier than the GVT seen and `window`, in ns, are handled, `turn` at most, as long as there are any.
     fn run_early<G: Gate>(&mut self, turn: u32, window: u64, gate: &G) -> Result<(), PoolFault>
-        ensures ran { OnOk result (Runs (simulation_of (rules_of R.plain) J.setting) turn (self.old.share.seen + window) self.old self.new) }
-        ensures some { IfErr result (λ fault. StopsAtRun (simulation_of (rules_of R.plain) J.setting) turn (self.old.share.seen + window) self.old self.new fault) }
+        ensures ran { OnOk result (Runs (simulation_of (rules_of R.plain) J.setting) turn (self.old.mark.seen + window) self.old self.new) }
+        ensures some { IfErr result (λ fault. StopsAtRun (simulation_of (rules_of R.plain) J.setting) turn (self.old.mark.seen + window) self.old self.new fault) }
         ensures faults { IfErr result (λ fault. (fault ≡ OutOfMemory) ⊎ (fault ≡ Exhausted)) }
     {
         for run in 0..turn {
@@ -101,11 +101,11 @@ impl<'a, R: Actor, J: ActorRun<R>> Held<'a, R, J> {
     /// The next message is handled, if there is one that is earlier than the GVT seen and `window`, in ns. The answer is whether there was.
     fn run_next<G: Gate>(&mut self, window: u64, gate: &G) -> Result<bool, PoolFault>
         ensures ran { IfOk result (λ ran. ran ≡ true → self.new ≡ moved_by (simulation_of (rules_of R.plain) J.setting) (Ran ∷ []) self.old) }
-        ensures early { IfOk result (λ ran. ran ≡ true → IsDueBefore (simulation_of (rules_of R.plain) J.setting) (self.old.share.seen + window) self.old.part) }
-        ensures idle { IfOk result (λ ran. ran ≡ false → IsIdleBefore (simulation_of (rules_of R.plain) J.setting) (self.old.share.seen + window) self.old.part) }
+        ensures early { IfOk result (λ ran. ran ≡ true → IsDueBefore (simulation_of (rules_of R.plain) J.setting) (self.old.mark.seen + window) self.old.part) }
+        ensures idle { IfOk result (λ ran. ran ≡ false → IsIdleBefore (simulation_of (rules_of R.plain) J.setting) (self.old.mark.seen + window) self.old.part) }
         ensures stays { IfOk result (λ ran. ran ≡ false → self.new ≡ self.old) }
         ensures unchanged { OnErr result (self.new ≡ self.old) }
-        ensures due { OnErr result (IsDueBefore (simulation_of (rules_of R.plain) J.setting) (self.old.share.seen + window) self.old.part) }
+        ensures due { OnErr result (IsDueBefore (simulation_of (rules_of R.plain) J.setting) (self.old.mark.seen + window) self.old.part) }
         ensures numbers { IfErr result (λ fault. (fault ≡ Exhausted) ↔ WantsNumbers (simulation_of (rules_of R.plain) J.setting) self.old.part) }
         ensures faults { IfErr result (λ fault. (fault ≡ OutOfMemory) ⊎ (fault ≡ Exhausted)) }
     {
@@ -137,7 +137,7 @@ impl<'a, R: Actor, J: ActorRun<R>> Held<'a, R, J> {
     /// All done events that are earlier than the GVT seen are committed.
     fn commit_all(&mut self) -> Result<(), PoolFault>
         ensures committed { OnOk result ((commits : ℕ) × (self.new ≡ moved_by (simulation_of (rules_of R.plain) J.setting) (replicate commits Committed) self.old)
-            × (earlier message_order self.old.share.seen self.new.part.done ≡ [])) }
+            × (earlier message_order self.old.mark.seen self.new.part.done ≡ [])) }
         ensures some { IfErr result (λ fault. StopsAtCommit (simulation_of (rules_of R.plain) J.setting) self.old self.new fault) }
     {
         loop {
@@ -151,10 +151,10 @@ impl<'a, R: Actor, J: ActorRun<R>> Held<'a, R, J> {
     fn commit_one(&mut self) -> Result<bool, PoolFault>
         ensures committed { IfOk result (λ done. done ≡ true → self.new ≡ moved_by (simulation_of (rules_of R.plain) J.setting) (Committed ∷ []) self.old) }
         ensures fewer { IfOk result (λ done. done ≡ true → length self.new.part.done < length self.old.part.done) }
-        ensures none { IfOk result (λ done. done ≡ false → earlier message_order self.old.share.seen self.old.part.done ≡ []) }
+        ensures none { IfOk result (λ done. done ≡ false → earlier message_order self.old.mark.seen self.old.part.done ≡ []) }
         ensures stays { IfOk result (λ done. done ≡ false → self.new ≡ self.old) }
         ensures unchanged { OnErr result (self.new ≡ self.old) }
-        ensures left { OnErr result (earlier message_order self.old.share.seen self.old.part.done ≢ []) }
+        ensures left { OnErr result (earlier message_order self.old.mark.seen self.old.part.done ≢ []) }
         ensures memory { IfErr result (λ fault. fault ≡ OutOfMemory) }
     {
         actor_laws::<R>();

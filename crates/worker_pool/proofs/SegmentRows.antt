@@ -4,7 +4,7 @@ use Rattle.vlink.specs.Letters.{Row}
 use Rattle.virtual_time.specs.Law.{earlier, one, rows_at}
 use Rattle.netdesc.specs.Words.{Plan}
 use Rattle.nodes.specs.Words.{NodeState, simulation_of}
-use Rattle.exchange.specs.Views.{InShare}
+use Rattle.exchange.specs.Views.{HeldState}
 use Rattle.trace_segments.specs.Words.{interval_width, cut, HasInterval, rows_within, SegmentRows, segment_of}
 use Rattle.trace_segments.proofs.IntervalLemmas.{cut-inside, cut-rises}
 use Rattle.seqsim.specs.Networks.{AreRowsOf}
@@ -55,19 +55,19 @@ pub begins-one : (until moment k : ℕ) → HasInterval until k → moment ≡ c
 begins-one until moment k inside at =
     ap (λ m. m / interval_width until) (at ∙ cut-inside until k inside) ∙ mul-div_cancel k (omega arith)
 
-module _ (plan : Plan) (share : InShare NodeState) where
+module _ (plan : Plan) (held : HeldState NodeState) where
   -- so where the next one is not for good, none is
-  pub none-sealed : (k : ℕ) → HasInterval plan.until k → share.gone ≡ cut plan.until k → (IsIntervalSealed plan k share → ⊥) →
-      (j : ℕ) → IsIntervalSealed plan j share → ⊥
+  pub none-sealed : (k : ℕ) → HasInterval plan.until k → held.gone ≡ cut plan.until k → (IsIntervalSealed plan k held → ⊥) →
+      (j : ℕ) → IsIntervalSealed plan j held → ⊥
   none-sealed k inside at none j S =
-      none (subst (λ i. IsIntervalSealed plan i share)
-      (sym (begins-one plan.until share.gone j S.inside S.next) ∙ begins-one plan.until share.gone k inside at) S)
+      none (subst (λ i. IsIntervalSealed plan i held)
+      (sym (begins-one plan.until held.gone j S.inside S.next) ∙ begins-one plan.until held.gone k inside at) S)
 
   -- what leaves with a segment is later than what left before
-  pub gone-with : (until k to end : ℕ) (new : InShare NodeState) → share.gone ≡ cut until k → to ≡ end → end ≡ cut until (k + 1) →
-      new ≡ record share { gone = max share.gone to } → new ≡ record share { gone = end }
+  pub gone-with : (until k to end : ℕ) (new : HeldState NodeState) → held.gone ≡ cut until k → to ≡ end → end ≡ cut until (k + 1) →
+      new ≡ record held { gone = max held.gone to } → new ≡ record held { gone = end }
   gone-with until k to end new at same ends is =
-      subst (λ moment. new ≡ record share { gone = moment }) (let up = cut-rises until k in omega arith) is
+      subst (λ moment. new ≡ record held { gone = moment }) (let up = cut-rises until k in omega arith) is
 
 -- moments that a call was given, and what they are
 module _ (plan : Plan) (k until from to : ℕ) (ends : until ≡ plan.until) (first : from ≡ cut until k) (last : to ≡ cut until (k + 1)) where
@@ -88,21 +88,21 @@ module _ (plan : Plan) (k until from to : ℕ) (ends : until ≡ plan.until) (fi
   same-interval : HasInterval until k ≡ HasInterval plan.until k
   same-interval = ap (λ z. HasInterval z k) ends
 
-  module _ (share : InShare NodeState) (next : share.gone ≡ cut until k) where
-    pub next-at : share.gone ≡ cut plan.until k
+  module _ (held : HeldState NodeState) (next : held.gone ≡ cut until k) where
+    pub next-at : held.gone ≡ cut plan.until k
     next-at = next ∙ ap (λ z. cut z k) ends
 
     abbrev is_for_good : Type 0
-    is_for_good = (to ≤ share.share.seen) × (earlier (simulation_of plan).rules.order to share.part.done ≡ [])
+    is_for_good = (to ≤ held.mark.seen) × (earlier (simulation_of plan).rules.order to held.part.done ≡ [])
 
     -- there is a segment just where there is such an interval, if it is for good
-    pub some-at : is_for_good → (A : Type 0) → A ↔ HasInterval until k → A ↔ IsIntervalSealed plan k share
+    pub some-at : is_for_good → (A : Type 0) → A ↔ HasInterval until k → A ↔ IsIntervalSealed plan k held
     some-at good A is = (
       λ a. record {
         inside = subst (λ (T : Type 0). T) same-interval (is.0 a);
         next = next-at;
-        seen = subst (λ z. z ≤ share.share.seen) at-end good.0;
-        none_done = subst (λ z. earlier (simulation_of plan).rules.order z share.part.done ≡ []) at-end good.1;
+        seen = subst (λ z. z ≤ held.mark.seen) at-end good.0;
+        none_done = subst (λ z. earlier (simulation_of plan).rules.order z held.part.done ≡ []) at-end good.1;
       },
       λ s. is.1 (subst (λ (T : Type 0). T) (sym same-interval) s.inside),
     )

@@ -5,7 +5,7 @@ use Rattle.vlink.specs.declared.message.Message.{Message}
 use Rattle.virtual_time.specs.Law.{Entry, reach, IsFinished}
 use Rattle.netdesc.specs.Words.{Plan, process_count}
 use Rattle.nodes.specs.Words.{NodeState, simulation_of}
-use Rattle.exchange.specs.Views.{InShare}
+use Rattle.exchange.specs.Views.{HeldState}
 use Rattle.seqsim.specs.Committed.{after}
 
 -- a network of nothing
@@ -17,18 +17,18 @@ abbrev pub most_steps : ℕ
 most_steps = 67108864
 
 -- the process in hand at place p is number p, and is what it is in the world that the journal reaches
-abbrev pub IsOfWorld : Plan → List (Entry Message) → ℕ → InShare NodeState → Type 0
-IsOfWorld plan entries p share = (share.number ≡ p) × (share.part ≡ (reach (simulation_of plan) entries).parts p)
+abbrev pub IsOfWorld : Plan → List (Entry Message) → ℕ → HeldState NodeState → Type 0
+IsOfWorld plan entries p held = (held.number ≡ p) × (held.part ≡ (reach (simulation_of plan) entries).parts p)
 
 -- a run is ended: the world that its journal reaches is finished, and all its processes are in hand, in order
-pub record IsEnded (plan : Plan) (entries : List (Entry Message)) (shares : List (InShare NodeState)) : Type 0 where
+pub record IsEnded (plan : Plan) (entries : List (Entry Message)) (helds : List (HeldState NodeState)) : Type 0 where
   pub finished : IsFinished (simulation_of plan) (reach (simulation_of plan) entries)
-  pub count : length shares ≡ process_count plan
-  pub each : (p : ℕ) (share : InShare NodeState) → slice_get shares p ≡ Some share → IsOfWorld plan entries p share
+  pub count : length helds ≡ process_count plan
+  pub each : (p : ℕ) (held : HeldState NodeState) → slice_get helds p ≡ Some held → IsOfWorld plan entries p held
 
 -- the rows that have left the processes are of moments before this one
-abbrev pub HaveGoneBy : ℕ → List (InShare NodeState) → Type 0
-HaveGoneBy moment shares = (p : ℕ) (share : InShare NodeState) → slice_get shares p ≡ Some share → share.gone ≤ moment
+abbrev pub HaveGoneBy : ℕ → List (HeldState NodeState) → Type 0
+HaveGoneBy moment helds = (p : ℕ) (held : HeldState NodeState) → slice_get helds p ≡ Some held → held.gone ≤ moment
 
 -- after these steps the world of the network is finished
 abbrev pub IsJournalOf : Plan → List Step → Type 0

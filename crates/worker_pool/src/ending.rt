@@ -3,7 +3,7 @@ ghost use Rattle.std.specs.Prelude.{◌≡◌, ◌≢◌, ◌<◌, ℕ, true, []
 ghost use Rattle.netdesc.specs.Words.{process_count};
 ghost use Rattle.nodes.specs.Words.{NodeState};
 ghost use Rattle.journal.specs.declared.fault.PoolFault.TheVariants.{Spawn};
-ghost use Rattle.exchange.specs.Views.{InShare};
+ghost use Rattle.exchange.specs.Views.{HeldState};
 ghost use Rattle.worker_pool.specs.Runs.{IsOfWorld, IsEnded, HaveGoneBy};
 
 use crate::desk::TraceLock;
@@ -135,8 +135,8 @@ impl<'a, J: NetworkRun> Unlocked<'a, J> {
     /// Whether all processes of the network are there, each in its place and without a block.
     fn are_of_world(&self) -> bool
         ensures count { result ≡ true → length self.now.helds.items ≡ process_count J.plan }
-        ensures each { result ≡ true → (p : ℕ) (share : InShare NodeState) → slice_get self.now.helds.items p ≡ Some share →
-            IsOfWorld J.plan self.now.exchange.entries p share }
+        ensures each { result ≡ true → (p : ℕ) (held : HeldState NodeState) → slice_get self.now.helds.items p ≡ Some held →
+            IsOfWorld J.plan self.now.exchange.entries p held }
     {
         if self.helds.len() != usize::from(self.exchange.processes()) {
             return false;
@@ -152,8 +152,8 @@ impl<'a, J: NetworkRun> Unlocked<'a, J> {
 
     /// Whether no process has a done event that is not committed.
     fn all_committed(&self) -> bool
-        ensures { result ≡ true → (p : ℕ) (share : InShare NodeState) → slice_get self.now.helds.items p ≡ Some share →
-            share.part.done ≡ [] }
+        ensures { result ≡ true → (p : ℕ) (held : HeldState NodeState) → slice_get self.now.helds.items p ≡ Some held →
+            held.part.done ≡ [] }
     {
         for place in 0..self.helds.len() {
             let held = &self.helds[place];

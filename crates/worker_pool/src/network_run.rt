@@ -3,8 +3,8 @@ use exchange::ActorRun;
 use nodes::Node;
 use std::marker::{Brand, PhantomData};
 
-/// A run of a network, known by its type: which network it is of, which table its entries are written to, and which books and
-/// shares it has. It has no bytes, and who calls at `Brand` picks all three.
+/// A run of a network, known by its type: which network it is of, which table its entries are written to, and which marks
+/// it has. It has no bytes, and who calls at `Brand` picks all three.
 pub trait NetworkRun {
     ghost use Rattle.std.specs.Prelude.{ℕ, List};
     ghost use Rattle.netdesc.specs.Words.{Plan};
@@ -15,7 +15,7 @@ pub trait NetworkRun {
     /// The names of the pages of the table that the entries are written to.
     ghost pages: { List ℕ };
 
-    /// The names of the books and shares, one for each process.
+    /// The names of the marks, one for each process.
     ghost names: { List ℕ };
 }
 

@@ -4,7 +4,7 @@ ghost use Rattle.netdesc.specs.Words.{process_count};
 ghost use Rattle.nodes.specs.Words.{opening};
 ghost use Rattle.journal.specs.Names.{names};
 ghost use Rattle.journal.specs.declared.fault.PoolFault.TheVariants.{OutOfMemory};
-ghost use Rattle.exchange.specs.Views.{blank, opened_share};
+ghost use Rattle.exchange.specs.Views.{blank, opened_held};
 
 use crate::network_run::{NetworkRun, Of};
 use exchange::{Exchange, Held, Pairs};
@@ -17,7 +17,7 @@ use traffic::offers;
 
 /// The exchange of a network, with no entry in its journal, and each of its nodes and lines in hand, in order, in its opening state: the
 /// offers are in the mail, every floor is the moment after the end, and GVT is 0. The journal can have `limit` steps, and its entries are
-/// written to the table. Each process has the share of its book. It is refused for memory alone.
+/// written to the table. Each process has the other half of its mark. It is refused for memory alone.
 pub fn open_network<'a, J: NetworkRun>(
     alloc: Global,
     network: &Network,
@@ -31,9 +31,9 @@ pub fn open_network<'a, J: NetworkRun>(
     requires each { length J.names ≡ process_count network.now }
     requires some { 1 ≤ limit }
     requires most { limit ≤ 67108864 }
-    ensures exchange { IfOk result (λ r. r.0 ≡ record { entries = []; books = replicate (process_count network.now) blank; limit = limit }) }
+    ensures exchange { IfOk result (λ r. r.0 ≡ record { entries = []; marks = replicate (process_count network.now) blank; limit = limit }) }
     ensures count { IfOk result (λ r. length r.1.items ≡ process_count network.now) }
-    ensures opened { IfOk result (λ r. (p : ℕ) → p < process_count network.now → slice_get r.1.items p ≡ Some (opened_share (opening network.now) p)) }
+    ensures opened { IfOk result (λ r. (p : ℕ) → p < process_count network.now → slice_get r.1.items p ≡ Some (opened_held (opening network.now) p)) }
     ensures memory { IfErr result (λ fault. fault ≡ OutOfMemory) }
 {
     network_layout(network);

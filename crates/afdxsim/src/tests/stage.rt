@@ -124,10 +124,10 @@ impl<'a, J: NetworkRun> Stage<'a, J> {
         Ok(())
     }
 
-    // What a refused call leaves as it was: the count of steps, GVT, and the mail, the block and the share of its process.
+    // What a refused call leaves as it was: the count of steps, GVT, and the mail, the block and the mark of its process.
     fn seen(&self, word: Word<'_>) -> (u64, Time, u64, Option<(u64, Mark)>) {
         let held = match self.helds.get(word.first as usize) {
-            Some(held) => Some((held.pending(), held.share())),
+            Some(held) => Some((held.pending(), held.mark())),
             None => None,
         };
         let mail = self.letters(word);

@@ -73,7 +73,7 @@ pub(crate) fn work_to<'a, J: NetworkRun, G: Gate>(
     ensures no_spawn { IfErr result (λ fault. fault ≢ Spawn) }
     ensures exhausted { IfErr result (λ fault. fault ≡ Exhausted → LacksNumbers locked.new.part) }
 {
-    let seen_ns = locked.share().seen.ns();
+    let seen_ns = locked.mark().seen.ns();
     let ahead_ns = limit_ns.saturating_sub(seen_ns).min(pace.window_ns);
     let _moves = work(locked, u32::from(pace.turn), ahead_ns, gate)?;
     Ok(())

@@ -39,7 +39,7 @@ invariant_of-exchange g c =
     let left = rw (took g (goal.at.invariant_of-exchange g c).After-collect-taken) at taken.left in (
       omega arith,
       c.exchange.invariant.1,
-      kept-taken k h n within (omega arith) (new g (goal.at.invariant_of-exchange g c).In-Ok) c.write.new.journal.items c.in-Ok.ensures.journal c.len-place.result place _ c.tell_both.ensures.books
+      kept-taken k h n within (omega arith) (new g (goal.at.invariant_of-exchange g c).In-Ok) c.write.new.journal.items c.in-Ok.ensures.journal c.len-place.result place _ c.tell_both.ensures.marks
           c.collect-taken.new.mail taken.processes left taken.others c.lower_floor.new.floors floors.processes floors.until floors.floor floors.others,
       c.tell_both.ensures.names ∙ c.exchange.invariant.3,
     )
@@ -58,10 +58,10 @@ invariant_of-held-in-Ok g c =
     let does = rw done at taken.delivered in
     let none = rw (sym c.held.view_is) at c.requires.posted in
     let queues = rw done at taken.queues in (
-      holds-taken k h n within (omega arith) (new g (goal.at.invariant_of-held-in-Ok g c).In-Ok) c.write.new.journal.items c.in-Ok.ensures.journal c.len-place.result place _ c.tell_both.ensures.books
+      holds-taken k h n within (omega arith) (new g (goal.at.invariant_of-held-in-Ok g c).In-Ok) c.write.new.journal.items c.in-Ok.ensures.journal c.len-place.result place _ c.tell_both.ensures.marks
           none mine (invariant_of-exchange g c).2 (c.actor_laws.ensures g.J.ActorRun.setting k.laid) (omega arith) c.reserve_letters.new.self.queues c.collect-taken.new.self.queues c.reserve_letters.ensures.same does
           (ap (λ (z : Queues g.row.R.Denot g.row.R-Record.Denot). z.left) queues),
-      record { name = c.tell_both.ensures.name ∙ c.held.invariant.1.name; value = c.tell_both.ensures.share },
+      record { name = c.tell_both.ensures.name ∙ c.held.invariant.1.name; value = c.tell_both.ensures.mark },
     )
 
 pub returns-in-Ok-clause-ok : goal.returns-in-Ok-clause-ok
@@ -75,5 +75,5 @@ returns-in-Ok-clause-ok g c =
     let place = c.len-place.ensures ∙ c.exchange.inside.journal.ok.0 in
     let none = rw (sym c.held.view_is) at c.requires.posted in
     rw (sym c.held.view_is, sym c.exchange.view_is)
-    (collects-taken k h n within (omega arith) (new g (goal.at.returns-in-Ok-clause-ok g c).In-Ok) c.write.new.journal.items c.in-Ok.ensures.journal c.len-place.result place _ c.tell_both.ensures.books
+    (collects-taken k h n within (omega arith) (new g (goal.at.returns-in-Ok-clause-ok g c).In-Ok) c.write.new.journal.items c.in-Ok.ensures.journal c.len-place.result place _ c.tell_both.ensures.marks
     none mine c.args.most c.exchange.inside.limit (omega arith))

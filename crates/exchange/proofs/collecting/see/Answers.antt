@@ -3,14 +3,14 @@ use Rattle.virtual_time.specs.Law.{after_moves, after_own}
 use Rattle.reverse.specs.Rules.{rules_of}
 use Rattle.reverse.specs.Setting.{simulation_of}
 use Rattle.process_queues.specs.Queues.{StandsFor}
-use Rattle.book_share.specs.declared.Book.{Book}
+use Rattle.halves.specs.declared.LeftHalf.{LeftHalf}
 use Rattle.exchange.specs.declared.mark.Mark.{Mark}
 use Rattle.journal.specs.Names.{names}
-use Rattle.exchange.specs.Keeps.{AreBooked, entries_of, own_of}
-use Rattle.exchange.specs.Effects.{mark}
+use Rattle.exchange.specs.Keeps.{AreMarked, entries_of, own_of}
+use Rattle.exchange.specs.Effects.{mark_at}
 use Rattle.exchange.proofs.Gone.{gone-stays}
 use Rattle.exchange.proofs.Holding.{holds-at, holds-seen}
-use Rattle.exchange.proofs.Collected.{books-seen, kept-as}
+use Rattle.exchange.proofs.Collected.{marks-seen, kept-as}
 use Rattle.exchange.proofs.collecting.see.Goals as goal
 
 pub invariant_of-exchange : goal.invariant_of-exchange
@@ -19,14 +19,14 @@ invariant_of-exchange g c =
     let h = c.held.invariant.0 in
     let p = c.held.inside.number in
     let fits = rw (sym c.held.view_is, sym c.exchange.view_is) at c.join.ensures.same in
-    let share = rw (sym c.held.view_is) at c.share.ensures in
-    let m : Mark = record { place = c.share.result.place; seen = c.exchange.inside.gvt } in
-    let place = ap (λ (z : Mark). z.place) share ∙ ap (λ (z : Mark). z.place) fits in (
+    let mark = rw (sym c.held.view_is) at c.mark.ensures in
+    let m : Mark = record { place = c.mark.result.place; seen = c.exchange.inside.gvt } in
+    let place = ap (λ (z : Mark). z.place) mark ∙ ap (λ (z : Mark). z.place) fits in (
       c.exchange.invariant.0,
       c.exchange.invariant.1,
       kept-as k c.exchange.inside.mail refl (λ q. refl) _
-          (subst (λ (bs : List Mark). AreBooked g.J.ActorRun.setting.processes c.exchange.inside.journal.items c.exchange.inside.gvt bs) (sym c.tell_both.ensures.books)
-          (books-seen k.booked p (omega arith) m place (omega arith))),
+          (subst (λ (bs : List Mark). AreMarked g.J.ActorRun.setting.processes c.exchange.inside.journal.items c.exchange.inside.gvt bs) (sym c.tell_both.ensures.marks)
+          (marks-seen k.marked p (omega arith) m place (omega arith))),
       c.tell_both.ensures.names ∙ c.exchange.invariant.3,
     )
 
@@ -39,7 +39,7 @@ invariant_of-held g c =
     let p = c.held.inside.number in
     let none = rw (sym c.held.view_is) at c.requires.posted in
     let mine = rw (sym c.held.view_is, sym c.exchange.view_is) at c.join.ensures.own in
-    let share-place = ap (λ (z : Mark). z.place) (rw (sym c.held.view_is) at c.share.ensures) in
+    let mark-place = ap (λ (z : Mark). z.place) (rw (sym c.held.view_is) at c.mark.ensures) in
     let base = after_own (simulation_of r x) p (own_of c.held.inside.last) in (
       holds-at (holds-seen k (c.actor_laws.ensures x k.laid) g.R.Reversible.is_value p h.number_is c.held.inside.last h.last_is mine c.held.inside.process.queues
           (subst (λ b. StandsFor r g.R.Reversible.is_value (x.opening p) (after_moves r (x.opening p) b base) c.held.inside.process.queues) none h.stands)
@@ -47,16 +47,16 @@ invariant_of-held g c =
           (gone-stays r (x.opening p) (after_moves r (x.opening p) c.held.inside.block base) c.held.inside.process.queues h.stands c.held.inside.gone h.gone_early [] base
           (sym (ap (λ b. after_moves r (x.opening p) b base) none)) c.held.inside.process.queues refl)
           c.held.inside.block none) (names c.held.inside.table.now.pages.items) h.same,
-      record { name = c.tell_both.ensures.name ∙ c.held.invariant.1.name; value = c.tell_both.ensures.share ∙ (λ i. record { place = share-place i; seen = c.exchange.inside.gvt }) },
+      record { name = c.tell_both.ensures.name ∙ c.held.invariant.1.name; value = c.tell_both.ensures.mark ∙ (λ i. record { place = mark-place i; seen = c.exchange.inside.gvt }) },
     )
 
 pub returns-clause-exchange : goal.returns-clause-exchange
 returns-clause-exchange g c =
     let k = c.exchange.invariant.2 in
-    let books = c.exchange.inside.books.items in
-    let share-place = ap (λ (z : Mark). z.place) (rw (sym c.held.view_is) at c.share.ensures) in
+    let marks = c.exchange.inside.marks.items in
+    let mark-place = ap (λ (z : Mark). z.place) (rw (sym c.held.view_is) at c.mark.ensures) in
     rw (sym c.held.view_is, sym c.exchange.view_is) (λ i. record {
       entries = entries_of c.exchange.inside.journal.items;
-      books = (c.tell_both.ensures.books ∙ (λ j. set (map (λ (b : Book Mark). b.value) books) c.held.inside.number (mark (share-place j) (k.gvt_is j)))) i;
+      marks = (c.tell_both.ensures.marks ∙ (λ j. set (map (λ (b : LeftHalf Mark). b.value) marks) c.held.inside.number (mark_at (mark-place j) (k.gvt_is j)))) i;
       limit = c.exchange.inside.limit;
     })

@@ -2,8 +2,8 @@ use Rattle.std.proofs.Common.{◌≡◌, ◌<◌, drop, get_or, length, slice_in
 use Rattle.std.proofs.lemmas.Iterator.Adapters.{YieldsList-from_vec}
 use Rattle.std.proofs.lemmas.Iterator.Consumers.{YieldsList-turn, YieldsList-end}
 use Rattle.std.proofs.lemmas.List.{length_push}
-use Rattle.exchange.specs.Views.{opened_share}
-use Rattle.exchange.proofs.Books.{some-left, first-name, names-left, first-blank, blanks-left}
+use Rattle.exchange.specs.Views.{opened_held}
+use Rattle.exchange.proofs.Marks.{some-left, first-name, names-left, first-blank, blanks-left}
 use Rattle.exchange.proofs.Opened.{actor-opens, as-many, helds-more}
 use Rattle.exchange.proofs.opening.helds_of.Given.{Over}
 use Rattle.exchange.proofs.opening.helds_of.Goals.{In-Some}
@@ -28,20 +28,20 @@ open-requires-clause-actor g c =
 pub overflow_cast-number : goal.overflow_cast-number
 overflow_cast-number g c = omega (arith, (actor-at g (goal.at.overflow_cast-number g c).In-Some).0, c.requires.count, c.requires.few, c.loop-actor.invariant.count)
 
-pub remove-share-requires : goal.remove-share-requires
-remove-share-requires g c =
-    omega (arith, some-left g.J.ActorRun.names c.loop-actor.shares.items (length c.loop-actor.yielded) c.loop-actor.invariant.names (within g (goal.at.remove-share-requires g c).In-Some), c.loop-actor.shares.ok.0)
+pub remove-mark-requires : goal.remove-mark-requires
+remove-mark-requires g c =
+    omega (arith, some-left g.J.ActorRun.names c.loop-actor.marks.items (length c.loop-actor.yielded) c.loop-actor.invariant.names (within g (goal.at.remove-mark-requires g c).In-Some), c.loop-actor.marks.ok.0)
 
 pub open-requires-clause-name : goal.open-requires-clause-name
 open-requires-clause-name g c =
     let number : length c.loop-actor.yielded ≡ c.len-number.result = omega arith in
-    first-name g.J.ActorRun.names c.loop-actor.shares.items (length c.loop-actor.yielded) c.loop-actor.invariant.names (within g (goal.at.open-requires-clause-name g c).In-Some) c.remove-share.result c.remove-share.ensures.value
+    first-name g.J.ActorRun.names c.loop-actor.marks.items (length c.loop-actor.yielded) c.loop-actor.invariant.names (within g (goal.at.open-requires-clause-name g c).In-Some) c.remove-mark.result c.remove-mark.ensures.value
     ∙ ap (slice_index g.J.ActorRun.names) number
 
 pub open-requires-clause-blank : goal.open-requires-clause-blank
 open-requires-clause-blank g c =
-    first-blank g.J.ActorRun.names c.loop-actor.shares.items (length c.loop-actor.yielded) c.loop-actor.invariant.names (within g (goal.at.open-requires-clause-blank g c).In-Some)
-    c.loop-actor.invariant.blanks c.remove-share.result c.remove-share.ensures.value
+    first-blank g.J.ActorRun.names c.loop-actor.marks.items (length c.loop-actor.yielded) c.loop-actor.invariant.names (within g (goal.at.open-requires-clause-blank g c).In-Some)
+    c.loop-actor.invariant.blanks c.remove-mark.result c.remove-mark.ensures.value
 
 pub loop-actor-preserved : goal.loop-actor-preserved
 loop-actor-preserved g c =
@@ -54,12 +54,12 @@ loop-actor-preserved g c =
       ends = tt;
       count = as-many c.loop-actor.helds.items c.push_reserved.new.self.items c.in_ok-held.held c.loop-actor.yielded c.in-Some.actor pushed c.loop-actor.invariant.count;
       room = let at = (actor-at g (goal.at.loop-actor-preserved g c).In-Some).0 in omega arith;
-      names = names-left g.J.ActorRun.names c.loop-actor.shares.items (length c.loop-actor.yielded) c.loop-actor.invariant.names (within g (goal.at.loop-actor-preserved g c).In-Some)
-          c.remove-share.new.self.items c.remove-share.ensures.items ∙ ap (λ n. drop n g.J.ActorRun.names) (sym longer);
-      blanks = blanks-left c.loop-actor.shares.items c.loop-actor.invariant.blanks c.remove-share.new.self.items c.remove-share.ensures.items;
+      names = names-left g.J.ActorRun.names c.loop-actor.marks.items (length c.loop-actor.yielded) c.loop-actor.invariant.names (within g (goal.at.loop-actor-preserved g c).In-Some)
+          c.remove-mark.new.self.items c.remove-mark.ensures.items ∙ ap (λ n. drop n g.J.ActorRun.names) (sym longer);
+      blanks = blanks-left c.loop-actor.marks.items c.loop-actor.invariant.blanks c.remove-mark.new.self.items c.remove-mark.ensures.items;
       each = λ p i.
           helds-more x.opening c.loop-actor.helds.items c.push_reserved.new.self.items (length c.loop-actor.yielded) c.in_ok-held.held c.loop-actor.invariant.count c.loop-actor.invariant.each
-          (c.in_ok-held.ensures.opened ∙ ap (opened_share x.opening) number) pushed p (omega arith);
+          (c.in_ok-held.ensures.opened ∙ ap (opened_held x.opening) number) pushed p (omega arith);
     }
 
 pub returns-clause-count : goal.returns-clause-count

@@ -7,10 +7,10 @@ use Rattle.journal.specs.Deeds.{seen_entry}
 use Rattle.journal.specs.Places.{IsAt}
 use Rattle.journal.specs.declared.tokens.Tokens.{Tokens}
 use Rattle.process_queues.specs.Queues.{Queues}
-use Rattle.book_share.specs.declared.Book.{Book}
+use Rattle.halves.specs.declared.LeftHalf.{LeftHalf}
 use Rattle.exchange.specs.declared.mark.Mark.{Mark}
 use Rattle.exchange.specs.Keeps.{place_in, own_of, entries_of}
-use Rattle.exchange.specs.Effects.{told, mark}
+use Rattle.exchange.specs.Effects.{told, mark_at}
 use Rattle.exchange.proofs.Growth.{Fresh, entry-fresh, entries-are}
 use Rattle.exchange.proofs.Holding.{holds-posted}
 use Rattle.exchange.proofs.Outcomes.{when-ok, when-no-err}
@@ -67,7 +67,7 @@ invariant_of-held g c =
           (did (x.opening p) _ h.stands)
           (ap (λ (z : Queues g.row.R.Denot g.row.R-Record.Denot). z.left) queues)
           c.replace.new.dest (c.replace.ensures.after ∙ c.new.ensures),
-      record { name = c.tell_both.ensures.name ∙ c.held.invariant.1.name; value = c.tell_both.ensures.share },
+      record { name = c.tell_both.ensures.name ∙ c.held.invariant.1.name; value = c.tell_both.ensures.mark },
     )
 
 pub invariant_of-exchange-in-Ok : goal.invariant_of-exchange-in-Ok
@@ -92,7 +92,7 @@ invariant_of-exchange-in-Ok g c =
     let posted = when-ok c.post-posted.result is-ok c.post-posted.ensures.posted in
     let part = after_moves r (x.opening p) block (after_own (simulation_of r x) p (own_of c.held.inside.last)) in
     let stands = did (x.opening p) part h.stands in
-    let books = c.exchange.inside.books.items in
+    let marks = c.exchange.inside.marks.items in
     let end = end-told r g.R.Reversible.is_value (x.opening p) (emptied part) c.post-posted.new.self.queues stands L.order g.R.Actor.end (λ s m. g.met.R.Actor.end_stays s m) x.until (k.laid.end_is p h.number_is) in (
       omega arith,
       c.exchange.invariant.1,
@@ -102,8 +102,8 @@ invariant_of-exchange-in-Ok g c =
           c.set.new.self c.set.ensures.processes c.set.ensures.until
           c.floor.result (c.floor.ensures (x.opening p) (emptied part) stands ∙ ap (λ n. floor_of r.order n (emptied part)) end) c.set.ensures.here c.set.ensures.others
           c.write.new.journal.items c.in-Ok.ensures.journal _ (omega arith)
-          c.held.inside.seen (seen-low k p h.number_is (mark (place_in c.held.inside.last) c.held.inside.seen) fits)
-          _ (c.tell_both.ensures.books ∙ (λ j. set (map (λ (b : Book Mark). b.value) books) p (mark (Some (place j)) c.held.inside.seen))),
+          c.held.inside.seen (seen-low k p h.number_is (mark_at (place_in c.held.inside.last) c.held.inside.seen) fits)
+          _ (c.tell_both.ensures.marks ∙ (λ j. set (map (λ (b : LeftHalf Mark). b.value) marks) p (mark_at (Some (place j)) c.held.inside.seen))),
       c.tell_both.ensures.names ∙ c.exchange.invariant.3,
     )
 
@@ -129,12 +129,12 @@ returns-in-Ok-clause-ok g c =
     let own = entry.own_is ∙ ap (λ z. z ++ acts_of (Posted block)) (sym mine) in
     let none = c.replace.ensures.after ∙ c.new.ensures in
     let at : c.len-place.result ≡ length (entries_of ts) = c.len-place.ensures ∙ (c.exchange.inside.journal.ok.0 ∙ sym (length-map ts (λ (t : Tokens). seen_entry t.cell.value))) in
-    let books = c.exchange.inside.books.items in
+    let marks = c.exchange.inside.marks.items in
     let some : 0 < length block = omega arith in
     rw (sym c.held.view_is, sym c.exchange.view_is) (posts-some f _ _ _ _ block some
     (λ i. record {
       entries = (ap entries_of c.in-Ok.ensures.journal ∙ entries-are entry) i;
-      books = (c.tell_both.ensures.books ∙ (λ j. set (map (λ (b : Book Mark). b.value) books) p (mark (Some (at j)) seen))) i;
+      marks = (c.tell_both.ensures.marks ∙ (λ j. set (map (λ (b : LeftHalf Mark). b.value) marks) p (mark_at (Some (at j)) seen))) i;
       limit = c.exchange.inside.limit;
     })
     (λ i. record {
@@ -142,6 +142,6 @@ returns-in-Ok-clause-ok g c =
       part = part-posted f p (own_of c.held.inside.last) _ block c.replace.new.dest own none i;
       block = none i;
       own = own i;
-      share = mark (Some (at i)) seen;
+      mark = mark_at (Some (at i)) seen;
       gone = c.held.inside.gone;
     }))

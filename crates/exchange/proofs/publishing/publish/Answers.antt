@@ -2,7 +2,7 @@ use Rattle.std.proofs.Common.{◌==◌, map, refl, sym, ap, ◌∙◌, arith}
 use Rattle.std.proofs.lemmas.Bool.{eq-eqb, eqb-true, false≢true}
 use Rattle.reverse.specs.Rules.{rules_of}
 use Rattle.reverse.specs.Setting.{simulation_of}
-use Rattle.book_share.specs.declared.Book.{Book}
+use Rattle.halves.specs.declared.LeftHalf.{LeftHalf}
 use Rattle.exchange.specs.declared.mark.Mark.{Mark}
 use Rattle.exchange.specs.Keeps.{entries_of}
 use Rattle.exchange.proofs.Growth.{entry-fresh, entries-are}
@@ -35,7 +35,7 @@ returns-in-Ok-clause-ok g c =
     let wrote = c.in-Ok.ensures in
     let gvt = c.horizon-gvt.ensures ∙ gvt-told k c.gvt_law.ensures (λ m. refl) in
     let longer = ap entries_of wrote.journal ∙ entries-are (entry-fresh k.same wrote.at wrote.value refl refl refl refl tt) in
-    rw (sym c.exchange.view_is) (gvt, publishes-more f _ _ _ (ap (λ z. c.horizon-gvt.result == z) (sym k.gvt_is) ∙ (sym c.eq.ensures ∙ c.if-eq.false)) (λ i. record { entries = longer i; books = map (λ (b : Book Mark). b.value) c.exchange.inside.books.items; limit = c.exchange.inside.limit }))
+    rw (sym c.exchange.view_is) (gvt, publishes-more f _ _ _ (ap (λ z. c.horizon-gvt.result == z) (sym k.gvt_is) ∙ (sym c.eq.ensures ∙ c.if-eq.false)) (λ i. record { entries = longer i; marks = map (λ (b : LeftHalf Mark). b.value) c.exchange.inside.marks.items; limit = c.exchange.inside.limit }))
 
 pub returns-then-eq-clause-limited : goal.returns-then-eq-clause-limited
 returns-then-eq-clause-limited g c =

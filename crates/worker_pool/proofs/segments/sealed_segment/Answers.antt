@@ -24,21 +24,21 @@ returns-clause-ends g c =
 pub returns-clause-segment : goal.returns-clause-segment
 returns-clause-segment g c =
     let plan = g.J.NetworkRun.plan in
-    let share = c.args.held.now in
+    let held = c.args.held.now in
     let good = c.is_sealed_before.ensures.0 c.if-not-is_sealed_before.false in
     ok-weaker (λ (segment : Option SegmentRows). IfSome segment (λ p. p ≡ segment_of 0 c.number.result c.args.k c.args.until c.rows_between-rows.result.now))
-    (λ segment. IfSome segment (IsSegmentOfRun plan share.number c.args.k))
+    (λ segment. IfSome segment (IsSegmentOfRun plan held.number c.args.k))
     (λ segment h. IfSome_then segment h (segment-at plan c.args.k c.args.until c.cut-from.result c.cut-to.result c.requires.until
-    c.cut-from.ensures c.cut-to.ensures share.number c.number.result c.number.ensures.number c.rows_between-rows.result.now
+    c.cut-from.ensures c.cut-to.ensures held.number c.number.result c.number.ensures.number c.rows_between-rows.result.now
     (c.rows_between-rows.ensures.whole good.0 good.1)))
     c.cut.result c.cut.ensures.segment
 
 pub returns-clause-some : goal.returns-clause-some
 returns-clause-some g c =
     let plan = g.J.NetworkRun.plan in
-    let share = c.args.held.now in
+    let held = c.args.held.now in
     let good = c.is_sealed_before.ensures.0 c.if-not-is_sealed_before.false in
-    ok-weaker (λ (segment : Option SegmentRows). IsSome segment ↔ HasInterval c.args.until c.args.k) (λ segment. IsSome segment ↔ IsIntervalSealed plan c.args.k share)
+    ok-weaker (λ (segment : Option SegmentRows). IsSome segment ↔ HasInterval c.args.until c.args.k) (λ segment. IsSome segment ↔ IsIntervalSealed plan c.args.k held)
     (λ segment. some-at plan c.args.k c.args.until c.cut-from.result c.cut-to.result c.requires.until
-    c.cut-from.ensures c.cut-to.ensures share c.requires.there good (IsSome segment))
+    c.cut-from.ensures c.cut-to.ensures held c.requires.there good (IsSome segment))
     c.cut.result c.cut.ensures.some

@@ -6,7 +6,7 @@ use Rattle.virtual_time.specs.declared.moved.Move.TheVariants.{Committed}
 use Rattle.vlink.specs.Order.{message_order}
 use Rattle.reverse.specs.Rules.{rules_of}
 use Rattle.reverse.specs.Setting.{simulation_of}
-use Rattle.exchange.specs.Views.{InShare}
+use Rattle.exchange.specs.Views.{HeldState}
 use Rattle.exchange.proofs.Holding.{holds-moved}
 use Rattle.exchange.proofs.Moves.{in_hand, moved-view, commit-takes, early-commits}
 use Rattle.exchange.proofs.Oldest.{oldest-tells}
@@ -25,7 +25,7 @@ can-commit g c =
     c.oldest.result (c.oldest.ensures _ _ h.stands) c.if-not-is_early.ensures
 
 -- and some done event is earlier than the GVT seen
-some-early : (g : Over) (c : After-push g) → earlier message_order c.args.self.now.share.seen c.args.self.now.part.done ≢ []
+some-early : (g : Over) (c : After-push g) → earlier message_order c.args.self.now.mark.seen c.args.self.now.part.done ≢ []
 some-early g c =
     let h = c.self.invariant.0 in
     rw (sym c.self.view_is)
@@ -49,7 +49,7 @@ pub returns-in-Ok-true-clause-fewer : goal.returns-in-Ok-true-clause-fewer
 returns-in-Ok-true-clause-fewer g c = λ yes.
     let f = simulation_of (rules_of g.R.Reversible.plain) g.J.ActorRun.setting in
     commit-takes f c.args.self.now _ c.self.inside.seen
-    (subst (λ (z : InShare g.row.R.Denot). can_move f c.self.inside.seen Committed z.part ≡ true) c.self.view_is (can-commit g (goal.at.returns-in-Ok-true-clause-fewer g c).After-push))
+    (subst (λ (z : HeldState g.row.R.Denot). can_move f c.self.inside.seen Committed z.part ≡ true) c.self.view_is (can-commit g (goal.at.returns-in-Ok-true-clause-fewer g c).After-push))
     (returns-in-Ok-true-clause-committed g c yes)
 
 pub returns-in-Ok-false-clause-none : goal.returns-in-Ok-false-clause-none

@@ -8,5 +8,5 @@ use Rattle.exchange.proofs.held.Held.run_early.Given as goal
 abbrev pub invariant-loop-run : goal.invariant-loop-run
 invariant-loop-run g l = record {
   did : l.self ≡ moved_by (simulation_of (rules_of g.R.Reversible.plain) g.J.ActorRun.setting) (replicate l.run Ran) l.fn.self;
-  early : RanEarly (simulation_of (rules_of g.R.Reversible.plain) g.J.ActorRun.setting) (l.fn.self.share.seen + l.window) l.run l.fn.self.part;
+  early : RanEarly (simulation_of (rules_of g.R.Reversible.plain) g.J.ActorRun.setting) (l.fn.self.mark.seen + l.window) l.run l.fn.self.part;
 }

@@ -21,7 +21,7 @@ use types.Owned.{basic, own_new, own_sum, own_join, own_step}
 use denote.RattleType.{RattleType}
 use denote.Sharing.{one}
 use denote.Struct.Lending.{Lends}
-use Rattle.book_share.specs.Ownership.{told, fraction}
+use Rattle.halves.specs.Ownership.{told, fraction}
 
 module _ {M : Type 1} {𝓤 : Ura M} (𝓛 : Logic 𝓤) (R : RattleType) where
   open 𝓛 use {H, A}
