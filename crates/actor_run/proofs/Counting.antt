@@ -1,6 +1,5 @@
 -- How often messages are in a list, whatever its order.
-use Rattle.std.proofs.Common.{◌≡◌, ◌+◌, ◌∙◌, List, [], ◌∷◌, All, false, IsPermutation, refl, sym, ap, arith}
-use Rattle.std.specs.List.{sum_by}
+use Rattle.std.proofs.Common.{◌≡◌, ◌+◌, ◌∙◌, List, [], ◌∷◌, All, false, IsPermutation, refl, sym, ap, arith, sum_by}
 use Rattle.std.proofs.lemmas.List.Sorted.{sum_by-IsPermutation}
 use Rattle.std.proofs.lemmas.List.Sums.{sum_by-cons}
 use Rattle.virtual_time.specs.Law.{Order, IsOrder, one_if, same, times_in}

@@ -1,6 +1,5 @@
 -- Clauses on results and errors.
-use Rattle.std.proofs.Common.{◌≡◌, Result, Ok, Err, IfOk, OnOk, OnErr}
-use Rattle.std.specs.Result.{IsErrAnd}
+use Rattle.std.proofs.Common.{◌≡◌, Result, Ok, Err, IfOk, OnOk, OnErr, IsErrAnd}
 
 -- what holds in any case holds after an error
 pub after-error : {T E P : Type 0} → P → (r : Result T E) → OnErr r P

@@ -1,9 +1,5 @@
 -- The steps at which a process and the world exchange letters, Take and Post; and Gvt.
-use Rattle.std.proofs.Common.{◌≡◌, ℕ, ◌<◌, ◌≤◌, inl, inr, ◌++◌, min, true, false, All, List, [], ◌∷◌, length, slice_get, remove, Some, None, Result, Ok, Err, refl, sym, ap, ◌∙◌, subst, arith}
-use Rattle.std.specs.Option.{option_map}
-use Rattle.std.proofs.Math.ListN.{set}
-use Rattle.std.proofs.lemmas.Bool.{lt-ltb, le-ltb}
-use Rattle.std.proofs.lemmas.List.{length-set}
+use Rattle.std.proofs.Common.{◌≡◌, ℕ, ◌<◌, ◌≤◌, inl, inr, ◌++◌, min, true, false, All, List, [], ◌∷◌, length, slice_get, remove, Some, None, Result, Ok, Err, refl, sym, ap, ◌∙◌, subst, arith, option_map, set, lt-ltb, le-ltb, length-set}
 use Rattle.std.proofs.lemmas.List.Elements.{All-nil, All-cons}
 use Rattle.std.proofs.lemmas.Option.{slice_get_cases, slice_get_within}
 use Rattle.vlink.specs.declared.message.Message.{Message}

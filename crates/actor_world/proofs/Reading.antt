@@ -1,7 +1,5 @@
 -- What is read of the processes: whether all is committed.
-use Rattle.std.proofs.Common.{◌≡◌, ℕ, ◌<◌, inl, inr, true, false, List, [], ◌∷◌, map, length, get_or, slice_get, refl, sym, ap, subst, arith}
-use Rattle.std.specs.Prelude.{is_some, Some}
-use Rattle.std.specs.Option.{option_map}
+use Rattle.std.proofs.Common.{◌≡◌, ℕ, ◌<◌, inl, inr, true, false, List, [], ◌∷◌, map, length, get_or, slice_get, refl, sym, ap, subst, arith, is_some, Some, option_map}
 use Rattle.std.proofs.Math.ListN.{get_or-map}
 use Rattle.std.proofs.lemmas.List.{length-map}
 use Rattle.std.proofs.lemmas.Option.{slice_get-get_or, slice_get_cases}

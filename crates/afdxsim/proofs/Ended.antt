@@ -1,6 +1,5 @@
 -- An order that was done, or whose fault was told, has ended.
-use Rattle.std.proofs.Common.{◌≡◌, ◌∙◌, ◌⊎◌, ℕ, inl, inr, List, [], Option, Result, Ok, Err, sym, ap, subst}
-use Rattle.std.specs.Prelude.{◌≢◌, OnOk, OnErr, IfOk, IfErr, IsErrAnd}
+use Rattle.std.proofs.Common.{◌≡◌, ◌∙◌, ◌⊎◌, ℕ, inl, inr, List, [], Option, Result, Ok, Err, sym, ap, subst, ◌≢◌, OnOk, OnErr, IfOk, IfErr, IsErrAnd}
 use Rattle.clap.specs.Words.{IsAmong, Text}
 use Rattle.clap.specs.declared.error.kind.ErrorKind.{ErrorKind}
 use Rattle.clap.specs.declared.error.kind.ErrorKind.TheVariants as kind

@@ -1,7 +1,6 @@
 -- What error output heard of a run, as its host tells it.
-use Rattle.std.proofs.Common.{◌≡◌, ◌∙◌, ◌≤◌, ℕ, Bool, true, false, List, Option, refl, sym, ap, subst, arith}
+use Rattle.std.proofs.Common.{◌≡◌, ◌∙◌, ◌≤◌, ℕ, Bool, true, false, List, Option, refl, sym, ap, subst, arith, flat_map}
 use Rattle.std.specs.Io.KnownBytes.{append_known}
-use Rattle.std.specs.List.{flat_map}
 use Rattle.netdesc.specs.Words.{Plan}
 use Rattle.afdxsim.specs.Orders.{IsHeard, heard_host}
 use Rattle.afdxsim.specs.Outside.{IsHost, Outside}

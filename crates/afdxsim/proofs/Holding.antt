@@ -1,10 +1,8 @@
 -- A text that goes out in pieces: what has gone out, and what is still held.
-use Rattle.std.proofs.Common.{◌≡◌, ◌∙◌, ℕ, ◌+◌, ◌<◌, List, [], ◌∷◌, ◌++◌, length, take, drop, get_or, Option, Some, None, Result, Ok, Err, refl, sym, ap, subst, append_assoc, length-append, arith}
-use Rattle.std.specs.Prelude.{IfErr}
+use Rattle.std.proofs.Common.{◌≡◌, ◌∙◌, ℕ, ◌+◌, ◌<◌, List, [], ◌∷◌, ◌++◌, length, take, drop, get_or, Option, Some, None, Result, Ok, Err, refl, sym, ap, subst, append_assoc, length-append, arith, IfErr, flat_map, append-nil, take-append-drop}
 use Rattle.std.specs.Io.KnownBytes.{append_known}
-use Rattle.std.specs.List.{flat_map}
 use Rattle.std.proofs.Math.Seq.{take-append-add}
-use Rattle.std.proofs.lemmas.List.{append-nil, take-append-drop, take-append-le, take_more}
+use Rattle.std.proofs.lemmas.List.{take-append-le, take_more}
 use Rattle.std.proofs.lemmas.Grind.{flat_map-append}
 use Rattle.trace_segments.specs.Words.{IsBeginning}
 

@@ -1,6 +1,5 @@
 -- What is left behind: a file that took a text and was given back, and the journal of a run.
-use Rattle.std.proofs.Common.{◌≡◌, ◌∙◌, ℕ, List, [], ◌++◌, Option, Some, None, sym, ap, subst}
-use Rattle.std.specs.Prelude.{IfSome, is_some, option_map}
+use Rattle.std.proofs.Common.{◌≡◌, ◌∙◌, ℕ, List, [], ◌++◌, Option, Some, None, sym, ap, subst, IfSome, is_some, option_map}
 use Rattle.std.specs.Io.KnownBytes.{append_known}
 use Rattle.virtual_time.specs.declared.step.Step.{Step}
 use Rattle.netdesc.specs.Words.{Plan}

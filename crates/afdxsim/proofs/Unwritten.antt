@@ -1,6 +1,5 @@
 -- Why a file is not whole, told of the one that was made.
-use Rattle.std.proofs.Common.{◌≡◌, ◌∙◌, ◌⊎◌, inl, inr, ℕ, ◌+◌, Bool, true, false, List, [], take, Option, Some, None, Result, Err, refl, sym, ap, subst, option_map}
-use Rattle.std.specs.Prelude.{IfErr, IfSome, is_some}
+use Rattle.std.proofs.Common.{◌≡◌, ◌∙◌, ◌⊎◌, inl, inr, ℕ, ◌+◌, Bool, true, false, List, [], take, Option, Some, None, Result, Err, refl, sym, ap, subst, option_map, IfErr, IfSome, is_some, Bor}
 use Rattle.vlink.specs.Letters.{Row}
 use Rattle.virtual_time.specs.declared.step.Step.{Step}
 use Rattle.netdesc.specs.Words.{Plan}
@@ -11,7 +10,6 @@ use Rattle.trace_segments.specs.declared.trace_fault.TraceFault.TheVariants.{Seg
 use Rattle.trace_segments.specs.declared.fault.OutFault.TheVariants as out
 use Rattle.trace_segments.specs.declared.segment_fault.SegmentFault.TheVariants as segment
 use Rattle.journal.specs.declared.fault.PoolFault.TheVariants as pool
-use Rattle.std.specs.Borrow.{Bor}
 use Rattle.std.specs.Io.KnownBytes.{append_known}
 use Rattle.journal_text.specs.Text.{steps_text}
 use Rattle.afdxsim.specs.declared.fault.Fault.{Fault}

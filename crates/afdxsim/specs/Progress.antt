@@ -1,6 +1,5 @@
 -- What error output is told of how far a run is.
-use Rattle.std.specs.Prelude.{◌≡◌, ◌⊎◌, ◌≤◌, ◌/◌, ◌++◌, ◌∷◌, ℕ, Bool, true, false, List, [], Option, ⊤, codes, decimal}
-use Rattle.std.specs.List.{flat_map}
+use Rattle.std.specs.Prelude.{◌≡◌, ◌⊎◌, ◌≤◌, ◌/◌, ◌++◌, ◌∷◌, ℕ, Bool, true, false, List, [], Option, ⊤, codes, decimal, flat_map}
 use Rattle.afdxsim.specs.Ending.{Took}
 
 -- on a terminal a line goes into the place of the one before it: the cursor goes up, and that line is wiped

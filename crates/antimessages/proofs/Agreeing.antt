@@ -1,8 +1,7 @@
 -- Lists of letters with the same signed counts agree in all that matters of a tally. For code above, whose part of the law has a list of
 -- letters of its own.
-use Rattle.std.proofs.Common.{◌≡◌, ℕ, ◌+◌, ◌≤◌, inl, inr, Bool, true, false, not, ◌&&◌, cond, nat_lt, List, ◌∷◌, pos, ◌+ℤ◌, ◌-ℤ◌, refl, sym, ap, ◌∙◌, subst, arith}
-use Rattle.std.specs.Prelude.{◌≢◌}
-use Rattle.std.proofs.lemmas.Bool.{cases_lt, lt-ltb, ltb-true, false_from_ne_true, both_ways}
+use Rattle.std.proofs.Common.{◌≡◌, ℕ, ◌+◌, ◌≤◌, inl, inr, Bool, true, false, not, ◌&&◌, cond, nat_lt, List, ◌∷◌, pos, ◌+ℤ◌, ◌-ℤ◌, refl, sym, ap, ◌∙◌, subst, arith, ◌≢◌, lt-ltb, ltb-true}
+use Rattle.std.proofs.lemmas.Bool.{cases_lt, false_from_ne_true, both_ways}
 use Rattle.std.proofs.lemmas.Int.{ints}
 use Rattle.vlink.specs.declared.message.Message.{Message}
 use Rattle.virtual_time.specs.declared.letter.Letter.{Letter}

@@ -1,8 +1,6 @@
 -- What a letter makes of its message, by the message's signed count before it.
-use Rattle.std.proofs.Common.{◌≡◌, sym, subst, ℕ, zero, suc, ◌+◌, ◌≤◌, true, false, nat_lt, List, Option, Some, None, pos, ◌-ℤ◌, refl, arith}
-use Rattle.std.specs.Prelude.{◌≢◌}
-use Rattle.std.specs.Option.{MatchOption}
-use Rattle.std.proofs.lemmas.Bool.{ltb-true, false_from_ne_true}
+use Rattle.std.proofs.Common.{◌≡◌, sym, subst, ℕ, zero, suc, ◌+◌, ◌≤◌, true, false, nat_lt, List, Option, Some, None, pos, ◌-ℤ◌, refl, arith, ◌≢◌, MatchOption, ltb-true}
+use Rattle.std.proofs.lemmas.Bool.{false_from_ne_true}
 use Rattle.std.proofs.lemmas.Bool.Decides.{nat_tests}
 use Rattle.std.proofs.lemmas.Int.{ints}
 use Rattle.vlink.specs.declared.message.Message.{Message}

@@ -1,13 +1,10 @@
 -- The last place of a message tells its count.
-use Rattle.std.proofs.Common.{◌≡◌, ℕ, ◌+◌, ◌<◌, ◌≤◌, true, false, List, [], ◌∷◌, length, Option, Some, None, pos, ◌-ℤ◌, refl, sym, ◌∙◌, arith}
-use Rattle.std.specs.Option.{IsSome}
-use Rattle.std.specs.Ordering.{nat_cmp, ordering_then, is_lt, is_gt}
-use Rattle.std.specs.declared.cmp.Ordering.{Ordering}
-use Rattle.std.specs.declared.cmp.Ordering.TheVariants.{Less, Equal, Greater}
+use Rattle.std.proofs.Common.{◌≡◌, ℕ, ◌+◌, ◌<◌, ◌≤◌, true, false, List, [], ◌∷◌, length, Option, Some, None, pos, ◌-ℤ◌, refl, sym, ◌∙◌, arith, IsSome, nat_cmp, is_lt, is_gt, Ordering, Less, Equal, Greater, lt-ltb}
+use Rattle.std.specs.Ordering.{ordering_then}
 use Rattle.std.specs.Cmp.{IsTotalOrder, tied_itself}
 use Rattle.std.specs.Map.{lookup}
 use Rattle.std.specs.BTreeMap.{is_at}
-use Rattle.std.proofs.lemmas.Bool.{both_ways, lt-ltb}
+use Rattle.std.proofs.lemmas.Bool.{both_ways}
 use Rattle.std.proofs.lemmas.Bool.Decides.{nat_tests}
 use Rattle.std.proofs.lemmas.Int.{ints}
 use Rattle.vlink.specs.declared.message.Message.{Message}

@@ -1,10 +1,8 @@
 -- The letters of a tally, told by their counts.
-use Rattle.std.proofs.Common.{◌≡◌, ℕ, ◌-◌, pos, ◌-ℤ◌, refl, sym, ◌∙◌, arith}
-use Rattle.std.specs.Ordering.{nat_cmp, ordering_then}
-use Rattle.std.specs.declared.cmp.Ordering.{Ordering}
-use Rattle.std.specs.declared.cmp.Ordering.TheVariants.{Less, Equal, Greater}
+use Rattle.std.proofs.Common.{◌≡◌, ℕ, ◌-◌, pos, ◌-ℤ◌, refl, sym, ◌∙◌, arith, nat_cmp, Ordering, Less, Equal, Greater, BTreeMap}
+use Rattle.std.specs.Ordering.{ordering_then}
 use Rattle.std.specs.Cmp.{IsTotalOrder}
-use Rattle.std.specs.BTreeMap.{BTreeMap, IsOrdered}
+use Rattle.std.specs.BTreeMap.{IsOrdered}
 use Rattle.std.proofs.lemmas.Int.{ints}
 use Rattle.std.proofs.lemmas.Map.Lookups.{exact_unsigned, btree_map_from_get}
 use Rattle.vlink.specs.declared.message.Message.{Message}

@@ -1,8 +1,6 @@
 -- The mail: for each process, by its number, a store of the letters that were posted to it and not taken, the oldest first.
-use Rattle.std.specs.Prelude.{ℕ, ◌≤◌, ◌-◌, List, [], length, Option, Some, None, slice_get}
-use Rattle.std.specs.VecDeque.{deque_len, deque_capacity}
 use Rattle.std.specs.declared.collections.VecDeque.{VecDeque}
-use Rattle.std.proofs.Common.{Global}
+use Rattle.std.proofs.Common.{Global, ℕ, ◌≤◌, ◌-◌, List, [], length, Option, Some, None, slice_get, deque_len, deque_capacity}
 use Rattle.virtual_time.specs.Law.{received_by}
 use Rattle.antimessages.specs.Letters.{Store}
 use Rattle.vlink.specs.Order.{message_order}

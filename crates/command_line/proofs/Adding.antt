@@ -1,6 +1,5 @@
 -- A command that gets one more argument or one more command.
-use Rattle.std.proofs.Common.{◌≡◌, ◌∙◌, false, ap, ap₂}
-use Rattle.std.specs.Prelude.{◌||◌}
+use Rattle.std.proofs.Common.{◌≡◌, ◌∙◌, false, ap, ap₂, ◌||◌}
 use Rattle.clap.specs.Words.{AddsArg, AddsSubcommand, App, Rule, app_of, rule_of, with_rule, with_subcommand}
 use Rattle.clap.specs.declared.builder.arg.Arg.{Arg}
 use Rattle.clap.specs.declared.builder.command.Command.{Command}

@@ -1,9 +1,6 @@
 -- The command that a parse entered, and what the words name for it.
-use Rattle.std.proofs.Common.{◌≡◌, ◌∙◌, List, Option, Some, None, Result, Ok, Err, [], refl, sym, ap, subst}
-use Rattle.std.specs.Prelude.{Box, IsErrAnd, option_map, true}
-use Rattle.std.specs.Borrow.{Bor}
+use Rattle.std.proofs.Common.{◌≡◌, ◌∙◌, List, Option, Some, None, Result, Ok, Err, [], refl, sym, ap, subst, Box, IsErrAnd, option_map, true, Bor, box_value}
 use Rattle.std.specs.Option.{option_map_or}
-use Rattle.std.specs.Box.{box_value}
 use Rattle.clap.specs.Words.{App, FailsBy, HasKind, HasMatchesOf, Kinds, Row, Text, app_of, fault_of, found_of, is_simple, is_simple_and_free, rows_of, subcommand_name_of, subcommand_of, subcommand_rows_of}
 use Rattle.clap.specs.Simple.{subcommand_rows}
 use Rattle.clap.specs.declared.builder.command.Command.{Command}

@@ -1,8 +1,6 @@
 -- What a command's arguments keep: each row has a value, which is a number within limits where its argument is one.
-use Rattle.std.proofs.Common.{◌≡◌, ◌∙◌, ℕ, zero, suc, Bool, true, false, cond, List, [], ◌∷◌, ◌++◌, length, Option, Some, None, refl, sym, ap, subst}
-use Rattle.std.specs.Prelude.{◌==◌, find, slice_get, option_map, IfSome, is_some}
-use Rattle.std.specs.Option.{option_and_then, option_map_or}
-use Rattle.std.specs.Str.{bytes_eq}
+use Rattle.std.proofs.Common.{◌≡◌, ◌∙◌, ℕ, zero, suc, Bool, true, false, cond, List, [], ◌∷◌, ◌++◌, length, Option, Some, None, refl, sym, ap, subst, ◌==◌, find, slice_get, option_map, IfSome, is_some, option_and_then, bytes_eq}
+use Rattle.std.specs.Option.{option_map_or}
 use Rattle.std.specs.Cmp.{unsigned_Decides}
 use Rattle.std.proofs.lemmas.Slice.Eq.{bytes_eq-Decides}
 use Rattle.clap.specs.Facts.{explicit_source, parser_of_value, unwrap_or_range}

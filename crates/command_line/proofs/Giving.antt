@@ -1,8 +1,7 @@
 -- Where the words have no fault, the program's parse gives one of its commands, with what that command requires, and numbers within their limits.
-use Rattle.std.proofs.Common.{◌≡◌, ◌⊎◌, inl, inr, ℕ, Bool, true, false, cond, List, [], Option, Some, None, codes, refl, sym, subst}
-use Rattle.std.specs.Prelude.{⊤, ◌&&◌, ◌||◌, not, find, option_map, is_some}
+use Rattle.std.proofs.Common.{◌≡◌, ◌⊎◌, inl, inr, ℕ, Bool, true, false, cond, List, [], Option, Some, None, codes, refl, sym, subst, ◌&&◌, ◌||◌, not, find, option_map, is_some, bytes_eq}
+use Rattle.std.specs.Prelude.{⊤}
 use Rattle.std.specs.Option.{option_map_or}
-use Rattle.std.specs.Str.{bytes_eq}
 use Rattle.std.proofs.lemmas.Slice.Eq.{bytes_eq-Decides}
 use Rattle.clap.specs.Faults.{check_fault, entered_fault, fault_of, level_fault, walk_fault, settle_fault}
 use Rattle.clap.specs.Kinds.{check_kinds}

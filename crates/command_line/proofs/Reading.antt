@@ -1,6 +1,5 @@
 -- The number that is read of an argument's text.
-use Rattle.std.proofs.Common.{◌≡◌, ◌∙◌, ◌≤◌, ℕ, Option, Some, None, Result, Ok, Err, true, refl, sym, subst}
-use Rattle.std.specs.Prelude.{IsOk, IsSome, is_some, option_map, unwrap_or}
+use Rattle.std.proofs.Common.{◌≡◌, ◌∙◌, ◌≤◌, ℕ, Option, Some, None, Result, Ok, Err, true, refl, sym, subst, IsOk, IsSome, is_some, option_map, unwrap_or}
 use Rattle.std.specs.Str.Parse.{ParsesUnsigned, digits_value, without_leading_plus}
 use Rattle.clap.specs.Words.{Text}
 use Rattle.clap.specs.Matches.{TriesOne}

@@ -1,8 +1,7 @@
 -- What holds of each row that a walk over the words makes, where the walk has no fault: what each use of an argument keeps.
-use Rattle.std.proofs.Common.{◌≡◌, ℕ, Bool, true, false, cond, zero, suc, List, [], ◌∷◌, length, drop, Option, Some, None, codes, refl, ap, subst}
-use Rattle.std.specs.Prelude.{⊤, ◌&&◌, not, find, fold, slice_get, IfSome, is_some, encode_utf8}
+use Rattle.std.proofs.Common.{◌≡◌, ℕ, Bool, true, false, cond, zero, suc, List, [], ◌∷◌, length, drop, Option, Some, None, codes, refl, ap, subst, ◌&&◌, not, find, fold, slice_get, IfSome, is_some, encode_utf8, bytes_eq, chars}
+use Rattle.std.specs.Prelude.{⊤}
 use Rattle.std.specs.Option.{option_map_or}
-use Rattle.std.specs.Str.{bytes_eq, chars}
 use Rattle.clap.specs.Lexer.{long_of, short_of}
 use Rattle.clap.specs.Kinds.{Kinds, or_else}
 use Rattle.clap.specs.Faults.{bundle_fault, bundle_step_fault, check_fault, flag_word_fault, flags_fault, level_fault, long_fault, option_fault, other_fault, positional_fault, react_fault, settle_fault, short_fault, step_fault, stray_fault, turn_fault, use_fault, walk_fault, word_fault}

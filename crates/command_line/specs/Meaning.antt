@@ -1,8 +1,7 @@
 -- What the words after the program's name mean.
-use Rattle.std.specs.Prelude.{◌≡◌, ◌↔◌, ◌≤◌, ℕ, IsTrue, Bool, List, [], Option, Some, None, IfSome, option_map, codes}
+use Rattle.std.specs.Prelude.{◌≡◌, ◌↔◌, ◌≤◌, ℕ, IsTrue, Bool, List, [], Option, Some, None, IfSome, option_map, codes, string_bytes}
 use Rattle.std.specs.Option.{option_map_or}
 use Rattle.std.specs.Str.Parse.{digits_value, without_leading_plus}
-use Rattle.std.specs.String.{string_bytes}
 use Rattle.clap.specs.Words.{Row, Text, first_of, one_of, subcommand_of}
 use Rattle.vlink.specs.declared.time.TheConstants.{LATEST_NS}
 use Rattle.command_line.specs.Program.{program}

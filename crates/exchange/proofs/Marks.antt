@@ -1,8 +1,7 @@
 -- The halves of marks, in lists.
-use Rattle.std.proofs.Common.{◌≡◌, ℕ, suc, ◌+◌, ◌<◌, List, [], ◌∷◌, map, set, drop, length, replicate, slice_index, get_or, refl, sym, ap, ◌∙◌, subst, arith}
-use Rattle.std.specs.List.{remove}
-use Rattle.std.proofs.lemmas.List.{map-set, get_or-map, length-map, length-drop, drop-map, get_or-replicate}
-use Rattle.std.proofs.Math.Seq.{map-set_same, drop-cons}
+use Rattle.std.proofs.Common.{◌≡◌, ℕ, suc, ◌+◌, ◌<◌, List, [], ◌∷◌, map, set, drop, length, replicate, slice_index, get_or, refl, sym, ap, ◌∙◌, subst, arith, remove, length-drop, drop-cons}
+use Rattle.std.proofs.lemmas.List.{map-set, get_or-map, length-map, drop-map, get_or-replicate}
+use Rattle.std.proofs.Math.Seq.{map-set_same}
 use Rattle.halves.specs.declared.LeftHalf.{LeftHalf}
 use Rattle.halves.specs.declared.RightHalf.{RightHalf}
 use Rattle.exchange.specs.declared.mark.Mark.{Mark}

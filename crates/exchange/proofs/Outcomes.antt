@@ -1,6 +1,5 @@
 -- What a call gives that is known to succeed, and what is said of one that is refused.
-use Rattle.std.proofs.Common.{◌≡◌, false, Result, Ok, Err, OnErr, sym, subst}
-use Rattle.std.specs.Result.{IsOk, OnOk, IfErr, IsErrAnd, is_err}
+use Rattle.std.proofs.Common.{◌≡◌, false, Result, Ok, Err, OnErr, sym, subst, IsOk, OnOk, IfErr, IsErrAnd, is_err}
 
 pub when-ok : {T E P : Type 0} (r : Result T E) → IsOk r → OnOk r P → P
 when-ok (Ok v) i h = h

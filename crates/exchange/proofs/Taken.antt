@@ -1,8 +1,6 @@
 -- All that a call gives which collects letters for a process without a block: what the Exchange and the Held keep, and what it did.
-use Rattle.std.proofs.Common.{◌≡◌, ℕ, ◌+◌, ◌<◌, ◌≤◌, ◌^◌, false, min, List, [], ◌∷◌, ◌++◌, set, length, take, drop, slice_get, Option, Some, Result, Ok, Err, refl, sym, ap, ◌∙◌, subst, arith, length-append}
-use Rattle.std.specs.Option.{option_map}
-use Rattle.std.specs.Result.{IfOk, OnOk, OnErr, is_err}
-use Rattle.std.proofs.lemmas.List.{take-append-drop, length-take, length-map, take_min}
+use Rattle.std.proofs.Common.{◌≡◌, ℕ, ◌+◌, ◌<◌, ◌≤◌, ◌^◌, false, min, List, [], ◌∷◌, ◌++◌, set, length, take, drop, slice_get, Option, Some, Result, Ok, Err, refl, sym, ap, ◌∙◌, subst, arith, length-append, option_map, IfOk, OnOk, OnErr, is_err, take-append-drop, length-take}
+use Rattle.std.proofs.lemmas.List.{length-map, take_min}
 use Rattle.vlink.specs.declared.message.Message.{Message}
 use Rattle.vlink.specs.declared.note.Note.{Note}
 use Rattle.virtual_time.specs.Law.{Rules, Laws, lowest, times_of, after_moves, Took, acts_of, own_in, reach, after_own}

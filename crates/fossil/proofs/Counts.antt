@@ -1,6 +1,5 @@
 -- How many events are committed one after another, counted before the first of them is.
-use Rattle.std.proofs.Common.{◌≡◌, ℕ, zero, suc, ◌+◌, ◌<◌, ◌==◌, Bool, true, false, ◌&&◌, cond, if◌then◌else◌, nat_lt, List, [], ◌∷◌, take, Result, Ok, Err, refl, sym, ap, ◌∙◌, subst, arith, add-one}
-use Rattle.std.specs.Prelude.{OnOk, OnErr, IsErr}
+use Rattle.std.proofs.Common.{◌≡◌, ℕ, zero, suc, ◌+◌, ◌<◌, ◌==◌, Bool, true, false, ◌&&◌, cond, if◌then◌else◌, nat_lt, List, [], ◌∷◌, take, Result, Ok, Err, refl, sym, ap, ◌∙◌, subst, arith, add-one, OnOk, OnErr, IsErr}
 use Rattle.virtual_time.specs.Law.{Rules, IsOrder, IsIn, IsAscending, minus_of, pluses, minuses, Part, can_commit, oldest_committed, commit_oldest}
 use Rattle.virtual_time.specs.declared.letter.Letter.{Letter}
 use Rattle.virtual_time.proofs.Order.{greater-different}

@@ -1,8 +1,8 @@
 -- A process is safe below a GVT that it has seen, and has no done event earlier than a moment that is not later than this GVT. Then the rows of
 -- its committed events before that moment are all rows that the one-thread run has of it before that moment.
-use Rattle.std.proofs.Common.{◌≡◌, ℕ, ◌≤◌, Bool, true, false, cond, nat_lt, List, [], ◌∷◌, ◌++◌, filter, drop, length, refl, sym, ap, ◌∙◌, subst, arith, append-nil, length-append}
-use Rattle.std.proofs.lemmas.Bool.{and_parts, lt-ltb, ltb-true, both_ways}
-use Rattle.std.proofs.lemmas.List.{append_cancel_left, take-append-drop}
+use Rattle.std.proofs.Common.{◌≡◌, ℕ, ◌≤◌, Bool, true, false, cond, nat_lt, List, [], ◌∷◌, ◌++◌, filter, drop, length, refl, sym, ap, ◌∙◌, subst, arith, append-nil, length-append, lt-ltb, ltb-true, take-append-drop}
+use Rattle.std.proofs.lemmas.Bool.{and_parts, both_ways}
+use Rattle.std.proofs.lemmas.List.{append_cancel_left}
 use Rattle.std.proofs.lemmas.List.Elements.{filter-append}
 use Rattle.std.proofs.lemmas.List.Sums.{length-filter, count_by-le-length}
 use Rattle.virtual_time.specs.Law.{Rules, reached, rows_of, rowed, rows_at, IsIn, earlier, Simulation, Laws, one, events, Part, IsSafePart}

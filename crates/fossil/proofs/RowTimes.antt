@@ -1,8 +1,6 @@
 -- The moments of the rows of committed events do not fall, where the process is safe.
-use Rattle.std.proofs.Common.{◌≡◌, ℕ, zero, suc, ◌≤◌, ◌==◌, List, [], ◌∷◌, ◌++◌, length, drop, sym, ap, ◌∙◌, subst, arith}
-use Rattle.std.specs.List.{All}
+use Rattle.std.proofs.Common.{◌≡◌, ℕ, zero, suc, ◌≤◌, ◌==◌, List, [], ◌∷◌, ◌++◌, length, drop, sym, ap, ◌∙◌, subst, arith, All, take-append-drop}
 use Rattle.std.specs.List.Sorted.{IsNonDecreasingBy}
-use Rattle.std.proofs.lemmas.List.{take-append-drop}
 use Rattle.std.proofs.lemmas.List.Elements.{All-cons, All-nil}
 use Rattle.virtual_time.specs.Law.{Rules, IsOrder, rows_of, rowed, IsIn, IsAscending, Simulation, Laws, one, events, Part, IsSafePart}
 use Rattle.virtual_time.specs.declared.row.Row.{Row}

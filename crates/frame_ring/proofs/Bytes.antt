@@ -1,6 +1,5 @@
 -- Frames within the limits, and how many bytes they have together.
-use Rattle.std.proofs.Common.{◌≡◌, ◌*◌, ◌≤◌, List, [], ◌∷◌, ◌++◌, length, arith, Some}
-use Rattle.std.specs.Prelude.{All}
+use Rattle.std.proofs.Common.{◌≡◌, ◌*◌, ◌≤◌, List, [], ◌∷◌, ◌++◌, length, arith, Some, All}
 use Rattle.std.proofs.lemmas.List.Elements.{All-head, All-tail, All-rest, All-pop}
 use Rattle.std.proofs.lemmas.List.Sums.{sum_by-cons}
 use Rattle.vlink.specs.declared.frame.Frame.{Frame}

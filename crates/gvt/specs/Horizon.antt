@@ -1,6 +1,5 @@
 -- The floors of all processes, and the least moment of floors and mail.
-use Rattle.std.specs.Prelude.{ℕ, ◌+◌, List, ◌++◌}
-use Rattle.std.specs.List.{flat_map}
+use Rattle.std.specs.Prelude.{ℕ, ◌+◌, List, ◌++◌, flat_map}
 use Rattle.virtual_time.specs.Law.{lowest, times_of}
 use Rattle.antimessages.specs.Letters.{Store}
 use Rattle.vlink.specs.Order.{message_order}

@@ -1,6 +1,5 @@
 -- What the answer of a reader says of the text tells which answer it is.
-use Rattle.std.proofs.Common.{◌≡◌, ◌∙◌, ℕ, ◌≤◌, List, All, length, Result, Ok, Err, refl, sym, ap, inl, inr, arith}
-use Rattle.std.specs.Prelude.{IfOk, IfErr}
+use Rattle.std.proofs.Common.{◌≡◌, ◌∙◌, ℕ, ◌≤◌, List, All, length, Result, Ok, Err, refl, sym, ap, inl, inr, arith, IfOk, IfErr}
 use Rattle.std.specs.Global.{Vec}
 use Rattle.virtual_time.specs.declared.step.Step.{Step}
 use Rattle.journal_text.specs.declared.fault.LinesFault.{LinesFault}

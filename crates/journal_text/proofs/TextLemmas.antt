@@ -1,7 +1,7 @@
 -- The lines of a text of steps, and the first line that is none.
-use Rattle.std.proofs.Common.{◌≡◌, ◌∙◌, ℕ, ◌+◌, ◌-◌, ◌<◌, ◌≤◌, List, [], ◌∷◌, ◌++◌, All, length, get_or, take, map, refl, sym, ap, subst, inl, inr, ◌⊎◌, append_assoc, length-append, arith}
+use Rattle.std.proofs.Common.{◌≡◌, ◌∙◌, ℕ, ◌+◌, ◌-◌, ◌<◌, ◌≤◌, List, [], ◌∷◌, ◌++◌, All, length, get_or, take, map, refl, sym, ap, subst, inl, inr, ◌⊎◌, append_assoc, length-append, arith, append-nil, length-take, take_at, get_or-take}
 use Rattle.std.specs.List.{concat}
-use Rattle.std.proofs.lemmas.List.{append-nil, length-map, length-take, take_at, get_or-append_right, get_or-take}
+use Rattle.std.proofs.lemmas.List.{length-map, get_or-append_right}
 use Rattle.std.proofs.lemmas.List.Elements.{All-head, All-tail, All-map, All-weaker, All-get_or}
 use Rattle.std.proofs.lemmas.Bool.{cases_order}
 use Rattle.virtual_time.specs.declared.step.Step.{Step}

@@ -1,6 +1,5 @@
 -- The text of the steps of a run. A text is the list of its bytes.
-use Rattle.std.specs.Prelude.{ℕ, ◌<◌, ◌^◌, ⊤, codes, decimal, List, [], ◌∷◌, ◌++◌}
-use Rattle.std.specs.List.{flat_map}
+use Rattle.std.specs.Prelude.{ℕ, ◌<◌, ◌^◌, ⊤, codes, decimal, List, [], ◌∷◌, ◌++◌, flat_map}
 use Rattle.virtual_time.specs.declared.step.Step.{Step}
 use Rattle.virtual_time.specs.declared.step.Step.TheVariants.{Take, Arrive, Run, Post, Gvt, Commit}
 

@@ -1,8 +1,7 @@
 -- Lists made row by row, and the first fault of them.
-use Rattle.std.proofs.Common.{◌≡◌, ℕ, ◌+◌, ◌<◌, Bool, true, false, ◌||◌, cond, add-zero, List, [], ◌∷◌, ◌++◌, length, take, drop, get_or, Some, inl, inr, refl, ap, sym, subst, map, ◌∙◌, arith, append_assoc}
-use Rattle.std.specs.Prelude.{slice_get}
-use Rattle.std.proofs.lemmas.List.{take_more, append-nil, take-append-drop, drop_more, map-append, length-map, get_or-map, length-take-le}
-use Rattle.std.specs.List.{list_any, count_by}
+use Rattle.std.proofs.Common.{◌≡◌, ℕ, ◌+◌, ◌<◌, Bool, true, false, ◌||◌, cond, add-zero, List, [], ◌∷◌, ◌++◌, length, take, drop, get_or, Some, inl, inr, refl, ap, sym, subst, map, ◌∙◌, arith, append_assoc, slice_get, append-nil, take-append-drop, length-take-le, count_by}
+use Rattle.std.proofs.lemmas.List.{take_more, drop_more, map-append, length-map, get_or-map}
+use Rattle.std.specs.List.{list_any}
 use Rattle.std.proofs.lemmas.Bool.{cases_Bool}
 use Rattle.std.proofs.lemmas.List.Sums.{count_by_more_yes, count_by_more_no}
 use Rattle.std.proofs.lemmas.List.Elements.{Contains-get_or}

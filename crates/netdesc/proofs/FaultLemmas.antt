@@ -1,6 +1,5 @@
 -- The first fault of a text, from what its rows tell.
-use Rattle.std.proofs.Common.{◌≡◌, ℕ, List, [], ◌∷◌, Some, refl, ap, ◌∙◌, inl, inr}
-use Rattle.std.specs.Prelude.{slice_get}
+use Rattle.std.proofs.Common.{◌≡◌, ℕ, List, [], ◌∷◌, Some, refl, ap, ◌∙◌, inl, inr, slice_get}
 use Rattle.std.specs.Option.{option_map_or}
 use Rattle.network_rows.specs.declared.fault.DescFault.{DescFault}
 use Rattle.network_rows.specs.declared.fault.DescFault.TheVariants.{Syntax, Missing, WrongKind, OutOfLimit, UnknownName, DoubleName, NotALink, NotATree, TooMany, OutOfMemory}

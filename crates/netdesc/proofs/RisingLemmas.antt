@@ -1,13 +1,12 @@
 -- The virtual links of a network without a fault differ in their numbers, and so these rise.
-use Rattle.std.proofs.Common.{◌≡◌, ℕ, false, ◌==◌, List, [], ◌∷◌, ◌++◌, sym, ◌∙◌, arith, inl, inr}
-use Rattle.std.specs.List.{AllByRecursion, IsDistinct, Contains, list_any}
+use Rattle.std.proofs.Common.{◌≡◌, ℕ, false, ◌==◌, List, [], ◌∷◌, ◌++◌, sym, ◌∙◌, arith, inl, inr, Contains, eqb}
+use Rattle.std.specs.List.{AllByRecursion, IsDistinct, list_any}
 use Rattle.std.specs.List.Sorted.{IsStrictlyIncreasing}
 use Rattle.std.proofs.lemmas.Bool.{cases_Bool, false≢true}
 use Rattle.std.proofs.lemmas.Bool.Decides.{nat_tests}
 use Rattle.std.proofs.lemmas.List.Elements.{Contains-append_left, Contains-push}
 use Rattle.std.proofs.lemmas.List.Sorted.{IsPermutation-map}
 use Rattle.std.proofs.lemmas.Map.Keys.{IsDistinct-IsPermutation, IsStrictlyIncreasing-from_distinct}
-use Rattle.std.proofs.Math.Dec.{eqb}
 use Rattle.netdesc.specs.Words.{each, each_after, Plan, VlPlan, plan_of, unknown_names, double_names, double_at_vl, IsAccepted, id_of, ids_of}
 use Rattle.netdesc.proofs.BuildLemmas.{front-none, behind-none, when-none}
 use Rattle.netdesc.proofs.WayLemmas.{list_any-contains}

@@ -1,7 +1,6 @@
 -- What follows from a plan: its processes, the ports of its nodes, the lines between them, and the lines that each virtual link goes over.
-use Rattle.std.specs.Prelude.{ℕ, false, ◌+◌, ◌*◌, ◌==◌, Bool, cond, List, [], ◌∷◌, ◌++◌, filter, count_by, Option, Some, None, slice_get}
-use Rattle.std.specs.List.{flat_map}
-use Rattle.std.specs.Option.{option_map, option_map_or, option_and_then, option_to_list}
+use Rattle.std.specs.Prelude.{ℕ, false, ◌+◌, ◌*◌, ◌==◌, Bool, cond, List, [], ◌∷◌, ◌++◌, filter, count_by, Option, Some, None, slice_get, flat_map, option_map, option_and_then, option_to_list}
+use Rattle.std.specs.Option.{option_map_or}
 use Rattle.vlink.specs.declared.frame.VlId.{VlId}
 use Rattle.vlink.specs.declared.frame.Net.TheVariants.{A}
 use Rattle.netdesc.specs.declared.wiring.Link.{Link}

@@ -1,7 +1,6 @@
 -- Names of nodes, and their numbers.
-use Rattle.std.specs.Prelude.{ℕ, Bool, List, map, length, Option, unwrap_or}
+use Rattle.std.specs.Prelude.{ℕ, Bool, List, map, length, Option, unwrap_or, bytes_eq}
 use Rattle.std.specs.List.{list_any}
-use Rattle.std.specs.Str.{bytes_eq}
 use Rattle.netdesc.specs.Rows.{place_by}
 use Rattle.network_rows.specs.declared.rows.NodeRow.{NodeRow}
 

@@ -1,7 +1,6 @@
 -- Faults stored one after another, and the first of all.
-use Rattle.std.proofs.Common.{◌≡◌, ℕ, ◌+◌, ◌<◌, cond, List, [], ◌∷◌, ◌++◌, length, get_or, drop, map, Option, Some, None, unwrap_or, refl, ap, ◌∙◌}
+use Rattle.std.proofs.Common.{◌≡◌, ℕ, ◌+◌, ◌<◌, cond, List, [], ◌∷◌, ◌++◌, length, get_or, drop, map, Option, Some, None, unwrap_or, refl, ap, ◌∙◌, flat_map}
 use Rattle.std.proofs.lemmas.List.{drop_more}
-use Rattle.std.specs.List.{flat_map}
 use Rattle.toml.specs.Data.{Members}
 use Rattle.network_rows.specs.declared.fault.Place.{Place}
 use Rattle.network_rows.specs.declared.fault.KeyFault.{KeyFault}

@@ -1,8 +1,7 @@
 -- The rows that a document means. No value is made up: a table that lacks a key which it has to have, or has another value there than the table of
 -- keys asks for, means no row at all.
-use Rattle.std.specs.Prelude.{◌≡◌, ◌⊎◌, ℕ, Bool, true, not, List, [], ◌∷◌, ◌++◌, map, filter, Option, Some, None}
+use Rattle.std.specs.Prelude.{◌≡◌, ◌⊎◌, ℕ, Bool, true, not, List, [], ◌∷◌, ◌++◌, map, filter, Option, Some, None, bytes_eq}
 use Rattle.std.specs.List.{list_any, AllZip}
-use Rattle.std.specs.Str.{bytes_eq}
 use Rattle.toml.specs.Data.{Data, Items, Members, no_members, member, as_str, as_array, as_table, get_member}
 use Rattle.toml.specs.Parse.{parse_document}
 use Rattle.vlink.specs.declared.frame.Net.{Net}

@@ -1,8 +1,7 @@
 -- What a type of values asks of a value: first that it is such a value at all, then that it is within the limit.
-use Rattle.std.specs.Prelude.{ℕ, Bool, true, ◌&&◌, ◌||◌, ◌==◌, nat_le, nat_lt, List, codes, length, Option, Some, None, is_some, option_and_then}
+use Rattle.std.specs.Prelude.{ℕ, Bool, true, ◌&&◌, ◌||◌, ◌==◌, nat_le, nat_lt, List, codes, length, Option, Some, None, is_some, option_and_then, bytes_eq}
 use Rattle.std.specs.List.{list_any, list_all}
 use Rattle.std.specs.Char.{is_ascii_alphanumeric}
-use Rattle.std.specs.Str.{bytes_eq}
 use Rattle.toml.specs.Data.{Data, Members, as_str, as_integer}
 use Rattle.network_rows.specs.declared.rule.ValueType.{ValueType}
 use Rattle.network_rows.specs.declared.rule.ValueType.TheVariants.{Integer, IntegerAbove, OneOf, EitherInteger, EitherWord, NodeName, Reference, Paths}

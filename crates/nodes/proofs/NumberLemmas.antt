@@ -1,8 +1,8 @@
 -- Where a number stands among rising ones.
-use Rattle.std.proofs.Common.{◌≡◌, ℕ, zero, suc, ◌<◌, ◌≤◌, ◌==◌, Less, Equal, Greater, Bool, true, false, cond, List, [], ◌∷◌, length, map, get_or, slice_get, slice_set, slice_index_or, Option, Some, None, IfSome, option_map, option_and_then, ◌+◌, Result, Ok, Err, refl, sym, subst, ap, ◌∙◌, inl, inr, arith, add-one}
+use Rattle.std.proofs.Common.{◌≡◌, ℕ, zero, suc, ◌<◌, ◌≤◌, ◌==◌, Less, Equal, Greater, Bool, true, false, cond, List, [], ◌∷◌, length, map, get_or, slice_get, slice_set, slice_index_or, Option, Some, None, IfSome, option_map, option_and_then, ◌+◌, Result, Ok, Err, refl, sym, subst, ap, ◌∙◌, inl, inr, arith, add-one, nat_cmp}
 use Rattle.std.specs.Result.{result_ok}
 use Rattle.std.specs.List.Sorted.{IsSearchInRange, IsBinarySearchResult, IsNonDecreasingBy}
-use Rattle.std.specs.Ordering.{nat_cmp, ordering_index}
+use Rattle.std.specs.Ordering.{ordering_index}
 use Rattle.std.proofs.Math.Seq.{map-set_same}
 use Rattle.std.proofs.lemmas.Bool.{cases_lt}
 use Rattle.std.proofs.lemmas.Bool.Decides.{nat_tests}

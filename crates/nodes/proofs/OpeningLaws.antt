@@ -1,7 +1,5 @@
 -- Each process of an accepted network begins as the law of virtual time asks: its delays are at least 1 ns, and it sends to processes.
-use Rattle.std.proofs.Common.{◌≡◌, ℕ, zero, suc, ◌+◌, ◌-◌, ◌<◌, ◌≤◌, Bool, true, false, cond, List, [], ◌∷◌, map, length, Option, Some, None, All, refl, ap, sym, ◌∙◌, subst, arith}
-use Rattle.std.specs.Prelude.{slice_get, IfSome, filter, not}
-use Rattle.std.specs.Option.{option_map}
+use Rattle.std.proofs.Common.{◌≡◌, ℕ, zero, suc, ◌+◌, ◌-◌, ◌<◌, ◌≤◌, Bool, true, false, cond, List, [], ◌∷◌, map, length, Option, Some, None, All, refl, ap, sym, ◌∙◌, subst, arith, slice_get, IfSome, filter, not, option_map}
 use Rattle.nodes.specs.declared.source.Source.{Source}
 use Rattle.netdesc.specs.declared.wiring.Way.{Way}
 use Rattle.netdesc.specs.Words.{is_none, Plan, NodePlan, VlPlan, IsAccepted, lines_of, process_count}

@@ -1,6 +1,5 @@
 -- End systems and switches made of their parts.
-use Rattle.std.proofs.Common.{◌≡◌, ℕ, ◌-◌, ◌≤◌, length, map, ap, sym, ◌∙◌}
-use Rattle.std.specs.Prelude.{slice_get}
+use Rattle.std.proofs.Common.{◌≡◌, ℕ, ◌-◌, ◌≤◌, length, map, ap, sym, ◌∙◌, slice_get}
 use Rattle.std.proofs.lemmas.Option.{slice_get_past}
 use Rattle.netdesc.specs.declared.too_many.TheConstants.{GREATEST_PORTS}
 use Rattle.netdesc.specs.Words.{Plan, IsAccepted, lines_of}

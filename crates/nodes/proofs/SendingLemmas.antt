@@ -1,6 +1,5 @@
 -- Replies, one behind the other.
-use Rattle.std.proofs.Common.{◌≡◌, ℕ, ◌+◌, ◌++◌, Bool, true, false, cond, nat_le, List, [], ◌∷◌, length, ap, sym, ◌∙◌, append_assoc, arith}
-use Rattle.std.proofs.lemmas.List.{append-nil, length-append}
+use Rattle.std.proofs.Common.{◌≡◌, ℕ, ◌+◌, ◌++◌, Bool, true, false, cond, nat_le, List, [], ◌∷◌, length, ap, sym, ◌∙◌, append_assoc, arith, append-nil, length-append}
 use Rattle.vlink.specs.declared.message.Message.{Message}
 use Rattle.vlink.specs.declared.note.Note.{Note}
 use Rattle.reverse.specs.Sending.{Wish, Reply, Sender, OutboundState, silent, joined, sent, after_sending, replied, message_of}

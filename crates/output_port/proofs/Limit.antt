@@ -1,7 +1,6 @@
 -- No event makes more bytes wait than may.
-use Rattle.std.proofs.Common.{Bool, true, false, cond, ◌≡◌, ℕ, ◌+◌, ◌≤◌, ◌++◌, List, [], ◌∷◌, refl, ap, ◌∙◌, arith}
+use Rattle.std.proofs.Common.{Bool, true, false, cond, ◌≡◌, ℕ, ◌+◌, ◌≤◌, ◌++◌, List, [], ◌∷◌, refl, ap, ◌∙◌, arith, leb-true}
 use Rattle.std.proofs.lemmas.List.Sums.{sum_by-cons, sum_by-append}
-use Rattle.std.proofs.lemmas.Bool.{leb-true}
 use Rattle.vlink.specs.declared.frame.Frame.{Frame}
 use Rattle.frame_ring.specs.Queue.{bytes_of}
 use Rattle.output_port.specs.declared.event.Priority.{Priority}

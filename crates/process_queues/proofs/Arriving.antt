@@ -1,8 +1,7 @@
 -- A letter that arrives: what that makes of the part, how many events it undoes, and the queues afterwards.
-use Rattle.std.proofs.Common.{◌≡◌, ℕ, ◌+◌, ◌⊎◌, inl, inr, Bool, true, false, not, cond, List, [], ◌∷◌, ◌++◌, length, map, drop, slice_get, Some, refl, sym, ap, ◌∙◌, subst, arith}
-use Rattle.std.specs.Prelude.{◌≢◌, ⊤}
+use Rattle.std.proofs.Common.{◌≡◌, ℕ, ◌+◌, ◌⊎◌, inl, inr, Bool, true, false, not, cond, List, [], ◌∷◌, ◌++◌, length, map, drop, slice_get, Some, refl, sym, ap, ◌∙◌, subst, arith, ◌≢◌, length-append}
+use Rattle.std.specs.Prelude.{⊤}
 use Rattle.std.proofs.lemmas.Bool.{not_from_true}
-use Rattle.std.proofs.lemmas.List.{length-append}
 use Rattle.vlink.specs.declared.message.Message.{Message}
 use Rattle.vlink.specs.declared.note.Note.{Note}
 use Rattle.virtual_time.specs.Law.{Rules, reached, IsIn, before, from_on, plus_of, Part, tallied, is_toggled, rolled_back, arrived, arrive, undone_by, IsWell}

@@ -1,7 +1,6 @@
 -- The events of a queue from a place on, and how many of them can be committed.
-use Rattle.std.proofs.Common.{◌≡◌, ℕ, suc, ◌+◌, ◌<◌, Bool, if◌then◌else◌, List, ◌∷◌, ◌∙◌, map, take, drop, length, get_or, slice_index_or, sym, ap, arith}
-use Rattle.std.proofs.lemmas.List.{length-take, length-map, get_or-take, get_or-map}
-use Rattle.std.proofs.Math.Seq.{drop-cons}
+use Rattle.std.proofs.Common.{◌≡◌, ℕ, suc, ◌+◌, ◌<◌, Bool, if◌then◌else◌, List, ◌∷◌, ◌∙◌, map, take, drop, length, get_or, slice_index_or, sym, ap, arith, length-take, get_or-take, drop-cons}
+use Rattle.std.proofs.lemmas.List.{length-map, get_or-map}
 use Rattle.vlink.specs.declared.message.Message.{Message}
 use Rattle.vlink.specs.Order.{message_order}
 use Rattle.vlink.specs.Letters.{Letter}

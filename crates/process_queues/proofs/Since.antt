@@ -1,6 +1,6 @@
 -- What the newest events sent, up to one that comes before a message.
-use Rattle.std.proofs.Common.{◌≡◌, ℕ, zero, suc, ◌+◌, ◌≤◌, ◌<◌, false, cond, List, [], ◌∷◌, ◌++◌, length, map, take, reverse, slice_index_or, Some, refl, sym, ap, ◌∙◌, arith}
-use Rattle.std.proofs.lemmas.List.{length-append, map-append, reverse-append}
+use Rattle.std.proofs.Common.{◌≡◌, ℕ, zero, suc, ◌+◌, ◌≤◌, ◌<◌, false, cond, List, [], ◌∷◌, ◌++◌, length, map, take, reverse, slice_index_or, Some, refl, sym, ap, ◌∙◌, arith, length-append}
+use Rattle.std.proofs.lemmas.List.{map-append, reverse-append}
 use Rattle.vlink.specs.Order.{message_order}
 use Rattle.vlink.specs.declared.message.Message.{Message}
 use Rattle.vlink.specs.declared.note.Note.{Note}

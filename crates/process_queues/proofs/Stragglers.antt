@@ -1,6 +1,5 @@
 -- A letter of a message that does not come after all done events: whether that is done, and whether the letter makes it present or absent.
-use Rattle.std.proofs.Common.{◌≡◌, ℕ, ◌≤◌, ℤ, inl, inr, Bool, true, false, not, List, map, pos, ◌+ℤ◌, Some, slice_get, refl, sym, ap, ◌∙◌, subst, arith}
-use Rattle.std.specs.Prelude.{◌≢◌, IsTrue}
+use Rattle.std.proofs.Common.{◌≡◌, ℕ, ◌≤◌, ℤ, inl, inr, Bool, true, false, not, List, map, pos, ◌+ℤ◌, Some, slice_get, refl, sym, ap, ◌∙◌, subst, arith, ◌≢◌, IsTrue}
 use Rattle.std.proofs.lemmas.Int.{ints}
 use Rattle.std.proofs.lemmas.Bool.{both_ways, cases_lt}
 use Rattle.vlink.specs.declared.message.Message.{Message}

@@ -1,7 +1,6 @@
 -- What the summing actor sends.
-use Rattle.std.proofs.Common.{◌≡◌, ◌+◌, ◌<◌, ◌≤◌, Bool, true, false, cond, nat_le, [], ◌∷◌, All, refl, arith}
+use Rattle.std.proofs.Common.{◌≡◌, ◌+◌, ◌<◌, ◌≤◌, Bool, true, false, cond, nat_le, [], ◌∷◌, All, refl, arith, leb-true}
 use Rattle.std.proofs.lemmas.List.Elements.{All-nil, All-cons}
-use Rattle.std.proofs.lemmas.Bool.{leb-true}
 use Rattle.vlink.specs.declared.message.Message.{Message}
 use Rattle.vlink.specs.declared.message.Body.TheVariants.{PortFree}
 use Rattle.virtual_time.specs.Law.{IsNumbered}

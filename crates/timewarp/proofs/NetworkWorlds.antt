@@ -1,6 +1,5 @@
 -- What is held of a world of a network, and what a step makes of it.
-use Rattle.std.proofs.Common.{◌≡◌, ◌≢◌, ◌↔◌, ◌++◌, ℕ, ◌<◌, ◌≤◌, inl, inr, true, List, [], ◌∷◌, Result, Ok, Err, OnOk, OnErr, IfOk, length, refl, sym, ap, subst, arith}
-use Rattle.std.specs.Prelude.{is_ok, Option, Some, None, IfSome, IsNone}
+use Rattle.std.proofs.Common.{◌≡◌, ◌≢◌, ◌↔◌, ◌++◌, ℕ, ◌<◌, ◌≤◌, inl, inr, true, List, [], ◌∷◌, Result, Ok, Err, OnOk, OnErr, IfOk, length, refl, sym, ap, subst, arith, is_ok, Option, Some, None, IfSome, IsNone}
 use Rattle.std.proofs.lemmas.Bool.{false≢true, cases_lt}
 use Rattle.virtual_time.specs.Law.{Simulation, IsLeft, undo_all, Safe, World, start, step, run, is_enabled}
 use Rattle.virtual_time.specs.declared.step.Step.{Step}

@@ -1,6 +1,5 @@
 -- Why a segment of a trace is refused.
-use Rattle.std.proofs.Common.{◌≡◌, ◌∙◌, ℕ, ◌+◌, ◌<◌, ◌≤◌, ◌==◌, Bool, true, false, not, cond, length, ap, sym, arith}
-use Rattle.std.specs.Prelude.{◌||◌, nat_le, Some, None}
+use Rattle.std.proofs.Common.{◌≡◌, ◌∙◌, ℕ, ◌+◌, ◌<◌, ◌≤◌, ◌==◌, Bool, true, false, not, cond, length, ap, sym, arith, ◌||◌, nat_le, Some, None}
 use Rattle.std.proofs.lemmas.Grind.{common_steps}
 use Rattle.trace_segments.specs.declared.segment_fault.SegmentFault.TheVariants.{Stranger}
 use Rattle.trace_segments.specs.Words.{cut, Gathering, taken_of, is_stranger, place_fault, segment_fault, SegmentRows}

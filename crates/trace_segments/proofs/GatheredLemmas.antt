@@ -1,9 +1,8 @@
 -- Segments that wait have the rows of their processes, and so have the batches.
-use Rattle.std.proofs.Common.{◌≡◌, ◌≢◌, ◌∙◌, ℕ, zero, suc, ◌+◌, ◌-◌, ◌<◌, ◌≤◌, ◌⊎◌, inl, inr, true, List, [], ◌∷◌, ◌++◌, length, refl, sym, ap, subst, arith}
-use Rattle.std.specs.Prelude.{nat_lt, slice_set, map, drop}
-use Rattle.std.specs.List.{flat_map, range_with_len, repeat}
+use Rattle.std.proofs.Common.{◌≡◌, ◌≢◌, ◌∙◌, ℕ, zero, suc, ◌+◌, ◌-◌, ◌<◌, ◌≤◌, ◌⊎◌, inl, inr, true, List, [], ◌∷◌, ◌++◌, length, refl, sym, ap, subst, arith, nat_lt, slice_set, map, drop, flat_map, length-set}
+use Rattle.std.specs.List.{range_with_len, repeat}
 use Rattle.std.proofs.lemmas.Bool.{cases_lt}
-use Rattle.std.proofs.lemmas.List.{length-map, length-set}
+use Rattle.std.proofs.lemmas.List.{length-map}
 use Rattle.vlink.specs.Letters.{Row}
 use Rattle.trace_segments.specs.Words.{gathered, segments_from, AreOfRows, segments_at, with_segment, are_all_there, first_of, first_rows, cut, rows_within}
 use Rattle.trace_segments.proofs.WaitingLemmas.{latter}

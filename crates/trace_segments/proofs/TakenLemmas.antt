@@ -1,8 +1,6 @@
 -- A segment that is taken is the next one of its process.
-use Rattle.std.proofs.Common.{◌≡◌, ◌∙◌, ℕ, ◌+◌, ◌<◌, ◌==◌, Bool, true, false, not, cond, List, length, refl, sym, ap, subst, arith}
-use Rattle.std.specs.Prelude.{◌||◌, nat_le, Option, Some, None}
+use Rattle.std.proofs.Common.{◌≡◌, ◌∙◌, ℕ, ◌+◌, ◌<◌, ◌==◌, Bool, true, false, not, cond, List, length, refl, sym, ap, subst, arith, ◌||◌, nat_le, Option, Some, None, length-set}
 use Rattle.std.proofs.lemmas.Grind.{common_steps}
-use Rattle.std.proofs.lemmas.List.{length-set}
 use Rattle.vlink.specs.Letters.{Row}
 use Rattle.trace_segments.specs.declared.segment_fault.SegmentFault.{SegmentFault}
 use Rattle.trace_segments.specs.declared.segment_fault.SegmentFault.TheVariants.{Stranger}

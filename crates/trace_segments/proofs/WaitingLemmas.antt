@@ -1,8 +1,7 @@
 -- The segments of each process that wait.
-use Rattle.std.proofs.Common.{◌≡◌, ◌∙◌, ℕ, zero, suc, ◌+◌, ◌-◌, ◌<◌, ◌≤◌, Bool, true, false, List, [], ◌∷◌, ◌++◌, length, take, get_or, refl, sym, ap, arith, length-append}
-use Rattle.std.specs.Prelude.{◌&&◌, nat_lt, slice_index_or, slice_set, map, drop}
-use Rattle.std.specs.List.{flat_map, repeat}
-use Rattle.std.proofs.lemmas.List.{append-nil, take_more}
+use Rattle.std.proofs.Common.{◌≡◌, ◌∙◌, ℕ, zero, suc, ◌+◌, ◌-◌, ◌<◌, ◌≤◌, Bool, true, false, List, [], ◌∷◌, ◌++◌, length, take, get_or, refl, sym, ap, arith, length-append, ◌&&◌, nat_lt, slice_index_or, slice_set, map, drop, flat_map, append-nil}
+use Rattle.std.specs.List.{repeat}
+use Rattle.std.proofs.lemmas.List.{take_more}
 use Rattle.std.proofs.lemmas.Grind.{flat_map-append}
 use Rattle.std.proofs.Math.Seq.{take-append_seam}
 use Rattle.vlink.specs.Letters.{Row}

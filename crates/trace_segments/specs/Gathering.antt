@@ -1,8 +1,7 @@
 -- The segments of a trace that wait until those of all processes are there. Times are in ns.
-use Rattle.std.specs.Prelude.{◌≡◌, ℕ, zero, suc, ◌+◌, ◌==◌, ◌||◌, ◌≤◌, All, cond, not, nat_le, nat_lt, Bool, true, false, List, [], ◌∷◌, ◌++◌, length, map, drop, slice_set, Option, Some, None}
-use Rattle.std.specs.List.{flat_map, list_all, repeat}
+use Rattle.std.specs.Prelude.{◌≡◌, ℕ, zero, suc, ◌+◌, ◌==◌, ◌||◌, ◌≤◌, All, cond, not, nat_le, nat_lt, Bool, true, false, List, [], ◌∷◌, ◌++◌, length, map, drop, slice_set, Option, Some, None, flat_map, Vec}
+use Rattle.std.specs.List.{list_all, repeat}
 use Rattle.std.specs.declared.alloc.Global.{Global}
-use Rattle.std.specs.declared.vec.Vec.{Vec}
 use Rattle.vlink.specs.Letters.{Row}
 use Rattle.trace_segments.specs.declared.segment_fault.SegmentFault.{SegmentFault}
 use Rattle.trace_segments.specs.declared.segment_fault.SegmentFault.TheVariants.{Gap, Double, Stranger}

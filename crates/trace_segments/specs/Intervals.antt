@@ -1,6 +1,5 @@
 -- The intervals in which a trace is written, the same for all processes. Times are in ns.
-use Rattle.std.specs.Prelude.{ℕ, ◌+◌, ◌*◌, ◌/◌, ◌≤◌, ◌&&◌, min, nat_le, nat_lt, List}
-use Rattle.std.specs.List.{filter}
+use Rattle.std.specs.Prelude.{ℕ, ◌+◌, ◌*◌, ◌/◌, ◌≤◌, ◌&&◌, min, nat_le, nat_lt, List, filter}
 use Rattle.vlink.specs.Letters.{Row}
 
 -- how long an interval is

@@ -1,7 +1,5 @@
 -- Rows in the order of their messages.
-use Rattle.std.specs.Prelude.{◌≡◌, List}
-use Rattle.std.specs.List.{All, filter}
-use Rattle.std.specs.List.Sorted.{IsSortedByKey}
+use Rattle.std.specs.Prelude.{◌≡◌, List, All, filter, IsSortedByKey}
 use Rattle.std.specs.Ordering.{is_eq}
 use Rattle.vlink.specs.declared.message.Message.{Message}
 use Rattle.vlink.specs.Order.{message_cmp}

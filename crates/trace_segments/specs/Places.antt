@@ -1,6 +1,6 @@
 -- The rows of each process.
-use Rattle.std.specs.Prelude.{ℕ, List}
-use Rattle.std.specs.List.{flat_map, range_with_len}
+use Rattle.std.specs.Prelude.{ℕ, List, flat_map}
+use Rattle.std.specs.List.{range_with_len}
 use Rattle.vlink.specs.Letters.{Row}
 
 -- lists of rows one after another, those of the processes from 0 on

@@ -1,6 +1,5 @@
 -- The text of a trace: comma-separated rows, each with a line feed at its end. Times are in ns.
-use Rattle.std.specs.Prelude.{ℕ, ◌-◌, cond, nat_lt, codes, decimal, length, List, [], ◌∷◌, ◌++◌, slice_get}
-use Rattle.std.specs.List.{flat_map}
+use Rattle.std.specs.Prelude.{ℕ, ◌-◌, cond, nat_lt, codes, decimal, length, List, [], ◌∷◌, ◌++◌, slice_get, flat_map}
 use Rattle.std.specs.Option.{option_map_or}
 use Rattle.csv.specs.Writing.{default_writer, row_text}
 use Rattle.vlink.specs.declared.note.Cause.{Cause}

@@ -1,7 +1,6 @@
 -- A writer of rows that holds a text.
-use Rattle.std.specs.Prelude.{ℕ, ◌≡◌, ◌++◌, false, List, Option, Some}
+use Rattle.std.specs.Prelude.{ℕ, ◌≡◌, ◌++◌, false, List, Option, Some, Vec}
 use Rattle.std.specs.declared.alloc.Global.{Global}
-use Rattle.std.specs.declared.vec.Vec.{Vec}
 use Rattle.csv.specs.Writing as csv
 use Rattle.csv.specs.declared.writer.Writer.{Writer}
 

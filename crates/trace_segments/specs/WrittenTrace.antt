@@ -1,6 +1,5 @@
 -- A trace that is written batch by batch. Times are in ns.
-use Rattle.std.specs.Prelude.{ℕ, ◌+◌, ◌==◌, ◌&&◌, cond, not, nat_lt, Bool, List, Option, Some, None}
-use Rattle.std.specs.List.{flat_map}
+use Rattle.std.specs.Prelude.{ℕ, ◌+◌, ◌==◌, ◌&&◌, cond, not, nat_lt, Bool, List, Option, Some, None, flat_map}
 use Rattle.vlink.specs.Letters.{Row}
 use Rattle.netdesc.specs.Words.{Plan, process_count}
 use Rattle.trace_segments.specs.declared.fault.OutFault.TheVariants.{Device}

@@ -1,7 +1,6 @@
 -- What is counted of latencies, by the rows that tell them, and by each latency.
-use Rattle.std.proofs.Common.{◌≡◌, ℕ, ◌+◌, ◌<◌, ◌≤◌, ◌==◌, Bool, true, false, cond, min, max, List, [], ◌∷◌, length, refl, sym, inl, inr, ◌⊎◌, arith, length-append}
-use Rattle.std.specs.Prelude.{◌&&◌}
-use Rattle.std.specs.List.{All, AllByRecursion, Contains}
+use Rattle.std.proofs.Common.{◌≡◌, ℕ, ◌+◌, ◌<◌, ◌≤◌, ◌==◌, Bool, true, false, cond, min, max, List, [], ◌∷◌, length, refl, sym, inl, inr, ◌⊎◌, arith, length-append, ◌&&◌, All, Contains}
+use Rattle.std.specs.List.{AllByRecursion}
 use Rattle.std.proofs.lemmas.Bool.{cases_lt}
 use Rattle.std.proofs.lemmas.List.Elements.{All-from_recursion, Contains-append_right}
 use Rattle.std.proofs.lemmas.List.Sums.{sum_by-cons}

@@ -1,6 +1,5 @@
 -- One more latency at the end of those that are counted.
-use Rattle.std.proofs.Common.{◌≡◌, ℕ, suc, ◌+◌, ◌==◌, cond, min, max, List, [], ◌∷◌, ◌++◌, length, refl, ◌∙◌, arith, length-append}
-use Rattle.std.specs.Prelude.{sum}
+use Rattle.std.proofs.Common.{◌≡◌, ℕ, suc, ◌+◌, ◌==◌, cond, min, max, List, [], ◌∷◌, ◌++◌, length, refl, ◌∙◌, arith, length-append, sum}
 use Rattle.std.proofs.lemmas.Bool.Decides.{nat_tests}
 use Rattle.std.proofs.lemmas.List.Sums.{sum_by-append}
 use Rattle.trace_tables.specs.Latencies.{counts_of, least_from, least_of, greatest_from, with_latency}

@@ -1,7 +1,5 @@
 -- The rows of each process: what they decide, and rows that are put together from them.
-use Rattle.std.proofs.Common.{◌≡◌, ℕ, ◌+◌, ◌==◌, Bool, true, false, cond, List, [], ◌∷◌, ◌++◌, refl, ap, sym, ◌∙◌, arith, ne_eqb, eq-eqb}
-use Rattle.std.specs.Prelude.{◌&&◌}
-use Rattle.std.specs.List.{count_by, flat_map, filter}
+use Rattle.std.proofs.Common.{◌≡◌, ℕ, ◌+◌, ◌==◌, Bool, true, false, cond, List, [], ◌∷◌, ◌++◌, refl, ap, sym, ◌∙◌, arith, ne_eqb, eq-eqb, ◌&&◌, count_by, flat_map, filter}
 use Rattle.std.proofs.lemmas.List.Sums.{sum_by-cons}
 use Rattle.virtual_time.specs.Law.{rows_at}
 use Rattle.vlink.specs.declared.note.Note.{Note}

@@ -1,6 +1,5 @@
 -- Latencies by destination: the virtual link and the process where its frames end.
-use Rattle.std.specs.Prelude.{ℕ, cond, List, [], ◌∷◌, map}
-use Rattle.std.specs.List.{flat_map}
+use Rattle.std.specs.Prelude.{ℕ, cond, List, [], ◌∷◌, map, flat_map}
 use Rattle.std.specs.Option.{option_map_or}
 use Rattle.std.specs.Ordering.{nat_cmp, ordering_then}
 use Rattle.std.specs.declared.cmp.Ordering.{Ordering}

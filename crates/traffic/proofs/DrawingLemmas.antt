@@ -1,11 +1,9 @@
 -- The words and the offers of a virtual link, one after another.
-use Rattle.std.proofs.Common.{◌≡◌, ℕ, zero, suc, ◌+◌, ◌-◌, ◌<◌, ◌≤◌, inl, inr, List, [], ◌∷◌, ◌++◌, map, refl, ap, ◌∙◌, append_assoc, add-one, arith}
-use Rattle.std.specs.Prelude.{nat_le, ◌↔◌}
+use Rattle.std.proofs.Common.{◌≡◌, ℕ, zero, suc, ◌+◌, ◌-◌, ◌<◌, ◌≤◌, inl, inr, List, [], ◌∷◌, ◌++◌, map, refl, ap, ◌∙◌, append_assoc, add-one, arith, nat_le, ◌↔◌, le-div_iff_mul-le}
 use Rattle.std.specs.List.{range_with_len}
 use Rattle.std.proofs.lemmas.List.FromFn.{filter_of_map_range_with_len_more}
 use Rattle.std.proofs.lemmas.Bool.{cases_lt}
 use Rattle.std.proofs.lemmas.Bool.Decides.{nat_tests}
-use Rattle.std.proofs.Math.Nat.{le-div_iff_mul-le}
 use Rattle.rand_pcg.specs.Lcg.{Lcg, started, increment_of, next, next_state, state_after}
 use Rattle.rand_pcg.specs.Pcg.{multiplier_64, pcg32}
 use Rattle.vlink.specs.declared.message.Message.{Message}

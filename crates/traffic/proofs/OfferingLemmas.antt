@@ -1,8 +1,5 @@
 -- The offers of a network, one virtual link after another.
-use Rattle.std.proofs.Common.{◌≡◌, ℕ, ◌+◌, List, [], ◌∷◌, ◌++◌, take, Option, Some, None, refl, ap, ◌∙◌, append-nil}
-use Rattle.std.specs.Prelude.{slice_get, option_and_then}
-use Rattle.std.specs.List.{flat_map}
-use Rattle.std.specs.Option.{option_map, option_to_list}
+use Rattle.std.proofs.Common.{◌≡◌, ℕ, ◌+◌, List, [], ◌∷◌, ◌++◌, take, Option, Some, None, refl, ap, ◌∙◌, append-nil, slice_get, option_and_then, flat_map, option_map, option_to_list}
 use Rattle.std.proofs.lemmas.List.{take_more}
 use Rattle.std.proofs.lemmas.Grind.{flat_map-append}
 use Rattle.std.proofs.lemmas.Option.{slice_get_within, get_or_from_slice_get}

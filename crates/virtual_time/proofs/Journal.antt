@@ -1,6 +1,6 @@
 -- What the entries of a journal make of the world.
-use Rattle.std.proofs.Common.{◌≡◌, ℕ, ◌<◌, ◌≤◌, ◌==◌, ◌⊎◌, inl, inr, min, Bool, true, false, cond, nat_lt, List, [], ◌∷◌, ◌++◌, map, length, replicate, remove, Some, refl, sym, ap, ◌∙◌, subst, arith, append_assoc, append-nil, slice_get, eq-eqb, ne_eqb, eqb-true}
-use Rattle.std.proofs.lemmas.Bool.{cases_eq, lt-ltb, ltb-true, and_parts}
+use Rattle.std.proofs.Common.{◌≡◌, ℕ, ◌<◌, ◌≤◌, ◌==◌, ◌⊎◌, inl, inr, min, Bool, true, false, cond, nat_lt, List, [], ◌∷◌, ◌++◌, map, length, replicate, remove, Some, refl, sym, ap, ◌∙◌, subst, arith, append_assoc, append-nil, slice_get, eq-eqb, ne_eqb, eqb-true, lt-ltb, ltb-true}
+use Rattle.std.proofs.lemmas.Bool.{cases_eq, and_parts}
 use Rattle.virtual_time.specs.Simulation.{Simulation, put}
 use Rattle.virtual_time.specs.Letters.{lowest, times_of, received_by}
 use Rattle.virtual_time.specs.declared.letter.Letter.{Letter}

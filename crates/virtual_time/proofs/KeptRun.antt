@@ -1,6 +1,6 @@
 -- Every step and every list of steps keeps the world as it is to be, and GVT never falls.
-use Rattle.std.proofs.Common.{◌&&◌, ◌≡◌, ◌<◌, ◌≤◌, Bool, true, false, cond, nat_lt, List, [], ◌∷◌, ◌++◌, Option, Some, None, refl, arith, slice_get}
-use Rattle.std.proofs.lemmas.Bool.{and_parts, ltb-true}
+use Rattle.std.proofs.Common.{◌&&◌, ◌≡◌, ◌<◌, ◌≤◌, Bool, true, false, cond, nat_lt, List, [], ◌∷◌, ◌++◌, Option, Some, None, refl, arith, slice_get, ltb-true}
+use Rattle.std.proofs.lemmas.Bool.{and_parts}
 use Rattle.virtual_time.specs.declared.letter.Letter.{Letter}
 use Rattle.virtual_time.specs.Part.{can_commit}
 use Rattle.virtual_time.specs.Simulation.{Simulation, Laws}

@@ -1,6 +1,5 @@
 -- One process inside a world: its oldest done event is committed, which is earlier than GVT and has the count 1.
-use Rattle.std.proofs.Common.{◌≡◌, ℕ, ◌+◌, ◌<◌, ◌==◌, inl, inr, Bool, true, false, cond, List, [], ◌∷◌, ◌++◌, refl, sym, ap, subst, arith, eqb-true}
-use Rattle.std.proofs.lemmas.Bool.{ltb-true}
+use Rattle.std.proofs.Common.{◌≡◌, ℕ, ◌+◌, ◌<◌, ◌==◌, inl, inr, Bool, true, false, cond, List, [], ◌∷◌, ◌++◌, refl, sym, ap, subst, arith, eqb-true, ltb-true}
 use Rattle.virtual_time.specs.Lists.{one_if, times_in, IsIn, IsAscending}
 use Rattle.virtual_time.specs.Simulation.{Simulation, Laws, IsReached}
 use Rattle.virtual_time.specs.Letters.{minus_of, pluses, minuses}

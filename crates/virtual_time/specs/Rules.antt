@@ -1,7 +1,6 @@
 -- What a message is, in which order messages come, and what an actor does with one.
 -- An actor has a state; a message changes the state, and makes the actor send messages and note what happened.
-use Rattle.std.specs.Prelude.{◌≡◌, ℕ, ◌<◌, ◌==◌, Bool, true, false, List, [], ◌∷◌, ◌++◌, map}
-use Rattle.std.specs.List.{filter}
+use Rattle.std.specs.Prelude.{◌≡◌, ℕ, ◌<◌, ◌==◌, Bool, true, false, List, [], ◌∷◌, ◌++◌, map, filter}
 use Rattle.virtual_time.specs.declared.row.Row.{Row}
 
 -- the messages M: when one is received, by which process, and from which sender with which number of that sender; and their order

@@ -1,6 +1,5 @@
 -- What holds of a run that is ended.
-use Rattle.std.proofs.Common.{◌≡◌, ◌≤◌, ◌∙◌, refl, ℕ, suc, ◌+◌, List, [], ◌++◌, filter, length, slice_get, sym, ap, subst, arith}
-use Rattle.std.specs.Prelude.{Some}
+use Rattle.std.proofs.Common.{◌≡◌, ◌≤◌, ◌∙◌, refl, ℕ, suc, ◌+◌, List, [], ◌++◌, filter, length, slice_get, sym, ap, subst, arith, Some}
 use Rattle.std.proofs.lemmas.List.{nil_from_length}
 use Rattle.vlink.specs.declared.message.Message.{Message}
 use Rattle.vlink.specs.Letters.{Row}

@@ -1,7 +1,6 @@
 -- The least fault of outcomes that come one after another.
-use Rattle.std.proofs.Common.{◌≡◌, ◌≤◌, ◌⊎◌, inl, inr, List, [], ◌∷◌, ◌++◌, sym, subst, arith}
-use Rattle.std.specs.Prelude.{Result, Ok, Err, ⊤, IsOk, IfErr, OnOk}
-use Rattle.std.specs.List.{All, Contains}
+use Rattle.std.proofs.Common.{◌≡◌, ◌≤◌, ◌⊎◌, inl, inr, List, [], ◌∷◌, ◌++◌, sym, subst, arith, Result, Ok, Err, IsOk, IfErr, OnOk, All, Contains}
+use Rattle.std.specs.Prelude.{⊤}
 use Rattle.std.proofs.lemmas.Bool.{false≢true}
 use Rattle.std.proofs.lemmas.List.Elements.{All-nil, All-cons, All-append, All-weaker, Contains-append_left, Contains-append_right}
 use Rattle.journal.specs.declared.fault.PoolFault.{PoolFault}

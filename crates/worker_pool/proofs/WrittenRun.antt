@@ -1,8 +1,6 @@
 -- The trace of a run, as batches are written.
-use Rattle.std.proofs.Common.{◌≡◌, ◌≢◌, ◌∙◌, ℕ, ◌+◌, ◌≤◌, true, false, cond, List, ◌++◌, refl, sym, ap, subst, arith}
-use Rattle.std.specs.Prelude.{Option, Some, None, Result, Ok, Err, OnOk, IfErr}
+use Rattle.std.proofs.Common.{◌≡◌, ◌≢◌, ◌∙◌, ℕ, ◌+◌, ◌≤◌, true, false, cond, List, ◌++◌, refl, sym, ap, subst, arith, Option, Some, None, Result, Ok, Err, OnOk, IfErr, flat_map}
 use Rattle.std.specs.Io.KnownBytes.{append_known}
-use Rattle.std.specs.List.{flat_map}
 use Rattle.std.proofs.lemmas.Grind.{common_steps}
 use Rattle.vlink.specs.Letters.{Row}
 use Rattle.netdesc.specs.Words.{Plan}

@@ -1,6 +1,5 @@
 -- What a run by workers is told, of what each of them ended with.
-use Rattle.std.specs.Prelude.{ℕ, ◌+◌, ◌<◌, ◌≤◌, List, Result, Err, ⊤, IsOk, IsSome, IfErr, OnOk}
-use Rattle.std.specs.List.{All, Contains}
+use Rattle.std.specs.Prelude.{ℕ, ◌+◌, ◌<◌, ◌≤◌, List, Result, Err, ⊤, IsOk, IsSome, IfErr, OnOk, All, Contains}
 use Rattle.vlink.specs.declared.message.Message.{Message}
 use Rattle.vlink.specs.Order.{message_order}
 use Rattle.vlink.specs.Numbering.{greatest_number}

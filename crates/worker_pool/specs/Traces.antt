@@ -1,8 +1,7 @@
 -- The trace of a run of a network, and what it is made of: batches, segments that wait for others, and what is written. Their rows are those
 -- of the one-thread run. Times are in ns.
-use Rattle.std.specs.Prelude.{◌≡◌, ℕ, ◌+◌, ◌≤◌, Bool, true, false, cond, List, [], Option, length}
+use Rattle.std.specs.Prelude.{◌≡◌, ℕ, ◌+◌, ◌≤◌, Bool, true, false, cond, List, [], Option, length, All}
 use Rattle.std.specs.Io.KnownBytes.{append_known}
-use Rattle.std.specs.List.{All}
 use Rattle.virtual_time.specs.Law.{rows_at}
 use Rattle.vlink.specs.Letters.{Row}
 use Rattle.netdesc.specs.Words.{Plan, process_count}

@@ -1,7 +1,6 @@
 -- What checks and tables see of the code's vectors.
-use Rattle.std.specs.Prelude.{ℕ, ◌≡◌, slice_index_or, Bool, List, [], map, Option, Result, Ok, Err}
+use Rattle.std.specs.Prelude.{ℕ, ◌≡◌, slice_index_or, Bool, List, [], map, Option, Result, Ok, Err, Vec}
 use Rattle.std.specs.declared.alloc.Global.{Global}
-use Rattle.std.specs.declared.vec.Vec.{Vec}
 use Rattle.network_rows.specs.declared.fault.DescFault.{DescFault}
 use Rattle.network_rows.specs.declared.fault.DescFault.TheVariants.{OutOfMemory}
 use Rattle.netdesc.specs.declared.routes.End.{End}

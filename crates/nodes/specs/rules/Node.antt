@@ -1,6 +1,5 @@
 -- Definition: a node's plain step, which is what a node makes of a message; and what can be read of a node.
-use Rattle.std.specs.Prelude.{ℕ, List, Option, None}
-use Rattle.std.specs.Option.{option_map}
+use Rattle.std.specs.Prelude.{ℕ, List, Option, None, option_map}
 use Rattle.vlink.specs.declared.frame.VlId.{VlId}
 use Rattle.vlink.specs.declared.message.Message.{Message}
 use Rattle.vlink.specs.declared.note.Note.{Note}

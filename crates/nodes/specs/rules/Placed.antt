@@ -1,6 +1,5 @@
 -- Definition: the fixed parts of a node as it has them in a network, which are its delays, and the processes that it sends to.
-use Rattle.std.specs.Prelude.{ℕ, ◌<◌, ◌≤◌, IfSome}
-use Rattle.std.specs.List.{All}
+use Rattle.std.specs.Prelude.{ℕ, ◌<◌, ◌≤◌, IfSome, All}
 use Rattle.nodes.specs.declared.ports.Wire.{Wire}
 use Rattle.nodes.specs.declared.equipment.Equipment.{Equipment}
 use Rattle.nodes.specs.declared.equipment.Equipment.TheVariants.{EndSystem, Switch, Line}

@@ -1,6 +1,5 @@
 -- Definition: the output ports of a node, and the lines that they lead into.
-use Rattle.std.specs.Prelude.{ℕ, ◌+◌, Bool, List, [], ◌∷◌, Option, None, Some, is_some, slice_get, slice_set}
-use Rattle.std.specs.Option.{option_and_then, option_map}
+use Rattle.std.specs.Prelude.{ℕ, ◌+◌, Bool, List, [], ◌∷◌, Option, None, Some, is_some, slice_get, slice_set, option_and_then, option_map}
 use Rattle.vlink.specs.declared.frame.Frame.{Frame}
 use Rattle.vlink.specs.declared.message.Body.TheVariants.{Carry, PortFree}
 use Rattle.vlink.specs.declared.note.Cause.TheVariants.{PortFull}

@@ -1,6 +1,5 @@
 -- Undoing: the records that are kept of an event at a port of a node, and the ports before it.
-use Rattle.std.specs.Prelude.{◌≡◌, ℕ, Option, None, Some, IfSome, slice_set}
-use Rattle.std.specs.Option.{option_map}
+use Rattle.std.specs.Prelude.{◌≡◌, ℕ, Option, None, Some, IfSome, slice_set, option_map}
 use Rattle.vlink.specs.declared.frame.Frame.{Frame}
 use Rattle.output_port.specs.Port.{port, put_kept, undone, IsWithinBytes}
 use Rattle.output_port.specs.declared.event.Priority.{Priority}

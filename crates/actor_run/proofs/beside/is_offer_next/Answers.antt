@@ -1,6 +1,4 @@
-use Rattle.std.proofs.Common.{◌≡◌, true, subst, rules}
-use Rattle.std.specs.Prelude.{IsSomeAnd}
-use Rattle.std.specs.BinaryHeap.{heap_items}
+use Rattle.std.proofs.Common.{◌≡◌, true, subst, rules, IsSomeAnd, heap_items}
 use Rattle.reverse.specs.Rules.{is_before}
 use Rattle.actor_run.proofs.Waits.{NoneBefore, top-first, before-sent}
 use Rattle.actor_run.proofs.beside.is_offer_next.Goals as goal

@@ -1,5 +1,4 @@
-use Rattle.std.proofs.Common.{◌∙◌, refl, sym, subst, option_map, string_bytes}
-use Rattle.std.specs.Prelude.{is_some}
+use Rattle.std.proofs.Common.{◌∙◌, refl, sym, subst, option_map, string_bytes, is_some}
 use Rattle.worker_pool.specs.Runs.{IsJournalAsked}
 use Rattle.afdxsim.specs.Files.{LeavesRun}
 use Rattle.afdxsim.specs.Orders.{heard_host}

@@ -1,5 +1,4 @@
-use Rattle.std.proofs.Common.{◌≡◌, ◌≤◌, take}
-use Rattle.std.specs.Prelude.{vec_len, vec_capacity}
+use Rattle.std.proofs.Common.{◌≡◌, ◌≤◌, take, vec_len, vec_capacity}
 use Rattle.journal_text.specs.Text.{steps_text}
 use Rattle.afdxsim.proofs.Holding.{IsHeld}
 use Rattle.afdxsim.proofs.steps.write_steps.Given as goal

@@ -1,6 +1,4 @@
-use Rattle.std.proofs.Common.{refl, sym, ap, ◌∙◌}
-use Rattle.std.specs.Option.{option_map}
-use Rattle.std.specs.List.{find}
+use Rattle.std.proofs.Common.{refl, sym, ap, ◌∙◌, option_map, find}
 use Rattle.virtual_time.specs.Law.{is_plus}
 use Rattle.antimessages.proofs.First.{plus-head, minus-head}
 use Rattle.antimessages.proofs.occurrences.first_plus.Goals as goal

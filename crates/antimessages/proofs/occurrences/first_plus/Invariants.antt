@@ -1,6 +1,4 @@
-use Rattle.std.proofs.Common.{◌≡◌}
-use Rattle.std.specs.Option.{option_map}
-use Rattle.std.specs.List.{find}
+use Rattle.std.proofs.Common.{◌≡◌, option_map, find}
 use Rattle.virtual_time.specs.Law.{is_plus}
 use Rattle.antimessages.proofs.occurrences.first_plus.Given as goal
 

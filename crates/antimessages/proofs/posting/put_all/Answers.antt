@@ -1,6 +1,4 @@
-use Rattle.std.proofs.Common.{◌++◌, map, refl, sym, ap, ◌∙◌, append-nil, arith}
-use Rattle.std.proofs.Math.ListN.{length-set}
-use Rattle.std.proofs.lemmas.List.{take_all}
+use Rattle.std.proofs.Common.{◌++◌, map, refl, sym, ap, ◌∙◌, append-nil, arith, length-set, take_all}
 use Rattle.virtual_time.specs.Law.{received_by}
 use Rattle.vlink.specs.Order.{message_order}
 use Rattle.antimessages.specs.Mailing.{letters_for, store_of}

@@ -1,7 +1,5 @@
-use Rattle.std.proofs.Common.{inl, inr, length, map, slice_set, refl, ap, ◌∙◌, arith}
-use Rattle.std.proofs.Math.ListN.{length-set}
+use Rattle.std.proofs.Common.{inl, inr, length, map, slice_set, refl, ap, ◌∙◌, arith, length-set, take_all}
 use Rattle.std.proofs.lemmas.Bool.{cases_lt}
-use Rattle.std.proofs.lemmas.List.{take_all}
 use Rattle.virtual_time.specs.Law.{received_by}
 use Rattle.vlink.specs.Order.{message_order}
 use Rattle.antimessages.specs.Mailing.{store_of}

@@ -1,5 +1,4 @@
-use Rattle.std.proofs.Common.{inl, inr, length, map, slice_set, ap, ◌∙◌, arith}
-use Rattle.std.proofs.Math.ListN.{length-set}
+use Rattle.std.proofs.Common.{inl, inr, length, map, slice_set, ap, ◌∙◌, arith, length-set}
 use Rattle.std.proofs.lemmas.Bool.{cases_lt}
 use Rattle.antimessages.specs.Mailing.{store_of}
 use Rattle.antimessages.proofs.Boxes.{IsChanged, changed, received-none, same-letters, more-room, reserve-next, refused-next}

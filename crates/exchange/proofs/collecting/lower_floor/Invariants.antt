@@ -1,5 +1,4 @@
-use Rattle.std.proofs.Common.{◌≡◌, ◌≢◌, ℕ, length, take, slice_get}
-use Rattle.std.specs.Option.{option_map}
+use Rattle.std.proofs.Common.{◌≡◌, ◌≢◌, ℕ, length, take, slice_get, option_map}
 use Rattle.virtual_time.specs.Law.{lowest, times_of}
 use Rattle.vlink.specs.Order.{message_order}
 use Rattle.antimessages.specs.Mailing.{letters_for}

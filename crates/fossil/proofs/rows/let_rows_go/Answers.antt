@@ -1,5 +1,4 @@
-use Rattle.std.proofs.Common.{◌≡◌, ◌+◌, drop, length, sym, ap, ◌∙◌, subst, arith}
-use Rattle.std.proofs.lemmas.List.{length-drop}
+use Rattle.std.proofs.Common.{◌≡◌, ◌+◌, drop, length, sym, ap, ◌∙◌, subst, arith, length-drop}
 use Rattle.virtual_time.specs.Law.{rowed}
 use Rattle.reverse.specs.Rules.{rules_of}
 use Rattle.fossil.specs.Within.{AreFirstBefore, AreFrom}

@@ -1,5 +1,4 @@
-use Rattle.std.proofs.Common.{◌∷◌, subst, sym}
-use Rattle.std.specs.Prelude.{IfNone}
+use Rattle.std.proofs.Common.{◌∷◌, subst, sym, IfNone}
 use Rattle.journal_text.specs.Text.{Fits, step_line}
 use Rattle.journal_text.specs.Fronts.{BeginsWithNone}
 use Rattle.journal_text.proofs.StepLemmas.{no_place}

@@ -1,5 +1,4 @@
-use Rattle.std.proofs.Common.{◌≡◌, ◌<◌, ◌^◌, ◌∙◌, true, false, sym, subst, arith}
-use Rattle.std.specs.Prelude.{IfNone}
+use Rattle.std.proofs.Common.{◌≡◌, ◌<◌, ◌^◌, ◌∙◌, true, false, sym, subst, arith, IfNone}
 use Rattle.journal_text.specs.Text.{number_then}
 use Rattle.journal_text.specs.Fronts.{BeginsWithNone}
 use Rattle.journal_text.proofs.DigitLemmas.{no_digit_first, zero_is_cut, zero_is_read}

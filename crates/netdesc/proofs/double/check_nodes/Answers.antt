@@ -1,5 +1,4 @@
-use Rattle.std.proofs.Common.{◌≡◌, ◌<◌, true, false, length, take, get_or, arith, ap, sym, ◌∙◌, refl, inr, Some}
-use Rattle.std.specs.Str.{bytes_eq}
+use Rattle.std.proofs.Common.{◌≡◌, ◌<◌, true, false, length, take, get_or, arith, ap, sym, ◌∙◌, refl, inr, Some, bytes_eq}
 use Rattle.std.proofs.lemmas.List.{length-map}
 use Rattle.std.proofs.lemmas.Slice.Eq.{bytes_eq-Decides}
 use Rattle.network_rows.specs.declared.fault.DescFault.TheVariants.{DoubleName}

@@ -1,6 +1,5 @@
-use Rattle.std.proofs.Common.{◌≡◌, ℕ, ◌+◌, ◌<◌, ◌≤◌, cond, ◌++◌, length, vec_len, map, take, get_or, count_by, arith, ap, sym, subst, ◌∙◌}
-use Rattle.std.proofs.lemmas.List.{get_or_read, length-take-le, take_all}
-use Rattle.std.specs.Prelude.{All}
+use Rattle.std.proofs.Common.{◌≡◌, ℕ, ◌+◌, ◌<◌, ◌≤◌, cond, ◌++◌, length, vec_len, map, take, get_or, count_by, arith, ap, sym, subst, ◌∙◌, length-take-le, take_all, All}
+use Rattle.std.proofs.lemmas.List.{get_or_read}
 use Rattle.netdesc.proofs.BuildLemmas.{LeadsWithin, All-lines}
 use Rattle.std.proofs.lemmas.List.Sums.{count_by-le-length}
 use Rattle.vlink.specs.declared.frame.Net.TheVariants.{A}

@@ -1,5 +1,4 @@
-use Rattle.std.proofs.Common.{◌≡◌, ℕ, ◌<◌, ◌++◌, drop, vec_len}
-use Rattle.std.specs.Prelude.{filter}
+use Rattle.std.proofs.Common.{◌≡◌, ℕ, ◌<◌, ◌++◌, drop, vec_len, filter}
 use Rattle.netdesc.specs.Words.{is_outage_of, outages_at}
 use Rattle.netdesc.proofs.lines.losses_of.Given as goal
 

@@ -1,5 +1,5 @@
-use Rattle.std.proofs.Common.{◌≡◌, ◌<◌, ◌==◌, length, take, sym, subst, arith}
-use Rattle.std.proofs.lemmas.List.{take_more, take_all}
+use Rattle.std.proofs.Common.{◌≡◌, ◌<◌, ◌==◌, length, take, sym, subst, arith, take_all}
+use Rattle.std.proofs.lemmas.List.{take_more}
 use Rattle.std.specs.HashMap.{get}
 use Rattle.netdesc.specs.Words.{AreWays}
 use Rattle.netdesc.proofs.WayLemmas.{no-other-way, other-way-at, no_hop}

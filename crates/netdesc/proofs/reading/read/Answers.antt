@@ -1,5 +1,4 @@
-use Rattle.std.proofs.Common.{Result, Ok, Err}
-use Rattle.std.specs.Prelude.{MatchResult, OnOk}
+use Rattle.std.proofs.Common.{Result, Ok, Err, MatchResult, OnOk}
 use Rattle.netdesc.proofs.FaultLemmas.{no_fault}
 use Rattle.netdesc.proofs.reading.read.Goals as goal
 

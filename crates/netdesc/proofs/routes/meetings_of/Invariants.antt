@@ -1,5 +1,4 @@
-use Rattle.std.proofs.Common.{◌≡◌, ℕ, ◌<◌, ◌++◌, drop, vec_len}
-use Rattle.std.specs.List.{flat_map}
+use Rattle.std.proofs.Common.{◌≡◌, ℕ, ◌<◌, ◌++◌, drop, vec_len, flat_map}
 use Rattle.netdesc.specs.Words.{leaves, comes_in, ways_at}
 use Rattle.netdesc.proofs.routes.meetings_of.Given as goal
 

@@ -1,6 +1,5 @@
-use Rattle.std.proofs.Common.{◌≡◌, ℕ, ◌+◌, ◌<◌, List, [], None, subst, true, false, not, ◌&&◌, nat_lt, length, map, count_by, arith, ap, sym, ◌∙◌, inr, Some}
+use Rattle.std.proofs.Common.{◌≡◌, ℕ, ◌+◌, ◌<◌, List, [], None, subst, true, false, not, ◌&&◌, nat_lt, length, map, count_by, arith, ap, sym, ◌∙◌, inr, Some, slice_get}
 use Rattle.std.proofs.lemmas.List.{get_or_read}
-use Rattle.std.specs.Prelude.{slice_get}
 use Rattle.network_rows.specs.declared.key.Section.TheVariants.{Node}
 use Rattle.network_rows.specs.declared.fault.DescFault.{DescFault}
 use Rattle.netdesc.specs.Words.{when, greatest_ports, NodePlan, node_plan, is_end_system, too_many_at_node, touches, Tells}

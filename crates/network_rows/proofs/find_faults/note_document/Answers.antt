@@ -1,5 +1,4 @@
-use Rattle.std.proofs.Common.{None, ap, sym, ◌∙◌}
-use Rattle.std.specs.List.{flat_map}
+use Rattle.std.proofs.Common.{None, ap, sym, ◌∙◌, flat_map}
 use Rattle.toml.specs.View.{table_view}
 use Rattle.network_rows.specs.declared.key.Section.TheVariants.{Top}
 use Rattle.network_rows.specs.declared.first_places.FirstPlaces.{FirstPlaces}

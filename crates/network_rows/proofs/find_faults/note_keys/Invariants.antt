@@ -1,5 +1,4 @@
-use Rattle.std.proofs.Common.{◌≡◌, drop}
-use Rattle.std.specs.List.{flat_map}
+use Rattle.std.proofs.Common.{◌≡◌, drop, flat_map}
 use Rattle.toml.specs.View.{table_view}
 use Rattle.network_rows.specs.Faults.{faults_at}
 use Rattle.network_rows.specs.Firsts.{all_stored}

@@ -1,5 +1,4 @@
-use Rattle.std.proofs.Common.{refl, ap, sym, ◌∙◌}
-use Rattle.std.specs.Option.{option_and_then}
+use Rattle.std.proofs.Common.{refl, ap, sym, ◌∙◌, option_and_then}
 use Rattle.nodes.specs.declared.meeting.Meeting.{Meeting}
 use Rattle.nodes.specs.Words.{found_at, number_met, ports_found}
 use Rattle.nodes.proofs.NumberLemmas.{found-read}

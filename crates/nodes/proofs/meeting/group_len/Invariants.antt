@@ -1,5 +1,4 @@
-use Rattle.std.proofs.Common.{◌≡◌, take}
-use Rattle.std.specs.Prelude.{All}
+use Rattle.std.proofs.Common.{◌≡◌, take, All}
 use Rattle.nodes.proofs.meeting.group_len.Given as goal
 
 abbrev pub invariant-loop-i : goal.invariant-loop-i

@@ -1,7 +1,5 @@
-use Rattle.std.proofs.Common.{◌≡◌, ℕ, ◌<◌, List, map, ap, sym, ◌∙◌, subst}
-use Rattle.std.specs.Prelude.{All, IfOk}
+use Rattle.std.proofs.Common.{◌≡◌, ℕ, ◌<◌, List, map, ap, sym, ◌∙◌, subst, All, IfOk, flat_map}
 use Rattle.netdesc.specs.declared.too_many.TheConstants.{GREATEST_PORTS}
-use Rattle.std.specs.List.{flat_map}
 use Rattle.netdesc.specs.declared.wiring.Way.{Way}
 use Rattle.netdesc.specs.Words.{Plan, IsAccepted}
 use Rattle.nodes.specs.declared.meeting.Side.{Side}

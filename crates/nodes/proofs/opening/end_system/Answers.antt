@@ -1,5 +1,4 @@
-use Rattle.std.proofs.Common.{map, ap, sym, ◌∙◌, subst}
-use Rattle.std.specs.Prelude.{All}
+use Rattle.std.proofs.Common.{map, ap, sym, ◌∙◌, subst, All}
 use Rattle.netdesc.specs.Words.{IsLinkInLimits}
 use Rattle.nodes.specs.declared.meeting.Meeting.{Meeting}
 use Rattle.nodes.specs.Words.{IsRising, source_number, reception_number, number_met, source_met, reception_met}

@@ -1,5 +1,4 @@
-use Rattle.std.proofs.Common.{List, map, refl, ap, sym, ◌∙◌, subst}
-use Rattle.std.specs.Prelude.{All}
+use Rattle.std.proofs.Common.{List, map, refl, ap, sym, ◌∙◌, subst, All}
 use Rattle.netdesc.specs.Words.{IsLinkInLimits}
 use Rattle.nodes.specs.declared.meeting.Meeting.{Meeting}
 use Rattle.nodes.specs.Words.{IsRising, transit_number, number_met, transit_met}

@@ -1,5 +1,4 @@
-use Rattle.std.proofs.Common.{◌++◌, List, ap, ◌∙◌}
-use Rattle.std.proofs.lemmas.List.{append-nil}
+use Rattle.std.proofs.Common.{◌++◌, List, ap, ◌∙◌, append-nil}
 use Rattle.vlink.specs.declared.note.Note.{Note}
 use Rattle.bag_regulator.specs.declared.event.RegOut.{RegOut}
 use Rattle.reverse.specs.Sending.{joined, replied, OutboundState}

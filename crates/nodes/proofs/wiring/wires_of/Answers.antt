@@ -1,5 +1,4 @@
-use Rattle.std.proofs.Common.{◌≡◌, None, length, take, get_or, arith, ap, ◌∙◌}
-use Rattle.std.proofs.lemmas.List.{take_all}
+use Rattle.std.proofs.Common.{◌≡◌, None, length, take, get_or, arith, ap, ◌∙◌, take_all}
 use Rattle.std.proofs.lemmas.List.FromFn.{fill_by_all}
 use Rattle.netdesc.specs.Words.{lines_of}
 use Rattle.nodes.specs.Words.{wire_among, wires_of}

@@ -1,5 +1,4 @@
-use Rattle.std.proofs.Common.{◌≡◌, ◌+◌, ◌≤◌, ◌++◌, map, take, length}
-use Rattle.std.specs.VecDeque.{deque_len, deque_capacity}
+use Rattle.std.proofs.Common.{◌≡◌, ◌+◌, ◌≤◌, ◌++◌, map, take, length, deque_len, deque_capacity}
 use Rattle.virtual_time.specs.Law.{plus_of}
 use Rattle.process_queues.proofs.past.send_all.Given as goal
 

@@ -1,6 +1,4 @@
-use Rattle.std.proofs.Common.{◌≡◌, ℕ, ◌+◌, ◌≤◌, ◌++◌, take, drop, length}
-use Rattle.std.specs.Prelude.{◌≢◌}
-use Rattle.std.specs.VecDeque.{deque_len, deque_capacity}
+use Rattle.std.proofs.Common.{◌≡◌, ℕ, ◌+◌, ◌≤◌, ◌++◌, take, drop, length, ◌≢◌, deque_len, deque_capacity}
 use Rattle.antimessages.specs.Mailing.{letters_for}
 use Rattle.process_queues.proofs.process.take_letters.Given as goal
 

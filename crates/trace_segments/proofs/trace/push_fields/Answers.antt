@@ -1,5 +1,4 @@
-use Rattle.std.proofs.Common.{◌≡◌, ℕ, List, [], ◌∷◌, ◌∙◌, subst, OnOk}
-use Rattle.std.specs.Prelude.{decimal}
+use Rattle.std.proofs.Common.{◌≡◌, ℕ, List, [], ◌∷◌, ◌∙◌, subst, OnOk, decimal}
 use Rattle.trace_segments.specs.Words.{line, Adds}
 use Rattle.trace_segments.proofs.trace.push_fields.Goals as goal
 

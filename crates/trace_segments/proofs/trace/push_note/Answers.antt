@@ -1,5 +1,4 @@
-use Rattle.std.proofs.Common.{ℕ, List, [], ◌∷◌, ap, sym, ◌∙◌, subst, OnOk}
-use Rattle.std.specs.Prelude.{decimal}
+use Rattle.std.proofs.Common.{ℕ, List, [], ◌∷◌, ap, sym, ◌∙◌, subst, OnOk, decimal}
 use Rattle.trace_segments.specs.Words.{line, note_fields, Adds}
 use Rattle.trace_segments.proofs.trace.push_note.Goals as goal
 

@@ -1,5 +1,4 @@
-use Rattle.std.proofs.Common.{◌≡◌, ℕ, List, [], ◌∷◌, ap, sym, ◌∙◌, subst, OnOk, cond, true}
-use Rattle.std.specs.Prelude.{decimal}
+use Rattle.std.proofs.Common.{◌≡◌, ℕ, List, [], ◌∷◌, ap, sym, ◌∙◌, subst, OnOk, cond, true, decimal}
 use Rattle.trace_segments.specs.Words.{is_known, is_in_network, line, place_name, note_fields, Adds}
 use Rattle.trace_segments.proofs.trace.push_row.Goals as goal
 

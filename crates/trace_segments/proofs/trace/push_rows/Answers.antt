@@ -1,6 +1,4 @@
-use Rattle.std.proofs.Common.{ap, sym, take}
-use Rattle.std.specs.List.{flat_map}
-use Rattle.std.proofs.lemmas.List.{take_all}
+use Rattle.std.proofs.Common.{ap, sym, take, flat_map, take_all}
 use Rattle.trace_segments.specs.Words.{trace_line}
 use Rattle.trace_segments.proofs.WritingLemmas.{adds-more, adds-same, flat_map-more}
 use Rattle.trace_segments.proofs.trace.push_rows.Goals as goal

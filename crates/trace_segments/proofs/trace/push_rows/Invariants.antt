@@ -1,5 +1,4 @@
-use Rattle.std.proofs.Common.{take}
-use Rattle.std.specs.List.{flat_map}
+use Rattle.std.proofs.Common.{take, flat_map}
 use Rattle.trace_segments.specs.Words.{trace_line, Adds}
 use Rattle.trace_segments.proofs.trace.push_rows.Given as goal
 

@@ -1,5 +1,4 @@
-use Rattle.std.proofs.Common.{◌≡◌, take}
-use Rattle.std.specs.List.{flat_map}
+use Rattle.std.proofs.Common.{◌≡◌, take, flat_map}
 use Rattle.trace_segments.specs.Words.{first_of}
 use Rattle.trace_segments.proofs.waiting.first_rows.Given as goal
 

@@ -1,7 +1,5 @@
-use Rattle.std.proofs.Common.{drop, ap, ◌∙◌, arith}
-use Rattle.std.proofs.lemmas.List.{length-set}
+use Rattle.std.proofs.Common.{drop, ap, ◌∙◌, arith, length-set, slice_set}
 use Rattle.std.proofs.lemmas.List.Edits.{map_over_more}
-use Rattle.std.specs.Prelude.{slice_set}
 use Rattle.trace_segments.proofs.waiting.pop_firsts.Goals as goal
 
 pub loop-place-preserved : goal.loop-place-preserved

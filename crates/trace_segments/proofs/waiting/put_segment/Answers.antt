@@ -1,5 +1,4 @@
-use Rattle.std.proofs.Common.{◌∙◌, ap, sym, subst}
-use Rattle.std.specs.Prelude.{slice_set, slice_index_or, map, drop}
+use Rattle.std.proofs.Common.{◌∙◌, ap, sym, subst, slice_set, slice_index_or, map, drop}
 use Rattle.trace_segments.specs.Words.{with_segment, are_all_there, first_rows, IsInOrder}
 use Rattle.trace_segments.proofs.WaitingLemmas.{put-is, segment-back}
 use Rattle.trace_segments.proofs.waiting.put_segment.Goals as goal

@@ -1,5 +1,4 @@
-use Rattle.std.proofs.Common.{◌≡◌, ℕ, List, []}
-use Rattle.std.specs.List.{flat_map}
+use Rattle.std.proofs.Common.{◌≡◌, ℕ, List, [], flat_map}
 use Rattle.trace_segments.specs.Words.{trace_line, Holds}
 use Rattle.trace_segments.proofs.WritingLemmas.{if-ok}
 use Rattle.trace_segments.proofs.write.line_bytes.Goals as goal

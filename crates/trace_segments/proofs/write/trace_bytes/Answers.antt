@@ -1,5 +1,4 @@
-use Rattle.std.proofs.Common.{◌≡◌, ℕ, List, []}
-use Rattle.std.specs.List.{flat_map}
+use Rattle.std.proofs.Common.{◌≡◌, ℕ, List, [], flat_map}
 use Rattle.trace_segments.specs.Words.{trace_head, trace_line, trace_text, Holds}
 use Rattle.trace_segments.proofs.WritingLemmas.{adds-more, if-ok}
 use Rattle.trace_segments.proofs.write.trace_bytes.Goals as goal

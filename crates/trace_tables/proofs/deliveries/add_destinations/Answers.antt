@@ -1,5 +1,4 @@
-use Rattle.std.proofs.Common.{[], ap, get_or, map, sym, ◌∙◌}
-use Rattle.std.proofs.lemmas.List.{take_all}
+use Rattle.std.proofs.Common.{[], ap, get_or, map, sym, ◌∙◌, take_all}
 use Rattle.std.specs.BTreeMap.{insert_entry}
 use Rattle.trace_tables.specs.Destinations.{destination, destination_cmp, with_destinations}
 use Rattle.trace_tables.specs.Latencies.{counts_of}

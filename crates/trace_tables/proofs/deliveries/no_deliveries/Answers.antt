@@ -1,5 +1,4 @@
-use Rattle.std.proofs.Common.{[], map, take, ap, sym, ◌∙◌, add-one, arith}
-use Rattle.std.proofs.lemmas.List.{take_all}
+use Rattle.std.proofs.Common.{[], map, take, ap, sym, ◌∙◌, add-one, arith, take_all}
 use Rattle.std.proofs.lemmas.Map.Keys.{sorted_from_strictly_increasing}
 use Rattle.netdesc.specs.Words.{ids_of}
 use Rattle.trace_tables.specs.Destinations.{destination, destinations_in, with_destinations}

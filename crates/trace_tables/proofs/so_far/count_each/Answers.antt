@@ -1,5 +1,4 @@
-use Rattle.std.proofs.Common.{◌≡◌, ◌+◌, ◌≤◌, ℕ, List, [], ◌∷◌, ◌++◌, ◌∙◌, subst, length, ap, sym, take, arith, append_assoc, append-nil, length-append}
-use Rattle.std.proofs.lemmas.List.{length-take-le, take_all}
+use Rattle.std.proofs.Common.{◌≡◌, ◌+◌, ◌≤◌, ℕ, List, [], ◌∷◌, ◌++◌, ◌∙◌, subst, length, ap, sym, take, arith, append_assoc, append-nil, length-append, length-take-le, take_all}
 use Rattle.vlink.specs.Letters.{Row}
 use Rattle.trace_segments.proofs.WritingLemmas.{take-read}
 use Rattle.trace_tables.specs.SoFar.{AreInTables}

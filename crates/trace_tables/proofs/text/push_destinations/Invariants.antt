@@ -1,5 +1,4 @@
-use Rattle.std.proofs.Common.{map, take}
-use Rattle.std.specs.List.{flat_map}
+use Rattle.std.proofs.Common.{map, take, flat_map}
 use Rattle.trace_tables.specs.Destinations.{destination}
 use Rattle.trace_tables.specs.Text.{destination_line}
 use Rattle.trace_segments.specs.Words.{Adds}

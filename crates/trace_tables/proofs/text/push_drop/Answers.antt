@@ -1,6 +1,4 @@
-use Rattle.std.proofs.Common.{◌≡◌, ℕ, ◌<◌, Bool, true, cond, nat_lt, List, [], ap, sym, ◌∙◌, subst, OnOk, arith}
-use Rattle.std.specs.Prelude.{◌&&◌}
-use Rattle.std.proofs.lemmas.Bool.{lt-ltb}
+use Rattle.std.proofs.Common.{◌≡◌, ℕ, ◌<◌, Bool, true, cond, nat_lt, List, [], ap, sym, ◌∙◌, subst, OnOk, arith, ◌&&◌, lt-ltb}
 use Rattle.trace_segments.specs.Words.{is_in_network, Adds}
 use Rattle.trace_tables.specs.Text.{loss_line}
 use Rattle.trace_tables.proofs.text.push_drop.Goals as goal

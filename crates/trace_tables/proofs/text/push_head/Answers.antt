@@ -1,5 +1,4 @@
-use Rattle.std.proofs.Common.{◌≡◌, ℕ, List, [], ◌∷◌, subst, OnOk}
-use Rattle.std.specs.Prelude.{codes}
+use Rattle.std.proofs.Common.{◌≡◌, ℕ, List, [], ◌∷◌, subst, OnOk, codes}
 use Rattle.trace_segments.specs.Words.{line, Adds}
 use Rattle.trace_tables.proofs.text.push_head.Goals as goal
 

@@ -1,6 +1,4 @@
-use Rattle.std.proofs.Common.{map, take, ap, sym, ◌∙◌, add-one, arith}
-use Rattle.std.specs.List.{flat_map}
-use Rattle.std.proofs.lemmas.List.{take_all}
+use Rattle.std.proofs.Common.{map, take, ap, sym, ◌∙◌, add-one, arith, flat_map, take_all}
 use Rattle.std.proofs.lemmas.Grind.{flat_map-append}
 use Rattle.trace_tables.specs.Destinations.{destination, destinations_in}
 use Rattle.trace_tables.specs.Text.{destination_line}

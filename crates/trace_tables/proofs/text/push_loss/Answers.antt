@@ -1,5 +1,4 @@
-use Rattle.std.proofs.Common.{◌≡◌, ℕ, List, [], ◌∷◌, ap, ◌∙◌, subst, OnOk}
-use Rattle.std.specs.Prelude.{codes, decimal}
+use Rattle.std.proofs.Common.{◌≡◌, ℕ, List, [], ◌∷◌, ap, ◌∙◌, subst, OnOk, codes, decimal}
 use Rattle.trace_segments.specs.Words.{line, place_name, cause_name, Adds}
 use Rattle.trace_tables.proofs.text.push_loss.Goals as goal
 

@@ -1,5 +1,4 @@
-use Rattle.std.proofs.Common.{◌≡◌, ◌+◌, ◌*◌, ◌≤◌, length, take}
-use Rattle.std.specs.List.{flat_map}
+use Rattle.std.proofs.Common.{◌≡◌, ◌+◌, ◌*◌, ◌≤◌, length, take, flat_map}
 use Rattle.vlink.specs.declared.time.TheConstants.{LATEST_NS}
 use Rattle.traffic.specs.Offers.{offers_of_vl}
 use Rattle.traffic.proofs.offer_counting.offer_count.Given as goal

@@ -1,5 +1,4 @@
-use Rattle.std.proofs.Common.{true, false, ap, sym, ◌∙◌, arith}
-use Rattle.std.specs.Prelude.{nat_le}
+use Rattle.std.proofs.Common.{true, false, ap, sym, ◌∙◌, arith, nat_le}
 use Rattle.traffic.specs.Offers.{moment_of}
 use Rattle.traffic.proofs.DrawingLemmas.{drawn_at}
 use Rattle.traffic.proofs.CountingLemmas.{generator_at-jumped, come_count_more, come_count_sure, due_count-few}

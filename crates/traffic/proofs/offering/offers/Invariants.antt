@@ -1,5 +1,4 @@
-use Rattle.std.proofs.Common.{◌≡◌, take}
-use Rattle.std.specs.List.{flat_map}
+use Rattle.std.proofs.Common.{◌≡◌, take, flat_map}
 use Rattle.traffic.specs.Offers.{offers_of_vl}
 use Rattle.traffic.proofs.offering.offers.Given as goal
 

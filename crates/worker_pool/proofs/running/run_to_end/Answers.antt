@@ -1,5 +1,4 @@
-use Rattle.std.proofs.Common.{◌≡◌, ◌∙◌, Bool, true, false, refl, sym, ap}
-use Rattle.std.specs.Prelude.{not}
+use Rattle.std.proofs.Common.{◌≡◌, ◌∙◌, Bool, true, false, refl, sym, ap, not}
 use Rattle.netdesc.specs.Words.{Plan}
 use Rattle.worker_pool.proofs.running.run_to_end.Goals as goal
 

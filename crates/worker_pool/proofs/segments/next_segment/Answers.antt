@@ -1,5 +1,4 @@
-use Rattle.std.proofs.Common.{◌≡◌, ◌∙◌, ◌+◌, sym, ap, subst}
-use Rattle.std.specs.Prelude.{Option, IfSome}
+use Rattle.std.proofs.Common.{◌≡◌, ◌∙◌, ◌+◌, sym, ap, subst, Option, IfSome}
 use Rattle.trace_segments.specs.Words.{cut, HasInterval, SegmentRows}
 use Rattle.worker_pool.proofs.SegmentRows.{none-sealed, gone-with}
 use Rattle.worker_pool.proofs.segments.next_segment.Goals as goal

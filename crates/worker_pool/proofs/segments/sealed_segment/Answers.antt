@@ -1,5 +1,4 @@
-use Rattle.std.proofs.Common.{◌≡◌, ◌∙◌, ◌↔◌, ◌+◌, ap}
-use Rattle.std.specs.Prelude.{Option, IsSome, IfSome}
+use Rattle.std.proofs.Common.{◌≡◌, ◌∙◌, ◌↔◌, ◌+◌, ap, Option, IsSome, IfSome}
 use Rattle.std.proofs.lemmas.Option.{IfSome_then}
 use Rattle.actor_run.proofs.Errors.{ok-weaker}
 use Rattle.trace_segments.specs.Words.{cut, HasInterval, SegmentRows, segment_of}

@@ -1,5 +1,4 @@
-use Rattle.std.proofs.Common.{subst}
-use Rattle.std.specs.Prelude.{IfOk}
+use Rattle.std.proofs.Common.{subst, IfOk}
 use Rattle.worker_pool.specs.Runs.{IsEnded}
 use Rattle.worker_pool.proofs.tracing.traced_of.Goals as goal
 

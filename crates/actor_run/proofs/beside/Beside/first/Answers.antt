@@ -1,6 +1,4 @@
-use Rattle.std.proofs.Common.{◌≡◌, ◌<◌, ◌-◌, ◌∙◌, List, length, slice_get, Contains, IfSome, IsSomeAnd, subst, sym, refl, rules}
-use Rattle.std.specs.Option.{option_copied}
-use Rattle.std.specs.BinaryHeap.{heap_items}
+use Rattle.std.proofs.Common.{◌≡◌, ◌<◌, ◌-◌, ◌∙◌, List, length, slice_get, Contains, IfSome, IsSomeAnd, subst, sym, refl, rules, option_copied, heap_items}
 use Rattle.std.proofs.lemmas.List.Elements.{Contains-append_left}
 use Rattle.vlink.specs.declared.message.Message.{Message}
 use Rattle.actor_run.proofs.Waits.{NoneBefore, IsNotBeforeTop, sent-first, none-left, last-among, last-of-all}

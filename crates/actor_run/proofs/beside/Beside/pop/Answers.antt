@@ -1,6 +1,4 @@
-use Rattle.std.proofs.Common.{◌≡◌, ◌<◌, ◌-◌, ◌∙◌, List, ◌∷◌, ◌++◌, length, slice_get, IfSome, IsPermutation, subst, sym, refl, rules, arith}
-use Rattle.std.specs.Prelude.{IsSomeAnd}
-use Rattle.std.specs.BinaryHeap.{heap_items}
+use Rattle.std.proofs.Common.{◌≡◌, ◌<◌, ◌-◌, ◌∙◌, List, ◌∷◌, ◌++◌, length, slice_get, IfSome, IsPermutation, subst, sym, refl, rules, arith, IsSomeAnd, heap_items}
 use Rattle.std.proofs.lemmas.List.Sorted.{IsPermutation-append_left, length_permutation}
 use Rattle.vlink.specs.declared.message.Message.{Message}
 use Rattle.actor_run.proofs.Waits.{NoneBefore, IsNotBeforeTop, offer-out, offer-first, sent-first, none-left}

@@ -1,5 +1,4 @@
-use Rattle.std.proofs.Common.{◌≡◌, ◌+◌, ◌∙◌, suc, List, ◌∷◌, [], ◌++◌, take, IsPermutation, subst, sym, ap, append_assoc, arith}
-use Rattle.std.proofs.Math.Seq.{take-suc}
+use Rattle.std.proofs.Common.{◌≡◌, ◌+◌, ◌∙◌, suc, List, ◌∷◌, [], ◌++◌, take, IsPermutation, subst, sym, ap, append_assoc, arith, take-suc}
 use Rattle.std.proofs.lemmas.List.Sorted.{IsPermutation-push_more}
 use Rattle.vlink.specs.declared.message.Message.{Message}
 use Rattle.actor_run.proofs.waiting.Waiting.push_all.Goals as goal

@@ -1,5 +1,4 @@
-use Rattle.std.proofs.Common.{◌≡◌, map, slice_get, Some, Ok, Err, sym, ap, ◌∙◌}
-use Rattle.std.specs.Prelude.{is_some}
+use Rattle.std.proofs.Common.{◌≡◌, map, slice_get, Some, Ok, Err, sym, ap, ◌∙◌, is_some}
 use Rattle.std.proofs.lemmas.Result.{err_from_is_err_and}
 use Rattle.virtual_time.specs.declared.moved.Move.TheVariants.{Ran}
 use Rattle.process_queues.specs.Queues.{InHand}

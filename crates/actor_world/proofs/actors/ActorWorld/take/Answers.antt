@@ -1,5 +1,4 @@
-use Rattle.std.proofs.Common.{◌≡◌, map, min, slice_get, Some, Err, sym, ap, ◌∙◌}
-use Rattle.std.specs.Option.{option_map}
+use Rattle.std.proofs.Common.{◌≡◌, map, min, slice_get, Some, Err, sym, ap, ◌∙◌, option_map}
 use Rattle.std.proofs.lemmas.Result.{err_from_is_err_and}
 use Rattle.process_queues.specs.Queues.{Queues, InHand}
 use Rattle.actor_world.specs.Faults.{fault_of}

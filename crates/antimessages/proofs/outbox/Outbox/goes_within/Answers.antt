@@ -1,6 +1,5 @@
-use Rattle.std.proofs.Common.{◌≡◌, Bool, List, nat_lt, sym, ap, ◌∙◌}
+use Rattle.std.proofs.Common.{◌≡◌, Bool, List, nat_lt, sym, ap, ◌∙◌, ltb-true, lt-ltb}
 use Rattle.std.specs.List.{list_all}
-use Rattle.std.proofs.lemmas.Bool.{ltb-true, lt-ltb}
 use Rattle.std.proofs.lemmas.List.Sums.{AllPass-from_list_all, list_all-from_AllPass}
 use Rattle.vlink.specs.Letters.{Letter}
 use Rattle.antimessages.proofs.outbox.Outbox.goes_within.Goals as goal

@@ -1,6 +1,4 @@
-use Rattle.std.proofs.Common.{◌≡◌, ◌↔◌, ℕ, Bool, true, false, not, IsTrue, List, [], ◌∷◌, slice_get, refl, sym}
-use Rattle.std.specs.Prelude.{Option, is_some}
-use Rattle.std.specs.Option.{option_map}
+use Rattle.std.proofs.Common.{◌≡◌, ◌↔◌, ℕ, Bool, true, false, not, IsTrue, List, [], ◌∷◌, slice_get, refl, sym, Option, is_some, option_map}
 use Rattle.vlink.specs.declared.message.Message.{Message}
 use Rattle.exchange.proofs.held.Held.all_committed.Goals as goal
 

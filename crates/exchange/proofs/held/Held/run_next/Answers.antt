@@ -1,5 +1,4 @@
-use Rattle.std.proofs.Common.{sym, ap}
-use Rattle.std.specs.Prelude.{is_some}
+use Rattle.std.proofs.Common.{sym, ap, is_some}
 use Rattle.virtual_time.specs.declared.moved.Move.TheVariants.{Ran}
 use Rattle.reverse.specs.Rules.{rules_of}
 use Rattle.reverse.specs.Setting.{simulation_of}

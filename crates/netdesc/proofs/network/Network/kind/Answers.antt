@@ -1,6 +1,4 @@
-use Rattle.std.proofs.Common.{◌≡◌, ◌<◌, length, map, Some, ap, sym, ◌∙◌, subst, arith}
-use Rattle.std.specs.Prelude.{slice_get}
-use Rattle.std.specs.Option.{option_map}
+use Rattle.std.proofs.Common.{◌≡◌, ◌<◌, length, map, Some, ap, sym, ◌∙◌, subst, arith, slice_get, option_map}
 use Rattle.std.proofs.lemmas.List.{length-map}
 use Rattle.netdesc.specs.Words.{node_plan, IsAccepted}
 use Rattle.netdesc.proofs.BuildLemmas.{map-both, read-made}

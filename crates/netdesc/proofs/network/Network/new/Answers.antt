@@ -1,5 +1,4 @@
-use Rattle.std.proofs.Common.{◌≡◌, length, map, ap, sym, ◌∙◌, subst, arith}
-use Rattle.std.specs.Prelude.{All}
+use Rattle.std.proofs.Common.{◌≡◌, length, map, ap, sym, ◌∙◌, subst, arith, All}
 use Rattle.std.proofs.lemmas.List.{length-map}
 use Rattle.netdesc.specs.Words.{names_of, node_plan, link_plan, plan_of, plan_with, AreTables}
 use Rattle.netdesc.proofs.BuildLemmas.{EndsWithin, links-within, few-processes}

@@ -1,5 +1,4 @@
-use Rattle.std.proofs.Common.{refl, ap, sym, ◌∙◌, subst}
-use Rattle.std.specs.Option.{option_and_then, IsSome}
+use Rattle.std.proofs.Common.{refl, ap, sym, ◌∙◌, subst, option_and_then, IsSome}
 use Rattle.netdesc.specs.Words.{source_of, IsAccepted}
 use Rattle.netdesc.proofs.SourceLemmas.{vl-read, end-system-is, end-system-below}
 use Rattle.netdesc.proofs.network.Network.source.Goals as goal

@@ -1,6 +1,4 @@
-use Rattle.std.proofs.Common.{◌≡◌, Some, ap, sym, ◌∙◌, subst}
-use Rattle.std.specs.Prelude.{slice_get}
-use Rattle.std.specs.Option.{option_map}
+use Rattle.std.proofs.Common.{◌≡◌, Some, ap, sym, ◌∙◌, subst, slice_get, option_map}
 use Rattle.netdesc.specs.Words.{IsAccepted}
 use Rattle.netdesc.proofs.SourceLemmas.{vl-read}
 use Rattle.netdesc.proofs.LimitLemmas.{link-read}

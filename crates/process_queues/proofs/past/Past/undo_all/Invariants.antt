@@ -1,5 +1,4 @@
-use Rattle.std.proofs.Common.{List, []}
-use Rattle.std.specs.VecDeque.{deque_len}
+use Rattle.std.proofs.Common.{List, [], deque_len}
 use Rattle.vlink.specs.declared.message.Message.{Message}
 use Rattle.virtual_time.specs.Law.{sent, rowed}
 use Rattle.reverse.specs.Rules.{rules_of}

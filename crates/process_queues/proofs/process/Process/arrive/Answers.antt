@@ -1,8 +1,7 @@
-use Rattle.std.proofs.Common.{rules, ◌≡◌, inl, inr, false, ◌∷◌, map, drop, slice_get, Some, refl, sym, ap, ◌∙◌, subst}
+use Rattle.std.proofs.Common.{rules, ◌≡◌, inl, inr, false, ◌∷◌, map, drop, slice_get, Some, refl, sym, ap, ◌∙◌, subst, ◌≢◌}
 use Rattle.virtual_time.specs.Law.{rowed, arrive}
 use Rattle.reverse.specs.Rules.{rules_of}
 use Rattle.vlink.specs.Order.{message_order}
-use Rattle.std.specs.Prelude.{◌≢◌}
 use Rattle.antimessages.specs.Counting.{change_by, is_after, present_after}
 use Rattle.antimessages.specs.declared.tally.Change.TheVariants.{Same}
 use Rattle.antimessages.proofs.Agreeing.{added-same_counts}

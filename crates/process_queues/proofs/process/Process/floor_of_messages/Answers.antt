@@ -1,5 +1,4 @@
-use Rattle.std.proofs.Common.{◌≡◌, ◌+◌, min, sym, ap, ◌∙◌, subst}
-use Rattle.std.specs.Prelude.{IfSome}
+use Rattle.std.proofs.Common.{◌≡◌, ◌+◌, min, sym, ap, ◌∙◌, subst, IfSome}
 use Rattle.reverse.specs.Rules.{rules_of}
 use Rattle.process_queues.proofs.Reading.{floor-some, floor-none}
 use Rattle.process_queues.proofs.process.Process.floor_of_messages.Goals as goal

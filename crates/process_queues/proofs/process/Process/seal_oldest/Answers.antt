@@ -1,6 +1,4 @@
-use Rattle.std.proofs.Common.{◌≡◌, ◌+◌, [], ◌∷◌, length, refl, sym, ap, ◌∙◌}
-use Rattle.std.proofs.lemmas.List.{length-append}
-use Rattle.std.specs.Option.{option_copied}
+use Rattle.std.proofs.Common.{◌≡◌, ◌+◌, [], ◌∷◌, length, refl, sym, ap, ◌∙◌, length-append, option_copied}
 use Rattle.virtual_time.specs.Law.{commit_oldest}
 use Rattle.reverse.specs.Rules.{rules_of}
 use Rattle.process_queues.proofs.Counting.{of-messages}

@@ -1,5 +1,4 @@
-use Rattle.std.proofs.Common.{◌≡◌, ◌∙◌, ◌+◌, true, false, map, Err, refl, sym, ap, subst, arith}
-use Rattle.std.specs.Prelude.{is_ok}
+use Rattle.std.proofs.Common.{◌≡◌, ◌∙◌, ◌+◌, true, false, map, Err, refl, sym, ap, subst, arith, is_ok}
 use Rattle.std.proofs.lemmas.Bool.{false≢true, false_from_ne_true}
 use Rattle.nodes.specs.Words.{simulation_of}
 use Rattle.netdesc.specs.Words.{Plan}

@@ -1,5 +1,4 @@
-use Rattle.std.proofs.Common.{◌≡◌, List, length, subst}
-use Rattle.std.specs.Prelude.{IfSome}
+use Rattle.std.proofs.Common.{◌≡◌, List, length, subst, IfSome}
 use Rattle.virtual_time.specs.Law.{IsLeft, undo_all}
 use Rattle.virtual_time.specs.declared.step.Step.{Step}
 use Rattle.nodes.specs.Words.{opening, simulation_of}

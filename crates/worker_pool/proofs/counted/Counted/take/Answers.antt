@@ -1,5 +1,4 @@
-use Rattle.std.proofs.Common.{◌∙◌, sym, subst, arith}
-use Rattle.std.specs.Prelude.{Option, IfSome}
+use Rattle.std.proofs.Common.{◌∙◌, sym, subst, arith, Option, IfSome}
 use Rattle.trace_tables.specs.SoFar.{SoFarLists, IsSoFar}
 use Rattle.worker_pool.specs.Counts.{AreCountedBefore}
 use Rattle.worker_pool.proofs.CountedRun.{next-counted}

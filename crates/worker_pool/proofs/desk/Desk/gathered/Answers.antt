@@ -1,7 +1,6 @@
-use Rattle.std.proofs.Common.{◌∙◌, ◌≢◌, ◌<◌, ℕ, rules, sym, subst}
+use Rattle.std.proofs.Common.{◌∙◌, ◌≢◌, ◌<◌, ℕ, rules, sym, subst, Option, Result, IfSome, IfErr}
 use mathlib.Core.Logic.{∥∥₁_elim, ∥∥₁_map, ∥∥₁_map₂}
 use Rattle.std.proofs.Props.{props}
-use Rattle.std.specs.Prelude.{Option, Result, IfSome, IfErr}
 use Rattle.virtual_time.specs.Law.{rows_at}
 use Rattle.netdesc.specs.Words.{process_count}
 use Rattle.trace_segments.specs.declared.segment_fault.SegmentFault.{SegmentFault}

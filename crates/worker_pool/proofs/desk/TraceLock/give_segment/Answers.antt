@@ -1,5 +1,4 @@
-use Rattle.std.proofs.Common.{◌≡◌, subst}
-use Rattle.std.specs.Prelude.{Option, IfSome}
+use Rattle.std.proofs.Common.{◌≡◌, subst, Option, IfSome}
 use Rattle.trace_segments.specs.Words.{SegmentRows}
 use Rattle.worker_pool.specs.Segments.{IsNextSegment}
 use Rattle.worker_pool.proofs.SegmentRows.{segment-by-name}

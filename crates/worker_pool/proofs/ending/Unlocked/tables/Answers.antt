@@ -1,5 +1,4 @@
-use Rattle.std.proofs.Common.{◌≡◌, ◌∙◌, ℕ, ◌+◌, refl, sym, ap, subst, arith}
-use Rattle.std.specs.Prelude.{Option, IfSome}
+use Rattle.std.proofs.Common.{◌≡◌, ◌∙◌, ℕ, ◌+◌, refl, sym, ap, subst, arith, Option, IfSome}
 use Rattle.virtual_time.specs.Law.{steps, Laws}
 use Rattle.netdesc.specs.Words.{Plan}
 use Rattle.nodes.specs.Words.{simulation_of}

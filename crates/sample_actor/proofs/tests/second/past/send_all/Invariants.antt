@@ -1,5 +1,4 @@
-use Rattle.std.proofs.Common.{◌+◌, ◌≤◌, length}
-use Rattle.std.specs.VecDeque.{deque_len, deque_capacity}
+use Rattle.std.proofs.Common.{◌+◌, ◌≤◌, length, deque_len, deque_capacity}
 use Rattle.sample_actor.proofs.tests.second.past.send_all.Given as goal
 
 abbrev pub invariant-loop-message : goal.invariant-loop-message

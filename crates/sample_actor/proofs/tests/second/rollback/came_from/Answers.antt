@@ -1,5 +1,4 @@
-use Rattle.std.proofs.Common.{◌≡◌, ◌∙◌, ◌&&◌, ℕ, Bool, true, false, inl, inr, refl, sym, ap, subst, IsTrue}
-use Rattle.std.proofs.Math.Dec.{eqb}
+use Rattle.std.proofs.Common.{◌≡◌, ◌∙◌, ◌&&◌, ℕ, Bool, true, false, inl, inr, refl, sym, ap, subst, IsTrue, eqb}
 use Rattle.std.proofs.lemmas.Bool.Decides.{eqb_tells}
 use Rattle.sample_actor.specs.declared.summing.Summing.{Summing}
 use Rattle.sample_actor.proofs.tests.second.rollback.came_from.Goals as goal

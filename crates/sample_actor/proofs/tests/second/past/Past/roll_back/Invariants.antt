@@ -1,5 +1,4 @@
-use Rattle.std.proofs.Common.{◌≤◌}
-use Rattle.std.specs.VecDeque.{deque_len}
+use Rattle.std.proofs.Common.{◌≤◌, deque_len}
 use Rattle.sample_actor.proofs.tests.second.past.Past.roll_back.Given as goal
 
 abbrev pub invariant-loop-self : goal.invariant-loop-self
