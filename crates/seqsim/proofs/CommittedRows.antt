@@ -10,7 +10,7 @@ use Rattle.vlink.specs.Letters.{Row}
 use Rattle.virtual_time.specs.Law.{rowed, rows_of, rows_at, IsIn, times_in, Simulation, Laws, one, World, start, run, IsWhole}
 use Rattle.virtual_time.specs.declared.step.Step.{Step}
 use Rattle.virtual_time.proofs.Lists.{in-head, times-append}
-use Rattle.virtual_time.proofs.OneThread.{right, nothing_outside}
+use Rattle.virtual_time.proofs.OneThread.{right, nothing_outside, rows-mine, rows-other}
 use Rattle.virtual_time.proofs.OneThreadLater.{over-same}
 use Rattle.virtual_time.proofs.Kept.{IsKept, start-kept}
 use Rattle.virtual_time.proofs.KeptRun.{run-kept}
@@ -21,21 +21,13 @@ left-nothing [] ys e = refl
 left-nothing (x ∷ xs) ys e = absurd (let k = ap length e in omega arith)
 
 module _ {M S K N : Type 0} (f : Simulation M S K N) (L : Laws f) where
-  rows-mine : (q : ℕ) (m : M) → f.rules.order.receiver m ≡ q → (ns : List N) → rows_at q (rows_of f.rules.order m ns) ≡ rows_of f.rules.order m ns
-  rows-mine q m e [] = refl
-  rows-mine q m e (n ∷ ns) = rw (eq-eqb (f.rules.order.receiver m) q e) (ap (λ z. record { message = m; place = f.rules.order.receiver m; note = n } ∷ z) (rows-mine q m e ns))
-
-  rows-other : (q : ℕ) (m : M) → (f.rules.order.receiver m ≡ q → ⊥) → (ns : List N) → rows_at q (rows_of f.rules.order m ns) ≡ []
-  rows-other q m d [] = refl
-  rows-other q m d (n ∷ ns) = rw (ne_eqb (f.rules.order.receiver m) q d) (rows-other q m d ns)
-
   -- events that process q receives have all their rows there
   rowed-mine : (q : ℕ) (s : S) (ms : List M) → ((m : M) → IsIn f.rules.order m ms → f.rules.order.receiver m ≡ q) → rows_at q (rowed f.rules s ms) ≡ rowed f.rules s ms
   rowed-mine q s [] h = refl
   rowed-mine q s (m ∷ ms) h =
       let rest = rowed f.rules (f.rules.after s m) ms in
       filter-append (λ x. x.place == q) (rows_of f.rules.order m (f.rules.notes s m)) rest ∙
-      (ap (λ z. z ++ rows_at q rest) (rows-mine q m (h m (in-head f.rules.order L.order m ms)) (f.rules.notes s m)) ∙
+      (ap (λ z. z ++ rows_at q rest) (rows-mine f.rules.order q m (h m (in-head f.rules.order L.order m ms)) (f.rules.notes s m)) ∙
       ap (λ z. rows_of f.rules.order m (f.rules.notes s m) ++ z) (rowed-mine q (f.rules.after s m) ms (λ x i. h x (omega arith))))
 
   -- and none at another process
@@ -44,7 +36,7 @@ module _ {M S K N : Type 0} (f : Simulation M S K N) (L : Laws f) where
   rowed-other p q d s (m ∷ ms) h =
       let rest = rowed f.rules (f.rules.after s m) ms in
       filter-append (λ x. x.place == p) (rows_of f.rules.order m (f.rules.notes s m)) rest ∙
-      (ap (λ z. z ++ rows_at p rest) (rows-other p m (λ e. d (sym (h m (in-head f.rules.order L.order m ms)) ∙ e)) (f.rules.notes s m)) ∙
+      (ap (λ z. z ++ rows_at p rest) (rows-other f.rules.order p m (λ e. d (sym (h m (in-head f.rules.order L.order m ms)) ∙ e)) (f.rules.notes s m)) ∙
       rowed-other p q d (f.rules.after s m) ms (λ x i. h x (omega arith)))
 
   module _ (w : World M S) (k : IsKept f L w) where

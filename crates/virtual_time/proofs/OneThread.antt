@@ -2,7 +2,7 @@
 use Rattle.std.proofs.Common.{◌≡◌, ℕ, zero, suc, ◌+◌, ◌<◌, ◌≤◌, ◌==◌, ◌⊎◌, inl, inr, true, false, not, cond, List, [], ◌∷◌, ◌++◌, Option, Some, None, refl, sym, ap, ◌∙◌, subst, arith, append-nil, eqb-true, eq-eqb, ne_eqb}
 use Rattle.std.proofs.lemmas.Bool.{cases_eq, both_ways, not-true, not_from_true, not_from_false}
 use Rattle.std.proofs.lemmas.List.Elements.{filter-append}
-use Rattle.virtual_time.specs.Rules.{reached, sent, rowed, rows_of, rows_at}
+use Rattle.virtual_time.specs.Rules.{Order, reached, sent, rowed, rows_of, rows_at}
 use Rattle.virtual_time.specs.Lists.{one_if, same, times_in, IsIn, IsAscending, least, without, events_at}
 use Rattle.virtual_time.specs.Simulation.{Simulation, Laws, put, IsReached, made}
 use Rattle.virtual_time.specs.OneThread.{OneThread, handle, one, events, NoneWaits}
@@ -19,6 +19,16 @@ put_same p q x g e = rw (eq-eqb q p e) refl
 
 pub put_other : {X : Type 0} (p q : ℕ) (x : X) (g : ℕ → X) → (q ≡ p → ⊥) → put p x g q ≡ g q
 put_other p q x g n = rw (ne_eqb q p n) refl
+
+-- the rows of one event are at its receiver
+pub rows-mine : {M N : Type 0} (o : Order M) (q : ℕ) (m : M) → o.receiver m ≡ q → (ns : List N) → rows_at q (rows_of o m ns) ≡ rows_of o m ns
+rows-mine o q m e [] = refl
+rows-mine o q m e (n ∷ ns) = rw (eq-eqb (o.receiver m) q e) (ap (λ z. record { message = m; place = o.receiver m; note = n } ∷ z) (rows-mine o q m e ns))
+
+-- and none at another process
+pub rows-other : {M N : Type 0} (o : Order M) (q : ℕ) (m : M) → (o.receiver m ≡ q → ⊥) → (ns : List N) → rows_at q (rows_of o m ns) ≡ []
+rows-other o q m d [] = refl
+rows-other o q m d (n ∷ ns) = rw (ne_eqb (o.receiver m) q d) (rows-other o q m d ns)
 
 module _ {M S K N : Type 0} (f : Simulation M S K N) (L : Laws f) where
   -- what holds after each event
@@ -58,14 +68,6 @@ module _ {M S K N : Type 0} (f : Simulation M S K N) (L : Laws f) where
       let b = times-append f.rules.order L.order x (sent f.rules (f.opening p) ms) (f.rules.sends (reached f.rules (f.opening p) ms) m ++ []) in
       let c = times-append f.rules.order L.order x (f.rules.sends (reached f.rules (f.opening p) ms) m) [] in
       omega arith
-
-  rows-mine : (q : ℕ) (m : M) → f.rules.order.receiver m ≡ q → (ns : List N) → rows_at q (rows_of f.rules.order m ns) ≡ rows_of f.rules.order m ns
-  rows-mine q m e [] = refl
-  rows-mine q m e (n ∷ ns) = rw (eq-eqb (f.rules.order.receiver m) q e) (ap (λ z. record { message = m; place = f.rules.order.receiver m; note = n } ∷ z) (rows-mine q m e ns))
-
-  rows-other : (q : ℕ) (m : M) → (f.rules.order.receiver m ≡ q → ⊥) → (ns : List N) → rows_at q (rows_of f.rules.order m ns) ≡ []
-  rows-other q m d [] = refl
-  rows-other q m d (n ∷ ns) = rw (ne_eqb (f.rules.order.receiver m) q d) (rows-other q m d ns)
 
   module _ (t : OneThread M S N) (I : IsRight t) (m : M) (l : IsLeast f.rules.order L.order m t.waiting) where
     p : ℕ
@@ -151,7 +153,7 @@ module _ {M S K N : Type 0} (f : Simulation M S K N) (L : Laws f) where
 
         here : f.rules.order.receiver m ≡ q → rows_at q next.rows ≡ rowed f.rules (f.opening q) (events_at f.rules.order q next.handled)
         here e =
-            let a = ap (λ z. rows_at q t.rows ++ z) (rows-mine q m e (f.rules.notes now m)) in
+            let a = ap (λ z. rows_at q t.rows ++ z) (rows-mine f.rules.order q m e (f.rules.notes now m)) in
             let b = ap (λ z. z ++ rows_of f.rules.order m (f.rules.notes now m)) (I.rows_are q) in
             let c : rowed f.rules (f.opening q) (events_at f.rules.order q next.handled) ≡ rowed f.rules (f.opening q) (events_at f.rules.order q t.handled) ++ (rows_of f.rules.order m (f.rules.notes (reached f.rules (f.opening q) (events_at f.rules.order q t.handled)) m) ++ []) =
             ap (rowed f.rules (f.opening q)) (events-push q t.handled m e) ∙ rowed-append f.rules (f.opening q) (events_at f.rules.order q t.handled) (m ∷ []) in
@@ -163,7 +165,7 @@ module _ {M S K N : Type 0} (f : Simulation M S K N) (L : Laws f) where
 
         there : (f.rules.order.receiver m ≡ q → ⊥) → rows_at q next.rows ≡ rowed f.rules (f.opening q) (events_at f.rules.order q next.handled)
         there n =
-            split ∙ (ap (λ z. rows_at q t.rows ++ z) (rows-other q m n (f.rules.notes now m)) ∙
+            split ∙ (ap (λ z. rows_at q t.rows ++ z) (rows-other f.rules.order q m n (f.rules.notes now m)) ∙
             (append-nil _ ∙ (I.rows_are q ∙ sym (ap (rowed f.rules (f.opening q)) (events-push_other q t.handled m n)))))
 
     pub right-next : IsRight next

@@ -31,10 +31,6 @@ module _ {M S K N : Type 0} (f : Simulation M S K N) (L : Laws f) where
       go false e true d r = rw d (let a = r.0 in omega arith, λ i. let a = r.1 (omega arith) in omega arith)
       go false e false d r = rw d (r.0, λ i. r.1 (omega arith))
 
-  in-length : (m : M) (xs : List M) → IsIn f.rules.order m xs → 0 < length xs
-  in-length m [] i = absurd (omega arith)
-  in-length m (x ∷ xs) i = omega arith
-
   -- one more event, where the least that waits is at g
   next_event : (g n : ℕ) (m : M) → NoneWaits f g n → least f.rules.order (one f n).waiting ≡ Some m → f.rules.order.time m < suc g →
       NoneWaits f g (suc n) × (length (earlier f.rules.order (suc g) (one f (suc n)).waiting) < length (earlier f.rules.order (suc g) (one f n).waiting))

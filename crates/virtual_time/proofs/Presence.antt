@@ -15,10 +15,6 @@ module _ {M : Type 0} (order : Order M) (O : IsOrder order) where
   unfolding is_present
   present-true tally m h = ltb-true _ _ h
 
-  pub present-false : (tally : List (Letter M)) (m : M) → is_present order tally m ≡ false → pluses order m tally ≤ minuses order m tally
-  unfolding is_present
-  present-false tally m h = ltb-false _ _ h
-
   pub present-from : (tally : List (Letter M)) (m : M) → IsPresent order tally m → is_present order tally m ≡ true
   unfolding is_present
   present-from tally m h = lt-ltb _ _ h
