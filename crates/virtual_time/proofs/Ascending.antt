@@ -1,8 +1,7 @@
 -- Lists in which each message comes before those behind it.
 use Rattle.std.proofs.Common.{◌≡◌, ◌+◌, ◌<◌, ◌≤◌, ◌⊎◌, inl, inr, Bool, true, false, not, cond, List, [], ◌∷◌, ◌++◌, filter, refl, sym, ap, subst, arith}
 use Rattle.std.proofs.lemmas.Bool.{false_from_ne_true, both_ways, not_from_false, cases_lt}
-use Rattle.virtual_time.specs.Rules.{Order, IsOrder}
-use Rattle.virtual_time.specs.Lists.{one_if, same, times_in, IsIn, IsAscending}
+use Rattle.virtual_time.specs.Law.{Order, IsOrder, one_if, same, times_in, IsIn, IsAscending}
 use Rattle.virtual_time.proofs.Order.{one_if-le, less-irrefl, less-asym, same_cases}
 use Rattle.virtual_time.proofs.Lists.{times-append, in-append, in-head, in-cons, in-filter, filter-none, filter-all}
 

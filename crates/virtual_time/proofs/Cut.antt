@@ -1,9 +1,7 @@
 -- A cut in time that no message crosses has exactly one set of events.
 use Rattle.std.proofs.Common.{◌≡◌, ℕ, zero, suc, ◌+◌, ◌<◌, ◌≤◌, ◌⊎◌, inl, inr, true, false, nat_lt, List, [], refl, sym, ap, ◌∙◌, subst, arith, lt-ltb, le-ltb}
 use Rattle.std.proofs.lemmas.Bool.{cases_lt, cases_eq}
-use Rattle.virtual_time.specs.Rules.{sent}
-use Rattle.virtual_time.specs.Lists.{times_in, IsIn, IsAscending, earlier}
-use Rattle.virtual_time.specs.Simulation.{Simulation, Laws, made}
+use Rattle.virtual_time.specs.Law.{sent, times_in, IsIn, IsAscending, earlier, Simulation, Laws, made}
 use Rattle.virtual_time.proofs.Lists.{times-none, times-filter, times-filter_out, filter-none}
 use Rattle.virtual_time.proofs.Ascending.{ascending-filter, ascending-unique}
 use Rattle.virtual_time.proofs.Sends.{sends-earlier}

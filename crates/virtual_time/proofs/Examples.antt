@@ -1,13 +1,8 @@
 -- The rules at work on a small actor, each case computed: a straggler, a tie, an antimessage that comes first or late, and a count of 2.
 -- Process 0 adds up the times of its messages, and for each sends one to process 1, five later.
 use Rattle.std.proofs.Common.{◌≡◌, ℕ, ◌+◌, ◌-◌, ◌==◌, ◌&&◌, ◌||◌, nat_lt, false, List, [], ◌∷◌, ◌++◌, None, refl}
-use Rattle.virtual_time.specs.Rules.{Rules}
-use Rattle.virtual_time.specs.Lists.{same}
-use Rattle.virtual_time.specs.Letters.{plus_of, minus_of, pluses, minuses, is_present}
+use Rattle.virtual_time.specs.Law.{Rules, same, plus_of, minus_of, pluses, minuses, is_present, Part, opened, unhandled, undone_by, next_of, can_commit, Act, local, Deliver, Emptying, Moves}
 use Rattle.virtual_time.specs.declared.letter.Letter.{Letter}
-use Rattle.virtual_time.specs.Part.{Part, opened, unhandled, undone_by, next_of, can_commit}
-use Rattle.virtual_time.specs.Own.{Act, local}
-use Rattle.virtual_time.specs.Own.Act.{Deliver, Emptying, Moves}
 use Rattle.virtual_time.specs.declared.moved.Move.TheVariants.{Arrived, Ran, Committed}
 
 record Note : Type 0 where

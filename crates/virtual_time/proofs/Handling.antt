@@ -1,7 +1,6 @@
 -- What handling a list of messages makes of a state, of two lists put together; and that undoing gives back the state before.
 use Rattle.std.proofs.Common.{◌≡◌, List, [], ◌∷◌, ◌++◌, refl, sym, ap, ◌∙◌, append_assoc}
-use Rattle.virtual_time.specs.Rules.{Rules, reached, sent, rows_of, rowed, undone}
-use Rattle.virtual_time.specs.Well.{HoldsAlong}
+use Rattle.virtual_time.specs.Law.{Rules, reached, sent, rows_of, rowed, undone, HoldsAlong}
 
 module _ {M S K N : Type 0} (r : Rules M S K N) where
   pub reached-append : (s : S) (xs ys : List M) → reached r s (xs ++ ys) ≡ reached r (reached r s xs) ys

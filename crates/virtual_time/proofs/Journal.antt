@@ -1,16 +1,11 @@
 -- What the entries of a journal make of the world.
 use Rattle.std.proofs.Common.{◌≡◌, ℕ, ◌<◌, ◌≤◌, ◌==◌, ◌⊎◌, inl, inr, min, Bool, true, false, cond, nat_lt, List, [], ◌∷◌, ◌++◌, map, length, replicate, remove, Some, refl, sym, ap, ◌∙◌, subst, arith, append_assoc, append-nil, slice_get, eq-eqb, ne_eqb, eqb-true, lt-ltb, ltb-true}
 use Rattle.std.proofs.lemmas.Bool.{cases_eq, and_parts}
-use Rattle.virtual_time.specs.Simulation.{Simulation, put}
-use Rattle.virtual_time.specs.Letters.{lowest, times_of, received_by}
+use Rattle.virtual_time.specs.Law.{Simulation, put, lowest, times_of, received_by, Part, opened, delivered, emptied, floor_of, arrive, run_one, commit_oldest, World, start, taken, with_part, gvt_over, is_early, is_enabled, effect, step, run, Act, acted, local, after_moves, Deliver, Emptying, Moves, Posted, Published, Entry, step_by, steps_of, steps, own_in, reach, after_own, can_move, AreEnabled, fetched, delivered_block}
 use Rattle.virtual_time.specs.declared.letter.Letter.{Letter}
-use Rattle.virtual_time.specs.Part.{Part, opened, delivered, emptied, floor_of, arrive, run_one, commit_oldest}
-use Rattle.virtual_time.specs.World.{World, start, taken, with_part, gvt_over, is_early, is_enabled, effect, step, run}
 use Rattle.virtual_time.specs.declared.step.Step.{Step}
 use Rattle.virtual_time.specs.declared.step.Step.TheVariants.{Take, Post}
-use Rattle.virtual_time.specs.Own.{Act, acted, local, after_moves}
-use Rattle.virtual_time.specs.Own.Act.{Deliver, Emptying, Moves}
-use Rattle.virtual_time.specs.Journal.{Posted, Published, Entry, step_by, steps_of, steps, acts_of, own_in, reach, after_own, can_move, AreEnabled, fetched, delivered_block}
+use Rattle.virtual_time.specs.Journal.{acts_of}
 use Rattle.virtual_time.specs.declared.moved.Move.{Move}
 use Rattle.virtual_time.specs.declared.moved.Move.TheVariants.{Arrived, Ran, Committed}
 

@@ -1,16 +1,10 @@
 -- What every step keeps of the world: each process is sound, no letter in the mail is earlier than GVT, and the count law holds.
 use Rattle.std.proofs.Common.{◌≡◌, ℕ, suc, ◌<◌, ◌≤◌, ◌⊎◌, inl, inr, [], ◌++◌, map, refl, sym, subst, arith, eq-eqb, ne_eqb}
 use Rattle.std.proofs.lemmas.Bool.{cases_eq}
-use Rattle.virtual_time.specs.Letters.{plus_of, IsNamed}
-use Rattle.virtual_time.specs.Part.{Part}
-use Rattle.virtual_time.specs.Simulation.{Simulation, Laws, put}
-use Rattle.virtual_time.specs.World.{World, start, with_part}
-use Rattle.virtual_time.specs.Safe.{history, CountLaw}
+use Rattle.virtual_time.specs.Law.{plus_of, IsNamed, Part, Simulation, Laws, put, World, start, with_part, history, CountLaw, SendsKept, IsReached}
 use Rattle.virtual_time.proofs.Letters.{pluses-plus, minuses-plus, received-mine, received-here}
 use Rattle.virtual_time.proofs.Sound.{IsSound, InHandKept, IsStep}
-use Rattle.virtual_time.specs.Well.{SendsKept}
 use Rattle.virtual_time.proofs.WellStep.{opened-well}
-use Rattle.virtual_time.specs.Simulation.{IsReached}
 
 -- what holds of the new value at p, and of the old ones elsewhere
 pub put_elim : {X : Type 0} (P : ℕ → X → Type 0) (p : ℕ) (x : X) (g : ℕ → X) → P p x → ((q : ℕ) → (q ≡ p → ⊥) → P q (g q)) → (q : ℕ) → P q (put p x g q)

@@ -1,9 +1,7 @@
 -- What is kept when GVT is set anew: it is at most each floor and each letter in the mail, and never falls.
 use Rattle.std.proofs.Common.{◌≡◌, ℕ, zero, suc, ◌<◌, ◌≤◌, ◌⊎◌, inl, inr, sym, subst, arith}
 use Rattle.std.proofs.lemmas.Bool.{cases_eq}
-use Rattle.virtual_time.specs.Letters.{IsNamed, times_of}
-use Rattle.virtual_time.specs.Simulation.{Simulation, Laws}
-use Rattle.virtual_time.specs.World.{World, gvt_over}
+use Rattle.virtual_time.specs.Law.{IsNamed, times_of, Simulation, Laws, World, gvt_over}
 use Rattle.virtual_time.proofs.Lowest.{lowest-top, lowest-letter, lowest-letters}
 use Rattle.virtual_time.proofs.Kept.{IsKept}
 

@@ -1,18 +1,11 @@
 -- What is kept when a process posts its outbox: its letters go from the outbox to the mail, and its floor is set anew.
 use Rattle.std.proofs.Common.{◌≡◌, ℕ, suc, ◌+◌, ◌<◌, ◌≤◌, inl, inr, [], ◌++◌, map, refl, sym, ◌∙◌, arith}
-use Rattle.virtual_time.specs.Rules.{sent}
-use Rattle.virtual_time.specs.Lists.{times_in}
-use Rattle.virtual_time.specs.Letters.{lowest, pluses, minuses, IsNamed, received_by, times_of}
-use Rattle.virtual_time.specs.Part.{emptied, unhandled, floor_of}
-use Rattle.virtual_time.specs.Simulation.{Simulation, Laws, put}
-use Rattle.virtual_time.specs.World.{World, posted}
-use Rattle.virtual_time.specs.Safe.{CountLaw}
+use Rattle.virtual_time.specs.Law.{sent, times_in, lowest, pluses, minuses, IsNamed, received_by, times_of, emptied, unhandled, floor_of, Simulation, Laws, put, World, posted, CountLaw, IsReached}
 use Rattle.virtual_time.proofs.Letters.{pluses-append, minuses-append, named-append, named-none, received-mine, received-here}
 use Rattle.virtual_time.proofs.Presence.{unhandled-is, unhandled-from}
 use Rattle.virtual_time.proofs.Lowest.{lowest-top, lowest-letter, lowest-letters, lowest-message, lowest-messages}
 use Rattle.virtual_time.proofs.Sound.{IsSound, InHandKept}
 use Rattle.virtual_time.proofs.WellStep.{emptied-well}
-use Rattle.virtual_time.specs.Simulation.{IsReached}
 use Rattle.virtual_time.proofs.Kept.{put_elim, put_elim₂, IsKept}
 
 module _ {M S K N : Type 0} (f : Simulation M S K N) (L : Laws f) where

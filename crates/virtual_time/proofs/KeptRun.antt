@@ -2,9 +2,7 @@
 use Rattle.std.proofs.Common.{◌&&◌, ◌≡◌, ◌<◌, ◌≤◌, Bool, true, false, cond, nat_lt, List, [], ◌∷◌, ◌++◌, Option, Some, None, refl, arith, slice_get, ltb-true}
 use Rattle.std.proofs.lemmas.Bool.{and_parts}
 use Rattle.virtual_time.specs.declared.letter.Letter.{Letter}
-use Rattle.virtual_time.specs.Part.{can_commit}
-use Rattle.virtual_time.specs.Simulation.{Simulation, Laws}
-use Rattle.virtual_time.specs.World.{World, taken, is_early, is_enabled, effect, step, run}
+use Rattle.virtual_time.specs.Law.{can_commit, Simulation, Laws, World, taken, is_early, is_enabled, effect, step, run}
 use Rattle.virtual_time.specs.declared.step.Step.{Step}
 use Rattle.virtual_time.specs.declared.step.Step.TheVariants.{Take, Arrive, Run, Post, Gvt, Commit}
 use Rattle.virtual_time.proofs.Kept.{IsKept, part-kept}

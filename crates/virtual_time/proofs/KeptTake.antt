@@ -1,17 +1,10 @@
 -- What is kept when a process takes a letter from its mail: its floor falls to the time of the letter.
 use Rattle.std.proofs.Common.{◌≡◌, ℕ, ◌+◌, ◌<◌, ◌≤◌, inl, inr, min, [], ◌∷◌, ◌++◌, Some, refl, sym, ap, subst, arith, slice_get, remove}
-use Rattle.virtual_time.specs.Lists.{times_in}
-use Rattle.virtual_time.specs.Letters.{pluses, minuses, IsNamed}
+use Rattle.virtual_time.specs.Law.{times_in, pluses, minuses, IsNamed, delivered, Simulation, Laws, World, taken, CountLaw, SendsKept, IsReached}
 use Rattle.virtual_time.specs.declared.letter.Letter.{Letter}
-use Rattle.virtual_time.specs.Part.{delivered}
-use Rattle.virtual_time.specs.Simulation.{Simulation, Laws}
-use Rattle.virtual_time.specs.World.{World, taken}
-use Rattle.virtual_time.specs.Safe.{CountLaw}
 use Rattle.virtual_time.proofs.Letters.{pluses-append, minuses-append, named-push, named-head, letter-others}
 use Rattle.virtual_time.proofs.Sound.{IsSound}
-use Rattle.virtual_time.specs.Well.{SendsKept}
 use Rattle.virtual_time.proofs.WellStep.{delivered-well}
-use Rattle.virtual_time.specs.Simulation.{IsReached}
 use Rattle.virtual_time.proofs.Kept.{put_elim, put_elim₂, IsKept}
 
 module _ {M S K N : Type 0} (f : Simulation M S K N) (L : Laws f) where

@@ -1,8 +1,7 @@
 -- The message of a list that comes first.
 use Rattle.std.proofs.Common.{◌≡◌, inl, inr, Bool, true, false, cond, List, [], ◌∷◌, Option, Some, None, refl, sym, ap, subst, arith}
 use Rattle.std.proofs.lemmas.Bool.{false_from_ne_true, both_ways}
-use Rattle.virtual_time.specs.Rules.{Order, IsOrder}
-use Rattle.virtual_time.specs.Lists.{times_in, IsIn, least, lesser}
+use Rattle.virtual_time.specs.Law.{Order, IsOrder, times_in, IsIn, least, lesser}
 use Rattle.virtual_time.proofs.Order.{less-asym, less-not_less}
 use Rattle.virtual_time.proofs.Lists.{in-head, in-cons}
 

@@ -1,9 +1,7 @@
 -- Letters by their message and sign, and how many a list has of each.
 use Rattle.std.proofs.Common.{◌≡◌, ℕ, zero, suc, ◌+◌, ◌==◌, ◌⊎◌, inl, inr, Bool, true, false, not, ◌&&◌, cond, List, [], ◌∷◌, ◌++◌, map, Some, refl, sym, ap, ◌∙◌, arith, slice_get, remove, eqb-true, eq-eqb}
 use Rattle.std.proofs.lemmas.Bool.{cases_lt, both_ways}
-use Rattle.virtual_time.specs.Rules.{Order, IsOrder}
-use Rattle.virtual_time.specs.Lists.{one_if, same, times_in, IsIn}
-use Rattle.virtual_time.specs.Letters.{is_plus, plus_of, minus_of, pluses, minuses, IsNamed, received_by}
+use Rattle.virtual_time.specs.Law.{Order, IsOrder, one_if, same, times_in, IsIn, is_plus, plus_of, minus_of, pluses, minuses, IsNamed, received_by}
 use Rattle.virtual_time.specs.declared.letter.Letter.{Letter}
 use Rattle.virtual_time.proofs.Order.{in_sum, same-refl, same_cases, different}
 

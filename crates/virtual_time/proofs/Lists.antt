@@ -2,8 +2,7 @@
 use Rattle.std.proofs.Common.{◌≡◌, ◌+◌, ◌<◌, ◌⊎◌, inl, inr, Bool, true, false, cond, List, [], ◌∷◌, ◌++◌, filter, reverse, refl, ap, subst, arith}
 use Rattle.std.proofs.lemmas.Bool.{cases_Bool, both_ways, cases_lt}
 use Rattle.std.proofs.lemmas.List.{reverse-append}
-use Rattle.virtual_time.specs.Rules.{Order, IsOrder}
-use Rattle.virtual_time.specs.Lists.{one_if, same, times_in, IsIn}
+use Rattle.virtual_time.specs.Law.{Order, IsOrder, one_if, same, times_in, IsIn}
 use Rattle.virtual_time.proofs.Order.{in_sum, same-refl, same_cases, different}
 
 module _ {M : Type 0} (order : Order M) (O : IsOrder order) where

@@ -1,8 +1,6 @@
 -- The least of the times of letters or messages: it is at most each, and at least what all are at least.
 use Rattle.std.proofs.Common.{◌≡◌, ℕ, ◌≤◌, ◌⊎◌, inl, inr, min, List, [], ◌∷◌, map, ap, arith}
-use Rattle.virtual_time.specs.Rules.{Order, IsOrder}
-use Rattle.virtual_time.specs.Lists.{IsIn}
-use Rattle.virtual_time.specs.Letters.{lowest, IsNamed, times_of}
+use Rattle.virtual_time.specs.Law.{Order, IsOrder, IsIn, lowest, IsNamed, times_of}
 use Rattle.virtual_time.specs.declared.letter.Letter.{Letter}
 use Rattle.virtual_time.proofs.Lists.{in-head, in-cons}
 use Rattle.virtual_time.proofs.Letters.{named-cons, named-head}

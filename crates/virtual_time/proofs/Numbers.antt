@@ -1,8 +1,7 @@
 -- The messages of one process are numbered on and on, so none is sent twice.
 use Rattle.std.proofs.Common.{◌≡◌, ℕ, suc, ◌+◌, ◌<◌, ◌≤◌, ◌⊎◌, inl, inr, false, List, [], ◌∷◌, ◌++◌, length, ap, subst, arith, add-zero}
 use Rattle.std.proofs.lemmas.Bool.{cases_lt}
-use Rattle.virtual_time.specs.Rules.{Rules, IsOrder, sent}
-use Rattle.virtual_time.specs.Lists.{IsNumbered, one_if, same, times_in, IsIn}
+use Rattle.virtual_time.specs.Law.{Rules, IsOrder, sent, IsNumbered, one_if, same, times_in, IsIn}
 use Rattle.virtual_time.proofs.Order.{one_if-le, same_cases}
 use Rattle.virtual_time.proofs.Lists.{in-cons}
 

@@ -2,10 +2,7 @@
 use Rattle.std.proofs.Common.{◌≡◌, ℕ, zero, suc, ◌+◌, ◌<◌, ◌≤◌, ◌==◌, ◌⊎◌, inl, inr, true, false, not, cond, List, [], ◌∷◌, ◌++◌, Option, Some, None, refl, sym, ap, ◌∙◌, subst, arith, append-nil, eqb-true, eq-eqb, ne_eqb}
 use Rattle.std.proofs.lemmas.Bool.{cases_eq, both_ways, not-true, not_from_true, not_from_false}
 use Rattle.std.proofs.lemmas.List.Elements.{filter-append}
-use Rattle.virtual_time.specs.Rules.{Order, reached, sent, rowed, rows_of, rows_at}
-use Rattle.virtual_time.specs.Lists.{one_if, same, times_in, IsIn, IsAscending, least, without, events_at}
-use Rattle.virtual_time.specs.Simulation.{Simulation, Laws, put, IsReached, made}
-use Rattle.virtual_time.specs.OneThread.{OneThread, handle, one, events, NoneWaits}
+use Rattle.virtual_time.specs.Law.{Order, reached, sent, rowed, rows_of, rows_at, one_if, same, times_in, IsIn, IsAscending, least, without, events_at, Simulation, Laws, put, IsReached, made, OneThread, handle, one, events, NoneWaits}
 use Rattle.virtual_time.proofs.Order.{same-refl, same_cases, different, not_less-cases}
 use Rattle.virtual_time.proofs.Lists.{in-append, in-push, times-none, times-append, times-filter, times-filter_out, in-filter, filter-none}
 use Rattle.virtual_time.proofs.Ascending.{ascending-filter, ascending-push}

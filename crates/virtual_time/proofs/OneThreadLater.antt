@@ -4,10 +4,7 @@ use Rattle.std.proofs.lemmas.Bool.{cases_lt, cases_eq, both_ways}
 use Rattle.std.proofs.lemmas.List.Elements.{filter-append}
 use Rattle.std.proofs.lemmas.List.{take-append-le}
 use Rattle.std.proofs.Math.Seq.{take-append_seam, take-length}
-use Rattle.virtual_time.specs.Rules.{reached}
-use Rattle.virtual_time.specs.Lists.{one_if, same, times_in, IsIn, least, earlier, without, events_at}
-use Rattle.virtual_time.specs.Simulation.{Simulation, Laws}
-use Rattle.virtual_time.specs.OneThread.{handle, one, events, NoneWaits, IsFirst, IsLeft, IsBelow}
+use Rattle.virtual_time.specs.Law.{reached, one_if, same, times_in, IsIn, least, earlier, without, events_at, Simulation, Laws, handle, one, events, NoneWaits, IsFirst, IsLeft, IsBelow}
 use Rattle.virtual_time.proofs.Order.{same-true, not_less-time, less-time}
 use Rattle.virtual_time.proofs.Lists.{in-append, in-filter, filter-none}
 use Rattle.virtual_time.proofs.Ascending.{ascending-split}

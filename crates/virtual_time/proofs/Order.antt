@@ -1,8 +1,7 @@
 -- Two messages in the message order: they are one message, or one comes before the other.
 use Rattle.std.proofs.Common.{◌≡◌, ℕ, ◌+◌, ◌<◌, ◌≤◌, ◌⊎◌, inl, inr, Bool, true, false, not, refl, sym, subst, arith}
 use Rattle.std.proofs.lemmas.Bool.{cases_Bool, and_parts, not-true, false_from_ne_true, both_ways, cases_lt}
-use Rattle.virtual_time.specs.Rules.{Order, IsOrder}
-use Rattle.virtual_time.specs.Lists.{one_if, same}
+use Rattle.virtual_time.specs.Law.{Order, IsOrder, one_if, same}
 
 pub one_if-le : (b : Bool) → one_if b ≤ 1
 one_if-le true = omega arith

@@ -1,13 +1,11 @@
 -- A process in the world is what its own acts make of it.
 use Rattle.std.proofs.Common.{◌≡◌, ℕ, ◌==◌, ◌⊎◌, inl, inr, Bool, true, false, cond, List, [], ◌∷◌, ◌++◌, slice_get, Option, Some, None, refl, sym, ap, ◌∙◌, eq-eqb, ne_eqb}
 use Rattle.std.proofs.lemmas.Bool.{cases_eq}
-use Rattle.virtual_time.specs.Simulation.{Simulation, put}
+use Rattle.virtual_time.specs.Law.{Simulation, put, Part, delivered, emptied, arrive, run_one, commit_oldest, World, is_enabled, effect, step, run, taken, Act, local, delivery, own}
 use Rattle.virtual_time.specs.declared.letter.Letter.{Letter}
-use Rattle.virtual_time.specs.Part.{Part, delivered, emptied, arrive, run_one, commit_oldest}
-use Rattle.virtual_time.specs.World.{World, is_enabled, effect, step, run, taken}
 use Rattle.virtual_time.specs.declared.step.Step.{Step}
 use Rattle.virtual_time.specs.declared.step.Step.TheVariants.{Take, Arrive, Run, Post, Gvt, Commit}
-use Rattle.virtual_time.specs.Own.{Act, local, delivery, acts_of, own}
+use Rattle.virtual_time.specs.Own.{acts_of}
 
 module _ {M S K N : Type 0} (f : Simulation M S K N) where
   local-append : (s : S) (xs ys : List (Act M)) (part : Part M S) →

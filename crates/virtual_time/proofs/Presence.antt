@@ -1,11 +1,8 @@
 -- Which messages are present in a tally, and which of them are unhandled.
 use Rattle.std.proofs.Common.{◌≡◌, ◌+◌, ◌<◌, ◌≤◌, ◌==◌, ◌⊎◌, inl, inr, true, false, ◌&&◌, nat_lt, List, [], ◌∷◌, map, sym, ap, ◌∙◌, subst, arith, eqb-true, eq-eqb, ltb-true, ltb-false, lt-ltb}
 use Rattle.std.proofs.lemmas.Bool.{and_parts, and_from}
-use Rattle.virtual_time.specs.Rules.{Order, IsOrder}
-use Rattle.virtual_time.specs.Lists.{one_if, same, times_in, IsIn}
-use Rattle.virtual_time.specs.Letters.{minus_of, pluses, minuses, IsPresent, is_present}
+use Rattle.virtual_time.specs.Law.{Order, IsOrder, one_if, same, times_in, IsIn, minus_of, pluses, minuses, IsPresent, is_present, unhandled}
 use Rattle.virtual_time.specs.declared.letter.Letter.{Letter}
-use Rattle.virtual_time.specs.Part.{unhandled}
 use Rattle.virtual_time.proofs.Order.{same-refl, same_cases}
 use Rattle.virtual_time.proofs.Lists.{in-head, in-filter, in-filter_from}
 use Rattle.virtual_time.proofs.Letters.{as_other, counts-other}

@@ -1,10 +1,7 @@
 -- What ties code to the definitions: the next message by what is true of it, and a fact of states that every message keeps.
 use Rattle.std.proofs.Common.{◌≡◌, inl, inr, false, List, [], ◌∷◌, Option, Some, None, refl, ap, arith}
 use Rattle.std.proofs.lemmas.Bool.{cases_lt}
-use Rattle.virtual_time.specs.Rules.{Rules, IsOrder, reached}
-use Rattle.virtual_time.specs.Lists.{IsIn, times_in}
-use Rattle.virtual_time.specs.Letters.{IsPresent}
-use Rattle.virtual_time.specs.Part.{Part, unhandled, next_of}
+use Rattle.virtual_time.specs.Law.{Rules, IsOrder, reached, IsIn, times_in, IsPresent, Part, unhandled, next_of}
 use Rattle.virtual_time.proofs.Least.{least-none, least-some, least-from}
 use Rattle.virtual_time.proofs.Presence.{unhandled-is, unhandled-from}
 

@@ -4,11 +4,8 @@ use Rattle.std.proofs.Common.{◌≡◌, ◌⊎◌, inl, inr, arith, true, false
 use Rattle.std.proofs.lemmas.List.{reverse-append, map-append}
 use Rattle.std.proofs.lemmas.List.Elements.{filter-append}
 use Rattle.std.proofs.lemmas.Bool.{cases_Bool, not-true, not_from_true}
-use Rattle.virtual_time.specs.Rules.{Rules, IsOrder, reached, sent, undone}
-use Rattle.virtual_time.specs.Lists.{times_in, same, IsIn, IsAscending, before, from_on}
-use Rattle.virtual_time.specs.Letters.{IsPresent, minus_of}
+use Rattle.virtual_time.specs.Law.{Rules, IsOrder, reached, sent, undone, times_in, same, IsIn, IsAscending, before, from_on, IsPresent, minus_of, Part, rolled_back}
 use Rattle.virtual_time.specs.declared.letter.Letter.{Letter}
-use Rattle.virtual_time.specs.Part.{Part, rolled_back}
 use Rattle.virtual_time.proofs.Order.{same_cases}
 use Rattle.virtual_time.proofs.Letters.{counts-other}
 use Rattle.virtual_time.proofs.Lists.{in-filter, times-filter, filter-all, filter-none}

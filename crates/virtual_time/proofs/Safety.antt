@@ -2,15 +2,8 @@
 use Rattle.std.proofs.Common.{false, ◌≡◌, ℕ, suc, ◌+◌, ◌<◌, ◌≤◌, ◌==◌, ◌⊎◌, inl, inr, nat_lt, List, [], ◌∷◌, ◌++◌, length, refl, sym, ap, ◌∙◌, subst, arith, append-nil, lt-ltb}
 use Rattle.std.proofs.lemmas.Bool.{cases_lt}
 use Rattle.std.proofs.lemmas.List.Elements.{filter-append}
-use Rattle.virtual_time.specs.Rules.{reached, sent, rowed, rows_at}
-use Rattle.virtual_time.specs.Lists.{times_in, IsIn, IsAscending, earlier}
-use Rattle.virtual_time.specs.Letters.{pluses, minuses, IsNamed}
-use Rattle.virtual_time.specs.Part.{undo_all}
-use Rattle.virtual_time.specs.Simulation.{Simulation, Laws, IsReached, made}
-use Rattle.virtual_time.specs.OneThread.{one, events, NoneWaits, IsFirst, IsBelow}
-use Rattle.virtual_time.specs.World.{World, start, is_enabled, step, run}
+use Rattle.virtual_time.specs.Law.{reached, sent, rowed, rows_at, times_in, IsIn, IsAscending, earlier, pluses, minuses, IsNamed, undo_all, Simulation, Laws, IsReached, made, one, events, NoneWaits, IsFirst, IsBelow, World, start, is_enabled, step, run, history, CountLaw, NothingBefore, Safe, IsFinished, IsWhole}
 use Rattle.virtual_time.specs.declared.step.Step.{Step}
-use Rattle.virtual_time.specs.Safe.{history, CountLaw, NothingBefore, Safe, IsFinished, IsWhole}
 use Rattle.virtual_time.proofs.Lists.{times-none, in-head, times-append, in-filter, filter-all}
 use Rattle.virtual_time.proofs.Ascending.{ascending-once}
 use Rattle.virtual_time.proofs.Letters.{named-none}

@@ -1,9 +1,7 @@
 -- What a process sends while it handles messages, and in which states it is.
 use Rattle.std.proofs.Common.{◌≡◌, ℕ, ◌<◌, ◌≤◌, ◌⊎◌, inl, inr, Bool, true, false, cond, nat_lt, List, [], ◌∷◌, ◌++◌, refl, sym, ap, ◌∙◌, subst, arith, ltb-false, le-ltb}
 use Rattle.std.proofs.lemmas.Bool.{cases_lt}
-use Rattle.virtual_time.specs.Rules.{reached, sent}
-use Rattle.virtual_time.specs.Lists.{times_in, IsIn, IsAscending, earlier}
-use Rattle.virtual_time.specs.Simulation.{Simulation, Laws, IsReached, made}
+use Rattle.virtual_time.specs.Law.{reached, sent, times_in, IsIn, IsAscending, earlier, Simulation, Laws, IsReached, made}
 use Rattle.virtual_time.proofs.Handling.{reached-append}
 use Rattle.virtual_time.proofs.Numbers.{sent-once}
 use Rattle.virtual_time.proofs.Order.{less-time}

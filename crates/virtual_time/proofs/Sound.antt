@@ -1,10 +1,6 @@
 -- One process inside a world, with its floor and GVT: it is well, and its events and letters are where and when they may be.
 use Rattle.std.proofs.Common.{◌≡◌, ℕ, ◌+◌, ◌<◌, ◌≤◌, ◌++◌, refl}
-use Rattle.virtual_time.specs.Lists.{times_in, IsIn, IsAscending}
-use Rattle.virtual_time.specs.Simulation.{Simulation, Laws, IsReached}
-use Rattle.virtual_time.specs.Letters.{pluses, minuses, IsNamed, IsPresent}
-use Rattle.virtual_time.specs.Part.{Part}
-use Rattle.virtual_time.specs.Well.{IsWell, SendsKept}
+use Rattle.virtual_time.specs.Law.{times_in, IsIn, IsAscending, Simulation, Laws, IsReached, pluses, minuses, IsNamed, IsPresent, Part, IsWell, SendsKept}
 
 module _ {M S K N : Type 0} (f : Simulation M S K N) (L : Laws f) where
   pub record IsSound (g floor p : ℕ) (part : Part M S) : Type 0 where

@@ -1,12 +1,7 @@
 -- One process inside a world: a letter arrives.
 use Rattle.std.proofs.Common.{◌≡◌, ℕ, ◌<◌, ◌≤◌, ◌⊎◌, inl, inr, Bool, true, false, cond, List, [], ◌∷◌, ◌++◌, map, reverse, sym, ap, subst, arith, refl}
-use Rattle.virtual_time.specs.Rules.{reached, sent}
-use Rattle.virtual_time.specs.Lists.{same, times_in, IsIn, IsAscending, before, from_on}
-use Rattle.virtual_time.specs.Simulation.{Simulation, Laws, IsReached}
-use Rattle.virtual_time.specs.Letters.{minus_of, pluses, minuses, IsNamed, IsPresent}
+use Rattle.virtual_time.specs.Law.{reached, sent, same, times_in, IsIn, IsAscending, before, from_on, Simulation, Laws, IsReached, minus_of, pluses, minuses, IsNamed, IsPresent, Part, rolled_back, tallied, is_toggled, arrived, arrive, IsWell}
 use Rattle.virtual_time.specs.declared.letter.Letter.{Letter}
-use Rattle.virtual_time.specs.Part.{Part, rolled_back, tallied, is_toggled, arrived, arrive}
-use Rattle.virtual_time.specs.Well.{IsWell}
 use Rattle.virtual_time.proofs.Order.{same_cases, different, not_less-time}
 use Rattle.virtual_time.proofs.Lists.{times-append, times-reverse}
 use Rattle.virtual_time.proofs.Ascending.{ascending-left}

@@ -1,10 +1,6 @@
 -- One process inside a world: its oldest done event is committed, which is earlier than GVT and has the count 1.
 use Rattle.std.proofs.Common.{◌≡◌, ℕ, ◌+◌, ◌<◌, ◌==◌, inl, inr, Bool, true, false, cond, List, [], ◌∷◌, ◌++◌, refl, sym, ap, subst, arith, eqb-true, ltb-true}
-use Rattle.virtual_time.specs.Lists.{one_if, times_in, IsIn, IsAscending}
-use Rattle.virtual_time.specs.Simulation.{Simulation, Laws, IsReached}
-use Rattle.virtual_time.specs.Letters.{minus_of, pluses, minuses}
-use Rattle.virtual_time.specs.Part.{Part, can_commit, oldest_committed, commit_oldest}
-use Rattle.virtual_time.specs.World.{is_early}
+use Rattle.virtual_time.specs.Law.{one_if, times_in, IsIn, IsAscending, Simulation, Laws, IsReached, minus_of, pluses, minuses, Part, can_commit, oldest_committed, commit_oldest, is_early}
 use Rattle.virtual_time.proofs.Order.{same-refl, less-different}
 use Rattle.virtual_time.proofs.Lists.{times-append, in-head, in-push}
 use Rattle.virtual_time.proofs.Ascending.{ascending-across}

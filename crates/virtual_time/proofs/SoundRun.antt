@@ -1,8 +1,6 @@
 -- One process inside a world: the next message is handled. It is not before the floor, so it comes after all committed events.
 use Rattle.std.proofs.Common.{◌≡◌, ℕ, ◌<◌, ◌≤◌, inl, inr, true, [], ◌∷◌, ◌++◌, Option, Some, None, refl, sym, subst, arith, append_assoc}
-use Rattle.virtual_time.specs.Lists.{IsIn, IsAscending}
-use Rattle.virtual_time.specs.Simulation.{Simulation, Laws, IsReached}
-use Rattle.virtual_time.specs.Part.{Part, next_of, handled, run_one}
+use Rattle.virtual_time.specs.Law.{IsIn, IsAscending, Simulation, Laws, IsReached, Part, next_of, handled, run_one}
 use Rattle.virtual_time.proofs.Lists.{times-append, in-append, in-push}
 use Rattle.virtual_time.proofs.Ascending.{ascending-push}
 use Rattle.virtual_time.proofs.Letters.{named-append, named-plus}

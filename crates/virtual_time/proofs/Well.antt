@@ -1,10 +1,6 @@
 -- One process alone: each act keeps it well, and each but the emptying keeps what its outbox tells.
 use Rattle.std.proofs.Common.{◌≡◌, refl}
-use Rattle.virtual_time.specs.Rules.{Rules, IsOrder}
-use Rattle.virtual_time.specs.Part.{Part}
-use Rattle.virtual_time.specs.Well.{IsWell, SendsKept}
-use Rattle.virtual_time.specs.Own.{Act, acted}
-use Rattle.virtual_time.specs.Own.Act.{Deliver, Emptying, Moves}
+use Rattle.virtual_time.specs.Law.{Rules, IsOrder, Part, IsWell, SendsKept, Act, acted, Deliver, Emptying, Moves}
 use Rattle.virtual_time.proofs.WellStep.{delivered-well, emptied-well}
 use Rattle.virtual_time.proofs.WellArrive.{arrive-well}
 use Rattle.virtual_time.proofs.WellRun.{run-well}

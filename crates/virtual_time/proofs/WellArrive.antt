@@ -1,11 +1,7 @@
 -- One process alone: a letter arrives, and the process rolls back where the letter toggles its message.
 use Rattle.std.proofs.Common.{◌≡◌, ◌⊎◌, inl, inr, Bool, true, false, not, cond, List, [], ◌∷◌, ◌++◌, map, reverse, refl, sym, ap, ◌∙◌, subst, arith}
-use Rattle.virtual_time.specs.Rules.{Rules, IsOrder, reached, sent, undone}
-use Rattle.virtual_time.specs.Lists.{times_in, IsIn, before, from_on}
-use Rattle.virtual_time.specs.Letters.{minus_of, IsPresent, is_present}
+use Rattle.virtual_time.specs.Law.{Rules, IsOrder, reached, sent, undone, times_in, IsIn, before, from_on, minus_of, IsPresent, is_present, Part, rolled_back, tallied, arrived, arrive, IsWell, SendsKept, HoldsAlong}
 use Rattle.virtual_time.specs.declared.letter.Letter.{Letter}
-use Rattle.virtual_time.specs.Part.{Part, rolled_back, tallied, arrived, arrive}
-use Rattle.virtual_time.specs.Well.{IsWell, SendsKept, HoldsAlong}
 use Rattle.virtual_time.proofs.Order.{less-different, less-not_less}
 use Rattle.virtual_time.proofs.Lists.{times-append, times-reverse}
 use Rattle.virtual_time.proofs.Ascending.{ascending-filter}

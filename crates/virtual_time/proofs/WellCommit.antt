@@ -1,10 +1,6 @@
 -- One process alone: its oldest done event is committed.
 use Rattle.std.proofs.Common.{◌≡◌, ◌+◌, ◌==◌, Bool, true, false, cond, List, [], ◌∷◌, ◌++◌, refl, sym, ap, ◌∙◌, subst, arith, append_assoc, eqb-true}
-use Rattle.virtual_time.specs.Rules.{Rules, IsOrder, reached, sent}
-use Rattle.virtual_time.specs.Lists.{one_if, times_in, IsIn, IsAscending}
-use Rattle.virtual_time.specs.Letters.{minus_of, pluses, minuses}
-use Rattle.virtual_time.specs.Part.{Part, can_commit, oldest_committed, commit_oldest}
-use Rattle.virtual_time.specs.Well.{IsWell, HoldsAlong}
+use Rattle.virtual_time.specs.Law.{Rules, IsOrder, reached, sent, one_if, times_in, IsIn, IsAscending, minus_of, pluses, minuses, Part, can_commit, oldest_committed, commit_oldest, IsWell, HoldsAlong}
 use Rattle.virtual_time.proofs.Order.{greater-different}
 use Rattle.virtual_time.proofs.Letters.{counts-other}
 use Rattle.virtual_time.proofs.Presence.{present-taken_back}

@@ -1,10 +1,6 @@
 -- One process alone: the next message is handled, where the state is good.
 use Rattle.std.proofs.Common.{◌≡◌, ◌⊎◌, inl, inr, true, [], ◌∷◌, ◌++◌, map, Option, Some, None, refl, sym, ap, ◌∙◌, subst, arith, append_assoc}
-use Rattle.virtual_time.specs.Rules.{Rules, IsOrder, reached, sent}
-use Rattle.virtual_time.specs.Lists.{times_in, IsIn}
-use Rattle.virtual_time.specs.Letters.{plus_of, IsPresent}
-use Rattle.virtual_time.specs.Part.{Part, next_of, handled, run_one}
-use Rattle.virtual_time.specs.Well.{IsWell, SendsKept}
+use Rattle.virtual_time.specs.Law.{Rules, IsOrder, reached, sent, times_in, IsIn, plus_of, IsPresent, Part, next_of, handled, run_one, IsWell, SendsKept}
 use Rattle.virtual_time.proofs.Order.{not_less-cases}
 use Rattle.virtual_time.proofs.Lists.{times-append, times-one, in-push}
 use Rattle.virtual_time.proofs.Ascending.{ascending-push}

@@ -1,9 +1,7 @@
 -- One process alone: what each step of it keeps, and the steps that neither handle nor undo an event.
 use Rattle.std.proofs.Common.{◌≡◌, refl, ap, ◌∙◌, arith}
-use Rattle.virtual_time.specs.Rules.{Rules, reached, undone}
+use Rattle.virtual_time.specs.Law.{Rules, reached, undone, Part, opened, delivered, emptied, undo_all, IsWell, SendsKept}
 use Rattle.virtual_time.specs.declared.letter.Letter.{Letter}
-use Rattle.virtual_time.specs.Part.{Part, opened, delivered, emptied, undo_all}
-use Rattle.virtual_time.specs.Well.{IsWell, SendsKept}
 use Rattle.virtual_time.proofs.Handling.{reached-append, undone-along}
 
 module _ {M S K N : Type 0} (r : Rules M S K N) (Good : S → Type 0) (opening : S) where

@@ -1,6 +1,6 @@
 use Rattle.virtual_time.proofs.headline.Goals as goal
 use Rattle.virtual_time.proofs.Safety.{ascend, committed_early, floors, gvt_low, outboxes, rows, once, handled_once, never_undone, safe, counts, seen, rises, whole, stays}
-use Rattle.virtual_time.specs.World.{start}
+use Rattle.virtual_time.specs.Law.{start}
 use Rattle.virtual_time.proofs.Own.{run-own}
 
 pub returns-clause-safe : goal.returns-clause-safe
