@@ -9,7 +9,7 @@ use csv::{Error, ErrorKind};
 use std::io;
 
 /// An error of a write to the text.
-pub fn write_fault(error: &io::Error) -> OutFault
+fn write_fault(error: &io::Error) -> OutFault
     ensures { result ≡ write_fault (error_kind error.now) }
 {
     match error.kind() {

@@ -1,11 +1,8 @@
 //! Rows of comma-separated fields, laid out by a writer over a text.
-ghost use Rattle.std.specs.Prelude.{◌≡◌, ◌≢◌, ℕ, [], List, map, OnOk, IfOk, IfErr};
-ghost use Rattle.trace_segments.specs.declared.fault.OutFault.TheVariants.{Device};
+ghost use Rattle.std.specs.Prelude.{◌≡◌, ℕ, [], List, map, OnOk, IfOk};
 ghost use Rattle.trace_segments.specs.Text.{line};
 ghost use Rattle.trace_segments.specs.Writing.{Holds, Adds};
 
-use crate::fault::OutFault;
-use crate::layout::write_fault;
 use csv::{Error, Writer, WriterBuilder};
 use std::alloc::Global;
 
@@ -23,13 +20,12 @@ pub fn push(out: &mut Writer<Vec<u8>>, fields: &[&[u8]]) -> Result<(), Error>
     out.write_fields(fields)
 }
 
-/// The text that a writer holds.
-pub fn text_of(out: Writer<Vec<u8>>) -> Result<Vec<u8>, OutFault>
-    ensures text { IfOk result (λ bytes. (text : List ℕ) → Holds out text → bytes.items ≡ text) }
-    ensures fault { IfErr result (λ fault. fault ≢ Device) }
+/// The text that a writer holds. An error is the library's own.
+pub fn text_of(out: Writer<Vec<u8>>) -> Result<Vec<u8>, Error>
+    ensures { IfOk result (λ bytes. (text : List ℕ) → Holds out text → bytes.items ≡ text) }
 {
     match out.into_inner() {
         Ok(bytes) => Ok(bytes),
-        Err(error) => Err(write_fault(error.error())),
+        Err(error) => Err(error.into_error()),
     }
 }

@@ -23,7 +23,8 @@ fn trace_bytes(alloc: Global, network: &Network, rows: &[Row]) -> Result<Vec<u8>
     let mut out = empty(alloc);
     trace::push_head(&mut out)?;
     trace::push_rows(&mut out, network, rows)?;
-    text_of(out)
+    let bytes = text_of(out)?;
+    Ok(bytes)
 }
 
 /// The lines of these rows alone.
@@ -33,7 +34,8 @@ fn line_bytes(alloc: Global, network: &Network, rows: &[Row]) -> Result<Vec<u8>,
 {
     let mut out = empty(alloc);
     trace::push_rows(&mut out, network, rows)?;
-    text_of(out)
+    let bytes = text_of(out)?;
+    Ok(bytes)
 }
 
 /// The lines of these rows, behind the first line of the trace unless that is written.

@@ -21,7 +21,8 @@ fn csv_text(alloc: Global, network: &Network, tables: &Tables) -> Result<Vec<u8>
     text::push_head(&mut out)?;
     text::push_latencies(&mut out, network, tables.latencies())?;
     text::push_drops(&mut out, network, tables.drops())?;
-    text_of(out)
+    let bytes = text_of(out)?;
+    Ok(bytes)
 }
 
 /// Writes the tables of a network as comma-separated rows, each with a line feed at its end.

@@ -1,6 +1,6 @@
-use Rattle.std.proofs.Common.{◌≡◌, ℕ, List, [], flat_map}
-use Rattle.trace_segments.specs.Words.{trace_head, trace_line, trace_text, Holds}
-use Rattle.trace_segments.proofs.WritingLemmas.{adds-more, if-ok}
+use Rattle.std.proofs.Common.{[], flat_map}
+use Rattle.trace_segments.specs.Words.{trace_head, trace_line, trace_text}
+use Rattle.trace_segments.proofs.WritingLemmas.{adds-more}
 use Rattle.trace_segments.proofs.write.trace_bytes.Goals as goal
 
 pub returns-clause-text : goal.returns-clause-text
@@ -8,5 +8,4 @@ returns-clause-text c =
     let plan = c.args.network.now in
     let rows = c.args.rows.now in
     let all = adds-more c.empty-out.result c.push_head.new.out c.push_rows.new.out trace_head (flat_map (trace_line plan) rows) c.in_ok-push_head.ensures c.in_ok-push_rows.ensures in
-    if-ok (λ bytes. (text : List ℕ) → Holds c.push_rows.new.out text → bytes.items ≡ text) (λ bytes. bytes.items ≡ trace_text plan rows) c.text_of.result
-    (λ bytes h. h (trace_text plan rows) (all [] c.empty-out.ensures)) c.text_of.ensures.text
+    c.in_ok-bytes.ensures (trace_text plan rows) (all [] c.empty-out.ensures)

@@ -1,7 +1,6 @@
-use Rattle.std.proofs.Common.{◌≡◌, ℕ, List, [], ◌++◌, ap}
+use Rattle.std.proofs.Common.{[], ◌++◌, ap}
 use Rattle.trace_tables.specs.Text.{tables_head, latency_text, drop_text, tables_text}
-use Rattle.trace_segments.specs.Words.{Holds}
-use Rattle.trace_segments.proofs.WritingLemmas.{adds-more, adds-same, if-ok}
+use Rattle.trace_segments.proofs.WritingLemmas.{adds-more, adds-same}
 use Rattle.trace_tables.proofs.write.csv_text.Goals as goal
 
 pub returns-clause-text : goal.returns-clause-text
@@ -12,5 +11,4 @@ returns-clause-text c =
     let drops = adds-same c.push_latencies.new.out c.push_drops.new.out _ _ (ap (drop_text plan) c.drops.ensures) c.in_ok-push_drops.ensures in
     let all = adds-more c.empty-out.result c.push_head.new.out c.push_drops.new.out tables_head (latency_text plan tables.latencies ++ drop_text plan tables.drops) c.in_ok-push_head.ensures
     (adds-more c.push_head.new.out c.push_latencies.new.out c.push_drops.new.out (latency_text plan tables.latencies) (drop_text plan tables.drops) latencies drops) in
-    if-ok (λ bytes. (text : List ℕ) → Holds c.push_drops.new.out text → bytes.items ≡ text) (λ bytes. bytes.items ≡ tables_text plan tables) c.text_of.result
-    (λ bytes h. h (tables_text plan tables) (all [] c.empty-out.ensures)) c.text_of.ensures.text
+    c.in_ok-bytes.ensures (tables_text plan tables) (all [] c.empty-out.ensures)
