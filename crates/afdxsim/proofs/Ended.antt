@@ -1,5 +1,5 @@
 -- An order that was done, or whose fault was told, has ended.
-use Rattle.std.proofs.Common.{◌≡◌, ◌∙◌, ◌⊎◌, ℕ, inl, inr, List, [], Option, Result, Ok, Err, sym, ap, subst, ◌≢◌, OnOk, OnErr, IfOk, IfErr, IsErrAnd}
+use Rattle.std.proofs.Common.{◌≡◌, ◌∙◌, ◌⊎◌, ℕ, inl, inr, List, [], Option, Result, Ok, Err, sym, subst, ◌≢◌, OnOk, OnErr, IfOk, IfErr, IsErrAnd}
 use Rattle.clap.specs.Words.{IsAmong, Text}
 use Rattle.clap.specs.declared.error.kind.ErrorKind.{ErrorKind}
 use Rattle.clap.specs.declared.error.kind.ErrorKind.TheVariants as kind
@@ -35,10 +35,6 @@ on_three (Err e) p q s f = tt
 err_both : {T F Q : Type 0} {P R : F → Type 0} (r : Result T F) → IfErr r P → OnErr r Q → ((e : F) → P e → Q → R e) → IfErr r R
 err_both (Ok x) p q f = tt
 err_both (Err e) p q f = f e p q
-
-pub on_err : {T F P Q : Type 0} (r : Result T F) → OnErr r P → (P → Q) → OnErr r Q
-on_err (Ok x) p f = tt
-on_err (Err e) p f = f p
 
 pub same_err : {T : Type 0} (P : Fault → Type 0) (r : Result T Fault) (fault : Fault) → IsErrAnd r (λ x. x ≡ fault) → P fault → IfErr r P
 same_err P (Ok x) fault same p = tt

@@ -1,5 +1,5 @@
 -- What error output heard of a run, as its host tells it.
-use Rattle.std.proofs.Common.{◌≡◌, ◌∙◌, ◌≤◌, ℕ, Bool, true, false, List, Option, refl, sym, ap, subst, arith, flat_map}
+use Rattle.std.proofs.Common.{◌≡◌, ◌∙◌, ℕ, Bool, true, false, List, Option, refl, sym, ap, subst, arith, flat_map}
 use Rattle.std.specs.Io.KnownBytes.{append_known}
 use Rattle.netdesc.specs.Words.{Plan}
 use Rattle.afdxsim.specs.Orders.{IsHeard, heard_host}
@@ -50,11 +50,6 @@ module _ {S F O E : Type 0} (outside : Outside S F O E) {w : F → Option (List 
   made_there asked until old path said h =
       law.errors_before_made old path said ∙ ap (λ host. outside.made host path) (heard_same asked until taken failures old said h)
 
-  pub makes_there : (asked : Bool) (until : ℕ) (old : S) (path : List ℕ) (said : E) (is : Bool) → HearsAsked taken failures asked until (outside.errors old) said →
-      outside.makes old path is → outside.makes (heard_host outside old asked said) path is
-  makes_there asked until old path said is h makes =
-      subst (λ host. outside.makes host path is) (heard_same asked until taken failures old said h) (law.makes_beside old path said is makes)
-
   -- a file was made, error output heard of the run meanwhile, and the file took a text and was given back
   module _ (asked was_asked : Bool) (plan : Plan) (path : List ℕ) (old begun : S) (lent said : E) (is : was_asked ≡ asked) (made : begun ≡ outside.made old path)
       (from : lent ≡ outside.errors begun) (h : HearsAsked taken failures was_asked plan.until lent said) where
@@ -71,9 +66,6 @@ module _ {S F O E : Type 0} (outside : Outside S F O E) {w : F → Option (List 
       pub heard_beside : IsHeard outside old asked plan (outside.errors new)
       heard_beside = subst (IsHeard outside old asked plan) (sym stays) (told asked plan.until (outside.errors old) said there)
 
-      pub makes_beside_it : outside.makes old path true → outside.makes (heard_host outside old asked (outside.errors new)) path true
-      makes_beside_it makes = subst (λ e. outside.makes (heard_host outside old asked e) path true) (sym stays) (makes_there asked plan.until old path said true there makes)
-
       pub begins_beside : outside.with_errors begun said ≡ outside.made (heard_host outside old asked (outside.errors new)) path
       begins_beside = begins ∙ ap (λ e. outside.made (heard_host outside old asked e) path) (sym stays)
 
@@ -82,8 +74,3 @@ module _ {S F O E : Type 0} (outside : Outside S F O E) where
   pub at_end : (asked : Bool) (old heard new : S) (P : S → Type 0) → heard ≡ heard_host outside old asked (outside.errors heard) →
       outside.errors new ≡ outside.errors heard → P heard → P (heard_host outside old asked (outside.errors new))
   at_end asked old heard new P is same p = subst P (is ∙ ap (heard_host outside old asked) (sym same)) p
-
-  -- so does what it heard
-  pub heard_at_end : (asked : Bool) (plan : Plan) (old heard new : S) → IsHeard outside old asked plan (outside.errors heard) →
-      outside.errors new ≡ outside.errors heard → IsHeard outside old asked plan (outside.errors new)
-  heard_at_end asked plan old heard new is same = subst (IsHeard outside old asked plan) (sym same) is

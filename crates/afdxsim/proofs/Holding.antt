@@ -12,29 +12,9 @@ pub record IsHeld (old now : Option (List ℕ)) (held text : List ℕ) : Type 0 
   pub took : now ≡ append_known old sent
   pub whole : sent ++ held ≡ text
 
-nothing-more : (old : Option (List ℕ)) → old ≡ append_known old []
-nothing-more None = refl
-nothing-more (Some xs) = ap Some (sym (append-nil xs))
-
 appended : (old : Option (List ℕ)) (xs ys : List ℕ) → append_known (append_known old xs) ys ≡ append_known old (xs ++ ys)
 appended None xs ys = refl
 appended (Some zs) xs ys = ap Some (append_assoc zs xs ys)
-
-pub held-none : (old : Option (List ℕ)) → IsHeld old old [] []
-held-none old = record { sent = []; took = nothing-more old; whole = refl }
-
--- more of the text is held
-pub held-more : (old now : Option (List ℕ)) (held text more : List ℕ) → IsHeld old now held text → IsHeld old now (held ++ more) (text ++ more)
-held-more old now held text more h =
-    record { sent = h.sent; took = h.took; whole = sym (append_assoc h.sent held more) ∙ ap (λ (xs : List ℕ). xs ++ more) h.whole }
-
--- all that was held goes out
-pub held-out : (old now later : Option (List ℕ)) (held text : List ℕ) → IsHeld old now held text → later ≡ append_known now held → later ≡ append_known old text
-held-out old now later held text h went =
-    went ∙ ap (λ o. append_known o held) h.took ∙ appended old h.sent held ∙ ap (append_known old) h.whole
-
-pub held-anew : (old now later : Option (List ℕ)) (held text : List ℕ) → IsHeld old now held text → later ≡ append_known now held → IsHeld old later [] text
-held-anew old now later held text h went = record { sent = text; took = held-out old now later held text h went; whole = append-nil text }
 
 -- a beginning of what was held goes out
 pub held-beginning : (old now later : Option (List ℕ)) (held text rest : List ℕ) → IsHeld old now held text → IsBeginning now later held → IsBeginning old later (text ++ rest)

@@ -1,5 +1,5 @@
 -- The round robin, as a loop over the lists finds it.
-use Rattle.std.proofs.Common.{◌≡◌, ◌≢◌, ℕ, suc, ◌+◌, ◌-◌, ◌<◌, ◌≤◌, Bool, true, false, cond, List, [], ◌∷◌, length, get_or, set, None, Some, refl, sym, ap, ◌∙◌, arith}
+use Rattle.std.proofs.Common.{◌≡◌, ℕ, suc, ◌+◌, ◌-◌, ◌<◌, Bool, false, cond, List, [], length, get_or, set, Some, sym, ap, ◌∙◌, arith}
 use Rattle.std.proofs.lemmas.List.{get_or_default, set-get_or}
 use Rattle.vlink.specs.declared.frame.Frame.{Frame}
 use Rattle.frame_ring.specs.Queue.{Queue}
@@ -10,23 +10,10 @@ module _ (p : ℕ → Bool) (q : ℕ) where
   first_from-suc : (n m : ℕ) → n ≡ suc m → first_from p q n ≡ cond (p q) (Some q) (first_from p (q + 1) m)
   first_from-suc n m e = ap (first_from p q) e
 
-  -- the number at hand passes
-  pub first_from-here : (to : ℕ) → q < to → p q ≡ true → first_from p q (to - q) ≡ Some q
-  first_from-here to h e =
-      first_from-suc (to - q) (to - (q + 1)) (omega arith) ∙ ap (λ b. cond b (Some q) (first_from p (q + 1) (to - (q + 1)))) e
-
-  -- it does not, and the next one is at hand
+  -- the number at hand does not pass, and the next one is at hand
   pub first_from-more : (to : ℕ) → q < to → p q ≡ false → first_from p q (to - q) ≡ first_from p (q + 1) (to - (q + 1))
   first_from-more to h e =
       first_from-suc (to - q) (to - (q + 1)) (omega arith) ∙ ap (λ b. cond b (Some q) (first_from p (q + 1) (to - (q + 1)))) e
-
-  -- no number is left
-  pub first_from-none : (to : ℕ) → to ≤ q → first_from p q (to - q) ≡ None
-  first_from-none to h = let e : to - q ≡ 0 = omega arith in ap (first_from p q) e
-
-is_some_frame-yes : (xs : List Frame) → xs ≢ [] → is_some_frame xs ≡ true
-is_some_frame-yes [] h = absurd (h refl)
-is_some_frame-yes (x ∷ xs) h = refl
 
 -- what is read at the place i of a list, that of the sub-virtual link q
 module _ (lists : List Queue) (q i : ℕ) (list : Queue) (same : i ≡ q) (within : q < length lists) (read : list ≡ get_or lists i list) where
@@ -35,9 +22,6 @@ module _ (lists : List Queue) (q i : ℕ) (list : Queue) (same : i ≡ q) (withi
 
   pub waits-no : list.frames ≡ [] → waits lists q ≡ false
   waits-no e = ap (λ (l : Queue). is_some_frame l.frames) list-read ∙ ap is_some_frame e
-
-  pub waits-yes : list.frames ≢ [] → waits lists q ≡ true
-  waits-yes h = ap (λ (l : Queue). is_some_frame l.frames) list-read ∙ is_some_frame-yes list.frames h
 
   -- what was done to the frames of the list was done to those of the sub-virtual link
   pub list-written : (new : Queue) (xs : List Frame) → new.frames ≡ xs → new.room ≡ list.room → set lists i new ≡ with_frames lists q xs

@@ -79,9 +79,6 @@ pub record IsReadTo (text rest : List ℕ) (value : ℕ) : Type 0 where
   pub value_is : value ≡ digits_value 10 seen
   pub small : value < 2 ^ 32
 
-pub nothing_read : (text : List ℕ) → IsReadTo text text 0
-nothing_read text = record { seen = []; whole = refl; digits = tt; value_is = refl; small = omega arith }
-
 one_longer : (seen : List ℕ) (b : ℕ) → AllDigits 10 seen → digit_value b < 10 → AllDigits 10 (seen ++ b ∷ [])
 one_longer [] b h k = (k, tt)
 one_longer (d ∷ ds) b h k = (h.0, one_longer ds b h.1 k)

@@ -59,11 +59,6 @@ concat-lines (b ∷ bs) = go (b == 10) refl (concat-lines bs)
     go true e same = let ten = eqb-true b 10 e in ap (λ (x : List ℕ). 10 ∷ x) same ∙ ap (λ (x : ℕ). x ∷ bs) (sym ten)
     go false e same = concat-onto_first b (lines bs) ∙ ap (λ (x : List ℕ). b ∷ x) same
 
--- a text with a byte has a line
-length-onto_first : (b c : ℕ) (ls : List (List ℕ)) → length (onto_first b ls) ≡ length (onto_first c ls)
-length-onto_first b c [] = refl
-length-onto_first b c (l ∷ ls) = refl
-
 onto_first-some : (b : ℕ) (ls : List (List ℕ)) → 1 ≤ length (onto_first b ls)
 onto_first-some b [] = omega arith
 onto_first-some b (l ∷ ls) = omega arith
@@ -76,24 +71,7 @@ lines-some (b ∷ bs) h = go (b == 10)
     go true = omega arith
     go false = onto_first-some b (lines bs)
 
-onto_first-same : (b : ℕ) (ls : List (List ℕ)) → 1 ≤ length ls → length (onto_first b ls) ≡ length ls
-onto_first-same b [] h = absurd (omega arith)
-onto_first-same b (l ∷ ls) h = refl
-
 -- how many lines begin in the rest of a text, where it begins a line and where it goes on with one
 abbrev pub lines_begun : Bool → List ℕ → ℕ
 lines_begun true rest = length (lines rest)
 lines_begun false rest = length (onto_first 0 (lines rest)) - 1
-
-first_byte : (b : ℕ) (bs : List ℕ) → length (lines (b ∷ bs)) ≡ 1 + lines_begun (b == 10) bs
-first_byte b bs = go (b == 10)
-  where
-    go : (t : Bool) → length (cond t ((10 ∷ []) ∷ lines bs) (onto_first b (lines bs))) ≡ 1 + lines_begun t bs
-    go true = omega arith
-    go false = omega (arith, length-onto_first b 0 (lines bs), onto_first-some 0 (lines bs))
-
-pub lines_begun-cons : (begins : Bool) (b : ℕ) (bs : List ℕ) → lines_begun begins (b ∷ bs) ≡ cond begins 1 0 + lines_begun (b == 10) bs
-lines_begun-cons true b bs = first_byte b bs
-lines_begun-cons false b bs =
-    let same = onto_first-same 0 (lines (b ∷ bs)) (lines-some (b ∷ bs) (omega arith)) in
-    omega (arith, same, first_byte b bs)

@@ -10,12 +10,6 @@ use Rattle.netdesc.proofs.PlaceLemmas.{or_else, or_else-none, place_by-push, pla
 pub is_eq-nat_cmp : (a b : ℕ) → is_eq (nat_cmp a b) ≡ (a == b)
 is_eq-nat_cmp a b = grind (arith, nat_tests)
 
-pub or-cond : (b c : Bool) → cond b true c ≡ (c || b)
-or-cond true true = refl
-or-cond true false = refl
-or-cond false true = refl
-or-cond false false = refl
-
 -- equal numbers, tested from either side
 pub ==-flip : (a b : ℕ) → (a == b) ≡ (b == a)
 ==-flip a b = grind (arith, nat_tests)

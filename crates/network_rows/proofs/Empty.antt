@@ -1,7 +1,6 @@
 -- Lists with nothing in them.
-use Rattle.std.proofs.Common.{◌≡◌, List, [], ◌∷◌, ◌++◌, map, None, refl, flat_map}
+use Rattle.std.proofs.Common.{◌≡◌, List, [], ◌∷◌, ◌++◌, map, refl, flat_map}
 use Rattle.std.specs.List.{AllByRecursion}
-use Rattle.network_rows.specs.Faults.{first}
 
 pub not_empty : {X : Type 0} (x : X) (xs : List X) → x ∷ xs ≡ [] → ⊥
 not_empty x xs e = cc
@@ -21,8 +20,3 @@ map_empty f (x ∷ xs) e = absurd (not_empty (f x) (map f xs) e)
 pub flat_map_empty : {X Y : Type 0} (f : X → List Y) (xs : List X) → flat_map f xs ≡ [] → AllByRecursion (λ x. f x ≡ []) xs
 flat_map_empty f [] e = tt
 flat_map_empty f (x ∷ xs) e = (front_empty (f x) (flat_map f xs) e, flat_map_empty f xs (back_empty (f x) (flat_map f xs) e))
-
--- a list that has no first one
-pub first_none : {X : Type 0} (xs : List X) → first xs ≡ None → xs ≡ []
-first_none [] e = refl
-first_none (x ∷ xs) e = cc

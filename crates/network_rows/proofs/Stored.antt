@@ -1,6 +1,5 @@
 -- Faults stored one after another, and the first of all.
-use Rattle.std.proofs.Common.{◌≡◌, ℕ, ◌+◌, ◌<◌, cond, List, [], ◌∷◌, ◌++◌, length, get_or, drop, map, Option, Some, None, unwrap_or, refl, ap, ◌∙◌, flat_map}
-use Rattle.std.proofs.lemmas.List.{drop_more}
+use Rattle.std.proofs.Common.{◌≡◌, ◌+◌, cond, List, [], ◌∷◌, ◌++◌, map, Option, Some, None, unwrap_or, refl, ap, ◌∙◌}
 use Rattle.toml.specs.Data.{Members}
 use Rattle.network_rows.specs.declared.fault.Place.{Place}
 use Rattle.network_rows.specs.declared.fault.KeyFault.{KeyFault}
@@ -15,11 +14,6 @@ use Rattle.network_rows.specs.Firsts.{nowhere, stored, all_stored, told}
 pub all_stored_append : (firsts : FirstPlaces) (fs gs : List (KeyFault × Place)) → all_stored firsts (fs ++ gs) ≡ all_stored (all_stored firsts fs) gs
 all_stored_append firsts [] gs = refl
 all_stored_append firsts (f ∷ fs) gs = all_stored_append (stored firsts f.0 f.1) fs gs
-
--- the faults of an element and of those behind it
-pub stored_more : {X : Type 0} (faults : X → List (KeyFault × Place)) (firsts : FirstPlaces) (xs : List X) (i : ℕ) (d : X) → i < length xs
-    → all_stored firsts (flat_map faults (drop i xs)) ≡ all_stored (all_stored firsts (faults (get_or xs i d))) (flat_map faults (drop (i + 1) xs))
-stored_more faults firsts xs i d h = rw (drop_more xs i d h) (all_stored_append firsts (faults (get_or xs i d)) (flat_map faults (drop (i + 1) xs)))
 
 -- ---- the first of each sort
 

@@ -1,6 +1,5 @@
 pub mod EndSystemLemmas
 pub mod GroupLemmas
-pub mod ListLemmas
 pub mod PortLemmas
 pub mod SendingLemmas
 pub mod SwitchLemmas

@@ -1,8 +1,6 @@
 -- The segments of each process that wait.
-use Rattle.std.proofs.Common.{◌≡◌, ◌∙◌, ℕ, zero, suc, ◌+◌, ◌-◌, ◌<◌, ◌≤◌, Bool, true, false, List, [], ◌∷◌, ◌++◌, length, take, get_or, refl, sym, ap, arith, length-append, ◌&&◌, nat_lt, slice_index_or, slice_set, map, drop, flat_map, append-nil}
+use Rattle.std.proofs.Common.{◌≡◌, ◌∙◌, ℕ, zero, suc, ◌+◌, ◌-◌, ◌<◌, ◌≤◌, Bool, true, false, List, [], ◌∷◌, ◌++◌, length, take, refl, sym, ap, arith, length-append, ◌&&◌, nat_lt, slice_index_or, slice_set, map, drop}
 use Rattle.std.specs.List.{repeat}
-use Rattle.std.proofs.lemmas.List.{take_more}
-use Rattle.std.proofs.lemmas.Grind.{flat_map-append}
 use Rattle.std.proofs.Math.Seq.{take-append_seam}
 use Rattle.vlink.specs.Letters.{Row}
 use Rattle.trace_segments.specs.Words.{segments_at, with_segment, are_all_there, AreFew}
@@ -11,13 +9,6 @@ use Rattle.trace_segments.specs.Words.{segments_at, with_segment, are_all_there,
 pub repeat-more : {X : Type 0} (x : X) (n : ℕ) → repeat n (x ∷ []) ++ x ∷ [] ≡ repeat (suc n) (x ∷ [])
 repeat-more x zero = refl
 repeat-more {X} x (suc n) = ap (λ (xs : List X). x ∷ xs) (repeat-more x n)
-
--- one more of those that are made one after another
-pub flat_map-one_more : {X Y : Type 0} (f : X → List Y) (xs : List X) (i : ℕ) (x : X) → i < length xs → x ≡ get_or xs i x → flat_map f (take (i + 1) xs) ≡ flat_map f (take i xs) ++ f x
-flat_map-one_more {X} {Y} f xs i x below at =
-    ap (flat_map f) (take_more xs i x below ∙ ap (λ (y : X). take i xs ++ y ∷ []) (sym at))
-    ∙ flat_map-append f (take i xs) (x ∷ [])
-    ∙ ap (λ (ys : List Y). flat_map f (take i xs) ++ ys) (append-nil (f x))
 
 -- the segments of a process are those at its place
 pub segments_at-read : (p : ℕ) (waiting : List (List (List Row))) (segments : List (List Row)) → p < length waiting → segments ≡ slice_index_or waiting p segments → segments_at p waiting ≡ segments

@@ -1,5 +1,5 @@
 -- Texts that are written one after another.
-use Rattle.std.proofs.Common.{◌≡◌, ℕ, ◌+◌, ◌<◌, List, [], ◌∷◌, ◌++◌, length, take, get_or, ap, sym, subst, ◌∙◌, append_assoc, IfOk, Result, Ok, Err, flat_map, Global, Vec, append-nil}
+use Rattle.std.proofs.Common.{◌≡◌, ℕ, ◌+◌, ◌<◌, List, [], ◌∷◌, ◌++◌, length, take, get_or, ap, sym, subst, ◌∙◌, append_assoc, flat_map, Global, Vec, append-nil}
 use Rattle.std.proofs.lemmas.List.{take_more}
 use Rattle.std.proofs.lemmas.Grind.{flat_map-append}
 use Rattle.csv.specs.declared.writer.Writer.{Writer}
@@ -8,9 +8,6 @@ use Rattle.trace_segments.specs.Words.{Holds, Adds}
 -- a list up to one place more, where this is read
 pub take-read : {X : Type 0} (xs : List X) (i : ℕ) (x : X) → i < length xs → x ≡ get_or xs i x → take (i + 1) xs ≡ take i xs ++ x ∷ []
 take-read xs i x below at = take_more xs i x below ∙ ap (λ (y : _). take i xs ++ y ∷ []) (sym at)
-
-pub adds-none : (w : Writer (Vec ℕ Global)) → Adds w w []
-adds-none w text h = subst (λ (t : List ℕ). Holds w t) (sym (append-nil text)) h
 
 pub adds-more : (a b c : Writer (Vec ℕ Global)) (xs ys : List ℕ) → Adds a b xs → Adds b c ys → Adds a c (xs ++ ys)
 adds-more a b c xs ys f g text h = subst (λ (t : List ℕ). Holds c t) (append_assoc text xs ys) (g (text ++ xs) (f text h))
@@ -22,7 +19,3 @@ adds-same a b xs ys e f = subst (λ (zs : List ℕ). Adds a b zs) e f
 pub flat_map-more : {X : Type 0} (f : X → List ℕ) (xs : List X) (i : ℕ) (x : X) → i < length xs → x ≡ get_or xs i x → flat_map f (take (i + 1) xs) ≡ flat_map f (take i xs) ++ f x
 flat_map-more f xs i x below at =
     ap (flat_map f) (take-read xs i x below at) ∙ flat_map-append f (take i xs) (x ∷ []) ∙ ap (λ (ys : List ℕ). flat_map f (take i xs) ++ ys) (append-nil (f x))
-
-pub if-ok : {X E : Type 0} (P Q : X → Type 0) (r : Result X E) → ((x : X) → P x → Q x) → IfOk r P → IfOk r Q
-if-ok P Q (Ok x) f h = f x h
-if-ok P Q (Err e) f h = h
