@@ -22,7 +22,7 @@ invariant_of-exchange g c =
     let x = g.J.ActorRun.setting in
     let actors = c.args.actors.ok.0 ∙ c.requires.opens.actors_open.count in
     let count = c.len-count.ensures ∙ actors in
-    let many = sym (length-map c.pairs.inside.marks.items (λ (b : LeftHalf Mark). b.name)) ∙ (ap length (c.pairs.view_is ∙ c.requires.names) ∙ c.requires.each) in
+    let many = sym (length-map c.pairs.inside.lefts.items (λ (b : LeftHalf Mark). b.name)) ∙ (ap length (c.pairs.view_is ∙ c.requires.names) ∙ c.requires.each) in
     let marks = c.pairs.invariant.1 ∙ ap (λ n. replicate n blank) many in (
       omega arith,
       c.requires.most,
@@ -30,13 +30,13 @@ invariant_of-exchange g c =
           c.in_ok-mail.mail (c.in_ok-mail.ensures.processes ∙ count) (λ p. c.in_ok-mail.ensures.letters p ∙ ap (received_by r.order p) (c.in_ok-letters.ensures ∙ ap (map plus_of) c.requires.opens.offered))
           c.in_ok-floors.floors (c.in_ok-floors.ensures.processes ∙ count) (c.in_ok-floors.ensures.until ∙ c.requires.until)
           (λ p i. c.in_ok-floors.ensures.each p (subst (λ n. p < n) (sym count) i) ∙ ap (λ n. Some n) (let e : c.args.until + 1 ≡ suc x.until = omega arith in e))
-          (map (λ (b : LeftHalf Mark). b.value) c.pairs.inside.marks.items) marks c.new-2.result.items c.new-2.ensures.items c.default.result c.default.ensures,
+          (map (λ (b : LeftHalf Mark). b.value) c.pairs.inside.lefts.items) marks c.new-2.result.items c.new-2.ensures.items c.default.result c.default.ensures,
       c.pairs.view_is ∙ c.requires.names,
     )
 
 pub returns-clause-exchange : goal.returns-clause-exchange
 returns-clause-exchange g c =
     let actors = c.args.actors.ok.0 ∙ c.requires.opens.actors_open.count in
-    let many = sym (length-map c.pairs.inside.marks.items (λ (b : LeftHalf Mark). b.name)) ∙ (ap length (c.pairs.view_is ∙ c.requires.names) ∙ c.requires.each) in
+    let many = sym (length-map c.pairs.inside.lefts.items (λ (b : LeftHalf Mark). b.name)) ∙ (ap length (c.pairs.view_is ∙ c.requires.names) ∙ c.requires.each) in
     let marks = c.pairs.invariant.1 ∙ ap (λ n. replicate n blank) many in
     λ i. record { entries = entries_of (c.new-2.ensures.items i); marks = marks i; limit = c.args.limit }
