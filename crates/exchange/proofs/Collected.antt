@@ -8,7 +8,7 @@ use Rattle.vlink.specs.declared.note.Note.{Note}
 use Rattle.virtual_time.specs.Law.{Rules, Simulation, lowest, times_of, Part, opened, Act, local, after_moves, Deliver, Took, acts_of, reach, after_own}
 use Rattle.virtual_time.specs.declared.moved.Move.{Move}
 use Rattle.virtual_time.proofs.Journal.{local-append}
-use Rattle.reverse.specs.Setting.{Setting, simulation_of}
+use Rattle.reverse.specs.Setting.{Setting}
 use Rattle.antimessages.specs.Letters.{Store}
 use Rattle.vlink.specs.Order.{message_order}
 use Rattle.vlink.specs.Letters.{Letter}
@@ -18,7 +18,7 @@ use Rattle.process_queues.specs.Queues.{Queues, StandsFor, Does, delivered_all}
 use Rattle.journal.specs.declared.tokens.Tokens.{Tokens}
 use Rattle.exchange.specs.declared.mark.Mark.{Mark}
 use Rattle.exchange.specs.Views.{Ledger, HeldState, blank, mark_of}
-use Rattle.exchange.specs.Keeps.{entries_of, IsMarked, AreMarked, IsRecorded}
+use Rattle.exchange.specs.Keeps.{IsMarked, AreMarked, IsRecorded}
 use Rattle.exchange.specs.Effects.{told, mark_at, collects}
 
 -- the deliveries of these letters

@@ -5,7 +5,7 @@ use Rattle.vlink.specs.declared.message.Message.{Message}
 use Rattle.vlink.specs.declared.note.Note.{Note}
 use Rattle.virtual_time.specs.Law.{Simulation, Deed, after_moves, acts_of, own_in, after_own}
 use Rattle.virtual_time.specs.declared.moved.Move.{Move}
-use Rattle.journal.specs.Deeds.{seen_entry, entry_own}
+use Rattle.journal.specs.Deeds.{seen_entry}
 use Rattle.journal.specs.Places.{IsAt}
 use Rattle.journal.specs.declared.tokens.Tokens.{Tokens}
 use Rattle.journal.specs.declared.tokens.EntryPlace.{EntryPlace}

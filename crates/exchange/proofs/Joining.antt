@@ -15,7 +15,7 @@ use Rattle.journal.specs.declared.tokens.Tokens.{Tokens}
 use Rattle.journal.specs.declared.tokens.EntryPlace.{EntryPlace}
 use Rattle.exchange.specs.declared.mark.Mark.{Mark}
 use Rattle.exchange.specs.Views.{mark_of}
-use Rattle.exchange.specs.Keeps.{entries_of, own_of, place_in, IsMarked, IsLast, IsRecorded, Holds}
+use Rattle.exchange.specs.Keeps.{own_of, place_in, IsMarked, IsLast, IsRecorded, Holds}
 use Rattle.exchange.specs.Effects.{mark_at}
 use Rattle.exchange.proofs.Holding.{Joined, joined}
 

@@ -1,4 +1,4 @@
-use Rattle.std.proofs.Common.{◌≡◌, ◌<◌, All, IsOk, map, length, ◌++◌, refl, sym, ap, ◌∙◌, subst, arith}
+use Rattle.std.proofs.Common.{◌<◌, All, IsOk, map, length, ◌++◌, refl, sym, ap, ◌∙◌, subst, arith}
 use Rattle.virtual_time.specs.Law.{received_by, Posted}
 use Rattle.reverse.specs.Rules.{rules_of}
 use Rattle.reverse.specs.Setting.{simulation_of}
