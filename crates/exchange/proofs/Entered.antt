@@ -3,7 +3,7 @@ use Rattle.std.proofs.Common.{◌≡◌, ℕ, ◌<◌, ◌^◌, List, [], ◌∷
 use Rattle.std.proofs.lemmas.List.{length-map}
 use Rattle.vlink.specs.declared.message.Message.{Message}
 use Rattle.vlink.specs.declared.note.Note.{Note}
-use Rattle.virtual_time.specs.Law.{Simulation, Deed, after_moves, acts_of, own_in, after_own}
+use Rattle.virtual_time.specs.Law.{Simulation, Part, Deed, after_moves, acts_of, own_in, after_own}
 use Rattle.virtual_time.specs.declared.moved.Move.{Move}
 use Rattle.journal.specs.Deeds.{seen_entry}
 use Rattle.journal.specs.Places.{IsAt}
@@ -47,9 +47,9 @@ module _ {pages : List ℕ} {ts : List Tokens} {marks : List Mark} {p seen : ℕ
   pub marked-last : marks' ≡ set marks p (mark_at (Some (length ts)) seen)
   marked-last = w.marked ∙ (λ i. set marks p (mark_at (Some (w.place i)) seen))
 
-  -- in terms of entries
+  -- what contracts see of both, in terms of entries
   module _ (g : ℕ) (same : seen ≡ g) where
-    pub mark-entries : mark_at (Some now.number) seen ≡ mark_at (Some (length (entries_of ts))) g
+    mark-entries : mark_at (Some now.number) seen ≡ mark_at (Some (length (entries_of ts))) g
     mark-entries = λ i. mark_at (Some ((w.place ∙ sym (length-map ts (λ (t : Tokens). seen_entry t.cell.value))) i)) (same i)
 
     pub ledger-now : (limit : ℕ) → ◌≡◌ {A = Ledger} (record { entries = entries_of ts'; marks = marks'; limit = limit })
@@ -58,4 +58,16 @@ module _ {pages : List ℕ} {ts : List Tokens} {marks : List Mark} {p seen : ℕ
       entries = (ap entries_of w.journal ∙ entries-are w.fresh) i;
       marks = (w.marked ∙ ap (set marks p) mark-entries) i;
       limit = limit;
+    }
+
+    pub held-now : {S K : Type 0} (f : Simulation Message S K Note) (part : Part Message S) → after_own f p (own_of (Some now)) ≡ part → (block : List Move) → block ≡ [] → (gone : ℕ) →
+        held_as f p block (Some now) seen gone ≡
+        record { number = p; part = part; block = []; own = own_of last ++ acts_of d; mark = mark_at (Some (length (entries_of ts))) g; gone = gone }
+    held-now f part part-is block none gone = λ i. record {
+      number = p;
+      part = (ap (λ b. after_moves f.rules (f.opening p) b (after_own f p (own_of (Some now)))) none ∙ part-is) i;
+      block = none i;
+      own = own-more i;
+      mark = mark-entries i;
+      gone = gone;
     }

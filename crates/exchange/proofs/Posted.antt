@@ -29,7 +29,7 @@ use Rattle.exchange.proofs.Collected.{kept-as}
 use Rattle.exchange.proofs.Gone.{gone-stays}
 use Rattle.exchange.proofs.Growth.{marks-set, kept-more}
 use Rattle.exchange.proofs.Holding.{Joined}
-use Rattle.exchange.proofs.Entered.{Entered, held_as, own-more, last-now, marked-last, mark-entries, ledger-now}
+use Rattle.exchange.proofs.Entered.{Entered, held_as, own-more, last-now, marked-last, ledger-now, held-now}
 
 -- letters to processes of which there are so many
 letters-go : {S K : Type 0} (r : Rules Message S K Note) (O : IsOrder r.order) (n : ℕ) (ls : List Letter) → ((m : Message) → IsNamed r.order m ls → r.order.receiver m < n) →
@@ -39,18 +39,17 @@ letters-go r O n (l ∷ ls) h =
     All-cons (λ z. r.order.receiver z.message < n) l ls (h l.message (named-head r.order O l ls)) (letters-go r O n ls (λ m k. h m (let a = k in omega arith)))
 
 -- the actor of a process is told the end time of the run
-pub end-told : {S K : Type 0} (r : Rules Message S K Note) (is_value : S → Message → Type 0) (opening : S) (part : Part Message S) (q : Queues S K) → StandsFor r is_value opening part q → IsOrder r.order →
+end-told : {S K : Type 0} (r : Rules Message S K Note) (is_value : S → Message → Type 0) (opening : S) (part : Part Message S) (q : Queues S K) → StandsFor r is_value opening part q → IsOrder r.order →
     (end : S → ℕ) → ((s : S) (m : Message) → end (r.after s m) ≡ end s) → (until : ℕ) → end opening ≡ until → end q.past.state ≡ until
 end-told r is_value opening part q h O end stays until is =
     subst (λ s. end s ≡ until) (sym (sym h.past.state ∙ h.well.state_is))
     (reached-keeps r O (λ s. end s ≡ until) (λ s m e. stays s m ∙ e) opening (part.committed ++ part.done) is)
 
 -- a process alone, when its block is in the journal
-pub part-posted : {S K : Type 0} (f : Simulation Message S K Note) (p : ℕ) (own own' : List (Act Message)) (block block' : List Move) → own' ≡ own ++ acts_of (Posted block) → block' ≡ [] →
-    after_moves f.rules (f.opening p) block' (after_own f p own') ≡ emptied (after_moves f.rules (f.opening p) block (after_own f p own))
-part-posted f p own own' block block' more none =
-    ap (λ b. after_moves f.rules (f.opening p) b (after_own f p own')) none ∙
-    (ap (after_own f p) more ∙ (local-append f (f.opening p) own (acts_of (Posted block)) (opened (f.opening p)) ∙ emptied-last f (f.opening p) block (after_own f p own)))
+part-posted : {S K : Type 0} (f : Simulation Message S K Note) (p : ℕ) (own own' : List (Act Message)) (block : List Move) → own' ≡ own ++ acts_of (Posted block) →
+    after_own f p own' ≡ emptied (after_moves f.rules (f.opening p) block (after_own f p own))
+part-posted f p own own' block more =
+    ap (after_own f p) more ∙ (local-append f (f.opening p) own (acts_of (Posted block)) (opened (f.opening p)) ∙ emptied-last f (f.opening p) block (after_own f p own))
 
 module _ {S K : Type 0} {r : Rules Message S K Note} {number end : S → ℕ} {is_placed : S → Type 0} {x : Setting S} {pages table : List ℕ} {ts : List Tokens} {mail : List Store} {floors : Floors}
     {gvt count : ℕ} {marks : List Mark} (k : IsRecorded r number end is_placed x pages table ts mail floors gvt count marks)
@@ -104,7 +103,7 @@ module _ {S K : Type 0} {r : Rules Message S K Note} {number end : S → ℕ} {i
     holds-posted here left block' none =
         let f = simulation_of r x in
         let part = after_moves r (x.opening p) block (after_own f p (own_of last)) in
-        let next = part-posted f p (own_of last) (own_of (Some now)) block [] (own-more w) refl in
+        let next = part-posted f p (own_of last) (own_of (Some now)) block (own-more w) in
         subst (λ b. Holds r number end is_placed x is_value pages table' p seen gone b (Some now) q') (sym none) (record {
           laid = h.laid;
           same = h.same;
@@ -125,7 +124,7 @@ module _ {S K : Type 0} {r : Rules Message S K Note} {number end : S → ℕ} {i
       subst (λ us. IsRecorded r number end is_placed x pages table us mail' floors gvt count marks) (sym same) (kept-as k mail' boxes letters marks k.marked)
 
 module _ {S K : Type 0} (f : Simulation Message S K Note) (x : Ledger) (h : HeldState S) (y : Ledger) (k : HeldState S) where
-  pub posts-some : (ms : List Move) → 0 < length ms →
+  posts-some : (ms : List Move) → 0 < length ms →
       y ≡ record { entries = x.entries ++ told h.number h.mark.place (Posted ms) ∷ []; marks = set x.marks h.number (mark_at (Some (length x.entries)) h.mark.seen); limit = x.limit } →
       k ≡ record h { part = emptied h.part; block = []; own = h.own ++ acts_of (Posted ms); mark = mark_at (Some (length x.entries)) h.mark.seen } →
       posts-effect f ms x h y k
@@ -139,11 +138,5 @@ pub block-posted : {S K : Type 0} (f : Simulation Message S K Note) {pages : Lis
     (record { entries = entries_of ts; marks = marks; limit = limit }) (held_as f p block last seen gone)
     (record { entries = entries_of ts'; marks = marks'; limit = limit }) (held_as f p block' (Some now) seen gone)
 block-posted f {p = p} {seen = seen} {last = last} {block = block} {now = now} w some limit gone block' none =
-    posts-some f _ _ _ _ block some (ledger-now w seen refl limit) (λ i. record {
-      number = p;
-      part = part-posted f p (own_of last) (own_of (Some now)) block block' (own-more w) none i;
-      block = none i;
-      own = own-more w i;
-      mark = mark-entries w seen refl i;
-      gone = gone;
-    })
+    let part-is = part-posted f p (own_of last) (own_of (Some now)) block (own-more w) in
+    posts-some f _ _ _ _ block some (ledger-now w seen refl limit) (held-now w seen refl f _ part-is block' none gone)

@@ -19,7 +19,7 @@ use Rattle.exchange.specs.declared.mark.Mark.{Mark}
 use Rattle.exchange.specs.Keeps.{entries_of, own_of, IsRecorded, Holds}
 use Rattle.exchange.specs.Effects.{mark_at, Collects}
 use Rattle.exchange.proofs.Growth.{own-now, marks-set, kept-more}
-use Rattle.exchange.proofs.Entered.{Entered, held_as, own-more, last-now, marked-last, mark-entries, ledger-now}
+use Rattle.exchange.proofs.Entered.{Entered, held_as, own-more, last-now, marked-last, ledger-now, held-now}
 use Rattle.exchange.proofs.Holding.{holds-at, holds-seen}
 use Rattle.exchange.proofs.Gone.{gone-stays}
 use Rattle.exchange.proofs.Collected.{stands-collected, part-collected, collects-some}
@@ -91,16 +91,8 @@ module _ {S K : Type 0} {r : Rules Message S K Note} {number end : S → ℕ} {i
         let xs = take n (letters_for p mail) in
         let world = reach f (entries_of ts) in
         let same : xs ≡ take most (world.mail p) = ap (λ m. take m (letters_for p mail)) n-is ∙ (take_min most (letters_for p mail) ∙ ap (take most) (k.mail_is p h.number_is)) in
-        let part = part-collected f p (own_of last) (own_of (Some now)) block xs none (own-more w) in (
+        let part-is = part-collected f p (own_of last) (own_of (Some now)) block xs none (own-more w) in (
           sym many ∙ ap length same,
           collects-some f _ _ _ _ (take most (world.mail p)) xs same (subst (λ m. 0 < m) (sym many) some)
-              (ledger-now w world.gvt k.gvt_is limit)
-              (λ i. record {
-                number = p;
-                part = (ap (λ b. after_moves f.rules (f.opening p) b (after_own f p (own_of (Some now)))) none ∙ part) i;
-                block = none i;
-                own = own-more w i;
-                mark = mark-entries w world.gvt k.gvt_is i;
-                gone = gone;
-              }),
+              (ledger-now w world.gvt k.gvt_is limit) (held-now w world.gvt k.gvt_is f _ part-is block none gone),
         )

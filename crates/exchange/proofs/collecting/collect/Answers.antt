@@ -21,8 +21,8 @@ took g c =
 
 -- its entry is in the journal, and both marks name it
 entered : (g : Over) (c : After-tell_both g) →
-    Entered g.J.ActorRun.pages c.exchange.inside.journal.items (map (λ (b : LeftHalf Mark). b.value) c.exchange.inside.marks.items) c.held.inside.number c.exchange.inside.gvt c.held.inside.last
-    (Took (take c.min-count.result (letters_for c.held.inside.number c.exchange.inside.mail)))
+    Entered g.J.ActorRun.pages c.exchange.inside.journal.items (map (λ (b : LeftHalf Mark). b.value) c.exchange.inside.marks.items)
+    c.held.inside.number c.exchange.inside.gvt c.held.inside.last (Took (take c.min-count.result (letters_for c.held.inside.number c.exchange.inside.mail)))
     c.write.new.journal.items (map (λ (b : LeftHalf Mark). b.value) c.tell_both.new.marks.items) (record { number = c.len-place.result; tokens = c.in-Ok.tokens })
 entered g c =
     let entry = rw (sym c.held.view_is) at c.entry_of-entry.ensures in
@@ -53,8 +53,8 @@ invariant_of-held-in-Ok g c =
     let at = goal.at.invariant_of-held-in-Ok g c in
     let taken = rw (took g at.After-collect-taken) at c.collect-taken.ensures.delivered in
     let queues = rw (took g at.After-collect-taken) at c.collect-taken.ensures.queues in (
-      holds-taken c.exchange.invariant.2 c.held.invariant.0 c.min-count.result (omega arith) (omega arith) (entered g at.After-tell_both) (rw (sym c.held.view_is) at c.requires.posted)
-          (invariant_of-exchange g c).2 (c.actor_laws.ensures g.J.ActorRun.setting c.exchange.invariant.2.laid) (omega arith)
+      holds-taken c.exchange.invariant.2 c.held.invariant.0 c.min-count.result (omega arith) (omega arith) (entered g at.After-tell_both)
+          (rw (sym c.held.view_is) at c.requires.posted) (invariant_of-exchange g c).2 (c.actor_laws.ensures g.J.ActorRun.setting c.exchange.invariant.2.laid) (omega arith)
           c.reserve_letters.new.self.queues c.collect-taken.new.self.queues c.reserve_letters.ensures.same taken
           (ap (λ (z : Queues g.row.R.Denot g.row.R-Record.Denot). z.left) queues),
       record { name = c.tell_both.ensures.name ∙ c.held.invariant.1.name; value = c.tell_both.ensures.mark },
@@ -65,4 +65,5 @@ returns-in-Ok-clause-ok g c =
     let at = goal.at.returns-in-Ok-clause-ok g c in
     let none = rw (sym c.held.view_is) at c.requires.posted in
     rw (sym c.held.view_is, sym c.exchange.view_is)
-    (collects-taken c.exchange.invariant.2 c.held.invariant.0 c.min-count.result (omega arith) (omega arith) (entered g at.After-tell_both) none c.args.most c.exchange.inside.limit (omega arith))
+    (collects-taken c.exchange.invariant.2 c.held.invariant.0 c.min-count.result (omega arith) (omega arith) (entered g at.After-tell_both)
+    none c.args.most c.exchange.inside.limit (omega arith))

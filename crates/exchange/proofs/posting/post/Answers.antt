@@ -16,7 +16,8 @@ use Rattle.exchange.proofs.posting.post.Goals.{After-join, After-post-posted, Af
 use Rattle.exchange.proofs.posting.post.Goals as goal
 
 -- the process in hand is that of the journal
-joined : (g : Over) (c : After-join g) → Joined (simulation_of (rules_of g.R.Reversible.plain) g.J.ActorRun.setting) c.exchange.inside.journal.items c.held.inside.number c.held.inside.block c.held.inside.last
+joined : (g : Over) (c : After-join g) →
+    Joined (simulation_of (rules_of g.R.Reversible.plain) g.J.ActorRun.setting) c.exchange.inside.journal.items c.held.inside.number c.held.inside.block c.held.inside.last
 joined g c = record {
   part = rw (sym c.held.view_is, sym c.exchange.view_is) at c.join.ensures.part;
   enabled = rw (sym c.held.view_is, sym c.exchange.view_is) at c.join.ensures.enabled;
@@ -33,8 +34,9 @@ is-ok g c = c.post-posted.ensures.reserved (when-no-err c.reserve_post.result (s
 
 -- its entry is in the journal, and both marks name it
 entered : (g : Over) (c : After-tell_both g) →
-    Entered g.J.ActorRun.pages c.exchange.inside.journal.items (map (λ (b : LeftHalf Mark). b.value) c.exchange.inside.marks.items) c.held.inside.number c.held.inside.seen c.held.inside.last
-    (Posted c.held.inside.block) c.write.new.journal.items (map (λ (b : LeftHalf Mark). b.value) c.tell_both.new.marks.items) (record { number = c.len-place.result; tokens = c.in-Ok.tokens })
+    Entered g.J.ActorRun.pages c.exchange.inside.journal.items (map (λ (b : LeftHalf Mark). b.value) c.exchange.inside.marks.items)
+    c.held.inside.number c.held.inside.seen c.held.inside.last (Posted c.held.inside.block)
+    c.write.new.journal.items (map (λ (b : LeftHalf Mark). b.value) c.tell_both.new.marks.items) (record { number = c.len-place.result; tokens = c.in-Ok.tokens })
 entered g c =
     let before = rw (sym c.held.view_is) at c.prior.ensures in
     let mine = rw (sym c.held.view_is, sym c.exchange.view_is) at c.join.ensures.own in
@@ -57,10 +59,12 @@ pub invariant_of-held : goal.invariant_of-held
 invariant_of-held g c =
     let at = goal.at.invariant_of-held g c in
     let k = c.exchange.invariant.2 in
+    let L = c.actor_laws.ensures g.J.ActorRun.setting k.laid in
     let place = c.len-place.ensures ∙ c.exchange.inside.journal.ok.0 in
     let ok = is-ok g at.After-post-posted in (
-      holds-posted k c.held.invariant.0 (c.actor_laws.ensures g.J.ActorRun.setting k.laid) (entered g at.After-tell_both) (when-ok c.post-posted.result ok c.post-posted.ensures.emptied) (omega arith)
-          (ap (λ (z : Queues g.row.R.Denot g.row.R-Record.Denot). z.left) (when-ok c.post-posted.result ok c.post-posted.ensures.queues)) c.replace.new.dest (c.replace.ensures.after ∙ c.new.ensures),
+      holds-posted k c.held.invariant.0 L (entered g at.After-tell_both) (when-ok c.post-posted.result ok c.post-posted.ensures.emptied) (omega arith)
+          (ap (λ (z : Queues g.row.R.Denot g.row.R-Record.Denot). z.left) (when-ok c.post-posted.result ok c.post-posted.ensures.queues))
+          c.replace.new.dest (c.replace.ensures.after ∙ c.new.ensures),
       record { name = c.tell_both.ensures.name ∙ c.held.invariant.1.name; value = c.tell_both.ensures.mark },
     )
 
@@ -69,12 +73,13 @@ invariant_of-exchange-in-Ok g c =
     let at = goal.at.invariant_of-exchange-in-Ok g c in
     let k = c.exchange.invariant.2 in
     let h = c.held.invariant.0 in
+    let L = c.actor_laws.ensures g.J.ActorRun.setting k.laid in
     let fits = rw (sym c.held.view_is, sym c.exchange.view_is) at c.join.ensures.same in
     let ok = is-ok g at.After-post-posted in
     let posted = when-ok c.post-posted.result ok c.post-posted.ensures.posted in (
       omega arith,
       c.exchange.invariant.1,
-      kept-posted k h (c.actor_laws.ensures g.J.ActorRun.setting k.laid) (entered g at.After-tell_both) (when-ok c.post-posted.result ok c.post-posted.ensures.emptied) (joined g at.After-join)
+      kept-posted k h L (entered g at.After-tell_both) (when-ok c.post-posted.result ok c.post-posted.ensures.emptied) (joined g at.After-join)
           (seen-low k h fits) (λ s m. g.met.R.Actor.end_stays s m)
           c.post-posted.new.mail (c.post-posted.ensures.processes ∙ c.reserve_post.ensures.processes)
           (λ q. posted q ∙ (λ j. c.reserve_post.ensures.same q j ++ received_by (rules_of g.R.Reversible.plain).order q c.held.inside.process.queues.outbox))
@@ -94,4 +99,5 @@ pub returns-in-Ok-clause-ok : goal.returns-in-Ok-clause-ok
 returns-in-Ok-clause-ok g c =
     let f = simulation_of (rules_of g.R.Reversible.plain) g.J.ActorRun.setting in
     rw (sym c.held.view_is, sym c.exchange.view_is)
-    (block-posted f (entered g (goal.at.returns-in-Ok-clause-ok g c).After-tell_both) (omega arith) c.exchange.inside.limit c.held.inside.gone c.replace.new.dest (c.replace.ensures.after ∙ c.new.ensures))
+    (block-posted f (entered g (goal.at.returns-in-Ok-clause-ok g c).After-tell_both) (omega arith) c.exchange.inside.limit c.held.inside.gone
+    c.replace.new.dest (c.replace.ensures.after ∙ c.new.ensures))
