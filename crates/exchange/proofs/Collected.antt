@@ -91,6 +91,12 @@ module _ {S K : Type 0} {r : Rules Message S K Note} {number end : S → ℕ} {i
     marked = marked;
   }
 
+  -- a refusal leaves room in the mail at most
+  pub kept-refused : (ts' : List Tokens) → ts' ≡ ts → (mail' : List Store) → length mail' ≡ length mail → ((q : ℕ) → letters_for q mail' ≡ letters_for q mail) →
+      IsRecorded r number end is_placed x pages table ts' mail' floors gvt count marks
+  kept-refused ts' same mail' boxes letters =
+      subst (λ us. IsRecorded r number end is_placed x pages table us mail' floors gvt count marks) (sym same) (kept-as mail' boxes letters marks k.marked)
+
 -- a process without a block, after these letters were collected for it
 pub part-collected : {S K : Type 0} (f : Simulation Message S K Note) (p : ℕ) (own own' : List (Act Message)) (block : List Move) (xs : List Letter) → block ≡ [] → own' ≡ own ++ acts_of (Took xs) →
     after_own f p own' ≡ local f.rules (f.opening p) (acts_of (Took xs)) (after_moves f.rules (f.opening p) block (after_own f p own))

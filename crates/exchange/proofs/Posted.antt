@@ -25,7 +25,6 @@ use Rattle.exchange.specs.declared.mark.Mark.{Mark}
 use Rattle.exchange.specs.Views.{Ledger, HeldState}
 use Rattle.exchange.specs.Keeps.{entries_of, own_of, IsRecorded, Holds}
 use Rattle.exchange.specs.Effects.{told, mark_at, posts as posts-effect}
-use Rattle.exchange.proofs.Collected.{kept-as}
 use Rattle.exchange.proofs.Gone.{gone-stays}
 use Rattle.exchange.proofs.Growth.{marks-set, kept-more}
 use Rattle.exchange.proofs.Holding.{Joined}
@@ -114,14 +113,6 @@ module _ {S K : Type 0} {r : Rules Message S K Note} {number end : S → ℕ} {i
           enabled = tt;
           last_is = last-now w here;
         })
-
-module _ {S K : Type 0} {r : Rules Message S K Note} {number end : S → ℕ} {is_placed : S → Type 0} {x : Setting S} {pages table : List ℕ} {ts : List Tokens} {mail : List Store} {floors : Floors}
-    {gvt count : ℕ} {marks : List Mark} (k : IsRecorded r number end is_placed x pages table ts mail floors gvt count marks) where
-  -- a refusal leaves room in the mail at most
-  pub kept-refused : (ts' : List Tokens) → ts' ≡ ts → (mail' : List Store) → length mail' ≡ length mail → ((q : ℕ) → letters_for q mail' ≡ letters_for q mail) →
-      IsRecorded r number end is_placed x pages table ts' mail' floors gvt count marks
-  kept-refused ts' same mail' boxes letters =
-      subst (λ us. IsRecorded r number end is_placed x pages table us mail' floors gvt count marks) (sym same) (kept-as k mail' boxes letters marks k.marked)
 
 module _ {S K : Type 0} (f : Simulation Message S K Note) (x : Ledger) (h : HeldState S) (y : Ledger) (k : HeldState S) where
   posts-some : (ms : List Move) → 0 < length ms →

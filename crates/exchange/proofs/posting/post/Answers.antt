@@ -5,12 +5,13 @@ use Rattle.reverse.specs.Setting.{simulation_of}
 use Rattle.process_queues.specs.Queues.{Queues}
 use Rattle.halves.specs.declared.LeftHalf.{LeftHalf}
 use Rattle.exchange.specs.declared.mark.Mark.{Mark}
+use Rattle.exchange.proofs.Collected.{kept-refused}
 use Rattle.exchange.proofs.Growth.{entry-fresh}
 use Rattle.exchange.proofs.Holding.{Joined}
 use Rattle.exchange.proofs.Joining.{seen-low}
 use Rattle.exchange.proofs.Entered.{Entered}
 use Rattle.exchange.proofs.Outcomes.{when-ok, when-no-err}
-use Rattle.exchange.proofs.Posted.{outbox-goes, kept-posted, holds-posted, kept-refused, block-posted}
+use Rattle.exchange.proofs.Posted.{outbox-goes, kept-posted, holds-posted, block-posted}
 use Rattle.exchange.proofs.posting.post.Given.{Over}
 use Rattle.exchange.proofs.posting.post.Goals.{After-join, After-post-posted, After-tell_both}
 use Rattle.exchange.proofs.posting.post.Goals as goal
