@@ -1,16 +1,14 @@
 -- Letters go from the mail to a process.
 use Rattle.std.proofs.Common.{◌≡◌, ℕ, ◌+◌, ◌<◌, ◌≤◌, inl, inr, min, List, [], ◌∷◌, ◌++◌, map, length, take, slice_get, Option, Some, None, refl, sym, ap, ◌∙◌, subst, arith, option_map, set, length-set, get_or-set_same, get_or-set_other}
-use Rattle.std.proofs.lemmas.List.{length-replicate, take_more, map-append}
+use Rattle.std.proofs.lemmas.List.{take_more, map-append}
 use Rattle.std.proofs.lemmas.Bool.{cases_eq}
 use Rattle.std.proofs.lemmas.Option.{get_or_from_slice_get}
 use Rattle.vlink.specs.declared.message.Message.{Message}
 use Rattle.vlink.specs.declared.note.Note.{Note}
-use Rattle.virtual_time.specs.Law.{Rules, Simulation, lowest, times_of, Part, opened, Act, local, after_moves, Deliver, Took, acts_of, steps_of, own_in, reach, after_own, fetched}
-use Rattle.virtual_time.specs.declared.step.Step.{Step}
+use Rattle.virtual_time.specs.Law.{Rules, Simulation, lowest, times_of, Part, opened, Act, local, after_moves, Deliver, Took, acts_of, reach, after_own}
 use Rattle.virtual_time.specs.declared.moved.Move.{Move}
-use Rattle.virtual_time.proofs.Kept.{put_elim}
-use Rattle.virtual_time.proofs.Journal.{local-append, takes}
-use Rattle.reverse.specs.Setting.{Setting, simulation_of}
+use Rattle.virtual_time.proofs.Journal.{local-append}
+use Rattle.reverse.specs.Setting.{Setting}
 use Rattle.antimessages.specs.Letters.{Store}
 use Rattle.vlink.specs.Order.{message_order}
 use Rattle.vlink.specs.Letters.{Letter}
@@ -20,9 +18,8 @@ use Rattle.process_queues.specs.Queues.{Queues, StandsFor, Does, delivered_all}
 use Rattle.journal.specs.declared.tokens.Tokens.{Tokens}
 use Rattle.exchange.specs.declared.mark.Mark.{Mark}
 use Rattle.exchange.specs.Views.{Ledger, HeldState, blank, mark_of}
-use Rattle.exchange.specs.Keeps.{entries_of, IsMarked, AreMarked, IsRecorded}
+use Rattle.exchange.specs.Keeps.{IsMarked, AreMarked, IsRecorded}
 use Rattle.exchange.specs.Effects.{told, mark_at, collects}
-use Rattle.exchange.proofs.Growth.{Fresh, marks-set, kept-more}
 
 -- the deliveries of these letters
 delivered-local : {S K : Type 0} (r : Rules Message S K Note) (o : S) (ls : List Letter) (part : Part Message S) → delivered_all ls part ≡ local r o (map (λ l. Deliver l) ls) part
@@ -94,30 +91,11 @@ module _ {S K : Type 0} {r : Rules Message S K Note} {number end : S → ℕ} {i
     marked = marked;
   }
 
-  -- the first letters of the mail of a process are collected
-  pub kept-collected : (p : ℕ) → p < x.processes → (xs rest : List Letter) → letters_for p mail ≡ xs ++ rest → 0 < length xs →
-      {prior : Option ℕ} {t : Tokens} → Fresh pages ts (told p prior (Took xs)) (own_in p (entries_of ts)) t →
-      (mail' : List Store) → length mail' ≡ length mail → letters_for p mail' ≡ rest → ((q : ℕ) → (q ≡ p → ⊥) → letters_for q mail' ≡ letters_for q mail) →
-      (floors' : Floors) → length floors'.floors ≡ length floors.floors → floors'.until ≡ floors.until →
-      slice_get floors'.floors p ≡ option_map (λ d. lowest d (times_of r.order xs)) (slice_get floors.floors p) →
-      ((q : ℕ) → (q ≡ p → ⊥) → slice_get floors'.floors q ≡ slice_get floors.floors q) →
-      (ts' : List Tokens) → ts' ≡ ts ++ t ∷ [] → (count' : ℕ) → count' ≡ count + length xs →
-      (marks' : List Mark) → marks' ≡ set marks p (mark_at (Some (length ts)) gvt) →
-      IsRecorded r number end is_placed x pages table ts' mail' floors' gvt count' marks'
-  kept-collected p i xs rest front some {t = t} new mail' boxes left others floors' floor_count until here elsewhere ts' more count' counts marks' marks-are =
-      let f = simulation_of r x in
-      let w = reach f (entries_of ts) in
-      let many : length (steps_of {M = Message} p (Took xs)) ≡ length xs = length-replicate (length xs) (Step.Take p 0) in
-      subst (λ us. IsRecorded r number end is_placed x pages table us mail' floors' gvt count' marks') (sym more)
-      (subst (λ bs. IsRecorded r number end is_placed x pages table (ts ++ t ∷ []) mail' floors' gvt count' bs) (sym marks-are)
-      (kept-more k new (fetched f p xs rest w) (takes f p i xs rest w (sym (k.mail_is p i) ∙ front)) refl
-      mail' boxes
-      (put_elim (λ q ls. q < x.processes → letters_for q mail' ≡ ls) p rest w.mail (λ j. left) (λ q n j. others q n ∙ k.mail_is q j))
-      floors' floor_count until
-      (put_elim (λ q n. q < x.processes → slice_get floors'.floors q ≡ Some n) p (lowest (w.floors p) (times_of r.order xs)) w.floors
-      (λ j. here ∙ ap (option_map (λ d. lowest d (times_of r.order xs))) (k.floors_is p j)) (λ q n j. elsewhere q n ∙ k.floors_is q j))
-      gvt k.gvt_is count' (counts ∙ ap (λ n. count + n) (sym many)) (subst (λ n. 0 < n) (sym many) some)
-      (set marks p (mark_at (Some (length ts)) gvt)) (marks-set new k.marked (λ q. refl) i refl gvt (omega arith))))
+  -- a refusal leaves room in the mail at most
+  pub kept-refused : (ts' : List Tokens) → ts' ≡ ts → (mail' : List Store) → length mail' ≡ length mail → ((q : ℕ) → letters_for q mail' ≡ letters_for q mail) →
+      IsRecorded r number end is_placed x pages table ts' mail' floors gvt count marks
+  kept-refused ts' same mail' boxes letters =
+      subst (λ us. IsRecorded r number end is_placed x pages table us mail' floors gvt count marks) (sym same) (kept-as mail' boxes letters marks k.marked)
 
 -- a process without a block, after these letters were collected for it
 pub part-collected : {S K : Type 0} (f : Simulation Message S K Note) (p : ℕ) (own own' : List (Act Message)) (block : List Move) (xs : List Letter) → block ≡ [] → own' ≡ own ++ acts_of (Took xs) →
@@ -134,29 +112,6 @@ stands-collected f is_value p own own' block xs q q' none more stands does =
     let part = after_moves f.rules (f.opening p) block (after_own f p own) in
     subst (λ z. StandsFor f.rules is_value (f.opening p) z q') (delivered-local f.rules (f.opening p) xs part ∙ sym (part-collected f p own own' block xs none more))
     (does (f.opening p) part stands)
-
--- and what contracts see of it
-pub mark-collected : {S K : Type 0} (f : Simulation Message S K Note) (p : ℕ) (own own' : List (Act Message)) (block : List Move) (xs : List Letter) (m m' : Mark) (gone : ℕ) →
-    block ≡ [] → own' ≡ own ++ acts_of (Took xs) → m ≡ m' →
-    ◌≡◌ {A = HeldState S}
-    (record { number = p; part = after_moves f.rules (f.opening p) block (after_own f p own'); block = block; own = own'; mark = m; gone = gone })
-    (record {
-      number = p;
-      part = local f.rules (f.opening p) (acts_of (Took xs)) (after_moves f.rules (f.opening p) block (after_own f p own));
-      block = [];
-      own = own ++ acts_of (Took xs);
-      mark = m';
-      gone = gone;
-    })
-mark-collected f p own own' block xs m m' gone none more same =
-    λ i. record {
-      number = p;
-      part = (ap (λ b. after_moves f.rules (f.opening p) b (after_own f p own')) none ∙ part-collected f p own own' block xs none more) i;
-      block = none i;
-      own = more i;
-      mark = same i;
-      gone = gone;
-    }
 
 module _ {S K : Type 0} (f : Simulation Message S K Note) (x : Ledger) (h : HeldState S) (y : Ledger) (k : HeldState S) where
   -- some were there

@@ -4,10 +4,10 @@ use Rattle.std.proofs.lemmas.Bool.{and_parts}
 use Rattle.std.proofs.lemmas.List.{map-append}
 use Rattle.vlink.specs.declared.message.Message.{Message}
 use Rattle.vlink.specs.declared.note.Note.{Note}
-use Rattle.virtual_time.specs.Law.{Rules, rowed, Simulation, Laws, Part, opened, emptied, acted, local, after_moves, Emptying, Moves, IsSafePart, MayAct, Posted, acts_of, steps, own_in, reach, after_own, can_move, AreEnabled}
+use Rattle.virtual_time.specs.Law.{Rules, rowed, Simulation, Laws, Part, acted, local, after_moves, Moves, IsSafePart, MayAct, steps, own_in, reach, after_own, can_move, AreEnabled}
 use Rattle.virtual_time.specs.declared.moved.Move.{Move}
 use Rattle.virtual_time.specs.declared.moved.Move.TheVariants.{Arrived, Ran, Committed}
-use Rattle.virtual_time.proofs.Journal.{local-append, emptied-last, enabled-later}
+use Rattle.virtual_time.proofs.Journal.{local-append, enabled-later}
 use Rattle.virtual_time.proofs.SafePart.{acted-safe, world-safe}
 use Rattle.reverse.specs.Setting.{Setting, simulation_of}
 use Rattle.antimessages.specs.Letters.{Store}
@@ -36,6 +36,12 @@ module _ {S K : Type 0} (f : Simulation Message S K Note) where
   may-move g Ran part e = tt
   may-move g Committed part e = (and_parts _ _ e).0
 
+-- what is in hand is the process of the world and then its block, of which each step can be done there
+pub record Joined {S K : Type 0} (f : Simulation Message S K Note) (ts : List Tokens) (p : ℕ) (block : List Move) (last : Option EntryPlace) : Type 0 where
+  pub part : after_moves f.rules (f.opening p) block (after_own f p (own_of last)) ≡ after_moves f.rules (f.opening p) block ((reach f (entries_of ts)).parts p)
+  pub enabled : AreEnabled f (f.opening p) (reach f (entries_of ts)).gvt block ((reach f (entries_of ts)).parts p)
+  pub own : own_of last ≡ own_in p (entries_of ts)
+
 module _ {S K : Type 0} {r : Rules Message S K Note} {number end : S → ℕ} {is_placed : S → Type 0} {x : Setting S} where
   module _ {is_value : S → Message → Type 0} {pages table : List ℕ} {p seen gone : ℕ} {block : List Move} {last : Option EntryPlace} {q : Queues S K}
       (h : Holds r number end is_placed x is_value pages table p seen gone block last q) (L : Laws (simulation_of r x)) where
@@ -57,27 +63,6 @@ module _ {S K : Type 0} {r : Rules Message S K Note} {number end : S → ℕ} {i
           gone_early = gone-stays r (x.opening p) part q h.stands gone h.gone_early (Moves m ∷ []) _ next q' kept;
           enabled = enabled-push f (x.opening p) seen block m base h.enabled can;
           last_is = h.last_is;
-        })
-
-    -- its block goes to the journal
-    pub holds-posted : (last' : Option EntryPlace) → IsLast pages last' → own_of last' ≡ own_of last ++ acts_of (Posted block) →
-        (q' : Queues S K) → StandsFor r is_value (x.opening p) (emptied (after_moves r (x.opening p) block (after_own (simulation_of r x) p (own_of last)))) q' → q'.left ≡ q.left →
-        (block' : List Move) → block' ≡ [] → Holds r number end is_placed x is_value pages table p seen gone block' last' q'
-    holds-posted last' is-last own q' stands kept block' none =
-        let f = simulation_of r x in
-        let base = after_own f p (own_of last) in
-        let part = after_moves r (x.opening p) block base in
-        let next : after_own f p (own_of last') ≡ emptied part =
-        ap (after_own f p) own ∙ (local-append f (x.opening p) (own_of last) (acts_of (Posted block)) (opened (x.opening p)) ∙ emptied-last f (x.opening p) block base) in
-        subst (λ b. Holds r number end is_placed x is_value pages table p seen gone b last' q') (sym none) (record {
-          laid = h.laid;
-          same = h.same;
-          number_is = h.number_is;
-          stands = subst (λ z. StandsFor r is_value (x.opening p) z q') (sym next) stands;
-          safe = subst (λ z. IsSafePart f p seen z) (sym next) (acted-safe f L p seen h.number_is Emptying part h.safe tt);
-          gone_early = gone-stays r (x.opening p) part q h.stands gone h.gone_early (Emptying ∷ []) _ next q' kept;
-          enabled = tt;
-          last_is = is-last;
         })
 
   -- another table of the same names
@@ -112,17 +97,16 @@ module _ {S K : Type 0} {r : Rules Message S K Note} {number end : S → ℕ} {i
           last_is = is-last;
         })
 
-    -- what is in hand is the process of the world and then its block, of which each step can be done there
+    -- what saw no later GVT, and whose last entry tells all that the journal tells of the process, is joined
     pub joined : {is_value : S → Message → Type 0} {table' : List ℕ} {p seen gone : ℕ} {block : List Move} {last : Option EntryPlace} {q : Queues S K} →
         Holds r number end is_placed x is_value pages table' p seen gone block last q → seen ≤ gvt → own_of last ≡ own_in p (entries_of ts) →
-        (after_moves r (x.opening p) block (after_own (simulation_of r x) p (own_of last)) ≡ after_moves r (x.opening p) block ((reach (simulation_of r x) (entries_of ts)).parts p))
-        × AreEnabled (simulation_of r x) (x.opening p) (reach (simulation_of r x) (entries_of ts)).gvt block ((reach (simulation_of r x) (entries_of ts)).parts p)
-        × (own_of last ≡ own_in p (entries_of ts))
+        Joined (simulation_of r x) ts p block last
     joined {p = p} {seen = seen} {block = block} {last = last} h low mine =
         let f = simulation_of r x in
-        let same = world-part p last mine in (
-          ap (after_moves r (x.opening p) block) same,
-          subst (λ g. AreEnabled f (x.opening p) g block ((reach f (entries_of ts)).parts p)) k.gvt_is
-              (subst (λ z. AreEnabled f (x.opening p) gvt block z) same (enabled-later f (x.opening p) seen gvt low block (after_own f p (own_of last)) h.enabled)),
-          mine,
-        )
+        let same = world-part p last mine in
+        record {
+          part = ap (after_moves r (x.opening p) block) same;
+          enabled = subst (λ g. AreEnabled f (x.opening p) g block ((reach f (entries_of ts)).parts p)) k.gvt_is
+              (subst (λ z. AreEnabled f (x.opening p) gvt block z) same (enabled-later f (x.opening p) seen gvt low block (after_own f p (own_of last)) h.enabled));
+          own = mine;
+        }

@@ -1,5 +1,6 @@
 mod Marks
 mod Collected
+mod Entered
 mod Gone
 mod Growth
 mod Holding

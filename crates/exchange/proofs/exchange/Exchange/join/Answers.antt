@@ -18,22 +18,22 @@ pub returns-in-Some-clause-part : goal.returns-in-Some-clause-part
 returns-in-Some-clause-part g c =
     let e = rw (sym c.self.view_is, sym c.held.view_is) at c.meet.ensures in
     let t = some-joined c.self.invariant.2 c.held.invariant.0 e c.in-Some.last c.in-Some.is c.index-tokens.result.now c.index-tokens.ensures c.agrees.ensures in
-    rw (sym c.self.view_is, sym c.held.view_is) t.0
+    rw (sym c.self.view_is, sym c.held.view_is) t.part
 
 pub returns-in-Some-clause-enabled : goal.returns-in-Some-clause-enabled
 returns-in-Some-clause-enabled g c =
     let e = rw (sym c.self.view_is, sym c.held.view_is) at c.meet.ensures in
     let t = some-joined c.self.invariant.2 c.held.invariant.0 e c.in-Some.last c.in-Some.is c.index-tokens.result.now c.index-tokens.ensures c.agrees.ensures in
-    rw (sym c.self.view_is, sym c.held.view_is) t.1
+    rw (sym c.self.view_is, sym c.held.view_is) t.enabled
 
 pub returns-in-Some-clause-own : goal.returns-in-Some-clause-own
 returns-in-Some-clause-own g c =
     let e = rw (sym c.self.view_is, sym c.held.view_is) at c.meet.ensures in
     let t = some-joined c.self.invariant.2 c.held.invariant.0 e c.in-Some.last c.in-Some.is c.index-tokens.result.now c.index-tokens.ensures c.agrees.ensures in
-    rw (sym c.self.view_is, sym c.held.view_is) t.2
+    rw (sym c.self.view_is, sym c.held.view_is) t.own
 
 pub returns-in_default-clause-enabled : goal.returns-in_default-clause-enabled
 returns-in_default-clause-enabled g c =
     let e = rw (sym c.self.view_is, sym c.held.view_is) at c.meet.ensures in
     let t = none-joined c.self.invariant.2 c.held.invariant.0 e c.in_default.is in
-    rw (sym c.self.view_is, sym c.held.view_is) t.1
+    rw (sym c.self.view_is, sym c.held.view_is) t.enabled
