@@ -141,7 +141,7 @@ module _ {M S K N : Type 0} (f : Simulation M S K N) where
   publishes w = refl
 
   -- what can be done at one GVT can be done at a later one
-  early-later : (g h : ℕ) → g ≤ h → (ds : List M) → is_early f g ds ≡ true → is_early f h ds ≡ true
+  pub early-later : (g h : ℕ) → g ≤ h → (ds : List M) → is_early f g ds ≡ true → is_early f h ds ≡ true
   early-later g h l [] e = e
   early-later g h l (d ∷ ds) e = lt-ltb _ _ (let a = ltb-true _ _ e in omega arith)
 

@@ -1,5 +1,5 @@
 -- Which messages are present in a tally, and which of them are unhandled.
-use Rattle.std.proofs.Common.{◌≡◌, ◌+◌, ◌<◌, ◌≤◌, ◌==◌, ◌⊎◌, inl, inr, true, false, ◌&&◌, nat_lt, List, [], ◌∷◌, map, sym, ap, ◌∙◌, subst, arith, eqb-true, eq-eqb, ltb-true, ltb-false, lt-ltb}
+use Rattle.std.proofs.Common.{◌≡◌, ◌+◌, ◌<◌, ◌==◌, ◌⊎◌, inl, inr, true, false, ◌&&◌, nat_lt, List, [], ◌∷◌, map, sym, ap, ◌∙◌, subst, arith, eqb-true, eq-eqb, ltb-true, lt-ltb}
 use Rattle.std.proofs.lemmas.Bool.{and_parts, and_from}
 use Rattle.virtual_time.specs.Law.{Order, IsOrder, one_if, same, times_in, IsIn, minus_of, pluses, minuses, IsPresent, is_present, unhandled}
 use Rattle.virtual_time.specs.declared.letter.Letter.{Letter}
