@@ -5,7 +5,7 @@ use Rattle.std.proofs.lemmas.Bool.{cases_eq}
 use Rattle.std.proofs.lemmas.Option.{get_or_from_slice_get}
 use Rattle.vlink.specs.declared.message.Message.{Message}
 use Rattle.vlink.specs.declared.note.Note.{Note}
-use Rattle.virtual_time.specs.Law.{Rules, Simulation, lowest, times_of, Part, opened, Act, local, after_moves, Deliver, Took, acts_of, reach, after_own}
+use Rattle.virtual_time.specs.Law.{Rules, Simulation, lowest, times_of, Part, opened, Act, local, after_moves, Deliver, Took, Entry, acts_of, own_in, last_place, reach, after_own}
 use Rattle.virtual_time.specs.declared.moved.Move.{Move}
 use Rattle.virtual_time.proofs.Journal.{local-append}
 use Rattle.reverse.specs.Setting.{Setting}
@@ -15,10 +15,11 @@ use Rattle.vlink.specs.Letters.{Letter}
 use Rattle.antimessages.specs.Mailing.{letters_for}
 use Rattle.gvt.specs.Horizon.{Floors}
 use Rattle.process_queues.specs.Queues.{Queues, StandsFor, Does, delivered_all}
-use Rattle.journal.specs.declared.tokens.Tokens.{Tokens}
-use Rattle.exchange.specs.declared.mark.Mark.{Mark}
-use Rattle.exchange.specs.Views.{Ledger, HeldState, blank, mark_of}
-use Rattle.exchange.specs.Keeps.{IsMarked, AreMarked, IsRecorded}
+use Rattle.journal.specs.Deeds.{prior_own, place_of}
+use Rattle.journal.specs.declared.entry.Entry.{Entry as Told}
+use Rattle.exchange.specs.declared.mark.Standing.{Standing}
+use Rattle.exchange.specs.Views.{Ledger, HeldState, unplaced, standing_of}
+use Rattle.exchange.specs.Keeps.{entries_of, AreMarked, IsRecorded}
 use Rattle.exchange.specs.Effects.{told, mark_at, collects}
 
 -- the deliveries of these letters
@@ -44,40 +45,38 @@ pub floor-more : (ls : List Letter) (i : ℕ) (l : Letter) → i < length ls →
 floor-more ls i l h e None now new a b = b ∙ ap (option_map (min l.message.time)) a
 floor-more ls i l h e (Some d) now new a b = b ∙ (ap (option_map (min l.message.time)) a ∙ ap (λ z. Some z) (sym (times-more d ls i l h e)))
 
--- the mark of one process tells of the same entry, and of a GVT that is not later
-pub marks-seen : {processes gvt : ℕ} {ts : List Tokens} {marks : List Mark} → AreMarked processes ts gvt marks → (p : ℕ) → p < processes → (m : Mark) →
-    m.place ≡ (mark_of marks p).place → m.seen ≤ gvt → AreMarked processes ts gvt (set marks p m)
-marks-seen {processes = processes} {gvt = gvt} {ts = ts} {marks = marks} old p i m place low = record {
-  count = length-set marks p m ∙ old.count;
-  place_is = λ q j. same-place q ∙ old.place_is q j;
-  marked = λ q j. subst (λ o. IsMarked ts q o) (sym (same-place q)) (old.marked q j);
+-- one process saw a GVT that is not later
+pub marks-seen : {processes gvt : ℕ} {es : List (Entry Message)} {standings : List Standing} → AreMarked processes es gvt standings → (p : ℕ) → p < processes → (s : Standing) →
+    place_of s.last ≡ last_place p es → prior_own s.last ≡ own_in p es → s.seen ≤ gvt → AreMarked processes es gvt (set standings p s)
+marks-seen {processes = processes} {gvt = gvt} {es = es} {standings = standings} old p i s place tells low = record {
+  count = length-set standings p s ∙ old.count;
+  place_is = λ q j. elim (cases_eq q p) [
+    | inl d ↦ ap (λ (z : Standing). place_of z.last) (at-here q d) ∙ (place ∙ ap (λ z. last_place z es) (sym d))
+    | inr n ↦ ap (λ (z : Standing). place_of z.last) (elsewhere q n) ∙ old.place_is q j
+  ];
+  told = λ q j. elim (cases_eq q p) [
+    | inl d ↦ ap (λ (z : Standing). prior_own z.last) (at-here q d) ∙ (tells ∙ ap (λ z. own_in z es) (sym d))
+    | inr n ↦ ap (λ (z : Standing). prior_own z.last) (elsewhere q n) ∙ old.told q j
+  ];
   seen_low = λ q j. elim (cases_eq q p) [
-    | inl d ↦ subst (λ (z : Mark). z.seen ≤ gvt) (sym (at-here q d)) low
-    | inr n ↦ subst (λ (z : Mark). z.seen ≤ gvt) (sym (elsewhere q n)) (old.seen_low q j)
+    | inl d ↦ subst (λ (z : Standing). z.seen ≤ gvt) (sym (at-here q d)) low
+    | inr n ↦ subst (λ (z : Standing). z.seen ≤ gvt) (sym (elsewhere q n)) (old.seen_low q j)
   ];
 }
   where
-    at-here : (q : ℕ) → q ≡ p → mark_of (set marks p m) q ≡ m
-    at-here q d = ap (mark_of (set marks p m)) d ∙ get_or-set_same marks p m blank (let a = old.count in omega arith)
+    at-here : (q : ℕ) → q ≡ p → standing_of (set standings p s) q ≡ s
+    at-here q d = ap (standing_of (set standings p s)) d ∙ get_or-set_same standings p s unplaced (let a = old.count in omega arith)
 
-    elsewhere : (q : ℕ) → (q ≡ p → ⊥) → mark_of (set marks p m) q ≡ mark_of marks q
-    elsewhere q n = get_or-set_other marks p q m blank n
+    elsewhere : (q : ℕ) → (q ≡ p → ⊥) → standing_of (set standings p s) q ≡ standing_of standings q
+    elsewhere q n = get_or-set_other standings p q s unplaced n
 
-    same-place : (q : ℕ) → (mark_of (set marks p m) q).place ≡ (mark_of marks q).place
-    same-place q = elim (cases_eq q p) [
-      | inl d ↦ ap (λ (z : Mark). z.place) (at-here q d) ∙ (place ∙ ap (λ z. (mark_of marks z).place) (sym d))
-      | inr n ↦ ap (λ (z : Mark). z.place) (elsewhere q n)
-    ]
-
-module _ {S K : Type 0} {r : Rules Message S K Note} {number end : S → ℕ} {is_placed : S → Type 0} {x : Setting S} {pages table : List ℕ} {ts : List Tokens} {mail : List Store} {floors : Floors}
-    {gvt count : ℕ} {marks : List Mark} (k : IsRecorded r number end is_placed x pages table ts mail floors gvt count marks) where
-  -- other marks, and room in the mail
-  pub kept-as : (mail' : List Store) → length mail' ≡ length mail → ((q : ℕ) → letters_for q mail' ≡ letters_for q mail) → (marks' : List Mark) → AreMarked x.processes ts gvt marks' →
-      IsRecorded r number end is_placed x pages table ts mail' floors gvt count marks'
-  kept-as mail' boxes letters marks' marked = record {
+module _ {S K : Type 0} {r : Rules Message S K Note} {number end : S → ℕ} {is_placed : S → Type 0} {x : Setting S} {ts : List Told} {mail : List Store} {floors : Floors}
+    {gvt count : ℕ} {standings : List Standing} (k : IsRecorded r number end is_placed x ts mail floors gvt count standings) where
+  -- other standings, and room in the mail
+  pub kept-as : (mail' : List Store) → length mail' ≡ length mail → ((q : ℕ) → letters_for q mail' ≡ letters_for q mail) → (standings' : List Standing) → AreMarked x.processes (entries_of ts) gvt standings' →
+      IsRecorded r number end is_placed x ts mail' floors gvt count standings'
+  kept-as mail' boxes letters standings' marked = record {
     laid = k.laid;
-    same = k.same;
-    placed = k.placed;
     within_mail = k.within_mail;
     boxes = boxes ∙ k.boxes;
     floor_count = k.floor_count;
@@ -92,10 +91,10 @@ module _ {S K : Type 0} {r : Rules Message S K Note} {number end : S → ℕ} {i
   }
 
   -- a refusal leaves room in the mail at most
-  pub kept-refused : (ts' : List Tokens) → ts' ≡ ts → (mail' : List Store) → length mail' ≡ length mail → ((q : ℕ) → letters_for q mail' ≡ letters_for q mail) →
-      IsRecorded r number end is_placed x pages table ts' mail' floors gvt count marks
+  pub kept-refused : (ts' : List Told) → ts' ≡ ts → (mail' : List Store) → length mail' ≡ length mail → ((q : ℕ) → letters_for q mail' ≡ letters_for q mail) →
+      IsRecorded r number end is_placed x ts' mail' floors gvt count standings
   kept-refused ts' same mail' boxes letters =
-      subst (λ us. IsRecorded r number end is_placed x pages table us mail' floors gvt count marks) (sym same) (kept-as mail' boxes letters marks k.marked)
+      subst (λ us. IsRecorded r number end is_placed x us mail' floors gvt count standings) (sym same) (kept-as mail' boxes letters standings k.marked)
 
 -- a process without a block, after these letters were collected for it
 pub part-collected : {S K : Type 0} (f : Simulation Message S K Note) (p : ℕ) (own own' : List (Act Message)) (block : List Move) (xs : List Letter) → block ≡ [] → own' ≡ own ++ acts_of (Took xs) →

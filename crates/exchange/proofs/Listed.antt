@@ -7,13 +7,13 @@ use Rattle.virtual_time.specs.declared.step.Step.{Step}
 use Rattle.virtual_time.specs.Law.{Entry, steps_of, steps}
 use Rattle.virtual_time.proofs.Journal.{steps-append}
 use Rattle.journal.specs.Deeds.{seen_entry}
-use Rattle.journal.specs.declared.tokens.Tokens.{Tokens}
+use Rattle.journal.specs.declared.entry.Entry.{Entry as Told}
 use Rattle.exchange.specs.Keeps.{entries_of}
 use Rattle.exchange.proofs.Lists.{slice_get-first, slice_get-rest}
 
--- the entry that tokens show
-pub entry-there : (ts : List Tokens) (i : ℕ) (t : Tokens) → slice_get ts i ≡ Some t → slice_get (entries_of ts) i ≡ Some (seen_entry t.cell.value)
-entry-there ts i t found = slice_get-map (λ (u : Tokens). seen_entry u.cell.value) ts i ∙ ap (option_map (λ (u : Tokens). seen_entry u.cell.value)) found
+-- the entry that one tells
+pub entry-there : (ts : List Told) (i : ℕ) (t : Told) → slice_get ts i ≡ Some t → slice_get (entries_of ts) i ≡ Some (seen_entry t)
+entry-there ts i t found = slice_get-map seen_entry ts i ∙ ap (option_map seen_entry) found
 
 -- the entries from place i on
 steps-drop : (es : List (Entry Message)) (i : ℕ) (e : Entry Message) → slice_get es i ≡ Some e → steps (drop i es) ≡ steps_of e.process e.deed ++ steps (drop (i + 1) es)

@@ -10,9 +10,9 @@ use Rattle.virtual_time.specs.declared.moved.Move.{Move}
 use Rattle.virtual_time.specs.declared.moved.Move.TheVariants.{Arrived, Ran, Committed}
 use Rattle.virtual_time.proofs.Lists.{in-head}
 use Rattle.fossil.specs.Committed.{is_moment_before}
-use Rattle.journal.specs.declared.tokens.EntryPlace.{EntryPlace}
+use Rattle.journal.specs.Deeds.{prior_own, place_of}
+use Rattle.journal.specs.declared.entry.Prior.{Prior}
 use Rattle.exchange.specs.Views.{HeldState}
-use Rattle.exchange.specs.Keeps.{own_of, place_in}
 use Rattle.exchange.specs.Effects.{moved_by, mark_at, RanEarly}
 use Rattle.exchange.proofs.Holding.{moved-then}
 
@@ -29,25 +29,25 @@ module _ {S K : Type 0} (f : Simulation Message S K Note) where
       b ∙ (ap (moved_by f (m ∷ [])) a ∙ (moved-chain (replicate k m) (m ∷ []) h ∙ ap (λ ms. moved_by f ms h) (replicate_more k m)))
 
   -- what contracts see of a process in hand, of which the journal tells last in this entry
-  abbrev pub in_hand : ℕ → Option EntryPlace → ℕ → ℕ → List Move → HeldState S
+  abbrev pub in_hand : ℕ → Prior → ℕ → ℕ → List Move → HeldState S
   in_hand p last seen gone ms =
       record {
         number = p;
-        part = after_moves f.rules (f.opening p) ms (after_own f p (own_of last));
+        part = after_moves f.rules (f.opening p) ms (after_own f p (prior_own last));
         block = ms;
-        own = own_of last;
-        mark = mark_at (place_in last) seen;
+        own = prior_own last;
+        mark = mark_at (place_of last) seen;
         gone = gone;
       }
 
   -- and after one step more
-  pub moved-view : (p : ℕ) (last : Option EntryPlace) (seen gone : ℕ) (ms : List Move) (m : Move) (h : HeldState S) → in_hand p last seen gone ms ≡ h → (ms' : List Move) → ms' ≡ ms ++ m ∷ [] →
+  pub moved-view : (p : ℕ) (last : Prior) (seen gone : ℕ) (ms : List Move) (m : Move) (h : HeldState S) → in_hand p last seen gone ms ≡ h → (ms' : List Move) → ms' ≡ ms ++ m ∷ [] →
       in_hand p last seen gone ms' ≡ moved_by f (m ∷ []) h
   moved-view p last seen gone ms m h is ms' e = one ∙ ap (moved_by f (m ∷ [])) is
     where
       one : in_hand p last seen gone ms' ≡ moved_by f (m ∷ []) (in_hand p last seen gone ms)
       one = λ i. record (in_hand p last seen gone ms) {
-        part = (ap (λ b. after_moves f.rules (f.opening p) b (after_own f p (own_of last))) e ∙ moved-then f (f.opening p) ms (m ∷ []) (after_own f p (own_of last))) i;
+        part = (ap (λ b. after_moves f.rules (f.opening p) b (after_own f p (prior_own last))) e ∙ moved-then f (f.opening p) ms (m ∷ []) (after_own f p (prior_own last))) i;
         block = e i;
       }
 

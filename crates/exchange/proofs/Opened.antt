@@ -1,5 +1,7 @@
 -- The start of a run.
-use Rattle.std.proofs.Common.{◌≡◌, ℕ, suc, ◌+◌, ◌<◌, ◌≤◌, inl, inr, All, List, [], ◌∷◌, ◌++◌, map, length, replicate, slice_get, get_or, Option, Some, None, refl, sym, ap, ◌∙◌, subst, arith}
+use mir.Syntax.{w16}
+use mir.Val.{Fits}
+use Rattle.std.proofs.Common.{◌≡◌, ℕ, suc, ◌+◌, ◌<◌, ◌≤◌, inl, inr, All, List, [], ◌∷◌, ◌++◌, map, length, replicate, slice_get, get_or, Some, refl, sym, ap, ◌∙◌, subst, arith}
 use Rattle.std.proofs.lemmas.Bool.{cases_eq}
 use Rattle.std.proofs.lemmas.List.{length-replicate, length_push, get_or-replicate}
 use Rattle.std.proofs.lemmas.List.Elements.{All-nil, All-cons}
@@ -15,13 +17,22 @@ use Rattle.antimessages.specs.Letters.{Store}
 use Rattle.antimessages.specs.Mailing.{letters_for}
 use Rattle.gvt.specs.Horizon.{Floors}
 use Rattle.process_queues.specs.Queues.{Queues, StandsFor}
-use Rattle.journal.specs.declared.tokens.Tokens.{Tokens}
-use Rattle.journal.specs.declared.tokens.EntryPlace.{EntryPlace}
-use Rattle.exchange.specs.declared.mark.Mark.{Mark}
-use Rattle.exchange.specs.Views.{HeldState, blank, mark_of, opened_held}
-use Rattle.exchange.specs.Keeps.{IsMarked, IsRecorded, Holds}
+use Rattle.journal.specs.Deeds.{prior_own, place_of}
+use Rattle.journal.specs.declared.entry.Entry.{Entry as Told}
+use Rattle.journal.specs.declared.entry.Prior.{Prior, Opening}
+use Rattle.exchange.specs.declared.mark.Standing.{Standing}
+use Rattle.exchange.specs.Views.{HeldState, unplaced, standing_of, opened_held}
+use Rattle.exchange.specs.Keeps.{IsRecorded, Holds}
 use Rattle.exchange.proofs.Gone.{gone-none}
 use Rattle.exchange.proofs.Lists.{slice_get-last, slice_get-more}
+
+-- the number of a process is small
+pub fits-few : (n l h y a p : ℕ) → n ≡ l → l ≡ h → h ≡ y → y < a → a ≡ p → p ≤ 4096 → Fits w16 n
+fits-few n l h y a p e₁ e₂ e₃ i e₄ few = omega arith
+
+-- the moment after the end
+pub until-next : (a b : ℕ) → a ≡ b → a + 1 ≡ suc b
+until-next a b e = omega arith
 
 -- messages to processes of which there are so many
 messages-go : {S K : Type 0} (r : Rules Message S K Note) (O : IsOrder r.order) (n : ℕ) (ms : List Message) → ((m : Message) → IsIn r.order m ms → r.order.receiver m < n) →
@@ -57,51 +68,46 @@ module _ {S K : Type 0} {r : Rules Message S K Note} {number end : S → ℕ} {i
   pub offers-go : IsOrder r.order → (offers : List Message) → offers ≡ x.offers → (n : ℕ) → n ≡ x.processes → All (λ l. r.order.receiver l.message < n) (map plus_of offers)
   offers-go O offers same n e = messages-go r O n offers (λ m j. let a = laid.offered_to m (subst (IsIn r.order m) same j) in omega arith)
 
-  module _ {pages table : List ℕ} (same : table ≡ pages) where
-    pub kept-opened : (mail : List Store) → length mail ≡ x.processes → ((p : ℕ) → letters_for p mail ≡ received_by r.order p (map plus_of x.offers)) →
-        (floors : Floors) → length floors.floors ≡ x.processes → floors.until ≡ x.until → ((p : ℕ) → p < x.processes → slice_get floors.floors p ≡ Some (suc x.until)) →
-        (marks : List Mark) → marks ≡ replicate x.processes blank → (ts : List Tokens) → ts ≡ [] → (gvt : ℕ) → gvt ≡ 0 → IsRecorded r number end is_placed x pages table ts mail floors gvt 0 marks
-    unfolding run
-    kept-opened mail boxes letters floors floor_count until each marks blanks ts none gvt zero-is =
-        subst (λ us. IsRecorded r number end is_placed x pages table us mail floors gvt 0 marks) (sym none) (record {
-          laid = laid;
-          same = same;
-          placed = λ k t h. absurd (cc);
-          within_mail = λ k t h. absurd (cc);
-          boxes = boxes;
-          floor_count = floor_count;
-          until = until;
-          mail_is = λ p i. letters p;
-          floors_is = each;
-          gvt_is = zero-is;
-          count_is = refl;
-          enough = omega arith;
-          parts_is = λ q. refl;
-          marked = record {
-            count = ap length blanks ∙ length-replicate x.processes blank;
-            place_is = λ p i. ap (λ (m : Mark). m.place) (at p i);
-            marked = λ p i. subst (λ (m : Mark). IsMarked [] p m.place) (sym (at p i)) refl;
-            seen_low = λ p i. subst (λ (m : Mark). m.seen ≤ gvt) (sym (at p i)) (omega arith);
-          };
-        })
-      where
-        at : (p : ℕ) → p < x.processes → mark_of marks p ≡ blank
-        at p i = ap (λ bs. mark_of bs p) blanks ∙ get_or-replicate x.processes p blank blank i
+  pub kept-opened : (mail : List Store) → length mail ≡ x.processes → ((p : ℕ) → letters_for p mail ≡ received_by r.order p (map plus_of x.offers)) →
+      (floors : Floors) → length floors.floors ≡ x.processes → floors.until ≡ x.until → ((p : ℕ) → p < x.processes → slice_get floors.floors p ≡ Some (suc x.until)) →
+      (standings : List Standing) → standings ≡ replicate x.processes unplaced → (ts : List Told) → ts ≡ [] → (gvt : ℕ) → gvt ≡ 0 → IsRecorded r number end is_placed x ts mail floors gvt 0 standings
+  unfolding run
+  kept-opened mail boxes letters floors floor_count until each standings blanks ts none gvt zero-is =
+      subst (λ us. IsRecorded r number end is_placed x us mail floors gvt 0 standings) (sym none) (record {
+        laid = laid;
+        within_mail = λ k t h. absurd (cc);
+        boxes = boxes;
+        floor_count = floor_count;
+        until = until;
+        mail_is = λ p i. letters p;
+        floors_is = each;
+        gvt_is = zero-is;
+        count_is = refl;
+        enough = omega arith;
+        parts_is = λ q. refl;
+        marked = record {
+          count = ap length blanks ∙ length-replicate x.processes unplaced;
+          place_is = λ p i. ap (λ (s : Standing). place_of s.last) (at p i);
+          told = λ p i. ap (λ (s : Standing). prior_own s.last) (at p i);
+          seen_low = λ p i. subst (λ (s : Standing). s.seen ≤ gvt) (sym (at p i)) (omega arith);
+        };
+      })
+    where
+      at : (p : ℕ) → p < x.processes → standing_of standings p ≡ unplaced
+      at p i = ap (λ bs. standing_of bs p) blanks ∙ get_or-replicate x.processes p unplaced unplaced i
 
-    pub holds-opened : Laws (simulation_of r x) → (is_value : S → Message → Type 0) (p : ℕ) → p < x.processes → (q : Queues S K) → StandsFor r is_value (x.opening p) (opened (x.opening p)) q → q.left ≡ 0 →
-        (block : List Move) → block ≡ [] → (last : Option EntryPlace) → last ≡ None → (seen : ℕ) → seen ≡ 0 →
-        (gone : ℕ) → Holds r number end is_placed x is_value pages table p seen gone block last q
-    unfolding run
-    holds-opened L is_value p i q stands whole block none last nothing seen zero-is gone =
-        subst (λ b. Holds r number end is_placed x is_value pages table p seen gone b last q) (sym none)
-        (subst (λ l. Holds r number end is_placed x is_value pages table p seen gone [] l q) (sym nothing)
-        (subst (λ s. Holds r number end is_placed x is_value pages table p s gone [] None q) (sym zero-is) (record {
-          laid = laid;
-          same = same;
-          number_is = i;
-          stands = stands;
-          safe = world-safe (simulation_of r x) L [] p i;
-          gone_early = gone-none r gone q.left whole [];
-          enabled = tt;
-          last_is = tt;
-        })))
+  pub holds-opened : Laws (simulation_of r x) → (is_value : S → Message → Type 0) (p : ℕ) → p < x.processes → (q : Queues S K) → StandsFor r is_value (x.opening p) (opened (x.opening p)) q → q.left ≡ 0 →
+      (block : List Move) → block ≡ [] → (last : Prior) → last ≡ Opening → (seen : ℕ) → seen ≡ 0 →
+      (gone : ℕ) → Holds r number end is_placed x is_value p seen gone block last q
+  unfolding run
+  holds-opened L is_value p i q stands whole block none last nothing seen zero-is gone =
+      subst (λ b. Holds r number end is_placed x is_value p seen gone b last q) (sym none)
+      (subst (λ l. Holds r number end is_placed x is_value p seen gone [] l q) (sym nothing)
+      (subst (λ s. Holds r number end is_placed x is_value p s gone [] Opening q) (sym zero-is) (record {
+        laid = laid;
+        number_is = i;
+        stands = stands;
+        safe = world-safe (simulation_of r x) L [] p i;
+        gone_early = gone-none r gone q.left whole [];
+        enabled = tt;
+      })))

@@ -1,5 +1,5 @@
 -- A block goes to the journal, and an outbox to the mail.
-use Rattle.std.proofs.Common.{◌≡◌, ℕ, ◌+◌, ◌<◌, ◌≤◌, ◌^◌, All, List, [], ◌∷◌, ◌++◌, map, length, slice_get, Option, Some, refl, sym, ap, ◌∙◌, subst, arith, length-append, set}
+use Rattle.std.proofs.Common.{◌≡◌, ℕ, ◌+◌, ◌<◌, ◌≤◌, All, List, [], ◌∷◌, ◌++◌, map, length, slice_get, Some, refl, sym, ap, ◌∙◌, subst, arith, length-append, set}
 use Rattle.std.proofs.lemmas.List.{length-map}
 use Rattle.std.proofs.lemmas.List.Elements.{All-nil, All-cons}
 use Rattle.vlink.specs.declared.message.Message.{Message}
@@ -19,16 +19,17 @@ use Rattle.antimessages.specs.Letters.{Store}
 use Rattle.antimessages.specs.Mailing.{letters_for}
 use Rattle.gvt.specs.Horizon.{Floors}
 use Rattle.process_queues.specs.Queues.{Queues, StandsFor, Does}
-use Rattle.journal.specs.declared.tokens.Tokens.{Tokens}
-use Rattle.journal.specs.declared.tokens.EntryPlace.{EntryPlace}
-use Rattle.exchange.specs.declared.mark.Mark.{Mark}
-use Rattle.exchange.specs.Views.{Ledger, HeldState}
-use Rattle.exchange.specs.Keeps.{entries_of, own_of, IsRecorded, Holds}
+use Rattle.journal.specs.Deeds.{prior_own}
+use Rattle.journal.specs.declared.entry.Entry.{Entry as Told}
+use Rattle.journal.specs.declared.entry.Prior.{Prior}
+use Rattle.exchange.specs.declared.mark.Standing.{Standing}
+use Rattle.exchange.specs.Views.{Ledger, HeldState, marks_in}
+use Rattle.exchange.specs.Keeps.{entries_of, IsRecorded, Holds}
 use Rattle.exchange.specs.Effects.{told, mark_at, posts as posts-effect}
 use Rattle.exchange.proofs.Gone.{gone-stays}
 use Rattle.exchange.proofs.Growth.{marks-set, kept-more}
 use Rattle.exchange.proofs.Holding.{Joined}
-use Rattle.exchange.proofs.Entered.{Entered, held_as, own-more, last-now, marked-last, ledger-now, held-now}
+use Rattle.exchange.proofs.Entered.{Entered, held_as, own-more, ledger-now, held-now}
 
 -- letters to processes of which there are so many
 letters-go : {S K : Type 0} (r : Rules Message S K Note) (O : IsOrder r.order) (n : ℕ) (ls : List Letter) → ((m : Message) → IsNamed r.order m ls → r.order.receiver m < n) →
@@ -50,10 +51,10 @@ part-posted : {S K : Type 0} (f : Simulation Message S K Note) (p : ℕ) (own ow
 part-posted f p own own' block more =
     ap (after_own f p) more ∙ (local-append f (f.opening p) own (acts_of (Posted block)) (opened (f.opening p)) ∙ emptied-last f (f.opening p) block (after_own f p own))
 
-module _ {S K : Type 0} {r : Rules Message S K Note} {number end : S → ℕ} {is_placed : S → Type 0} {x : Setting S} {pages table : List ℕ} {ts : List Tokens} {mail : List Store} {floors : Floors}
-    {gvt count : ℕ} {marks : List Mark} (k : IsRecorded r number end is_placed x pages table ts mail floors gvt count marks)
-    {is_value : S → Message → Type 0} {table' : List ℕ} {p seen gone : ℕ} {block : List Move} {last : Option EntryPlace} {q : Queues S K}
-    (h : Holds r number end is_placed x is_value pages table' p seen gone block last q) (L : Laws (simulation_of r x)) where
+module _ {S K : Type 0} {r : Rules Message S K Note} {number end : S → ℕ} {is_placed : S → Type 0} {x : Setting S} {ts : List Told} {mail : List Store} {floors : Floors}
+    {gvt count : ℕ} {standings : List Standing} (k : IsRecorded r number end is_placed x ts mail floors gvt count standings)
+    {is_value : S → Message → Type 0} {p seen gone : ℕ} {block : List Move} {last : Prior} {q : Queues S K}
+    (h : Holds r number end is_placed x is_value p seen gone block last q) (L : Laws (simulation_of r x)) where
   module _ (j : Joined (simulation_of r x) ts p block last) where
     -- what is in its outbox goes to processes
     pub outbox-goes : All (λ l. r.order.receiver l.message < length mail) q.outbox
@@ -67,7 +68,7 @@ module _ {S K : Type 0} {r : Rules Message S K Note} {number end : S → ℕ} {i
         let same : q.outbox ≡ ((run f xs (start f)).parts p).outbox = h.stands.outbox ∙ ap (λ (z : Part Message S). z.outbox) (j.part ∙ sym there) in
         letters-go r L.order (length mail) q.outbox (λ m n. subst (λ b. r.order.receiver m < b) (sym k.boxes) (outboxes f L xs p m (subst (λ z. IsNamed r.order m z) same n)))
 
-  module _ {ts' : List Tokens} {marks' : List Mark} {now : EntryPlace} (w : Entered pages ts marks p seen last (Posted block) ts' marks' now)
+  module _ {ts' : List Told} {standings' : List Standing} {now : Standing} (w : Entered ts standings p last (Posted block) ts' standings' now) (sees : now.seen ≡ seen)
       {q' : Queues S K} (does : Does r is_value (λ opening. emptied) q q') where
     -- what the Exchange keeps
     pub kept-posted : Joined (simulation_of r x) ts p block last → seen ≤ gvt → ((s : S) (m : Message) → end (r.after s m) ≡ end s) →
@@ -75,44 +76,42 @@ module _ {S K : Type 0} {r : Rules Message S K Note} {number end : S → ℕ} {i
         (floors' : Floors) → length floors'.floors ≡ length floors.floors → floors'.until ≡ floors.until →
         (floor : ℕ) → ((opening : S) (part : Part Message S) → StandsFor r is_value opening part q' → floor ≡ floor_of r.order (end q'.past.state) part) →
         slice_get floors'.floors p ≡ Some floor → ((n : ℕ) → (n ≡ p → ⊥) → slice_get floors'.floors n ≡ slice_get floors.floors n) →
-        (count' : ℕ) → count' ≡ count + (length block + 1) → IsRecorded r number end is_placed x pages table ts' mail' floors' gvt count' marks'
+        (count' : ℕ) → count' ≡ count + (length block + 1) → IsRecorded r number end is_placed x ts' mail' floors' gvt count' standings'
     kept-posted j low stays mail' boxes letters floors' floor_count until floor floor-is here others count' counts =
         let f = simulation_of r x in
         let i = h.number_is in
         let world = reach f (entries_of ts) in
-        let part = after_moves r (x.opening p) block (after_own f p (own_of last)) in
+        let part = after_moves r (x.opening p) block (after_own f p (prior_own last)) in
         let stands = does (x.opening p) part h.stands in
         let end-is = end-told r is_value (x.opening p) (emptied part) q' stands L.order end stays x.until (k.laid.end_is p i) in
         let at-end : floor ≡ floor_of r.order x.until part = floor-is (x.opening p) (emptied part) stands ∙ ap (λ n. floor_of r.order n (emptied part)) end-is in
         let many : length (steps_of {M = Message} p (Posted block)) ≡ length block + 1 =
         length-append (map (step_by p) block) (Step.Post p ∷ []) ∙ ap (λ n. n + 1) (length-map block (step_by p)) in
-        subst (λ us. IsRecorded r number end is_placed x pages table us mail' floors' gvt count' marks') (sym w.journal)
-        (subst (λ bs. IsRecorded r number end is_placed x pages table (ts ++ now.tokens ∷ []) mail' floors' gvt count' bs) (sym (marked-last w))
+        subst (λ us. IsRecorded r number end is_placed x us mail' floors' gvt count' standings') (sym w.journal)
+        (subst (λ bs. IsRecorded r number end is_placed x (ts ++ w.entry ∷ []) mail' floors' gvt count' bs) (sym w.marked)
         (kept-more k w.fresh (delivered_block f p block world) (posts f p i block world j.enabled) (ap (λ z. put p z world.parts) (sym (emptied-last f (x.opening p) block (world.parts p))))
         mail' boxes (λ n b. letters n ∙ (λ m. k.mail_is n b m ++ received_by r.order n ((h.stands.outbox ∙ ap (λ (z : Part Message S). z.outbox) j.part) m)))
         floors' floor_count until
         (put_elim (λ n d. n < x.processes → slice_get floors'.floors n ≡ Some d) p (floor_of r.order x.until (after_moves r (x.opening p) block (world.parts p))) world.floors
         (λ b. here ∙ ap (λ z. Some z) (at-end ∙ ap (floor_of r.order x.until) j.part)) (λ n other b. others n other ∙ k.floors_is n b))
         gvt k.gvt_is count' (counts ∙ ap (λ n. count + n) (sym many)) (omega arith)
-        (set marks p (mark_at (Some (length ts)) seen)) (marks-set w.fresh k.marked (λ n. refl) i refl seen low)))
+        (set standings p now) (marks-set ts w.fresh k.marked (λ n. refl) i refl now w.place w.own (subst (λ n. n ≤ gvt) (sym sees) low))))
 
     -- what the Held keeps
-    pub holds-posted : now.number < 2 ^ 26 → q'.left ≡ q.left → (block' : List Move) → block' ≡ [] →
-        Holds r number end is_placed x is_value pages table' p seen gone block' (Some now) q'
-    holds-posted here left block' none =
+    pub holds-posted : q'.left ≡ q.left → (block' : List Move) → block' ≡ [] →
+        Holds r number end is_placed x is_value p now.seen gone block' now.last q'
+    holds-posted left block' none =
         let f = simulation_of r x in
-        let part = after_moves r (x.opening p) block (after_own f p (own_of last)) in
-        let next = part-posted f p (own_of last) (own_of (Some now)) block (own-more w) in
-        subst (λ b. Holds r number end is_placed x is_value pages table' p seen gone b (Some now) q') (sym none) (record {
+        let part = after_moves r (x.opening p) block (after_own f p (prior_own last)) in
+        let next = part-posted f p (prior_own last) (prior_own now.last) block (own-more w) in
+        subst (λ b. Holds r number end is_placed x is_value p now.seen gone b now.last q') (sym none) (subst (λ n. Holds r number end is_placed x is_value p n gone [] now.last q') (sym sees) (record {
           laid = h.laid;
-          same = h.same;
           number_is = h.number_is;
           stands = subst (λ z. StandsFor r is_value (x.opening p) z q') (sym next) (does (x.opening p) part h.stands);
           safe = subst (λ z. IsSafePart f p seen z) (sym next) (acted-safe f L p seen h.number_is Emptying part h.safe tt);
           gone_early = gone-stays r (x.opening p) part q h.stands gone h.gone_early (Emptying ∷ []) _ next q' left;
           enabled = tt;
-          last_is = last-now w here;
-        })
+        }))
 
 module _ {S K : Type 0} (f : Simulation Message S K Note) (x : Ledger) (h : HeldState S) (y : Ledger) (k : HeldState S) where
   posts-some : (ms : List Move) → 0 < length ms →
@@ -123,11 +122,11 @@ module _ {S K : Type 0} (f : Simulation Message S K Note) (x : Ledger) (h : Held
   posts-some (m ∷ ms) some a b = (a, b)
 
 -- what was done
-pub block-posted : {S K : Type 0} (f : Simulation Message S K Note) {pages : List ℕ} {ts : List Tokens} {marks : List Mark} {p seen : ℕ} {last : Option EntryPlace} {block : List Move} {ts' : List Tokens}
-    {marks' : List Mark} {now : EntryPlace} → Entered pages ts marks p seen last (Posted block) ts' marks' now → 0 < length block → (limit gone : ℕ) (block' : List Move) → block' ≡ [] →
+pub block-posted : {S K : Type 0} (f : Simulation Message S K Note) {ts : List Told} {standings : List Standing} {p seen : ℕ} {last : Prior} {block : List Move} {ts' : List Told}
+    {standings' : List Standing} {now : Standing} → Entered ts standings p last (Posted block) ts' standings' now → now.seen ≡ seen → 0 < length block → (limit gone : ℕ) (block' : List Move) → block' ≡ [] →
     posts-effect f block
-    (record { entries = entries_of ts; marks = marks; limit = limit }) (held_as f p block last seen gone)
-    (record { entries = entries_of ts'; marks = marks'; limit = limit }) (held_as f p block' (Some now) seen gone)
-block-posted f {p = p} {seen = seen} {last = last} {block = block} {now = now} w some limit gone block' none =
-    let part-is = part-posted f p (own_of last) (own_of (Some now)) block (own-more w) in
-    posts-some f _ _ _ _ block some (ledger-now w seen refl limit) (held-now w seen refl f _ part-is block' none gone)
+    (record { entries = entries_of ts; marks = marks_in standings; limit = limit }) (held_as f p block last seen gone)
+    (record { entries = entries_of ts'; marks = marks_in standings'; limit = limit }) (held_as f p block' now.last now.seen gone)
+block-posted f {p = p} {seen = seen} {last = last} {block = block} {now = now} w sees some limit gone block' none =
+    let part-is = part-posted f p (prior_own last) (prior_own now.last) block (own-more w) in
+    posts-some f _ _ _ _ block some (ledger-now w seen sees limit) (held-now w seen sees f _ part-is block' none gone)

@@ -9,15 +9,15 @@ use Rattle.reverse.specs.Setting.{Setting, simulation_of}
 use Rattle.antimessages.specs.Letters.{Store}
 use Rattle.antimessages.specs.Mailing.{letters_for}
 use Rattle.gvt.specs.Horizon.{Floors, horizon_over}
-use Rattle.journal.specs.declared.tokens.Tokens.{Tokens}
-use Rattle.exchange.specs.declared.mark.Mark.{Mark}
+use Rattle.journal.specs.declared.entry.Entry.{Entry as Told}
+use Rattle.exchange.specs.declared.mark.Standing.{Standing}
 use Rattle.exchange.specs.Views.{Ledger}
 use Rattle.exchange.specs.Keeps.{entries_of, IsRecorded}
 use Rattle.exchange.specs.Effects.{told, publishes as publishes-effect}
 use Rattle.exchange.proofs.Growth.{Fresh, marks-stay, kept-more}
 
-module _ {S K : Type 0} {r : Rules Message S K Note} {number end : S → ℕ} {is_placed : S → Type 0} {x : Setting S} {pages table : List ℕ} {ts : List Tokens} {mail : List Store} {floors : Floors}
-    {gvt count : ℕ} {marks : List Mark} (k : IsRecorded r number end is_placed x pages table ts mail floors gvt count marks) where
+module _ {S K : Type 0} {r : Rules Message S K Note} {number end : S → ℕ} {is_placed : S → Type 0} {x : Setting S} {ts : List Told} {mail : List Store} {floors : Floors}
+    {gvt count : ℕ} {standings : List Standing} (k : IsRecorded r number end is_placed x ts mail floors gvt count standings) where
   -- the horizon of floors and mail is GVT of the world after the journal
   pub gvt-told : ((f : Simulation Message S K Note) → ((m : Message) → f.rules.order.time m ≡ m.time) → (w : World Message S) (fs : Floors) (ms : List Store) →
       f.processes ≡ length fs.floors → f.processes ≡ length ms → f.until ≡ fs.until → ((p : ℕ) → p < f.processes → slice_get fs.floors p ≡ Some (w.floors p)) →
@@ -38,17 +38,17 @@ module _ {S K : Type 0} {r : Rules Message S K Note} {number end : S → ℕ} {i
         let rise : (run f xs (start f)).gvt ≤ (run f (xs ++ steps_of {M = Message} 0 Published) (start f)).gvt = rises f L xs (steps_of {M = Message} 0 Published) in
         subst (λ g. g ≤ gvt_over f x.processes w) (sym k.gvt_is) (subst (λ (z : World Message S). w.gvt ≤ z.gvt) later rise)
 
-    pub kept-published : {own : List (Act Message)} {t : Tokens} → Fresh pages ts (told 0 None Published) own t →
+    pub kept-published : {own : List (Act Message)} {t : Told} → Fresh (told 0 None Published) own t →
         (gvt' : ℕ) → gvt' ≡ gvt_over (simulation_of r x) x.processes (reach (simulation_of r x) (entries_of ts)) →
-        (ts' : List Tokens) → ts' ≡ ts ++ t ∷ [] → (count' : ℕ) → count' ≡ count + 1 →
-        IsRecorded r number end is_placed x pages table ts' mail floors gvt' count' marks
+        (ts' : List Told) → ts' ≡ ts ++ t ∷ [] → (count' : ℕ) → count' ≡ count + 1 →
+        IsRecorded r number end is_placed x ts' mail floors gvt' count' standings
     kept-published {t = t} new gvt' gvt-is ts' more count' counts =
         let f = simulation_of r x in
         let w = reach f (entries_of ts) in
-        subst (λ us. IsRecorded r number end is_placed x pages table us mail floors gvt' count' marks) (sym more)
+        subst (λ us. IsRecorded r number end is_placed x us mail floors gvt' count' standings) (sym more)
         (kept-more k new (record { parts = w.parts; mail = w.mail; floors = w.floors; gvt = gvt_over f x.processes w }) (publishes f w) (sym (put_kept 0 w.parts))
-        mail refl k.mail_is floors refl refl k.floors_is gvt' gvt-is count' counts (omega arith) marks
-        (marks-stay new k.marked (λ q. refl) refl gvt' (subst (λ g. gvt ≤ g) (sym gvt-is) gvt-rises)))
+        mail refl k.mail_is floors refl refl k.floors_is gvt' gvt-is count' counts (omega arith) standings
+        (marks-stay ts new k.marked (λ q. refl) refl gvt' (subst (λ g. gvt ≤ g) (sym gvt-is) gvt-rises)))
 
 -- GVT is another one than before
 pub publishes-more : {S K : Type 0} (f : Simulation Message S K Note) (b : Bool) (x y : Ledger) → b ≡ false → y ≡ record { entries = x.entries ++ told 0 None Published ∷ []; marks = x.marks; limit = x.limit } →

@@ -13,14 +13,16 @@ use Rattle.antimessages.specs.Letters.{Store}
 use Rattle.antimessages.specs.Mailing.{letters_for}
 use Rattle.gvt.specs.Horizon.{Floors}
 use Rattle.process_queues.specs.Queues.{Queues, Does, delivered_all}
-use Rattle.journal.specs.declared.tokens.Tokens.{Tokens}
-use Rattle.journal.specs.declared.tokens.EntryPlace.{EntryPlace}
-use Rattle.exchange.specs.declared.mark.Mark.{Mark}
-use Rattle.exchange.specs.Keeps.{entries_of, own_of, IsRecorded, Holds}
-use Rattle.exchange.specs.Effects.{mark_at, Collects}
+use Rattle.journal.specs.Deeds.{prior_own}
+use Rattle.journal.specs.declared.entry.Entry.{Entry as Told}
+use Rattle.journal.specs.declared.entry.Prior.{Prior}
+use Rattle.exchange.specs.declared.mark.Standing.{Standing}
+use Rattle.exchange.specs.Views.{marks_in}
+use Rattle.exchange.specs.Keeps.{entries_of, IsRecorded, Holds}
+use Rattle.exchange.specs.Effects.{Collects}
 use Rattle.exchange.proofs.Growth.{own-now, marks-set, kept-more}
-use Rattle.exchange.proofs.Entered.{Entered, held_as, own-more, last-now, marked-last, ledger-now, held-now}
-use Rattle.exchange.proofs.Holding.{holds-at, holds-seen}
+use Rattle.exchange.proofs.Entered.{Entered, held_as, own-more, ledger-now, held-now}
+use Rattle.exchange.proofs.Holding.{holds-seen}
 use Rattle.exchange.proofs.Gone.{gone-stays}
 use Rattle.exchange.proofs.Collected.{stands-collected, part-collected, collects-some}
 
@@ -29,11 +31,11 @@ pub all-taken : {E : Type 0} {room n count : ℕ} (r : Result ℕ E) → OnErr r
 all-taken (Ok k) a b c d = ap (λ z. Ok z) (omega arith)
 all-taken (Err e) a b c d = absurd (omega arith)
 
-module _ {S K : Type 0} {r : Rules Message S K Note} {number end : S → ℕ} {is_placed : S → Type 0} {x : Setting S} {pages table : List ℕ} {ts : List Tokens} {mail : List Store} {floors : Floors}
-    {gvt count : ℕ} {marks : List Mark} (k : IsRecorded r number end is_placed x pages table ts mail floors gvt count marks)
-    {is_value : S → Message → Type 0} {table' : List ℕ} {p seen gone : ℕ} {block : List Move} {last : Option EntryPlace} {q : Queues S K}
-    (h : Holds r number end is_placed x is_value pages table' p seen gone block last q) (n : ℕ) (within : n ≤ length (letters_for p mail)) (some : 0 < n)
-    {ts' : List Tokens} {marks' : List Mark} {now : EntryPlace} (w : Entered pages ts marks p gvt last (Took (take n (letters_for p mail))) ts' marks' now) where
+module _ {S K : Type 0} {r : Rules Message S K Note} {number end : S → ℕ} {is_placed : S → Type 0} {x : Setting S} {ts : List Told} {mail : List Store} {floors : Floors}
+    {gvt count : ℕ} {standings : List Standing} (k : IsRecorded r number end is_placed x ts mail floors gvt count standings)
+    {is_value : S → Message → Type 0} {p seen gone : ℕ} {block : List Move} {last : Prior} {q : Queues S K}
+    (h : Holds r number end is_placed x is_value p seen gone block last q) (n : ℕ) (within : n ≤ length (letters_for p mail)) (some : 0 < n)
+    {ts' : List Told} {standings' : List Standing} {now : Standing} (w : Entered ts standings p last (Took (take n (letters_for p mail))) ts' standings' now) (sees : now.seen ≡ gvt) where
   many : length (take n (letters_for p mail)) ≡ n
   many = omega (arith, length-take n (letters_for p mail))
 
@@ -42,7 +44,7 @@ module _ {S K : Type 0} {r : Rules Message S K Note} {number end : S → ℕ} {i
       (floors' : Floors) → length floors'.floors ≡ length floors.floors → floors'.until ≡ floors.until →
       slice_get floors'.floors p ≡ option_map (λ d. lowest d (times_of r.order (take n (letters_for p mail)))) (slice_get floors.floors p) →
       ((q : ℕ) → (q ≡ p → ⊥) → slice_get floors'.floors q ≡ slice_get floors.floors q) →
-      IsRecorded r number end is_placed x pages table ts' mail' floors' gvt (count + n) marks'
+      IsRecorded r number end is_placed x ts' mail' floors' gvt (count + n) standings'
   kept-taken mail' boxes left others floors' floor_count until here elsewhere =
       let f = simulation_of r x in
       let i = h.number_is in
@@ -50,8 +52,8 @@ module _ {S K : Type 0} {r : Rules Message S K Note} {number end : S → ℕ} {i
       let rest = drop n (letters_for p mail) in
       let world = reach f (entries_of ts) in
       let taken : length (steps_of {M = Message} p (Took xs)) ≡ n = length-replicate (length xs) (Step.Take p 0) ∙ many in
-      subst (λ us. IsRecorded r number end is_placed x pages table us mail' floors' gvt (count + n) marks') (sym w.journal)
-      (subst (λ bs. IsRecorded r number end is_placed x pages table (ts ++ now.tokens ∷ []) mail' floors' gvt (count + n) bs) (sym (marked-last w))
+      subst (λ us. IsRecorded r number end is_placed x us mail' floors' gvt (count + n) standings') (sym w.journal)
+      (subst (λ bs. IsRecorded r number end is_placed x (ts ++ w.entry ∷ []) mail' floors' gvt (count + n) bs) (sym w.marked)
       (kept-more k w.fresh (fetched f p xs rest world) (takes f p i xs rest world (sym (k.mail_is p i) ∙ sym (take-append-drop n (letters_for p mail)))) refl
       mail' boxes
       (put_elim (λ q ls. q < x.processes → letters_for q mail' ≡ ls) p rest world.mail (λ j. left) (λ q n j. others q n ∙ k.mail_is q j))
@@ -59,40 +61,38 @@ module _ {S K : Type 0} {r : Rules Message S K Note} {number end : S → ℕ} {i
       (put_elim (λ q n. q < x.processes → slice_get floors'.floors q ≡ Some n) p (lowest (world.floors p) (times_of r.order xs)) world.floors
       (λ j. here ∙ ap (option_map (λ d. lowest d (times_of r.order xs))) (k.floors_is p j)) (λ q n j. elsewhere q n ∙ k.floors_is q j))
       gvt k.gvt_is (count + n) (ap (λ m. count + m) (sym taken)) (subst (λ m. 0 < m) (sym taken) some)
-      (set marks p (mark_at (Some (length ts)) gvt)) (marks-set w.fresh k.marked (λ q. refl) i refl gvt (omega arith))))
+      (set standings p now) (marks-set ts w.fresh k.marked (λ q. refl) i refl now w.place w.own (omega arith))))
 
   module _ (none : block ≡ []) where
     -- what the Held keeps
-    pub holds-taken : {mail' : List Store} {floors' : Floors} {count' : ℕ} → IsRecorded r number end is_placed x pages table ts' mail' floors' gvt count' marks' → Laws (simulation_of r x) → count' ≤ 67108864 →
+    pub holds-taken : {mail' : List Store} {floors' : Floors} {count' : ℕ} → IsRecorded r number end is_placed x ts' mail' floors' gvt count' standings' → Laws (simulation_of r x) →
         (q₁ q' : Queues S K) → q₁ ≡ q → Does r is_value (λ opening. delivered_all (take n (letters_for p mail))) q₁ q' → q'.left ≡ q₁.left →
-        Holds r number end is_placed x is_value pages table' p gvt gone block (Some now) q'
-    holds-taken kept L few q₁ q' same does left =
+        Holds r number end is_placed x is_value p gvt gone block now.last q'
+    holds-taken kept L q₁ q' same does left =
         let f = simulation_of r x in
         let xs = take n (letters_for p mail) in
-        let here : now.number < 2 ^ 26 = let a = kept.enough in let b = ap length w.journal ∙ length-append ts (now.tokens ∷ []) in let c = w.place in omega arith in
-        holds-at (holds-seen kept L is_value p h.number_is (Some now) (last-now w here)
-        (own-now w.fresh refl ∙ ap (λ us. own_in p (entries_of us)) (sym w.journal)) q'
-        (stands-collected f is_value p (own_of last) (own_of (Some now)) block xs q q' none (own-more w) h.stands
+        holds-seen kept L is_value p h.number_is now.last
+        (w.own ∙ own-now ts w.fresh refl ∙ ap (λ us. own_in p (entries_of us)) (sym w.journal)) q'
+        (stands-collected f is_value p (prior_own last) (prior_own now.last) block xs q q' none (own-more w) h.stands
         (subst (λ z. Does r is_value (λ opening. delivered_all xs) z q') same does))
         gone
-        (gone-stays r (x.opening p) (after_moves r (x.opening p) block (after_own f p (own_of last))) q h.stands gone h.gone_early (acts_of (Took xs)) _
-        (part-collected f p (own_of last) (own_of (Some now)) block xs none (own-more w)) q' (left ∙ ap (λ (z : Queues S K). z.left) same))
-        block none)
-        table' h.same
+        (gone-stays r (x.opening p) (after_moves r (x.opening p) block (after_own f p (prior_own last))) q h.stands gone h.gone_early (acts_of (Took xs)) _
+        (part-collected f p (prior_own last) (prior_own now.last) block xs none (own-more w)) q' (left ∙ ap (λ (z : Queues S K). z.left) same))
+        block none
 
     -- what was done
     pub collects-taken : (most limit : ℕ) → n ≡ min most (length (letters_for p mail)) →
         Collects (simulation_of r x) most
-        (record { entries = entries_of ts; marks = marks; limit = limit }) (held_as (simulation_of r x) p block last seen gone)
-        (record { entries = entries_of ts'; marks = marks'; limit = limit }) (held_as (simulation_of r x) p block (Some now) gvt gone)
+        (record { entries = entries_of ts; marks = marks_in standings; limit = limit }) (held_as (simulation_of r x) p block last seen gone)
+        (record { entries = entries_of ts'; marks = marks_in standings'; limit = limit }) (held_as (simulation_of r x) p block now.last now.seen gone)
         n
     collects-taken most limit n-is =
         let f = simulation_of r x in
         let xs = take n (letters_for p mail) in
         let world = reach f (entries_of ts) in
         let same : xs ≡ take most (world.mail p) = ap (λ m. take m (letters_for p mail)) n-is ∙ (take_min most (letters_for p mail) ∙ ap (take most) (k.mail_is p h.number_is)) in
-        let part-is = part-collected f p (own_of last) (own_of (Some now)) block xs none (own-more w) in (
+        let part-is = part-collected f p (prior_own last) (prior_own now.last) block xs none (own-more w) in (
           sym many ∙ ap length same,
           collects-some f _ _ _ _ (take most (world.mail p)) xs same (subst (λ m. 0 < m) (sym many) some)
-              (ledger-now w world.gvt k.gvt_is limit) (held-now w world.gvt k.gvt_is f _ part-is block none gone),
+              (ledger-now w world.gvt (sees ∙ k.gvt_is) limit) (held-now w world.gvt (sees ∙ k.gvt_is) f _ part-is block none gone),
         )

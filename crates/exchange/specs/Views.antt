@@ -1,9 +1,12 @@
 -- What contracts see of an Exchange and of a Held.
-use Rattle.std.specs.Prelude.{ℕ, List, [], None, get_or}
+use Rattle.std.specs.Prelude.{ℕ, List, [], None, map, get_or}
 use Rattle.vlink.specs.declared.message.Message.{Message}
 use Rattle.virtual_time.specs.Law.{Part, opened, Act, Entry}
 use Rattle.virtual_time.specs.declared.moved.Move.{Move}
+use Rattle.journal.specs.declared.entry.Prior.{Opening}
+use Rattle.journal.specs.Deeds.{place_of}
 use Rattle.exchange.specs.declared.mark.Mark.{Mark}
+use Rattle.exchange.specs.declared.mark.Standing.{Standing}
 
 -- the entries of the journal, the mark of each process, and how many steps the journal can have
 pub record Ledger : Type 0 where
@@ -24,6 +27,20 @@ pub record HeldState (S : Type 0) : Type 0 where
 -- of a process that is not in the journal yet
 abbrev pub blank : Mark
 blank = record { place = None; seen = 0 }
+
+-- the mark of a process that stands there
+abbrev pub mark_in : Standing → Mark
+mark_in s = record { place = place_of s.last; seen = s.seen }
+
+abbrev pub marks_in : List Standing → List Mark
+marks_in = map mark_in
+
+abbrev pub unplaced : Standing
+unplaced = record { last = Opening; seen = 0 }
+
+-- where process p stands
+abbrev pub standing_of : List Standing → ℕ → Standing
+standing_of standings p = get_or standings p unplaced
 
 -- the mark of process p
 abbrev pub mark_of : List Mark → ℕ → Mark

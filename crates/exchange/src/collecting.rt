@@ -6,29 +6,29 @@ ghost use Rattle.reverse.specs.Rules.{rules_of};
 ghost use Rattle.reverse.specs.Setting.{simulation_of};
 ghost use Rattle.vlink.specs.Order.{message_order};
 ghost use Rattle.antimessages.specs.Mailing.{letters_for};
-ghost use Rattle.journal.specs.declared.fault.PoolFault.TheVariants.{OutOfMemory, JournalFull, Torn};
-ghost use Rattle.journal.specs.Deeds.{seen_deed, prior_own, place_of};
+ghost use Rattle.journal.specs.declared.fault.PoolFault.TheVariants.{OutOfMemory, JournalFull};
+ghost use Rattle.journal.specs.Deeds.{seen_deed};
 ghost use Rattle.exchange.specs.Keeps.{IsDeedWithinMail};
 ghost use Rattle.exchange.specs.Effects.{Collects, mark_at};
 
 use crate::exchange::Exchange;
 use crate::held::Held;
-use crate::mark::{Mark, tell_both};
+use crate::mark::{Standing, tell_both};
 use crate::run_of::ActorRun;
 use antimessages::Mail;
 use gvt::Floors;
-use journal::{Deed, Entry, EntryPlace, PoolFault};
+use journal::{Deed, Entry, PoolFault, Prior};
 use reverse::{Actor, actor_laws};
+use std::mem;
 use std::snapshot::Snapshot;
 
 /// The first letters of the mail of a process, `most` or all where there are fewer, go to its tray, with one entry in the journal
 /// where there are any. Both marks note the GVT of the exchange. The answer is how many letters were taken.
 ///
 /// Any refusal leaves both as they were. `JournalFull`: exactly where the steps would pass the limit, which is looked at before any growth.
-/// `Torn`: the entry's cell was set already, which is seen after all growths.
-pub fn collect<'a, R: Actor, J: ActorRun<R>>(
-    held: &mut Held<'a, R, J>,
-    exchange: &mut Exchange<'a, R, J>,
+pub fn collect<R: Actor, J: ActorRun<R>>(
+    held: &mut Held<R, J>,
+    exchange: &mut Exchange<R, J>,
     most: u32,
 ) -> Result<u32, PoolFault>
     requires posted { held.old.block ≡ [] }
@@ -38,7 +38,7 @@ pub fn collect<'a, R: Actor, J: ActorRun<R>>(
         + min most (length ((reach (simulation_of (rules_of R.plain) J.setting) exchange.old.entries).mail held.old.number)) }
     ensures limited { exchange.old.limit < length (steps exchange.old.entries)
         + min most (length ((reach (simulation_of (rules_of R.plain) J.setting) exchange.old.entries).mail held.old.number)) → result ≡ Err JournalFull }
-    ensures faults { IfErr result (λ fault. (fault ≡ OutOfMemory) ⊎ ((fault ≡ JournalFull) ⊎ (fault ≡ Torn))) }
+    ensures faults { IfErr result (λ fault. (fault ≡ OutOfMemory) ⊎ (fault ≡ JournalFull)) }
 {
     actor_laws::<R>();
     let count = exchange.mail.count(held.number).min(most as usize);
@@ -50,34 +50,34 @@ pub fn collect<'a, R: Actor, J: ActorRun<R>>(
     if exchange.limit - exchange.steps < count as u64 {
         return Err(PoolFault::JournalFull);
     }
-    let entry = entry_of(held, &exchange.mail, count as u32);
     if held.process.reserve_letters(count).is_err() {
         return Err(PoolFault::OutOfMemory);
     }
-    let place = exchange.journal.len() as u32;
-    match exchange.table.write(&mut exchange.journal, entry) {
-        Ok(tokens) => {
-            lower_floor(&mut exchange.floors, &exchange.mail, held.number, count);
-            let _taken = held.process.collect(&mut exchange.mail, held.number, count);
-            exchange.steps += count as u64;
-            let mark = Mark {
-                place: Some(place),
-                seen: exchange.gvt,
-            };
-            tell_both(&mut exchange.marks, &mut held.mark, held.number, &mark);
-            held.last = Some(EntryPlace {
-                number: place,
-                tokens,
-            });
-            held.seen = exchange.gvt;
-            Ok(count as u32)
-        }
-        Err((fault, _entry)) => Err(fault),
+    if exchange.journal.reserve().is_err() {
+        return Err(PoolFault::OutOfMemory);
     }
+    let prior = mem::replace(&mut held.standing.last, Prior::Opening);
+    let entry = entry_of(prior, held.number, &exchange.mail, count as u32);
+    let place = exchange.journal.len() as u64;
+    held.standing = Standing {
+        last: Prior::after(place, &entry),
+        seen: exchange.gvt,
+    };
+    exchange.journal.push_reserved(entry);
+    lower_floor(&mut exchange.floors, &exchange.mail, held.number, count);
+    let _taken = held.process.collect(&mut exchange.mail, held.number, count);
+    exchange.steps += count as u64;
+    tell_both(
+        &mut exchange.marks,
+        &mut held.mark,
+        held.number,
+        &held.standing,
+    );
+    Ok(count as u32)
 }
 
 /// Both marks of a process note the GVT of the exchange.
-fn see<'a, R: Actor, J: ActorRun<R>>(held: &mut Held<'a, R, J>, exchange: &mut Exchange<'a, R, J>)
+fn see<R: Actor, J: ActorRun<R>>(held: &mut Held<R, J>, exchange: &mut Exchange<R, J>)
     requires posted { held.old.block ≡ [] }
     ensures exchange { exchange.new ≡ record {
       entries = exchange.old.entries;
@@ -91,27 +91,27 @@ fn see<'a, R: Actor, J: ActorRun<R>>(held: &mut Held<'a, R, J>, exchange: &mut E
 {
     actor_laws::<R>();
     exchange.join(held);
-    let mark = Mark {
-        place: held.mark().place,
-        seen: exchange.gvt,
-    };
-    tell_both(&mut exchange.marks, &mut held.mark, held.number, &mark);
-    held.seen = exchange.gvt;
+    held.standing.seen = exchange.gvt;
+    tell_both(
+        &mut exchange.marks,
+        &mut held.mark,
+        held.number,
+        &held.standing,
+    );
 }
 
 /// The entry by which a process takes the first letters of its mail, so many. It takes no memory.
-fn entry_of<'a, R: Actor, J: ActorRun<R>>(held: &Held<'a, R, J>, mail: &Mail, count: u32) -> Entry
-    requires enough { count ≤ length (letters_for held.now.number mail.now) }
-    ensures process { result.process ≡ held.now.number }
-    ensures place { place_of result.prior ≡ held.now.mark.place }
-    ensures own { prior_own result.prior ≡ held.now.own }
-    ensures deed { seen_deed held.now.number result.deed ≡ Took (take count (letters_for held.now.number mail.now)) }
-    ensures within_mail { IsDeedWithinMail held.now.number result.deed }
+fn entry_of(prior: Prior, process: u16, mail: &Mail, count: u32) -> Entry
+    requires enough { count ≤ length (letters_for process mail.now) }
+    ensures prior { result.prior ≡ prior }
+    ensures process { result.process ≡ process }
+    ensures deed { seen_deed process result.deed ≡ Took (take count (letters_for process mail.now)) }
+    ensures within_mail { IsDeedWithinMail process result.deed }
 {
     Entry {
-        prior: held.prior(),
+        prior,
         deed: Deed::Collect(count, Snapshot::of(mail)),
-        process: held.number,
+        process,
     }
 }
 

@@ -5,50 +5,48 @@ ghost use Rattle.virtual_time.specs.Law.{reach};
 ghost use Rattle.reverse.specs.Rules.{rules_of};
 ghost use Rattle.reverse.specs.Setting.{simulation_of};
 
-use crate::mark::Mark;
+use crate::mark::Standing;
 use crate::run_of::ActorRun;
 use antimessages::Mail;
 use gvt::Floors;
 use halves::LeftHalf;
-use journal::{Entries, Tokens};
+use journal::Entries;
 use reverse::Actor;
 use std::marker::{Model, PhantomData};
 use vlink::{Letter, Time};
 
-/// Mail, floors and GVT of all processes, the journal of what they did, and a mark for each.
+/// Mail, floors and GVT of all processes, the journal of what they did, and a mark for each. Where the journal is not kept it is there in proofs alone.
 #[derive(Drop)]
-pub struct Exchange<'a, R: Actor, J: ActorRun<R>> {
-    pub(crate) table: &'a Entries,
+pub struct Exchange<R: Actor, J: ActorRun<R>> {
     pub(crate) mail: Mail,
     pub(crate) floors: Floors,
     pub(crate) gvt: Time,
-    pub(crate) journal: Vec<Tokens<'a>>,
+    pub(crate) journal: Entries,
     /// For how many steps the entries stand.
     pub(crate) steps: u64,
     /// The half of the mark of each process, in order. They have no bytes.
-    pub(crate) marks: Vec<LeftHalf<Mark>>,
+    pub(crate) marks: Vec<LeftHalf<Standing>>,
     pub(crate) limit: u64,
     pub(crate) of: PhantomData<(J, R)>,
 }
 
-impl<'a, R: Actor, J: ActorRun<R>> Model for Exchange<'a, R, J> {
-    ghost use Rattle.std.specs.Prelude.{◌≡◌, ◌≤◌, map};
+impl<R: Actor, J: ActorRun<R>> Model for Exchange<R, J> {
+    ghost use Rattle.std.specs.Prelude.{◌≡◌, ◌≤◌, ◌^◌, map};
     ghost use Rattle.reverse.specs.Rules.{rules_of};
-    ghost use Rattle.journal.specs.Names.{names};
-    ghost use Rattle.exchange.specs.Views.{Ledger};
+    ghost use Rattle.exchange.specs.Views.{Ledger, marks_in};
     ghost use Rattle.exchange.specs.Keeps.{IsRecorded, entries_of};
 
     ghost Value = { Ledger };
 
-    ghost view = { λ x. record { entries = entries_of x.journal.items; marks = map (λ b. b.value) x.marks.items; limit = x.limit } };
+    ghost view = { λ x. record { entries = entries_of x.journal.entries; marks = marks_in (map (λ b. b.value) x.marks.items); limit = x.limit } };
 
-    ghost invariant = { λ x. (x.steps ≤ x.limit) × (x.limit ≤ 67108864) ×
-        IsRecorded (rules_of R.plain) R.number R.end R.is_placed J.setting J.pages (names x.table.now.pages.items)
-        x.journal.items x.mail x.floors x.gvt x.steps (map (λ b. b.value) x.marks.items) ×
-        (map (λ b. b.name) x.marks.items ≡ J.names) };
+    ghost invariant = { λ x. (x.steps ≤ x.limit) × (x.limit ≤ 2 ^ 62) ×
+        IsRecorded (rules_of R.plain) R.number R.end R.is_placed J.setting
+        x.journal.entries x.mail x.floors x.gvt x.steps (map (λ b. b.value) x.marks.items) ×
+        (map (λ b. b.name) x.marks.items ≡ J.names) × (x.journal.keeps ≡ J.keeps) };
 }
 
-impl<'a, R: Actor, J: ActorRun<R>> Exchange<'a, R, J> {
+impl<R: Actor, J: ActorRun<R>> Exchange<R, J> {
     /// How many processes there are.
     pub fn processes(&self) -> u16
         ensures { result ≡ J.setting.processes }

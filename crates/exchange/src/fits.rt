@@ -11,10 +11,10 @@ use crate::run_of::ActorRun;
 use halves::agree;
 use reverse::Actor;
 
-impl<'a, R: Actor, J: ActorRun<R>> Exchange<'a, R, J> {
+impl<R: Actor, J: ActorRun<R>> Exchange<R, J> {
     /// Whether both marks are equal: always, since they are the halves of one value, and each call writes both. So the process in hand is what the
     /// journal and then its block make of it, and each step of the block can be done there. It takes no memory.
-    pub fn fits(&self, held: &Held<'a, R, J>) -> bool
+    pub fn fits(&self, held: &Held<R, J>) -> bool
         ensures yes { result ≡ true }
         ensures same { held.now.mark ≡ mark_of self.now.marks held.now.number }
         ensures part { held.now.part ≡ after_moves (rules_of R.plain) (J.setting.opening held.now.number) held.now.block
@@ -28,8 +28,8 @@ impl<'a, R: Actor, J: ActorRun<R>> Exchange<'a, R, J> {
         true
     }
 
-    /// Both marks are equal, so that they speak of one entry. A call does nothing: its caller learns what the clauses say.
-    pub(crate) fn join(&self, held: &Held<'a, R, J>)
+    /// One half of a mark tells what the other tells, so that both speak of one entry. A call does nothing: its caller learns what the clauses say.
+    pub(crate) fn join(&self, held: &Held<R, J>)
         ensures same { held.now.mark ≡ mark_of self.now.marks held.now.number }
         ensures part { held.now.part ≡ after_moves (rules_of R.plain) (J.setting.opening held.now.number) held.now.block
             ((reach (simulation_of (rules_of R.plain) J.setting) self.now.entries).parts held.now.number) }
@@ -39,17 +39,7 @@ impl<'a, R: Actor, J: ActorRun<R>> Exchange<'a, R, J> {
         ensures own { held.now.own ≡ own_in held.now.number self.now.entries }
     {
         let _limit = self.limit;
-        self.meet(held);
-        if let Some(last) = &held.last {
-            let tokens = &self.journal[last.number as usize];
-            tokens.agrees(&last.tokens);
-        }
-    }
-
-    /// One half of a mark tells what the other tells. A call does nothing: its caller learns what the clause says.
-    pub(crate) fn meet(&self, held: &Held<'a, R, J>)
-        ensures { held.now.mark ≡ mark_of self.now.marks held.now.number }
-    {
-        agree(&self.marks[usize::from(held.number)], &held.mark);
+        let half = &self.marks[usize::from(held.number)];
+        agree(half, &held.mark);
     }
 }

@@ -3,33 +3,29 @@ ghost use Rattle.std.specs.Prelude.{◌≡◌, ◌↔◌, ◌<◌, [], length, m
 ghost use Rattle.vlink.specs.Order.{message_order};
 ghost use Rattle.virtual_time.specs.Law.{rowed, next_of};
 ghost use Rattle.reverse.specs.Rules.{rules_of};
-ghost use Rattle.journal.specs.Deeds.{prior_own, place_of};
 
-use crate::mark::Mark;
+use crate::mark::{Mark, Standing};
 use crate::run_of::ActorRun;
 use halves::RightHalf;
-use journal::{Block, Entries, EntryPlace, Prior};
+use journal::{Block, Prior};
 use process_queues::Process;
 use reverse::{Actor, Outbound};
 use std::alloc::Global;
 use std::marker::{Model, PhantomData};
-use std::snapshot::Snapshot;
 use vlink::{Letter, Message, Row, Time};
 
 /// A process, the block of the steps that it did alone since its last post, and its mark: where the journal tells of it last, and the GVT
 /// that it saw. Rows of its committed events can leave it, the oldest ones first.
 #[derive(Drop)]
-pub struct Held<'a, R: Actor, J: ActorRun<R>> {
-    pub(crate) table: &'a Entries,
+pub struct Held<R: Actor, J: ActorRun<R>> {
     pub(crate) process: Process<R>,
     pub(crate) number: u16,
     /// How many messages it handled, those that were handled again included.
     pub(crate) runs: u64,
     pub(crate) block: Block,
-    pub(crate) last: Option<EntryPlace<'a>>,
-    pub(crate) seen: Time,
-    /// Its half of its mark, which tells place and GVT too. It has no bytes.
-    pub(crate) mark: RightHalf<Mark>,
+    pub(crate) standing: Standing,
+    /// Its half of it. It has no bytes.
+    pub(crate) mark: RightHalf<Standing>,
     /// The rows of committed events that have left are of moments before this one.
     pub(crate) gone: Time,
     /// Room for what one event sends and notes.
@@ -38,32 +34,32 @@ pub struct Held<'a, R: Actor, J: ActorRun<R>> {
     pub(crate) of: PhantomData<J>,
 }
 
-impl<'a, R: Actor, J: ActorRun<R>> Model for Held<'a, R, J> {
+impl<R: Actor, J: ActorRun<R>> Model for Held<R, J> {
     ghost use Rattle.std.specs.Prelude.{map};
     ghost use Rattle.virtual_time.specs.Law.{local, after_moves, after_own};
     ghost use Rattle.reverse.specs.Rules.{rules_of};
     ghost use Rattle.reverse.specs.Setting.{simulation_of};
-    ghost use Rattle.journal.specs.Names.{names};
-    ghost use Rattle.exchange.specs.Views.{HeldState};
-    ghost use Rattle.exchange.specs.Keeps.{Holds, Tells, own_of, place_in};
+    ghost use Rattle.journal.specs.Deeds.{prior_own};
+    ghost use Rattle.exchange.specs.Views.{HeldState, mark_in};
+    ghost use Rattle.exchange.specs.Keeps.{Holds, Tells};
 
     ghost Value = { HeldState R };
 
     ghost view = { λ h. record {
       number = h.number;
       part = after_moves (rules_of R.plain) (J.setting.opening h.number) h.block
-          (after_own (simulation_of (rules_of R.plain) J.setting) h.number (own_of h.last));
+          (after_own (simulation_of (rules_of R.plain) J.setting) h.number (prior_own h.standing.last));
       block = h.block;
-      own = own_of h.last;
-      mark = record { place = place_in h.last; seen = h.seen };
+      own = prior_own h.standing.last;
+      mark = mark_in h.standing;
       gone = h.gone;
     } };
 
-    ghost invariant = { λ h. Holds (rules_of R.plain) R.number R.end R.is_placed J.setting R.is_value J.pages (names h.table.now.pages.items)
-        h.number h.seen h.gone h.block h.last h.process.queues × Tells J.names h.number h.mark (record { place = place_in h.last; seen = h.seen }) };
+    ghost invariant = { λ h. Holds (rules_of R.plain) R.number R.end R.is_placed J.setting R.is_value
+        h.number h.standing.seen h.gone h.block h.standing.last h.process.queues × Tells J.names h.number h.mark h.standing };
 }
 
-impl<'a, R: Actor, J: ActorRun<R>> Held<'a, R, J> {
+impl<R: Actor, J: ActorRun<R>> Held<R, J> {
     /// Its number, from 0.
     pub fn number(&self) -> u16
         ensures number { result ≡ self.now.number }
@@ -83,13 +79,13 @@ impl<'a, R: Actor, J: ActorRun<R>> Held<'a, R, J> {
     pub fn mark(&self) -> Mark
         ensures { result ≡ self.now.mark }
     {
-        let place = match &self.last {
-            Some(last) => Some(last.number),
-            None => None,
+        let place = match &self.standing.last {
+            Prior::After(place, _entry) => Some(*place),
+            Prior::Opening => None,
         };
         Mark {
             place,
-            seen: self.seen,
+            seen: self.standing.seen,
         }
     }
 
@@ -126,19 +122,5 @@ impl<'a, R: Actor, J: ActorRun<R>> Held<'a, R, J> {
         ensures { IsTrue result ↔ (self.now.part.done ≡ []) }
     {
         self.process.oldest().is_none()
-    }
-
-    /// The entry that its next one follows.
-    pub(crate) fn prior(&self) -> Prior
-        ensures own { prior_own result ≡ self.now.own }
-        ensures place { place_of result ≡ self.now.mark.place }
-    {
-        match &self.last {
-            Some(last) => Prior::After(
-                last.number,
-                Snapshot::of(self.table.get(last.number as usize, &last.tokens)),
-            ),
-            None => Prior::Opening,
-        }
     }
 }

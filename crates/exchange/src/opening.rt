@@ -1,49 +1,49 @@
 //! An exchange and its processes at the start.
-ghost use Rattle.std.specs.Prelude.{◌≡◌, ℕ, ◌<◌, ◌≤◌, [], map, replicate, length, slice_get, slice_index, Some, IfOk, IfErr};
+ghost use Rattle.std.specs.Prelude.{◌≡◌, ℕ, ◌<◌, ◌≤◌, ◌^◌, [], map, replicate, length, slice_get, slice_index, Some, IfOk, IfErr};
 ghost use Rattle.vlink.specs.declared.time.TheConstants.{GREATEST_NS};
 ghost use Rattle.reverse.specs.Rules.{rules_of};
 ghost use Rattle.reverse.specs.Setting.{Opens, IsLaidOut};
-ghost use Rattle.journal.specs.Names.{names};
 ghost use Rattle.journal.specs.declared.fault.PoolFault.TheVariants.{OutOfMemory};
-ghost use Rattle.exchange.specs.Views.{blank, opened_held};
+ghost use Rattle.exchange.specs.Views.{blank, unplaced, opened_held};
 
 use crate::exchange::Exchange;
 use crate::held::Held;
-use crate::mark::Mark;
+use crate::mark::Standing;
 use crate::pairs::Pairs;
 use crate::run_of::ActorRun;
 use antimessages::{Mail, plus_letters};
 use gvt::Floors;
 use halves::RightHalf;
-use journal::{Block, Entries, PoolFault};
+use journal::{Block, Entries, PoolFault, Prior};
 use process_queues::Process;
 use reverse::{Actor, Outbound, actor_laws};
 use std::alloc::Global;
 use std::marker::PhantomData;
 use vlink::{Message, Time};
 
-impl<'a, R: Actor + Drop, J: ActorRun<R>> Exchange<'a, R, J> {
+impl<R: Actor + Drop, J: ActorRun<R>> Exchange<R, J> {
     /// An exchange with no entry, and a process in hand for each actor, in order: each actor is in its opening state, the offers are in the
-    /// mail, every floor is the moment after the end, and GVT is 0. The journal can have `limit` steps. It is refused for memory alone.
+    /// mail, every floor is the moment after the end, and GVT is 0. The journal can have `limit` steps, and is kept where `keeps` says so. It is refused for
+    /// memory alone.
     pub fn open(
         alloc: Global,
         actors: Vec<R>,
         offers: &[Message],
         until: Time,
-        table: &'a Entries,
+        keeps: bool,
         pairs: Pairs,
         limit: u64,
-    ) -> Result<(Exchange<'a, R, J>, Vec<Held<'a, R, J>>), PoolFault>
+    ) -> Result<(Exchange<R, J>, Vec<Held<R, J>>), PoolFault>
         requires opens { Opens J.setting actors.items offers.now }
         requires until { until ≡ J.setting.until }
         requires end { until < GREATEST_NS }
         requires layout { IsLaidOut (rules_of R.plain) R.number R.end R.is_placed J.setting }
-        requires table { names table.now.pages.items ≡ J.pages }
+        requires keeps { keeps ≡ J.keeps }
         requires names { pairs ≡ J.names }
         requires each { length J.names ≡ J.setting.processes }
         requires few { J.setting.processes ≤ 4096 }
         requires some { 1 ≤ limit }
-        requires most { limit ≤ 67108864 }
+        requires most { limit ≤ 2 ^ 62 }
         ensures exchange { IfOk result (λ r. r.0 ≡ record { entries = []; marks = replicate J.setting.processes blank; limit = limit }) }
         ensures count { IfOk result (λ r. length r.1.items ≡ J.setting.processes) }
         ensures helds { IfOk result (λ r. (p : ℕ) → p < J.setting.processes → slice_get r.1.items p ≡ Some (opened_held J.setting.opening p)) }
@@ -55,13 +55,12 @@ impl<'a, R: Actor + Drop, J: ActorRun<R>> Exchange<'a, R, J> {
         let mail = Mail::with_letters(alloc, count, &letters)?;
         let floors = Floors::new(alloc, count, until)?;
         let Pairs { lefts, rights } = pairs;
-        let helds = helds_of(alloc, actors, rights, until, table)?;
+        let helds = helds_of(alloc, actors, rights, until)?;
         let exchange = Exchange {
-            table,
             mail,
             floors,
             gvt: Time::default(),
-            journal: Vec::new(alloc),
+            journal: Entries::new(alloc, keeps),
             steps: 0,
             marks: lefts,
             limit,
@@ -72,20 +71,18 @@ impl<'a, R: Actor + Drop, J: ActorRun<R>> Exchange<'a, R, J> {
 }
 
 /// A process in hand for each actor, in order.
-fn helds_of<'a, R: Actor + Drop, J: ActorRun<R>>(
+fn helds_of<R: Actor + Drop, J: ActorRun<R>>(
     alloc: Global,
     actors: Vec<R>,
-    mut marks: Vec<RightHalf<Mark>>,
+    mut marks: Vec<RightHalf<Standing>>,
     until: Time,
-    table: &'a Entries,
-) -> Result<Vec<Held<'a, R, J>>, PoolFault>
+) -> Result<Vec<Held<R, J>>, PoolFault>
     requires count { length actors.items ≡ J.setting.processes }
     requires each { (p : ℕ) → p < J.setting.processes → slice_get actors.items p ≡ Some (J.setting.opening p) }
     requires layout { IsLaidOut (rules_of R.plain) R.number R.end R.is_placed J.setting }
-    requires table { names table.now.pages.items ≡ J.pages }
     requires names { map (λ s. s.name) marks.items ≡ J.names }
     requires each_name { length J.names ≡ J.setting.processes }
-    requires blanks { map (λ s. s.value) marks.items ≡ replicate (length marks.items) blank }
+    requires blanks { map (λ s. s.value) marks.items ≡ replicate (length marks.items) unplaced }
     requires few { J.setting.processes ≤ 4096 }
     ensures count { IfOk result (λ helds. length helds.items ≡ J.setting.processes) }
     ensures each { IfOk result (λ helds. (p : ℕ) → p < J.setting.processes → slice_get helds.items p ≡ Some (opened_held J.setting.opening p)) }
@@ -95,41 +92,40 @@ fn helds_of<'a, R: Actor + Drop, J: ActorRun<R>>(
     for actor in actors {
         let number = helds.len() as u16;
         let mark = marks.remove(0);
-        let held = Held::open(alloc, number, actor, mark, until, table)?;
+        let held = Held::open(alloc, number, actor, mark, until)?;
         helds.push_reserved(held);
     }
     Ok(helds)
 }
 
-impl<'a, R: Actor, J: ActorRun<R>> Held<'a, R, J> {
+impl<R: Actor, J: ActorRun<R>> Held<R, J> {
     /// The process with this number, which has done nothing.
     fn open(
         alloc: Global,
         number: u16,
         actor: R,
-        mark: RightHalf<Mark>,
+        mark: RightHalf<Standing>,
         until: Time,
-        table: &'a Entries,
     ) -> Result<Self, PoolFault>
         requires within { number < J.setting.processes }
         requires actor { actor ≡ J.setting.opening number }
         requires name { mark.name ≡ slice_index J.names number }
-        requires blank { mark.value ≡ blank }
+        requires blank { mark.value ≡ unplaced }
         requires layout { IsLaidOut (rules_of R.plain) R.number R.end R.is_placed J.setting }
-        requires table { names table.now.pages.items ≡ J.pages }
         ensures opened { IfOk result (λ held. held ≡ opened_held J.setting.opening number) }
         ensures memory { IfErr result (λ fault. fault ≡ OutOfMemory) }
     {
         actor_laws::<R>();
         match Process::new(alloc, actor) {
             Ok(process) => Ok(Held {
-                table,
                 process,
                 number,
                 runs: 0,
                 block: Block::new(),
-                last: None,
-                seen: Time::default(),
+                standing: Standing {
+                    last: Prior::Opening,
+                    seen: Time::default(),
+                },
                 mark,
                 gone: Time::default(),
                 out: Outbound::new(number, until, 0),

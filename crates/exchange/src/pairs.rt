@@ -1,11 +1,11 @@
 //! Two halves of a mark for each process of a run.
 ghost use Rattle.std.specs.Prelude.{◌≡◌, ℕ, List, map, replicate, length, ◌+◌, OnOk, IfOk, IfErr};
 ghost use Rattle.journal.specs.declared.fault.PoolFault.TheVariants.{OutOfMemory};
-ghost use Rattle.exchange.specs.Views.{blank};
+ghost use Rattle.exchange.specs.Views.{unplaced};
 
-use crate::mark::Mark;
+use crate::mark::Standing;
 use halves::{LeftHalf, RightHalf, pair};
-use journal::PoolFault;
+use journal::{PoolFault, Prior};
 use std::alloc::Global;
 use std::marker::Model;
 use vlink::Time;
@@ -13,21 +13,21 @@ use vlink::Time;
 /// The two halves of marks, in order, before an exchange and its processes have them. They have no bytes. A clause sees their names.
 #[derive(Drop)]
 pub struct Pairs {
-    pub(crate) lefts: Vec<LeftHalf<Mark>>,
-    pub(crate) rights: Vec<RightHalf<Mark>>,
+    pub(crate) lefts: Vec<LeftHalf<Standing>>,
+    pub(crate) rights: Vec<RightHalf<Standing>>,
 }
 
 impl Model for Pairs {
     ghost use Rattle.std.specs.Prelude.{◌≡◌, ℕ, List, map, replicate, length};
-    ghost use Rattle.exchange.specs.Views.{blank};
+    ghost use Rattle.exchange.specs.Views.{unplaced};
 
     ghost Value = { List ℕ };
 
     ghost view = { λ p. map (λ b. b.name) p.lefts.items };
 
     ghost invariant = { λ p. (map (λ s. s.name) p.rights.items ≡ map (λ b. b.name) p.lefts.items)
-        × (map (λ b. b.value) p.lefts.items ≡ replicate (length p.lefts.items) blank)
-        × (map (λ s. s.value) p.rights.items ≡ replicate (length p.rights.items) blank) };
+        × (map (λ b. b.value) p.lefts.items ≡ replicate (length p.lefts.items) unplaced)
+        × (map (λ s. s.value) p.rights.items ≡ replicate (length p.rights.items) unplaced) };
 }
 
 impl Pairs {
@@ -36,8 +36,8 @@ impl Pairs {
         ensures count { IfOk result (λ pairs. length pairs ≡ count) }
         ensures memory { IfErr result (λ fault. fault ≡ OutOfMemory) }
     {
-        let blank = Mark {
-            place: None,
+        let blank = Standing {
+            last: Prior::Opening,
             seen: Time::default(),
         };
         let mut pairs = Pairs {
@@ -51,8 +51,8 @@ impl Pairs {
     }
 
     /// One more, which tells of no entry.
-    fn add(&mut self, mark: &Mark) -> Result<(), PoolFault>
-        requires { mark.now ≡ blank }
+    fn add(&mut self, mark: &Standing) -> Result<(), PoolFault>
+        requires { mark.now ≡ unplaced }
         ensures more { OnOk result (length self.new ≡ length self.old + 1) }
         ensures memory { IfErr result (λ fault. fault ≡ OutOfMemory) }
     {

@@ -1,18 +1,16 @@
 //! What a process did goes to the journal, and its letters to the mail.
-ghost use Rattle.std.specs.Prelude.{◌≡◌, ◌<◌, ◌+◌, ◌⊎◌, List, length, OnOk, OnErr, IfErr, Err};
+ghost use Rattle.std.specs.Prelude.{◌≡◌, ◌<◌, ◌+◌, ◌⊎◌, length, OnOk, OnErr, IfErr, Err};
 ghost use Rattle.virtual_time.specs.Law.{steps};
-ghost use Rattle.virtual_time.specs.declared.moved.Move.{Move};
 ghost use Rattle.reverse.specs.Rules.{rules_of};
 ghost use Rattle.reverse.specs.Setting.{simulation_of};
-ghost use Rattle.journal.specs.declared.entry.Deed.TheVariants.{Post};
-ghost use Rattle.journal.specs.declared.fault.PoolFault.TheVariants.{OutOfMemory, JournalFull, Torn};
+ghost use Rattle.journal.specs.declared.fault.PoolFault.TheVariants.{OutOfMemory, JournalFull};
 ghost use Rattle.exchange.specs.Effects.{Posts};
 
 use crate::exchange::Exchange;
 use crate::held::Held;
-use crate::mark::{Mark, tell_both};
+use crate::mark::tell_both;
 use crate::run_of::ActorRun;
-use journal::{Block, Deed, Entry, EntryPlace, PoolFault};
+use journal::{Block, Deed, Entry, PoolFault, Prior};
 use reverse::{Actor, actor_laws};
 use std::mem;
 
@@ -20,10 +18,9 @@ use std::mem;
 /// an empty block nothing changes.
 ///
 /// Any refusal leaves both as they were. `JournalFull`: exactly where the steps would pass the limit, which is looked at before any growth.
-/// `Torn`: the entry's cell was set already, which is seen after all growths.
-pub fn post<'a, R: Actor, J: ActorRun<R>>(
-    held: &mut Held<'a, R, J>,
-    exchange: &mut Exchange<'a, R, J>,
+pub fn post<R: Actor, J: ActorRun<R>>(
+    held: &mut Held<R, J>,
+    exchange: &mut Exchange<R, J>,
 ) -> Result<(), PoolFault>
     ensures ok { OnOk result (Posts (simulation_of (rules_of R.plain) J.setting) exchange.old held.old exchange.new held.new) }
     ensures unchanged { OnErr result ((exchange.new ≡ exchange.old) × (held.new ≡ held.old)) }
@@ -31,7 +28,7 @@ pub fn post<'a, R: Actor, J: ActorRun<R>>(
         (0 < length held.old.block) × (exchange.old.limit < length (steps exchange.old.entries) + length held.old.block + 1) }
     ensures limited { 0 < length held.old.block → exchange.old.limit < length (steps exchange.old.entries) + length held.old.block + 1 →
         result ≡ Err JournalFull }
-    ensures faults { IfErr result (λ fault. (fault ≡ OutOfMemory) ⊎ ((fault ≡ JournalFull) ⊎ (fault ≡ Torn))) }
+    ensures faults { IfErr result (λ fault. (fault ≡ OutOfMemory) ⊎ (fault ≡ JournalFull)) }
 {
     actor_laws::<R>();
     let moves = held.block.len() as u64;
@@ -45,42 +42,23 @@ pub fn post<'a, R: Actor, J: ActorRun<R>>(
     if held.process.reserve_post(&mut exchange.mail).is_err() {
         return Err(PoolFault::OutOfMemory);
     }
-    let entry = Entry {
-        prior: held.prior(),
-        deed: Deed::Post(mem::replace(&mut held.block, Block::new())),
-        process: held.number,
-    };
-    let place = exchange.journal.len() as u32;
-    match exchange.table.write(&mut exchange.journal, entry) {
-        Ok(tokens) => {
-            let _posted = held.process.post(&mut exchange.mail);
-            exchange.floors.set(held.number, held.process.floor());
-            exchange.steps += moves + 1;
-            let mark = Mark {
-                place: Some(place),
-                seen: held.seen,
-            };
-            tell_both(&mut exchange.marks, &mut held.mark, held.number, &mark);
-            held.last = Some(EntryPlace {
-                number: place,
-                tokens,
-            });
-            Ok(())
-        }
-        Err((fault, entry)) => {
-            held.block = block_of(entry);
-            Err(fault)
-        }
+    if exchange.journal.reserve().is_err() {
+        return Err(PoolFault::OutOfMemory);
     }
-}
-
-/// The block of an entry that was not written.
-fn block_of(entry: Entry) -> Block
-    ensures { (block : List Move) → entry.deed ≡ Post block → result ≡ block }
-{
-    let Entry { deed, .. } = entry;
-    match deed {
-        Deed::Post(block) => block,
-        _ => Block::new(),
-    }
+    let prior = mem::replace(&mut held.standing.last, Prior::Opening);
+    let block = mem::replace(&mut held.block, Block::new());
+    let entry = Entry::new(prior, Deed::Post(block), held.number);
+    let place = exchange.journal.len() as u64;
+    held.standing.last = Prior::after(place, &entry);
+    exchange.journal.push_reserved(entry);
+    let _posted = held.process.post(&mut exchange.mail);
+    exchange.floors.set(held.number, held.process.floor());
+    exchange.steps += moves + 1;
+    tell_both(
+        &mut exchange.marks,
+        &mut held.mark,
+        held.number,
+        &held.standing,
+    );
+    Ok(())
 }

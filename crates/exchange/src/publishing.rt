@@ -3,7 +3,7 @@ ghost use Rattle.std.specs.Prelude.{◌≡◌, ◌<◌, ◌≤◌, ◌⊎◌, �
 ghost use Rattle.virtual_time.specs.Law.{steps};
 ghost use Rattle.reverse.specs.Rules.{rules_of};
 ghost use Rattle.reverse.specs.Setting.{simulation_of};
-ghost use Rattle.journal.specs.declared.fault.PoolFault.TheVariants.{OutOfMemory, JournalFull, Torn};
+ghost use Rattle.journal.specs.declared.fault.PoolFault.TheVariants.{OutOfMemory, JournalFull};
 ghost use Rattle.exchange.specs.Effects.{Publishes, IsHeldBack};
 
 use crate::exchange::Exchange;
@@ -17,15 +17,13 @@ use vlink::{Note, Time};
 /// before, there is no entry. The answer is GVT, in ns.
 ///
 /// Any refusal leaves the exchange as it was. `JournalFull`: exactly where the steps would pass the limit, which is looked at before any
-/// growth. `Torn`: the entry's cell was set already, which is seen after all growths.
-pub fn publish<'a, R: Actor, J: ActorRun<R>>(
-    exchange: &mut Exchange<'a, R, J>,
-) -> Result<Time, PoolFault>
+/// growth.
+pub fn publish<R: Actor, J: ActorRun<R>>(exchange: &mut Exchange<R, J>) -> Result<Time, PoolFault>
     ensures ok { IfOk result (λ gvt. Publishes (simulation_of (rules_of R.plain) J.setting) exchange.old exchange.new gvt) }
     ensures unchanged { OnErr result (exchange.new ≡ exchange.old) }
     ensures full { result ≡ Err JournalFull → IsHeldBack (simulation_of (rules_of R.plain) J.setting) exchange.old × (exchange.old.limit ≤ length (steps exchange.old.entries)) }
     ensures limited { IsHeldBack (simulation_of (rules_of R.plain) J.setting) exchange.old → exchange.old.limit ≤ length (steps exchange.old.entries) → result ≡ Err JournalFull }
-    ensures faults { IfErr result (λ fault. (fault ≡ OutOfMemory) ⊎ ((fault ≡ JournalFull) ⊎ (fault ≡ Torn))) }
+    ensures faults { IfErr result (λ fault. (fault ≡ OutOfMemory) ⊎ (fault ≡ JournalFull)) }
 {
     actor_laws::<R>();
     gvt_law::<R, R::Record, Note>();
@@ -36,17 +34,12 @@ pub fn publish<'a, R: Actor, J: ActorRun<R>>(
     if exchange.steps >= exchange.limit {
         return Err(PoolFault::JournalFull);
     }
-    let entry = Entry {
-        prior: Prior::Opening,
-        deed: Deed::Publish,
-        process: 0,
-    };
-    match exchange.table.write(&mut exchange.journal, entry) {
-        Ok(_tokens) => {
-            exchange.gvt = gvt;
-            exchange.steps += 1;
-            Ok(gvt)
-        }
-        Err((fault, _entry)) => Err(fault),
+    if exchange.journal.reserve().is_err() {
+        return Err(PoolFault::OutOfMemory);
     }
+    let entry = Entry::new(Prior::Opening, Deed::Publish, 0);
+    exchange.journal.push_reserved(entry);
+    exchange.gvt = gvt;
+    exchange.steps += 1;
+    Ok(gvt)
 }

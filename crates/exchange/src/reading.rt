@@ -1,5 +1,5 @@
 //! The steps of the journal, one by one and as a list.
-ghost use Rattle.std.specs.Prelude.{◌≡◌, ◌<◌, ◌≤◌, Some, map, ◌++◌, length, slice_get, OnOk, IfOk, IfErr};
+ghost use Rattle.std.specs.Prelude.{◌≡◌, ◌<◌, ◌≤◌, ◌^◌, true, Some, map, ◌++◌, length, slice_get, OnOk, IfOk, IfErr};
 ghost use Rattle.std.specs.Option.{option_map};
 ghost use Rattle.vlink.specs.declared.message.Message.{Message};
 ghost use Rattle.virtual_time.specs.Law.{steps, steps_of, step_by};
@@ -15,7 +15,7 @@ use std::alloc::{AllocError, Global};
 use virtual_time::Move;
 use vlink::Step;
 
-impl<'a, R: Actor, J: ActorRun<R>> Exchange<'a, R, J> {
+impl<R: Actor, J: ActorRun<R>> Exchange<R, J> {
     /// How many steps the journal has.
     pub fn steps(&self) -> u64
         ensures { result ≡ length (steps self.now.entries) }
@@ -23,9 +23,10 @@ impl<'a, R: Actor, J: ActorRun<R>> Exchange<'a, R, J> {
         self.steps
     }
 
-    /// The step number `place`, from 0, of the journal. None: there are no more. Its time goes by the number of entries: all steps are listed
+    /// The step number `place`, from 0, of a journal that is kept. None: there are no more. Its time goes by the number of entries: all steps are listed
     /// by `step_list`.
     pub fn step_at(&self, place: u64) -> Option<Step>
+        requires { J.keeps ≡ true }
         ensures { result ≡ slice_get (steps self.now.entries) place }
     {
         let mut left = place;
@@ -40,8 +41,9 @@ impl<'a, R: Actor, J: ActorRun<R>> Exchange<'a, R, J> {
         None
     }
 
-    /// All steps of the journal, in order. It is refused for memory alone.
+    /// All steps of a journal that is kept, in order. It is refused for memory alone.
     pub fn step_list(&self, alloc: Global) -> Result<Vec<Step>, PoolFault>
+        requires { J.keeps ≡ true }
         ensures list { IfOk result (λ list. list.items ≡ steps self.now.entries) }
         ensures memory { IfErr result (λ fault. fault ≡ OutOfMemory) }
     {
@@ -59,22 +61,23 @@ impl<'a, R: Actor, J: ActorRun<R>> Exchange<'a, R, J> {
         self.journal.len()
     }
 
-    /// The entry at this place of the journal, from 0.
+    /// The entry at this place of a journal that is kept, from 0.
     fn entry_at(&self, at: usize) -> &Entry
-        requires { at < length self.now.entries }
+        requires keeps { J.keeps ≡ true }
+        requires there { at < length self.now.entries }
         ensures told { slice_get self.now.entries at ≡ Some (seen_entry result.now) }
         ensures within_mail { IsEntryWithinMail result.now }
-        ensures few { length (steps_of {M = Message} result.now.process (seen_deed result.now.process result.now.deed)) ≤ 67108864 }
+        ensures few { length (steps_of {M = Message} result.now.process (seen_deed result.now.process result.now.deed)) ≤ 2 ^ 62 }
     {
-        let tokens = &self.journal[at];
-        self.table.get(at, tokens)
+        let _limit = self.limit;
+        self.journal.get(at)
     }
 }
 
 /// The steps for which an entry stands join the list, in order.
 fn add_steps(list: &mut Vec<Step>, entry: &Entry) -> Result<(), AllocError>
     requires within_mail { IsEntryWithinMail entry.now }
-    requires few { length (steps_of {M = Message} entry.now.process (seen_deed entry.now.process entry.now.deed)) ≤ 67108864 }
+    requires few { length (steps_of {M = Message} entry.now.process (seen_deed entry.now.process entry.now.deed)) ≤ 2 ^ 62 }
     ensures { OnOk result (list.new.items ≡ list.old.items ++ steps_of {M = Message} entry.now.process (seen_deed entry.now.process entry.now.deed)) }
 {
     for at in 0..count_of(entry) {
@@ -88,7 +91,7 @@ fn add_steps(list: &mut Vec<Step>, entry: &Entry) -> Result<(), AllocError>
 /// For how many steps an entry stands.
 fn count_of(entry: &Entry) -> u64
     requires within_mail { IsEntryWithinMail entry.now }
-    requires few { length (steps_of {M = Message} entry.now.process (seen_deed entry.now.process entry.now.deed)) ≤ 67108864 }
+    requires few { length (steps_of {M = Message} entry.now.process (seen_deed entry.now.process entry.now.deed)) ≤ 2 ^ 62 }
     ensures { result ≡ length (steps_of {M = Message} entry.now.process (seen_deed entry.now.process entry.now.deed)) }
 {
     match &entry.deed {

@@ -12,14 +12,14 @@ use fossil::{is_early, let_rows_go, rows_between};
 use reverse::{Actor, actor_laws, actor_rules};
 use vlink::{Row, Time};
 
-impl<'a, R: Actor, J: ActorRun<R>> Held<'a, R, J> {
+impl<R: Actor, J: ActorRun<R>> Held<R, J> {
     /// Whether its events before a moment, in ns, are all committed and are for good: the moment is not later than the GVT that it saw, and no
     /// done event is earlier.
     pub fn is_sealed_before(&self, moment: Time) -> bool
         ensures { IsTrue result ↔ ((moment ≤ self.now.mark.seen) × (earlier message_order moment self.now.part.done ≡ [])) }
     {
         actor_rules::<R>();
-        moment.ns() <= self.seen.ns() && !is_early(self.process.oldest(), moment)
+        moment.ns() <= self.standing.seen.ns() && !is_early(self.process.oldest(), moment)
     }
 
     /// The rows of its committed events of the moments from `from` on and before `to`, in ns, in their order. None of these has left, since

@@ -26,8 +26,8 @@ use vlink::Time;
 /// A refusal comes at the first step that could not be done, and the block holds just those before it: letters that arrived, then messages
 /// that were handled, then events that were committed. `Exhausted` comes exactly where a message is to be handled and its actor has too few
 /// numbers left, `OutOfMemory` only where a growth was refused for a step that is to be done.
-pub fn work<'a, R: Actor, J: ActorRun<R>, G: Gate>(
-    held: &mut Held<'a, R, J>,
+pub fn work<R: Actor, J: ActorRun<R>, G: Gate>(
+    held: &mut Held<R, J>,
     turn: u32,
     window: u64,
     gate: &G,
@@ -45,7 +45,7 @@ pub fn work<'a, R: Actor, J: ActorRun<R>, G: Gate>(
     Ok(held.pending() - before)
 }
 
-impl<'a, R: Actor, J: ActorRun<R>> Held<'a, R, J> {
+impl<R: Actor, J: ActorRun<R>> Held<R, J> {
     /// All letters of the tray arrive.
     fn arrive_all(&mut self) -> Result<(), PoolFault>
         ensures arrived { OnOk result (self.new ≡ moved_by (simulation_of (rules_of R.plain) J.setting) (replicate (length self.old.part.tray) Arrived) self.old) }
@@ -113,7 +113,7 @@ impl<'a, R: Actor, J: ActorRun<R>> Held<'a, R, J> {
         let Some(message) = self.process.next() else {
             return Ok(false);
         };
-        if !is_within(message.time, self.seen, window) {
+        if !is_within(message.time, self.standing.seen, window) {
             return Ok(false);
         }
         if !self.process.has_numbers() {
@@ -158,7 +158,7 @@ impl<'a, R: Actor, J: ActorRun<R>> Held<'a, R, J> {
         ensures memory { IfErr result (λ fault. fault ≡ OutOfMemory) }
     {
         actor_laws::<R>();
-        if !is_early(self.process.oldest(), self.seen) {
+        if !is_early(self.process.oldest(), self.standing.seen) {
             return Ok(false);
         }
         self.block.push(self.alloc, Move::Committed)?;

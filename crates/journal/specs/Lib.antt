@@ -1,6 +1,5 @@
--- The journal: what its entries tell, and where they stand.
+-- The journal: what its entries tell, and the list of them.
 pub mod Moves
 pub mod Deeds
-pub mod Names
-pub mod Places
+pub mod Listing
 pub mod Faults

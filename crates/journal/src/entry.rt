@@ -1,4 +1,7 @@
 //! The entries of a journal.
+ghost use Rattle.std.specs.Prelude.{◌≡◌, Some};
+ghost use Rattle.journal.specs.Deeds.{prior_own, entry_own, place_of};
+
 use crate::block::Block;
 use antimessages::Mail;
 use std::snapshot::Snapshot;
@@ -22,7 +25,17 @@ pub enum Prior {
     /// There is none.
     Opening,
     /// It has this place, from 0.
-    After(u32, Snapshot<Entry>),
+    After(u64, Snapshot<Entry>),
+}
+
+impl Prior {
+    /// This entry, which has this place, from 0.
+    pub fn after(place: u64, entry: &Entry) -> Prior
+        ensures place { place_of result ≡ Some place }
+        ensures own { prior_own result ≡ entry_own entry.now }
+    {
+        Prior::After(place, Snapshot::of(entry))
+    }
 }
 
 /// An entry of the journal.
@@ -35,4 +48,19 @@ pub struct Entry {
     pub deed: Deed,
     /// The process that did it; for `Publish` it is 0 and means nothing.
     pub process: u16,
+}
+
+impl Entry {
+    /// What this process did behind what is told before.
+    pub fn new(prior: Prior, deed: Deed, process: u16) -> Entry
+        ensures prior { result.prior ≡ prior }
+        ensures deed { result.deed ≡ deed }
+        ensures process { result.process ≡ process }
+    {
+        Entry {
+            prior,
+            deed,
+            process,
+        }
+    }
 }

@@ -150,7 +150,7 @@ impl<R: Actor> Process<R> {
         let _rows = self.past.rows().len();
         let noted = self.past.forget_oldest();
         self.sealed += usize::from(noted);
-        self.committed.push_reserved(noted);
+        self.committed.push_reserved(());
         Ok(true)
     }
 
@@ -177,7 +177,7 @@ fn pop_front(tray: &mut VecDeque<Letter>)
 /// Makes room for one committed event more, where the signed count of its message in the tally is 0. A refusal comes only where it is, and
 /// where there was no room. Where there is room the count is not looked for.
 fn reserve_if_zero(
-    committed: &mut Vec<u8>,
+    committed: &mut Vec<()>,
     tally: &Tally,
     message: &Message,
 ) -> Result<(), ProcFault>

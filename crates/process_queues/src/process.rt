@@ -31,8 +31,8 @@ pub struct Process<R: Actor> {
     /// How many rows of committed events have left, and how many are still there.
     pub(crate) left: usize,
     pub(crate) sealed: usize,
-    /// How many rows each committed event gave.
-    pub(crate) committed: Vec<u8>,
+    /// As many as events are committed. They have no bytes.
+    pub(crate) committed: Vec<()>,
     /// The signed counts of the messages, less 1 for each done event: a done message that is tallied once has none here.
     pub(crate) tally: Tally,
     /// The message that is handled next, if there is one: it is looked for once, and kept until something changes it.

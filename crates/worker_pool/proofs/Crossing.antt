@@ -1,13 +1,10 @@
 -- What a worker shares may cross threads. The types are too many for one `search`, so each has a lemma, from those of its fields.
 -- A type that holds a snapshot, or that reaches itself, has no `TheSendSync` of its own, and no type that holds it: such are those below.
 use denote.RattleType.{RattleType}
-use denote.Ref.{NamedLft}
 use denote.Param.Send.{IsSend, IsSync, view_send, sendable}
 use denote.Param.SendFields.{declared_send, declared_sync}
 use Rattle.std.proofs.Crossing.{crosses}
 use Rattle.std.proofs.option.Option.TheSendSync as option
-use Rattle.std.proofs.sync.OnceLock.TheSendSync as once
-use Rattle.boxcar.proofs.slot.OnceSlot.TheSendSync as slot
 use Rattle.vlink.specs.declared.message.Message.{Message}
 use Rattle.vlink.proofs.time.Time.TheSendSync as time
 use Rattle.reverse.specs.declared.actor.Actor.{Ghosts as ActorGhosts}
@@ -20,17 +17,17 @@ use Rattle.process_queues.proofs.process.Process.TheSendSync as process
 use Rattle.journal.specs.contracts.entry.Deed as Deed
 use Rattle.journal.specs.contracts.entry.Entry as Entry
 use Rattle.journal.specs.contracts.entry.Prior as Prior
-use Rattle.journal.specs.contracts.table.Entries as Entries
-use Rattle.journal.specs.contracts.table.Page as Page
+use Rattle.journal.specs.contracts.list.Entries as Entries
+use Rattle.journal.specs.contracts.list.Entries.TheInside as EntriesIn
 use Rattle.journal.proofs.block.Block.TheSendSync as block
-use Rattle.journal.proofs.tokens.EntryPlace.TheSendSync as place
-use Rattle.journal.proofs.tokens.Tokens.TheSendSync as tokens
 use Rattle.exchange.specs.declared.run_of.ActorRun.{Ghosts as RunGhosts}
 use Rattle.exchange.specs.contracts.exchange.Exchange as Exchange
 use Rattle.exchange.specs.contracts.exchange.Exchange.TheInside as ExchangeIn
 use Rattle.exchange.specs.contracts.held.Held as Held
 use Rattle.exchange.specs.contracts.held.Held.TheInside as HeldIn
-use Rattle.exchange.proofs.mark.Mark.TheSendSync as mark
+use Rattle.exchange.specs.contracts.mark.Standing as Standing
+use Rattle.halves.proofs.LeftHalf.TheSendSync as left
+use Rattle.halves.proofs.RightHalf.TheSendSync as right
 use Rattle.nodes.proofs.node.Node.TheSendSync as node
 use Rattle.nodes.proofs.node.NodeRecord.TheSendSync as node_record
 use Rattle.worker_pool.specs.declared.network_run.NetworkRun.{Ghosts as NetworkGhosts}
@@ -39,51 +36,39 @@ use Rattle.worker_pool.specs.contracts.shared.Shared as Shared
 use Rattle.worker_pool.specs.contracts.shared.Shared.TheInside as SharedIn
 use Rattle.worker_pool.proofs.desk.TraceLock.TheSendSync as trace
 
--- ---- the table of entries
+-- ---- entries
 prior-send : IsSend Prior.the_row
 prior-send = search (sendable, crosses) depth 20
-
-prior-sync : IsSync Prior.the_row
-prior-sync = search (sendable, crosses) depth 20
 
 deed-send : IsSend Deed.the_row
 deed-send = search (block.the_send, sendable, crosses) depth 20
 
-deed-sync : IsSync Deed.the_row
-deed-sync = search (block.the_sync, sendable, crosses) depth 20
-
 entry-send : IsSend Entry.the_row
 entry-send = declared_send Entry.the_type (prior-send, (deed-send, (search sendable, tt)))
 
-entry-sync : IsSync Entry.the_row
-entry-sync = declared_sync Entry.the_type (prior-sync, (deed-sync, (search sendable, tt)))
+entries-send : IsSend Entries.the_row
+entries-send = view_send _ _ _ _ _ (declared_send EntriesIn.the_type (search (entry-send, option.the_send, sendable, crosses) depth 20))
 
-page-send : IsSend Page.the_row
-page-send = search (entry-send, slot.the_send, declared_send, sendable, crosses) depth 20
-
-page-sync : IsSync Page.the_row
-page-sync = search (entry-send, entry-sync, slot.the_sync, declared_sync, sendable, crosses) depth 20
-
-entries-sync : IsSync Entries.the_row
-entries-sync = search (page-send, page-sync, once.the_sync, declared_sync, sendable, crosses) depth 20
+standing-send : IsSend Standing.the_row
+standing-send = declared_send Standing.the_type (prior-send, (time.the_send, tt))
 
 -- ---- a process in hand, and what the processes share
-held-send : (a : NamedLft) (R J K : RattleType) (g : ActorGhosts R.Denot K.Denot) (h : ReversibleGhosts R.Denot Message Sends K.Denot) (k : RunGhosts J.Denot R.Denot K.Denot)
-    → IsSend R → IsSend K → IsSend (Held.the_row a R J K g h k)
-held-send a R J K g h k s t = view_send _ _ _ _ _ (declared_send (HeldIn.the_type a R J K g h k)
-    (search (entries-sync, process.the_send, block.the_send, place.the_send, option.the_send, time.the_send, outbound.the_send, sendable, crosses) depth 20))
+held-send : (R J K : RattleType) (g : ActorGhosts R.Denot K.Denot) (h : ReversibleGhosts R.Denot Message Sends K.Denot) (k : RunGhosts J.Denot R.Denot K.Denot)
+    → IsSend R → IsSend K → IsSend (Held.the_row R J K g h k)
+held-send R J K g h k s t = view_send _ _ _ _ _ (declared_send (HeldIn.the_type R J K g h k)
+    (search (standing-send, right.the_send, process.the_send, block.the_send, time.the_send, outbound.the_send, sendable, crosses) depth 20))
 
-exchange-send : (a : NamedLft) (R J K : RattleType) (g : ActorGhosts R.Denot K.Denot) (h : ReversibleGhosts R.Denot Message Sends K.Denot) (k : RunGhosts J.Denot R.Denot K.Denot)
-    → IsSend (Exchange.the_row a R J K g h k)
-exchange-send a R J K g h k = view_send _ _ _ _ _ (declared_send (ExchangeIn.the_type a R J K g h k)
-    (search (entries-sync, mail.the_send, floors.the_send, time.the_send, tokens.the_send, mark.the_send, sendable, crosses) depth 20))
+exchange-send : (R J K : RattleType) (g : ActorGhosts R.Denot K.Denot) (h : ReversibleGhosts R.Denot Message Sends K.Denot) (k : RunGhosts J.Denot R.Denot K.Denot)
+    → IsSend (Exchange.the_row R J K g h k)
+exchange-send R J K g h k = view_send _ _ _ _ _ (declared_send (ExchangeIn.the_type R J K g h k)
+    (search (entries-send, left.the_send, mail.the_send, floors.the_send, time.the_send, sendable, crosses) depth 20))
 
 -- ---- the locks
-pub shared-send : (a : NamedLft) (J : RattleType) (g : NetworkGhosts J.Denot) → IsSend (Shared.the_row a J g)
-shared-send a J g = view_send _ _ _ _ _ (declared_send (SharedIn.the_type a J g) (search (exchange-send, crosses) depth 10, tt))
+pub shared-send : (J : RattleType) (g : NetworkGhosts J.Denot) → IsSend (Shared.the_row J g)
+shared-send J g = view_send _ _ _ _ _ (declared_send (SharedIn.the_type J g) (search (exchange-send, crosses) depth 10, tt))
 
-pub locks-sync : (a : NamedLft) (J : RattleType) (g : NetworkGhosts J.Denot) → IsSync (Locks.the_row a J g)
-locks-sync a J g = declared_sync (Locks.the_type a J g) (
+pub locks-sync : (J : RattleType) (g : NetworkGhosts J.Denot) → IsSync (Locks.the_row J g)
+locks-sync J g = declared_sync (Locks.the_type J g) (
   search (held-send, node.the_send, node_record.the_send, sendable, crosses) depth 10,
   (time.the_sync, (search (trace.the_sync, option.the_sync, sendable, crosses) depth 10, tt)),
 )

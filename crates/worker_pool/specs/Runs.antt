@@ -12,9 +12,10 @@ use Rattle.seqsim.specs.Committed.{after}
 abbrev pub empty_plan : Plan
 empty_plan = record { until = 0; seed = 0; nodes = []; links = []; outages = []; vls = [] }
 
--- so many steps the journal of a run can have: 2 to the power of 26
-abbrev pub most_steps : ℕ
-most_steps = 67108864
+-- so many steps the journal of a run can have: 2 to the power of 26 where it is kept, and of 62 where it is not
+abbrev pub most_steps : Bool → ℕ
+most_steps true = 67108864
+most_steps false = 4611686018427387904
 
 -- the process in hand at place p is number p, and is what it is in the world that the journal reaches
 abbrev pub IsOfWorld : Plan → List (Entry Message) → ℕ → HeldState NodeState → Type 0

@@ -151,11 +151,7 @@ impl<J: NetworkRun> TraceLock<J> {
     }
 
     /// The next segment that a process can give goes to the desk. The answer is whether there was one.
-    fn give_segment<'a, T: Wait>(
-        &self,
-        rt: &T,
-        locked: &mut Locked<'a, J>,
-    ) -> Result<bool, PoolFault>
+    fn give_segment<T: Wait>(&self, rt: &T, locked: &mut Locked<J>) -> Result<bool, PoolFault>
         ensures memory { IfErr result (λ fault. fault ≡ pool.OutOfMemory) }
     {
         // The process is one of the network.
@@ -169,10 +165,10 @@ impl<J: NetworkRun> TraceLock<J> {
 
     /// The segments that a process can give go to the desk, one after another. The caller has the lock of the process, and not that of the
     /// exchange.
-    pub(crate) fn give_segments<'a, T: Wait>(
+    pub(crate) fn give_segments<T: Wait>(
         &self,
         rt: &T,
-        locked: &mut Locked<'a, J>,
+        locked: &mut Locked<J>,
     ) -> Result<(), RunFault<J>>
         ensures memory { IfErr result (λ fault. fault ≡ pool.OutOfMemory) }
     {
@@ -188,7 +184,7 @@ impl<J: NetworkRun> TraceLock<J> {
 
     /// A process that gave its segments, and had its turn up to this limit, in ns, is called `BEHIND` intervals further on, though it may have nothing
     /// else to do: the segments of the others wait for its own. Behind the end of the run it is not called: the end of the run takes what is left.
-    pub(crate) fn call<'a>(&self, locked: &Locked<'a, J>, limit_ns: u64) -> Call {
+    pub(crate) fn call(&self, locked: &Locked<J>, limit_ns: u64) -> Call {
         let behind_ns = cut(self.until, BEHIND).ns();
         let moment_ns = locked.gone().ns().max(limit_ns).saturating_add(behind_ns);
         Call {

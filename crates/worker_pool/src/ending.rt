@@ -21,16 +21,16 @@ use vlink::Time;
 
 /// The exchange and all processes of a run, out of their locks, and the lock of its trace, if one is written.
 #[derive(Drop)]
-pub(crate) struct Unlocked<'a, J: NetworkRun> {
-    pub exchange: Shared<'a, J>,
-    pub helds: Vec<Locked<'a, J>>,
+pub(crate) struct Unlocked<J: NetworkRun> {
+    pub exchange: Shared<J>,
+    pub helds: Vec<Locked<J>>,
     pub trace: Option<TraceLock<J>>,
 }
 
 /// Whether this process is number `place`, and has no step that is not in the journal: then it is the one of the journal.
-fn is_of_world<'a, J: NetworkRun>(
-    exchange: &Exchange<'a, Node, Of<J>>,
-    held: &Locked<'a, J>,
+fn is_of_world<J: NetworkRun>(
+    exchange: &Exchange<Node, Of<J>>,
+    held: &Locked<J>,
     place: usize,
 ) -> bool
     ensures { result ≡ true → IsOfWorld J.plan exchange.now.entries place held.now }
@@ -41,12 +41,12 @@ fn is_of_world<'a, J: NetworkRun>(
     exchange.fits(held)
 }
 
-impl<'a, J: NetworkRun> Unlocked<'a, J> {
+impl<J: NetworkRun> Unlocked<J> {
     /// Takes out of the locks what they keep, in order. It is refused for memory alone.
     pub(crate) fn of(
         alloc: Global,
-        locks: Locks<'a, J>,
-        exchange: ExchangeLock<'a, J>,
+        locks: Locks<J>,
+        exchange: ExchangeLock<J>,
     ) -> Result<Self, AllocError> {
         let Locks { locks, trace, .. } = locks;
         let mut helds = Vec::with_capacity(alloc, locks.len())?;

@@ -14,12 +14,12 @@ use std::sync::Mutex;
 use vlink::Time;
 
 /// What one lock keeps: a process in hand.
-pub(crate) type Locked<'a, J> = Held<'a, Node, Of<J>>;
+pub(crate) type Locked<J> = Held<Node, Of<J>>;
 
 /// A lock for each process of the run, the end time of the run, and the lock of its trace, if one is written.
 #[derive(Drop)]
-pub(crate) struct Locks<'a, J: NetworkRun> {
-    pub locks: Vec<Mutex<Locked<'a, J>>>,
+pub(crate) struct Locks<J: NetworkRun> {
+    pub locks: Vec<Mutex<Locked<J>>>,
     pub until: Time,
     pub trace: Option<TraceLock<J>>,
     pub ghost all: { length locks.items ≡ process_count J.plan },
@@ -27,12 +27,12 @@ pub(crate) struct Locks<'a, J: NetworkRun> {
 }
 
 /// A lock for each process of the network, in order, beside that of the trace. It is refused for memory alone.
-pub(crate) fn locks_of<'a, J: NetworkRun>(
+pub(crate) fn locks_of<J: NetworkRun>(
     alloc: Global,
     network: &Network,
-    helds: Vec<Locked<'a, J>>,
+    helds: Vec<Locked<J>>,
     trace: Option<TraceLock<J>>,
-) -> Result<Locks<'a, J>, PoolFault>
+) -> Result<Locks<J>, PoolFault>
     requires network { network.now ≡ J.plan }
     requires all { length helds.items ≡ process_count network.now }
     ensures memory { IfErr result (λ fault. fault ≡ OutOfMemory) }
@@ -47,10 +47,10 @@ pub(crate) fn locks_of<'a, J: NetworkRun>(
 }
 
 /// A lock for each of these, in order.
-fn mutexes_of<'a, J: NetworkRun>(
+fn mutexes_of<J: NetworkRun>(
     alloc: Global,
-    helds: Vec<Locked<'a, J>>,
-) -> Result<Vec<Mutex<Locked<'a, J>>>, AllocError>
+    helds: Vec<Locked<J>>,
+) -> Result<Vec<Mutex<Locked<J>>>, AllocError>
     ensures { IfOk result (λ locks. length locks.items ≡ length helds.entry.items) }
 {
     let mut locks = Vec::with_capacity(alloc, helds.len())?;

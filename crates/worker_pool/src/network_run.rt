@@ -3,29 +3,29 @@ use exchange::ActorRun;
 use nodes::Node;
 use std::marker::{Brand, PhantomData};
 
-/// A run of a network, known by its type: which network it is of, which table its entries are written to, and which marks
-/// it has. It has no bytes, and who calls at `Brand` picks all three.
+/// A run of a network, known by its type: which network it is of, whether its journal is kept, and which marks it has. It
+/// has no bytes, and who calls at `Brand` picks all three.
 pub trait NetworkRun {
-    ghost use Rattle.std.specs.Prelude.{ℕ, List};
+    ghost use Rattle.std.specs.Prelude.{ℕ, Bool, List};
     ghost use Rattle.netdesc.specs.Words.{Plan};
 
     /// The network that is simulated.
     ghost plan: { Plan };
 
-    /// The names of the pages of the table that the entries are written to.
-    ghost pages: { List ℕ };
+    /// Whether the entries of its journal are kept, to be listed at its end.
+    ghost keeps: { Bool };
 
     /// The names of the marks, one for each process.
     ghost names: { List ℕ };
 }
 
 impl NetworkRun for Brand {
-    ghost use Rattle.std.specs.Prelude.{[]};
+    ghost use Rattle.std.specs.Prelude.{[], false};
     ghost use Rattle.worker_pool.specs.Runs.{empty_plan};
 
     ghost plan = { empty_plan };
 
-    ghost pages = { [] };
+    ghost keeps = { false };
 
     ghost names = { [] };
 }
@@ -40,7 +40,7 @@ impl<J: NetworkRun> ActorRun<Node> for Of<J> {
 
     ghost setting = { setting_of J.plan };
 
-    ghost pages = { J.pages };
+    ghost keeps = { J.keeps };
 
     ghost names = { J.names };
 }

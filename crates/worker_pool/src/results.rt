@@ -1,5 +1,5 @@
 //! What an ended run has found.
-ghost use Rattle.std.specs.Prelude.{◌≡◌, List, IfOk, IfErr};
+ghost use Rattle.std.specs.Prelude.{◌≡◌, true, List, IfOk, IfErr};
 ghost use Rattle.vlink.specs.Letters.{Row};
 ghost use Rattle.virtual_time.specs.Law.{steps};
 ghost use Rattle.journal.specs.declared.fault.PoolFault.TheVariants.{OutOfMemory};
@@ -21,10 +21,11 @@ use trace_tables::{Tables, batches_in_order, put_in_message_order, tables_by_pla
 use virtual_time::headline;
 use vlink::{Message, Note, Row, Step, Time};
 
-impl<'a, J: NetworkRun> Unlocked<'a, J> {
-    /// The steps of the run, in their order. It is refused for memory alone.
+impl<J: NetworkRun> Unlocked<J> {
+    /// The steps of the run, in their order, where its journal is kept. It is refused for memory alone.
     pub(crate) fn steps(&self, alloc: Global) -> Result<Vec<Step>, PoolFault>
-        requires { IsEnded J.plan self.now.exchange.entries self.now.helds.items }
+        requires ended { IsEnded J.plan self.now.exchange.entries self.now.helds.items }
+        requires keeps { J.keeps ≡ true }
         ensures journal { IfOk result (λ steps. IsJournalOf J.plan steps.items) }
         ensures memory { IfErr result (λ fault. fault ≡ OutOfMemory) }
     {

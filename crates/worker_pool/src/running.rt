@@ -1,8 +1,7 @@
 //! The run of a network by workers.
-ghost use Rattle.std.specs.Prelude.{◌≡◌, length, IsNone, IfOk, IfErr, IfSome};
+ghost use Rattle.std.specs.Prelude.{◌≡◌, true, length, IsNone, IfOk, IfErr, IfSome};
 ghost use Rattle.netdesc.specs.Words.{process_count};
 ghost use Rattle.journal.specs.declared.fault.PoolFault.TheVariants.{Exhausted, Spawn};
-ghost use Rattle.journal.specs.Names.{names};
 ghost use Rattle.trace_tables.specs.Tables.{tables_of};
 ghost use Rattle.seqsim.specs.Networks.{AreRowsOf};
 ghost use Rattle.worker_pool.specs.Outcomes.{CanWantWorkers, UsesUpNumbers};
@@ -16,11 +15,11 @@ use crate::network_run::NetworkRun;
 use crate::opening::open_network;
 use crate::pace::Pace;
 use crate::rounds::apart::Apart;
-use crate::shared::{MOST_STEPS, Shared};
+use crate::shared::{Shared, most_steps};
 use crate::workers::start_all;
 use actor_run::{Unwatched, Watch};
 use exchange::{Gate, Pairs};
-use journal::{Entries, PoolFault};
+use journal::PoolFault;
 use netdesc::Network;
 use std::alloc::Global;
 use std::marker::Brand;
@@ -38,11 +37,10 @@ pub struct Outcome {
     pub journal: Vec<Step>,
 }
 
-/// Runs a network by workers, over this table, until it is ended. The segments of the trace go to its lock, if there is one, and no batch is sent
+/// Runs a network by workers until it is ended, with a journal that is kept where `keeps` says so. The segments of the trace go to its lock, if there is one, and no batch is sent
 /// once the run is ended; without one no row leaves a process. Beside the run is the first fault of a segment that is not want of memory. The watch
 /// is shown GVT while the run goes on.
 pub(crate) fn run_to_end<
-    'a,
     J: NetworkRun + Send + Sync,
     G: Gate + Sync,
     T: Threads + Wait + Sync,
@@ -51,15 +49,15 @@ pub(crate) fn run_to_end<
     rt: &T,
     alloc: Global,
     network: &Network,
-    table: &'a Entries,
+    keeps: bool,
     pairs: Pairs,
     pace: &Pace,
     gate: &G,
     trace: Option<TraceLock<J>>,
     watch: &mut W,
-) -> Result<(Unlocked<'a, J>, Option<SegmentFault>), PoolFault>
+) -> Result<(Unlocked<J>, Option<SegmentFault>), PoolFault>
     requires network { network.now ≡ J.plan }
-    requires table { names table.now.pages.items ≡ J.pages }
+    requires keeps { keeps ≡ J.keeps }
     requires names { pairs ≡ J.names }
     requires each_name { length J.names ≡ process_count network.now }
     ensures ended { IfOk result (λ r. IsEnded J.plan r.0.exchange.entries r.0.helds.items) }
@@ -69,7 +67,7 @@ pub(crate) fn run_to_end<
     ensures spawn { IfErr result (λ fault. fault ≡ Spawn → CanWantWorkers pace.now.workers (process_count network.now)) }
     ensures watched { W.becomes watch.old watch.new }
 {
-    let (exchange, helds) = open_network::<J>(alloc, network, table, pairs, MOST_STEPS)?;
+    let (exchange, helds) = open_network::<J>(alloc, network, keeps, pairs, most_steps(keeps))?;
     let keeps_rows = trace.is_none();
     let locks = locks_of(alloc, network, helds, trace)?;
     let exchange = Mutex::new(Apart::new(Shared { inner: exchange }));
@@ -85,13 +83,12 @@ fn run_named<J: NetworkRun + Send + Sync, G: Gate + Sync, T: Threads + Wait + Sy
     rt: &T,
     alloc: Global,
     network: &Network,
-    table: &Entries,
     pairs: Pairs,
     pace: &Pace,
     gate: &G,
 ) -> Result<Outcome, PoolFault>
     requires network { network.now ≡ J.plan }
-    requires table { names table.now.pages.items ≡ J.pages }
+    requires keeps { J.keeps ≡ true }
     requires names { pairs ≡ J.names }
     requires each_name { length J.names ≡ process_count network.now }
     ensures rows { IfOk result (λ o. AreRowsOf J.plan o.rows.items) }
@@ -102,7 +99,7 @@ fn run_named<J: NetworkRun + Send + Sync, G: Gate + Sync, T: Threads + Wait + Sy
 {
     let watch = &mut Unwatched;
     let (ended, _none) = run_to_end::<J, G, T, Unwatched>(
-        rt, alloc, network, table, pairs, pace, gate, None, watch,
+        rt, alloc, network, true, pairs, pace, gate, None, watch,
     )?;
     let rows = ended.rows(alloc, network)?;
     let tables = Tables::of(alloc, network, &rows)?;
@@ -121,7 +118,7 @@ fn run_named<J: NetworkRun + Send + Sync, G: Gate + Sync, T: Threads + Wait + Sy
 ///
 /// `OutOfMemory`: a growth was refused. `Exhausted`: a process had not enough numbers left for what its next message can send, so that some run of
 /// the network uses up numbers. `JournalFull`: the run takes more than 2^26 steps. `Spawn`: a worker cannot be started, so it comes only where there
-/// are workers and a process. `Torn`: a cell of the table, which is made here, was set already. One worker's refusal ends the others at their next
+/// are workers and a process. `Torn` does not come. One worker's refusal ends the others at their next
 /// turn; of the faults of several the one with the least number is answered. Of a run that is refused nothing is left.
 pub fn run<G: Gate + Sync, T: Threads + Wait + Sync>(
     rt: &T,
@@ -136,7 +133,6 @@ pub fn run<G: Gate + Sync, T: Threads + Wait + Sync>(
     ensures exhausted { IfErr result (λ fault. fault ≡ Exhausted → UsesUpNumbers network.now) }
     ensures spawn { IfErr result (λ fault. fault ≡ Spawn → CanWantWorkers pace.workers (process_count network.now)) }
 {
-    let table = Entries::new(alloc)?;
     let pairs = Pairs::new(alloc, network.process_count())?;
-    run_named::<Brand, G, T>(rt, alloc, network, &table, pairs, &pace.that_goes(), gate)
+    run_named::<Brand, G, T>(rt, alloc, network, pairs, &pace.that_goes(), gate)
 }

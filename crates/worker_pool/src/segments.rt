@@ -23,9 +23,9 @@ use vlink::{GREATEST_NS, Time};
 /// - `segment`: it has just the rows of the process and of the interval that the one-thread run of the network has.
 /// - `some`: when there is one.
 /// - `given`: the next one begins where this one ends.
-pub fn next_segment<'a, J: NetworkRun>(
+pub fn next_segment<J: NetworkRun>(
     alloc: Global,
-    held: &mut Held<'a, Node, Of<J>>,
+    held: &mut Held<Node, Of<J>>,
     until: Time,
 ) -> Result<Option<Segment>, PoolFault>
     requires until { until ≡ J.plan.until }
@@ -65,9 +65,9 @@ fn interval_at(until: Time, moment: Time) -> Option<u64>
 }
 
 /// The segment of interval `k`, as a segment of run 0, if the interval is for good at the process, whose rows are there from its beginning on.
-fn sealed_segment<'a, J: NetworkRun>(
+fn sealed_segment<J: NetworkRun>(
     alloc: Global,
-    held: &Held<'a, Node, Of<J>>,
+    held: &Held<Node, Of<J>>,
     k: u64,
     until: Time,
 ) -> Result<Option<Segment>, AllocError>

@@ -16,18 +16,26 @@ use nodes::Node;
 use std::marker::Model;
 use vlink::Time;
 
-/// So many steps the journal of a run can have.
-pub(crate) const MOST_STEPS: u64 = 67_108_864;
+/// So many steps the journal of a run can have: 2^26 where it is kept, and 2^62 where it is not.
+pub(crate) fn most_steps(keeps: bool) -> u64
+    ensures { result ≡ most_steps keeps }
+{
+    if keeps {
+        67_108_864
+    } else {
+        4_611_686_018_427_387_904
+    }
+}
 
-/// The exchange of a run, whose journal can have `MOST_STEPS` steps.
+/// The exchange of a run, whose journal can have so many steps.
 ///
 /// Clauses see it as the exchange.
 #[derive(Drop)]
-pub(crate) struct Shared<'a, J: NetworkRun> {
-    pub inner: Exchange<'a, Node, Of<J>>,
+pub(crate) struct Shared<J: NetworkRun> {
+    pub inner: Exchange<Node, Of<J>>,
 }
 
-impl<'a, J: NetworkRun> Model for Shared<'a, J> {
+impl<J: NetworkRun> Model for Shared<J> {
     ghost use Rattle.std.specs.Prelude.{◌≡◌};
     ghost use Rattle.exchange.specs.Views.{Ledger};
     ghost use Rattle.worker_pool.specs.Runs.{most_steps};
@@ -36,10 +44,10 @@ impl<'a, J: NetworkRun> Model for Shared<'a, J> {
 
     ghost view = { λ s. s.inner };
 
-    ghost invariant = { λ s. s.inner.limit ≡ most_steps };
+    ghost invariant = { λ s. s.inner.limit ≡ most_steps J.keeps };
 }
 
-impl<'a, J: NetworkRun> Shared<'a, J> {
+impl<J: NetworkRun> Shared<J> {
     /// How many processes there are.
     pub(crate) fn processes(&self) -> u16
         ensures { result ≡ process_count J.plan }
@@ -48,7 +56,7 @@ impl<'a, J: NetworkRun> Shared<'a, J> {
     }
 
     /// The exchange.
-    pub(crate) fn lent(&self) -> &Exchange<'a, Node, Of<J>>
+    pub(crate) fn lent(&self) -> &Exchange<Node, Of<J>>
         ensures { result.now ≡ self.now }
     {
         &self.inner
@@ -56,8 +64,8 @@ impl<'a, J: NetworkRun> Shared<'a, J> {
 
     /// All letters in the mail of the process come to its tray. A process with a block, which a refusal left, takes none before that is posted.
     /// `JournalFull`: the steps would pass the most that a run can have.
-    pub(crate) fn take_letters(&mut self, locked: &mut Locked<'a, J>) -> Result<(), RunFault<J>>
-        ensures full { result ≡ Err JournalFull → most_steps < length (steps self.old.entries)
+    pub(crate) fn take_letters(&mut self, locked: &mut Locked<J>) -> Result<(), RunFault<J>>
+        ensures full { result ≡ Err JournalFull → most_steps J.keeps < length (steps self.old.entries)
             + length ((reach (simulation_of J.plan) self.old.entries).mail locked.old.number) }
         ensures no_spawn { IfErr result (λ fault. fault ≢ Spawn) }
     {
@@ -71,8 +79,8 @@ impl<'a, J: NetworkRun> Shared<'a, J> {
     }
 
     /// What the process did goes to the journal, and its letters to the mail. `JournalFull`: the steps would pass the most that a run can have.
-    pub(crate) fn give_block(&mut self, locked: &mut Locked<'a, J>) -> Result<(), RunFault<J>>
-        ensures full { result ≡ Err JournalFull → most_steps < length (steps self.old.entries) + length locked.old.block + 1 }
+    pub(crate) fn give_block(&mut self, locked: &mut Locked<J>) -> Result<(), RunFault<J>>
+        ensures full { result ≡ Err JournalFull → most_steps J.keeps < length (steps self.old.entries) + length locked.old.block + 1 }
         ensures no_spawn { IfErr result (λ fault. fault ≢ Spawn) }
     {
         match post(locked, &mut self.inner) {
@@ -83,7 +91,7 @@ impl<'a, J: NetworkRun> Shared<'a, J> {
 
     /// Sets GVT. The answer is GVT, in ns. `JournalFull`: there are as many steps as a run can have.
     pub(crate) fn set_gvt(&mut self) -> Result<Time, RunFault<J>>
-        ensures full { result ≡ Err JournalFull → most_steps ≤ length (steps self.old.entries) }
+        ensures full { result ≡ Err JournalFull → most_steps J.keeps ≤ length (steps self.old.entries) }
         ensures no_spawn { IfErr result (λ fault. fault ≢ Spawn) }
     {
         match publish(&mut self.inner) {
@@ -93,7 +101,7 @@ impl<'a, J: NetworkRun> Shared<'a, J> {
     }
 
     /// The fault of a process at its work. Where it lacks numbers, it does so in a run: after the steps of the journal and those of its block.
-    pub(crate) fn fault_of(&self, locked: &Locked<'a, J>, fault: PoolFault) -> RunFault<J>
+    pub(crate) fn fault_of(&self, locked: &Locked<J>, fault: PoolFault) -> RunFault<J>
         requires { fault ≡ Exhausted → LacksNumbers locked.now.part }
         ensures { result ≡ fault }
     {

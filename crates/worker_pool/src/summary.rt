@@ -3,7 +3,6 @@ ghost use Rattle.std.specs.Prelude.{◌≡◌, List, length, IfOk, IfErr};
 ghost use Rattle.vlink.specs.Letters.{Row};
 ghost use Rattle.netdesc.specs.Words.{process_count};
 ghost use Rattle.journal.specs.declared.fault.PoolFault.TheVariants.{OutOfMemory, Exhausted, Spawn};
-ghost use Rattle.journal.specs.Names.{names};
 ghost use Rattle.trace_tables.specs.Tables.{tables_of};
 ghost use Rattle.seqsim.specs.Networks.{AreRowsOf};
 ghost use Rattle.worker_pool.specs.Outcomes.{CanWantWorkers, UsesUpNumbers};
@@ -16,7 +15,7 @@ use crate::pace::Pace;
 use crate::running::run_to_end;
 use actor_run::Watch;
 use exchange::{Gate, Pairs};
-use journal::{Entries, PoolFault};
+use journal::PoolFault;
 use netdesc::Network;
 use std::alloc::Global;
 use std::marker::Brand;
@@ -32,7 +31,7 @@ pub struct Summary {
     pub journal: Vec<Step>,
 }
 
-impl<'a, J: NetworkRun> Unlocked<'a, J> {
+impl<J: NetworkRun> Unlocked<J> {
     /// The tables of an ended run, of which so much is counted, and its steps where they are asked for.
     pub(crate) fn summary(
         &self,
@@ -44,6 +43,7 @@ impl<'a, J: NetworkRun> Unlocked<'a, J> {
         requires network { network.now ≡ J.plan }
         requires ended { IsEnded J.plan self.now.exchange.entries self.now.helds.items }
         requires counted { HaveGoneBy counted.end self.now.helds.items }
+        requires keeps { with_steps ≡ J.keeps }
         ensures tables { IfOk result (λ s. (rows : List Row) × AreRowsOf J.plan rows × (s.tables ≡ tables_of J.plan rows)) }
         ensures each { IfOk result (λ s. (rows : List Row) → AreRowsOf J.plan rows → s.tables ≡ tables_of J.plan rows) }
         ensures journal { IfOk result (λ s. IsJournalAsked J.plan with_steps s.journal.items) }
@@ -56,7 +56,8 @@ impl<'a, J: NetworkRun> Unlocked<'a, J> {
 
     /// The steps of an ended run, or none where they are not asked for.
     fn steps_asked(&self, alloc: Global, with_steps: bool) -> Result<Vec<Step>, PoolFault>
-        requires { IsEnded J.plan self.now.exchange.entries self.now.helds.items }
+        requires ended { IsEnded J.plan self.now.exchange.entries self.now.helds.items }
+        requires keeps { with_steps ≡ J.keeps }
         ensures asked { IfOk result (λ steps. IsJournalAsked J.plan with_steps steps.items) }
         ensures memory { IfErr result (λ fault. fault ≡ OutOfMemory) }
     {
@@ -72,7 +73,6 @@ fn summary_named<J: NetworkRun + Send + Sync, G: Gate + Sync, T: Threads + Wait 
     rt: &T,
     alloc: Global,
     network: &Network,
-    table: &Entries,
     pairs: Pairs,
     pace: &Pace,
     with_steps: bool,
@@ -80,7 +80,7 @@ fn summary_named<J: NetworkRun + Send + Sync, G: Gate + Sync, T: Threads + Wait 
     watch: &mut W,
 ) -> Result<Summary, PoolFault>
     requires network { network.now ≡ J.plan }
-    requires table { names table.now.pages.items ≡ J.pages }
+    requires keeps { with_steps ≡ J.keeps }
     requires names { pairs ≡ J.names }
     requires each_name { length J.names ≡ process_count network.now }
     ensures tables { IfOk result (λ s. (rows : List Row) × AreRowsOf J.plan rows × (s.tables ≡ tables_of J.plan rows)) }
@@ -91,7 +91,7 @@ fn summary_named<J: NetworkRun + Send + Sync, G: Gate + Sync, T: Threads + Wait 
     ensures watched { W.becomes watch.old watch.new }
 {
     let (ended, _none) = run_to_end::<J, G, T, W>(
-        rt, alloc, network, table, pairs, pace, gate, None, watch,
+        rt, alloc, network, with_steps, pairs, pace, gate, None, watch,
     )?;
     let counted = Counted::none(alloc, network)?;
     ended.summary(alloc, network, counted, with_steps)
@@ -115,13 +115,11 @@ pub fn run_summary<G: Gate + Sync, T: Threads + Wait + Sync, W: Watch>(
     ensures spawn { IfErr result (λ fault. fault ≡ Spawn → CanWantWorkers pace.workers (process_count network.now)) }
     ensures watched { W.becomes watch.old watch.new }
 {
-    let table = Entries::new(alloc)?;
     let pairs = Pairs::new(alloc, network.process_count())?;
     summary_named::<Brand, G, T, W>(
         rt,
         alloc,
         network,
-        &table,
         pairs,
         &pace.that_goes(),
         with_steps,

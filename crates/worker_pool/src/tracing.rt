@@ -4,7 +4,6 @@ ghost use Rattle.std.specs.Io.KnownBytes.{append_known};
 ghost use Rattle.vlink.specs.Letters.{Row};
 ghost use Rattle.netdesc.specs.Words.{process_count};
 ghost use Rattle.journal.specs.declared.fault.PoolFault.TheVariants.{Exhausted};
-ghost use Rattle.journal.specs.Names.{names};
 ghost use Rattle.trace_segments.specs.declared.fault.OutFault.TheVariants.{Device};
 ghost use Rattle.trace_segments.specs.declared.trace_fault.TraceFault.TheVariants.{Out};
 ghost use Rattle.trace_segments.specs.Words.{IsBeginning, trace_text};
@@ -27,7 +26,7 @@ use crate::writing::{Writing, write_batches};
 use actor_run::Watch;
 use crossbeam_channel::bounded;
 use exchange::{Gate, Pairs};
-use journal::{Entries, PoolFault};
+use journal::PoolFault;
 use netdesc::Network;
 use std::alloc::Global;
 use std::marker::Brand;
@@ -51,12 +50,13 @@ pub struct Traced<S> {
 fn traced_of<'a, J: NetworkRun, K: TraceRun, S: Sink + Drop>(
     alloc: Global,
     network: &Network,
-    ran: Result<(Unlocked<'_, J>, Option<SegmentFault>), PoolFault>,
+    ran: Result<(Unlocked<J>, Option<SegmentFault>), PoolFault>,
     writing: Writing<'a, J, K, S>,
     counted: Counted<J>,
     with_steps: bool,
 ) -> Result<Traced<S>, PoolFault>
     requires network { network.now ≡ J.plan }
+    requires keeps { with_steps ≡ J.keeps }
     requires ended { IfOk ran (λ r. IsEnded J.plan r.0.exchange.entries r.0.helds.items) }
     requires fault { IfOk ran (λ r. IfSome r.1 IsPlaceFault) }
     requires exhausted { IfErr ran (λ fault. fault ≡ Exhausted → UsesUpNumbers J.plan) }
@@ -91,7 +91,6 @@ fn traced_named<
     rt: &T,
     alloc: Global,
     network: &Network,
-    table: &Entries,
     pairs: Pairs,
     pace: &Pace,
     with_steps: bool,
@@ -100,7 +99,7 @@ fn traced_named<
     watch: W,
 ) -> (Result<Traced<S>, PoolFault>, W)
     requires network { network.now ≡ J.plan }
-    requires table { names table.now.pages.items ≡ J.pages }
+    requires keeps { with_steps ≡ J.keeps }
     requires names { pairs ≡ J.names }
     requires each_name { length J.names ≡ process_count network.now }
     requires taken { S.taken sink ≡ K.taken }
@@ -127,7 +126,7 @@ fn traced_named<
         rt,
         |scope| -> (Result<Traced<S>, PoolFault>, W)
             requires network { network.now ≡ J.plan }
-            requires table { names table.now.pages.items ≡ J.pages }
+            requires keeps { with_steps ≡ J.keeps }
             requires names { pairs ≡ J.names }
             requires each_name { length J.names ≡ process_count network.now }
             requires counted { IfSome counted.tables (AreCountedBefore J.plan counted.end) }
@@ -147,7 +146,7 @@ fn traced_named<
                 rt,
                 alloc,
                 network,
-                table,
+                with_steps,
                 pairs,
                 pace,
                 gate,
@@ -199,13 +198,11 @@ pub fn run_traced<S: Sink + Drop + Send, G: Gate + Sync, T: Threads + Wait + Syn
     ensures exhausted { IfErr result (λ fault. fault ≡ Exhausted → UsesUpNumbers network.now) }
     ensures watched { W.becomes watch.old watch.new }
 {
-    let table = Entries::new(alloc)?;
     let pairs = Pairs::new(alloc, network.process_count())?;
     let (traced, _watch) = traced_named::<Brand, Brand, S, G, T, &mut W>(
         rt,
         alloc,
         network,
-        &table,
         pairs,
         &pace.that_goes(),
         with_steps,

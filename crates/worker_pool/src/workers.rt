@@ -30,7 +30,6 @@ use vlink::Time;
 /// A refusal to one worker ends the others at their next turn. All of them are joined, and the answer is the least fault of what they ended
 /// with, and of the start. `Spawn`: a worker cannot be started. While they run, the calling thread shows the watch GVT; it is given back.
 pub(crate) fn start_all<
-    'a,
     J: NetworkRun + Send + Sync,
     G: Gate + Sync,
     T: Threads + Wait + Sync,
@@ -39,8 +38,8 @@ pub(crate) fn start_all<
     rt: &T,
     alloc: Global,
     network: &Network,
-    locks: &Locks<'a, J>,
-    exchange: &ExchangeLock<'a, J>,
+    locks: &Locks<J>,
+    exchange: &ExchangeLock<J>,
     pace: &Pace,
     gate: &G,
     watch: W,
@@ -132,13 +131,13 @@ fn lists_of<T: Threads>(rt: &T, workers: usize) -> usize {
 }
 
 /// A worker gives turns until the run is over or a refusal ends it. One of its own ends the others at their next turn.
-fn work<'s, 'a, J: NetworkRun, G: Gate, T: Wait>(
+fn work<'s, J: NetworkRun, G: Gate, T: Wait>(
     rt: &'s T,
     alloc: Global,
     picker: Picker<J>,
     schedule: &'s Schedule<J>,
-    locks: &'s Locks<'a, J>,
-    exchange: &'s ExchangeLock<'a, J>,
+    locks: &'s Locks<J>,
+    exchange: &'s ExchangeLock<J>,
     pace: &'s Pace,
     gate: &'s G,
     stop: &'s AtomicBool,

@@ -19,16 +19,16 @@ use std::sync::{Mutex, MutexGuard, Wait};
 use vlink::Time;
 
 /// The processes that a worker holds, each by its lock, which it took without waiting for it.
-pub(crate) type Batch<'s, 'a, J> = Vec<MutexGuard<'s, Locked<'a, J>>>;
+pub(crate) type Batch<'s, J> = Vec<MutexGuard<'s, Locked<J>>>;
 
 /// The lock of the exchange.
-pub(crate) type ExchangeLock<'a, J> = Mutex<Apart<Shared<'a, J>>>;
+pub(crate) type ExchangeLock<J> = Mutex<Apart<Shared<J>>>;
 
 /// All letters in the mail of each process come to its tray, in one section of the exchange.
-pub(crate) fn collect_for<'s, 'a, J: NetworkRun, T: Wait>(
+pub(crate) fn collect_for<'s, J: NetworkRun, T: Wait>(
     rt: &T,
-    batch: &mut Batch<'s, 'a, J>,
-    lock: &ExchangeLock<'a, J>,
+    batch: &mut Batch<'s, J>,
+    lock: &ExchangeLock<J>,
 ) -> Result<(), RunFault<J>> {
     let mut exchange = locked_soon(rt, lock);
     for locked in batch.iter_mut() {
@@ -38,10 +38,10 @@ pub(crate) fn collect_for<'s, 'a, J: NetworkRun, T: Wait>(
 }
 
 /// What each process did goes to the journal, and its letters to the mail, in one section of the exchange.
-pub(crate) fn post_for<'s, 'a, J: NetworkRun, T: Wait>(
+pub(crate) fn post_for<'s, J: NetworkRun, T: Wait>(
     rt: &T,
-    batch: &mut Batch<'s, 'a, J>,
-    lock: &ExchangeLock<'a, J>,
+    batch: &mut Batch<'s, J>,
+    lock: &ExchangeLock<J>,
 ) -> Result<(), RunFault<J>> {
     let mut exchange = locked_soon(rt, lock);
     for locked in batch.iter_mut() {
@@ -64,8 +64,8 @@ fn locked_soon<'b, V, T: Wait>(rt: &T, lock: &'b Mutex<V>) -> MutexGuard<'b, V> 
 }
 
 /// The process works on its events before the limit, in ns, no further ahead of the GVT that it saw than the window.
-pub(crate) fn work_to<'a, J: NetworkRun, G: Gate>(
-    locked: &mut Locked<'a, J>,
+pub(crate) fn work_to<J: NetworkRun, G: Gate>(
+    locked: &mut Locked<J>,
     limit_ns: u64,
     pace: &Pace,
     gate: &G,
@@ -81,9 +81,9 @@ pub(crate) fn work_to<'a, J: NetworkRun, G: Gate>(
 
 /// Lists whom a process calls that has worked and has not yet posted: the receiver of each of its letters, and itself where it has a message
 /// to handle.
-pub(crate) fn list_calls<'a, J: NetworkRun>(
+pub(crate) fn list_calls<J: NetworkRun>(
     calls: &mut Vec<Call>,
-    locked: &Locked<'a, J>,
+    locked: &Locked<J>,
 ) -> Result<(), AllocError> {
     for letter in locked.outbox() {
         add_call(

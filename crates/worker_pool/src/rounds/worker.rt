@@ -19,7 +19,7 @@ use std::{hint, thread};
 
 /// What a worker has for itself, and what it shares with the others.
 #[derive(Drop)]
-pub(crate) struct Worker<'s, 'a, J: NetworkRun, G: Gate, T: Wait> {
+pub(crate) struct Worker<'s, J: NetworkRun, G: Gate, T: Wait> {
     pub rt: &'s T,
     pub picker: Picker<J>,
     /// Whom the processes called that worked last.
@@ -29,18 +29,18 @@ pub(crate) struct Worker<'s, 'a, J: NetworkRun, G: Gate, T: Wait> {
     /// How often it has looked in vain since.
     pub looks: u64,
     pub schedule: &'s Schedule<J>,
-    pub locks: &'s Locks<'a, J>,
-    pub exchange: &'s ExchangeLock<'a, J>,
+    pub locks: &'s Locks<J>,
+    pub exchange: &'s ExchangeLock<J>,
     pub pace: &'s Pace,
     pub gate: &'s G,
     /// Is set where a refusal ends all workers.
     pub stop: &'s AtomicBool,
 }
 
-impl<'s, 'a, J: NetworkRun, G: Gate, T: Wait> Worker<'s, 'a, J, G, T> {
+impl<'s, J: NetworkRun, G: Gate, T: Wait> Worker<'s, J, G, T> {
     /// A turn for the worker's first process, and then round after round, until the run is over or the flag is set. It holds processes in this
     /// list, which is empty.
-    pub(crate) fn turns(&mut self, batch: &mut Batch<'s, 'a, J>) -> Result<(), RunFault<J>> {
+    pub(crate) fn turns(&mut self, batch: &mut Batch<'s, J>) -> Result<(), RunFault<J>> {
         let rt = self.rt;
         self.first_turn(batch)?;
         for _ in rt.forever() {
@@ -62,7 +62,7 @@ impl<'s, 'a, J: NetworkRun, G: Gate, T: Wait> Worker<'s, 'a, J, G, T> {
     }
 
     /// A turn for the process that has the worker's number, counted round and round, unless another worker has it.
-    fn first_turn(&mut self, batch: &mut Batch<'s, 'a, J>) -> Result<(), RunFault<J>> {
+    fn first_turn(&mut self, batch: &mut Batch<'s, J>) -> Result<(), RunFault<J>> {
         let process = self.picker.worker % self.locks.locks.len().max(1);
         let limit_ns = self.schedule.limit_ns(self.pace.window_ns);
         if let Some(hint) = self.schedule.hint_at(process) {
@@ -74,7 +74,7 @@ impl<'s, 'a, J: NetworkRun, G: Gate, T: Wait> Worker<'s, 'a, J, G, T> {
     }
 
     /// Turns for those processes of its list that are due; where there is none, for some of the others. The answer is whether there were any.
-    fn round(&mut self, batch: &mut Batch<'s, 'a, J>) -> Result<bool, RunFault<J>> {
+    fn round(&mut self, batch: &mut Batch<'s, J>) -> Result<bool, RunFault<J>> {
         let limit_ns = self.schedule.limit_ns(self.pace.window_ns);
         self.schedule.look(&mut self.picker, limit_ns);
         let mut has_turned = false;
@@ -99,7 +99,7 @@ impl<'s, 'a, J: NetworkRun, G: Gate, T: Wait> Worker<'s, 'a, J, G, T> {
     }
 
     /// Holds processes of its own hints, as long as there are any and it holds fewer than `HELD`.
-    fn hold_own(&mut self, batch: &mut Batch<'s, 'a, J>, limit_ns: u64) -> Result<(), AllocError> {
+    fn hold_own(&mut self, batch: &mut Batch<'s, J>, limit_ns: u64) -> Result<(), AllocError> {
         for tried in 0..self.locks.locks.len() {
             if batch.len() >= HELD {
                 return Ok(());
@@ -116,11 +116,7 @@ impl<'s, 'a, J: NetworkRun, G: Gate, T: Wait> Worker<'s, 'a, J, G, T> {
     }
 
     /// Holds processes of hints that it steals; without one, and where it has looked in vain for a while, any one that is due.
-    fn hold_others(
-        &mut self,
-        batch: &mut Batch<'s, 'a, J>,
-        limit_ns: u64,
-    ) -> Result<(), AllocError> {
+    fn hold_others(&mut self, batch: &mut Batch<'s, J>, limit_ns: u64) -> Result<(), AllocError> {
         for stolen in 0..STOLEN {
             match self.schedule.steal(self.picker.worker) {
                 Some(hint) => self.hold_other(batch, &hint, limit_ns)?,
@@ -134,7 +130,7 @@ impl<'s, 'a, J: NetworkRun, G: Gate, T: Wait> Worker<'s, 'a, J, G, T> {
     }
 
     /// Holds the first process behind its list that is due and free.
-    fn hold_any(&mut self, batch: &mut Batch<'s, 'a, J>, limit_ns: u64) -> Result<(), AllocError> {
+    fn hold_any(&mut self, batch: &mut Batch<'s, J>, limit_ns: u64) -> Result<(), AllocError> {
         for passed in 0..self.locks.locks.len() {
             if let Some(hint) = self.schedule.due_behind(&self.picker, passed, limit_ns) {
                 self.hold_other(batch, &hint, limit_ns)?;
@@ -149,7 +145,7 @@ impl<'s, 'a, J: NetworkRun, G: Gate, T: Wait> Worker<'s, 'a, J, G, T> {
     /// Holds the process of a hint that is not of its list, if it is due and free.
     fn hold_other(
         &self,
-        batch: &mut Batch<'s, 'a, J>,
+        batch: &mut Batch<'s, J>,
         hint: &Hint<J>,
         limit_ns: u64,
     ) -> Result<(), AllocError> {
@@ -161,7 +157,7 @@ impl<'s, 'a, J: NetworkRun, G: Gate, T: Wait> Worker<'s, 'a, J, G, T> {
     }
 
     /// Holds the process of a hint, if it is free. The answer is whether it is.
-    fn is_held(&self, batch: &mut Batch<'s, 'a, J>, hint: &Hint<J>) -> Result<bool, AllocError> {
+    fn is_held(&self, batch: &mut Batch<'s, J>, hint: &Hint<J>) -> Result<bool, AllocError> {
         let locks = self.locks;
         match locks.locks[usize::from(hint.process)].try_lock() {
             Some(locked) => {
@@ -175,11 +171,7 @@ impl<'s, 'a, J: NetworkRun, G: Gate, T: Wait> Worker<'s, 'a, J, G, T> {
 
     /// Turns of the processes that it holds, up to the limit, in ns; what the workers tell one another of them, and the segments of the trace that
     /// they can give. Then it holds none. Where the flag is set they get no turn.
-    fn give_turns(
-        &mut self,
-        batch: &mut Batch<'s, 'a, J>,
-        limit_ns: u64,
-    ) -> Result<(), RunFault<J>> {
+    fn give_turns(&mut self, batch: &mut Batch<'s, J>, limit_ns: u64) -> Result<(), RunFault<J>> {
         if self.stop.load(Ordering::SeqCst) {
             batch.clear();
             return Ok(());
@@ -199,7 +191,7 @@ impl<'s, 'a, J: NetworkRun, G: Gate, T: Wait> Worker<'s, 'a, J, G, T> {
     }
 
     /// The process works on its events before the limit, in ns. At a refusal the exchange tells whether numbers are used up.
-    fn work(&self, locked: &mut Locked<'a, J>, limit_ns: u64) -> Result<(), RunFault<J>> {
+    fn work(&self, locked: &mut Locked<J>, limit_ns: u64) -> Result<(), RunFault<J>> {
         match work_to(locked, limit_ns, self.pace, self.gate) {
             Ok(()) => Ok(()),
             Err(fault) => Err(self.exchange.lock(self.rt).value.fault_of(locked, fault)),
@@ -209,7 +201,7 @@ impl<'s, 'a, J: NetworkRun, G: Gate, T: Wait> Worker<'s, 'a, J, G, T> {
     /// The segments of the trace that the processes can give go to its desk.
     fn give_segments(
         &mut self,
-        batch: &mut Batch<'s, 'a, J>,
+        batch: &mut Batch<'s, J>,
         limit_ns: u64,
     ) -> Result<(), RunFault<J>> {
         let Some(trace) = &self.locks.trace else {

@@ -1,9 +1,11 @@
-use Rattle.std.proofs.Common.{◌≡◌, ◌≤◌, map, length, take, Ok, sym, ap, ◌∙◌, arith}
+use Rattle.std.proofs.Common.{◌≡◌, ◌≤◌, [], ◌∷◌, ◌++◌, map, length, take, Ok, Some, refl, sym, ap, ◌∙◌, arith}
 use Rattle.antimessages.specs.Mailing.{letters_for}
 use Rattle.virtual_time.specs.Law.{Took}
 use Rattle.process_queues.specs.Queues.{Queues}
 use Rattle.halves.specs.declared.LeftHalf.{LeftHalf}
-use Rattle.exchange.specs.declared.mark.Mark.{Mark}
+use Rattle.journal.specs.Deeds.{prior_own, place_of}
+use Rattle.exchange.specs.declared.mark.Standing.{Standing}
+use Rattle.exchange.proofs.Collected.{kept-refused}
 use Rattle.exchange.proofs.Growth.{entry-fresh}
 use Rattle.exchange.proofs.Entered.{Entered}
 use Rattle.exchange.proofs.Outcomes.{when-no-err}
@@ -19,51 +21,65 @@ took g c =
     let room : c.min-count.result ≤ c.reserve_letters.new.self.room = when-no-err c.reserve_letters.result (sym c.is_err.ensures.value ∙ c.if-is_err.false) c.reserve_letters.ensures.room in
     all-taken c.collect-taken.result c.collect-taken.ensures.reserved room within c.collect-taken.ensures.count
 
--- its entry is in the journal, and both marks name it
+-- its entry is in the journal, and both halves tell it
 entered : (g : Over) (c : After-tell_both g) →
-    Entered g.J.ActorRun.pages c.exchange.inside.journal.items (map (λ (b : LeftHalf Mark). b.value) c.exchange.inside.marks.items)
-    c.held.inside.number c.exchange.inside.gvt c.held.inside.last (Took (take c.min-count.result (letters_for c.held.inside.number c.exchange.inside.mail)))
-    c.write.new.journal.items (map (λ (b : LeftHalf Mark). b.value) c.tell_both.new.marks.items) (record { number = c.len-place.result; tokens = c.in-Ok.tokens })
+    Entered c.exchange.inside.journal.entries (map (λ (b : LeftHalf Standing). b.value) c.exchange.inside.marks.items)
+    c.held.inside.number c.held.inside.standing.last (Took (take c.min-count.result (letters_for c.held.inside.number c.exchange.inside.mail)))
+    c.push_reserved.new.self.entries (map (λ (b : LeftHalf Standing). b.value) c.tell_both.new.marks.items) (record { last = c.after.result; seen = c.exchange.inside.gvt })
 entered g c =
-    let entry = rw (sym c.held.view_is) at c.entry_of-entry.ensures in
+    let entry = c.entry_of-entry.ensures in
+    let prior = entry.prior ∙ c.replace-prior.ensures.value in
     let mine = rw (sym c.held.view_is, sym c.exchange.view_is) at c.join.ensures.own in
+    let journal = c.reserve.ensures.entries in
     record {
+      entry = c.entry_of-entry.result;
       mine = mine;
-      fresh = entry-fresh c.exchange.invariant.2.same c.in-Ok.ensures.at c.in-Ok.ensures.value entry.process entry.place (entry.own ∙ mine) entry.deed entry.within_mail;
-      journal = c.in-Ok.ensures.journal;
-      place = c.len-place.ensures ∙ c.exchange.inside.journal.ok.0;
+      fresh = entry-fresh entry.process (ap place_of prior) (ap prior_own prior ∙ mine) entry.deed entry.within_mail;
+      journal = c.push_reserved.ensures.entries ∙ ap (λ es. es ++ c.entry_of-entry.result ∷ []) journal;
+      place = c.after.ensures.place ∙ ap (λ n. Some n) (c.len-place.ensures ∙ ap length journal);
+      own = c.after.ensures.own;
       marked = c.tell_both.ensures.marks;
     }
 
 pub invariant_of-exchange : goal.invariant_of-exchange
-invariant_of-exchange g c =
-    let at = goal.at.invariant_of-exchange g c in
+invariant_of-exchange g c = (
+  c.exchange.invariant.0,
+  c.exchange.invariant.1,
+  kept-refused c.exchange.invariant.2 c.reserve.new.self.entries c.reserve.ensures.entries c.exchange.inside.mail refl (λ q. refl),
+  c.exchange.invariant.3,
+  c.reserve.ensures.keeps ∙ c.exchange.invariant.4,
+)
+
+pub invariant_of-exchange-2 : goal.invariant_of-exchange-2
+invariant_of-exchange-2 g c =
+    let at = goal.at.invariant_of-exchange-2 g c in
     let taken = c.collect-taken.ensures in
     let floors = c.lower_floor.ensures in (
       omega arith,
       c.exchange.invariant.1,
-      kept-taken c.exchange.invariant.2 c.held.invariant.0 c.min-count.result (omega arith) (omega arith) (entered g at.After-tell_both)
+      kept-taken c.exchange.invariant.2 c.held.invariant.0 c.min-count.result (omega arith) (omega arith) (entered g at.After-tell_both) refl
           c.collect-taken.new.mail taken.processes (rw (took g at.After-collect-taken) at taken.left) taken.others
           c.lower_floor.new.floors floors.processes floors.until floors.floor floors.others,
       c.tell_both.ensures.names ∙ c.exchange.invariant.3,
+      c.push_reserved.ensures.keeps ∙ (c.reserve.ensures.keeps ∙ c.exchange.invariant.4),
     )
 
-pub invariant_of-held-in-Ok : goal.invariant_of-held-in-Ok
-invariant_of-held-in-Ok g c =
-    let at = goal.at.invariant_of-held-in-Ok g c in
+pub invariant_of-held-2 : goal.invariant_of-held-2
+invariant_of-held-2 g c =
+    let at = goal.at.invariant_of-held-2 g c in
     let taken = rw (took g at.After-collect-taken) at c.collect-taken.ensures.delivered in
     let queues = rw (took g at.After-collect-taken) at c.collect-taken.ensures.queues in (
-      holds-taken c.exchange.invariant.2 c.held.invariant.0 c.min-count.result (omega arith) (omega arith) (entered g at.After-tell_both)
-          (rw (sym c.held.view_is) at c.requires.posted) (invariant_of-exchange g c).2 (c.actor_laws.ensures g.J.ActorRun.setting c.exchange.invariant.2.laid) (omega arith)
+      holds-taken c.exchange.invariant.2 c.held.invariant.0 c.min-count.result (omega arith) (omega arith) (entered g at.After-tell_both) refl
+          (rw (sym c.held.view_is) at c.requires.posted) (invariant_of-exchange-2 g c).2 (c.actor_laws.ensures g.J.ActorRun.setting c.exchange.invariant.2.laid)
           c.reserve_letters.new.self.queues c.collect-taken.new.self.queues c.reserve_letters.ensures.same taken
           (ap (λ (z : Queues g.row.R.Denot g.row.R-Record.Denot). z.left) queues),
       record { name = c.tell_both.ensures.name ∙ c.held.invariant.1.name; value = c.tell_both.ensures.mark },
     )
 
-pub returns-in-Ok-clause-ok : goal.returns-in-Ok-clause-ok
-returns-in-Ok-clause-ok g c =
-    let at = goal.at.returns-in-Ok-clause-ok g c in
+pub returns-clause-ok : goal.returns-clause-ok
+returns-clause-ok g c =
+    let at = goal.at.returns-clause-ok g c in
     let none = rw (sym c.held.view_is) at c.requires.posted in
     rw (sym c.held.view_is, sym c.exchange.view_is)
-    (collects-taken c.exchange.invariant.2 c.held.invariant.0 c.min-count.result (omega arith) (omega arith) (entered g at.After-tell_both)
+    (collects-taken c.exchange.invariant.2 c.held.invariant.0 c.min-count.result (omega arith) (omega arith) (entered g at.After-tell_both) refl
     none c.args.most c.exchange.inside.limit (omega arith))

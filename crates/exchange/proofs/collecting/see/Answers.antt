@@ -1,15 +1,18 @@
 use Rattle.std.proofs.Common.{List, [], refl, sym, ap, ◌∙◌, subst, arith, map, set}
+use Rattle.std.proofs.lemmas.List.{map-set}
 use Rattle.virtual_time.specs.Law.{after_moves, after_own}
 use Rattle.reverse.specs.Rules.{rules_of}
 use Rattle.reverse.specs.Setting.{simulation_of}
 use Rattle.process_queues.specs.Queues.{StandsFor}
+use Rattle.journal.specs.Deeds.{prior_own, place_of}
 use Rattle.halves.specs.declared.LeftHalf.{LeftHalf}
-use Rattle.exchange.specs.declared.mark.Mark.{Mark}
-use Rattle.journal.specs.Names.{names}
-use Rattle.exchange.specs.Keeps.{AreMarked, entries_of, own_of}
+use Rattle.exchange.specs.declared.mark.Standing.{Standing}
+use Rattle.exchange.specs.Views.{mark_in, marks_in}
+use Rattle.exchange.specs.Keeps.{AreMarked, entries_of}
 use Rattle.exchange.specs.Effects.{mark_at}
 use Rattle.exchange.proofs.Gone.{gone-stays}
-use Rattle.exchange.proofs.Holding.{holds-at, holds-seen}
+use Rattle.exchange.proofs.Holding.{holds-seen}
+use Rattle.exchange.proofs.Joining.{place-is}
 use Rattle.exchange.proofs.Collected.{marks-seen, kept-as}
 use Rattle.exchange.proofs.collecting.see.Goals as goal
 
@@ -19,15 +22,15 @@ invariant_of-exchange g c =
     let h = c.held.invariant.0 in
     let p = c.held.inside.number in
     let fits = rw (sym c.held.view_is, sym c.exchange.view_is) at c.join.ensures.same in
-    let mark = rw (sym c.held.view_is) at c.mark.ensures in
-    let m : Mark = record { place = c.mark.result.place; seen = c.exchange.inside.gvt } in
-    let place = ap (λ (z : Mark). z.place) mark ∙ ap (λ (z : Mark). z.place) fits in (
+    let mine = rw (sym c.held.view_is, sym c.exchange.view_is) at c.join.ensures.own in
+    let s : Standing = record { last = c.held.inside.standing.last; seen = c.exchange.inside.gvt } in (
       c.exchange.invariant.0,
       c.exchange.invariant.1,
       kept-as k c.exchange.inside.mail refl (λ q. refl) _
-          (subst (λ (bs : List Mark). AreMarked g.J.ActorRun.setting.processes c.exchange.inside.journal.items c.exchange.inside.gvt bs) (sym c.tell_both.ensures.marks)
-          (marks-seen k.marked p (omega arith) m place (omega arith))),
+          (subst (λ (bs : List Standing). AreMarked g.J.ActorRun.setting.processes (entries_of c.exchange.inside.journal.entries) c.exchange.inside.gvt bs) (sym c.tell_both.ensures.marks)
+          (marks-seen k.marked p h.number_is s (place-is k h.number_is c.held.inside.standing fits) mine (omega arith))),
       c.tell_both.ensures.names ∙ c.exchange.invariant.3,
+      c.exchange.invariant.4,
     )
 
 pub invariant_of-held : goal.invariant_of-held
@@ -39,24 +42,23 @@ invariant_of-held g c =
     let p = c.held.inside.number in
     let none = rw (sym c.held.view_is) at c.requires.posted in
     let mine = rw (sym c.held.view_is, sym c.exchange.view_is) at c.join.ensures.own in
-    let mark-place = ap (λ (z : Mark). z.place) (rw (sym c.held.view_is) at c.mark.ensures) in
-    let base = after_own (simulation_of r x) p (own_of c.held.inside.last) in (
-      holds-at (holds-seen k (c.actor_laws.ensures x k.laid) g.R.Reversible.is_value p h.number_is c.held.inside.last h.last_is mine c.held.inside.process.queues
+    let base = after_own (simulation_of r x) p (prior_own c.held.inside.standing.last) in (
+      holds-seen k (c.actor_laws.ensures x k.laid) g.R.Reversible.is_value p h.number_is c.held.inside.standing.last mine c.held.inside.process.queues
           (subst (λ b. StandsFor r g.R.Reversible.is_value (x.opening p) (after_moves r (x.opening p) b base) c.held.inside.process.queues) none h.stands)
           c.held.inside.gone
           (gone-stays r (x.opening p) (after_moves r (x.opening p) c.held.inside.block base) c.held.inside.process.queues h.stands c.held.inside.gone h.gone_early [] base
           (sym (ap (λ b. after_moves r (x.opening p) b base) none)) c.held.inside.process.queues refl)
-          c.held.inside.block none) (names c.held.inside.table.now.pages.items) h.same,
-      record { name = c.tell_both.ensures.name ∙ c.held.invariant.1.name; value = c.tell_both.ensures.mark ∙ (λ i. record { place = mark-place i; seen = c.exchange.inside.gvt }) },
+          c.held.inside.block none,
+      record { name = c.tell_both.ensures.name ∙ c.held.invariant.1.name; value = c.tell_both.ensures.mark },
     )
 
 pub returns-clause-exchange : goal.returns-clause-exchange
 returns-clause-exchange g c =
     let k = c.exchange.invariant.2 in
-    let marks = c.exchange.inside.marks.items in
-    let mark-place = ap (λ (z : Mark). z.place) (rw (sym c.held.view_is) at c.mark.ensures) in
+    let marks = map (λ (b : LeftHalf Standing). b.value) c.exchange.inside.marks.items in
+    let s : Standing = record { last = c.held.inside.standing.last; seen = c.exchange.inside.gvt } in
     rw (sym c.held.view_is, sym c.exchange.view_is) (λ i. record {
-      entries = entries_of c.exchange.inside.journal.items;
-      marks = (c.tell_both.ensures.marks ∙ (λ j. set (map (λ (b : LeftHalf Mark). b.value) marks) c.held.inside.number (mark_at (mark-place j) (k.gvt_is j)))) i;
+      entries = entries_of c.exchange.inside.journal.entries;
+      marks = (ap marks_in c.tell_both.ensures.marks ∙ (map-set mark_in marks c.held.inside.number s ∙ (λ j. set (marks_in marks) c.held.inside.number (mark_at (place_of s.last) (k.gvt_is j))))) i;
       limit = c.exchange.inside.limit;
     })

@@ -1,11 +1,12 @@
-use Rattle.std.proofs.Common.{◌<◌, All, IsOk, map, length, ◌++◌, refl, sym, ap, ◌∙◌, subst, arith}
+use Rattle.std.proofs.Common.{◌<◌, All, IsOk, [], ◌∷◌, map, length, ◌++◌, Some, refl, sym, ap, ◌∙◌, subst, arith}
 use Rattle.virtual_time.specs.Law.{received_by, Posted}
 use Rattle.reverse.specs.Rules.{rules_of}
 use Rattle.reverse.specs.Setting.{simulation_of}
 use Rattle.process_queues.specs.Queues.{Queues}
 use Rattle.halves.specs.declared.LeftHalf.{LeftHalf}
-use Rattle.exchange.specs.declared.mark.Mark.{Mark}
-use Rattle.exchange.proofs.Collected.{kept-refused}
+use Rattle.journal.specs.Deeds.{seen_deed, prior_own, place_of}
+use Rattle.exchange.specs.declared.mark.Standing.{Standing}
+use Rattle.exchange.specs.Keeps.{IsDeedWithinMail}
 use Rattle.exchange.proofs.Growth.{entry-fresh}
 use Rattle.exchange.proofs.Holding.{Joined}
 use Rattle.exchange.proofs.Joining.{seen-low}
@@ -18,7 +19,7 @@ use Rattle.exchange.proofs.posting.post.Goals as goal
 
 -- the process in hand is that of the journal
 joined : (g : Over) (c : After-join g) →
-    Joined (simulation_of (rules_of g.R.Reversible.plain) g.J.ActorRun.setting) c.exchange.inside.journal.items c.held.inside.number c.held.inside.block c.held.inside.last
+    Joined (simulation_of (rules_of g.R.Reversible.plain) g.J.ActorRun.setting) c.exchange.inside.journal.entries c.held.inside.number c.held.inside.block c.held.inside.standing.last
 joined g c = record {
   part = rw (sym c.held.view_is, sym c.exchange.view_is) at c.join.ensures.part;
   enabled = rw (sym c.held.view_is, sym c.exchange.view_is) at c.join.ensures.enabled;
@@ -33,19 +34,25 @@ goes g c = outbox-goes c.exchange.invariant.2 c.held.invariant.0 (c.actor_laws.e
 is-ok : (g : Over) (c : After-post-posted g) → IsOk c.post-posted.result
 is-ok g c = c.post-posted.ensures.reserved (when-no-err c.reserve_post.result (sym c.is_err.ensures.value ∙ c.if-is_err.false) c.reserve_post.ensures.room)
 
--- its entry is in the journal, and both marks name it
+-- its entry is in the journal, and both halves tell it
 entered : (g : Over) (c : After-tell_both g) →
-    Entered g.J.ActorRun.pages c.exchange.inside.journal.items (map (λ (b : LeftHalf Mark). b.value) c.exchange.inside.marks.items)
-    c.held.inside.number c.held.inside.seen c.held.inside.last (Posted c.held.inside.block)
-    c.write.new.journal.items (map (λ (b : LeftHalf Mark). b.value) c.tell_both.new.marks.items) (record { number = c.len-place.result; tokens = c.in-Ok.tokens })
+    Entered c.exchange.inside.journal.entries (map (λ (b : LeftHalf Standing). b.value) c.exchange.inside.marks.items)
+    c.held.inside.number c.held.inside.standing.last (Posted c.held.inside.block)
+    c.push_reserved.new.self.entries (map (λ (b : LeftHalf Standing). b.value) c.tell_both.new.marks.items) (record { last = c.after.result; seen = c.held.inside.standing.seen })
 entered g c =
-    let before = rw (sym c.held.view_is) at c.prior.ensures in
+    let p = c.held.inside.number in
+    let entry = c.new-entry.ensures in
+    let prior = entry.prior ∙ c.replace-prior.ensures.value in
     let mine = rw (sym c.held.view_is, sym c.exchange.view_is) at c.join.ensures.own in
+    let journal = c.reserve.ensures.entries in
     record {
+      entry = c.new-entry.result;
       mine = mine;
-      fresh = entry-fresh c.exchange.invariant.2.same c.in-Ok.ensures.at c.in-Ok.ensures.value refl before.place (before.own ∙ mine) (ap (λ b. Posted b) c.replace.ensures.value) tt;
-      journal = c.in-Ok.ensures.journal;
-      place = c.len-place.ensures ∙ c.exchange.inside.journal.ok.0;
+      fresh = entry-fresh entry.process (ap place_of prior) (ap prior_own prior ∙ mine) (ap (seen_deed p) entry.deed ∙ ap (λ b. Posted b) c.replace-block.ensures.value)
+          (subst (IsDeedWithinMail p) (sym entry.deed) tt);
+      journal = c.push_reserved.ensures.entries ∙ ap (λ es. es ++ c.new-entry.result ∷ []) journal;
+      place = c.after.ensures.place ∙ ap (λ n. Some n) (c.len-place.ensures ∙ ap length journal);
+      own = c.after.ensures.own;
       marked = c.tell_both.ensures.marks;
     }
 
@@ -61,17 +68,16 @@ invariant_of-held g c =
     let at = goal.at.invariant_of-held g c in
     let k = c.exchange.invariant.2 in
     let L = c.actor_laws.ensures g.J.ActorRun.setting k.laid in
-    let place = c.len-place.ensures ∙ c.exchange.inside.journal.ok.0 in
     let ok = is-ok g at.After-post-posted in (
-      holds-posted k c.held.invariant.0 L (entered g at.After-tell_both) (when-ok c.post-posted.result ok c.post-posted.ensures.emptied) (omega arith)
+      holds-posted k c.held.invariant.0 L (entered g at.After-tell_both) refl (when-ok c.post-posted.result ok c.post-posted.ensures.emptied)
           (ap (λ (z : Queues g.row.R.Denot g.row.R-Record.Denot). z.left) (when-ok c.post-posted.result ok c.post-posted.ensures.queues))
-          c.replace.new.dest (c.replace.ensures.after ∙ c.new.ensures),
+          c.replace-block.new.dest (c.replace-block.ensures.after ∙ c.new.ensures),
       record { name = c.tell_both.ensures.name ∙ c.held.invariant.1.name; value = c.tell_both.ensures.mark },
     )
 
-pub invariant_of-exchange-in-Ok : goal.invariant_of-exchange-in-Ok
-invariant_of-exchange-in-Ok g c =
-    let at = goal.at.invariant_of-exchange-in-Ok g c in
+pub invariant_of-exchange-2 : goal.invariant_of-exchange-2
+invariant_of-exchange-2 g c =
+    let at = goal.at.invariant_of-exchange-2 g c in
     let k = c.exchange.invariant.2 in
     let h = c.held.invariant.0 in
     let L = c.actor_laws.ensures g.J.ActorRun.setting k.laid in
@@ -80,25 +86,18 @@ invariant_of-exchange-in-Ok g c =
     let posted = when-ok c.post-posted.result ok c.post-posted.ensures.posted in (
       omega arith,
       c.exchange.invariant.1,
-      kept-posted k h L (entered g at.After-tell_both) (when-ok c.post-posted.result ok c.post-posted.ensures.emptied) (joined g at.After-join)
-          (seen-low k h fits) (λ s m. g.met.R.Actor.end_stays s m)
+      kept-posted k h L (entered g at.After-tell_both) refl (when-ok c.post-posted.result ok c.post-posted.ensures.emptied) (joined g at.After-join)
+          (seen-low k h.number_is c.held.inside.standing fits) (λ s m. g.met.R.Actor.end_stays s m)
           c.post-posted.new.mail (c.post-posted.ensures.processes ∙ c.reserve_post.ensures.processes)
           (λ q. posted q ∙ (λ j. c.reserve_post.ensures.same q j ++ received_by (rules_of g.R.Reversible.plain).order q c.held.inside.process.queues.outbox))
           c.set.new.self c.set.ensures.processes c.set.ensures.until c.floor.result c.floor.ensures c.set.ensures.here c.set.ensures.others _ (omega arith),
       c.tell_both.ensures.names ∙ c.exchange.invariant.3,
+      c.push_reserved.ensures.keeps ∙ (c.reserve.ensures.keeps ∙ c.exchange.invariant.4),
     )
 
-pub invariant_of-exchange-in-Err : goal.invariant_of-exchange-in-Err
-invariant_of-exchange-in-Err g c = (
-  c.exchange.invariant.0,
-  c.exchange.invariant.1,
-  kept-refused c.exchange.invariant.2 c.write.new.journal.items c.in-Err.ensures.unchanged c.reserve_post.new.mail c.reserve_post.ensures.processes c.reserve_post.ensures.same,
-  c.exchange.invariant.3,
-)
-
-pub returns-in-Ok-clause-ok : goal.returns-in-Ok-clause-ok
-returns-in-Ok-clause-ok g c =
+pub returns-clause-ok : goal.returns-clause-ok
+returns-clause-ok g c =
     let f = simulation_of (rules_of g.R.Reversible.plain) g.J.ActorRun.setting in
     rw (sym c.held.view_is, sym c.exchange.view_is)
-    (block-posted f (entered g (goal.at.returns-in-Ok-clause-ok g c).After-tell_both) (omega arith) c.exchange.inside.limit c.held.inside.gone
-    c.replace.new.dest (c.replace.ensures.after ∙ c.new.ensures))
+    (block-posted f (entered g (goal.at.returns-clause-ok g c).After-tell_both) refl (omega arith) c.exchange.inside.limit c.held.inside.gone
+    c.replace-block.new.dest (c.replace-block.ensures.after ∙ c.new.ensures))

@@ -1,39 +1,30 @@
-use Rattle.std.proofs.Common.{sym, arith}
-use Rattle.exchange.proofs.Joining.{none-joined, some-within, some-at, some-joined}
+use Rattle.std.proofs.Common.{◌≡◌, ◌<◌, map, length, sym, ◌∙◌, arith}
+use Rattle.std.proofs.lemmas.List.{length-map}
+use Rattle.halves.specs.declared.LeftHalf.{LeftHalf}
+use Rattle.exchange.specs.declared.mark.Standing.{Standing}
+use Rattle.exchange.specs.Views.{standing_of}
+use Rattle.exchange.proofs.Marks.{half-told}
+use Rattle.exchange.proofs.Joining.{marks-agree, all-joined}
+use Rattle.exchange.proofs.exchange.Exchange.join.Given.{Over}
+use Rattle.exchange.proofs.exchange.Exchange.join.Goals.{After-agree}
 use Rattle.exchange.proofs.exchange.Exchange.join.Goals as goal
 
-pub index-tokens-requires : goal.index-tokens-requires
-index-tokens-requires g c =
-    let e = rw (sym c.self.view_is, sym c.held.view_is) at c.meet.ensures in
-    let w = some-within c.self.invariant.2 c.held.invariant.0 e c.in-Some.last c.in-Some.is in
-    omega (arith, w, c.self.inside.journal.ok.0)
+-- the standing in hand is the one that the exchange has of it
+told : (g : Over) (c : After-agree g) → c.held.inside.standing ≡ standing_of (map (λ (b : LeftHalf Standing). b.value) c.self.inside.marks.items) c.held.inside.number
+told g c =
+    let marks = c.self.inside.marks.items in
+    let within : c.held.inside.number < length marks =
+    omega (arith, length-map marks (λ (b : LeftHalf Standing). b.value), c.self.invariant.2.marked.count, c.held.invariant.0.number_is) in
+    sym (c.agree.ensures ∙ c.held.invariant.1.value) ∙ half-told marks c.from.result c.held.inside.number c.from.ensures _ within c.index-half.ensures
 
-pub agrees-requires : goal.agrees-requires
-agrees-requires g c =
-    let e = rw (sym c.self.view_is, sym c.held.view_is) at c.meet.ensures in
-    let at = some-at c.self.invariant.2 c.held.invariant.0 e c.in-Some.last c.in-Some.is c.index-tokens.result.now c.index-tokens.ensures in
-    (g.J.ActorRun.pages, (c.in-Some.last.number, at.0, at.1))
+pub returns-clause-same : goal.returns-clause-same
+returns-clause-same g c = rw (sym c.self.view_is, sym c.held.view_is) (marks-agree c.self.invariant.2 c.held.invariant.0 (told g (goal.at.returns-clause-same g c).After-agree))
 
-pub returns-in-Some-clause-part : goal.returns-in-Some-clause-part
-returns-in-Some-clause-part g c =
-    let e = rw (sym c.self.view_is, sym c.held.view_is) at c.meet.ensures in
-    let t = some-joined c.self.invariant.2 c.held.invariant.0 e c.in-Some.last c.in-Some.is c.index-tokens.result.now c.index-tokens.ensures c.agrees.ensures in
-    rw (sym c.self.view_is, sym c.held.view_is) t.part
+pub returns-clause-part : goal.returns-clause-part
+returns-clause-part g c = rw (sym c.self.view_is, sym c.held.view_is) (all-joined c.self.invariant.2 c.held.invariant.0 (told g (goal.at.returns-clause-part g c).After-agree)).part
 
-pub returns-in-Some-clause-enabled : goal.returns-in-Some-clause-enabled
-returns-in-Some-clause-enabled g c =
-    let e = rw (sym c.self.view_is, sym c.held.view_is) at c.meet.ensures in
-    let t = some-joined c.self.invariant.2 c.held.invariant.0 e c.in-Some.last c.in-Some.is c.index-tokens.result.now c.index-tokens.ensures c.agrees.ensures in
-    rw (sym c.self.view_is, sym c.held.view_is) t.enabled
+pub returns-clause-enabled : goal.returns-clause-enabled
+returns-clause-enabled g c = rw (sym c.self.view_is, sym c.held.view_is) (all-joined c.self.invariant.2 c.held.invariant.0 (told g (goal.at.returns-clause-enabled g c).After-agree)).enabled
 
-pub returns-in-Some-clause-own : goal.returns-in-Some-clause-own
-returns-in-Some-clause-own g c =
-    let e = rw (sym c.self.view_is, sym c.held.view_is) at c.meet.ensures in
-    let t = some-joined c.self.invariant.2 c.held.invariant.0 e c.in-Some.last c.in-Some.is c.index-tokens.result.now c.index-tokens.ensures c.agrees.ensures in
-    rw (sym c.self.view_is, sym c.held.view_is) t.own
-
-pub returns-in_default-clause-enabled : goal.returns-in_default-clause-enabled
-returns-in_default-clause-enabled g c =
-    let e = rw (sym c.self.view_is, sym c.held.view_is) at c.meet.ensures in
-    let t = none-joined c.self.invariant.2 c.held.invariant.0 e c.in_default.is in
-    rw (sym c.self.view_is, sym c.held.view_is) t.enabled
+pub returns-clause-own : goal.returns-clause-own
+returns-clause-own g c = rw (sym c.self.view_is, sym c.held.view_is) (all-joined c.self.invariant.2 c.held.invariant.0 (told g (goal.at.returns-clause-own g c).After-agree)).own

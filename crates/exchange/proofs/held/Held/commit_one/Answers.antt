@@ -16,11 +16,11 @@ use Rattle.exchange.proofs.held.Held.commit_one.Goals as goal
 
 -- behind the test, the oldest done event can be committed
 can-commit : (g : Over) (c : After-push g) →
-    can_move (simulation_of (rules_of g.R.Reversible.plain) g.J.ActorRun.setting) c.self.inside.seen Committed
-    (in_hand (simulation_of (rules_of g.R.Reversible.plain) g.J.ActorRun.setting) c.self.inside.number c.self.inside.last c.self.inside.seen c.self.inside.gone c.self.inside.block).part ≡ true
+    can_move (simulation_of (rules_of g.R.Reversible.plain) g.J.ActorRun.setting) c.self.inside.standing.seen Committed
+    (in_hand (simulation_of (rules_of g.R.Reversible.plain) g.J.ActorRun.setting) c.self.inside.number c.self.inside.standing.last c.self.inside.standing.seen c.self.inside.gone c.self.inside.block).part ≡ true
 can-commit g c =
     let h = c.self.invariant.0 in
-    early-commits (simulation_of (rules_of g.R.Reversible.plain) g.J.ActorRun.setting) (c.actor_laws.ensures g.J.ActorRun.setting h.laid) c.self.inside.number c.self.inside.seen _ h.safe
+    early-commits (simulation_of (rules_of g.R.Reversible.plain) g.J.ActorRun.setting) (c.actor_laws.ensures g.J.ActorRun.setting h.laid) c.self.inside.number c.self.inside.standing.seen _ h.safe
     c.oldest.result (c.oldest.ensures _ _ h.stands) c.if-not-is_early.ensures
 
 -- and some done event is earlier than the GVT seen
@@ -28,7 +28,7 @@ some-early : (g : Over) (c : After-push g) → earlier message_order c.args.self
 some-early g c =
     let h = c.self.invariant.0 in
     rw (sym c.self.view_is)
-    (λ none. false≢true ((oldest-tells (rules_of g.R.Reversible.plain) (c.actor_laws.ensures g.J.ActorRun.setting h.laid).order c.self.inside.seen _ h.safe.well.ascending
+    (λ none. false≢true ((oldest-tells (rules_of g.R.Reversible.plain) (c.actor_laws.ensures g.J.ActorRun.setting h.laid).order c.self.inside.standing.seen _ h.safe.well.ascending
     c.oldest.result (c.oldest.ensures _ _ h.stands) true c.if-not-is_early.ensures).1 none))
 
 pub invariant_of-self-in-Ok-true : goal.invariant_of-self-in-Ok-true
@@ -41,14 +41,14 @@ invariant_of-self-in-Ok-true g c =
 
 pub returns-in-Ok-true-clause-committed : goal.returns-in-Ok-true-clause-committed
 returns-in-Ok-true-clause-committed g c = λ yes.
-    moved-view (simulation_of (rules_of g.R.Reversible.plain) g.J.ActorRun.setting) c.self.inside.number c.self.inside.last c.self.inside.seen c.self.inside.gone c.self.inside.block Committed
+    moved-view (simulation_of (rules_of g.R.Reversible.plain) g.J.ActorRun.setting) c.self.inside.number c.self.inside.standing.last c.self.inside.standing.seen c.self.inside.gone c.self.inside.block Committed
     c.args.self.now c.self.view_is c.push.new.self c.in_ok-push.ensures.pushed
 
 pub returns-in-Ok-true-clause-fewer : goal.returns-in-Ok-true-clause-fewer
 returns-in-Ok-true-clause-fewer g c = λ yes.
     let f = simulation_of (rules_of g.R.Reversible.plain) g.J.ActorRun.setting in
-    commit-takes f c.args.self.now _ c.self.inside.seen
-    (subst (λ (z : HeldState g.row.R.Denot). can_move f c.self.inside.seen Committed z.part ≡ true) c.self.view_is (can-commit g (goal.at.returns-in-Ok-true-clause-fewer g c).After-push))
+    commit-takes f c.args.self.now _ c.self.inside.standing.seen
+    (subst (λ (z : HeldState g.row.R.Denot). can_move f c.self.inside.standing.seen Committed z.part ≡ true) c.self.view_is (can-commit g (goal.at.returns-in-Ok-true-clause-fewer g c).After-push))
     (returns-in-Ok-true-clause-committed g c yes)
 
 pub returns-in-Ok-false-clause-none : goal.returns-in-Ok-false-clause-none
@@ -59,7 +59,7 @@ pub returns-then-not-is_early-clause-none : goal.returns-then-not-is_early-claus
 returns-then-not-is_early-clause-none g c = λ no.
     let h = c.self.invariant.0 in
     rw (sym c.self.view_is)
-    ((oldest-tells (rules_of g.R.Reversible.plain) (c.actor_laws.ensures g.J.ActorRun.setting h.laid).order c.self.inside.seen _ h.safe.well.ascending
+    ((oldest-tells (rules_of g.R.Reversible.plain) (c.actor_laws.ensures g.J.ActorRun.setting h.laid).order c.self.inside.standing.seen _ h.safe.well.ascending
     c.oldest.result (c.oldest.ensures _ _ h.stands) false c.if-not-is_early.ensures).0 refl)
 
 pub returns-in_err-push-clause-left : goal.returns-in_err-push-clause-left

@@ -16,5 +16,5 @@ invariant_of-self-in-Ok g c =
 
 pub returns-in-Ok-clause-ran : goal.returns-in-Ok-clause-ran
 returns-in-Ok-clause-ran g c = λ yes.
-    moved-view (simulation_of (rules_of g.R.Reversible.plain) g.J.ActorRun.setting) c.self.inside.number c.self.inside.last c.self.inside.seen c.self.inside.gone c.self.inside.block Ran
+    moved-view (simulation_of (rules_of g.R.Reversible.plain) g.J.ActorRun.setting) c.self.inside.number c.self.inside.standing.last c.self.inside.standing.seen c.self.inside.gone c.self.inside.block Ran
     c.args.self.now c.self.view_is c.push.new.self c.in_ok-push.ensures.pushed

@@ -3,7 +3,7 @@ use Rattle.virtual_time.specs.Law.{rowed, after_moves, after_own}
 use Rattle.reverse.specs.Rules.{rules_of}
 use Rattle.reverse.specs.Setting.{simulation_of}
 use Rattle.fossil.specs.Within.{AreFirstBefore}
-use Rattle.exchange.specs.Keeps.{own_of}
+use Rattle.journal.specs.Deeds.{prior_own}
 use Rattle.exchange.proofs.Gone.{gone-zero}
 use Rattle.exchange.proofs.held.Held.sealed.Goals as goal
 
@@ -13,7 +13,7 @@ returns g c =
     let r = rules_of g.R.Reversible.plain in
     let x = g.J.ActorRun.setting in
     let p = c.self.inside.number in
-    let part = after_moves r (x.opening p) c.self.inside.block (after_own (simulation_of r x) p (own_of c.self.inside.last)) in
+    let part = after_moves r (x.opening p) c.self.inside.block (after_own (simulation_of r x) p (prior_own c.self.inside.standing.last)) in
     let rows = rowed r (x.opening p) part.committed in
     rw (sym c.self.view_is) (λ none.
     let whole = gone-zero r c.self.inside.process.queues.left rows (let a = h.stands.sealed in omega arith)

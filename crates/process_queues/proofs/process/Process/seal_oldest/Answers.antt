@@ -51,7 +51,7 @@ returns-clause-sealed g c opening part h =
     let first = first-done k c.in-Some.event.now (sym c.oldest.ensures ∙ ap option_copied c.in-Some.is) in
     let noted = c.from.ensures ∙ c.forget_oldest-noted.ensures.noted _ first.0 _ _ first.2 in
     let more : length c.push_reserved.new.self.items ≡ length c.self.inside.committed.items + 1 =
-    ap length (c.push_reserved.ensures.items) ∙ (length-append c.reserve_if_zero.new.committed.items (c.forget_oldest-noted.result ∷ []) ∙ ap (λ xs. length xs + 1) c.in_ok-reserve_if_zero.ensures.same) in
+    ap length (c.push_reserved.ensures.items) ∙ (length-append c.reserve_if_zero.new.committed.items (tt ∷ []) ∙ ap (λ xs. length xs + 1) c.in_ok-reserve_if_zero.ensures.same) in
     commit-stands R k c.in-Some.event.now.message first.0 c.forget_oldest-noted.new.self c.self.inside.tally first.1 (sym (returns-clause-answer g c opening part h))
     (c.forget_oldest-noted.ensures.forgotten _ first.0 _ _ first.2) c.forget_oldest-noted.ensures.state refl (rw (noted, more) refl)
 
