@@ -1,18 +1,13 @@
 //! Scripts for the test actor, a line each: its words, and behind the arrow what they tell (`player.rt` says how). A word for which memory is
-//! refused is done again: each line holds with ample memory, and where any one request for memory is refused.
+//! refused is done again: each line holds with ample memory, and where any one request for memory is refused. A line with an arrival that is
+//! not done again, `arrive?`, has behind a bar what it tells where that is refused. `tools/refuse_memory.py` refuses each request in turn.
 mod alone;
 mod asking;
-mod body;
-mod drawing;
 mod mailing;
 mod player;
-mod refusing;
-mod second;
 
-use drawing::play_drawn;
-use player::{actor, letter, play};
-use refusing::play_refusals;
-use reverse::act_and_undo;
+use player::play;
+use std::io::{BufRead, BufReader};
 use std::test::Fail;
 
 // The scripts, each set of them under a line that says what it shows.
@@ -44,6 +39,7 @@ reserve_letters:3 +10 +20 +30 tray => 3 sum 0 counter 0
 counter:4611686018427387880 +10 +20 arrive arrive run run next outbox => 0 0 10 exhausted 20@2 +15.4611686018427387880 sum 0 counter 4611686018427387880
 counter:4611686018427387881 run +10 arrive run next tray => none 0 exhausted 10@2 0 sum 0 counter 4611686018427387881
 alone:4611686018427387880 alone:4611686018427387881 => 0 exhausted sum 0 counter 0
+back => 3 0 0 sum 0 counter 0
 Only what is earlier than GVT is committed, the oldest first, so many at most, and up to a message that came twice.
 +50 arrive run commit:50:9 committed oldest => 0 50 0 0 50 sum 0 counter 0
 +49 arrive run +50 arrive run commit:50:9 committed oldest commit:50:9 seal => 0 49 0 50 1 1 50 0 1 sum 99 counter 2
@@ -62,7 +58,15 @@ send:1:+20 send:0:-30 send:1:-10 take:1:2 take:2:0 take:3:0 take:1:1 take:1:0 ta
 send:1:+20 send:1:-10 send:1:+30 take:1:0 take:1:0 take:1:0 => +20.0 -10.0 +30.0 sum 0 counter 0
 +10 arrive run +20 arrive run +30 arrive run post outbox take:1:0 take:1:0 take:1:0 take:1:0 => 0 10 0 20 0 30 +15.0 +25.1 +35.2 none sum 0 counter 0
 +10 arrive run send:1:+5 post take:1:1 take:1:0 => 0 10 +15.0 +5.0 sum 0 counter 0
-+10 arrive run reserve_post outbox take:1:0 post take:1:0 => 0 10 +15.0 none +15.0 sum 0 counter 0";
++10 arrive run reserve_post outbox take:1:0 post take:1:0 => 0 10 +15.0 none +15.0 sum 0 counter 0
+A straggler among so many letters that the map grows for it: committing and undoing shows that nothing was undone, or it is tried again.
++10 arrive run +20 arrive run +30 arrive run post -41 arrive -42 arrive -43 arrive -44 arrive -45 arrive -46 arrive -47 arrive -48 arrive -49 arrive -50 arrive -51 arrive -52 arrive +15 arrive? tray outbox seal seal seal => 0 10 0 20 0 30 0 0 0 0 0 0 0 0 0 0 0 0 2 0 -35.2 -25.1 1 0 0 sum 10 counter 1 | 0 10 0 20 0 30 0 0 0 0 0 0 0 0 0 0 0 0 refused 1 1 1 1 sum 60 counter 3
++10 arrive run +20 arrive run +30 arrive run post -41 arrive -42 arrive -43 arrive -44 arrive -45 arrive -46 arrive -47 arrive -48 arrive -49 arrive -50 arrive -51 arrive -52 arrive +15 arrive? tray committable:50:9 outbox arrive tray outbox => 0 10 0 20 0 30 0 0 0 0 0 0 0 0 0 0 0 0 2 0 1 -35.2 -25.1 none 0 -35.2 -25.1 sum 0 counter 0 | 0 10 0 20 0 30 0 0 0 0 0 0 0 0 0 0 0 0 refused 1 3 2 0 -35.2 -25.1 sum 0 counter 0
++10 arrive run +20 arrive run +30 arrive run post -41 arrive -42 arrive -43 arrive -44 arrive -45 arrive -46 arrive -47 arrive -48 arrive -49 arrive -50 arrive -51 arrive -52 arrive -53 arrive +15 arrive? tray outbox seal seal seal => 0 10 0 20 0 30 0 0 0 0 0 0 0 0 0 0 0 0 0 2 0 -35.2 -25.1 1 0 0 sum 10 counter 1 | 0 10 0 20 0 30 0 0 0 0 0 0 0 0 0 0 0 0 0 refused 1 1 1 1 sum 60 counter 3
++10 arrive run +20 arrive run +30 arrive run post -41 arrive -42 arrive -43 arrive -44 arrive -45 arrive -46 arrive -47 arrive -48 arrive -49 arrive -50 arrive -51 arrive -52 arrive -53 arrive +15 arrive? tray committable:50:9 outbox arrive tray outbox => 0 10 0 20 0 30 0 0 0 0 0 0 0 0 0 0 0 0 0 2 0 1 -35.2 -25.1 none 0 -35.2 -25.1 sum 0 counter 0 | 0 10 0 20 0 30 0 0 0 0 0 0 0 0 0 0 0 0 0 refused 1 3 2 0 -35.2 -25.1 sum 0 counter 0
+A straggler that takes back more messages than the outbox has room for.
++10 arrive run post +11 arrive run post +12 arrive run post +13 arrive run post +14 arrive run post +15 arrive run post +16 arrive run post +17 arrive run post +18 arrive run post +19 arrive run post +20 arrive run post +21 arrive run post +22 arrive run post +23 arrive run post +24 arrive run post +25 arrive run post +26 arrive run post +27 arrive run post +28 arrive run post +29 arrive run post +30 arrive run post +31 arrive run post +32 arrive run post +33 arrive run post +34 arrive run post +5 arrive? tray committable:50:99 outbox commit:50:99 => 0 10 0 11 0 12 0 13 0 14 0 15 0 16 0 17 0 18 0 19 0 20 0 21 0 22 0 23 0 24 0 25 0 26 0 27 0 28 0 29 0 30 0 31 0 32 0 33 0 34 25 0 0 -39.24 -38.23 -37.22 -36.21 -35.20 -34.19 -33.18 -32.17 -31.16 -30.15 -29.14 -28.13 -27.12 -26.11 -25.10 -24.9 -23.8 -22.7 -21.6 -20.5 -19.4 -18.3 -17.2 -16.1 -15.0 0 sum 0 counter 0 | 0 10 0 11 0 12 0 13 0 14 0 15 0 16 0 17 0 18 0 19 0 20 0 21 0 22 0 23 0 24 0 25 0 26 0 27 0 28 0 29 0 30 0 31 0 32 0 33 0 34 refused 1 25 25 sum 550 counter 25
++10 arrive run post +11 arrive run post +12 arrive run post +13 arrive run post +14 arrive run post +15 arrive run post +16 arrive run post +17 arrive run post +18 arrive run post +19 arrive run post +20 arrive run post +21 arrive run post +22 arrive run post +23 arrive run post +24 arrive run post +25 arrive run post +26 arrive run post +27 arrive run post +28 arrive run post +29 arrive run post +30 arrive run post +31 arrive run post +32 arrive run post +33 arrive run post +34 arrive run post +5 arrive? tray outbox arrive outbox => 0 10 0 11 0 12 0 13 0 14 0 15 0 16 0 17 0 18 0 19 0 20 0 21 0 22 0 23 0 24 0 25 0 26 0 27 0 28 0 29 0 30 0 31 0 32 0 33 0 34 25 0 -39.24 -38.23 -37.22 -36.21 -35.20 -34.19 -33.18 -32.17 -31.16 -30.15 -29.14 -28.13 -27.12 -26.11 -25.10 -24.9 -23.8 -22.7 -21.6 -20.5 -19.4 -18.3 -17.2 -16.1 -15.0 none -39.24 -38.23 -37.22 -36.21 -35.20 -34.19 -33.18 -32.17 -31.16 -30.15 -29.14 -28.13 -27.12 -26.11 -25.10 -24.9 -23.8 -22.7 -21.6 -20.5 -19.4 -18.3 -17.2 -16.1 -15.0 sum 0 counter 0 | 0 10 0 11 0 12 0 13 0 14 0 15 0 16 0 17 0 18 0 19 0 20 0 21 0 22 0 23 0 24 0 25 0 26 0 27 0 28 0 29 0 30 0 31 0 32 0 33 0 34 refused 1 25 -39.24 -38.23 -37.22 -36.21 -35.20 -34.19 -33.18 -32.17 -31.16 -30.15 -29.14 -28.13 -27.12 -26.11 -25.10 -24.9 -23.8 -22.7 -21.6 -20.5 -19.4 -18.3 -17.2 -16.1 -15.0 sum 0 counter 0";
 
 #[test]
 fn scripts_tell_what_their_lines_say(rt: HostRuntime) -> Result<(), Fail> {
@@ -71,22 +75,20 @@ fn scripts_tell_what_their_lines_say(rt: HostRuntime) -> Result<(), Fail> {
             assert!(rt; line.ends_with('.'), "{line}");
             continue;
         };
-        assert_eq!(rt; play(&rt, rt.alloc(), script)?.as_str(), told, "{script}");
+        let (done, refused) = told.split_once(" | ").unwrap_or((told, told));
+        let played = play(&rt, script)?;
+        if played.as_str() != refused {
+            assert_eq!(rt; played.as_str(), done, "{script}");
+        }
     }
-    play_refusals(&rt, rt.alloc())
-}
-
-#[test]
-fn three_messages_are_answered_and_undone(rt: HostRuntime) -> Result<(), Fail> {
-    let mut actor = actor(&rt, 0);
-    let messages = [letter(&rt, "10").message; 3];
-    let mut answers = Vec::new(rt.alloc());
-    act_and_undo(&mut actor, &messages, &mut answers)?;
-    assert_eq!(rt; (answers.len(), actor.sum, actor.counter), (3, 0, 0));
     Ok(())
 }
 
+// What the scripts of standard input tell, a line each. There are none but where `tools/test_processes.py` draws some.
 #[test]
-fn ten_thousand_drawn_scripts_answer_as_a_second_process(rt: HostRuntime) -> Result<(), Fail> {
-    play_drawn(&rt, rt.alloc(), 10_000)
+fn scripts_of_standard_input_are_played(rt: HostRuntime) -> Result<(), Fail> {
+    for line in BufReader::new(rt.alloc(), rt.reader())?.lines(rt.alloc()) {
+        println!(rt; "{}", play(&rt, &line?)?)?;
+    }
+    Ok(())
 }

@@ -1,24 +1,18 @@
-//! The test actor alone, in a one-thread run of one message.
+//! The test actor alone: in a one-thread run of one message, and as it handles messages and undoes them.
 ghost use Rattle.std.specs.Prelude.{◌<◌};
 
-use super::player::moment;
+use super::player::{actor, letter};
 use crate::Summing;
 use actor_run::{SimFault, Unwatched, run_actors};
 use process_queues::ProcFault;
-use reverse::{actor_laws, actor_rules};
+use reverse::{act_and_undo, actor_laws, actor_rules};
 use std::alloc::Global;
 use std::fmt::Write;
-use std::process::Abort;
 use vlink::{Body, Message, Time};
 
 // Tells how many rows the run of an actor with this counter gives, or why it is given up. It ends at 4 ns, so that nothing is sent.
-pub(crate) fn tell(
-    rt: &impl Abort,
-    alloc: Global,
-    told: &mut String,
-    counter: u64,
-) -> Result<(), ProcFault> {
-    let mut actor = Summing::new(moment(rt, 4));
+pub(crate) fn tell(alloc: Global, told: &mut String, counter: u64) -> Result<(), ProcFault> {
+    let mut actor = Summing::new(Time::known(4));
     actor.counter = counter;
     match rows(alloc, actor) {
         Ok(rows) => Ok(write!(told, "{rows} ")?),
@@ -44,4 +38,13 @@ fn rows(alloc: Global, actor: Summing) -> Result<usize, SimFault>
     actors.push(actor)?;
     let rows = run_actors(alloc, &mut actors, &[offer], &mut Unwatched)?;
     Ok(rows.len())
+}
+
+// Tells how many answers three messages get, and the sum and the counter of the actor once they are undone.
+pub(crate) fn tell_back(alloc: Global, told: &mut String) -> Result<(), ProcFault> {
+    let mut actor = actor(0);
+    let mut answers = Vec::new(alloc);
+    act_and_undo(&mut actor, &[letter("10").message; 3], &mut answers)?;
+    write!(told, "{} {} {} ", answers.len(), actor.sum, actor.counter)?;
+    Ok(())
 }

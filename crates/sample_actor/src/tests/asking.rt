@@ -1,16 +1,15 @@
-//! The words of a script that have a number for an answer, or none; and what can be seen of a process.
-use super::body::Body;
+//! The words of a script that look at a process, and those that have a number for an answer, or none.
 use super::player::{Stage, letter, moment, two_numbers};
+use crate::Summing;
 use gvt::horizon;
-use process_queues::ProcFault;
+use process_queues::{ProcFault, Process};
 use std::fmt::Write;
-use std::process::Abort;
-use vlink::{GREATEST_NS, Message, Time};
+use vlink::{GREATEST_NS, Letter, Message, Sign, Time};
 
 // What can be seen of a process: how many letters are in its tray and in its outbox, its oldest done event, the message that comes next, its
 // floor, how many events are committed, and how many more could be at the end.
 pub(crate) fn seen(
-    body: &Body,
+    process: &Process<Summing>,
 ) -> (
     usize,
     usize,
@@ -21,101 +20,91 @@ pub(crate) fn seen(
     usize,
 ) {
     (
-        body.tray_len(),
-        body.outbox().len(),
-        body.oldest(),
-        body.next(),
-        body.floor(),
-        body.committed(),
-        body.committable(Time::new(GREATEST_NS).unwrap_or_default(), usize::MAX),
+        process.tray_len(),
+        process.outbox().len(),
+        process.oldest(),
+        process.next(),
+        process.floor(),
+        process.committed(),
+        process.committable(Time::known(GREATEST_NS), usize::MAX),
     )
 }
 
 // What the call answers.
 pub(crate) fn ask(
-    rt: &impl Abort,
-    stage: &mut Stage,
+    process: &mut Process<Summing>,
     call: &str,
     rest: &str,
-) -> Result<Option<i128>, ProcFault> {
+) -> Result<Option<u64>, ProcFault> {
     match call {
-        "arrive" => arrive(rt, &mut stage.body),
-        "run" => run(&mut stage.body),
-        "seal" => seal(rt, &mut stage.body),
-        "commit" => commit(rt, &mut stage.body, rest),
-        _ => Ok(look(rt, stage, call, rest)),
-    }
-}
-
-fn arrive(rt: &impl Abort, body: &mut Body) -> Result<Option<i128>, ProcFault> {
-    match body.arrive(rt)? {
-        Some(undone) => Ok(Some(i128::from(undone))),
-        None => Ok(None),
-    }
-}
-
-fn run(body: &mut Body) -> Result<Option<i128>, ProcFault> {
-    match moment_of(body.run())? {
-        Some(time) => Ok(Some(i128::from(time.ns()))),
-        None => Ok(None),
+        "arrive" | "arrive?" => process.arrive(),
+        "run" => time_of(process.run()),
+        "seal" => Ok(Some(u64::from(process.seal_oldest()?))),
+        "commit" => {
+            let (gvt, most) = two_numbers(rest);
+            Ok(Some(fossil::commit(process, moment(gvt), most)?))
+        }
+        _ => Ok(look(process, call, rest)),
     }
 }
 
 // The moment of the message that is answered, if one is.
-fn moment_of<F>(answer: Result<Option<Message>, F>) -> Result<Option<Time>, F> {
+fn time_of<F>(answer: Result<Option<Message>, F>) -> Result<Option<u64>, F> {
     match answer {
-        Ok(Some(message)) => Ok(Some(message.time)),
+        Ok(Some(message)) => Ok(Some(message.time.ns())),
         Ok(None) => Ok(None),
         Err(fault) => Err(fault),
     }
 }
 
-fn seal(rt: &impl Abort, body: &mut Body) -> Result<Option<i128>, ProcFault> {
-    let is_sealed = body.seal_oldest(rt)?;
-    Ok(Some(i128::from(is_sealed)))
-}
-
-fn commit(rt: &impl Abort, body: &mut Body, rest: &str) -> Result<Option<i128>, ProcFault> {
-    let (gvt, most) = two_numbers(rt, rest);
-    let count = body.commit(rt, moment(rt, gvt), most)?;
-    Ok(Some(i128::from(count)))
-}
-
 // What a call answers that changes nothing.
-fn look(rt: &impl Abort, stage: &Stage, call: &str, rest: &str) -> Option<i128> {
-    let body = &stage.body;
+fn look(process: &Process<Summing>, call: &str, rest: &str) -> Option<u64> {
     match call {
-        "count" => Some(body.count(&letter(rt, rest).message)),
-        "oldest" => oldest(body),
-        "floor" => Some(i128::from(body.floor().ns())),
-        "tray" => Some(body.tray_len() as i128),
-        "committed" => Some(i128::from(body.committed())),
-        "rows" => Some(body.rows(rt) as i128),
-        "committable" => Some(committable(rt, body, rest)),
-        _ => {
-            assert_eq!(rt; call, "horizon");
-            Some(i128::from(horizon(&stage.floors, &stage.mail).ns()))
+        "oldest" => Some(process.oldest()?.ns()),
+        "floor" => Some(process.floor().ns()),
+        "tray" => Some(process.tray_len() as u64),
+        "committed" => Some(process.committed()),
+        "rows" => Some(process.sealed().len() as u64),
+        "committable" => {
+            let (gvt, most) = two_numbers(rest);
+            Some(process.committable(moment(gvt), most as usize) as u64)
         }
+        _ => None,
     }
 }
 
-fn oldest(body: &Body) -> Option<i128> {
-    match body.oldest() {
-        Some(time) => Some(i128::from(time.ns())),
-        None => None,
-    }
+// The signed count of a message.
+pub(crate) fn tell_count(stage: &mut Stage, rest: &str) -> Result<(), ProcFault> {
+    let count = stage.process.count(&letter(rest).message);
+    write!(stage.told, "{count} ")?;
+    Ok(())
 }
 
-fn committable(rt: &impl Abort, body: &Body, rest: &str) -> i128 {
-    let (gvt, most) = two_numbers(rt, rest);
-    body.committable(moment(rt, gvt), most as usize) as i128
+pub(crate) fn tell_horizon(stage: &mut Stage) -> Result<(), ProcFault> {
+    write!(stage.told, "{} ", horizon(&stage.floors, &stage.mail).ns())?;
+    Ok(())
 }
 
 // The message that comes next: its moment and its sender.
-pub(crate) fn tell_next(body: &Body, told: &mut String) -> Result<(), ProcFault> {
-    match body.next() {
-        Some(message) => write!(told, "{}@{} ", message.time.ns(), message.sender)?,
-        None => told.push_str("none ")?,
+pub(crate) fn tell_next(stage: &mut Stage) -> Result<(), ProcFault> {
+    match stage.process.next() {
+        Some(message) => write!(stage.told, "{}@{} ", message.time.ns(), message.sender)?,
+        None => stage.told.push_str("none ")?,
     }
+    Ok(())
+}
+
+pub(crate) fn tell_outbox(stage: &mut Stage) -> Result<(), ProcFault> {
+    for letter in stage.process.outbox() {
+        tell_letter(letter, &mut stage.told)?;
+    }
+    Ok(())
+}
+
+// The letter as it is written: its sign, its moment and its number.
+pub(crate) fn tell_letter(letter: &Letter, told: &mut String) -> Result<(), ProcFault> {
+    let sign = if letter.sign == Sign::Plus { '+' } else { '-' };
+    let message = letter.message;
+    write!(told, "{sign}{}.{} ", message.time.ns(), message.number)?;
     Ok(())
 }

@@ -1,54 +1,60 @@
-//! The words for mail and floors, a function each.
-use super::player::{Stage, letter, moment, number, tell_letter, two_numbers};
+//! The words for mail and floors. What names a process that there is not does nothing.
+use super::asking::tell_letter;
+use super::player::{Stage, letter, moment, number, parted, two_numbers};
 use antimessages::{Mail, Outbox};
 use gvt::Floors;
 use process_queues::ProcFault;
 use std::alloc::Global;
-use std::process::Abort;
 
-// The process that this number names.
-fn process_of(rt: &impl Abort, number: u64) -> u16 {
-    u16::try_from(number).expect(rt, "the number of a process")
+fn process_of(number: u64) -> u16 {
+    u16::try_from(number).unwrap_or(u16::MAX)
+}
+
+// The outbox is posted, or room for that is made.
+pub(crate) fn post(stage: &mut Stage, is_reserved: bool) -> Result<(), ProcFault> {
+    let Stage { process, mail, .. } = stage;
+    if !process.goes_within(usize::from(mail.processes())) {
+        return Ok(());
+    }
+    if is_reserved {
+        process.reserve_post(mail)
+    } else {
+        process.post(mail)
+    }
 }
 
 // A letter of another process is posted in room made before: its receiver, and how it is written.
-pub(crate) fn send(
-    rt: &impl Abort,
-    alloc: Global,
-    mail: &mut Mail,
-    rest: &str,
-) -> Result<(), ProcFault> {
-    let (receiver, written) = rest.split_once(':').expect(rt, "a receiver");
-    let mut letter = letter(rt, written);
-    letter.message.receiver = process_of(rt, number(rt, receiver));
+pub(crate) fn send(alloc: Global, mail: &mut Mail, rest: &str) -> Result<(), ProcFault> {
+    let (receiver, written) = parted(rest);
+    let mut letter = letter(written);
+    letter.message.receiver = process_of(number(receiver));
     let mut outbox = Outbox::new(alloc);
     outbox.push(letter)?;
-    assert!(rt; outbox.goes_within(usize::from(mail.processes())));
-    mail.reserve(&outbox)?;
-    mail.post(&mut outbox)?;
+    if outbox.goes_within(usize::from(mail.processes())) {
+        mail.reserve(&outbox)?;
+        mail.post(&mut outbox)?;
+    }
     Ok(())
 }
 
-pub(crate) fn take(rt: &impl Abort, stage: &mut Stage, rest: &str) -> Result<(), ProcFault> {
-    let (receiver, place) = two_numbers(rt, rest);
-    match stage.mail.take(process_of(rt, receiver), place as usize) {
+pub(crate) fn take(stage: &mut Stage, rest: &str) -> Result<(), ProcFault> {
+    let (receiver, place) = two_numbers(rest);
+    match stage.mail.take(process_of(receiver), place as usize) {
         Some(letter) => tell_letter(&letter, &mut stage.told),
         None => Ok(stage.told.push_str("none ")?),
     }
 }
 
-pub(crate) fn set(rt: &impl Abort, floors: &mut Floors, rest: &str) -> Result<(), ProcFault> {
-    let (process, ns) = two_numbers(rt, rest);
-    let process = process_of(rt, process);
-    assert!(rt; process < floors.processes());
-    floors.set(process, moment(rt, ns));
-    Ok(())
-}
-
-pub(crate) fn lower(rt: &impl Abort, floors: &mut Floors, rest: &str) -> Result<(), ProcFault> {
-    let (process, ns) = two_numbers(rt, rest);
-    let process = process_of(rt, process);
-    assert!(rt; process < floors.processes());
-    floors.lower(process, moment(rt, ns));
-    Ok(())
+// A floor is set, or lowered.
+pub(crate) fn put(floors: &mut Floors, call: &str, rest: &str) {
+    let (process, ns) = two_numbers(rest);
+    let process = process_of(process);
+    if process >= floors.processes() {
+        return;
+    }
+    if call == "set" {
+        floors.set(process, moment(ns));
+    } else {
+        floors.lower(process, moment(ns));
+    }
 }
