@@ -3,21 +3,21 @@
 
     python3 tools/refuse_memory.py
 
-The whole commands `check`, `seq`, `replay` and `run` of the proved program are run on examples/n1.toml, once for each
-request for memory, which is refused, until a run makes fewer. Each run has to end with status 0 and what it prints and
-writes where none is refused, or with status 5 and the line `afdxsim: out of memory`; `run` also with status 4 and `afdxsim:
-cannot start a worker`. Standard output is then empty or whole, and a file is not there or has a beginning of its text. With
-two workers the same request comes at another place each time, and so it is with its journal: that is judged by its form and,
-where the run ended well, by `replay`.
+The whole commands `check`, `seq`, `replay` and `run` of the proved program are run on examples/n1.toml, and `check` and `seq`
+on texts with a fault, once for each request for memory, which is refused, until a run makes fewer. Each run has to end with
+the status and what it prints and writes where none is refused, or with status 5 and the line `afdxsim: out of memory`; `run`
+also with status 4 and `afdxsim: cannot start a worker`. Standard output is then empty or whole, and a file is not there or
+has a beginning of its text. With two workers the same request comes at another place each time, and so it is with its
+journal: that is judged by its form and, where the run ended well, by `replay`.
 
 A run has two minutes. So those of two workers show too that the fault of one ends the other, which else would look for work
 for ever. Where a trace is written some 80 requests more are refused: for the segments at the desk, their rows, the batches and
 their text, and the channel to the writer's thread.
 
-Tests that are made for it are run so too, and have to pass: the scripts of processes (crate `sample_actor`), those of the
-calls of an exchange, and `read` and `write_csv` alone (crate `afdxsim`). There a call that is refused has to leave all as it
-was, but for `work`, which leaves what was done, and to answer as ever when it is made again. The tests tell which calls were
-refused, and each of those that are named below has to be.
+Tests that are made for it are run so too, and have to pass: the scripts of processes (crate `sample_actor`) and those of the
+calls of an exchange (crate `afdxsim`). There a call that is refused has to leave all as it was, but for `work`, which leaves
+what was done, and to answer as ever when it is made again. The tests tell which calls were refused, and each of those that
+are named below has to be.
 
 A line for each command and each test tells how many requests were refused. The status is 0 where each run was as it has to
 be, 1 where not, and 2 where nothing could be run. It needs the programs that `rt ci` leaves in out/, and a C compiler, `cc`
@@ -88,8 +88,12 @@ JOURNAL = re.compile(r"(?:(?:T \d+ \d+|[ARPC] \d+|G)\n)*(?:T(?: \d*(?: \d*)?)?|[
 NO_MEMORY = (5, "afdxsim: out of memory\n")
 NO_WORKER = (4, "afdxsim: cannot start a worker\n")
 
-# A command: its words, what it prints on both streams, the texts of its files (None for a journal), and how it may be refused.
-Command = namedtuple("Command", "words output errors files refusals")
+# A command: its words, what it prints on both streams, the texts of its files (None for a journal), how it may be refused, and
+# the status that it ends with where it is not.
+Command = namedtuple("Command", "words output errors files refusals status", defaults=(0,))
+
+# Descriptions with a fault, by the names of their files.
+FAULTY = {"syntax.toml": "until_ns =", "missing.toml": "until_ns = 1", "unknown.toml": "until_ns = 1\nseed = 0\nx = 0"}
 
 COMMANDS = (
     Command("check n1.toml", "ok: 7 processes, 1 virtual links, 1 offers\n", "", {}, (NO_MEMORY,)),
@@ -110,6 +114,9 @@ COMMANDS = (
         {"journal.txt": None, "trace.csv": TRACE},
         (NO_MEMORY, NO_WORKER),
     ),
+    Command("check syntax.toml", "", "afdxsim: description: 1 Syntax\n", {}, (NO_MEMORY,), 3),
+    Command("seq missing.toml", "", "afdxsim: description: 2 Missing at top seed\n", {}, (NO_MEMORY,), 3),
+    Command("seq unknown.toml", "", "afdxsim: description: 5 UnknownName at top\n", {}, (NO_MEMORY,), 3),
 )
 
 # A test: its program, its name, and how often each of these calls has to be refused in it, at least. The test of the
@@ -130,7 +137,6 @@ TESTS = (
         {"collect": 1, "work": 1, "post": 1, "publish": 1},
         True,
     ),
-    Test("afdxsim", "tests::descriptions::want_of_memory_is_no_other_answer", {"read": 1, "write_csv": 1}, False),
 )
 
 # How a test ends that makes nothing of a refusal.
@@ -197,12 +203,12 @@ def fault_of_command(command, found, is_replayed):
     """What is wrong with how a command ended, or None. A whole journal is one that `is_replayed`."""
     if found.requests is None:
         return f"it was killed with status {found.status}"
-    if found.status == 0:
+    if found.status == command.status:
         if (found.output, found.errors) != (command.output, command.errors):
-            return f"status 0, and it printed {found.output!r} and {found.errors!r}"
+            return f"status {found.status}, and it printed {found.output!r} and {found.errors!r}"
         for name, text in command.files.items():
             if not (found.files.get(name) == text if text is not None else is_replayed(found.files.get(name, ""))):
-                return f"status 0, and {name} has {found.files.get(name)!r}"
+                return f"status {found.status}, and {name} has {found.files.get(name)!r}"
         return None
     if (found.status, found.errors) not in command.refusals:
         return f"status {found.status} and {found.errors!r}"
@@ -229,9 +235,9 @@ def calls_in(errors):
     return Counter("deliver" if word[0] in "+-" else word for word in words)
 
 
-def refuse_each(run, fault_of):
-    """Runs with each request refused in turn, until runs make fewer. How many requests were refused, how the runs ended by
-    their statuses, what calls they told, and the faults, a line each."""
+def refuse_each(run, fault_of, status=0):
+    """Runs with each request refused in turn, until runs make fewer, which end with this status. How many requests were
+    refused, how the runs ended by their statuses, what calls they told, and the faults, a line each."""
     refused, statuses, calls, faults, misses = 0, Counter(), Counter(), [], 0
     for place in itertools.count(1):
         found = run(place)
@@ -242,7 +248,7 @@ def refuse_each(run, fault_of):
                 return refused, statuses, calls, faults
         if found.requests is not None and found.requests < place:
             misses += 1
-            if found.status != 0 and not fault:
+            if found.status != status and not fault:
                 faults.append(f"none was refused: status {found.status} and {found.errors!r}")
             if misses == MISSES:
                 return refused, statuses, calls, faults
@@ -266,6 +272,7 @@ def refuse_command(program, command, folder, library):
     refused, statuses, _, faults = refuse_each(
         lambda place: ended(program, command.words.split(), folder, library, place, tuple(command.files)),
         lambda found: fault_of_command(command, found, is_replayed),
+        command.status,
     )
     ways = ", ".join(f"{count} with status {status}" for status, count in sorted(statuses.items()))
     return is_told(command.words, refused, f" (ended {ways})" if ways else "", faults)
@@ -292,8 +299,9 @@ def is_told(name, refused, ways, faults):
 def prepare(folder):
     """Puts the network and the steps into a folder, and the library; its path."""
     shutil.copy(os.path.join(TOP, "examples", "n1.toml"), folder)
-    with open(os.path.join(folder, "steps.txt"), "w", newline="") as out:
-        out.write(STEPS)
+    for name, text in {"steps.txt": STEPS, **FAULTY}.items():
+        with open(os.path.join(folder, name), "w", newline="") as out:
+            out.write(text)
     return library_in(folder)
 
 

@@ -25,9 +25,9 @@ sys.path.insert(0, HERE)
 import afdx  # noqa: E402
 import explain  # noqa: E402
 import toml_lines  # noqa: E402
+from row_files import changed, rows  # noqa: E402
 
 EXAMPLES = os.path.join(HERE, "..", "examples")
-ROWS = os.path.join(HERE, "..", "crates", "afdxsim", "src", "tests", "descriptions")
 
 
 def read(path):
@@ -37,26 +37,6 @@ def read(path):
 
 def examples():
     return {os.path.basename(path)[:-5]: read(path) for path in sorted(glob.glob(os.path.join(EXAMPLES, "*.toml")))}
-
-
-def changed(row):
-    """The text of a row of the program's tests, and what the program tells of it: a network of examples/, and changes of
-    it, `OLD -> NEW` or `+ TEXT` or `+ 3 x TEXT`."""
-    name, *changes, told = row.split(" => ")
-    lines = lambda part: part.replace(";", "\n")
-    n1 = read(os.path.join(EXAMPLES, "n1.toml"))
-    text = {"empty": "", "top": "\n".join(n1.split("\n")[:2]) + "\n"}.get(name)
-    text = read(os.path.join(EXAMPLES, name + ".toml")) if text is None else text
-    for change in changes:
-        if change.startswith("+ "):
-            count, _, one = change[2:].rpartition(" x ") if " x " in change else ("1", "", change[2:])
-            for number in range(int(count)):
-                text += lines(one).replace("#", str(number)).replace("@", str(number + 1))
-        else:
-            old, new = map(lines, change.split(" -> ", 1))
-            assert old in text, row
-            text = text.replace(old, new, 1)
-    return text, told
 
 
 def told_by_explain(text):
@@ -202,15 +182,11 @@ class WithTheProgram(unittest.TestCase):
 class Rows(unittest.TestCase):
     def test_each_row_of_the_programs_tests(self):
         """The first fault is that of the row, by number and place."""
-        count = 0
-        for path in glob.glob(os.path.join(ROWS, "*.rt")):
-            for row in read(path).split("\n"):
-                if " => " in row and not row.startswith("//"):
-                    text, told = changed(row)
-                    with self.subTest(row):
-                        self.assertEqual(told_by_explain(text), "ok" if told.startswith("ok") else told)
-                    count += 1
-        self.assertGreater(count, 200)
+        for row in rows("descriptions"):
+            text, told = changed(row)
+            with self.subTest(row):
+                self.assertEqual(told_by_explain(text), "ok" if told.startswith("ok") else told)
+        self.assertGreater(len(rows("descriptions")), 200)
 
 
 class Reader(unittest.TestCase):

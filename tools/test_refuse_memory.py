@@ -13,7 +13,7 @@ sys.path.insert(0, HERE)
 import refuse_memory  # noqa: E402
 from refuse_memory import COMMANDS, TABLES, TESTS, TRACE, Ended  # noqa: E402
 
-CHECK, SEQ, TRACED, REPLAY, RUN, RUN_FILES = COMMANDS
+CHECK, SEQ, TRACED, REPLAY, RUN, RUN_FILES, SYNTAX, *_ = COMMANDS
 MEMORY, WORKER = "afdxsim: out of memory\n", "afdxsim: cannot start a worker\n"
 
 
@@ -64,6 +64,8 @@ class Judged(unittest.TestCase):
             (TRACED, 5, "", MEMORY, {"trace.csv": TRACE[:7]}),
             (REPLAY, 0, TABLES, REPLAY.errors, {}),
             (RUN, 4, "", WORKER, {}),
+            (SYNTAX, 3, "", SYNTAX.errors, {}),
+            (SYNTAX, 5, "", MEMORY, {}),
             (RUN_FILES, 0, TABLES, "", {"journal.txt": "G\n", "trace.csv": TRACE}),
             (RUN_FILES, 5, "", MEMORY, {"journal.txt": "T 0 0\nA 0\nG\nT 12 ", "trace.csv": ""}),
         ):
@@ -77,6 +79,8 @@ class Judged(unittest.TestCase):
             (CHECK, 1, "", "Error: Kind(OutOfMemory)\n", {}),
             (CHECK, 5, "", "", {}),
             (CHECK, 4, "", WORKER, {}),
+            (SYNTAX, 0, CHECK.output, "", {}),
+            (SYNTAX, 3, "", "afdxsim: description: 2 Missing at top until_ns\n", {}),
             (CHECK, 5, CHECK.output[:3], MEMORY, {}),
             (SEQ, 0, TABLES, MEMORY, {}),
             (TRACED, 0, TABLES, "", {}),

@@ -1,14 +1,9 @@
-//! Rows of whole runs of the program, over a host in memory. A row is a line of text, so that a row more costs nothing to prove.
+//! Rows of what the program does not show: calls on an exchange of a network, runs in which processes wait for each other, what a replay
+//! leaves, and segments of a trace. Those of whole runs of the program stand in tools/rows. A row is a line of text.
 mod changes;
-mod descriptions;
-mod devices;
 mod exchanges;
-mod host;
-mod journals;
 mod meetings;
 mod networks;
-mod runs;
 mod segments;
 mod stage;
-mod tables;
-mod words;
+mod worlds;

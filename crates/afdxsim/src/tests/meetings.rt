@@ -1,16 +1,13 @@
 //! Runs in which a process waits for another one: while a message is handled, another worker goes on.
-use super::host::Page;
+use super::changes::lines_of;
 use super::networks::network;
 use super::stage::number_of;
-use crate::write_steps;
+use journal_text::read_steps;
 use netdesc::{Network, read};
 use std::alloc::{AllocError, Global};
-use std::sync::Wait;
 use std::sync::atomic::{AtomicBool, AtomicU64, Ordering};
 use std::test::Fail;
-use std::thread::Threads;
-use std::time::Clock;
-use std::{str, thread};
+use std::thread;
 use vlink::Step;
 use worker_pool::{Gate, Outcome, Pace, run};
 
@@ -19,9 +16,9 @@ use worker_pool::{Gate, Outcome, Pace, run};
 /// which the gate is told out of order counts as one that looked in vain.
 ///
 /// With one worker the process that waits stands in the way of the other one.
-pub const ROWS: &str = "
-2 => 100000000 => 0:6 => 0 => T 6 0,R 0
-1 => 4096 => 0:6 => 1 => R 0,T 6 0
+const ROWS: &str = "
+2 => 100000000 => 0:6 => 0 => T 6 0;R 0;
+1 => 4096 => 0:6 => 1 => R 0;T 6 0;
 2 => 100000000 => 0:1 1:0 => 0 => any
 1 => 4096 => 0:1 1:0 => 1 => any
 ";
@@ -154,21 +151,25 @@ fn told_of(row: &str) -> Result<Told<'_>, Fail> {
     })
 }
 
-/// The run is as the row tells, and the gate was told of each message as often as the journal has it handled.
-pub fn is_met<T: Threads + Wait + Clock + Sync>(
-    rt: &T,
-    alloc: Global,
-    row: &str,
-) -> Result<bool, Fail> {
-    let told = told_of(row)?;
-    let net = network(alloc, "n3")?;
-    let network = read(alloc, net.as_str())?;
-    let gate = gate_of(alloc, &network, told)?;
-    let outcome = run_of(rt, alloc, &network, told.workers, &gate)?;
-    if gate.missed.load(Ordering::SeqCst) != told.missed || !is_told(&gate, &outcome) {
-        return Ok(false);
+#[test]
+fn processes_meet_in_a_run_by_workers(rt: HostRuntime) -> Result<(), Fail> {
+    for row in ROWS.lines() {
+        if !row.is_empty() {
+            let told = told_of(row)?;
+            let network = read(rt.alloc(), network(rt.alloc(), "n3")?.as_str())?;
+            let gate = gate_of(rt.alloc(), &network, told)?;
+            let outcome = run(&rt, rt.alloc(), &network, pace_of(told.workers)?, &gate)?;
+            assert!(rt; is_met(rt.alloc(), &gate, &outcome, told)?, "{row}");
+        }
     }
-    is_ordered(alloc, &outcome, told.order)
+    Ok(())
+}
+
+// The run is as the row tells, and the gate was told of each message as often as the journal has it handled.
+fn is_met(alloc: Global, gate: &Meeting, outcome: &Outcome, told: Told<'_>) -> Result<bool, Fail> {
+    let missed = gate.missed.load(Ordering::SeqCst);
+    let is_ordered = is_ordered(alloc, outcome.journal.as_slice(), told.order)?;
+    Ok(missed == told.missed && is_told(gate, outcome) && is_ordered)
 }
 
 // The gate that lets processes wait as a row tells.
@@ -180,24 +181,17 @@ fn gate_of(alloc: Global, network: &Network, told: Told<'_>) -> Result<Meeting, 
     Ok(gate)
 }
 
-// A run by so many workers, one message a turn.
-fn run_of<T: Threads + Wait + Clock + Sync>(
-    rt: &T,
-    alloc: Global,
-    network: &Network,
-    workers: u64,
-    gate: &Meeting,
-) -> Result<Outcome, Fail> {
+// So many workers, and one message a turn.
+fn pace_of(workers: u64) -> Result<Pace, Fail> {
     let workers = u8::try_from(workers).unwrap_or(0);
     if workers == 0 || workers > 64 {
         return Err("no pace")?;
     }
-    let pace = Pace {
+    Ok(Pace {
         workers,
         turn: 1,
         window_ns: 1_000_000,
-    };
-    Ok(run(rt, alloc, network, pace, gate)?)
+    })
 }
 
 // The gate was told of each process as often as the journal has that it handled a message.
@@ -225,22 +219,23 @@ fn runs_of(steps: &[Step], process: usize) -> u64 {
 }
 
 // Of two steps the first one stands in the journal before the second, or none is told.
-fn is_ordered(alloc: Global, outcome: &Outcome, order: &str) -> Result<bool, Fail> {
-    let Some((first, second)) = order.split_once(',') else {
+fn is_ordered(alloc: Global, journal: &[Step], order: &str) -> Result<bool, Fail> {
+    if order == "any" {
         return Ok(true);
-    };
-    let mut page = Page::new(alloc);
-    write_steps(alloc, outcome.journal.as_slice(), &mut page)?;
-    let text = str::from_utf8(page.bytes.as_slice()).map_err(|_| "no text")?;
-    Ok(place_of(text, first)? < place_of(text, second)?)
+    }
+    let order = read_steps(alloc, lines_of(alloc, order)?.as_bytes(), 2)?;
+    match order.as_slice() {
+        [first, second] => Ok(place_of(journal, *first) < place_of(journal, *second)),
+        _ => Err("two steps")?,
+    }
 }
 
-// The number of the first line with this text.
-fn place_of(text: &str, wanted: &str) -> Result<usize, Fail> {
-    for (place, line) in text.lines().enumerate() {
-        if line == wanted {
-            return Ok(place);
+// Where this step stands for the first time, or how many there are where it does not.
+fn place_of(journal: &[Step], wanted: Step) -> usize {
+    for place in 0..journal.len() {
+        if journal[place] == wanted {
+            return place;
         }
     }
-    Err("no such step")?
+    journal.len()
 }

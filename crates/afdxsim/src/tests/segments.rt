@@ -1,20 +1,12 @@
-//! A trace in segments: its intervals, what a gathering answers to segments, and a sink that fails while a run by workers writes.
-use super::host::Page;
+//! A trace in segments: its intervals, and what a gathering answers to segments.
 use super::networks::network;
 use super::stage::{Word, word_of};
-use crate::workers::Open;
-use netdesc::{Network, read};
+use netdesc::read;
 use seqsim::{Unwatched, run};
 use std::alloc::Global;
-use std::sync::Wait;
 use std::test::Fail;
-use std::thread::Threads;
-use std::time::Clock;
-use trace_tables::{
-    Batch, Gather, OutFault, Segment, SegmentFault, Sink, SinkFault, TraceFault, width, write_trace,
-};
+use trace_tables::{Batch, Gather, Segment, SegmentFault, width};
 use vlink::{GREATEST_NS, Row, Time};
-use worker_pool::{Pace, run_traced};
 
 /// A script, and what its words tell. `width:9` tells the width of an interval of a trace until 9 ns, `cut:1:14` the segment of n1's process 1
 /// for interval 14, and `take:7:1:0` what a gathering of run 7 of two processes until 9 ns answers to the segment of that run, that process
@@ -118,93 +110,4 @@ fn tell_text(text: &str, told: &mut String) -> Result<(), Fail> {
 fn tell_fault(fault: SegmentFault, told: &mut String) -> Result<(), Fail> {
     write!(told, "{fault:?}")?;
     Ok(())
-}
-
-/// A page that fails at one write, and takes what comes after it.
-#[derive(Drop)]
-struct FailsOnce {
-    page: Page,
-}
-
-impl Sink for FailsOnce {
-    ghost use Rattle.std.specs.Prelude.{None};
-
-    ghost taken = { λ _. None };
-
-    ghost failures = { λ sink. sink.page.failures };
-
-    fn write(&mut self, bytes: &[u8]) -> Result<usize, SinkFault> {
-        match self.page.write(bytes) {
-            Ok(taken) => Ok(taken),
-            Err(fault) => {
-                self.page.writes = u64::MAX;
-                Err(fault)
-            }
-        }
-    }
-}
-
-/// A file that takes one byte a write and fails at write k alone holds the first k - 1 bytes of the trace of the one-thread run, for each k, and
-/// the run by two workers tells that the device failed. Where the file takes all, it holds all.
-pub fn is_cut_at_each_write<T: Threads + Wait + Clock + Sync>(
-    rt: &T,
-    alloc: Global,
-    name: &str,
-) -> Result<bool, Fail> {
-    let net = network(alloc, name)?;
-    let network = read(alloc, net.as_str())?;
-    let trace = trace_of(alloc, &network)?;
-    for taken in 0..=trace.len() {
-        if !is_cut(rt, alloc, &network, trace.as_slice(), taken)? {
-            return Ok(false);
-        }
-    }
-    Ok(true)
-}
-
-// The trace of the one-thread run.
-fn trace_of(alloc: Global, network: &Network) -> Result<Vec<u8>, Fail> {
-    let found = run(alloc, network, &mut Unwatched)?;
-    let mut page = Page::new(alloc);
-    write_trace(alloc, network, found.rows.as_slice(), &mut page)?;
-    Ok(page.bytes)
-}
-
-// A file that takes so many bytes, one a write, and then fails once holds these of the trace, and the answer is as it must be.
-fn is_cut<T: Threads + Wait + Clock + Sync>(
-    rt: &T,
-    alloc: Global,
-    network: &Network,
-    trace: &[u8],
-    taken: usize,
-) -> Result<bool, Fail> {
-    let mut page = Page::new(alloc);
-    page.most = 1;
-    page.writes = taken as u64;
-    let pace = Pace {
-        workers: 2,
-        turn: 16,
-        window_ns: 1_000_000,
-    };
-    let found = run_traced(
-        rt,
-        alloc,
-        network,
-        pace,
-        false,
-        &Open,
-        FailsOnce { page },
-        &mut Unwatched,
-    )?;
-    let wanted = if taken < trace.len() {
-        Err(TraceFault::Out(OutFault::Device))
-    } else {
-        Ok(())
-    };
-    Ok(found.written == wanted && is_front(found.sink.page.bytes.as_slice(), trace, taken))
-}
-
-// These are so many bytes, the first ones of the whole.
-fn is_front(bytes: &[u8], whole: &[u8], count: usize) -> bool {
-    bytes.len() == count && whole.starts_with(bytes)
 }
