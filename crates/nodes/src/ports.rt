@@ -139,7 +139,7 @@ impl Ports {
             return;
         };
         if let Some(outlet) = slot {
-            outlet.port.undo_put(kept);
+            outlet.port.take_back_put(kept);
         }
     }
 
