@@ -5,28 +5,28 @@ ghost use Rattle.vlink.specs.declared.frame.Frame.{Frame};
 ghost use Rattle.bag_regulator.specs.declared.event.RegAnswer.TheVariants.{Released};
 ghost use Rattle.bag_regulator.specs.Regulator.{regulator as plain, IsRegulator};
 ghost use Rattle.reverse.specs.Sending.{joined, replied};
-ghost use Rattle.nodes.specs.rules.EndSystem.{asked, copied, copied_reply, full, lost, released_out, released_reply};
-ghost use Rattle.nodes.specs.undoing.EndSystem.{copied_kept, regulated_kept_by, AreCopiesValues, IsCopyValue};
+ghost use Rattle.nodes.specs.rules.EndSystem.{asked, copied, copied_kept, copied_reply, full, lost, released_kept, released_out, released_reply};
 
-use crate::equipment_record::EquipmentRecord;
+use crate::change::{Change, CopiesRecord};
 use crate::networks::{is_on, port_of};
 use crate::ports::Ports;
 use crate::source::Source;
 use crate::vl_end::VlEnd;
-use bag_regulator::{RegAnswer, RegEvent, RegRecord};
+use bag_regulator::{RegAnswer, RegEvent};
 use output_port::{Priority, PutRecord};
 use reverse::{Outbound, Reversible};
 use vlink::{Body, Cause, Frame, Net, Time, VlId};
 
-/// Asks a regulator to do something. A frame that finds its queue full is lost, the Release that it asks for is sent, and
+/// Asks the regulator at this place to do something. A frame that finds its queue full is lost, the Release that it asks for is sent, and
 /// copies of the frame that it releases go out.
 pub fn regulate(
     at: Time,
     event: &RegEvent,
+    place: u16,
     source: &mut Source,
     ports: &mut Ports,
     out: &mut Outbound,
-) -> EquipmentRecord
+) -> Change
     requires messages { out.old.messages ≡ [] }
     requires notes { out.old.notes ≡ [] }
     requires numbers { out.old.sender.counter + 24 ≤ greatest_number }
@@ -35,14 +35,17 @@ pub fn regulate(
     ensures reply { let told = plain.out source.old.regulator event.now in
         out.new ≡ replied out.old (joined (joined (full event.now told.answer) (asked out.old.sender.number source.old.end.vl told.release_at))
         (released_reply out.old.sender.number at source.old.end told.answer ports.old)) }
-    ensures kept { result ≡ regulated_kept_by (plain.saves source.old.regulator event.now) source.old.end (plain.out source.old.regulator event.now).answer ports.old }
+    ensures change { result ≡ Change.Source place (released_kept source.old.end (plain.out source.old.regulator event.now).answer ports.old) (plain.saves source.old.regulator event.now) }
     ensures valid { IsRegulator source.old.regulator }
-    ensures valid_ports { AreCopiesValues source.old.end (plain.out source.old.regulator event.now).answer ports.old }
 {
     let (told, kept) = source.regulator.apply(event);
     lose_if_full(event, told.answer, out);
     ask(source.end.vl, told.release_at, out);
-    release(at, kept, &source.end, told.answer, ports, out)
+    Change::Source {
+        place,
+        copies: release(at, &source.end, told.answer, ports, out),
+        kept,
+    }
 }
 
 /// A frame that is offered is lost for this cause.
@@ -80,30 +83,24 @@ fn ask(vl: VlId, release_at: Option<u64>, out: &mut Outbound)
 /// Both copies of the frame that a regulator releases go out, A before B.
 fn release(
     at: Time,
-    regulator: RegRecord,
     end: &VlEnd,
     answer: RegAnswer,
     ports: &mut Ports,
     out: &mut Outbound,
-) -> EquipmentRecord
+) -> CopiesRecord
     requires room { length out.old.messages + 4 ≤ 24 }
     requires notes { (frame : Frame) → answer ≡ Released frame → out.old.notes ≡ [] }
     requires numbers { out.old.sender.counter + 4 ≤ greatest_number }
     ensures ports { ports.new ≡ released_out end.now answer ports.old }
     ensures reply { out.new ≡ replied out.old (released_reply out.old.sender.number at end.now answer ports.old) }
-    ensures kept { result ≡ regulated_kept_by regulator end.now answer ports.old }
-    ensures valid { AreCopiesValues end.now answer ports.old }
+    ensures kept { result ≡ released_kept end.now answer ports.old }
 {
     let RegAnswer::Released(frame) = answer else {
-        return EquipmentRecord::Regulated {
-            regulator,
-            a: None,
-            b: None,
-        };
+        return CopiesRecord { a: None, b: None };
     };
     let a = copy_out(at, end, Net::A, &frame, ports, out);
     let b = copy_out(at, end, Net::B, &frame, ports, out);
-    EquipmentRecord::Regulated { regulator, a, b }
+    CopiesRecord { a, b }
 }
 
 /// The copy of a frame for this network is put to the network's port, where the virtual link is on it.
@@ -121,7 +118,6 @@ fn copy_out(
     ensures ports { ports.new ≡ copied end.now net frame.now ports.old }
     ensures reply { out.new ≡ replied out.old (copied_reply out.old.sender.number at end.now net frame.now ports.old) }
     ensures kept { result ≡ copied_kept end.now net frame.now ports.old }
-    ensures valid { IsCopyValue end.now net ports.old }
 {
     if !is_on(end, net) {
         return None;
