@@ -47,6 +47,13 @@ impl Integrity {
         self.previous
     }
 
+    /// Takes a frame back, by the record that was kept of it.
+    pub fn take_back(&mut self, kept: Option<u8>)
+        ensures { self.new ≡ kept }
+    {
+        self.previous = kept;
+    }
+
     /// Whether a frame of this number passes now.
     fn passes(self, number: u8) -> bool
         ensures { result ≡ passes self number }
@@ -101,6 +108,6 @@ impl Reversible for Integrity {
     }
 
     fn undo(&mut self, _event: &u8, kept: Option<u8>) {
-        self.previous = kept;
+        self.take_back(kept);
     }
 }

@@ -10,7 +10,7 @@ use Rattle.std.proofs.lemmas.List.{get_or-map, length-map}
 use Rattle.std.proofs.lemmas.List.Sorted.{IsNonDecreasingBy-from_default}
 use Rattle.std.proofs.lemmas.Map.Keys.{below_from_sorted, sorted_tail, non_decreasing_from_sorted}
 use Rattle.std.proofs.lemmas.Option.{none-some, same_Some, slice_get-get_or}
-use Rattle.nodes.specs.Words.{place_of, find, found_at, IsRising}
+use Rattle.nodes.specs.Words.{place_of, find, found_at, modified, modified_at, IsRising}
 
 -- the number at a place is found there, since each one before it is less
 pub place-there : (numbers : List ℕ) (id i : ℕ) → IsRising numbers → i < length numbers → get_or numbers i 0 ≡ id → place_of numbers id ≡ Some i
@@ -55,6 +55,31 @@ place-within (n ∷ numbers) id i e = go (n == id) (place_of numbers id) (place-
     go false None later e = absurd (none-some i e)
     go false (Some j) later e = omega (arith, later j refl, same_Some (j + 1) i e)
 
+-- and where they rise, it is not beyond the number
+place-from : (n : ℕ) (rest : List ℕ) (id i : ℕ) → IsRising (n ∷ rest) → place_of (n ∷ rest) id ≡ Some i → n + i ≤ id
+place-from n [] id i rising e = go (n == id) refl e
+  where
+    go : (b : Bool) → (n == id) ≡ b → cond b (Some 0) None ≡ Some i → n + i ≤ id
+    go true is e = let same : n ≡ id = grind (arith, nat_tests) in omega (arith, same, same_Some 0 i e)
+    go false is e = absurd (none-some i e)
+place-from n (m ∷ rest) id i rising e = go (n == id) refl (place_of (m ∷ rest) id) (λ j h. place-from m rest id j (sorted_tail nat_cmp n (m ∷ rest) rising) h) e
+  where
+    less : n < m
+    less = below_from_sorted (n ∷ m ∷ rest) 0 1 0 rising (omega arith) (omega arith)
+
+    go : (b : Bool) → (n == id) ≡ b → (o : Option ℕ) → ((j : ℕ) → o ≡ Some j → m + j ≤ id) → cond b (Some 0) (option_map (λ k. k + 1) o) ≡ Some i → n + i ≤ id
+    go true is o later e = let same : n ≡ id = grind (arith, nat_tests) in omega (arith, same, same_Some 0 i e)
+    go false is None later e = absurd (none-some i e)
+    go false is (Some j) later e = omega (arith, less, later j refl, same_Some (j + 1) i e)
+
+pub place-small : (numbers : List ℕ) (id : ℕ) → IsRising numbers → IfSome (place_of numbers id) (λ i. i ≤ id)
+place-small [] id rising = tt
+place-small (n ∷ rest) id rising = go (place_of (n ∷ rest) id) refl
+  where
+    go : (o : Option ℕ) → place_of (n ∷ rest) id ≡ o → IfSome o (λ i. i ≤ id)
+    go None is = tt
+    go (Some i) is = omega (arith, place-from n rest id i rising is)
+
 -- the entry that was read at the place of a number is the one that is found
 pub found-read : {X : Type 0} (number : X → ℕ) (searched read xs : List X) (id i : ℕ) (x : X) → searched ≡ read → read ≡ xs →
     Some i ≡ place_of (map number searched) id → x ≡ slice_index_or read i x → find number xs id ≡ Some (record { place = i; entry = x })
@@ -68,6 +93,13 @@ found-read number searched read xs id i x same inside placed is =
 pub rising-kept : {X : Type 0} (number : X → ℕ) (xs : List X) (i : ℕ) (x y : X) → x ≡ slice_index_or xs i x → number y ≡ number x →
     IsRising (map number xs) → IsRising (map number (slice_set xs i y))
 rising-kept number xs i x y is same rising = subst IsRising (sym (map-set_same number xs i y x (same ∙ ap number is))) rising
+
+-- the entry that was read at a place, and changed there
+pub modified-there : {X : Type 0} (f : X → X) (xs : List X) (place i : ℕ) (x y : X) → i ≡ place → i < length xs → x ≡ slice_index_or xs i x → y ≡ f x →
+    slice_set xs i y ≡ modified place f xs
+modified-there f xs place i x y at within is new =
+    let there : slice_get xs place ≡ Some x = ap (slice_get xs) (sym at) ∙ slice_get-get_or xs i x within ∙ ap (λ z. Some z) (sym is) in
+    (λ t. slice_set xs (at t) (new t)) ∙ ap (modified_at place f xs) (sym there)
 
 -- a place that a search answers is one of the list
 pub ok-within : (r : Result ℕ ℕ) (n : ℕ) → IsSearchInRange r n → IfSome (result_ok r) (λ i. i < n)

@@ -1,11 +1,12 @@
 -- What end systems, switches and lines do, for proofs and for the crates above: each word from the file that defines it.
-pub use Rattle.nodes.specs.laws.EndSystem.{reception-again}
 pub use Rattle.nodes.specs.laws.Grouping.{all_met, grouped, groups, met, met_by, vl_with}
 pub use Rattle.nodes.specs.laws.Making.{number_met, ports_among, ports_found, reception_met, source_met, transit_met}
 pub use Rattle.nodes.specs.laws.Node.{node-undoes}
 pub use Rattle.nodes.specs.laws.NodeSending.{place-stays, sends-near, wiring-stays}
-pub use Rattle.nodes.specs.laws.Places.{found-again, found-there}
-pub use Rattle.nodes.specs.rules.EndSystem.{EndSystemState, asked, check_of, copied_reply, ending_on, full, is_on, lost, received, reception_at, reception_number, regulated, released_out, released_reply, source_at, source_number}
+pub use Rattle.nodes.specs.laws.Places.{found-there}
+pub use Rattle.nodes.specs.laws.Ports.{put-kept}
+pub use Rattle.nodes.specs.laws.Undoing.{end_system-port-last, source-last, switch-port-last, transit-last}
+pub use Rattle.nodes.specs.rules.EndSystem.{EndSystemState, asked, check_of, copied_reply, ending_on, full, is_on, lost, received, reception_at, reception_number, regulated, released_kept, released_out, released_reply, source_at, source_number}
 pub use Rattle.nodes.specs.rules.Finding.{Found, IsRising, find, found_at, place_of}
 pub use Rattle.nodes.specs.rules.Line.{LineState}
 pub use Rattle.nodes.specs.rules.Meeting.{first_port, is_by, meeting, meetings, ways_at, with_ways}
@@ -18,8 +19,5 @@ pub use Rattle.nodes.specs.rules.Placed.{AllWires, IsPlaced, IsPlacedEquipment, 
 pub use Rattle.nodes.specs.rules.Ports.{PortsState, exists}
 pub use Rattle.nodes.specs.rules.Simulation.{simulation_of}
 pub use Rattle.nodes.specs.rules.Switch.{SwitchState, entered, entered_reply, forwarded, transit_at, transit_number}
-pub use Rattle.nodes.specs.undoing.EndSystem.{AreCopiesValues, EndSystemCameFrom, IsRegulatedValue, delivery_kept, regulated_kept, regulated_kept_by, unreceived, unregulated, unregulated_by, untaken, untaken_by}
-pub use Rattle.nodes.specs.undoing.EndSystemElements.{ReceivedCameFrom, RegulatedCameFrom, SendingCameFrom}
-pub use Rattle.nodes.specs.undoing.Node.{IsNodeValue, equipment_restored}
-pub use Rattle.nodes.specs.undoing.Ports.{unput}
-pub use Rattle.nodes.specs.undoing.Switch.{IsEnteredValue, IsTakenValue, SwitchCameFrom, unjudged}
+pub use Rattle.nodes.specs.undoing.Changes.{end_system_undone, modified, modified_at, reception_undone, source_undone, switch_undone, transit_undone, undone, IsLastOfEndSystem, IsLastOfSource, IsLastOfSwitch, IsLastOfTransit}
+pub use Rattle.nodes.specs.undoing.Node.{IsNodeValue}

@@ -1,5 +1,4 @@
 -- What proofs need of nodes, and no clause of a public function.
-pub mod EndSystem
 pub mod EndSystemSending
 pub mod Grouping
 pub mod Making
@@ -10,5 +9,5 @@ pub mod Ports
 pub mod Regulator
 pub mod Replies
 pub mod Sent
-pub mod Switch
 pub mod SwitchSending
+pub mod Undoing

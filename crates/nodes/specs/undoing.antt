@@ -1,6 +1,4 @@
--- What is kept of an event of a node, and the node before it.
-pub mod EndSystem
-pub mod EndSystemElements
+-- A node before its last change, and when a change is the last one.
+pub mod Changes
 pub mod Node
 pub mod Ports
-pub mod Switch

@@ -1,8 +1,7 @@
 //! An end system: regulators, ports and receivers in one process.
-ghost use Rattle.std.specs.Prelude.{◌≡◌, ℕ, ◌+◌, ◌<◌, ◌≤◌, [], length, map};
+ghost use Rattle.std.specs.Prelude.{◌≡◌, ◌+◌, ◌<◌, ◌≤◌, ◌^◌, [], length, map, slice_get, IfSome};
 ghost use Rattle.std.specs.Option.{option_copied, option_map};
 ghost use Rattle.vlink.specs.Numbering.{greatest_number};
-ghost use Rattle.vlink.specs.declared.message.Body.TheVariants as body;
 ghost use Rattle.vlink.specs.declared.note.Cause.TheVariants.{Unknown};
 ghost use Rattle.bag_regulator.specs.declared.event.RegEvent.TheVariants.{Offer};
 ghost use Rattle.reverse.specs.Sending.{replied};
@@ -11,19 +10,17 @@ ghost use Rattle.nodes.specs.declared.source.Source.{Source};
 ghost use Rattle.nodes.specs.declared.reception.Reception.{Reception};
 ghost use Rattle.nodes.specs.rules.Ports.{port_at};
 ghost use Rattle.nodes.specs.rules.EndSystem.{end_system, lost, offered_frame, regulated, taken, reception_at, reception_number, source_at, source_number};
-ghost use Rattle.nodes.specs.undoing.EndSystem.{end_system_kept, end_system_restored, regulated_kept, taken_kept, unfreed, unregulated, untaken, EndSystemCameFrom, IsEndSystemValue, IsRegulatedValue};
-ghost use Rattle.nodes.specs.undoing.EndSystemElements.{RegulatedCameFrom};
+ghost use Rattle.nodes.specs.undoing.Changes.{end_system_undone, modified, source_undone, reception_undone, IsLastOfSource, IsLastOfEndSystem};
 
-use crate::equipment_record::EquipmentRecord;
+use crate::change::Change;
+use crate::copies::take_back;
 use crate::finding::place_of;
-use crate::networks::is_on;
 use crate::ports::Ports;
+use crate::receiving::ReceivingRecord;
 use crate::reception::Reception;
-use crate::sending::{lose_offered, regulate};
-use crate::source::Source;
-use crate::taking_back::take_back;
-use bag_regulator::{BagRegulator, RegEvent};
-use output_port::{Port, PortEvent};
+use crate::source::{Source, lose_offered};
+use bag_regulator::{BagRegulator, RegEvent, RegRecord};
+use output_port::Port;
 use reverse::Outbound;
 use std::marker::Model;
 use vlink::{Body, Cause, Frame, FrameSize, Message, Net, Time, VlId};
@@ -65,16 +62,16 @@ impl EndSystem {
         }
     }
 
-    /// Handles a message, and gives the record by which it is undone.
+    /// Handles a message, and tells what it changed.
     #[inline(always)]
-    pub fn handle(&mut self, message: &Message, out: &mut Outbound) -> EquipmentRecord
+    pub fn handle(&mut self, message: &Message, out: &mut Outbound) -> Change
         requires messages { out.old.messages ≡ [] }
         requires notes { out.old.notes ≡ [] }
         requires numbers { out.old.sender.counter + 24 ≤ greatest_number }
         ensures state { self.new ≡ (end_system out.old.sender.number message.now.time message.now.body self.old).state }
         ensures reply { out.new ≡ replied out.old (end_system out.old.sender.number message.now.time message.now.body self.old).reply }
-        ensures kept { result ≡ end_system_kept message.now.time message.now.body self.old }
-        ensures valid { IsEndSystemValue message.now.time message.now.body self.old }
+        ensures change { result ≡ (end_system out.old.sender.number message.now.time message.now.body self.old).change }
+        ensures last { IsLastOfEndSystem result self.new }
     {
         let at = message.time;
         match &message.body {
@@ -82,107 +79,90 @@ impl EndSystem {
                 self.regulate(at, *vl, &offer(at, *vl, *size, *sub), out)
             }
             Body::Release { vl } => self.regulate(at, *vl, &RegEvent::Release { at }, out),
-            Body::PortFree { port } => EquipmentRecord::Port(self.ports.free(at, *port, out)),
+            Body::PortFree { port } => Change::of_port(*port, self.ports.free(at, *port, out)),
             Body::Arrive { port, frame } if self.ports.exists(*port) => self.take(at, frame, out),
-            _ => EquipmentRecord::Nothing,
+            _ => Change::Nothing,
         }
     }
 
-    /// Takes a message back by the record that was kept of it.
-    pub fn undo(&mut self, message: &Message, kept: EquipmentRecord)
-        requires { (n : ℕ) × EndSystemCameFrom n message.now.time message.now.body self.old kept }
-        ensures { self.new ≡ end_system_restored message.now.body kept self.old }
+    /// Takes the last change back.
+    pub fn take_back(&mut self, change: &Change)
+        requires { IsLastOfEndSystem change.now self.old }
+        ensures { self.new ≡ end_system_undone change.now self.old }
     {
-        let at = message.time;
-        match message.body {
-            Body::Offer { vl, size, sub } => self.unregulate(vl, &offer(at, vl, size, sub), kept),
-            Body::Release { vl } => self.unregulate(vl, &RegEvent::Release { at }, kept),
-            Body::PortFree { port } => self.unfree(port, kept),
-            Body::Arrive { port, frame } => self.untake(at, port, &frame, kept),
-            Body::Enqueue { .. } | Body::Carry { .. } => {}
+        match *change {
+            Change::Source {
+                place,
+                copies,
+                kept,
+            } => {
+                take_back(copies, &mut self.ports);
+                self.take_back_source(place, kept);
+            }
+            Change::Reception { place, kept } => self.take_back_reception(place, kept),
+            Change::Outlet { port, kept } => self.ports.take_back(port, kept),
+            Change::Transit { .. } | Change::Nothing => {}
         }
+    }
+
+    /// Takes back what the regulator at a place was asked.
+    fn take_back_source(&mut self, place: u16, kept: RegRecord)
+        requires { IfSome (slice_get self.old.sources place) (IsLastOfSource kept) }
+        ensures { self.new ≡ record self.old { sources = modified place (source_undone kept) self.old.sources } }
+    {
+        let Some(source) = self.sources.get_mut(usize::from(place)) else {
+            return;
+        };
+        source.regulator.take_back(kept);
+    }
+
+    /// Takes back that a frame came to the checks at a place.
+    fn take_back_reception(&mut self, place: u16, kept: ReceivingRecord)
+        ensures { self.new ≡ record self.old { receptions = modified place (reception_undone kept) self.old.receptions } }
+    {
+        let Some(reception) = self.receptions.get_mut(usize::from(place)) else {
+            return;
+        };
+        reception.receiving.take_back(kept);
     }
 
     /// The regulator of a virtual link is asked to do something. A frame of a virtual link that does not begin here is lost.
     #[inline(always)]
-    fn regulate(
-        &mut self,
-        at: Time,
-        vl: VlId,
-        event: &RegEvent,
-        out: &mut Outbound,
-    ) -> EquipmentRecord
+    fn regulate(&mut self, at: Time, vl: VlId, event: &RegEvent, out: &mut Outbound) -> Change
         requires messages { out.old.messages ≡ [] }
         requires notes { out.old.notes ≡ [] }
         requires numbers { out.old.sender.counter + 24 ≤ greatest_number }
         ensures state { self.new ≡ (regulated out.old.sender.number at event.now (lost Unknown event.now) self.old (source_at self.old vl)).state }
         ensures reply { out.new ≡ replied out.old (regulated out.old.sender.number at event.now (lost Unknown event.now) self.old (source_at self.old vl)).reply }
-        ensures kept { result ≡ regulated_kept event.now self.old (source_at self.old vl) }
-        ensures valid { IsRegulatedValue event.now self.old (source_at self.old vl) }
+        ensures change { result ≡ (regulated out.old.sender.number at event.now (lost Unknown event.now) self.old (source_at self.old vl)).change }
+        ensures last { IsLastOfEndSystem result self.new }
     {
         let Some(place) = place_of(self.sources.as_slice(), vl) else {
             lose_offered(Cause::Unknown, event, out);
-            return EquipmentRecord::Nothing;
+            return Change::Nothing;
         };
         let source = &mut self.sources[place];
-        regulate(at, event, source, &mut self.ports, out)
-    }
-
-    /// Takes back what the regulator of a virtual link was asked to do.
-    fn unregulate(&mut self, vl: VlId, event: &RegEvent, kept: EquipmentRecord)
-        requires { (n t : ℕ) × RegulatedCameFrom n t vl event.now self.old kept }
-        ensures { self.new ≡ unregulated vl kept self.old }
-    {
-        let EquipmentRecord::Regulated { regulator, a, b } = kept else {
-            return;
-        };
-        let Some(place) = place_of(self.sources.as_slice(), vl) else {
-            return;
-        };
-        let source = &mut self.sources[place];
-        take_back(event, &regulator, a, b, source, &mut self.ports);
-    }
-
-    /// Takes back that the frame of a port left.
-    fn unfree(&mut self, port: u8, kept: EquipmentRecord)
-        requires { (n t : ℕ) × EndSystemCameFrom n t (body.PortFree port) self.old kept }
-        ensures { self.new ≡ unfreed port kept self.old }
-    {
-        let EquipmentRecord::Port(kept) = kept else {
-            return;
-        };
-        self.ports.undo(port, &PortEvent::Free, kept);
+        source.regulate(at, event, place as u16, &mut self.ports, out)
     }
 
     /// A frame has come. It is lost where its virtual link does not end here on its network.
     #[inline(always)]
-    fn take(&mut self, at: Time, frame: &Frame, out: &mut Outbound) -> EquipmentRecord
+    fn take(&mut self, at: Time, frame: &Frame, out: &mut Outbound) -> Change
         requires { length out.old.notes < 2 }
         ensures state { self.new ≡ (taken at frame.now self.old (reception_at self.old frame.now.vl frame.now.net)).state }
         ensures reply { out.new ≡ replied out.old (taken at frame.now self.old (reception_at self.old frame.now.vl frame.now.net)).reply }
-        ensures kept { result ≡ taken_kept frame.now (reception_at self.old frame.now.vl frame.now.net) }
+        ensures change { result ≡ (taken at frame.now self.old (reception_at self.old frame.now.vl frame.now.net)).change }
+        ensures last { IsLastOfEndSystem result self.new }
     {
         let Some(place) = self.reception(frame.vl, frame.net) else {
             out.lose(Cause::Unknown, frame);
-            return EquipmentRecord::Nothing;
+            return Change::Nothing;
         };
         let reception = &mut self.receptions[place];
-        reception.receiving.receive(at, frame, out)
-    }
-
-    /// Takes back that a frame came to a port.
-    fn untake(&mut self, at: Time, port: u8, frame: &Frame, kept: EquipmentRecord)
-        requires { (n : ℕ) × EndSystemCameFrom n at (body.Arrive port frame.now) self.old kept }
-        ensures { self.new ≡ untaken frame.now kept self.old }
-    {
-        let EquipmentRecord::Received { check, delivery } = kept else {
-            return;
-        };
-        let Some(place) = self.reception(frame.vl, frame.net) else {
-            return;
-        };
-        let reception = &mut self.receptions[place];
-        reception.receiving.take_back(at, frame, check, delivery);
+        Change::Reception {
+            place: place as u16,
+            kept: reception.receiving.receive(at, frame, out),
+        }
     }
 
     /// The regulator of a virtual link, if the end system sends it.
@@ -203,10 +183,11 @@ impl EndSystem {
     /// The place of a virtual link that ends here on this network among those that the end system receives.
     #[inline(always)]
     fn reception(&self, vl: VlId, net: Net) -> Option<usize>
-        ensures { result ≡ option_map (λ (found : Found Reception). found.place) (reception_at self.now vl net) }
+        ensures place { result ≡ option_map (λ (found : Found Reception). found.place) (reception_at self.now vl net) }
+        ensures small { IfSome result (λ place. place < 2 ^ 16) }
     {
         let place = place_of(self.receptions.as_slice(), vl)?;
-        if is_on(&self.receptions[place].end, net) {
+        if self.receptions[place].end.is_on(net) {
             Some(place)
         } else {
             None

@@ -1,13 +1,13 @@
 //! What a node is: an end system, a switch or a line.
-ghost use Rattle.std.specs.Prelude.{◌≡◌, ℕ, ◌+◌, ◌≤◌, []};
+ghost use Rattle.std.specs.Prelude.{◌≡◌, ◌+◌, ◌≤◌, []};
 ghost use Rattle.vlink.specs.Numbering.{greatest_number};
 ghost use Rattle.std.specs.Option.{option_copied};
 ghost use Rattle.reverse.specs.Sending.{replied};
 ghost use Rattle.nodes.specs.rules.Node.{handled, port_in, regulator_in};
-ghost use Rattle.nodes.specs.undoing.Node.{equipment_kept, equipment_restored, EquipmentCameFrom, IsEquipmentValue};
+ghost use Rattle.nodes.specs.undoing.Changes.{undone, IsLastChange};
 
+use crate::change::Change;
 use crate::end_system::EndSystem;
-use crate::equipment_record::EquipmentRecord;
 use crate::line::Line;
 use crate::switch::Switch;
 use bag_regulator::BagRegulator;
@@ -24,35 +24,35 @@ pub enum Equipment {
 }
 
 impl Equipment {
-    /// Handles a message, and gives the record by which it is undone.
+    /// Handles a message, and tells what it changed.
     #[inline(always)]
-    pub(crate) fn handle(&mut self, message: &Message, out: &mut Outbound) -> EquipmentRecord
+    pub(crate) fn handle(&mut self, message: &Message, out: &mut Outbound) -> Change
         requires messages { out.old.messages ≡ [] }
         requires notes { out.old.notes ≡ [] }
         requires numbers { out.old.sender.counter + 24 ≤ greatest_number }
         ensures state { self.new ≡ (handled out.old.sender.number message.now self.old).equipment }
         ensures reply { out.new ≡ replied out.old (handled out.old.sender.number message.now self.old).reply }
-        ensures kept { result ≡ equipment_kept message.now self.old }
-        ensures valid { IsEquipmentValue message.now self.old }
+        ensures change { result ≡ (handled out.old.sender.number message.now self.old).change }
+        ensures last { IsLastChange result self.new }
     {
         match self {
             Equipment::EndSystem(end_system) => end_system.handle(message, out),
             Equipment::Switch(switch) => switch.handle(message, out),
             Equipment::Line(line) => {
                 line.handle(message, out);
-                EquipmentRecord::Nothing
+                Change::Nothing
             }
         }
     }
 
-    /// Takes a message back by the record that was kept of it.
-    pub(crate) fn undo(&mut self, message: &Message, kept: EquipmentRecord)
-        requires { EquipmentCameFrom message.now self.old kept }
-        ensures { self.new ≡ equipment_restored message.now kept self.old }
+    /// Takes the last change back.
+    pub(crate) fn take_back(&mut self, change: &Change)
+        requires { IsLastChange change.now self.old }
+        ensures { self.new ≡ undone change.now self.old }
     {
         match self {
-            Equipment::EndSystem(end_system) => end_system.undo(message, kept),
-            Equipment::Switch(switch) => switch.undo(message, kept),
+            Equipment::EndSystem(end_system) => end_system.take_back(change),
+            Equipment::Switch(switch) => switch.take_back(change),
             Equipment::Line(_) => {}
         }
     }

@@ -1,5 +1,5 @@
 //! Where a virtual link stands among the entries that a node has for virtual links.
-ghost use Rattle.std.specs.Prelude.{◌≡◌, ◌<◌, ℕ, map, length, IfSome};
+ghost use Rattle.std.specs.Prelude.{◌≡◌, ◌<◌, ◌≤◌, ◌^◌, ℕ, map, length, IfSome};
 ghost use Rattle.nodes.specs.rules.Finding.{place_of, IsRising};
 
 use vlink::VlId;
@@ -18,6 +18,17 @@ pub fn place_of<T: Numbered>(entries: &[T], vl: VlId) -> Option<usize>
     requires { IsRising (map T.number entries.now) }
     ensures place { result ≡ place_of (map T.number entries.now) vl.0 }
     ensures within { IfSome result (λ place. place < length entries.now) }
+    ensures small { IfSome result (λ place. place < 2 ^ 16) }
+{
+    search(entries, vl)
+}
+
+/// The same, as the search gives it: a place that is not beyond the number.
+fn search<T: Numbered>(entries: &[T], vl: VlId) -> Option<usize>
+    requires { IsRising (map T.number entries.now) }
+    ensures place { result ≡ place_of (map T.number entries.now) vl.0 }
+    ensures within { IfSome result (λ place. place < length entries.now) }
+    ensures small { IfSome result (λ place. place ≤ vl.0) }
 {
     entries
         .binary_search_by_key(&vl.0, |entry| entry.number())

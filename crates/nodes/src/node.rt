@@ -7,19 +7,19 @@ ghost use Rattle.nodes.specs.rules.Node.{after, sends, notes, port_in, regulator
 ghost use Rattle.nodes.specs.undoing.Node.{node, IsNodeValue};
 ghost use Rattle.nodes.specs.rules.Placed.{IsPlacedEquipment};
 
+use crate::change::Change;
 use crate::equipment::Equipment;
-use crate::equipment_record::EquipmentRecord;
 use bag_regulator::BagRegulator;
 use output_port::Port;
 use reverse::{Actor, Outbound, Reversible, Sends};
 use std::marker::Model;
 use vlink::{Message, Time, VlId};
 
-/// What undoing an event of a node takes: how many messages it sent, and the records of the elements that it changed.
+/// What undoing an event of a node takes: how many messages it sent, and what it changed.
 #[derive(Clone, Copy, Debug, PartialEq, Eq)]
 pub struct NodeRecord {
     pub sends: u8,
-    pub equipment: EquipmentRecord,
+    pub change: Change,
 }
 
 /// A node of a network, or one direction of a link, as a process that handles messages.
@@ -73,11 +73,11 @@ impl Node {
         ensures valid { IsNodeValue self.old event.now }
     {
         out.open(self.number, self.until, self.counter);
-        let equipment = self.equipment.handle(event, out);
+        let change = self.equipment.handle(event, out);
         self.counter = out.counter();
         NodeRecord {
             sends: out.messages().len() as u8,
-            equipment,
+            change,
         }
     }
 
@@ -129,9 +129,9 @@ impl Reversible for Node {
         (out.close(), kept)
     }
 
-    fn undo(&mut self, event: &Message, kept: NodeRecord) {
+    fn undo(&mut self, _event: &Message, kept: NodeRecord) {
         self.counter -= u64::from(kept.sends);
-        self.equipment.undo(event, kept.equipment);
+        self.equipment.take_back(&kept.change);
     }
 }
 

@@ -3,14 +3,14 @@ ghost use Rattle.std.specs.Prelude.{◌≡◌, ◌+◌, ◌<◌, ◌≤◌, leng
 ghost use Rattle.std.specs.Option.{option_copied};
 ghost use Rattle.vlink.specs.Numbering.{greatest_number};
 ghost use Rattle.reverse.specs.Sending.{replied};
-ghost use Rattle.nodes.specs.rules.Ports.{answered, changed, exists, outlet_at, port_at, reply, start};
+ghost use Rattle.nodes.specs.rules.Ports.{answered, changed, exists, outlet_at, port_at, port_kept, port_put_kept, reply, start};
 ghost use Rattle.output_port.specs.Port.{free_answer, put_answer};
 ghost use Rattle.output_port.specs.declared.event.Priority.{Priority};
 ghost use Rattle.output_port.specs.declared.event.PortEvent.TheVariants.{Put, Free};
-ghost use Rattle.nodes.specs.undoing.Ports.{port_kept, port_put_kept, restored, unput, IsPortValue, PortCameFrom};
+ghost use Rattle.nodes.specs.undoing.Ports.{restored, unput, IsLastAtPort, IsPortValue};
 
-use output_port::{FreeRecord, Port, PortEvent, PortRecord, Priority, PutRecord};
-use reverse::{Outbound, Reversible};
+use output_port::{FreeRecord, Port, PortRecord, Priority, PutRecord};
+use reverse::Outbound;
 use std::marker::Model;
 use vlink::{Body, Cause, Frame, Time, busy_ns, last_bit_ns};
 
@@ -129,9 +129,23 @@ impl Ports {
         }
     }
 
+    /// Takes the last event at a port back.
+    #[tactic(auto, using(std::proofs::lemmas::Grind::common_steps, crate::proofs::PortLemmas::reads))]
+    pub fn take_back(&mut self, port: u8, kept: PortRecord)
+        requires { IsLastAtPort port kept self.old }
+        ensures { self.new ≡ restored port kept self.old }
+    {
+        let Some(slot) = self.outlets.get_mut(usize::from(port)) else {
+            return;
+        };
+        if let Some(outlet) = slot {
+            outlet.port.take_back(kept);
+        }
+    }
+
     /// Takes back that a frame was put to a port.
     #[tactic(auto, using(std::proofs::lemmas::Grind::common_steps, crate::proofs::PortLemmas::reads))]
-    pub fn undo_put(&mut self, port: u8, kept: Option<PutRecord>)
+    pub fn take_back_put(&mut self, port: u8, kept: Option<PutRecord>)
         ensures { self.new ≡ unput port kept self.old }
     {
         let Some(kept) = kept else { return };
@@ -139,21 +153,7 @@ impl Ports {
             return;
         };
         if let Some(outlet) = slot {
-            outlet.port.undo_put(kept);
-        }
-    }
-
-    /// Takes an event at a port back.
-    pub fn undo(&mut self, port: u8, event: &PortEvent, kept: Option<PortRecord>)
-        requires { PortCameFrom port event.now self.old kept }
-        ensures { self.new ≡ restored port kept self.old }
-    {
-        let Some(kept) = kept else { return };
-        let Some(slot) = self.outlets.get_mut(usize::from(port)) else {
-            return;
-        };
-        if let Some(outlet) = slot {
-            outlet.port.undo(event, kept);
+            outlet.port.take_back_put(kept);
         }
     }
 }

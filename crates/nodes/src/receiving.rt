@@ -3,15 +3,21 @@ ghost use Rattle.std.specs.Prelude.{◌≡◌, ◌<◌, length};
 ghost use Rattle.integrity.specs.Integrity.{integrity};
 ghost use Rattle.integrity.specs.declared.checking.Checked.TheVariants.{Passed};
 ghost use Rattle.reverse.specs.Sending.{replied};
-ghost use Rattle.nodes.specs.rules.EndSystem.{check_of, checked, received, received_reply, redundant, with_check};
-ghost use Rattle.nodes.specs.undoing.EndSystem.{delivery_kept, unreceived};
-ghost use Rattle.nodes.specs.undoing.EndSystemElements.{ReceivedCameFrom};
+ghost use Rattle.nodes.specs.rules.EndSystem.{check_of, checked, received, received_kept, received_reply, redundant, with_check};
+ghost use Rattle.nodes.specs.undoing.Changes.{unreceived};
 
-use crate::equipment_record::EquipmentRecord;
 use integrity::{Checked, Integrity};
 use redundancy::{Delivery, Received, Redundancy};
 use reverse::{Outbound, Reversible};
 use vlink::{Cause, Frame, Net, Note, Time};
+
+/// What undoing a frame takes: the check of its network as it was, and redundancy management as it was if it saw the frame.
+#[derive(Clone, Copy, Debug, PartialEq, Eq)]
+pub struct ReceivingRecord {
+    pub net: Net,
+    pub check: Option<u8>,
+    pub delivery: Option<Option<(u8, Time)>>,
+}
 
 /// What checks the frames of one virtual link at a receiver: integrity checking on each network, and then redundancy
 /// management (ARINC 664 Part 7).
@@ -26,12 +32,11 @@ impl Receiving {
     /// A frame has come: it is delivered if it passes the check of its network and redundancy management then lets it
     /// through, and lost otherwise.
     #[inline(always)]
-    pub fn receive(&mut self, at: Time, frame: &Frame, out: &mut Outbound) -> EquipmentRecord
+    pub fn receive(&mut self, at: Time, frame: &Frame, out: &mut Outbound) -> ReceivingRecord
         requires { length out.old.notes < 2 }
         ensures state { self.new ≡ received at frame.now self.old }
         ensures reply { out.new ≡ replied out.old (received_reply at frame.now self.old) }
-        ensures kept { let check = check_of frame.now.net self.old in
-            result ≡ EquipmentRecord.Received check (delivery_kept self.old (integrity.out check frame.now.number)) }
+        ensures kept { result ≡ received_kept frame.now self.old }
     {
         let (verdict, check) = self.check(frame);
         let delivery = match verdict {
@@ -41,27 +46,28 @@ impl Receiving {
                 None
             }
         };
-        EquipmentRecord::Received { check, delivery }
+        ReceivingRecord {
+            net: frame.net,
+            check,
+            delivery,
+        }
     }
 
-    /// Takes back that a frame came, by the records of the check of its network and of redundancy management.
-    pub fn take_back(
-        &mut self,
-        at: Time,
-        frame: &Frame,
-        check: Option<u8>,
-        delivery: Option<Option<(u8, Time)>>,
-    )
-        requires { ReceivedCameFrom at frame.now self.old check delivery }
-        ensures { self.new ≡ unreceived frame.now.net check delivery self.old }
+    /// Takes a frame back, by the record that was kept of it.
+    pub fn take_back(&mut self, kept: ReceivingRecord)
+        ensures { self.new ≡ unreceived kept self.old }
     {
-        let number = frame.number;
+        let ReceivingRecord {
+            net,
+            check,
+            delivery,
+        } = kept;
         if let Some(last) = delivery {
-            self.redundancy.undo(&Received { number, at }, last);
+            self.redundancy.take_back(last);
         }
-        match frame.net {
-            Net::A => self.a.undo(&number, check),
-            Net::B => self.b.undo(&number, check),
+        match net {
+            Net::A => self.a.take_back(check),
+            Net::B => self.b.take_back(check),
         }
     }
 

@@ -1,21 +1,19 @@
 //! A switch: policing, delay and output ports in one process.
-ghost use Rattle.std.specs.Prelude.{◌≡◌, ◌+◌, ◌≤◌, ℕ, [], map};
+ghost use Rattle.std.specs.Prelude.{◌≡◌, ◌+◌, ◌≤◌, [], map, slice_get, IfSome};
 ghost use Rattle.std.specs.Option.{option_copied, option_map};
 ghost use Rattle.vlink.specs.Numbering.{greatest_number};
-ghost use Rattle.vlink.specs.declared.message.Body.TheVariants as body;
-ghost use Rattle.nodes.specs.declared.equipment_record.EquipmentRecord.TheVariants as saved;
 ghost use Rattle.reverse.specs.Sending.{replied};
 ghost use Rattle.nodes.specs.rules.Finding.{Found, IsRising};
 ghost use Rattle.nodes.specs.declared.transit.Transit.{Transit};
 ghost use Rattle.nodes.specs.rules.Ports.{port_at};
-ghost use Rattle.nodes.specs.rules.Switch.{entered, entered_reply, forwarded, judged, outputs_of, switch, taken, put, transit_at, transit_number};
-ghost use Rattle.nodes.specs.undoing.Switch.{entered_kept, taken_kept, put_kept, switch_kept, switch_restored, unported, unpoliced, SwitchCameFrom, IsSwitchValue, IsEnteredValue, IsTakenValue, IsPutValue};
+ghost use Rattle.nodes.specs.rules.Switch.{entered, entered_kept, entered_reply, forwarded, judged, outputs_of, switch, taken, put, transit_at, transit_number};
+ghost use Rattle.nodes.specs.undoing.Changes.{modified, switch_undone, transit_undone, IsLastOfTransit, IsLastOfSwitch};
 
-use crate::equipment_record::EquipmentRecord;
+use crate::change::Change;
 use crate::finding::place_of;
 use crate::ports::Ports;
 use crate::transit::Transit;
-use output_port::{Port, PortEvent, PortRecord, Priority};
+use output_port::{Port, Priority};
 use policer::{AccountRecord, Arrival, Verdict};
 use reverse::{Outbound, Reversible};
 use std::marker::Model;
@@ -57,47 +55,51 @@ impl Switch {
         }
     }
 
-    /// Handles a message, and gives the record by which it is undone.
+    /// Handles a message, and tells what it changed.
     #[inline(always)]
-    pub fn handle(&mut self, message: &Message, out: &mut Outbound) -> EquipmentRecord
+    pub fn handle(&mut self, message: &Message, out: &mut Outbound) -> Change
         requires messages { out.old.messages ≡ [] }
         requires notes { out.old.notes ≡ [] }
         requires numbers { out.old.sender.counter + 24 ≤ greatest_number }
         ensures state { self.new ≡ (switch out.old.sender.number message.now.time message.now.body self.old).state }
         ensures reply { out.new ≡ replied out.old (switch out.old.sender.number message.now.time message.now.body self.old).reply }
-        ensures kept { result ≡ switch_kept message.now.time message.now.body self.old }
-        ensures valid { IsSwitchValue message.now.body self.old }
+        ensures change { result ≡ (switch out.old.sender.number message.now.time message.now.body self.old).change }
+        ensures last { IsLastOfSwitch result self.new }
     {
         let at = message.time;
         match &message.body {
-            Body::PortFree { port } => EquipmentRecord::Port(self.ports.free(at, *port, out)),
+            Body::PortFree { port } => Change::of_port(*port, self.ports.free(at, *port, out)),
             Body::Arrive { port, frame } if self.ports.exists(*port) => {
                 self.take(at, *port, frame, out)
             }
             Body::Enqueue { port, frame } if self.ports.exists(*port) => {
                 self.put(at, *port, frame, out)
             }
-            _ => EquipmentRecord::Nothing,
+            _ => Change::Nothing,
         }
     }
 
-    /// Takes a message back by the record that was kept of it.
-    pub fn undo(&mut self, message: &Message, kept: EquipmentRecord)
-        requires { (n : ℕ) × SwitchCameFrom n message.now.time message.now.body self.old kept }
-        ensures { self.new ≡ switch_restored message.now.time message.now.body kept self.old }
+    /// Takes the last change back.
+    pub fn take_back(&mut self, change: &Change)
+        requires { IsLastOfSwitch change.now self.old }
+        ensures { self.new ≡ switch_undone change.now self.old }
     {
-        match (message.body, kept) {
-            (Body::PortFree { port }, EquipmentRecord::Port(kept)) => {
-                self.ports.undo(port, &PortEvent::Free, kept)
-            }
-            (Body::Enqueue { port, frame }, EquipmentRecord::Port(kept)) => self.take_back(
-                port, &frame, kept,
-            ),
-            (Body::Arrive { port, frame }, EquipmentRecord::Policed(kept)) => {
-                self.repay(message.time, port, &frame, kept)
-            }
-            _ => {}
+        match *change {
+            Change::Transit { place, kept } => self.take_back_transit(place, kept),
+            Change::Outlet { port, kept } => self.ports.take_back(port, kept),
+            Change::Source { .. } | Change::Reception { .. } | Change::Nothing => {}
         }
+    }
+
+    /// Takes back that the account at a place judged a frame.
+    fn take_back_transit(&mut self, place: u16, kept: AccountRecord)
+        requires { IfSome (slice_get self.old.transits place) (IsLastOfTransit kept) }
+        ensures { self.new ≡ record self.old { transits = modified place (transit_undone kept) self.old.transits } }
+    {
+        let Some(transit) = self.transits.get_mut(usize::from(place)) else {
+            return;
+        };
+        transit.account.take_back(kept);
     }
 
     /// A port, if there is such a port.
@@ -109,71 +111,42 @@ impl Switch {
 
     /// A frame has come to a port.
     #[inline(always)]
-    fn take(&mut self, at: Time, port: u8, frame: &Frame, out: &mut Outbound) -> EquipmentRecord
+    fn take(&mut self, at: Time, port: u8, frame: &Frame, out: &mut Outbound) -> Change
         requires messages { out.old.messages ≡ [] }
         requires notes { out.old.notes ≡ [] }
         requires numbers { out.old.sender.counter + 24 ≤ greatest_number }
         ensures state { self.new ≡ (taken out.old.sender.number at port frame.now self.old (transit_at self.old frame.now.vl)).state }
         ensures reply { out.new ≡ replied out.old (taken out.old.sender.number at port frame.now self.old (transit_at self.old frame.now.vl)).reply }
-        ensures kept { result ≡ taken_kept at port frame.now (transit_at self.old frame.now.vl) }
-        ensures valid { IsTakenValue port frame.now (transit_at self.old frame.now.vl) }
+        ensures change { result ≡ (taken out.old.sender.number at port frame.now self.old (transit_at self.old frame.now.vl)).change }
+        ensures last { IsLastOfSwitch result self.new }
     {
         let Some(place) = place_of(self.transits.as_slice(), frame.vl) else {
             out.lose(Cause::Unknown, frame);
-            return EquipmentRecord::Nothing;
+            return Change::Nothing;
         };
         let transit = &mut self.transits[place];
-        enter(at, self.latency_ns, port, frame, transit, out)
+        Change::of_transit(
+            place as u16,
+            enter(at, self.latency_ns, port, frame, transit, out),
+        )
     }
 
     /// A frame is put to a port, with the priority of its virtual link.
     #[inline(always)]
-    fn put(&mut self, at: Time, port: u8, frame: &Frame, out: &mut Outbound) -> EquipmentRecord
+    fn put(&mut self, at: Time, port: u8, frame: &Frame, out: &mut Outbound) -> Change
         requires messages { out.old.messages ≡ [] }
         requires notes { out.old.notes ≡ [] }
         requires numbers { out.old.sender.counter + 24 ≤ greatest_number }
         ensures state { self.new ≡ (put out.old.sender.number at port frame.now self.old (transit_at self.old frame.now.vl)).state }
         ensures reply { out.new ≡ replied out.old (put out.old.sender.number at port frame.now self.old (transit_at self.old frame.now.vl)).reply }
-        ensures kept { result ≡ put_kept port frame.now self.old (transit_at self.old frame.now.vl) }
-        ensures valid { IsPutValue port self.old (transit_at self.old frame.now.vl) }
+        ensures change { result ≡ (put out.old.sender.number at port frame.now self.old (transit_at self.old frame.now.vl)).change }
+        ensures last { IsLastOfSwitch result self.new }
     {
         let Some(priority) = self.priority(frame.vl) else {
             out.lose(Cause::Unknown, frame);
-            return EquipmentRecord::Nothing;
+            return Change::Nothing;
         };
-        let kept = self.ports.put(at, port, frame, priority, out);
-        EquipmentRecord::Port(kept.map(PortRecord::Put))
-    }
-
-    /// A frame that was put to a port leaves it.
-    fn take_back(&mut self, port: u8, frame: &Frame, kept: Option<PortRecord>)
-        requires { (n : ℕ) × (t : ℕ) × SwitchCameFrom n t (body.Enqueue port frame.now) self.old (saved.Port kept) }
-        ensures { self.new ≡ unported port (saved.Port kept) self.old }
-    {
-        let Some(priority) = self.priority(frame.vl) else {
-            return;
-        };
-        let event = PortEvent::Put {
-            frame: *frame,
-            priority,
-        };
-        self.ports.undo(port, &event, kept);
-    }
-
-    /// The account of a frame's virtual link gets back what the frame took.
-    fn repay(&mut self, at: Time, port: u8, frame: &Frame, kept: AccountRecord)
-        requires { (n : ℕ) × SwitchCameFrom n at (body.Arrive port frame.now) self.old (saved.Policed kept) }
-        ensures { self.new ≡ unpoliced at frame.now (saved.Policed kept) self.old }
-    {
-        let Some(place) = place_of(self.transits.as_slice(), frame.vl) else {
-            return;
-        };
-        let arrival = Arrival {
-            at,
-            size: frame.size,
-        };
-        let transit = &mut self.transits[place];
-        transit.account.undo(&arrival, kept);
+        Change::of_put(port, self.ports.put(at, port, frame, priority, out))
     }
 
     /// The priority of a virtual link that goes through the switch.
@@ -196,22 +169,22 @@ fn enter(
     frame: &Frame,
     transit: &mut Transit,
     out: &mut Outbound,
-) -> EquipmentRecord
+) -> Option<AccountRecord>
     requires messages { out.old.messages ≡ [] }
     requires notes { out.old.notes ≡ [] }
     requires numbers { out.old.sender.counter + 24 ≤ greatest_number }
     ensures transit { transit.new ≡ entered at port frame.now transit.old }
     ensures reply { out.new ≡ replied out.old (entered_reply out.old.sender.number at latency_ns port frame.now transit.old) }
     ensures kept { result ≡ entered_kept at port frame.now transit.old }
-    ensures valid { IsEnteredValue port frame.now transit.old }
+    ensures last { IfSome result (λ kept. IsLastOfTransit kept transit.new) }
 {
     if transit.input != port {
         out.lose(Cause::Unknown, frame);
-        return EquipmentRecord::Nothing;
+        return None;
     }
     if frame.size > transit.smax {
         out.lose(Cause::TooLong, frame);
-        return EquipmentRecord::Nothing;
+        return None;
     }
     let arrival = Arrival {
         at,
@@ -220,7 +193,7 @@ fn enter(
     let (verdict, kept) = transit.account.apply(&arrival);
     let ns = at.ns() + u64::from(latency_ns);
     answer_verdict(ns, frame, transit, verdict, out);
-    EquipmentRecord::Policed(kept)
+    Some(kept)
 }
 
 /// A frame that has passed goes on at the moment `ns`, and one that the account refused is lost.

@@ -2,6 +2,7 @@
 ghost use Rattle.std.specs.Prelude.{◌≡◌, ◌+◌, ◌*◌, ◌≤◌, ◌++◌, [], ◌∷◌, true, false, length, ⊤, IfOk};
 ghost use Rattle.std.proofs.Props.{props};
 ghost use Rattle.frame_ring.specs.Last.{without_last};
+ghost use Rattle.reverse.specs.Plain.{CameFrom};
 ghost use Rattle.output_port.specs.Port.{PortState, opening, port, IsWithinBytes, put, put_answer, put_kept, free, free_answer, undone, waiting, with_waiting, waiting_bytes, may_wait};
 ghost use Rattle.output_port.specs.declared.event.PortRecord.TheVariants as saved;
 ghost use Rattle.output_port.specs.Undoing.{port-undoes, put-saves};
@@ -196,8 +197,21 @@ impl Port {
         FreeRecord::Idle
     }
 
-    /// Undoes that a frame was put, by the record that was kept of it.
-    pub fn undo_put(&mut self, kept: PutRecord)
+    /// Takes an event back, by the record that was kept of it.
+    pub fn take_back(&mut self, kept: PortRecord)
+        requires { (e : PortEvent) × CameFrom port (λ p e. IsWithinBytes p) self.old e kept }
+        ensures { self.new ≡ undone self.old kept }
+    {
+        match kept {
+            PortRecord::Put(kept) => self.take_back_put(kept),
+            PortRecord::Free(FreeRecord::Popped(priority, frame)) => self.put_back(priority, frame),
+            PortRecord::Free(FreeRecord::Idle) => self.busy = true,
+            PortRecord::Free(FreeRecord::Nothing) => {}
+        }
+    }
+
+    /// Takes back that a frame was put, by the record that was kept of it. This asks for nothing.
+    pub fn take_back_put(&mut self, kept: PutRecord)
         ensures { self.new ≡ undone self.old (saved.Put kept) }
     {
         match kept {
@@ -258,12 +272,7 @@ impl Reversible for Port {
         }
     }
 
-    fn undo(&mut self, event: &PortEvent, kept: PortRecord) {
-        match kept {
-            PortRecord::Put(kept) => self.undo_put(kept),
-            PortRecord::Free(FreeRecord::Popped(priority, frame)) => self.put_back(priority, frame),
-            PortRecord::Free(FreeRecord::Idle) => self.busy = true,
-            PortRecord::Free(FreeRecord::Nothing) => {}
-        }
+    fn undo(&mut self, _event: &PortEvent, kept: PortRecord) {
+        self.take_back(kept);
     }
 }

@@ -76,6 +76,13 @@ impl Redundancy {
         self.last
     }
 
+    /// Takes a frame back, by the record that was kept of it.
+    pub fn take_back(&mut self, kept: Option<(u8, Time)>)
+        ensures { self.new ≡ record self.old { last = kept } }
+    {
+        self.last = kept;
+    }
+
     /// Whether the frame is delivered now.
     fn delivers(self, frame: Received) -> bool
         ensures { result ≡ is_delivered self frame }
@@ -122,6 +129,6 @@ impl Reversible for Redundancy {
     }
 
     fn undo(&mut self, _event: &Received, kept: Option<(u8, Time)>) {
-        self.last = kept;
+        self.take_back(kept);
     }
 }

@@ -1,5 +1,5 @@
 -- For proofs alone: what an end system keeps, and what it sends.
-use Rattle.std.proofs.Common.{◌≡◌, ℕ, Bool, true, false, cond, List, [], Option, None, Some, IfSome, All, refl, sym, subst}
+use Rattle.std.proofs.Common.{◌≡◌, ℕ, Bool, true, false, cond, List, [], Option, None, Some, IfSome, All, option_and_then, refl, sym, subst}
 use Rattle.std.proofs.lemmas.Bool.{cond_both}
 use Rattle.std.proofs.lemmas.List.Elements.{All-nil, All-cons, All-set}
 use Rattle.vlink.specs.declared.frame.Frame.{Frame}
@@ -22,6 +22,7 @@ use Rattle.integrity.specs.declared.checking.Checked.TheVariants as check
 use Rattle.redundancy.specs.Redundancy.{redundancy}
 use Rattle.redundancy.specs.declared.delivery.Delivery.{Delivery}
 use Rattle.redundancy.specs.declared.delivery.Delivery.TheVariants as delivery
+use Rattle.nodes.specs.declared.change.Change.TheVariants as change
 use Rattle.nodes.specs.declared.ports.Wire.{Wire}
 use Rattle.nodes.specs.declared.vl_end.VlEnd.{VlEnd}
 use Rattle.nodes.specs.declared.receiving.Receiving.{Receiving}
@@ -29,18 +30,19 @@ use Rattle.nodes.specs.declared.source.Source.{Source}
 use Rattle.nodes.specs.declared.reception.Reception.{Reception}
 use Rattle.reverse.specs.Sending.{Wish, Reply, silent, joined, loss}
 use Rattle.nodes.specs.rules.Ports.{PortsState, changed, exists, reply}
-use Rattle.nodes.specs.rules.Finding.{Found}
-use Rattle.nodes.specs.rules.EndSystem.{EndSystemState, EndSystemOutcome, source_at, source_number, reception_at, is_on, port_of, copy, copied, copied_reply, released_out, released_reply, asked, full, regulated, offered_frame, check_of, received_reply, checked, delivered, taken, freed, end_system}
+use Rattle.nodes.specs.rules.Finding.{Found, find}
+use Rattle.nodes.specs.rules.EndSystem.{EndSystemState, EndSystemOutcome, source_at, source_number, reception_number, ending_on, unmoved, is_on, port_of, copy, copied, copied_reply, released_out, released_reply, asked, full, regulated, offered_frame, check_of, received_reply, checked, delivered, taken, freed, end_system}
 use Rattle.nodes.specs.rules.Placed.{AllWires}
 use Rattle.nodes.specs.laws.Places.{All-there, found-there}
 use Rattle.nodes.specs.laws.Replies.{IsQuiet, silent-quiet, loss-quiet, quiet-all, joined-all}
 use Rattle.nodes.specs.laws.Ports.{WireMeets, wires-stay, reply-all}
 use Rattle.nodes.specs.laws.Regulator.{bag-stays}
 
--- K holds of each of the three things that end system n makes of a message at moment t: nothing is sent, and at most the
--- checks of a virtual link change; the frame of a port leaves; a regulator is asked
+-- K holds of each of the four things that end system n makes of a message at moment t: nothing changes and nothing is sent; a frame goes
+-- through the checks of its virtual link; the frame of a port leaves; a regulator is asked
 pub record EndSystemCases (K : EndSystemOutcome → Type 0) (n t : ℕ) (s : EndSystemState) : Type 0 where
-  pub quiet : (receptions : List Reception) (r : Reply) → IsQuiet r → K (record { state = record s { receptions = receptions }; reply = r })
+  pub quiet : (r : Reply) → IsQuiet r → K (record { state = s; reply = r; change = change.Nothing })
+  pub receives : (frame : Frame) (found : Found Reception) → find reception_number s.receptions frame.vl.0 ≡ Some found → K (taken t frame s (Some found))
   pub frees : (q : ℕ) → K (freed n t q s)
   pub asks : (vl : VlId) (e : RegEvent) (otherwise : Reply) (found : Found Source) → moment_of e ≡ t → source_at s vl ≡ Some found →
       K (regulated n t e otherwise s (Some found))
@@ -63,22 +65,27 @@ end_system-cases K n t s is (body.Offer vl size sub) = go (source_at s vl) refl
     frame = offered_frame t vl size
 
     go : (o : Option (Found Source)) → source_at s vl ≡ o → K (regulated n t (Offer t sub frame) (loss Unknown frame) s o)
-    go None h = is.quiet s.receptions (loss Unknown frame) (loss-quiet Unknown frame)
+    go None h = is.quiet (loss Unknown frame) (loss-quiet Unknown frame)
     go (Some found) h = is.asks vl (Offer t sub frame) (loss Unknown frame) found refl h
 end_system-cases K n t s is (body.Release vl) = go (source_at s vl) refl
   where
     go : (o : Option (Found Source)) → source_at s vl ≡ o → K (regulated n t (Release t) silent s o)
-    go None h = is.quiet s.receptions silent silent-quiet
+    go None h = is.quiet silent silent-quiet
     go (Some found) h = is.asks vl (Release t) silent found refl h
 end_system-cases K n t s is (body.PortFree q) = is.frees q
-end_system-cases K n t s is (body.Arrive q frame) = go (exists s.ports q) (reception_at s frame.vl frame.net)
+end_system-cases K n t s is (body.Arrive q frame) = go (exists s.ports q) (find reception_number s.receptions frame.vl.0) refl
   where
-    go : (b : Bool) (o : Option (Found Reception)) → K (cond b (taken t frame s o) (record { state = s; reply = silent }))
-    go true None = is.quiet s.receptions (loss Unknown frame) (loss-quiet Unknown frame)
-    go true (Some found) = is.quiet _ (received_reply t frame found.entry.receiving) (received-quiet t frame found.entry.receiving)
-    go false o = is.quiet s.receptions silent silent-quiet
-end_system-cases K n t s is (body.Enqueue q frame) = is.quiet s.receptions silent silent-quiet
-end_system-cases K n t s is (body.Carry frame) = is.quiet s.receptions silent silent-quiet
+    by_net : (found : Found Reception) → find reception_number s.receptions frame.vl.0 ≡ Some found → (b : Bool) → K (taken t frame s (cond b (Some found) None))
+    by_net found h true = is.receives frame found h
+    by_net found h false = is.quiet (loss Unknown frame) (loss-quiet Unknown frame)
+
+    go : (b : Bool) (o : Option (Found Reception)) → find reception_number s.receptions frame.vl.0 ≡ o →
+        K (cond b (taken t frame s (option_and_then (ending_on frame.net) o)) (unmoved s))
+    go true None h = is.quiet (loss Unknown frame) (loss-quiet Unknown frame)
+    go true (Some found) h = by_net found h (is_on found.entry.end frame.net)
+    go false o h = is.quiet silent silent-quiet
+end_system-cases K n t s is (body.Enqueue q frame) = is.quiet silent silent-quiet
+end_system-cases K n t s is (body.Carry frame) = is.quiet silent silent-quiet
 
 copied-wires : (P : Wire → Type 0) (end : VlEnd) (net : Net) (frame : Frame) (ports : PortsState) → AllWires P ports → AllWires P (copied end net frame ports)
 copied-wires P end net frame ports h =
@@ -94,7 +101,8 @@ released-wires P end answer.Nothing ports h = h
 -- what holds of each line of a port stays, and of each BAG of a regulator
 pub end_system-wires : (P : Wire → Type 0) (n t : ℕ) (b : Body) (s : EndSystemState) → AllWires P s.ports → AllWires P (end_system n t b s).state.ports
 end_system-wires P n t b s all = end_system-cases (λ o. AllWires P o.state.ports) n t s (record {
-  quiet = λ receptions r q. all;
+  quiet = λ r q. all;
+  receives = λ frame found h. all;
   frees = λ q. wires-stay P q Free s.ports all;
   asks = λ vl e otherwise found m h. released-wires P found.entry.end (regulator.out found.entry.regulator e).answer s.ports all;
 }) b
@@ -102,7 +110,8 @@ end_system-wires P n t b s all = end_system-cases (λ o. AllWires P o.state.port
 pub end_system-bags : (P : ℕ → Type 0) (n t : ℕ) (b : Body) (s : EndSystemState) →
     All (λ source. P source.regulator.bag) s.sources → All (λ source. P source.regulator.bag) (end_system n t b s).state.sources
 end_system-bags P n t b s all = end_system-cases (λ o. All (λ source. P source.regulator.bag) o.state.sources) n t s (record {
-  quiet = λ receptions r q. all;
+  quiet = λ r q. all;
+  receives = λ frame found h. all;
   frees = λ q. all;
   asks = λ vl e otherwise found m h.
       let has-bag : Source → Type 0 = λ source. P source.regulator.bag in
@@ -147,7 +156,8 @@ pub end_system-all : (P : Wish → Type 0) (n t : ℕ) (b : Body) (s : EndSystem
     IfSome (regulator.out found.entry.regulator e).release_at (λ at. P (record { time = at; receiver = n; body = body.Release found.entry.end.vl }))) →
     All P (end_system n t b s).reply.wishes
 end_system-all P n t b s wires asks = end_system-cases (λ o. All P o.reply.wishes) n t s (record {
-  quiet = λ receptions r q. quiet-all P r q;
+  quiet = λ r q. quiet-all P r q;
+  receives = λ frame found h. quiet-all P (received_reply t frame found.entry.receiving) (received-quiet t frame found.entry.receiving);
   frees = λ q. reply-all P n t q Free s.ports wires;
   asks = λ vl e otherwise found m h.
       let source = found.entry in

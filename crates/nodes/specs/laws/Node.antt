@@ -1,25 +1,17 @@
 -- For proofs alone: a node as an actor: undoing an event gives back the node, and what it sends is its own, in time and numbered on.
-use Rattle.std.proofs.Common.{◌≡◌, ℕ, ◌+◌, ◌-◌, ◌≤◌, length, All, refl, ap, arith}
+use Rattle.std.proofs.Common.{◌≡◌, ℕ, ◌+◌, ◌-◌, ◌≤◌, length, All, refl, arith}
 use Rattle.vlink.specs.declared.message.Message.{Message}
 use Rattle.virtual_time.specs.Law.{IsNumbered}
 use Rattle.reverse.specs.Plain.{IsReversible}
-use Rattle.nodes.specs.declared.equipment.Equipment.{Equipment}
-use Rattle.nodes.specs.declared.equipment.Equipment.TheVariants.{EndSystem, Switch, Line}
 use Rattle.nodes.specs.rules.Node.{NodeState, handled, after, sends}
-use Rattle.nodes.specs.undoing.Node.{node, equipment_kept, equipment_restored}
+use Rattle.nodes.specs.undoing.Node.{node}
 use Rattle.nodes.specs.laws.Sent.{sent-own, sent-timely, sent-numbered}
-use Rattle.nodes.specs.laws.EndSystem.{end_system-undoes}
-use Rattle.nodes.specs.laws.Switch.{switch-undoes}
-
-equipment-undoes : (n : ℕ) (m : Message) (p : Equipment) → equipment_restored m (equipment_kept m p) (handled n m p).equipment ≡ p
-equipment-undoes n m (EndSystem s) = ap EndSystem (end_system-undoes n m.time m.body s)
-equipment-undoes n m (Switch s) = ap Switch (switch-undoes n m.time m.body s)
-equipment-undoes n m (Line s) = refl
+use Rattle.nodes.specs.laws.Undoing.{handled-undone}
 
 pub node-undoes : IsReversible node
 node-undoes s m =
     let sender : s.sender.counter + length (sends s m) - length (sends s m) ≡ s.sender.counter = omega arith in
-    let equipment = equipment-undoes s.sender.number m s.equipment in
+    let equipment = handled-undone s.sender.number m s.equipment in
     λ i. record { sender = record s.sender { counter = sender i }; equipment = equipment i }
 
 pub number-stays : (s : NodeState) (m : Message) → (after s m).sender.number ≡ s.sender.number

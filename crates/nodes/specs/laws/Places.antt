@@ -4,6 +4,7 @@ use Rattle.std.proofs.lemmas.List.{set-get_or}
 use Rattle.std.proofs.Math.Seq.{map-set_same}
 use Rattle.std.proofs.lemmas.Option.{none-some, same_Some, slice_get-get_or, slice_get_within, get_or_from_slice_get}
 use Rattle.nodes.specs.rules.Finding.{Found, found_at, find, place_of}
+use Rattle.nodes.specs.undoing.Changes.{modified, modified_at}
 
 -- what holds of each element holds of the one at a place
 pub All-there : {X : Type 0} (P : X → Type 0) (xs : List X) (i : ℕ) (x : X) → All P xs → slice_get xs i ≡ Some x → P x
@@ -19,6 +20,11 @@ get-set xs i x y e =
 pub set-back : {X : Type 0} (xs : List X) (i : ℕ) (x y : X) → slice_get xs i ≡ Some x → slice_set (slice_set xs i y) i x ≡ xs
 set-back xs i x y e =
     set-set xs i y x ∙ ap (slice_set xs i) (sym (get_or_from_slice_get xs i x x e)) ∙ set-get_or xs i x
+
+-- the same, where the one before is what f makes of the one that is set
+pub modified-back : {X : Type 0} (f : X → X) (xs : List X) (i : ℕ) (x y : X) → slice_get xs i ≡ Some x → f y ≡ x → modified i f (slice_set xs i y) ≡ xs
+modified-back f xs i x y e back =
+    ap (modified_at i f (slice_set xs i y)) (get-set xs i x y e) ∙ ap (slice_set (slice_set xs i y) i) back ∙ set-back xs i x y e
 
 module _ {X : Type 0} (number : X → ℕ) (xs : List X) (id : ℕ) (found : Found X) (is : find number xs id ≡ Some found) where
   -- what is found has the place of the number
@@ -45,19 +51,6 @@ module _ {X : Type 0} (number : X → ℕ) (xs : List X) (id : ℕ) (found : Fou
 
   pub found-there : slice_get xs found.place ≡ Some found.entry
   found-there = is-found.there
-
-  -- once another one with its number is set at its place, that one is found
-  pub found-again : (new : X) → number new ≡ number found.entry → find number (slice_set xs found.place new) id ≡ Some (record { place = found.place; entry = new })
-  found-again new same =
-      let now = slice_set xs found.place new in
-      let there = get_or_from_slice_get xs found.place found.entry found.entry found-there in
-      ap (λ numbers. option_and_then (found_at now) (place_of numbers id)) (map-set_same number xs found.place new found.entry (same ∙ ap number (sym there)))
-      ∙ ap (option_and_then (found_at now)) is-found.placed
-      ∙ ap (option_map (λ x. record { place = found.place; entry = x })) (get-set xs found.place found.entry new found-there)
-
-  -- and once the one before is set there again, the list is as before
-  pub found-back : (new : X) → slice_set (slice_set xs found.place new) found.place found.entry ≡ xs
-  found-back new = set-back xs found.place found.entry new found-there
 
   -- setting what is found leaves the list
   pub found-same : slice_set xs found.place found.entry ≡ xs

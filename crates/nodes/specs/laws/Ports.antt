@@ -1,14 +1,15 @@
 -- For proofs alone: the ports of a node: undoing an event gives back the ports, their lines stay, and what follows from an event.
-use Rattle.std.proofs.Common.{◌≡◌, ℕ, ◌+◌, [], ◌∷◌, Option, None, Some, IfSome, All, slice_get, slice_set, option_map, option_and_then, refl, sym, ap, ◌∙◌}
+use Rattle.std.proofs.Common.{◌≡◌, ℕ, ◌+◌, [], ◌∷◌, Option, None, Some, IfSome, All, slice_get, slice_set, option_map, option_and_then, refl, sym, subst, ap, ◌∙◌}
 use Rattle.std.proofs.lemmas.Option.{option_and_then_some}
 use Rattle.std.proofs.lemmas.List.Elements.{All-nil, All-cons, All-set}
 use Rattle.vlink.specs.Wire.{last_bit_after, busy_for}
 use Rattle.vlink.specs.declared.frame.Frame.{Frame}
 use Rattle.vlink.specs.declared.message.Body.TheVariants.{Carry, PortFree}
 use Rattle.vlink.specs.declared.note.Cause.TheVariants.{PortFull}
-use Rattle.output_port.specs.Port.{port, put_kept}
+use Rattle.output_port.specs.Port.{port, put_kept, IsWithinBytes}
 use Rattle.output_port.specs.Undoing.{port-undoes, put-saves}
 use Rattle.output_port.specs.declared.event.Priority.{Priority}
+use Rattle.output_port.specs.declared.event.PortRecord.{PortRecord}
 use Rattle.output_port.specs.declared.event.PortRecord.TheVariants as saved
 use Rattle.output_port.specs.declared.event.PortEvent.{PortEvent}
 use Rattle.output_port.specs.declared.event.PortEvent.TheVariants.{Put, Free}
@@ -16,9 +17,10 @@ use Rattle.output_port.specs.declared.event.PortAnswer.{PortAnswer}
 use Rattle.output_port.specs.declared.event.PortAnswer.TheVariants as answer
 use Rattle.nodes.specs.declared.ports.Outlet.{Outlet}
 use Rattle.nodes.specs.declared.ports.Wire.{Wire}
+use Rattle.reverse.specs.Plain.{CameFrom}
 use Rattle.reverse.specs.Sending.{Wish, Reply, silent, loss}
-use Rattle.nodes.specs.rules.Ports.{PortsState, changed, changed_at, outlet_at, reply, reply_at, answered, start}
-use Rattle.nodes.specs.undoing.Ports.{port_kept, port_put_kept, restored, restored_at, unput}
+use Rattle.nodes.specs.rules.Ports.{PortsState, changed, changed_at, outlet_at, port_kept, port_put_kept, reply, reply_at, answered, start}
+use Rattle.nodes.specs.undoing.Ports.{restored, restored_at, unput, IsPortValue, IsLastAtPort}
 use Rattle.nodes.specs.rules.Placed.{AllWires}
 use Rattle.nodes.specs.laws.Places.{All-there, get-set, set-back}
 use Rattle.nodes.specs.laws.Replies.{IsQuiet, silent-quiet, loss-quiet, quiet-all}
@@ -27,18 +29,36 @@ use Rattle.nodes.specs.laws.Replies.{IsQuiet, silent-quiet, loss-quiet, quiet-al
 there : (ports : PortsState) (q : ℕ) (outlet : Outlet) → outlet_at ports q ≡ Some outlet → slice_get ports q ≡ Some (Some outlet)
 there ports q outlet is = option_and_then_some (λ o. o) (slice_get ports q) outlet is (λ o read same. read ∙ ap Some same)
 
-pub ports-undo : (q : ℕ) (e : PortEvent) (ports : PortsState) → restored q (port_kept q e ports) (changed q e ports) ≡ ports
-ports-undo q e ports = go (outlet_at ports q) refl
+abbrev after_at : PortEvent → Outlet → Outlet
+after_at e outlet = record outlet { port = port.after outlet.port e }
+
+outlet-set : (ports : PortsState) (q : ℕ) (outlet new : Outlet) → outlet_at ports q ≡ Some outlet → outlet_at (slice_set ports q (Some new)) q ≡ Some new
+outlet-set ports q outlet new is = ap (option_and_then (λ o. o)) (get-set ports q (Some outlet) (Some new) (there ports q outlet is))
+
+restored-back : (q : ℕ) (e : PortEvent) (ports : PortsState) (outlet : Outlet) → outlet_at ports q ≡ Some outlet →
+    restored q (port.saves outlet.port e) (slice_set ports q (Some (after_at e outlet))) ≡ ports
+restored-back q e ports outlet is =
+    let now : PortsState = slice_set ports q (Some (after_at e outlet)) in
+    ap (restored_at q (port.saves outlet.port e) now) (outlet-set ports q outlet (after_at e outlet) is)
+    ∙ ap (λ p. slice_set now q (Some (record outlet { port = p }))) (port-undoes outlet.port e)
+    ∙ set-back ports q (Some outlet) (Some (after_at e outlet)) (there ports q outlet is)
+
+-- K holds of what is kept of an event at port q and the ports after it, if it holds of the ports as they were with nothing kept, and of a
+-- record at whose undoing they are as before
+pub port-cases : (K : Option PortRecord → PortsState → Type 0) (q : ℕ) (e : PortEvent) (ports : PortsState) → K None ports →
+    ((kept : PortRecord) (now : PortsState) → restored q kept now ≡ ports → (IsPortValue q ports → IsLastAtPort q kept now) → K (Some kept) now) →
+    K (port_kept q e ports) (changed q e ports)
+port-cases K q e ports none some = go (outlet_at ports q) refl
   where
-    go : (o : Option Outlet) → outlet_at ports q ≡ o → restored q (option_map (λ outlet. port.saves outlet.port e) o) (changed_at q e ports o) ≡ ports
-    go (Some outlet) is =
-        let new : Outlet = record outlet { port = port.after outlet.port e } in
-        let now : PortsState = slice_set ports q (Some new) in
-        let read = there ports q outlet is in
-        ap (λ o. restored_at q now (Some (port.saves outlet.port e)) (option_and_then (λ x. x) o)) (get-set ports q (Some outlet) (Some new) read)
-        ∙ ap (λ p. slice_set now q (Some (record outlet { port = p }))) (port-undoes outlet.port e)
-        ∙ set-back ports q (Some outlet) (Some new) read
-    go None is = refl
+    last : (outlet : Outlet) → outlet_at ports q ≡ Some outlet → IsPortValue q ports → IsLastAtPort q (port.saves outlet.port e) (slice_set ports q (Some (after_at e outlet)))
+    last outlet is value =
+        let within : IsWithinBytes outlet.port = subst (λ o. IfSome o (λ x. IsWithinBytes x.port)) is value in
+        subst (λ o. IfSome o (λ x. (event : PortEvent) × CameFrom port (λ p _. IsWithinBytes p) x.port event (port.saves outlet.port e))) (sym (outlet-set ports q outlet (after_at e outlet) is))
+        (e, (outlet.port, within, refl, refl))
+
+    go : (o : Option Outlet) → outlet_at ports q ≡ o → K (option_map (λ outlet. port.saves outlet.port e) o) (changed_at q e ports o)
+    go None is = none
+    go (Some outlet) is = some (port.saves outlet.port e) (slice_set ports q (Some (after_at e outlet))) (restored-back q e ports outlet is) (last outlet is)
 
 -- the record of a frame put is what is kept of the event
 pub put-kept : (q : ℕ) (frame : Frame) (priority : Priority) (ports : PortsState) →
@@ -49,10 +69,16 @@ put-kept q frame priority ports = go (outlet_at ports q)
     go (Some outlet) = ap (λ k. Some k) (sym (put-saves outlet.port frame priority))
     go None = refl
 
+-- a frame that was put is taken back
 pub unput-undoes : (q : ℕ) (frame : Frame) (priority : Priority) (ports : PortsState) →
     unput q (port_put_kept q frame priority ports) (changed q (Put frame priority) ports) ≡ ports
-unput-undoes q frame priority ports =
-    ap (λ kept. restored q kept (changed q (Put frame priority) ports)) (put-kept q frame priority ports) ∙ ports-undo q (Put frame priority) ports
+unput-undoes q frame priority ports = go (outlet_at ports q) refl
+  where
+    go : (o : Option Outlet) → outlet_at ports q ≡ o → unput q (option_map (λ outlet. put_kept outlet.port frame priority) o) (changed_at q (Put frame priority) ports o) ≡ ports
+    go None is = refl
+    go (Some outlet) is =
+        ap (λ kept. restored q kept (slice_set ports q (Some (after_at (Put frame priority) outlet)))) (sym (put-saves outlet.port frame priority))
+        ∙ restored-back q (Put frame priority) ports outlet is
 
 -- what holds of each line holds of the line of port q
 pub wire-there : (P : Wire → Type 0) (ports : PortsState) (q : ℕ) (outlet : Outlet) → AllWires P ports → outlet_at ports q ≡ Some outlet → P outlet.wire

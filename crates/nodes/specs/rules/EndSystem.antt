@@ -17,18 +17,24 @@ use Rattle.bag_regulator.specs.declared.event.RegAnswer.TheVariants as answer
 use Rattle.output_port.specs.declared.event.PortEvent.{PortEvent}
 use Rattle.output_port.specs.declared.event.PortEvent.TheVariants.{Put, Free}
 use Rattle.output_port.specs.declared.event.Priority.TheVariants.{Low}
+use Rattle.output_port.specs.declared.event.PutRecord.{PutRecord}
 use Rattle.integrity.specs.Integrity.{integrity}
 use Rattle.integrity.specs.declared.checking.Checked.{Checked}
 use Rattle.integrity.specs.declared.checking.Checked.TheVariants as check
 use Rattle.redundancy.specs.Redundancy.{redundancy}
 use Rattle.redundancy.specs.declared.delivery.Delivery.{Delivery}
 use Rattle.redundancy.specs.declared.delivery.Delivery.TheVariants as delivery
+use Rattle.nodes.specs.declared.change.Change.{Change}
+use Rattle.nodes.specs.declared.change.Change.TheVariants as change
+use Rattle.nodes.specs.declared.copies.CopiesRecord.{CopiesRecord}
 use Rattle.nodes.specs.declared.vl_end.VlEnd.{VlEnd}
 use Rattle.nodes.specs.declared.receiving.Receiving.{Receiving}
+use Rattle.nodes.specs.declared.receiving.ReceivingRecord.{ReceivingRecord}
 use Rattle.nodes.specs.declared.source.Source.{Source}
 use Rattle.nodes.specs.declared.reception.Reception.{Reception}
 use Rattle.reverse.specs.Sending.{Reply, silent, joined, loss}
-use Rattle.nodes.specs.rules.Ports.{PortsState, changed, exists, reply}
+use Rattle.nodes.specs.rules.Changes.{port_change}
+use Rattle.nodes.specs.rules.Ports.{PortsState, changed, exists, port_kept, port_put_kept, reply}
 use Rattle.nodes.specs.rules.Finding.{Found, find}
 
 -- the virtual links that it sends, those that it receives, and its ports
@@ -37,9 +43,15 @@ pub record EndSystemState : Type 0 where
   pub receptions : List Reception
   pub ports : PortsState
 
+-- the state after an event, what is then sent and noted, and what changed, and where
 pub record EndSystemOutcome : Type 0 where
   pub state : EndSystemState
   pub reply : Reply
+  pub change : Change
+
+-- nothing happens
+abbrev pub unmoved : EndSystemState → EndSystemOutcome
+unmoved s = record { state = s; reply = silent; change = change.Nothing }
 
 -- the numbers of their virtual links
 abbrev pub source_number : Source → ℕ
@@ -72,6 +84,9 @@ copied end net frame ports = if is_on end net then changed (port_of net) (copy n
 abbrev pub copied_reply : ℕ → ℕ → VlEnd → Net → Frame → PortsState → Reply
 copied_reply n t end net frame ports = if is_on end net then reply n t (port_of net) (copy net frame) ports else silent
 
+abbrev pub copied_kept : VlEnd → Net → Frame → PortsState → Option PutRecord
+copied_kept end net frame ports = if is_on end net then port_put_kept (port_of net) (record frame { net = net }) Low ports else None
+
 -- both copies, A before B, of the frame that a regulator releases
 abbrev pub released_out : VlEnd → RegAnswer → PortsState → PortsState
 released_out end (answer.Released frame) ports = copied end B frame (copied end A frame ports)
@@ -85,6 +100,12 @@ released_reply n t end (answer.Released frame) ports =
 released_reply n t end answer.Kept ports = silent
 released_reply n t end answer.Dropped ports = silent
 released_reply n t end answer.Nothing ports = silent
+
+abbrev pub released_kept : VlEnd → RegAnswer → PortsState → CopiesRecord
+released_kept end (answer.Released frame) ports = record { a = copied_kept end A frame ports; b = copied_kept end B frame (copied end A frame ports) }
+released_kept end answer.Kept ports = record { a = None; b = None }
+released_kept end answer.Dropped ports = record { a = None; b = None }
+released_kept end answer.Nothing ports = record { a = None; b = None }
 
 -- the Release that a regulator asks for
 abbrev pub asked : ℕ → VlId → Option ℕ → Reply
@@ -110,7 +131,7 @@ source_at s vl = find source_number s.sources vl.0
 
 -- its regulator is asked to do something; where the end system does not send the virtual link, there is only this reply
 abbrev pub regulated : ℕ → ℕ → RegEvent → Reply → EndSystemState → Option (Found Source) → EndSystemOutcome
-regulated n t e otherwise s None = record { state = s; reply = otherwise }
+regulated n t e otherwise s None = record { state = s; reply = otherwise; change = change.Nothing }
 regulated n t e otherwise s (Some found) =
     let source = found.entry in
     let out = regulator.out source.regulator e in
@@ -120,6 +141,7 @@ regulated n t e otherwise s (Some found) =
         ports = released_out source.end out.answer s.ports;
       };
       reply = joined (joined (full e out.answer) (asked n source.end.vl out.release_at)) (released_reply n t source.end out.answer s.ports);
+      change = change.Source found.place (released_kept source.end out.answer s.ports) (regulator.saves source.regulator e);
     }
 
 -- a frame is offered: it is lost where the virtual link does not begin here
@@ -170,23 +192,34 @@ checked t frame r check.Passed = delivered t frame (redundancy.out r.redundancy 
 abbrev pub received_reply : ℕ → Frame → Receiving → Reply
 received_reply t frame r = checked t frame r (integrity.out (check_of frame.net r) frame.number)
 
+-- what the checks keep of it
+abbrev pub delivery_kept : Receiving → Checked → Option (Option (ℕ × ℕ))
+delivery_kept r check.Refused = None
+delivery_kept r check.Passed = Some r.redundancy.last
+
+abbrev pub received_kept : Frame → Receiving → ReceivingRecord
+received_kept frame r =
+    let check = check_of frame.net r in
+    record { net = frame.net; check = check; delivery = delivery_kept r (integrity.out check frame.number) }
+
 -- a frame has come: it is lost where its virtual link does not end here on its network
 abbrev pub taken : ℕ → Frame → EndSystemState → Option (Found Reception) → EndSystemOutcome
-taken t frame s None = record { state = s; reply = loss Unknown frame }
+taken t frame s None = record { state = s; reply = loss Unknown frame; change = change.Nothing }
 taken t frame s (Some found) =
     let reception = found.entry in
     record {
       state = record s { receptions = slice_set s.receptions found.place (record reception { receiving = received t frame reception.receiving }) };
       reply = received_reply t frame reception.receiving;
+      change = change.Reception found.place (received_kept frame reception.receiving);
     }
 
 -- a frame has come to a port
 abbrev pub arrived : ℕ → ℕ → Frame → EndSystemState → EndSystemOutcome
-arrived t q frame s = if exists s.ports q then taken t frame s (reception_at s frame.vl frame.net) else record { state = s; reply = silent }
+arrived t q frame s = if exists s.ports q then taken t frame s (reception_at s frame.vl frame.net) else unmoved s
 
 -- the frame of a port has left
 abbrev pub freed : ℕ → ℕ → ℕ → EndSystemState → EndSystemOutcome
-freed n t q s = record { state = record s { ports = changed q Free s.ports }; reply = reply n t q Free s.ports }
+freed n t q s = record { state = record s { ports = changed q Free s.ports }; reply = reply n t q Free s.ports; change = port_change q (port_kept q Free s.ports) }
 
 -- end system n at moment t; a message that says something else changes nothing
 abbrev pub end_system : ℕ → ℕ → Body → EndSystemState → EndSystemOutcome
@@ -194,5 +227,5 @@ end_system n t (body.Offer vl size sub) s = offered n t vl size sub s
 end_system n t (body.Release vl) s = released n t vl s
 end_system n t (body.PortFree q) s = freed n t q s
 end_system n t (body.Arrive q frame) s = arrived t q frame s
-end_system n t (body.Enqueue q frame) s = record { state = s; reply = silent }
-end_system n t (body.Carry frame) s = record { state = s; reply = silent }
+end_system n t (body.Enqueue q frame) s = unmoved s
+end_system n t (body.Carry frame) s = unmoved s

@@ -11,6 +11,8 @@ use Rattle.nodes.specs.rules.Ports.{port_at}
 use Rattle.nodes.specs.rules.EndSystem.{EndSystemOutcome, end_system, source_at}
 use Rattle.nodes.specs.rules.Switch.{SwitchOutcome, switch}
 use Rattle.nodes.specs.rules.Line.{line}
+use Rattle.nodes.specs.declared.change.Change.{Change}
+use Rattle.nodes.specs.declared.change.Change.TheVariants as change
 use Rattle.nodes.specs.declared.source.Source.{Source}
 use Rattle.nodes.specs.declared.equipment.Equipment.{Equipment}
 use Rattle.nodes.specs.declared.equipment.Equipment.TheVariants.{EndSystem, Switch, Line}
@@ -23,18 +25,19 @@ pub record NodeState : Type 0 where
 pub record EquipmentOutcome : Type 0 where
   pub equipment : Equipment
   pub reply : Reply
+  pub change : Change
 
 abbrev pub end_system_equipment : EndSystemOutcome → EquipmentOutcome
-end_system_equipment o = record { equipment = EndSystem o.state; reply = o.reply }
+end_system_equipment o = record { equipment = EndSystem o.state; reply = o.reply; change = o.change }
 
 abbrev pub switch_equipment : SwitchOutcome → EquipmentOutcome
-switch_equipment o = record { equipment = Switch o.state; reply = o.reply }
+switch_equipment o = record { equipment = Switch o.state; reply = o.reply; change = o.change }
 
 -- what the equipment of a node with number n makes of a message
 abbrev pub handled : ℕ → Message → Equipment → EquipmentOutcome
 handled n m (EndSystem s) = end_system_equipment (end_system n m.time m.body s)
 handled n m (Switch s) = switch_equipment (switch n m.time m.body s)
-handled n m (Line s) = record { equipment = Line s; reply = line m.time m.body s }
+handled n m (Line s) = record { equipment = Line s; reply = line m.time m.body s; change = change.Nothing }
 
 -- the state after a message, what is then sent, and what is noted
 abbrev pub after : NodeState → Message → NodeState

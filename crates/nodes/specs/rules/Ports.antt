@@ -4,11 +4,14 @@ use Rattle.vlink.specs.declared.frame.Frame.{Frame}
 use Rattle.vlink.specs.declared.message.Body.TheVariants.{Carry, PortFree}
 use Rattle.vlink.specs.declared.note.Cause.TheVariants.{PortFull}
 use Rattle.vlink.specs.Wire.{last_bit_after, busy_for}
-use Rattle.output_port.specs.Port.{PortState, port}
+use Rattle.output_port.specs.Port.{PortState, port, put_kept}
+use Rattle.output_port.specs.declared.event.Priority.{Priority}
 use Rattle.output_port.specs.declared.event.PortEvent.{PortEvent}
 use Rattle.output_port.specs.declared.event.PortEvent.TheVariants.{Put, Free}
 use Rattle.output_port.specs.declared.event.PortAnswer.{PortAnswer}
 use Rattle.output_port.specs.declared.event.PortAnswer.TheVariants as answer
+use Rattle.output_port.specs.declared.event.PortRecord.{PortRecord}
+use Rattle.output_port.specs.declared.event.PutRecord.{PutRecord}
 use Rattle.nodes.specs.declared.ports.Outlet.{Outlet}
 use Rattle.nodes.specs.declared.ports.Wire.{Wire}
 use Rattle.reverse.specs.Sending.{Reply, silent, loss}
@@ -62,3 +65,10 @@ reply_at n t q e None = silent
 
 abbrev pub reply : ℕ → ℕ → ℕ → PortEvent → PortsState → Reply
 reply n t q e ports = reply_at n t q e (outlet_at ports q)
+
+-- what the port keeps of it, and of a frame put
+abbrev pub port_kept : ℕ → PortEvent → PortsState → Option PortRecord
+port_kept q e ports = option_map (λ outlet. port.saves outlet.port e) (outlet_at ports q)
+
+abbrev pub port_put_kept : ℕ → Frame → Priority → PortsState → Option PutRecord
+port_put_kept q frame priority ports = option_map (λ outlet. put_kept outlet.port frame priority) (outlet_at ports q)

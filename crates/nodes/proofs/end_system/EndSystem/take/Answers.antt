@@ -2,7 +2,7 @@ use Rattle.std.proofs.Common.{◌≡◌, Some, ap, ◌∙◌, sym, subst, slice_
 use Rattle.reverse.specs.Sending.{replied}
 use Rattle.nodes.specs.rules.EndSystem.{taken}
 use Rattle.nodes.specs.Words.{EndSystemState, received, reception_at, reception_number}
-use Rattle.nodes.specs.undoing.EndSystem.{taken_kept}
+use Rattle.nodes.specs.declared.change.Change.TheVariants as change
 use Rattle.nodes.proofs.NumberLemmas.{rising-kept}
 use Rattle.nodes.proofs.EndSystemLemmas.{reception-found}
 use Rattle.nodes.proofs.end_system.EndSystem.take.Goals as goal
@@ -10,7 +10,7 @@ use Rattle.nodes.proofs.end_system.EndSystem.take.Goals as goal
 found : (c : goal.After-self-1) → reception_at c.args.self.now c.args.frame.now.vl c.args.frame.now.net ≡ Some (record { place = c.in-Some.place; entry = c.index_mut-reception.result.now })
 found c =
     let frame = c.args.frame.now in
-    reception-found c.args.self.now _ frame.vl frame.net c.in-Some.place c.index_mut-reception.result.now (ap (λ (s : EndSystemState). s.receptions) c.self.view_is) c.in-Some.ensures c.index_mut-reception.ensures.value
+    reception-found c.args.self.now _ frame.vl frame.net c.in-Some.place c.index_mut-reception.result.now (ap (λ (s : EndSystemState). s.receptions) c.self.view_is) c.in-Some.ensures.place c.index_mut-reception.ensures.value
 
 pub returns-clause-state : goal.returns-clause-state
 returns-clause-state c =
@@ -28,8 +28,9 @@ pub returns-clause-reply : goal.returns-clause-reply
 returns-clause-reply c =
     c.receive.ensures.reply ∙ ap (λ found. replied c.args.out.now (taken c.args.at c.args.frame.now c.args.self.now found).reply) (sym (found c))
 
-pub returns-clause-kept : goal.returns-clause-kept
-returns-clause-kept c = c.receive.ensures.kept ∙ ap (taken_kept c.args.frame.now) (sym (found c))
+pub returns-clause-change : goal.returns-clause-change
+returns-clause-change c =
+    ap (λ kept. change.Reception c.in-Some.place kept) c.receive.ensures.kept ∙ ap (λ found. (taken c.args.at c.args.frame.now c.args.self.now found).change) (sym (found c))
 
 -- the numbers of the virtual links stay
 pub invariant_of-self : goal.invariant_of-self

@@ -1,16 +1,16 @@
 use Rattle.std.proofs.Common.{◌≡◌, ap, sym, ◌∙◌, subst}
-use Rattle.nodes.specs.Words.{NodeState, after, equipment_restored, IsPlacedEquipment, node-undoes}
+use Rattle.nodes.specs.Words.{NodeState, after, undone, IsPlacedEquipment, node-undoes}
 use Rattle.nodes.specs.declared.node.NodeRecord.{NodeRecord}
 use Rattle.nodes.proofs.node.NodeReversible.undo.Goals as goal
 
 -- the node is back where it was when the message came
 pub invariant_of-self : goal.invariant_of-self
 invariant_of-self c =
-    let m = c.args.event.now in
+    let m = c.args._event.now in
     let s = c.requires.0 in
-    let back : c.undo.new.self ≡ s.equipment =
-    c.undo.ensures
-    ∙ ap (λ (now : NodeState). equipment_restored m c.args.kept.equipment now.equipment) (c.self.view_is ∙ c.requires.2)
-    ∙ ap (λ (k : NodeRecord). equipment_restored m k.equipment (after s m).equipment) c.requires.3
+    let back : c.take_back.new.self ≡ s.equipment =
+    c.take_back.ensures
+    ∙ ap (λ (now : NodeState). undone c.args.kept.change now.equipment) (c.self.view_is ∙ c.requires.2)
+    ∙ ap (λ (k : NodeRecord). undone k.change (after s m).equipment) c.requires.3
     ∙ ap (λ (now : NodeState). now.equipment) (node-undoes s m) in
     (subst IsPlacedEquipment (sym back) c.requires.1.0, c.self.invariant.1)

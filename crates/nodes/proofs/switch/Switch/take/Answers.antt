@@ -1,13 +1,13 @@
-use Rattle.std.proofs.Common.{◌≡◌, Some, ap, ◌∙◌, sym, subst, slice_set}
+use Rattle.std.proofs.Common.{◌≡◌, Some, ap, ◌∙◌, sym, subst, slice_get, slice_set}
 use Rattle.reverse.specs.Sending.{replied}
 use Rattle.nodes.specs.rules.Switch.{taken}
-use Rattle.nodes.specs.Words.{SwitchState, entered, entered_reply, transit_at, transit_number, IsTakenValue}
-use Rattle.nodes.specs.undoing.Switch.{taken_kept}
+use Rattle.nodes.specs.rules.Changes.{transit_change}
+use Rattle.nodes.specs.Words.{SwitchState, entered, entered_reply, found-there, transit-last, transit_at, transit_number, IsLastOfSwitch}
 use Rattle.nodes.proofs.NumberLemmas.{found-read, rising-kept}
 use Rattle.nodes.proofs.SwitchLemmas.{entered-number}
 use Rattle.nodes.proofs.switch.Switch.take.Goals as goal
 
-found : (c : goal.After-self-1) → transit_at c.args.self.now c.args.frame.now.vl ≡ Some (record { place = c.in-Some.place; entry = c.index_mut-transit.result.now })
+found : (c : goal.After-of_transit) → transit_at c.args.self.now c.args.frame.now.vl ≡ Some (record { place = c.in-Some.place; entry = c.index_mut-transit.result.now })
 found c =
     let transits = ap (λ (s : SwitchState). s.transits) c.self.view_is in
     found-read transit_number _ _ c.args.self.now.transits c.args.frame.now.vl.0 c.in-Some.place c.index_mut-transit.result.now c.as_slice.ensures.value transits c.in-Some.ensures.place c.index_mut-transit.ensures.value
@@ -33,11 +33,20 @@ returns-clause-reply c =
     subst (λ (s : SwitchState). c.enter.new.out ≡ replied out (entered_reply number c.args.at s.latency c.args.port frame transit)) c.self.view_is c.enter.ensures.reply
     ∙ ap (λ found. replied out (taken number c.args.at c.args.port frame c.args.self.now found).reply) (sym (found c))
 
-pub returns-clause-kept : goal.returns-clause-kept
-returns-clause-kept c = c.enter.ensures.kept ∙ ap (taken_kept c.args.at c.args.port c.args.frame.now) (sym (found c))
+pub returns-clause-change : goal.returns-clause-change
+returns-clause-change c =
+    c.of_transit.ensures ∙ ap (transit_change c.in-Some.place) c.enter.ensures.kept
+    ∙ ap (λ found. (taken c.args.out.now.sender.number c.args.at c.args.port c.args.frame.now c.args.self.now found).change) (sym (found c))
 
-pub returns-clause-valid : goal.returns-clause-valid
-returns-clause-valid c = subst (IsTakenValue c.args.port c.args.frame.now) (sym (found c)) c.enter.ensures.valid
+pub returns-clause-last : goal.returns-clause-last
+returns-clause-last c =
+    let i = c.self.inside in
+    let place = c.in-Some.place in
+    let transit = c.index_mut-transit.result.now in
+    let s : SwitchState = record { latency = i.latency_ns; transits = i.transits.items; ports = i.ports } in
+    let there = subst (λ (s : SwitchState). slice_get s.transits place ≡ Some transit) (sym c.self.view_is) (found-there transit_number c.args.self.now.transits c.args.frame.now.vl.0 (record { place = place; entry = transit }) (found c)) in
+    subst (λ change. IsLastOfSwitch change (record s { transits = slice_set s.transits place c.enter.new.transit })) (sym c.of_transit.ensures)
+    (transit-last s place transit c.enter.new.transit c.enter.result there c.enter.ensures.last)
 
 -- the numbers of the virtual links stay
 pub invariant_of-self : goal.invariant_of-self

@@ -1,0 +1,77 @@
+//! What an event changed in a node, and where.
+ghost use Rattle.std.specs.Prelude.{◌≡◌, option_map};
+ghost use Rattle.output_port.specs.declared.event.PortRecord.TheVariants as saved;
+ghost use Rattle.output_port.specs.declared.event.PutRecord.{PutRecord};
+ghost use Rattle.nodes.specs.rules.Changes.{port_change, transit_change};
+
+use crate::copies::CopiesRecord;
+use crate::receiving::ReceivingRecord;
+use bag_regulator::RegRecord;
+use output_port::PortRecord;
+use policer::AccountRecord;
+
+/// What an event changed in a node: the place of the element that it changed, and what that kept of it.
+#[derive(Clone, Copy, Debug, PartialEq, Eq)]
+pub enum Change {
+    /// No element changed.
+    Nothing,
+    /// The regulator of a virtual link that the node sends, and the ports that copies of its frame were put to.
+    Source {
+        place: u16,
+        copies: CopiesRecord,
+        kept: RegRecord,
+    },
+    /// The checks of a virtual link that the node receives.
+    Reception {
+        place: u16,
+        kept: ReceivingRecord,
+    },
+    /// The account of a virtual link that goes through the node.
+    Transit {
+        place: u16,
+        kept: AccountRecord,
+    },
+    /// A port.
+    Outlet {
+        port: u8,
+        kept: PortRecord,
+    },
+}
+
+impl Change {
+    /// What an account kept of a frame, if it judged it.
+    #[inline(always)]
+    pub(crate) fn of_transit(place: u16, kept: Option<AccountRecord>) -> Self
+        ensures { result ≡ transit_change place kept }
+    {
+        match kept {
+            Some(kept) => Change::Transit { place, kept },
+            None => Change::Nothing,
+        }
+    }
+
+    /// What a port kept of a frame put, if there is such a port.
+    #[inline(always)]
+    pub(crate) fn of_put(port: u8, kept: Option<PutRecord>) -> Self
+        ensures { result ≡ port_change port (option_map (λ (k : PutRecord). saved.Put k) kept) }
+    {
+        match kept {
+            Some(kept) => Change::Outlet {
+                port,
+                kept: PortRecord::Put(kept),
+            },
+            None => Change::Nothing,
+        }
+    }
+
+    /// What a port kept of an event, if there is such a port.
+    #[inline(always)]
+    pub(crate) fn of_port(port: u8, kept: Option<PortRecord>) -> Self
+        ensures { result ≡ port_change port kept }
+    {
+        match kept {
+            Some(kept) => Change::Outlet { port, kept },
+            None => Change::Nothing,
+        }
+    }
+}
