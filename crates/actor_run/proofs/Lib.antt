@@ -3,4 +3,3 @@ pub mod Handling
 pub mod Loading
 pub mod Errors
 pub mod Waits
-pub mod Lists

@@ -6,7 +6,6 @@ mod fault;
 mod recorder;
 mod running;
 mod sent;
-mod two_lists;
 mod waiting;
 mod watch;
 

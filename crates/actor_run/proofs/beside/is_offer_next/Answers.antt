@@ -1,6 +1,7 @@
 use Rattle.std.proofs.Common.{◌≡◌, true, subst, rules, IsSomeAnd, heap_items}
 use Rattle.reverse.specs.Rules.{is_before}
-use Rattle.actor_run.proofs.Waits.{NoneBefore, top-first, before-sent}
+use Rattle.two_lists.proofs.Firsts.{NoneBefore}
+use Rattle.actor_run.proofs.Waits.{top-first, before-sent}
 use Rattle.actor_run.proofs.beside.is_offer_next.Goals as goal
 
 pub returns-in-Some-peek-clause-offer : goal.returns-in-Some-peek-clause-offer

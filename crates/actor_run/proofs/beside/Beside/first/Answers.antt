@@ -1,7 +1,8 @@
 use Rattle.std.proofs.Common.{◌≡◌, ◌<◌, ◌-◌, ◌∙◌, List, length, slice_get, Contains, IfSome, IsSomeAnd, subst, sym, refl, rules, option_copied, heap_items}
 use Rattle.std.proofs.lemmas.List.Elements.{Contains-append_left}
 use Rattle.vlink.specs.declared.message.Message.{Message}
-use Rattle.actor_run.proofs.Waits.{NoneBefore, IsNotBeforeTop, sent-first, none-left, last-among, last-of-all}
+use Rattle.two_lists.proofs.Firsts.{NoneBefore}
+use Rattle.actor_run.proofs.Waits.{IsNotBeforeTop, sent-first, none-left, last-among, last-of-all}
 use Rattle.actor_run.proofs.beside.Beside.first.Goals as goal
 
 pub returns-then-is_offer_next-clause-among : goal.returns-then-is_offer_next-clause-among

@@ -1,7 +1,8 @@
 use Rattle.std.proofs.Common.{◌≡◌, ◌<◌, ◌-◌, ◌∙◌, List, ◌∷◌, ◌++◌, length, slice_get, IfSome, IsPermutation, subst, sym, refl, rules, arith, IsSomeAnd, heap_items}
 use Rattle.std.proofs.lemmas.List.Sorted.{IsPermutation-append_left, length_permutation}
 use Rattle.vlink.specs.declared.message.Message.{Message}
-use Rattle.actor_run.proofs.Waits.{NoneBefore, IsNotBeforeTop, offer-out, offer-first, sent-first, none-left}
+use Rattle.two_lists.proofs.Firsts.{NoneBefore}
+use Rattle.actor_run.proofs.Waits.{IsNotBeforeTop, offer-out, offer-first, sent-first, none-left}
 use Rattle.actor_run.proofs.beside.Beside.pop.Goals as goal
 
 pub returns-then-is_offer_next-clause-one : goal.returns-then-is_offer_next-clause-one
