@@ -99,6 +99,9 @@ class Simulation:
     def lose(self, time, place, frame, cause):
         self.note(time, place, frame[0], cause, frame[2])
 
+    def deliver(self, t, p, frame):
+        self.note(t, p, frame[0], "delivered", max(0, t - frame[3]))
+
     def start(self, t, p, q, frame):
         line = self.out[p, q]
         byte = self.lines[line - len(self.nodes)][3]
@@ -166,7 +169,7 @@ class Simulation:
         steps = None if last is None else number if last[0] == 0 else (number - last[0]) % 255
         if last is None or max(0, t - last[1]) > self.vls[vl]["skew_max_ns"] or (number != 0 and 1 <= steps <= 127):
             self.delivered[vl, p] = (number, t)
-            self.note(t, p, vl, "delivered", max(0, t - frame[3]))
+            self.deliver(t, p, frame)
         else:
             self.lose(t, p, frame, "duplicate")
 
