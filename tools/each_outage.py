@@ -6,8 +6,8 @@ import html
 from collections import namedtuple
 
 import afdx
-import report
 import runs
+from frames import Ends, Range, drawn_offsets, exactly
 from runs import Failure
 
 TABLE_HEAD = (
@@ -60,7 +60,7 @@ class Course:
         for key, end in ends.items():
             row = tables.latencies[key]
             self.delivered[key] = self.delivered.get(key, 0) + row.count
-            self.lost[key] = self.lost.get(key, report.exactly(0)) + end.missing
+            self.lost[key] = self.lost.get(key, exactly(0)) + end.missing
             self.greatest[key] = max(self.greatest.get(key, 0), row.greatest)
 
 
@@ -69,7 +69,7 @@ class Known:
     links of which another run with this seed tells something else."""
 
     def __init__(self, net, seed, draws_offsets):
-        drawn = report.drawn_offsets(net, seed) if draws_offsets else {}
+        drawn = drawn_offsets(net, seed) if draws_offsets else {}
         self.net, self.seed = net, seed
         self.vls = {vl.id: vl._replace(offset_ns=drawn.get(vl.id, vl.offset_ns)) for vl in net.vls.values()}
         self.rows, self.ends = {}, None
@@ -84,7 +84,7 @@ class Known:
         part = copy.copy(tables)
         part.net = copy.copy(self.net)
         part.net.vls = {vl: self.vls[vl] for vl in other}
-        found = report.Ends(part, [self.seed], trace=trace).of
+        found = Ends(part, [self.seed], trace=trace).of
         if first:
             self.rows, self.ends = rows, found
         return self.ends | found
@@ -96,7 +96,7 @@ Change = namedtuple("Change", "vl where delivered_before delivered lost_before l
 
 def more_lost(change):
     """How many frames more are lost, at the least and at the most."""
-    return report.Range(
+    return Range(
         max(0, change.lost.least - change.lost_before.most), max(0, change.lost.most - change.lost_before.least)
     )
 
@@ -194,12 +194,12 @@ class Summary(namedtuple("Summary", "course changes broken")):
 
     def lost(self):
         """How many frames more are lost end to end at all destinations together."""
-        return sum(map(more_lost, self.changes), report.exactly(0))
+        return sum(map(more_lost, self.changes), exactly(0))
 
     def losing(self):
         """At how many destinations more frames are lost, surely and at the most."""
         ranges = [more_lost(change) for change in self.changes]
-        return report.Range(sum(it.least > 0 for it in ranges), sum(it.most > 0 for it in ranges))
+        return Range(sum(it.least > 0 for it in ranges), sum(it.most > 0 for it in ranges))
 
     def late(self):
         return [change for change in self.changes if later(change)]
