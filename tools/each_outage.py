@@ -6,6 +6,7 @@ import html
 from collections import namedtuple
 
 import afdx
+import files
 import runs
 from frames import Ends, Range, drawn_offsets, exactly
 from runs import Failure
@@ -117,7 +118,7 @@ class EachOutage:
         used = [element for element in self.elements if any(net.users[line] for line in element.lines)]
         self.courses = [Course(element, number) for number, element in enumerate([None, *used])]
         self.known = {}
-        self.done, self.failure = 0, None
+        self.done, self.status, self.failure = 0, 0, None
 
     def count(self):
         return len(self.courses) * len(self.seeds)
@@ -147,10 +148,11 @@ class EachOutage:
                     keep(f"outage-{course.number}-seed-{seed}", run.text, printed.tables)
                     self.done += 1
                     progress.tell(self.done, None)
-            except (Failure, afdx.Fault) as failure:
-                self.failure = str(failure)
-            except KeyboardInterrupt:
-                self.failure = f"interrupted before run {self.done + 1} of {self.count()} was taken"
+            except Failure as failure:
+                self.status, self.failure = 1, str(failure)
+            except files.ENDS as ended:
+                self.status, said = files.why(ended)
+                self.failure = f"{said}, before run {self.done + 1} of {self.count()} was taken"
             finally:
                 progress.end()
         # What was not run for all seeds cannot be compared.

@@ -23,7 +23,8 @@ from collections import Counter, defaultdict, namedtuple
 from fractions import Fraction
 
 import afdx
-from afdx import CAUSES, Fault, Network, Tables, Trace, write_whole
+import files
+from afdx import CAUSES, Network, Tables, Trace
 from drawing import MOMENTS, Drawing, chart_over_time, heat, legend_of_loads
 from frames import Ends, Journey, Range, Way, ways_of
 from limits import Bounds, Limits
@@ -336,8 +337,7 @@ def tiles_of_run(given):
 
 def part_of_page(name):
     """The text of a file of the page: its style or its script."""
-    with open(os.path.join(afdx.HERE, "page", name), encoding="utf-8") as file:
-        return file.read()
+    return files.text_of(os.path.join(afdx.HERE, "page", name))
 
 
 # What a page is made of. `ends` is what became of all frames, where it can be known; `other` has the latencies of the
@@ -796,14 +796,12 @@ def given_by(words):
     return Given(net, tables, trace, ends_of(words, tables, trace), limits, bounds, other)
 
 
+@files.tool
 def main(arguments=None):
     words = words_of(arguments)
-    try:
-        write_whole(words.output, Page(given_by(words)).html())
-    except Fault as fault:
-        print(f"report.py: {fault}", file=sys.stderr)
-        return 2
-    return 0
+    given = given_by(words)
+    files.judge([words.output])
+    files.write_whole(words.output, Page(given).html())
 
 
 if __name__ == "__main__":
