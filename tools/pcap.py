@@ -16,8 +16,9 @@ import sys
 
 import afdx
 import explain
+import files
 import second_opinion
-from afdx import Fault
+from files import Fault
 
 EXAMPLES = """
 examples:
@@ -195,29 +196,12 @@ def blocks_of(net, simulation):
         yield packet_of(number[place], t, frame_bytes, comments)
 
 
-def compare(path, simulation):
-    """Refuses a trace that is not that of the run."""
-    found = afdx.lines_of(path, [afdx.TRACE_HEAD], "a trace")
+def compare(path, found, simulation):
+    """Refuses a trace, of which the lines are given, that is not that of the run."""
     for i, (mine, line) in enumerate(itertools.zip_longest(simulation.trace(), found), 1):
         if mine != line:
             text = "ends here, and the run has " + mine if line is None else f"says {line}, and the run has {mine or 'no more'}"
             raise Fault(path, i, f"{text}: it is the trace of another run")
-
-
-def write(path, blocks):
-    """Writes a capture beside, which then takes the name."""
-    beside = f"{path}.{os.getpid()}.part"
-    try:
-        try:
-            with open(beside, "wb") as out:
-                out.writelines(blocks)
-            os.replace(beside, path)
-        except BaseException:
-            if os.path.exists(beside):
-                os.unlink(beside)
-            raise
-    except OSError as fault:
-        raise Fault(path, None, f"cannot be written: {fault.strerror}") from None
 
 
 # ---- words of the command line ----
@@ -233,25 +217,20 @@ def words_of(arguments):
     parser.add_argument(
         "--each", choices=KINDS, default="receiver", help="an interface for each receiver (default), or for each line"
     )
-    words = parser.parse_args(arguments)
-    for path in (words.net, words.trace):
-        if afdx.is_same_file(path, words.output):
-            parser.error(f"{path} would be overwritten by what is made of it")
-    return words
+    return parser.parse_args(arguments)
 
 
+@files.tool
 def main(arguments=None):
     words = words_of(arguments)
-    try:
-        tree = second_opinion.small_enough(explain.accepted(words.net))
-        simulation = KINDS[words.each](tree)
-        simulation.run()
-        compare(words.trace, simulation)
-        write(words.output, blocks_of(afdx.Network(words.net), simulation))
-    except Fault as fault:
-        print(f"pcap.py: {fault}", file=sys.stderr)
-        return 2
-    return 0
+    description = explain.accepted(words.net)
+    found = afdx.lines_of(words.trace, [afdx.TRACE_HEAD], "a trace")
+    files.judge([words.output])
+    simulation = KINDS[words.each](second_opinion.small_enough(description))
+    simulation.run()
+    compare(words.trace, found, simulation)
+    net = afdx.Network(words.net, description=description)
+    files.write_whole(words.output, b"".join(blocks_of(net, simulation)))
 
 
 if __name__ == "__main__":

@@ -11,6 +11,7 @@ import sys
 
 import afdx
 import explain
+import files
 from afdx import CAUSES, Fault
 
 EXAMPLES = """
@@ -356,6 +357,7 @@ def small_enough(description):
     return description.tree
 
 
+@files.tool
 def main(arguments=None):
     parser = argparse.ArgumentParser(
         description=__doc__, epilog=EXAMPLES, formatter_class=argparse.RawDescriptionHelpFormatter
@@ -365,24 +367,17 @@ def main(arguments=None):
     parser.add_argument("--hops", metavar="FILE", help="writes what was measured on the way to this file")
     parser.add_argument("--events", action="store_true", help="tells on error output how many messages were handled")
     words = parser.parse_args(arguments)
-    for name in ("trace", "hops"):
-        path = getattr(words, name)
-        if path and afdx.is_same_file(words.net, path):
-            parser.error(f"NET and --{name} name one file, {words.net}")
-    try:
-        simulation = (Measured if words.hops else Simulation)(small_enough(explain.accepted(words.net)))
-        simulation.run()
-        if words.hops:
-            afdx.write_whole(words.hops, "".join(line + "\n" for line in simulation.hops()))
-        if words.trace:
-            afdx.write_whole(words.trace, "".join(line + "\n" for line in simulation.trace()))
-        afdx.write_out("".join(line + "\n" for line in simulation.tables()))
-    except Fault as fault:
-        print(f"second_opinion.py: {fault}", file=sys.stderr)
-        return 2
+    net = small_enough(explain.accepted(words.net))
+    written = [path for path in (words.trace, words.hops) if path]
+    files.judge(written, prints=True)
+    simulation = (Measured if words.hops else Simulation)(net)
+    simulation.run()
+    text_of = lambda lines: "".join(line + "\n" for line in lines)
+    texts = {words.trace: text_of(simulation.trace())} if words.trace else {}
+    files.write_all(texts | ({words.hops: text_of(simulation.hops())} if words.hops else {}))
+    files.write_out(text_of(simulation.tables()))
     if words.events:
         print(simulation.handled, "events", file=sys.stderr)
-    return 0
 
 
 if __name__ == "__main__":

@@ -4,6 +4,7 @@ import contextlib
 import glob
 import io
 import os
+import shutil
 import subprocess
 import sys
 import tempfile
@@ -225,7 +226,7 @@ class OfTables(Here):
         table = self.file("table.csv", NODES + LINKS + LINE)
         status, out, said = self.call(table, "-o", table)
         self.assertEqual((status, out, read(table)), (2, "", NODES + LINKS + LINE))
-        self.assertIn(f"{table} would be overwritten by what is made of it", said)
+        self.assertIn(f"{table}: would be written over what was read as {table}", said)
         self.assertEqual(self.call("--back", table, table)[0], 2)
         status, out, said = self.call(table)
         self.assertEqual((status, said), (0, ""))
@@ -368,9 +369,10 @@ class Workbooks(Here):
         self.assertTrue(said.startswith(f"from_table.py: {path}: is no workbook that can be read: "), said)
 
     def test_it_is_not_written_over(self):
-        path = self.of_rows(["id"], [1])
-        self.assertEqual(self.call(path, "-o", path)[0], 2)
-        self.assertTrue(workbook.is_workbook(path))
+        path = os.path.join(self.folder, "icd.xlsx")
+        shutil.copy(os.path.join(EXAMPLES, "flight_deck.xlsx"), path)
+        status, _, said = self.call(path, "-o", os.path.join(self.folder, ".", "icd.xlsx"))
+        self.assertEqual((status, said.count("would be written over"), workbook.is_workbook(path)), (2, 1, True))
 
 
 class WithoutTheLibrary(Here):

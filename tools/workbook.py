@@ -8,7 +8,8 @@ import sys
 import warnings
 from decimal import Decimal
 
-from afdx import Fault
+import files
+from files import Fault
 
 # Debian's packages are for this interpreter.
 DEBIAN = "/usr/bin/python3"
@@ -28,6 +29,7 @@ def is_workbook(path):
 
 def sheets_of(path):
     """The name of each sheet that has cells, and its rows from the first on, as lists of texts."""
+    files.reads(path)
     if importlib.util.find_spec("openpyxl"):
         found = read(path)
     else:
