@@ -11,11 +11,11 @@ import argparse
 import json
 import os
 import re
-import sys
 from collections import Counter, namedtuple
 from fractions import Fraction
 
 import toml_lines
+from files import Fault, is_same_file, text_of, write_out, write_whole  # noqa: F401: other tools have them from here
 
 HERE = os.path.dirname(os.path.abspath(__file__))
 PROGRAM = os.path.normpath(os.path.join(HERE, "..", "crates", "afdxsim", "out", "afdxsim"))
@@ -38,14 +38,6 @@ MOST_PROCESSES, MOST_PORTS, MOST_OUTAGES, MOST_DESTINATIONS = 4096, 24, 1024, 64
 MOST_NODES_OF_A_PATH = 32
 
 
-class Fault(Exception):
-    """What is wrong with a file, in one line that names the file and, where there is one, the line."""
-
-    def __init__(self, path, line, text):
-        super().__init__(f"{path} line {line}: {text}" if line else f"{path}: {text}")
-        self.path, self.line, self.text = path, line, text
-
-
 def whole(least, greatest):
     """The type of a word of the command line: a whole number within these limits."""
 
@@ -62,19 +54,6 @@ def whole(least, greatest):
 # ---- files ----
 
 
-def text_of(path):
-    """The text of a file."""
-    try:
-        with open(path, "rb") as file:
-            found = file.read()
-    except OSError as fault:
-        raise Fault(path, None, f"cannot be read: {fault.strerror}") from None
-    try:
-        return found.decode("utf-8")
-    except UnicodeDecodeError as fault:
-        raise Fault(path, found.count(b"\n", 0, fault.start) + 1, "is no UTF-8") from None
-
-
 def lines_of(path, head, name, text=None):
     """The lines of a file of tables or of a trace, without line feeds. The first of them must be a head."""
     lines = (text_of(path) if text is None else text).split("\n")
@@ -83,38 +62,6 @@ def lines_of(path, head, name, text=None):
     if lines.pop():
         raise Fault(path, len(lines) + 1, "the line feed at the end is missing, so the file is not whole")
     return lines
-
-
-def write_whole(path, text):
-    """Writes a file beside, which then takes the name."""
-    beside = f"{path}.{os.getpid()}.part"
-    try:
-        try:
-            with open(beside, "w", encoding="utf-8", newline="\n") as out:
-                out.write(text)
-            os.replace(beside, path)
-        except OSError:
-            if os.path.exists(beside):
-                os.unlink(beside)
-            raise
-    except OSError as fault:
-        raise Fault(path, None, f"cannot be written: {fault.strerror}") from None
-
-
-def write_out(text):
-    """Writes to standard output."""
-    try:
-        sys.stdout.write(text)
-        sys.stdout.flush()
-    except OSError as fault:
-        # What is left in the buffer goes nowhere.
-        os.dup2(os.open(os.devnull, os.O_WRONLY), 1)
-        raise Fault("standard output", None, f"cannot be written: {fault.strerror}") from None
-
-
-def is_same_file(one, other):
-    """Whether two names are those of one file, as far as the host can tell."""
-    return os.path.exists(one) and os.path.exists(other) and os.path.samefile(one, other)
 
 
 # ---- the keys of a description ----

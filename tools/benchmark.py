@@ -32,6 +32,8 @@ import tempfile
 import time
 import zlib
 
+import files
+
 HERE = os.path.dirname(os.path.abspath(__file__))
 
 # For each network the words for large_network.py, the number of messages that seq handles in it, and the CRC-32 of
@@ -120,17 +122,18 @@ def print_line(cells):
     widths = [10, 16, 11, 9, 9, 9, 12, 8]
     left = [cell.ljust(width) for cell, width in zip(cells[:2], widths)]
     right = [cell.rjust(width) for cell, width in zip(cells[2:], widths[2:])]
-    print(" ".join(left + right), flush=True)
+    files.say(" ".join(left + right))
 
 
-def main():
+@files.tool
+def main(arguments=None):
     parser = argparse.ArgumentParser(description=__doc__, formatter_class=argparse.RawDescriptionHelpFormatter)
     add = parser.add_argument
     add("program", metavar="PROGRAM", help="the program to measure")
     add("--sizes", default=",".join(SIZES), metavar="NAMES", help="networks, with commas between (default: all three)")
     add("--reps", type=int, default=5, metavar="N", help="repetitions of each command, at least 1 (default 5)")
     add("--workers", default="", metavar="NUMBERS", help="numbers of workers to measure run with, 1 to 64 (default: none)")
-    words = parser.parse_args()
+    words = parser.parse_args(arguments)
     sizes = words.sizes.split(",")
     if not set(sizes) <= set(SIZES):
         parser.error("the networks are " + ", ".join(SIZES))
@@ -148,8 +151,8 @@ def main():
             for line in measure(program, size, folder, words.reps, workers):
                 print_line(line)
         least = Run(["/bin/true"], os.path.join(folder, "output")).mebibytes
-    print(f"The least MiB that can be seen here: {least:.1f}")
+    files.say(f"The least MiB that can be seen here: {least:.1f}")
 
 
 if __name__ == "__main__":
-    main()
+    sys.exit(main())

@@ -21,6 +21,7 @@ sys.path.insert(0, HERE)
 
 import afdx  # noqa: E402
 import bounds  # noqa: E402
+import files  # noqa: E402
 import second_opinion  # noqa: E402
 
 EXAMPLES = """
@@ -239,7 +240,7 @@ def hold_network(number, runs, keep, count, tell):
         again = f"bounded_runs.py --networks 1 --first {number} --runs {run + 1} --keep DIR"
         count.hold(found, simulation, lambda text: tell(f"network {number}, run {run}: {text}; again: {again}"))
         if keep:
-            afdx.write_whole(os.path.join(keep, f"network-{number}-run-{run}.toml"), afdx.text_of_tree(tree))
+            files.write_whole(os.path.join(keep, f"network-{number}-run-{run}.toml"), afdx.text_of_tree(tree))
 
 
 def words_of(arguments=None):
@@ -254,18 +255,15 @@ def words_of(arguments=None):
     return parser.parse_args(arguments)
 
 
+@files.tool
 def main(arguments=None):
     words = words_of(arguments)
     count = Count()
-    try:
-        if words.keep:
-            os.makedirs(words.keep, exist_ok=True)
-        for number in range(words.first, words.first + words.networks):
-            hold_network(number, words.runs, words.keep, count, print)
-    except (OSError, afdx.Fault) as fault:
-        print(f"bounded_runs.py: {fault}", file=sys.stderr)
-        return 2
-    print(count.text(words.networks))
+    if words.keep:
+        os.makedirs(words.keep, exist_ok=True)
+    for number in range(words.first, words.first + words.networks):
+        hold_network(number, words.runs, words.keep, count, files.say)
+    files.say(count.text(words.networks))
     return 1 if count.above else 0
 
 

@@ -24,6 +24,7 @@ sys.path.insert(0, HERE)
 
 import afdx  # noqa: E402
 import explain  # noqa: E402
+import files  # noqa: E402
 
 EXAMPLES = """
 examples:
@@ -501,18 +502,14 @@ def words_of(arguments=None):
     return parser.parse_args(arguments)
 
 
+@files.tool
 def main(arguments=None):
     words = words_of(arguments)
-    try:
-        text = Bounds(accepted(words.net)).text()
-        if words.output:
-            afdx.write_whole(words.output, text)
-        else:
-            afdx.write_out(text)
-    except afdx.Fault as fault:
-        print(f"bounds.py: {fault}", file=sys.stderr)
-        return 2
-    return 0
+    text = Bounds(accepted(words.net)).text()
+    if words.output:
+        files.write_whole(words.output, text)
+    else:
+        files.write_out(text)
 
 
 if __name__ == "__main__":

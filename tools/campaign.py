@@ -22,8 +22,10 @@ import argparse
 import contextlib
 import os
 import random
+import re
 import subprocess
 import sys
+import tempfile
 import threading
 import time
 from collections import Counter
@@ -33,8 +35,10 @@ from math import floor
 import afdx
 import cluster
 import each_outage
+import files
 import runs
-from afdx import CAUSES, GREATEST_SEED, PROGRAM, TABLES_HEAD, Fault, limits_of, text_of, whole, write_whole
+from afdx import CAUSES, GREATEST_SEED, PROGRAM, TABLES_HEAD, limits_of, whole
+from files import Fault, text_of, write_whole
 from runs import Failure
 
 EXAMPLES = """
@@ -69,6 +73,8 @@ status:
      the file and the line, and nothing is written
 """
 
+# The names of the files that it writes.
+WRITTEN = r"(merged|greatest|histograms|outages)\.csv|outages\.html|(outage-\d+-)?seed-\d+\.(toml|tables\.csv)"
 GREATEST_HEAD = "vl,where,runs,least_greatest_ns,mean_greatest_ns,greatest_ns,sum_greatest_ns,seed"
 PERCENTS = [50, 95, 99]
 # Of so many outages a line tells what they do.
@@ -89,13 +95,15 @@ class Network(afdx.Network):
 
     @staticmethod
     def check(path, text, program):
-        """Has the program judge the description."""
-        try:
-            run = subprocess.run(
-                [program, "check", os.path.abspath(path)], stdin=subprocess.DEVNULL, capture_output=True
-            )
-        except OSError as fault:
-            raise Fault(program, None, f"cannot be run: {fault.strerror}") from None
+        """Has the program judge the description, of which it gets a copy: so it is read once."""
+        with tempfile.TemporaryDirectory() as folder:
+            copy = os.path.join(folder, "net.toml")
+            with open(copy, "w", encoding="utf-8", newline="\n") as out:
+                out.write(text)
+            try:
+                run = subprocess.run([program, "check", copy], stdin=subprocess.DEVNULL, capture_output=True)
+            except OSError as fault:
+                raise Fault(program, None, f"cannot be run: {fault.strerror}") from None
         if run.returncode != 0:
             said = run.stderr.decode("utf-8", "replace").strip().split("\n")[0]
             raise Fault(path, afdx.line_of_refusal(text, said), "is refused: " + (said or f"status {run.returncode}"))
@@ -298,7 +306,7 @@ class Campaign:
 
     def __init__(self, net, limits, seeds, draws_offsets=False):
         self.net, self.limits, self.seeds, self.draws_offsets = net, limits, seeds, draws_offsets
-        self.merged, self.done, self.failure = Merged(net), 0, None
+        self.merged, self.done, self.status, self.failure = Merged(net), 0, 0, None
         # For each limit that is broken: in how many runs.
         self.broken = {}
 
@@ -330,31 +338,32 @@ class Campaign:
                     keep(f"seed-{seed}", run.text, printed.tables)
                     progress.tell(self.done, self.merged.worst() if progress.shown else None)
             except Failure as failure:
-                self.failure = str(failure)
-            except KeyboardInterrupt:
-                self.failure = f"interrupted before the run of the seed {self.seeds[self.done]} was merged"
+                self.status, self.failure = 1, str(failure)
+            except files.ENDS as ended:
+                self.status, said = files.why(ended)
+                self.failure = f"{said}, before the run of the seed {self.seeds[self.done]} was merged"
             finally:
                 progress.end()
 
     def tell(self, path, took):
         """Says on standard output what came of it."""
         if self.failure:
-            print(f"campaign.py: {self.failure}", file=sys.stderr)
+            files.tell("campaign.py", self.failure)
         if not self.done:
-            print("no run was merged, and nothing is written")
+            files.say("no run was merged, and nothing is written")
             return
         runs = f"{self.done:,} run" + ("" if self.done == 1 else "s")
-        print(f"{path}: {runs} merged, seeds {self.seeds[0]} to {self.seeds[self.done - 1]}, in {took:.1f} s")
+        files.say(f"{path}: {runs} merged, seeds {self.seeds[0]} to {self.seeds[self.done - 1]}, in {took:.1f} s")
         worst = self.merged.worst()
         if worst:
-            print(f"greatest latency: {worst[0]} ns, virtual link {worst[1]} at {worst[2]}, seed {worst[3]}")
+            files.say(f"greatest latency: {worst[0]} ns, virtual link {worst[1]} at {worst[2]}, seed {worst[3]}")
         lost = sum(row[0] for (_, _, cause), row in self.merged.losses.items() if cause != "duplicate")
-        print(f"lost: {lost} frames or copies, duplicates not counted")
+        files.say(f"lost: {lost} frames or copies, duplicates not counted")
         if self.limits:
-            print(f"limits: {len(self.limits)}, broken: {len(self.broken)}")
+            files.say(f"limits: {len(self.limits)}, broken: {len(self.broken)}")
         for key in sorted(self.broken, key=lambda it: self.limits[it].line):
             limit, row = self.limits[key], self.merged.latencies[key]
-            print(
+            files.say(
                 f"limit broken: virtual link {limit.vl} at {limit.where} has {limit.ns} ns, and took {row[2]} ns with "
                 f"the seed {row[4]}; broken by {self.broken[key]} of {runs}"
             )
@@ -404,6 +413,7 @@ def prepare(words):
     if first + words.seeds - 1 > GREATEST_SEED:
         line = net.description.line("top", None, "seed")
         raise Fault(words.net, line, f"the seeds from {first} on would pass {GREATEST_SEED}")
+    files.judge_folder(words.output, re.compile(WRITTEN).fullmatch)
     try:
         os.makedirs(words.output, exist_ok=True)
     except OSError as fault:
@@ -436,7 +446,7 @@ def over_seeds(words, net, limits, seeds):
     if campaign.done:
         path = write_results(words.output, campaign.merged, words.histograms)
     campaign.tell(path, time.monotonic() - begin)
-    return 1 if campaign.failure or campaign.broken else 0
+    return campaign.status or (1 if campaign.broken else 0)
 
 
 def over_outages(words, net, limits, seeds):
@@ -445,21 +455,21 @@ def over_outages(words, net, limits, seeds):
     found = each_outage.EachOutage(net, limits, seeds, words.offsets, words.each_outage)
     found.run(maker_of(words, True), keeper(words), Progress(found.count()), (tables_of, trace_of))
     if found.failure:
-        print(f"campaign.py: {found.failure}", file=sys.stderr)
+        files.tell("campaign.py", found.failure)
     if not found.courses:
-        print("no run without an outage was made, and nothing is written")
-        return 1
+        files.say("no run without an outage was made, and nothing is written")
+        return found.status
     table, page = (os.path.join(words.output, name) for name in ("outages.csv", "outages.html"))
     write_whole(table, found.table())
     write_whole(page, each_outage.page(found, words.net))
     summaries = found.summaries()
-    print(f"{table} and {page}: {len(summaries)} outages, {found.done} runs, in {time.monotonic() - begin:.1f} s")
+    files.say(f"{table} and {page}: {len(summaries)} outages, {found.done} runs, in {time.monotonic() - begin:.1f} s")
     for it in summaries[:MOST_TOLD]:
-        print(f"{it.name()}: {it.in_words()}")
+        files.say(f"{it.name()}: {it.in_words()}")
     broken = sum(bool(it.broken) for it in summaries)
     if limits:
-        print(f"limits: {len(limits)}; outages that break one which is else kept: {broken}")
-    return 1 if found.failure or broken else 0
+        files.say(f"limits: {len(limits)}; outages that break one which is else kept: {broken}")
+    return found.status or (1 if broken else 0)
 
 
 def keeper(words):
@@ -473,23 +483,18 @@ def keeper(words):
     return keep
 
 
+@files.tool
 def main(arguments=None):
     words = words_of(arguments)
-    try:
-        if words.dask and not cluster.is_here():
-            return by_another(sys.argv[1:] if arguments is None else arguments)
-        return (over_seeds if words.each_outage is None else over_outages)(words, *prepare(words))
-    except Fault as fault:
-        print(f"campaign.py: {fault}", file=sys.stderr)
-        return 2
+    if words.dask and not cluster.is_here():
+        return by_another(sys.argv[1:] if arguments is None else arguments)
+    return (over_seeds if words.each_outage is None else over_outages)(words, *prepare(words))
 
 
 def by_another(arguments):
-    """The status of this campaign by the interpreter that has Dask."""
+    """Goes on as the interpreter that has Dask."""
     command = [cluster.interpreter(), os.path.abspath(__file__), *arguments]
-    with contextlib.suppress(KeyboardInterrupt):
-        return subprocess.run(command).returncode
-    return 1
+    os.execv(command[0], command)
 
 
 if __name__ == "__main__":

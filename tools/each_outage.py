@@ -6,8 +6,9 @@ import html
 from collections import namedtuple
 
 import afdx
-import report
+import files
 import runs
+from frames import Ends, Range, drawn_offsets, exactly
 from runs import Failure
 
 TABLE_HEAD = (
@@ -60,7 +61,7 @@ class Course:
         for key, end in ends.items():
             row = tables.latencies[key]
             self.delivered[key] = self.delivered.get(key, 0) + row.count
-            self.lost[key] = self.lost.get(key, report.exactly(0)) + end.missing
+            self.lost[key] = self.lost.get(key, exactly(0)) + end.missing
             self.greatest[key] = max(self.greatest.get(key, 0), row.greatest)
 
 
@@ -69,7 +70,7 @@ class Known:
     links of which another run with this seed tells something else."""
 
     def __init__(self, net, seed, draws_offsets):
-        drawn = report.drawn_offsets(net, seed) if draws_offsets else {}
+        drawn = drawn_offsets(net, seed) if draws_offsets else {}
         self.net, self.seed = net, seed
         self.vls = {vl.id: vl._replace(offset_ns=drawn.get(vl.id, vl.offset_ns)) for vl in net.vls.values()}
         self.rows, self.ends = {}, None
@@ -84,7 +85,7 @@ class Known:
         part = copy.copy(tables)
         part.net = copy.copy(self.net)
         part.net.vls = {vl: self.vls[vl] for vl in other}
-        found = report.Ends(part, [self.seed], trace=trace).of
+        found = Ends(part, [self.seed], trace=trace).of
         if first:
             self.rows, self.ends = rows, found
         return self.ends | found
@@ -96,7 +97,7 @@ Change = namedtuple("Change", "vl where delivered_before delivered lost_before l
 
 def more_lost(change):
     """How many frames more are lost, at the least and at the most."""
-    return report.Range(
+    return Range(
         max(0, change.lost.least - change.lost_before.most), max(0, change.lost.most - change.lost_before.least)
     )
 
@@ -117,7 +118,7 @@ class EachOutage:
         used = [element for element in self.elements if any(net.users[line] for line in element.lines)]
         self.courses = [Course(element, number) for number, element in enumerate([None, *used])]
         self.known = {}
-        self.done, self.failure = 0, None
+        self.done, self.status, self.failure = 0, 0, None
 
     def count(self):
         return len(self.courses) * len(self.seeds)
@@ -147,10 +148,11 @@ class EachOutage:
                     keep(f"outage-{course.number}-seed-{seed}", run.text, printed.tables)
                     self.done += 1
                     progress.tell(self.done, None)
-            except (Failure, afdx.Fault) as failure:
-                self.failure = str(failure)
-            except KeyboardInterrupt:
-                self.failure = f"interrupted before run {self.done + 1} of {self.count()} was taken"
+            except Failure as failure:
+                self.status, self.failure = 1, str(failure)
+            except files.ENDS as ended:
+                self.status, said = files.why(ended)
+                self.failure = f"{said}, before run {self.done + 1} of {self.count()} was taken"
             finally:
                 progress.end()
         # What was not run for all seeds cannot be compared.
@@ -194,12 +196,12 @@ class Summary(namedtuple("Summary", "course changes broken")):
 
     def lost(self):
         """How many frames more are lost end to end at all destinations together."""
-        return sum(map(more_lost, self.changes), report.exactly(0))
+        return sum(map(more_lost, self.changes), exactly(0))
 
     def losing(self):
         """At how many destinations more frames are lost, surely and at the most."""
         ranges = [more_lost(change) for change in self.changes]
-        return report.Range(sum(it.least > 0 for it in ranges), sum(it.most > 0 for it in ranges))
+        return Range(sum(it.least > 0 for it in ranges), sum(it.most > 0 for it in ranges))
 
     def late(self):
         return [change for change in self.changes if later(change)]

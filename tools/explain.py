@@ -13,6 +13,7 @@ import sys
 from collections import namedtuple
 
 import afdx
+import files
 import toml_lines
 from afdx import KEYS, MOST_DESTINATIONS, MOST_OUTAGES, MOST_PORTS, MOST_PROCESSES, SECTIONS, Fault
 
@@ -677,19 +678,16 @@ def counted(found, word):
     return f"{len(found)} {word}{'' if len(found) == 1 else 's'}"
 
 
+@files.tool
 def main(arguments=None):
     parser = argparse.ArgumentParser(
         description=__doc__, epilog=EXAMPLES, formatter_class=argparse.RawDescriptionHelpFormatter
     )
     parser.add_argument("net", metavar="NET", help="the description (TOML)")
     words = parser.parse_args(arguments)
-    try:
-        told, status = explain(words.net)
-        afdx.write_out(told)
-        return status
-    except Fault as fault:
-        print(f"explain.py: {fault}", file=sys.stderr)
-        return 2
+    told, status = explain(words.net)
+    files.write_out(told)
+    return status
 
 
 if __name__ == "__main__":

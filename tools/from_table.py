@@ -17,6 +17,7 @@ from fractions import Fraction
 
 import afdx
 import explain
+import files
 from afdx import BAGS_MS, KEYS, SECTIONS, Fault
 
 EXAMPLES = """
@@ -536,28 +537,21 @@ def words_of(arguments):
     words = parser.parse_args(arguments)
     if words.back and len(words.tables) > 1:
         parser.error("--back makes the tables of one description")
-    for path in words.tables:
-        if words.output and afdx.is_same_file(path, words.output):
-            parser.error(f"{path} would be overwritten by what is made of it")
     return words
 
 
+@files.tool
 def main(arguments=None):
     words = words_of(arguments)
-    try:
-        text, faults = (back(words.tables[0]), []) if words.back else made(words.tables)
-        for fault in faults:
-            print(f"from_table.py: {fault}", file=sys.stderr)
-        if faults:
-            return 1
-        if words.output:
-            afdx.write_whole(words.output, text)
-        else:
-            afdx.write_out(text)
-    except Fault as fault:
-        print(f"from_table.py: {fault}", file=sys.stderr)
-        return 2
-    return 0
+    text, faults = (back(words.tables[0]), []) if words.back else made(words.tables)
+    for fault in faults:
+        files.tell("from_table.py", fault)
+    if faults:
+        return 1
+    if words.output:
+        files.write_whole(words.output, text)
+    else:
+        files.write_out(text)
 
 
 if __name__ == "__main__":

@@ -17,6 +17,7 @@ import random
 import sys
 from fractions import Fraction
 
+import files
 from afdx import BYTES_BETWEEN_FRAMES, GREATEST_SEED, LATEST_NS, MOST_DESTINATIONS, MOST_NODES_OF_A_PATH
 from afdx import MOST_PORTS, MOST_PROCESSES, whole
 
@@ -314,13 +315,16 @@ def words_of(arguments=None):
     return parser.parse_args(arguments)
 
 
-def main():
+@files.tool
+def main(arguments=None):
     pieces = []
-    refusal = write_network(words_of(), pieces.append, sys.stderr.write)
+    refusal = write_network(words_of(arguments), pieces.append, sys.stderr.write)
     if refusal:
-        sys.exit("large_network.py: " + refusal)
-    sys.stdout.write("".join(pieces))
+        files.tell("large_network.py", refusal)
+        return 1
+    files.write_out("".join(pieces))
+    return 0
 
 
 if __name__ == "__main__":
-    main()
+    sys.exit(main())

@@ -19,6 +19,7 @@ import sys
 
 import afdx
 import explain
+import files
 from second_opinion import BODIES, Simulation
 
 
@@ -101,20 +102,18 @@ class Journal(Simulation):
             yield from ["C %d" % process] * count
 
 
-def main():
+@files.tool
+def main(arguments=None):
     words = argparse.ArgumentParser(description=__doc__, formatter_class=argparse.RawDescriptionHelpFormatter)
     words.add_argument("net", help="the network description (TOML)")
     words.add_argument("--turn", type=int, default=16, metavar="N", help="most messages that a process handles in one turn (default: 16)")
     words.add_argument("--window", type=int, default=100000, metavar="NS", help="only messages earlier than GVT plus this, in ns, are handled (default: 100000)")
-    given = words.parse_args()
+    given = words.parse_args(arguments)
     if given.turn < 1 or given.window < 1:
         words.error("a turn has at least one message, and a window at least 1 ns")
-    try:
-        journal = Journal(explain.accepted(given.net).tree)
-        afdx.write_out("".join(step + "\n" for step in journal.steps(given.turn, given.window)))
-    except afdx.Fault as fault:
-        sys.exit(f"make_journal.py: {fault}")
+    journal = Journal(explain.accepted(given.net).tree)
+    files.write_out("".join(step + "\n" for step in journal.steps(given.turn, given.window)))
 
 
 if __name__ == "__main__":
-    main()
+    sys.exit(main())

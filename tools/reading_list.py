@@ -21,6 +21,8 @@ import re
 import sys
 from collections import namedtuple
 
+import files
+
 TOP = os.path.normpath(os.path.join(os.path.dirname(os.path.abspath(__file__)), ".."))
 DOCUMENT = os.path.join(TOP, "docs", "PROOFS.md")
 MARKS = "<!-- by tools/reading_list.py --write: from here -->\n\n", "\n\n<!-- to here -->"
@@ -253,18 +255,18 @@ class Tree:
         ])
 
 
-def main():
+@files.tool
+def main(arguments=None):
     parser = argparse.ArgumentParser(description=__doc__, formatter_class=argparse.RawDescriptionHelpFormatter)
     parser.add_argument("--write", action="store_true", help="puts the lists into docs/PROOFS.md")
     lists = Tree().lists()
-    if not parser.parse_args().write:
-        print(lists)
+    if not parser.parse_args(arguments).write:
+        files.say(lists)
         return 0
     with open(DOCUMENT, encoding="utf-8") as file:
         text = file.read()
     before, _, rest = text.partition(MARKS[0])
-    with open(DOCUMENT, "w", encoding="utf-8") as file:
-        file.write(before + MARKS[0] + lists + MARKS[1] + rest.partition(MARKS[1])[2])
+    files.write_whole(DOCUMENT, before + MARKS[0] + lists + MARKS[1] + rest.partition(MARKS[1])[2])
     return 0
 
 

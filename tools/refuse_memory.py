@@ -33,6 +33,8 @@ import sys
 import tempfile
 from collections import Counter, namedtuple
 
+import files
+
 TOP = os.path.join(os.path.dirname(os.path.abspath(__file__)), "..")
 
 # Where a program of this name is, once it is built.
@@ -285,8 +287,8 @@ def refuse_test(program, test, folder, library):
 def is_told(name, refused, ways, faults):
     """Says how refusing went. Whether it went well."""
     for fault in faults[:20]:
-        print(f"{name}: {fault}", flush=True)
-    print(f"{name}: {refused} requests refused in turn{ways}; {len(faults)} faults", flush=True)
+        files.say(f"{name}: {fault}")
+    files.say(f"{name}: {refused} requests refused in turn{ways}; {len(faults)} faults")
     return refused > 0 and not faults
 
 
@@ -298,6 +300,7 @@ def prepare(folder):
     return library_in(folder)
 
 
+@files.tool
 def main(arguments=None):
     words = argparse.ArgumentParser(description=__doc__, formatter_class=argparse.RawDescriptionHelpFormatter)
     words.add_argument("--only", metavar="WORD", default="", help="only the commands and tests in whose names this stands")
@@ -313,7 +316,7 @@ def main(arguments=None):
             ]
         return 0 if went and all(went) else 1
     except (OSError, subprocess.SubprocessError) as fault:
-        print(f"refuse_memory: {fault}", file=sys.stderr)
+        files.tell("refuse_memory.py", fault)
         return 2
 
 

@@ -50,7 +50,7 @@ class Here:
                         return
                     run, future = waiting.popleft()
                     yield run, future.result()
-            except (Failure, OSError) as failure:
+            except (Failure, OSError, RuntimeError) as failure:
                 raise Failure(f"{run.name}: {failure}") from None
             finally:
                 self.stop_after(-1)

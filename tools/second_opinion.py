@@ -11,6 +11,7 @@ import sys
 
 import afdx
 import explain
+import files
 from afdx import CAUSES, Fault
 
 EXAMPLES = """
@@ -263,6 +264,7 @@ def small_enough(description):
     return description.tree
 
 
+@files.tool
 def main(arguments=None):
     parser = argparse.ArgumentParser(
         description=__doc__, epilog=EXAMPLES, formatter_class=argparse.RawDescriptionHelpFormatter
@@ -271,20 +273,15 @@ def main(arguments=None):
     parser.add_argument("--trace", metavar="FILE", help="writes the trace to this file")
     parser.add_argument("--events", action="store_true", help="tells on error output how many messages were handled")
     words = parser.parse_args(arguments)
-    if words.trace and afdx.is_same_file(words.net, words.trace):
-        parser.error(f"NET and --trace name one file, {words.net}")
-    try:
-        simulation = Simulation(small_enough(explain.accepted(words.net)))
-        simulation.run()
-        if words.trace:
-            afdx.write_whole(words.trace, "".join(line + "\n" for line in simulation.trace()))
-        afdx.write_out("".join(line + "\n" for line in simulation.tables()))
-    except Fault as fault:
-        print(f"second_opinion.py: {fault}", file=sys.stderr)
-        return 2
+    net = small_enough(explain.accepted(words.net))
+    files.judge([words.trace] if words.trace else [], prints=True)
+    simulation = Simulation(net)
+    simulation.run()
+    if words.trace:
+        files.write_whole(words.trace, "".join(line + "\n" for line in simulation.trace()))
+    files.write_out("".join(line + "\n" for line in simulation.tables()))
     if words.events:
         print(simulation.handled, "events", file=sys.stderr)
-    return 0
 
 
 if __name__ == "__main__":

@@ -263,12 +263,18 @@ class WithAStandIn(Here):
     def test_an_interrupt(self):
         """What was merged before it is kept. Where the tests were started without interrupts, as in the background of a
         shell, the campaign of the test has them all the same."""
-        for number, outside in enumerate((signal.default_int_handler, signal.SIG_IGN)):
-            with self.subTest(outside):
-                self.interrupt(os.path.join(self.folder, f"began-{number}"), outside)
+        for number, (outside, sent, status, said) in enumerate((
+            (signal.default_int_handler, signal.SIGINT, 130, "interrupted"),
+            (signal.SIG_IGN, signal.SIGINT, 130, "interrupted"),
+            (signal.default_int_handler, signal.SIGTERM, 143, "ended by SIGTERM"),
+        )):
+            with self.subTest(outside, sent=sent):
+                self.interrupt(os.path.join(self.folder, f"began-{number}"), outside, sent, status, said)
 
-    def interrupt(self, began, outside):
-        """Interrupts a campaign once a run has begun that writes a file."""
+    def interrupt(self, began, outside, sent, status, said):
+        """Interrupts a campaign once a run has begun that writes a file. Of its own files it leaves none."""
+        kept = os.path.join(self.folder, "kept-" + os.path.basename(began))
+        os.mkdir(kept)
         self.stand_in(f"if seed == 44:\n    open({began!r}, 'w').close()\n    time.sleep(100)")
         command = [sys.executable, os.path.join(HERE, "campaign.py"), N1, "--seeds", "9", "--jobs", "1"]
         command += ["--program", self.program, "-o", self.output]
@@ -279,6 +285,7 @@ class WithAStandIn(Here):
                 stdout=subprocess.PIPE,
                 stderr=subprocess.PIPE,
                 text=True,
+                env=os.environ | {"TMPDIR": kept},
                 preexec_fn=lambda: signal.signal(signal.SIGINT, signal.SIG_DFL),
             )
         finally:
@@ -287,10 +294,11 @@ class WithAStandIn(Here):
         while not os.path.exists(began) and time.monotonic() < begin + 30:
             time.sleep(0.05)
         time.sleep(0.5)
-        run.send_signal(signal.SIGINT)
-        out, said = run.communicate(timeout=30)
-        self.assertEqual(run.returncode, 1)
-        self.assertEqual(said, "campaign.py: interrupted before the run of the seed 44 was merged\n")
+        run.send_signal(sent)
+        out, told = run.communicate(timeout=30)
+        self.assertEqual(run.returncode, status)
+        self.assertEqual(told, f"campaign.py: {said}, before the run of the seed 44 was merged\n")
+        self.assertEqual(os.listdir(kept), [])
         self.assertIn("2 runs merged, seeds 42 to 43, in", out)
         self.assertIn("latency,1,ES2,,2,27720,27720,55440,42\n", read(self.merged))
 

@@ -9,6 +9,7 @@ HERE = os.path.dirname(os.path.abspath(__file__))
 sys.path.insert(0, HERE)
 
 import each_outage  # noqa: E402
+from frames import Range  # noqa: E402
 from second_opinion import Simulation  # noqa: E402
 from test_campaign import FAILING, N1, Here, read  # noqa: E402
 
@@ -214,7 +215,7 @@ class EachOutage(Here):
 
     def test_ranges(self):
         """Where it is known only from the least to the most how many are lost, so are the frames more."""
-        three, five = each_outage.report.Range(1, 3), each_outage.report.Range(2, 5)
+        three, five = Range(1, 3), each_outage.Range(2, 5)
         change = each_outage.Change(1, "E", 9, 8, three, five, 10, 10)
         self.assertEqual(tuple(each_outage.more_lost(change)), (0, 4))
         self.assertEqual(each_outage.said(each_outage.more_lost(change)), "0 to 4")

@@ -223,7 +223,7 @@ class OfTables(Here):
         table = self.file("table.csv", NODES + LINKS + LINE)
         status, out, said = self.call(table, "-o", table)
         self.assertEqual((status, out, read(table)), (2, "", NODES + LINKS + LINE))
-        self.assertIn(f"{table} would be overwritten by what is made of it", said)
+        self.assertIn(f"{table}: would be written over what was read as {table}", said)
         self.assertEqual(self.call("--back", table, table)[0], 2)
         status, out, said = self.call(table)
         self.assertEqual((status, said), (0, ""))

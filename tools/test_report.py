@@ -23,6 +23,10 @@ sys.path.insert(0, HERE)
 import afdx  # noqa: E402
 import campaign  # noqa: E402
 import report  # noqa: E402
+from drawing import Drawing  # noqa: E402
+from frames import Ends, drawn_offsets  # noqa: E402
+from limits import BOUNDS_HEAD  # noqa: E402
+from page_text import span, two_places  # noqa: E402
 from second_opinion import Simulation  # noqa: E402
 
 EXAMPLES = os.path.join(HERE, "..", "examples")
@@ -79,7 +83,7 @@ class Followed(Simulation):
                 dead = {side: set() for side in paths}
                 for number, frame, side, place, cause in self.died:
                     lost = paths.get(side) if number == vl.id and cause not in ("queue_full", "duplicate") else None
-                    if lost and (place in lost or place in report.afdx.lines_of_path(lost)):
+                    if lost and (place in lost or place in afdx.lines_of_path(lost)):
                         dead[side].add(frame)
                 came = [self.came[vl.id, where, moment] > 0 for moment, _ in released]
                 last = max((i for i, did in enumerate(came) if did), default=-1)
@@ -549,7 +553,7 @@ class InTheBrowser(unittest.TestCase):
             out.write("vl,destination,limit_ns\n")
             out.writelines(f"{vl},{where},{5 * row.greatest}\n" for (vl, where), row in found.items() if row.count)
         with open(bounds, "w", encoding="ascii") as out:
-            out.write(report.BOUNDS_HEAD + "\n")
+            out.write(BOUNDS_HEAD + "\n")
             out.writelines(f"{vl},{where},{(vl % 9 + 1) * 10**6},0,,,\n" for vl, where in found)
         return limits, bounds
 
@@ -614,7 +618,7 @@ class InTheBrowser(unittest.TestCase):
             out.writelines(f"{vl},{where},{ns}\n" for (vl, where), ns in given.items())
         found = dict.fromkeys(greatest, 10**8) | {(101, "FMC1"): 140170, (102, "DU_L"): 300001, (201, "DU_R"): None}
         with open(bounds, "w", encoding="ascii") as out:
-            out.write(report.BOUNDS_HEAD + "\n")
+            out.write(BOUNDS_HEAD + "\n")
             out.writelines(f"{vl},{where},{'none' if ns is None else ns},0,,,\n" for (vl, where), ns in found.items())
             out.write(",FMC1>SWA1,,,16385,16384,\n,SWA1>FMC1,,,5000,65536,\n")
         told = {
@@ -842,8 +846,8 @@ class WithoutABrowser(unittest.TestCase):
     def test_loads(self):
         """The loads that are told in the examples' own words, worked out by hand."""
         net = report.Network(example("saturated_port")[0])
-        self.assertEqual(report.two_places(net.load["CAM1>SW"]), "6.15")
-        self.assertEqual(report.two_places(net.load["SW>REC"]), "128.54")
+        self.assertEqual(two_places(net.load["CAM1>SW"]), "6.15")
+        self.assertEqual(two_places(net.load["SW>REC"]), "128.54")
         self.assertEqual(net.load["REC>SW"], 0)
         net = report.Network(example("n1")[0])
         self.assertEqual(net.load["SW1>ES2"], Fraction(84 * 8 * 1000 * 100, 100 * 10**12))
@@ -856,11 +860,11 @@ class WithoutABrowser(unittest.TestCase):
 
     def test_numbers_as_text(self):
         self.assertEqual(
-            [report.span(ns) for ns in (0, 999, 1000, 123456789, 10**9, 10**12 - 1)],
+            [span(ns) for ns in (0, 999, 1000, 123456789, 10**9, 10**12 - 1)],
             ["0 ns", "999 ns", "1 µs", "123.456789 ms", "1 s", "999.999999999 s"],
         )
         self.assertEqual(
-            [report.two_places(Fraction(it)) for it in ("0.005", "0.0049", "128.54")], ["0.01", "0.00", "128.54"]
+            [two_places(Fraction(it)) for it in ("0.005", "0.0049", "128.54")], ["0.01", "0.00", "128.54"]
         )
 
     def test_ends_of_drawn_networks(self):
@@ -872,7 +876,7 @@ class WithoutABrowser(unittest.TestCase):
             _, tables, trace, run = simulated(tomllib.loads(text), self.folder)
             tables = report.Tables(tables, net)
             for trace in (None, report.Trace(trace, tables)):
-                found = report.Ends(tables, [seed], trace=trace).of
+                found = Ends(tables, [seed], trace=trace).of
                 for key, (offered, under_way, missing, lost) in run.ends(net).items():
                     with self.subTest(seed=seed, key=key, trace=bool(trace)):
                         end = found[key]
@@ -913,7 +917,7 @@ class WithoutABrowser(unittest.TestCase):
                 for vl in run.vls:
                     number = len(run.released.get(vl, [])) + sum(map(len, run.regulators[vl]["waiting"]))
                     offered[vl] += number + sum(it[0] == vl and it[4] == "queue_full" for it in run.died)
-            lines = [report.afdx.TABLES_HEAD + ",seed"]
+            lines = [afdx.TABLES_HEAD + ",seed"]
             for key, (count, *times) in merged.items():
                 times = ["", "", ""] if key[0] == "dropped" else times if count else [0, 0, 0]
                 lines.append(",".join(map(str, (*key, count, *times, 11 if count else ""))))
@@ -930,7 +934,7 @@ class WithoutABrowser(unittest.TestCase):
     def test_drawn_offsets_are_those_of_a_campaign(self):
         path, _ = example("cockpit")
         drawn = tomllib.loads(campaign.Network(path, "true").with_seed(7, True))["vl"]
-        self.assertEqual({vl["id"]: vl["offset_ns"] for vl in drawn}, report.drawn_offsets(report.Network(path), 7))
+        self.assertEqual({vl["id"]: vl["offset_ns"] for vl in drawn}, drawn_offsets(report.Network(path), 7))
 
     def test_a_run_that_is_too_short_is_not_good(self):
         """Nothing is lost, and nothing came: that is told as no good sign."""
@@ -961,7 +965,7 @@ class WithoutABrowser(unittest.TestCase):
 
     def test_bad_limits_and_bounds(self):
         path, tables = example("n1")
-        head = report.BOUNDS_HEAD
+        head = BOUNDS_HEAD
         for word, text, said in (
             ("--limits", "1,ES2\n", "line 1: has 2 fields in place of 3: VL,NAME,NS"),
             ("--limits", "1,ES2,x\n", "line 1: the limit is 'x', and no whole number"),
@@ -1022,7 +1026,7 @@ class WithoutABrowser(unittest.TestCase):
         )
         text = text.replace("[[vl]]", '[[link]]\na = "SWC"\nb = "SWB"\nmbit = 10\npropagation_ns = 1\n[[vl]]', 1)
         net = report.Network(self.file("net.toml", text.replace('b = [["ES1", "SWB"', 'b = [["ES1", "SWC", "SWB"')))
-        drawn = re.findall('data-line="(.*?)"', report.Drawing(net).svg())
+        drawn = re.findall('data-line="(.*?)"', Drawing(net).svg())
         self.assertEqual(sorted(drawn), sorted(line.replace(">", "&gt;") for line in net.mbit))
 
     def test_a_network_without_anything(self):
@@ -1174,6 +1178,13 @@ class WithoutABrowser(unittest.TestCase):
         self.file("report.html", "earlier")
         self.assertEqual(make(path, self.file("bad.csv", "x\n"), "-o", self.page)[0], 2)
         self.assertEqual(read(self.page), "earlier")
+
+    def test_the_script_is_javascript(self):
+        node = shutil.which("node")
+        if not node:
+            self.skipTest("there is no node")
+        run = subprocess.run([node, "--check", os.path.join(HERE, "page", "report.js")], capture_output=True, text=True)
+        self.assertEqual((run.returncode, run.stderr), (0, ""))
 
     def test_help(self):
         run = subprocess.run(

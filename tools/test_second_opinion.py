@@ -140,7 +140,7 @@ class Words(unittest.TestCase):
         self.assertEqual(read(trace), "time_ns,where,vl,what,value\n27720,ES2,1,delivered,27720\n")
         status, out, said = called(path, "--trace", path)
         self.assertEqual((status, out, read(path)), (2, "", N1))
-        self.assertIn(f"NET and --trace name one file, {path}", said)
+        self.assertIn(f"{path}: would be written over what was read as {path}", said)
 
     def test_plain_errors(self):
         none = os.path.join(self.folder, "none")

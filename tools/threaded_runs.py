@@ -32,6 +32,7 @@ import tempfile
 HERE = os.path.dirname(os.path.abspath(__file__))
 sys.path.insert(0, HERE)
 
+import files  # noqa: E402
 import large_network  # noqa: E402
 import toml_lines  # noqa: E402
 from afdx import GREATEST_FRAME, GREATEST_SEED, LATEST_NS, PROGRAM, text_of_tree, whole  # noqa: E402
@@ -236,13 +237,14 @@ def words_of(arguments=None):
     return words
 
 
+@files.tool
 def main(arguments=None):
     words = words_of(arguments)
     outcomes = collections.Counter()
     for number in range(words.first, words.first + words.runs):
-        outcomes[one_run(words, number, print)] += 1
+        outcomes[one_run(words, number, files.say)] += 1
     other = "the second opinion" if words.second_opinion else "seq"
-    print(f"{words.runs} runs, {outcomes['well']} came out as {other}, {outcomes['another way']} did not")
+    files.say(f"{words.runs} runs, {outcomes['well']} came out as {other}, {outcomes['another way']} did not")
     return 1 if outcomes["another way"] else 0
 
 

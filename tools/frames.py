@@ -1,0 +1,267 @@
+"""What became of each frame, end to end: which were offered, which a regulator refused, and which of them were delivered,
+are under way at the end, or are missing. What was offered is drawn anew; the rest is told by tables, or by a trace.
+
+    ends = frames.Ends(tables, [net.seed], trace=trace)     # Fault where they are of other runs
+    ends.of[vl, where].missing                              # a Range: what is known of it
+"""
+import random
+from collections import Counter, deque, namedtuple
+
+import afdx
+from afdx import Fault
+from page_text import counted
+
+# How many bytes of its time on a line are before the last bit of a frame, beyond its own.
+BYTES_BEFORE_A_FRAME = 8
+
+
+class Range(namedtuple("Range", "least most")):
+    """A count of which it may be known only that it is from `least` to `most`."""
+
+    def __add__(self, other):
+        return Range(self.least + other.least, self.most + other.most)
+
+    def __sub__(self, other):
+        return Range(self.least - other.most, self.most - other.least)
+
+    def within(self, other):
+        return Range(max(self.least, other.least), min(self.most, other.most))
+
+
+def exactly(count):
+    return Range(count, count)
+
+
+# Of the frames of a virtual link in one run: how many are offered; those that its regulator let go, each with the
+# moments when it was offered and released; how many still wait there at the end, and how many it refused.
+Sent = namedtuple("Sent", "offered released waiting refused")
+
+# What became of the frames of a virtual link at one of its destinations: `again` were delivered a second time, since
+# their second copy came later than SkewMax; `under_way` has those that wait in the regulator too; `copies` are the
+# second copies that were dropped; `lost` has for each network the copies that were lost on it.
+End = namedtuple("End", "offered delivered again under_way missing copies lost")
+
+
+def through_regulator(vl, offers, until_ns):
+    """What the regulator of a virtual link does with its offers, numbers with moments in ns. At one moment a release
+    comes before an offer."""
+    lists, pointer, last = [deque() for _ in range(vl.sub)], 0, None
+    offered, refused, released = 0, 0, []
+
+    def release(moment):
+        nonlocal pointer, last
+        place = next(place % vl.sub for place in range(pointer, pointer + vl.sub) if lists[place % vl.sub])
+        released.append((lists[place].popleft(), moment))
+        pointer, last = (place + 1) % vl.sub, moment
+
+    for number, moment in sorted(offers, key=lambda it: (it[1], it[0])):
+        offered += 1
+        while any(lists) and last + vl.bag_ns <= moment:
+            release(last + vl.bag_ns)
+        own, waits = lists[number % vl.sub], any(lists)
+        if len(own) == vl.depth:
+            refused += 1
+            continue
+        own.append(moment)
+        if not waits and (last is None or moment >= last + vl.bag_ns):
+            release(moment)
+    while any(lists) and last + vl.bag_ns <= until_ns:
+        release(last + vl.bag_ns)
+    return Sent(offered, released, sum(map(len, lists)), refused)
+
+
+def ways_of(vl, where):
+    """The path of a virtual link to a destination on each network."""
+    return {side: path for side in "AB" for path in vl.paths[side] if path[-1] == where}
+
+
+class Way:
+    """The way of a virtual link to a destination on one network: how soon after its release a copy may be lost at each
+    place, in ns. That is at a port of its source, when its last bit leaves for a line, when it is whole at a switch or
+    at the destination."""
+
+    def __init__(self, net, vl, path):
+        self.net, after = net, 0
+        self.soonest = {path[0]: 0}
+        for here, there in zip(path, path[1:]):
+            line = here + ">" + there
+            after += (vl.size + BYTES_BEFORE_A_FRAME) * (8000 // net.mbit[line])
+            self.soonest[line] = after
+            after += net.propagation_ns[line]
+            self.soonest[there] = after
+            after += net.nodes[there].latency_ns
+        self.arrival = self.soonest[path[-1]]
+
+    def soonest_loss(self, where, cause):
+        return self.soonest[where] + (self.net.nodes[where].latency_ns if cause == "port_full" else 0)
+
+
+class Journey:
+    """A virtual link at one of its destinations: its ways there, and what tables tell of the copies lost on them."""
+
+    def __init__(self, net, vl, where, losses):
+        self.vl, self.where = vl, where
+        self.ways = {side: Way(net, vl, path) for side, path in ways_of(vl, where).items()}
+        self.losses = [loss for loss in losses if any(loss.where in way.soonest for way in self.ways.values())]
+        steps = {step for side in "AB" for path in vl.paths[side] for step in zip(path, path[1:])}
+        forks = {here for here, count in Counter(here for here, _ in steps).items() if count > 1}
+        sides = sum(bool(paths) for paths in vl.paths.values())
+        # Where a copy goes on by several ports, tables do not tell at which of them it was lost.
+        self.forks = forks - ({vl.source} if len(self.ways) == sides else set())
+        # A destination refuses frames of the networks alone on which copies were lost before.
+        before = [side for side in self.ways for loss in self.losses if loss.where in self.on_the_way(side)]
+        self.may_refuse = sorted(set(before)) or list(self.ways)
+
+    def on_the_way(self, side):
+        return self.ways[side].soonest.keys() - {self.where}
+
+    def sides_of(self, where, cause):
+        """The networks on which a copy for this destination may be lost at a place for a cause."""
+        if cause == "integrity":
+            return self.may_refuse if where == self.where else []
+        return [side for side, way in self.ways.items() if where in way.soonest]
+
+    def copies_lost(self):
+        """How many copies were lost on the way or refused at the destination, all together and on each network."""
+        total, lost = exactly(0), {side: exactly(0) for side in self.ways}
+        for loss in self.losses:
+            sides = self.sides_of(loss.where, loss.cause)
+            is_sure = not (loss.cause == "port_full" and loss.where in self.forks)
+            total += Range(loss.count * is_sure, loss.count)
+            for side in sides:
+                lost[side] += Range(loss.count * (is_sure and len(sides) == 1), loss.count)
+        return total, lost
+
+    def surely_under_way_ns(self):
+        """A frame that was released later than so long before the end, in ns, is under way for sure: it cannot have
+        come yet, and on one network it cannot have come to any place where the virtual link loses frames."""
+        soonest = {side: way.arrival for side, way in self.ways.items()}
+        for loss in self.losses:
+            for side in self.sides_of(loss.where, loss.cause):
+                soonest[side] = min(soonest[side], self.ways[side].soonest_loss(loss.where, loss.cause))
+        return min(max(soonest.values()), *(way.arrival for way in self.ways.values()))
+
+
+class Ends:
+    """What became of all frames, end to end: what was offered is drawn anew, as the program draws it, and held against
+    the tables of the runs with these seeds. A trace tells further which frames were delivered.
+
+    A frame is missing at a destination if it was not delivered there, and all its copies are lost or a later frame of
+    the virtual link was delivered there: a copy that comes behind it is dropped. If it was not delivered and is not
+    missing, it is under way at the end."""
+
+    def __init__(self, tables, seeds, draws_offsets=False, trace=None):
+        self.tables, self.net, self.trace = tables, tables.net, trace
+        self.losses, self.delivered, self.lost = {}, {}, {}
+        for loss in tables.losses.values():
+            if loss.cause not in ("queue_full", "duplicate"):
+                self.losses.setdefault(loss.vl, []).append(loss)
+        for time, where, vl, what, value in trace.rows if trace else ():
+            if what == "delivered":
+                self.delivered.setdefault((vl, where), []).append(time - value)
+            elif what not in ("queue_full", "duplicate"):
+                self.lost.setdefault(vl, []).append((time, where, what))
+        self.of = {}
+        for vl, runs in self.all_sent(seeds, draws_offsets):
+            self.compare(vl, sum(sent.refused for sent in runs))
+            for where in vl.destinations:
+                journey = Journey(self.net, vl, where, self.losses.get(vl.id, ()))
+                self.of[vl.id, where] = self.end(journey, runs)
+
+    def all_sent(self, seeds, draws_offsets):
+        """For each virtual link what its regulator did, run by run."""
+        until = self.net.until_ns
+        offsets = [drawn_offsets(self.net, seed) if draws_offsets else {} for seed in seeds]
+        for vl in self.net.vls.values():
+            runs = []
+            for seed, drawn in zip(seeds, offsets):
+                offset = drawn.get(vl.id, vl.offset_ns)
+                offers = afdx.offers(seed, vl.id, offset, vl.period_ns, vl.jitter_ns, until)
+                runs.append(through_regulator(vl, offers, until))
+            yield vl, runs
+
+    def refuse(self, line, text):
+        raise Fault(self.tables.path, line, f"{text}; so they are tables of another run than that of {self.net.path}")
+
+    def compare(self, vl, refused):
+        """Refuses tables of runs in which other frames were offered."""
+        loss = self.tables.losses.get((vl.id, vl.source, "queue_full"))
+        if refused != (loss.count if loss else 0):
+            line = loss.line if loss else self.tables.latencies[vl.id, next(iter(vl.destinations))].line
+            told = f"{refused} frames of virtual link {vl.id} would be lost as queue_full"
+            self.refuse(line, f"{told}, and the tables have {loss.count if loss else 0}")
+
+    def end(self, journey, runs):
+        """What became of the frames of all runs at one destination: what is known of each count is narrowed by what
+        they add up to."""
+        key = journey.vl.id, journey.where
+        row, copies = self.tables.latencies[key], self.tables.losses.get((*key, "duplicate"))
+        copies = copies.count if copies else 0
+        released = sum(len(sent.released) for sent in runs)
+        total, lost = journey.copies_lost()
+        # The copies of which nothing is told are under way.
+        open_copies = exactly(len(journey.ways) * released - row.count - copies) - total
+        if self.trace and len(runs) == 1:
+            again, under_way, missing = self.by_trace(journey, runs[0].released, row)
+        else:
+            again, under_way, missing = self.by_counts(journey, runs, row)
+        under_way = under_way.within(Range(0, open_copies.most))
+        if len(journey.ways) == 1:
+            # Of one copy each: what was lost, or dropped at the destination, is missing.
+            missing = missing.within(total + exactly(copies))
+        else:
+            # A frame is missing only where a copy of it was lost.
+            missing = missing.within(Range(0, total.most))
+        gone = exactly(released - row.count) + again
+        missing = missing.within(gone - under_way)
+        under_way = under_way.within(gone - missing)
+        if missing.least > missing.most or under_way.least > under_way.most:
+            told = f"{counted(released, 'frame')} of virtual link {key[0]} would be sent to {key[1]}"
+            self.refuse(
+                row.line, f"{told}, and the tables have {row.count} delivered, {copies} copies and {total.most} lost"
+            )
+        again = again.within(missing + under_way - exactly(released - row.count))
+        refused, waiting = (exactly(sum(counts)) for counts in zip(*((sent.refused, sent.waiting) for sent in runs)))
+        offered = sum(sent.offered for sent in runs)
+        return End(offered, row.count, again, under_way + waiting, missing + refused, copies, lost)
+
+    def by_counts(self, journey, runs, row):
+        """What tables alone tell of frames that were delivered again, are under way, and are missing."""
+        latest = self.net.until_ns - journey.surely_under_way_ns()
+        sure = sum(sum(moment > latest for _, moment in sent.released) for sent in runs)
+        # A second copy is delivered again only where it comes later than SkewMax.
+        may_be_again = len(journey.ways) == 2 and row.greatest > journey.vl.skew_ns
+        released = sum(len(sent.released) for sent in runs)
+        return Range(0, row.count // 2 if may_be_again else 0), Range(sure, released), Range(0, released)
+
+    def by_trace(self, journey, released, row):
+        """The same by the moments at which the frames that were delivered had been offered, and those of losses."""
+        left = Counter(self.delivered.get((journey.vl.id, journey.where), ()))
+        came, last = 0, -1
+        for i, (moment, _) in enumerate(released):
+            if left[moment]:
+                left[moment] -= 1
+                came, last = came + 1, i
+        if not left.keys() <= {moment for moment, _ in released}:
+            self.refuse(row.line, f"at {row.where} frames of virtual link {row.vl} came that nobody would offer")
+        rest = [moment for _, moment in released[last + 1 :]]
+        # On each network the latest releases of frames that may have been lost, by the moments of losses.
+        latest = {side: [] for side in journey.ways}
+        for time, where, cause in self.lost.get(journey.vl.id, ()) if rest else ():
+            for side in journey.sides_of(where, cause):
+                moment = time - journey.ways[side].soonest_loss(where, cause)
+                if moment >= rest[0]:
+                    latest[side].append(moment)
+        # A number more than 127 steps behind the last one delivered is taken for a copy.
+        may_be_lost = [max(found, default=-1) if len(rest) <= 127 else self.net.until_ns for found in latest.values()]
+        sure = sum(moment > min(may_be_lost) for moment in rest)
+        most = min(len(found) for found in latest.values()) if len(rest) <= 127 else len(rest)
+        before = last + 1 - came
+        again = exactly(row.count - came)
+        return again, Range(sure, len(rest)), Range(before, before + most)
+
+
+def drawn_offsets(net, seed):
+    """The offsets that tools/campaign.py draws for the run of a seed."""
+    draw = random.Random(seed).random
+    return {vl.id: int(draw() * vl.period_ns) for vl in net.vls.values()}

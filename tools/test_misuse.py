@@ -1,0 +1,313 @@
+"""What the tools answer where they are given what they cannot use: each row of the table is a call, its status, and the line
+that it says. No call of it changes any file, and none leaves one."""
+import contextlib
+import os
+import resource
+import signal
+import subprocess
+import sys
+import tempfile
+import threading
+import unittest
+from unittest import mock
+
+HERE = os.path.dirname(os.path.abspath(__file__))
+sys.path.insert(0, HERE)
+
+import files  # noqa: E402
+from test_campaign import STAND_IN  # noqa: E402
+
+N1 = os.path.join(HERE, "..", "examples", "n1.toml")
+
+# In the folder of each row are these files, and besides: link.toml, a link to net.toml; hard.toml, a second name of it;
+# one.csv and two.csv, which are links to no file yet; `afdxsim`, a program that prints what the plain simulator finds.
+FILES = {
+    "tables.csv": "table,vl,where,cause,count,least_ns,greatest_ns,sum_ns\nlatency,1,ES2,,1,27720,27720,27720\n",
+    "trace.csv": "time_ns,where,vl,what,value\n27720,ES2,1,delivered,27720\n",
+    "limits.csv": "1,ES2,50000\n",
+    "bounds.csv": "",
+    "DIR/merged.csv": "",
+}
+
+# Which tool, its words, the status, and what it says behind its name.
+READ = "would be written over what was read as {}; nothing is written"
+ROWS = [
+    # What is read is never written over.
+    ("report net.toml tables.csv -o net.toml", 2, "net.toml: " + READ.format("net.toml")),
+    ("report net.toml tables.csv -o link.toml", 2, "link.toml: " + READ.format("net.toml")),
+    ("report net.toml tables.csv -o hard.toml", 2, "hard.toml: " + READ.format("net.toml")),
+    ("report net.toml tables.csv -o ./DIR/../net.toml", 2, "./DIR/../net.toml: " + READ.format("net.toml")),
+    ("report hard.toml tables.csv -o net.toml", 2, "net.toml: " + READ.format("hard.toml")),
+    ("report net.toml tables.csv -o tables.csv", 2, "tables.csv: " + READ.format("tables.csv")),
+    ("report net.toml tables.csv --trace trace.csv -o trace.csv", 2, "trace.csv: " + READ.format("trace.csv")),
+    ("report net.toml tables.csv --limits limits.csv -o limits.csv", 2, "limits.csv: " + READ.format("limits.csv")),
+    ("report net.toml tables.csv --bounds bounds.csv -o bounds.csv", 2, "bounds.csv: " + READ.format("bounds.csv")),
+    ("report net.toml tables.csv --against tables.csv -o tables.csv", 2, "tables.csv: " + READ.format("tables.csv")),
+    ("bounds net.toml -o net.toml", 2, "net.toml: " + READ.format("net.toml")),
+    ("bounds net.toml -o link.toml", 2, "link.toml: " + READ.format("net.toml")),
+    ("bounds net.toml >> net.toml", 2, "standard output: " + READ.format("net.toml")),
+    ("explain net.toml >> link.toml", 2, "standard output: " + READ.format("net.toml")),
+    ("from_table net.csv -o net.csv", 2, "net.csv: " + READ.format("net.csv")),
+    ("from_table --back net.toml -o hard.toml", 2, "hard.toml: " + READ.format("net.toml")),
+    ("second_opinion net.toml --trace link.toml", 2, "link.toml: " + READ.format("net.toml")),
+    ("second_opinion net.toml --trace tables.csv >> tables.csv", 2, "tables.csv: would be written over standard output, which is written too; nothing is written"),
+    ("make_journal net.toml >> net.toml", 2, "standard output: " + READ.format("net.toml")),
+    ("campaign DIR/seed-42.toml --seeds 1 --keep -o DIR", 2, "DIR/seed-42.toml: " + READ.format("DIR/seed-42.toml")),
+    ("campaign net.toml --seeds 1 --limits DIR/merged.csv -o DIR", 2, "DIR/merged.csv: " + READ.format("DIR/merged.csv")),
+    ("campaign net.toml --seeds 1 -o LINKED", 2, "LINKED/merged.csv: " + READ.format("net.toml")),
+    ("campaign net.toml --each-outage -o LINKED", 2, "LINKED/merged.csv: " + READ.format("net.toml")),
+    ("campaign net.toml --seeds 1 -o DOUBLE", 2, "DOUBLE/merged.csv: would be written over DOUBLE/greatest.csv, which is written too; nothing is written"),
+    # Where nothing can be read or written.
+    ("report none.toml tables.csv -o page.html", 2, "none.toml: cannot be read: No such file or directory"),
+    ("report DIR tables.csv -o page.html", 2, "DIR: cannot be read: Is a directory"),
+    ("report net.toml tables.csv -o DIR", 2, "DIR: cannot be written: Is a directory"),
+    ("report net.toml tables.csv -o none/page.html", 2, "none/page.html: cannot be written: No such file or directory"),
+    ("report net.toml tables.csv -o /dev/full", 2, "/dev/full: cannot be written: No space left on device"),
+    ("bounds net.toml -o /dev/full", 2, "/dev/full: cannot be written: No space left on device"),
+    ("bounds net.toml >> /dev/full", 2, "standard output: cannot be written: No space left on device"),
+    ("explain net.toml >> /dev/full", 2, "standard output: cannot be written: No space left on device"),
+    ("large_network >> /dev/full", 2, "standard output: cannot be written: No space left on device"),
+    ("make_journal net.toml >> /dev/full", 2, "standard output: cannot be written: No space left on device"),
+    ("second_opinion net.toml >> /dev/full", 2, "standard output: cannot be written: No space left on device"),
+    ("bounds net.toml >&-", 2, "standard output: cannot be written: it is closed"),
+    # Names that are not UTF-8, or have a line feed.
+    ("bounds n\udcff.toml", 2, "n\\xff.toml: cannot be read: No such file or directory"),
+    ("bounds a\nb", 2, "a\\nb: cannot be read: No such file or directory"),
+]
+
+
+def tool_tells(line):
+    return 1 if line.startswith("large_network") else 0
+
+
+def tree_of(folder):
+    """All that is in a folder: the bytes of each file, where each link leads, and each mode."""
+    found = {}
+    for top, folders, names in os.walk(folder):
+        for name in folders + names:
+            path = os.path.join(top, name)
+            what = os.readlink(path) if os.path.islink(path) else None
+            if what is None and os.path.isfile(path):
+                with open(path, "rb") as file:
+                    what = file.read()
+            found[os.path.relpath(path, folder)] = what, os.lstat(path).st_mode
+    return found
+
+
+class Rows(unittest.TestCase):
+    def setUp(self):
+        folder = tempfile.TemporaryDirectory()
+        self.addCleanup(folder.cleanup)
+        self.folder = folder.name
+        with open(N1, encoding="utf-8") as file:
+            net = file.read()
+        bounds = subprocess.run([sys.executable, os.path.join(HERE, "bounds.py"), N1], capture_output=True, text=True).stdout
+        table = subprocess.run([sys.executable, os.path.join(HERE, "from_table.py"), "--back", N1], capture_output=True, text=True)
+        program = STAND_IN.format(python=sys.executable, tools=HERE, lines="")
+        texts = FILES | {"net.toml": net, "DIR/seed-42.toml": net, "net.csv": table.stdout, "afdxsim": program}
+        texts["bounds.csv"] = bounds
+        for name in ("DIR", "LINKED", "DOUBLE"):
+            os.mkdir(self.path(name))
+        for name, text in texts.items():
+            with open(self.path(name), "w", encoding="utf-8") as out:
+                out.write(text)
+        os.chmod(self.path("afdxsim"), 0o755)
+        os.symlink("net.toml", self.path("link.toml"))
+        os.link(self.path("net.toml"), self.path("hard.toml"))
+        os.symlink("../net.toml", self.path("LINKED/merged.csv"))
+        for name in ("merged", "greatest"):
+            os.symlink("../one.csv", self.path(f"DOUBLE/{name}.csv"))
+
+    def path(self, name):
+        return os.path.join(self.folder, name)
+
+    def call(self, line):
+        """The status of a call, what it prints, and what it says."""
+        line, _, out = line.partition(" >")
+        tool, *words = line.split(" ")
+        command = [sys.executable, os.path.join(HERE, tool + ".py"), *words]
+        if tool == "campaign":
+            command += ["--program", self.path("afdxsim")]
+        closes = (lambda: os.close(1)) if out == "&-" else None
+        with contextlib.ExitStack() as stack:
+            to = stack.enter_context(open(os.path.join(self.folder, out[2:]), "ab")) if out.startswith("> ") else subprocess.PIPE
+            run = subprocess.run(command, cwd=self.folder, stdout=to, stderr=subprocess.PIPE, preexec_fn=closes)
+        return run.returncode, (run.stdout or b"").decode(), run.stderr.decode()
+
+    def test_rows(self):
+        before = tree_of(self.folder)
+        for line, status, said in ROWS:
+            with self.subTest(line):
+                name = line.split(" ")[0] + ".py: "
+                found = self.call(line)
+                # What large_network tells of its network goes before.
+                told = found[2].splitlines()[tool_tells(line) :]
+                self.assertEqual((found[0], told), (status, [name + said]))
+                self.assertEqual(found[1], "")
+                self.assertEqual(tree_of(self.folder), before)
+
+
+class WhatStandsThere(Rows):
+    """-o keeps what stands there."""
+
+    test_rows = None
+
+    def test_a_link_stays_a_link(self):
+        with open(self.path("page.html"), "w") as out:
+            out.write("before")
+        os.chmod(self.path("page.html"), 0o640)
+        os.symlink("page.html", self.path("by.html"))
+        os.symlink("later.html", self.path("to_none.html"))
+        for name, real, mode in (("by.html", "page.html", 0o640), ("to_none.html", "later.html", 0o644)):
+            self.assertEqual(self.call(f"report net.toml tables.csv -o {name}"), (0, "", ""))
+            self.assertTrue(os.path.islink(self.path(name)))
+            with open(self.path(real)) as file:
+                self.assertTrue(file.read().startswith("<!DOCTYPE html>"))
+            self.assertEqual(os.stat(self.path(real)).st_mode & 0o777, mode)
+
+    def test_a_file_of_two_names_stays_one_file(self):
+        for name in ("one.html", "two.html"):
+            with open(self.path("one.html"), "w") as out:
+                out.write("x" * 10**6)
+        os.link(self.path("one.html"), self.path("also.html"))
+        self.assertEqual(self.call("report net.toml tables.csv -o one.html"), (0, "", ""))
+        self.assertTrue(os.path.samefile(self.path("one.html"), self.path("also.html")))
+        with open(self.path("also.html")) as file:
+            self.assertTrue(file.read().endswith("</html>\n"))
+
+    def test_a_pipe_is_written_into(self):
+        os.mkfifo(self.path("pipe"))
+        found = []
+
+        def read():
+            with open(self.path("pipe")) as file:
+                found.append(file.read())
+
+        reader = threading.Thread(target=read)
+        reader.start()
+        self.assertEqual(self.call("bounds net.toml -o pipe"), (0, "", ""))
+        reader.join()
+        with open(self.path("bounds.csv")) as file:
+            self.assertEqual(found, [file.read()])
+        self.assertEqual(os.listdir(self.folder).count("pipe"), 1)
+
+    def test_a_device_stays(self):
+        before = os.stat("/dev/null").st_mode
+        for line in ("bounds net.toml -o /dev/null", "report net.toml tables.csv -o /dev/null"):
+            self.assertEqual(self.call(line), (0, "", ""))
+        self.assertEqual(os.stat("/dev/null").st_mode, before)
+
+    def test_what_is_read_by_two_names_may_be(self):
+        """Files that are only read may be named twice, and what is written may be that of an earlier call."""
+        for _ in "12":
+            self.assertEqual(self.call("report net.toml tables.csv --against tables.csv -o page.html"), (0, "", ""))
+
+
+class Ends(Rows):
+    """Whatever ends a tool, it says one line, and leaves all as it was."""
+
+    test_rows = None
+
+    def started(self, *words, **more):
+        """A tool, with a folder of its own for what it keeps meanwhile."""
+        tool, *words = words
+        os.makedirs(self.path("tmp"), exist_ok=True)
+        command = [sys.executable, os.path.join(HERE, tool + ".py"), *words]
+        environment = os.environ | {"TMPDIR": self.path("tmp")}
+        pipe = subprocess.PIPE
+        return subprocess.Popen(command, cwd=self.folder, stdout=pipe, stderr=pipe, text=True, env=environment, **more)
+
+    def test_signals(self):
+        """Each tool is held by a description that comes by a pipe."""
+        os.mkfifo(self.path("pipe"))
+        before = tree_of(self.folder)
+        for words in (
+            "report pipe tables.csv -o page.html", "report net.toml pipe -o page.html", "bounds pipe -o bounds.csv", "explain pipe",
+            "from_table pipe -o net.csv", "second_opinion pipe --trace trace.csv", "make_journal pipe",
+            "campaign pipe --seeds 3 -o DIR --program afdxsim",
+        ):
+            for number, status, said in (
+                (signal.SIGINT, 130, "interrupted"),
+                (signal.SIGTERM, 143, "ended by SIGTERM"),
+                (signal.SIGHUP, 129, "ended by SIGHUP"),
+            ):
+                with self.subTest(words, signal=number):
+                    default = lambda: signal.signal(signal.SIGINT, signal.default_int_handler)
+                    run = self.started(*words.split(), preexec_fn=default)
+                    with open(self.path("pipe"), "w"):
+                        run.send_signal(number)
+                        out, told = run.communicate(timeout=60)
+                    self.assertEqual((run.returncode, out, told), (status, "", f"{words.split()[0]}.py: {said}\n"))
+                    self.assertEqual(os.listdir(self.path("tmp")), [])
+                    os.rmdir(self.path("tmp"))
+                    self.assertEqual(tree_of(self.folder), before)
+
+    def test_a_signal_that_is_passed_over(self):
+        """As that of a terminal that is closed, where the tool was started by nohup."""
+        os.mkfifo(self.path("pipe"))
+        run = self.started("explain", "pipe", preexec_fn=lambda: signal.signal(signal.SIGHUP, signal.SIG_IGN))
+        with open(self.path("pipe"), "w") as out:
+            run.send_signal(signal.SIGHUP)
+            with open(self.path("net.toml")) as file:
+                out.write(file.read())
+        self.assertEqual(run.communicate(timeout=60), ("pipe: accepted\n", ""))
+        self.assertEqual(run.returncode, 0)
+
+    def test_a_file_that_finds_no_room(self):
+        """An earlier one stays, of one name or of two."""
+        small = lambda: resource.setrlimit(resource.RLIMIT_FSIZE, (10_000, 10_000))
+        for name in ("page.html", "also.html"):
+            with open(self.path(name), "w") as out:
+                out.write("before")
+        os.link(self.path("also.html"), self.path("again.html"))
+        before = tree_of(self.folder)
+        for name in ("page.html", "also.html", "none.html"):
+            run = self.started("report", "net.toml", "tables.csv", "-o", name, preexec_fn=small)
+            told = f"report.py: {name}: cannot be written: File too large\n"
+            self.assertEqual((*run.communicate(timeout=60), run.returncode), ("", told, 2))
+            os.rmdir(self.path("tmp"))
+            self.assertEqual(tree_of(self.folder), before)
+
+    def test_refused_memory(self):
+        """Of a file that is larger than what is given."""
+        with open(self.path("large"), "w") as out:
+            out.truncate(600_000_000)
+        little = lambda: resource.setrlimit(resource.RLIMIT_AS, (400_000_000, 400_000_000))
+        for words in ("report large tables.csv -o page.html", "bounds large", "explain large", "from_table large"):
+            run = self.started(*words.split(), preexec_fn=little)
+            self.assertEqual((*run.communicate(timeout=60), run.returncode), ("", f"{words.split()[0]}.py: out of memory\n", 2))
+
+    def test_a_closed_pipe(self):
+        """What comes behind `head` is told in one line."""
+        for words in ("bounds net.toml", "explain net.toml", "second_opinion net.toml", "make_journal net.toml", "from_table --back net.toml"):
+            read, write = os.pipe()
+            os.close(read)
+            tool, *rest = words.split()
+            run = subprocess.run(
+                [sys.executable, os.path.join(HERE, tool + ".py"), *rest], cwd=self.folder, stdout=write, stderr=subprocess.PIPE
+            )
+            os.close(write)
+            said = f"{tool}.py: standard output: cannot be written: Broken pipe\n"
+            self.assertEqual((run.returncode, run.stderr.decode()), (2, said))
+
+
+class Writer(unittest.TestCase):
+    """The one writer, where the system has no files without names."""
+
+    def test_what_ends_it_leaves_nothing(self):
+        for ended in (files.Interrupted(signal.SIGTERM), MemoryError(), OSError(28, "No space left on device")):
+            with tempfile.TemporaryDirectory() as folder, mock.patch.object(files.os, "O_TMPFILE", None):
+                path = os.path.join(folder, "it")
+                files.write_whole(path, "before")
+                with mock.patch.object(files.os, "replace", side_effect=ended):
+                    with self.assertRaises((type(ended), files.Fault)):
+                        files.write_whole(path, "after")
+                self.assertEqual(os.listdir(folder), ["it"])
+                with open(path) as file:
+                    self.assertEqual(file.read(), "before")
+                files.write_whole(path, "after")
+                self.assertEqual(os.listdir(folder), ["it"])
+
+
+if __name__ == "__main__":
+    unittest.main()
