@@ -9,7 +9,9 @@ import sys
 import tempfile
 from collections import namedtuple
 
+import afdx
 import by_rt
+import files
 import program
 from by_rt import tell
 from program import HERE, NoProgram
@@ -80,20 +82,20 @@ class Mistake(Exception):
     """What is wrong with the words, in one line."""
 
 
-def commands():
-    """Each command with its words and what it says, in the order of the help."""
+def commands(is_clone=program.is_clone()):
+    """Each command with its words and what it says, in the order of the help. A package has no sources to build."""
     found = {"page": OWN["page"]}
     found |= {name: (it.usage, it.says) for name, it in OF_PROGRAM.items()}
     found |= {name: (it.usage, it.says) for name, it in OF_TOOLS.items() if is_there(it)}
-    return found | {name: it for name, it in OWN.items() if name != "page" and (program.is_clone() or name == "completion")}
+    return found | {name: it for name, it in OWN.items() if name != "page" and (is_clone or name == "completion")}
 
 
 def is_there(tool):
     return os.path.isfile(os.path.join(HERE, tool.file))
 
 
-def help_text():
-    lines = [f"  {name:<11}{says}" for name, (_, says) in commands().items()]
+def help_text(is_clone=program.is_clone()):
+    lines = [f"  {name:<12}{says}" for name, (_, says) in commands(is_clone).items()]
     return HELP.format(commands="\n".join(lines))
 
 
@@ -200,7 +202,7 @@ def by_program(name, words):
         tell(it.says)
         warn_of_load(name)
         return subprocess.run([it.path, name, *words]).returncode
-    files, written = files_of(name, words)
+    read, written = files_of(name, words)
     if it.how == "second opinion":
         if name != "seq" or any(word.startswith("--") and not word.startswith("--trace") for word in words):
             raise Mistake("the second opinion is one of seq NET [--trace FILE], and of page")
@@ -211,13 +213,13 @@ def by_program(name, words):
             f"{written[0]} writes a file, which `rt try` cannot keep: `afdx build` builds the proved program"
             + (", or --by second-opinion" if name == "seq" else "")
         )
-    for place in files:
+    for place in read:
         if not os.access(words[place], os.R_OK) or os.path.isdir(words[place]):
             # As the program does; it would take two minutes to say so.
             print(f"afdxsim: cannot read {words[place]}", file=sys.stderr)
             return 4
     tell(it.says)
-    status, printed, said = by_rt.by_try([name, *words], [1 + place for place in files])
+    status, printed, said = by_rt.by_try([name, *words], [1 + place for place in read])
     write(sys.stderr, said)
     write(sys.stdout, printed)
     return status
@@ -310,10 +312,19 @@ def page(arguments):
             bounded = reckoning.wait() if reckoning else 0
         if status or bounded:
             return status or bounded
-        more += ["--trace", trace] if os.path.exists(trace) else []
-        more += [] if words.no_bounds else ["--bounds", bounds]
+        # The page names what it was made of, so it is made where these names are short and always the same.
+        more = [absolute(word) for word in more]
+        more += ["--trace", "trace.csv"] if os.path.exists(trace) else []
+        more += [] if words.no_bounds else ["--bounds", "bounds.csv"]
         more += ["--made-by", it.says] if can_tell_who_made() else []
-        return subprocess.run(tool_command("report.py", words.net, tables, "-o", words.output, *more)).returncode
+        command = tool_command("report.py", os.path.abspath(words.net), "tables.csv", "-o", os.path.abspath(words.output), *more)
+        return subprocess.run(command, cwd=folder).returncode
+
+
+def absolute(word):
+    """A word with the file that it names, if it does, named from the root on."""
+    option, has_value, value = word.rpartition("=") if word.startswith("--") else ("", "", word)
+    return option + has_value + (os.path.abspath(value) if os.path.exists(value) else value)
 
 
 def can_tell_who_made():
@@ -356,7 +367,7 @@ def build(arguments):
         prog="afdx build", description="Proves all crates and builds the program: crates/afdxsim/out/afdxsim.",
         epilog="What it said in full is in crates/afdxsim/out/build.log.",
     )
-    parser.add_argument("--jobs", type=int, default=len(os.sched_getaffinity(0)), metavar="N", help="crates side by side")
+    parser.add_argument("--jobs", type=afdx.whole(1, 1024), default=len(os.sched_getaffinity(0)), metavar="N", help="crates side by side")
     record = by_rt.build(parser.parse_args(arguments).jobs)
     print(f"{program.BUILT}: {program.in_words(record)}")
     return 0
@@ -396,10 +407,11 @@ complete -o filenames -F _afdx afdx ./afdx
 """
 
 
-def completion_text():
+def completion_text(is_clone=program.is_clone()):
     """What bash is to read, so that it completes words."""
-    cases = "\n".join(f"    {name}) options=\"{' '.join(options_of(name))}\" ;;" for name in commands())
-    return COMPLETION.format(names=" ".join(commands()), cases=cases)
+    names = commands(is_clone)
+    cases = "\n".join(f"    {name}) options=\"{' '.join(options_of(name))}\" ;;" for name in names)
+    return COMPLETION.format(names=" ".join(names), cases=cases)
 
 
 def completion(arguments):
@@ -443,13 +455,12 @@ def answer(words):
 
 def main(words=None):
     try:
-        return answer(list(sys.argv[1:] if words is None else words))
+        with files.signals_taken():
+            return answer(list(sys.argv[1:] if words is None else words))
     except (Mistake, NoProgram) as fault:
         tell(str(fault))
-        return 2
-    except KeyboardInterrupt:
-        tell("interrupted")
-        return 130
-    except BrokenPipeError:
-        os.dup2(os.open(os.devnull, os.O_WRONLY), 1)
-        return 141
+        return files.BAD
+    except files.ENDS as ended:
+        status, said = files.why(ended)
+        tell(said)
+        return status
