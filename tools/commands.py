@@ -40,7 +40,7 @@ OF_TOOLS = {
 # The tools that have the program run.
 RUN_IT = ("campaign", "outages")
 OWN = {
-    "page": ("NET -o FILE", "explain, simulate, bound and draw: one page to look at"),
+    "page": ("NET [TABLES] -o FILE", "explain, simulate, bound and draw: one page to look at"),
     "build": ("[--jobs N]", "prove all crates and build the program"),
     "package": ("[-o DIR]", "make a Debian package of the proved program and the tools"),
     "completion": ("bash", "print what completes words in a shell"),
@@ -267,8 +267,9 @@ def by_tool(name, words):
 
 def page_words(arguments):
     parser = argparse.ArgumentParser(
-        prog="afdx page",
-        description="Explains a description, has it simulated, bounds its latencies and draws all of it: one page.",
+        prog="afdx page", usage="afdx page NET [TABLES] -o FILE [--by WHAT] [--program PATH] [--no-bounds] ..",
+        description="Explains a description, has it simulated, bounds its latencies and draws all of it: one page. With tables\n"
+        "that are there, behind NET, as those of a campaign, nothing is simulated.",
         epilog="All other options are those of report.py (afdx page NET -o FILE --limits FILE, say): tools/report.py --help.\n"
         "status: 0; 1 where the description has a fault; else that of the step that fails, which says why",
         formatter_class=argparse.RawDescriptionHelpFormatter,
@@ -279,7 +280,12 @@ def page_words(arguments):
     add("--by", metavar="WHAT", help="proved, try or second-opinion (default: proved, else try)")
     add("--program", metavar="PATH", help="the program to run, whatever it is")
     add("--no-bounds", action="store_true", help="leave the worst-case bounds out")
-    return parser.parse_known_args(arguments)
+    # Only behind NET, since words behind an option that is the page's own may be its value.
+    is_told = len(arguments) > 1 and not arguments[0].startswith("-") and not arguments[1].startswith("-")
+    words, more = parser.parse_known_args([arguments[0], *arguments[2:]] if is_told else arguments)
+    words.tables = arguments[1] if is_told else None
+    words.no_bounds = words.no_bounds or any(word.split("=")[0] == "--bounds" for word in more)
+    return words, more
 
 
 def tool_command(file, *words):
@@ -297,13 +303,14 @@ def page(arguments):
     for line in explained.stdout.splitlines():
         if not line.endswith(": accepted"):
             print(line, file=sys.stderr)
-    it = chosen(words.by, words.program)
-    tell(it.says)
+    it = None if words.tables else chosen(words.by, words.program)
+    if it:
+        tell(it.says)
     with tempfile.TemporaryDirectory(prefix="afdx-page-") as folder:
         tables, trace, bounds = (os.path.join(folder, name) for name in ("tables.csv", "trace.csv", "bounds.csv"))
         reckoning = None if words.no_bounds else subprocess.Popen(tool_command("bounds.py", words.net, "-o", bounds))
         try:
-            status = simulate(it, words.net, tables, trace)
+            status = simulate(it, words.net, tables, trace) if it else 0
         except BaseException:
             if reckoning:
                 reckoning.kill()
@@ -316,8 +323,9 @@ def page(arguments):
         more = [absolute(word) for word in more]
         more += ["--trace", "trace.csv"] if os.path.exists(trace) else []
         more += [] if words.no_bounds else ["--bounds", "bounds.csv"]
-        more += ["--made-by", it.says] if can_tell_who_made() else []
-        command = tool_command("report.py", os.path.abspath(words.net), "tables.csv", "-o", os.path.abspath(words.output), *more)
+        more += ["--made-by", it.says] if it and can_tell_who_made() else []
+        tables = os.path.abspath(words.tables) if words.tables else "tables.csv"
+        command = tool_command("report.py", os.path.abspath(words.net), tables, "-o", os.path.abspath(words.output), *more)
         return subprocess.run(command, cwd=folder).returncode
 
 
