@@ -1,6 +1,8 @@
 #!/usr/bin/env python3
 """Draws small networks, runs each with several seeds and offsets, and holds what happened against the bounds that
-bounds.py works out: no latency may be above its bound, and at no output port may more bytes wait than its bound says.
+bounds.py works out: no latency may be above its bound, and at no output port may more bytes wait than its bound says. Nor
+may what happens on the way: the wait in a regulator, the delay of a hop, the jitter at a switch, the time on each network,
+the skew.
 
 What is drawn is meant to come near to the bounds: short BAGs, lines of both speeds that have little time left or none,
 both priorities, sub-virtual links, rings of switches, accounts that refuse, regulators that overflow, small ports,
@@ -32,8 +34,8 @@ examples:
         those of the network 417 once more; the folder runs has the description of each, for bounds.py, second_opinion.py
         and afdxsim
 
-It prints a line for each latency or port that is above its bound, and at the end how many there were of each, and how
-near the greatest came.
+It prints a line for each latency, port, hop, .. that is above its bound, and at the end how many there were of each, and
+how near the greatest latencies came.
 
 status:
   0  nothing was above its bound
@@ -171,39 +173,17 @@ class Drawn:
         return [int(draw.random() * row["period_ns"]) for row in self.vls]
 
 
-class Watched(second_opinion.Simulation):
-    """A run that notes the most bytes that waited at each output port."""
-
-    def __init__(self, tree):
-        self.most = {}
-        super().__init__(tree)
-
-    def put(self, t, p, q, frame, high):
-        super().put(t, p, q, frame, high)
-        port, line = self.ports[p, q], self.names[self.out[p, q]]
-        waiting = sum(frame[2] for frame in port["high"] + port["low"])
-        self.most[line] = max(waiting, self.most.get(line, 0))
-
-    def greatest(self):
-        """The greatest latency of each virtual link and destination where one was delivered."""
-        found = {}
-        for _, place, vl, what, value in self.rows:
-            if what == "delivered":
-                found[vl, self.names[place]] = max(value, found.get((vl, self.names[place]), 0))
-        return found
-
-
 class Count:
     """What was held against bounds so far."""
 
     def __init__(self):
-        self.latencies = self.ports = self.unbounded = self.above = self.runs = 0
+        self.latencies = self.ports = self.others = self.unbounded = self.above = self.runs = 0
         self.shares = []
 
     def hold(self, found, run, tell):
         """Holds a run against the bounds of its network."""
         self.runs += 1
-        for key, greatest in run.greatest().items():
+        for key, greatest in greatest_latencies(run).items():
             bound, _ = found.latencies[key]
             if bound is None:
                 self.unbounded += 1
@@ -213,20 +193,55 @@ class Count:
             if greatest > bound:
                 self.above += 1
                 tell(f"virtual link {key[0]} at {key[1]} took {greatest} ns, and its bound is {bound} ns")
-        for line, most in run.most.items():
-            bound = found.ports[line].most
-            self.ports += bound is not None
-            if bound is not None and most > bound:
+        for (kind, vl, place), (_, _, greatest, _) in run.found.items():
+            where = run.names[place]
+            bound = bound_of(found, kind, vl, where)
+            if bound is None:
+                continue
+            if kind == "backlog":
+                self.ports += 1
+                text = f"before {where} {greatest} bytes waited, and the bound is {bound} bytes"
+            else:
+                self.others += 1
+                text = f"{kind} of virtual link {vl} at {where} was {greatest} ns, and its bound is {bound} ns"
+            if greatest > bound:
                 self.above += 1
-                tell(f"before {line} {most} bytes waited, and the bound is {bound} bytes")
+                tell(text)
 
     def text(self, networks):
         shares = sorted(self.shares) or [0]
         return (
-            f"{networks} networks, {self.runs} runs: {self.latencies} latencies and {self.ports} ports held against "
-            f"bounds, {self.above} above; {self.unbounded} latencies without a bound; greatest latency by bound: "
+            f"{networks} networks, {self.runs} runs: {self.latencies} latencies, {self.ports} ports and "
+            f"{self.others} others held against bounds, {self.above} above; {self.unbounded} latencies without a bound; greatest latency by bound: "
             f"median {shares[len(shares) // 2]:.3f}, most {shares[-1]:.3f}"
         )
+
+
+def greatest_latencies(run):
+    """The greatest latency of each virtual link and destination where one was delivered."""
+    found = {}
+    for _, place, vl, what, value in run.rows:
+        if what == "delivered":
+            found[vl, run.names[place]] = max(value, found.get((vl, run.names[place]), 0))
+    return found
+
+
+def bound_of(found, kind, vl, where):
+    """The bound of what a run measures, or None."""
+    if kind == "backlog":
+        return found.ports[where].most
+    if kind == "wait":
+        return found.links[vl].wait
+    if kind == "delay":
+        return next(hop.delay for hop in found.ports[where].hops if hop.link.vl.id == vl)
+    if kind == "jitter":
+        return found.jitter(vl, where)
+    if kind == "skew":
+        return found.skew(vl, where)
+    if kind in ("network_a", "network_b"):
+        return found.by_network[vl, where][kind[-1].upper()].longest
+    bound, _ = found.latencies[vl, where]
+    return bound and bound - found.links[vl].wait
 
 
 def hold_network(number, runs, keep, count, tell):
@@ -235,7 +250,7 @@ def hold_network(number, runs, keep, count, tell):
     found = bounds.Bounds(afdx.Network(f"network {number}", afdx.text_of_tree(drawn.tree())))
     for run in range(runs):
         tree = drawn.tree(run, drawn.offsets(run, found))
-        simulation = Watched(tree)
+        simulation = second_opinion.Measured(tree)
         simulation.run()
         again = f"bounded_runs.py --networks 1 --first {number} --runs {run + 1} --keep DIR"
         count.hold(found, simulation, lambda text: tell(f"network {number}, run {run}: {text}; again: {again}"))

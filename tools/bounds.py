@@ -369,7 +369,8 @@ class Bounds:
     or None and why; `ports` the ports by line."""
 
     def __init__(self, net):
-        self.net, self.ports, self.ways = net, {}, {}
+        # `at` has for each virtual link and switch a hop by which it leaves there.
+        self.net, self.ports, self.ways, self.at = net, {}, {}, {}
         self.links = {vl.id: Link(vl) for vl in net.vls.values()}
         for link in self.links.values():
             self.add(link)
@@ -380,6 +381,12 @@ class Bounds:
             port.most = port.waiting()
             if port.most is None or any(hop.delay is None for hop in port.hops):
                 port.why = self.why(port)
+        # For each virtual link and destination the way on each network, of those that frames go to the end.
+        self.by_network = {
+            (vl, where): {side: Way(hops) for side, hops in ways.items()}
+            for (vl, where), ways in self.ways.items()
+            if self.links[vl].size <= self.links[vl].vl.smax
+        }
         self.latencies = {key: self.latency(*key) for key in sorted(net.destinations, key=self.order)}
 
     def order(self, key):
@@ -399,6 +406,7 @@ class Bounds:
                         port = self.ports.get(line) or self.ports.setdefault(line, Port(self.net, line))
                         hops[line] = Hop(link, port, before)
                         port.hops.append(hops[line])
+                        self.at[link.vl.id, port.node.name] = hops[line]
                     before = hops[line]
                     way.append(before)
                 self.ways.setdefault((link.vl.id, path[-1]), {})[side] = way
@@ -452,7 +460,7 @@ class Bounds:
         link = self.links[vl]
         if link.size > link.vl.smax:
             return None, "no frame arrives: size is above smax"
-        ways = [Way(hops) for hops in self.ways[vl, where].values()]
+        ways = list(self.by_network[vl, where].values())
         whys = [way.why for way in ways if way.longest is None]
         found = [] if whys else [max(way.longest for way in ways)]
         if len(ways) == 2:
@@ -460,6 +468,21 @@ class Bounds:
                 if way.longest is not None and way.is_sure and self.is_known_as_copy(link.vl, way, other):
                     found.append(way.longest)
         return (min(found) + link.wait, "") if found else (None, whys[0])
+
+    def jitter(self, vl, switch):
+        """By how much frames may come to a switch closer than a BAG in ns, counted from any earlier one; None where it has
+        no bound, or where the switch passes no frame on."""
+        hop = self.at.get((vl, switch))
+        return hop and hop.came
+
+    def skew(self, vl, where):
+        """The longest time from the arrival of one copy of a frame to that of the other in ns; None where it has no bound,
+        or where there is one network."""
+        ways = list(self.by_network.get((vl, where), {}).values())
+        if len(ways) < 2 or any(way.longest is None for way in ways):
+            return None
+        one, other = ways
+        return max(one.longest - other.least, other.longest - one.least)
 
     @staticmethod
     def is_known_as_copy(vl, way, other):

@@ -163,7 +163,7 @@ def text_of(path):
 
 
 def write_whole(path, text):
-    """Writes a file: whole, or nothing of it."""
+    """Writes a file of a text or of bytes: whole, or nothing of it."""
     write_all({path: text})
 
 
@@ -172,7 +172,7 @@ def write_all(texts, prints=False):
     judge(texts, prints)
     for path, text in texts.items():
         try:
-            write_bytes(path, text.encode("utf-8", "backslashreplace"))
+            write_bytes(path, text if isinstance(text, bytes) else text.encode("utf-8", "backslashreplace"))
             KNOWN.note(KNOWN.written, path, os.stat(path))
         except OSError as fault:
             raise Fault(path, None, f"cannot be written: {fault.strerror}") from None
@@ -184,7 +184,10 @@ def write_bytes(path, content):
     except FileNotFoundError:
         return replace(os.path.realpath(path), content, None)
     if stat.S_ISREG(found.st_mode) and (found.st_dev, found.st_ino) in standard_output():
-        return write_out(content.decode("utf-8"))
+        with output():
+            sys.stdout.flush()
+            sys.stdout.buffer.write(content)
+            return sys.stdout.buffer.flush()
     real = os.path.realpath(path)
     has_one_name = stat.S_ISREG(found.st_mode) and found.st_nlink == 1 and is_same_file(path, real)
     if has_one_name and os.access(real, os.W_OK):

@@ -1,9 +1,10 @@
 #!/usr/bin/env python3
-"""Makes a description of tables, as they stand in an interface control document: one line a virtual link, one line a
-node, one line a link, in one CSV file or in several.
+"""Makes a description of tables, as they stand in an interface control document: one line a virtual link or a
+destination of one, one line a node, one line a link, in one file or in several, each CSV or a workbook (.xlsx).
 
 Paths are shortest ones on both networks. What the tables leave open has usual values. The description says in comments
 which value is usual, which frame size was computed of a payload, and which line of which table each row is made of.
+Columns of which this tool knows nothing are passed over, and told on error output.
 
 --back makes the tables of a description.
 """
@@ -18,12 +19,15 @@ from fractions import Fraction
 import afdx
 import explain
 import files
+import workbook
 from afdx import BAGS_MS, KEYS, SECTIONS, Fault
 
 EXAMPLES = """
 examples:
   from_table.py icd.csv -o net.toml
         the description of a table that has all
+  from_table.py icd.xlsx -o net.toml
+        the same of the sheets of a workbook
   from_table.py virtual_links.csv topology.csv -o net.toml
         the same of two tables
   from_table.py --back net.toml -o tables.csv
@@ -35,16 +39,18 @@ it has. Columns marked * must be there; lines that begin with # are passed over:
                   sub, policing, policing_jitter_ns, skew_max_ns, depth, size, offset_ns, period_ns, jitter_ns; bag_ms
                   or period_ns must be there, and so must smax, size or payload. `via` names switches that come first
                   where two ways are equally short, else the name decides; `a` and `b` state the paths of a network
-                  themselves, as `ADC SWA DU | ADC SWA FWC`, and - for none
+                  themselves, as `ADC SWA DU | ADC SWA FWC`, and - for none. Lines that differ in the destination alone
+                  are one virtual link. limit_us, udp_port, udp_source_port, udp_destination_port and remarks become
+                  comments
   nodes           name*, kind (es or switch; a node with a net is a switch), net, port_bytes, latency_ns
   links           a*, b*, mbit, propagation_ns or length_m
   outages         from*, to*, from_ns*, to_ns*
   the run         until_ns, seed
 A node that has no line of its own is an end system. A time may be given in another unit: period_ms,
 jitter_us, until_s. Capital letters, blanks and brackets in the name of a column do not matter: `BAG (ms)` is bag_ms.
-docs/FORMATS.md, section 11, has more.
+docs/FORMATS.md, section 11, and docs/TOOLS.md, section 2, have more.
 
-status: 0; 1 where the tables have a fault: all are told, each with its file and line, and nothing is written; 2 where a
+status: 0, also where columns, titles or sheets are passed over, with a line for each on error output; 1 where the tables have a fault: all are told, each with its file and line, and nothing is written; 2 where a
 word is wrong, or a file cannot be read or written.
 """
 
@@ -87,8 +93,33 @@ ALIASES = {
     "length": "length_m",
     "paths_a": "a",
     "paths_b": "b",
+    "udp": "udp_port",
+    "udp_ports": "udp_port",
+    "source_port": "udp_source_port",
+    "src_port": "udp_source_port",
+    "udp_source": "udp_source_port",
+    "udp_src_port": "udp_source_port",
+    "destination_port": "udp_destination_port",
+    "dest_port": "udp_destination_port",
+    "dst_port": "udp_destination_port",
+    "udp_destination": "udp_destination_port",
+    "udp_dst_port": "udp_destination_port",
+    "max_latency_us": "limit_us",
+    "max_latency_ms": "limit_ms",
+    "latency_limit_us": "limit_us",
+    "latency_limit_ms": "limit_ms",
+    "remark": "remarks",
+    "comment": "remarks",
+    "comments": "remarks",
+    "note": "remarks",
+    "notes": "remarks",
+    "description": "remarks",
 }
 MORE_COLUMNS = {"vl": ["source", "destinations", "payload", "via"], "link": ["length_m"]}
+# Columns that become comments of a row. Those of virtual links may differ where lines differ in the destination alone.
+LIMITS = ["limit_us", "limit_ms", "limit_ns"]
+COMMENTED = {"vl": [*LIMITS, "udp_port", "udp_source_port", "udp_destination_port"]}
+REMARKS = "remarks"
 # Which columns tell what a table has, the first that fits.
 SORTS = [
     ("vl", {"id", "source"}),
@@ -104,8 +135,15 @@ NEEDED = {"vl": ["id"], "node": ["name"], "link": ["a", "b"], "outage": ["from",
 WORDS = {"end system": "es", "end_system": "es", "sw": "switch"}
 UNITS = {"ns": 1, "us": 10**3, "ms": 10**6, "s": 10**9}
 
-# A line of a table: the file, the line, and the cells that are not empty, by the names of their columns.
-Line = namedtuple("Line", "path number cells")
+
+class Line:
+    """A line of a table: the file, the line, and the cells that are not empty, by the names of their columns. `parts` has
+    the lines that it is made of, where it is made of others."""
+
+    def __init__(self, path, number, cells):
+        self.path, self.number, self.cells, self.parts = path, number, cells, []
+
+
 # A value of a description, and what a comment says of it.
 Value = namedtuple("Value", "value said")
 
@@ -126,54 +164,88 @@ def unit_of(column, section):
     return (key, UNITS[found[2]]) if key in [it.name for it in KEYS[section]] else None
 
 
+def commented(section):
+    """The columns of a section that become comments."""
+    return [*COMMENTED.get(section, []), REMARKS]
+
+
+def numbered(rows):
+    """The rows of a reader of CSV, with their lines."""
+    for cells in rows:
+        yield rows.line_num, cells
+
+
 class Tables:
-    """The lines of tables by section, and their faults."""
+    """The lines of tables by section, their faults, and what is passed over."""
 
     def __init__(self, paths):
-        self.lines, self.faults = {section: [] for section in ("top", *SECTIONS)}, []
+        self.lines, self.faults, self.notes = {section: [] for section in ("top", *SECTIONS)}, [], []
         for path in paths:
-            text = afdx.text_of(path).removeprefix("\ufeff")
-            first = next((line for line in text.split("\n") if line.strip() and not line.startswith("#")), "")
-            rows = csv.reader(io.StringIO(text, newline=""), delimiter=max(",;\t", key=first.count))
-            try:
-                self.read(path, rows)
-            except csv.Error as fault:
-                self.add(Line(path, rows.line_num, {}), f"is no line of a table: {fault}")
+            if workbook.is_workbook(path):
+                self.read_workbook(path)
+            else:
+                self.read_csv(path)
+        self.lines["vl"] = self.joined(self.lines["vl"])
+
+    def read_csv(self, path):
+        text = afdx.text_of(path).removeprefix("\ufeff")
+        first = next((line for line in text.split("\n") if line.strip() and not line.startswith("#")), "")
+        rows = csv.reader(io.StringIO(text, newline=""), delimiter=max(",;\t", key=first.count))
+        try:
+            self.read(path, numbered(rows), self.add)
+        except csv.Error as fault:
+            self.add(Line(path, rows.line_num, {}), f"is no line of a table: {fault}")
+
+    def read_workbook(self, path):
+        """Reads the sheets. One without a table may tell of something else, and is passed over."""
+        before = sum(map(len, self.lines.values()))
+        for name, rows in workbook.sheets_of(path):
+            self.read(f"{path}, sheet {name},", enumerate(rows, 1), self.pass_over)
+        if before == sum(map(len, self.lines.values())):
+            self.add(Line(path, None, {}), "has no table: --help has their columns")
 
     def add(self, line, text):
         self.faults.append(Fault(line.path, line.number, text))
 
-    def read(self, path, rows):
+    def pass_over(self, line, text):
+        self.notes.append(Fault(line.path, line.number, text + ", and is passed over"))
+
+    def read(self, path, rows, tell_no_table):
+        """Reads tables. Who is to be told of a line in place of the names of columns is given."""
         section, columns = None, None
-        for cells in rows:
+        for number, cells in rows:
             cells = [cell.strip() for cell in cells]
+            line = Line(path, number, {})
             if not any(cells):
                 section, columns = None, None
             elif cells[0].startswith("#"):
                 pass
             elif columns is None:
-                columns = [column_of(cell) for cell in cells]
-                section = self.section_of(Line(path, rows.line_num, {}), columns)
+                named = [column_of(cell) for cell in cells]
+                section = section_of(named)
+                if section:
+                    columns = named
+                    self.check_columns(line, section, columns)
+                elif len(cells) - cells.count("") == 1:
+                    self.pass_over(line, f"is a title, {''.join(cells)!r}")
+                else:
+                    columns = named
+                    text = f"names no columns of a table, but {', '.join(filter(None, columns))}"
+                    tell_no_table(line, text + (": --help has them" if tell_no_table == self.add else ""))
             elif section:
-                self.line(Line(path, rows.line_num, {}), section, columns, cells)
+                self.line(line, section, columns, cells)
 
-    def section_of(self, line, columns):
-        """What a table has whose columns these are."""
-        found = {*columns, *(unit_of(it, "top")[0] for it in columns if unit_of(it, "top"))}
-        section = next((section for section, names in SORTS if names <= found), None)
-        if section is None:
-            self.add(line, f"names no columns of a table, but {', '.join(filter(None, columns))}: --help has them")
-            return None
-        known = [key.name for key in KEYS[section]] + MORE_COLUMNS.get(section, [])
+    def check_columns(self, line, section, columns):
+        known = [key.name for key in KEYS[section]] + MORE_COLUMNS.get(section, []) + commented(section)
         for i, column in enumerate(columns):
             if column in columns[:i] and column:
                 self.add(line, f"has the column {column} twice")
             elif column and column not in known and not unit_of(column, section):
-                self.add(line, f"has the column {column}, which is none of this table{explain.meant(column, known)}")
+                text = f"the column {column} is passed over{explain.meant(column, known)}"
+                self.notes.append(Fault(line.path, line.number, text))
         for column in NEEDED[section]:
             if column not in columns and not any((unit_of(it, section) or "?")[0] == column for it in columns):
                 self.add(line, f"has no column {column}")
-        return section
 
     def line(self, line, section, columns, cells):
         if len(cells) > len(columns) and any(cells[len(columns) :]):
@@ -182,6 +254,33 @@ class Tables:
             if cell and column:
                 line.cells[column] = cell
         self.lines[section].append(line)
+
+    def joined(self, lines):
+        """The lines of virtual links, where those that differ in the destination alone are one. It has the destinations of
+        all, and `parts` has the lines that it is made of."""
+        found = {}
+        for line in lines:
+            own = {key: cell for key, cell in line.cells.items() if key not in ("destinations", *commented("vl"))}
+            key = tuple(sorted(own.items()))
+            if "id" in own and key in found:
+                first = found[key]
+                again = set(names_of(first.cells.get("destinations", ""))) & set(names_of(line.cells.get("destinations", "")))
+                if again:
+                    text = f"names {', '.join(sorted(again))} for virtual link {own['id']} again, as line"
+                    self.notes.append(Fault(line.path, line.number, f"{text} {first.number} does"))
+                names = [first.cells.get("destinations", ""), line.cells.get("destinations", "")]
+                first.cells["destinations"] = " ".join(filter(None, names))
+                first.parts.append(line)
+            else:
+                found[key if "id" in own else len(found)] = joint = Line(line.path, line.number, dict(line.cells))
+                joint.parts.append(line)
+        return list(found.values())
+
+
+def section_of(columns):
+    """What a table has whose columns these are, or None."""
+    found = {*columns, *(unit_of(it, "top")[0] for it in columns if unit_of(it, "top"))}
+    return next((section for section, names in SORTS if names <= found), None)
 
 
 # ---- a description of tables ----
@@ -319,6 +418,10 @@ class Maker:
     # ---- virtual links ----
 
     def virtual_link(self, line):
+        for part in line.parts:
+            for column in LIMITS:
+                if column in part.cells:
+                    self.time(part, column, part.cells[column], UNITS[column.removeprefix("limit_")])
         row = self.row_of(line, "vl", {})
         self.sizes(line, row)
         self.times(line, row)
@@ -446,10 +549,34 @@ def line_of_value(key, value):
     return f"{text:<31} # {value.said}" if value.said else text
 
 
+def one_line(text):
+    """A text as it may stand in a comment."""
+    return " ".join(re.sub(r"[\x00-\x1f\x7f]", " ", text).split())
+
+
+def lines_said(line):
+    """The number of a line, or those of the lines that it is made of."""
+    numbers = [str(part.number) for part in line.parts or [line]]
+    return f"line{'s' if len(numbers) > 1 else ''} {', '.join(numbers)}"
+
+
+def comments_of(section, line):
+    """What a table has of a row that no key has. Where the lines that it is made of differ, each is told with its
+    destinations."""
+    parts, said = line.parts or [line], []
+    for column in commented(section):
+        cells = [one_line(part.cells.get(column, "")) for part in parts]
+        for cell in dict.fromkeys(filter(None, cells)):
+            names = [name for part, own in zip(parts, cells) if own == cell for name in names_of(part.cells.get("destinations", ""))]
+            of = f" at {' '.join(dict.fromkeys(names))}" if set(cells) != {cell} else ""
+            said.append(f"{column} {cell}{of}")
+    return said
+
+
 def text_of_rows(maker, paths):
     """The description, and for each of its rows the line of the table."""
     lines = [
-        f"# Made of {', '.join(paths)} by tools/from_table.py.",
+        f"# Made of {one_line(', '.join(paths))} by tools/from_table.py.",
         "#",
         "# Behind a value stands where it is from, unless the table has it itself: `usual` where the table says nothing.",
         f"# smax and size count a frame {afdx.COUNTED}: the payload of UDP and 47 bytes.",
@@ -458,20 +585,21 @@ def text_of_rows(maker, paths):
     lines += [line_of_value(key.name, maker.top[key.name]) for key in KEYS["top"] if key.name in maker.top]
     for section in SECTIONS:
         for row, made_of in zip(maker.rows[section], maker.made_of[section]):
-            lines += ["", f"[[{section}]] # {made_of.path} line {made_of.number}"]
+            lines += ["", f"[[{section}]] # {one_line(made_of.path)} {lines_said(made_of)}"]
+            lines += (f"# {text}" for text in comments_of(section, made_of))
             lines += [line_of_value(key.name, row[key.name]) for key in KEYS[section] if key.name in row]
     return "\n".join(lines) + "\n"
 
 
 def made(paths):
-    """The description of tables, and their faults."""
+    """The description of tables, their faults, and what is passed over."""
     tables = Tables(paths)
     maker = Maker(tables)
     text = text_of_rows(maker, paths)
     if not tables.faults:
         for finding in explain.judged(Made(text, maker)):
             tables.faults.append(fault_of(finding, maker, paths))
-    return text, tables.faults
+    return text, tables.faults, tables.notes
 
 
 class Made(afdx.Description):
@@ -531,7 +659,7 @@ def words_of(arguments):
     parser = argparse.ArgumentParser(
         description=__doc__, epilog=EXAMPLES, formatter_class=argparse.RawDescriptionHelpFormatter
     )
-    parser.add_argument("tables", metavar="TABLE", nargs="+", help="the tables (CSV); with --back the description")
+    parser.add_argument("tables", metavar="TABLE", nargs="+", help="the tables (CSV or .xlsx); with --back the description")
     parser.add_argument("-o", "--output", metavar="FILE", help="the file to write (default: standard output)")
     parser.add_argument("--back", action="store_true", help="makes the tables of a description")
     words = parser.parse_args(arguments)
@@ -543,7 +671,9 @@ def words_of(arguments):
 @files.tool
 def main(arguments=None):
     words = words_of(arguments)
-    text, faults = (back(words.tables[0]), []) if words.back else made(words.tables)
+    text, faults, notes = (back(words.tables[0]), [], []) if words.back else made(words.tables)
+    for note in notes:
+        files.tell("from_table.py", f"note: {note}")
     for fault in faults:
         files.tell("from_table.py", fault)
     if faults:

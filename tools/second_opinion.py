@@ -2,7 +2,7 @@
 """A second opinion on the tables of a network: a plain simulator of one thread, which shares no code with the program.
 
 It follows the rules of docs/TRAFFIC.md message by message, and prints the tables as `afdxsim seq` does; with --trace it
-writes the trace too. It needs nothing but Python, so it also serves where a table is wanted within a second and the
+writes the trace too, and with --hops what it has measured on the way. It needs nothing but Python, so it also serves where a table is wanted within a second and the
 program is not built yet. It handles some 60,000 messages a second.
 """
 import argparse
@@ -20,8 +20,19 @@ examples:
         the tables
   second_opinion.py net.toml --trace trace.csv > tables.csv
         the tables and the trace, for report.py
+  second_opinion.py net.toml --hops hops.csv > tables.csv
+        the tables, and what was measured on the way: report.py --hops shows it beside bounds
   second_opinion.py net.toml | diff - tables.csv
         whether the program, which printed tables.csv, says the same
+
+what --hops measures, each with its count, least, greatest and sum (times in ns):
+  wait       of a virtual link at its source: from the offer of a frame to its release by the regulator
+  network    at a destination: from the release to the delivery, which is the latency less the wait
+  network_a, network_b  from the release to the arrival of a copy by this network, delivered or not
+  skew       at a destination: from the arrival of the first copy to that of the second
+  delay      on a line: from the arrival of a frame at the output port before it to its last bit on the line
+  jitter     at a switch: by how much frames of a virtual link come closer than a BAG, counted from any earlier one
+  backlog    before a line: how many bytes of frames wait at the output port, whenever a frame comes there
 
 status: 0; 2 where a word is wrong, a file cannot be read or written, or the description is not accepted. One line on
 error output then names the file and the line; explain.py tells all that is wrong with a description.
@@ -100,6 +111,9 @@ class Simulation:
     def lose(self, time, place, frame, cause):
         self.note(time, place, frame[0], cause, frame[2])
 
+    def deliver(self, t, p, frame):
+        self.note(t, p, frame[0], "delivered", max(0, t - frame[3]))
+
     def start(self, t, p, q, frame):
         line = self.out[p, q]
         byte = self.lines[line - len(self.nodes)][3]
@@ -167,7 +181,7 @@ class Simulation:
         steps = None if last is None else number if last[0] == 0 else (number - last[0]) % 255
         if last is None or max(0, t - last[1]) > self.vls[vl]["skew_max_ns"] or (number != 0 and 1 <= steps <= 127):
             self.delivered[vl, p] = (number, t)
-            self.note(t, p, vl, "delivered", max(0, t - frame[3]))
+            self.deliver(t, p, frame)
         else:
             self.lose(t, p, frame, "duplicate")
 
@@ -254,6 +268,85 @@ class Simulation:
             yield "dropped,%d,%s,%s,%d,,," % (vl, self.names[place], CAUSES[cause], count)
 
 
+HOPS_HEAD = "kind,vl,where,count,least,greatest,sum"
+KINDS = ["wait", "network", "network_a", "network_b", "skew", "delay", "jitter", "backlog"]
+
+
+class Measured(Simulation):
+    """A run that also measures what happens on the way: `found` has for each kind, virtual link (None: of all) and place
+    how often it was measured, the least, the greatest and the sum. Times are in ns, what waits is in bytes."""
+
+    def __init__(self, net):
+        self.found = {}
+        # When a frame came to a port, when its first copy came to a destination, and for each virtual link at a switch
+        # the last arrival with by how much it came closer than a BAG.
+        self.came, self.first, self.arrived = {}, {}, {}
+        super().__init__(net)
+
+    def measure(self, kind, vl, place, value):
+        row = self.found.get((kind, vl, place))
+        if row is None:
+            self.found[kind, vl, place] = [1, value, value, value]
+        else:
+            row[0] += 1
+            row[1] = min(row[1], value)
+            row[2] = max(row[2], value)
+            row[3] += value
+
+    def release(self, t, vl, q, frame):
+        self.measure("wait", vl, self.source[vl], t - frame[3])
+        return super().release(t, vl, q, frame)
+
+    def put(self, t, p, q, frame, high):
+        lost = len(self.rows)
+        super().put(t, p, q, frame, high)
+        line, port = self.out[p, q], self.ports[p, q]
+        self.measure("backlog", None, line, sum(f[2] for f in port["high"] + port["low"]))
+        if len(self.rows) == lost:
+            self.came[line, frame] = t
+
+    def handle(self, t, p, variant, fields):
+        if variant == "Carry":
+            (frame,) = fields
+            self.measure("delay", frame[0], p, t - self.came.pop((p, frame)))
+        elif variant == "Arrive":
+            frame = fields[1]
+            if self.nodes[p]["kind"] == "es":
+                self.comes(t, p, frame)
+            else:
+                self.comes_closer(t, p, frame[0])
+        super().handle(t, p, variant, fields)
+
+    def comes(self, t, p, frame):
+        """A copy comes to a destination."""
+        vl = frame[0]
+        self.measure("network_" + frame[5].lower(), vl, p, t - frame[4])
+        first = self.first.pop((p, frame[:5]), None)
+        if first is not None:
+            self.measure("skew", vl, p, t - first)
+        elif len(self.destinations[vl, p]) > 1:
+            self.first[p, frame[:5]] = t
+
+    def comes_closer(self, t, p, vl):
+        """A frame comes to a switch: the jitter is by how much frames came closer than a BAG, counted from any earlier one."""
+        before = self.arrived.get((vl, p))
+        closer = 0 if before is None else max(0, before[1] + self.vls[vl]["bag_ms"] * 10**6 - (t - before[0]))
+        self.arrived[vl, p] = t, closer
+        self.measure("jitter", vl, p, closer)
+
+    def deliver(self, t, p, frame):
+        super().deliver(t, p, frame)
+        self.measure("network", frame[0], p, t - frame[4])
+
+    def hops(self):
+        """The lines of what was measured."""
+        yield HOPS_HEAD
+        order = lambda key: (KINDS.index(key[0]), -1 if key[1] is None else key[1], key[2])
+        for kind, vl, place in sorted(self.found, key=order):
+            row = self.found[kind, vl, place]
+            yield "%s,%s,%s,%d,%d,%d,%d" % (kind, "" if vl is None else vl, self.names[place], *row)
+
+
 def small_enough(description):
     """The table that a description is, or a fault where it has more offers than this simulator can take."""
     until, rows = description.tree["until_ns"], description.rows("vl")
@@ -271,15 +364,18 @@ def main(arguments=None):
     )
     parser.add_argument("net", metavar="NET", help="the description (TOML)")
     parser.add_argument("--trace", metavar="FILE", help="writes the trace to this file")
+    parser.add_argument("--hops", metavar="FILE", help="writes what was measured on the way to this file")
     parser.add_argument("--events", action="store_true", help="tells on error output how many messages were handled")
     words = parser.parse_args(arguments)
     net = small_enough(explain.accepted(words.net))
-    files.judge([words.trace] if words.trace else [], prints=True)
-    simulation = Simulation(net)
+    written = [path for path in (words.trace, words.hops) if path]
+    files.judge(written, prints=True)
+    simulation = (Measured if words.hops else Simulation)(net)
     simulation.run()
-    if words.trace:
-        files.write_whole(words.trace, "".join(line + "\n" for line in simulation.trace()))
-    files.write_out("".join(line + "\n" for line in simulation.tables()))
+    text_of = lambda lines: "".join(line + "\n" for line in lines)
+    texts = {words.trace: text_of(simulation.trace())} if words.trace else {}
+    files.write_all(texts | ({words.hops: text_of(simulation.hops())} if words.hops else {}))
+    files.write_out(text_of(simulation.tables()))
     if words.events:
         print(simulation.handled, "events", file=sys.stderr)
 

@@ -341,7 +341,7 @@ class OfRuns(unittest.TestCase):
     def test_drawn_networks(self):
         status, said = self.call("--networks", "60")
         self.assertEqual(status, 0, said)
-        self.assertRegex(said, r"^60 networks, 600 runs: \d{5} latencies and \d{5} ports held against bounds, 0 above; ")
+        self.assertRegex(said, r"^60 networks, 600 runs: \d{5} latencies, \d{5} ports and \d{6} others held against bounds, 0 above; ")
 
     def test_what_is_above_its_bound_is_told_and_can_be_run_again(self):
         """With all bounds a hundredth lower, some latency is above its bound. The words that are told run it again."""

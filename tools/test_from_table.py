@@ -4,10 +4,12 @@ import contextlib
 import glob
 import io
 import os
+import shutil
 import subprocess
 import sys
 import tempfile
 import unittest
+from unittest import mock
 
 HERE = os.path.dirname(os.path.abspath(__file__))
 sys.path.insert(0, HERE)
@@ -16,6 +18,7 @@ import afdx  # noqa: E402
 import explain  # noqa: E402
 import from_table  # noqa: E402
 import toml_lines  # noqa: E402
+import workbook  # noqa: E402
 from second_opinion import Simulation  # noqa: E402
 
 EXAMPLES = os.path.join(HERE, "..", "examples")
@@ -77,7 +80,7 @@ class Here(unittest.TestCase):
         paths = [self.file(f"table{i}.csv", text) for i, text in enumerate(texts)]
         status, out, said = self.call(*paths, "-o", self.output)
         self.assertEqual((status, out, os.path.exists(self.output)), (1, "", False), said)
-        return [line.removeprefix(f"from_table.py: {self.folder}/") for line in said.splitlines()]
+        return [line.removeprefix("from_table.py: ").replace(f"{self.folder}/", "", 1) for line in said.splitlines()]
 
 
 class Back(Here):
@@ -195,7 +198,7 @@ class OfTables(Here):
             (good.replace("8,100", "8,many"), ["line 12: smax is 'many', and no whole number"]),
             (good.replace("8,100", "8,"), ["line 12: has neither smax nor size nor payload"]),
             (good.replace("8,100", ",100"), ["line 12: has neither bag_ms nor period_ns"]),
-            (good.replace("bag_ms", "bag_msec"), ["line 11: has the column bag_msec, which is none of this table; bag_ms?", "line 12: has neither bag_ms nor period_ns"]),
+            (good.replace("bag_ms", "bag_msec"), ["note: table0.csv line 11: the column bag_msec is passed over; bag_ms?", "line 12: has neither bag_ms nor period_ns"]),
             (good.replace("1,ADC,DU,", "1,ADC,DUX,"), ["line 12: DUX is reached from ADC neither on A nor on B: DUX has no link; DU?"]),
             (good.replace("1,ADC,DU,", "1,,DU,"), ["line 12: has no source"]),
             (good.replace("1,ADC,DU,", "1,ADC,,"), ["line 12: has no destinations"]),
@@ -210,7 +213,7 @@ class OfTables(Here):
             (good.replace("smax\n", "smax,a\n").replace("8,100", "8,100,ADC SWA ADC"), ["line 12: the path ADC SWA ADC ends at ADC, which destinations does not name"]),
         ):
             with self.subTest(said):
-                self.assertEqual(self.faults_of(text), ["table0.csv " + line for line in said])
+                self.assertEqual(self.faults_of(text), [line if line.startswith("note: ") else "table0.csv " + line for line in said])
 
     def test_all_faults_are_told_at_once(self):
         said = self.faults(NODES + LINKS, LINE + "2,ADC,DU,8,x\n3,ADC,XX,8,y\n")
@@ -241,6 +244,143 @@ class OfTables(Here):
         table = os.path.join(EXAMPLES, "flight_deck.csv")
         self.assertEqual(self.call(table, "-o", self.output), (0, "", ""))
         self.assertEqual(tables_by_second_opinion(read(self.output)), read(table.replace(".csv", ".tables.csv")))
+
+
+class AsItIs(Here):
+    """What a table of a project has beside what this tool needs."""
+
+    def noted(self, *texts):
+        """The description of tables, which must be accepted, and what is told on the way."""
+        paths = [self.file(f"table{i}.csv", text) for i, text in enumerate(texts)]
+        status, out, said = self.call(*paths, "-o", self.output)
+        self.assertEqual((status, out), (0, ""), said)
+        said = [line.removeprefix("from_table.py: note: ").replace(f"{self.folder}/", "", 1) for line in said.splitlines()]
+        return toml_lines.read(read(self.output)), said
+
+    def test_further_columns_and_titles_are_passed_over(self):
+        table = "Virtual links of the aircraft,,,,,,\n" + LINE.replace("smax", "smax,Message,prioritty").replace("100", "100,Air data,high")
+        tree, said = self.noted(NODES.replace("net", "net,Part number").replace("A\n", "A,77-1\n") + LINKS, table)
+        self.assertEqual(said, [
+            "table0.csv line 1: the column part_number is passed over",
+            "table1.csv line 1: is a title, 'Virtual links of the aircraft', and is passed over",
+            "table1.csv line 2: the column message is passed over",
+            "table1.csv line 2: the column prioritty is passed over; priority?",
+        ])
+        self.assertEqual((tree["vl"][0]["smax"], tree["vl"][0]["priority"]), (100, "low"))
+
+    def test_lines_that_differ_in_the_destination_alone_are_one(self):
+        links = LINKS.replace("DU,SWB\n", "DU,SWB\nFWC,SWA\nFWC,SWB\n")
+        head = "id,source,dest,bag_ms,smax,limit_us,UDP source port,Dst port,Remarks\n"
+        lines = "1,ADC,DU,8,100,500,4001,5001,left\n2,DU,ADC,8,64,,,,\n1,ADC,FWC,8,100,700,4001,5001,\n1,ADC,DU,8,100,500,,,left\n"
+        tree, said = self.noted(NODES + links, head + lines)
+        self.assertEqual(said, ["table1.csv line 5: names DU for virtual link 1 again, as line 2 does"])
+        self.assertEqual([vl["id"] for vl in tree["vl"]], [1, 2])
+        self.assertEqual(tree["vl"][0]["a"], [["ADC", "SWA", "DU"], ["ADC", "SWA", "FWC"]])
+        wanted = f"""[[vl]] # {self.folder}/table1.csv lines 2, 4, 5
+# limit_us 500 at DU
+# limit_us 700 at FWC
+# udp_source_port 4001 at DU FWC
+# udp_destination_port 5001 at DU FWC
+# remarks left at DU
+id = 1
+"""
+        self.assertIn(wanted, read(self.output))
+
+    def test_lines_that_differ_in_more_are_a_fault(self):
+        (said,) = self.faults(NODES + LINKS + LINE + "1,ADC,DU,16,100\n")
+        self.assertEqual(said, "table0.csv line 13: virtual link 1, id: the number 1 is there already, in line 12")
+
+    def test_a_fault_of_a_line_that_was_joined(self):
+        said = self.faults(NODES + LINKS + LINE.replace("smax", "smax,limit_us").replace("100", "100,1") + "1,ADC,DU,8,100,x\n")
+        self.assertEqual(said[-1], "table0.csv line 13: limit_us is 'x', and no number")
+
+    def test_comments_stay_comments(self):
+        """Whatever a cell has: marks of the end of a line, or of TOML."""
+        remark = '"two\nlines ""] = 1 \t#\x01"'
+        tree, _ = self.noted(NODES + LINKS + LINE.replace("smax", "smax,remarks").replace("100", f"100,{remark}"))
+        self.assertEqual(len(tree["vl"]), 1)
+        self.assertIn('\n# remarks two lines "] = 1 #\n', read(self.output))
+
+
+def has_library():
+    """Whether some interpreter here can make a workbook."""
+    run = subprocess.run([workbook.DEBIAN, "-c", "import openpyxl"], capture_output=True) if os.path.exists(workbook.DEBIAN) else None
+    return run is not None and run.returncode == 0
+
+
+@unittest.skipUnless(has_library(), f"there is no openpyxl: apt-get install -y {workbook.PACKAGE}")
+class Workbooks(Here):
+    def book(self, name, lines):
+        """A workbook that some lines of Python make of an empty one."""
+        path = os.path.join(self.folder, name)
+        text = f"import openpyxl\nbook = openpyxl.Workbook()\nsheet = book.active\n{lines}\nbook.save({path!r})\n"
+        subprocess.run([workbook.DEBIAN, "-c", text], check=True)
+        return path
+
+    def of_rows(self, *rows, more=""):
+        return self.book("icd.xlsx", "".join(f"sheet.append({row!r})\n" for row in rows) + more)
+
+    def test_the_example(self):
+        """A line a destination, further columns, a title and a sheet of something else: the tables are those of the CSV."""
+        path = os.path.join(EXAMPLES, "flight_deck.xlsx")
+        status, out, said = self.call(path, "-o", self.output)
+        self.assertEqual((status, out), (0, ""))
+        told = ["line 1: is a title, 'Flight deck, interface control document', and is passed over", "line 3: the column message is passed over"]
+        wanted = [f"from_table.py: note: {path}, sheet Virtual links, {text}" for text in told]
+        wanted.append(f"from_table.py: note: {path}, sheet History, line 1: names no columns of a table, but issue, author, change, and is passed over")
+        self.assertEqual(said.splitlines(), wanted)
+        found = read(self.output)
+        self.assertEqual(tables_by_second_opinion(found), read(path.replace(".xlsx", ".tables.csv")))
+        self.assertEqual(self.call(path.replace(".xlsx", ".csv"), "-o", self.output), (0, "", ""))
+        self.assertEqual(toml_lines.read(found), toml_lines.read(read(self.output)))
+        self.assertIn("# limit_us 500\n# udp_source_port 4101\n# udp_destination_port 5101\n# remarks for the standby display at DU_C\n", found)
+
+    def test_cells(self):
+        """Numbers with and without a point, cells that are merged, and an empty row between two tables."""
+        links = [["a", "b", "length_m"], ["ADC", "SWA", 20.0], ["DU", "SWA", 30], ["FWC", "SWA", None]]
+        lines = [["VL", "Source", "Destination", "Period (ms)", "Smax", "Jitter (us)"], [7, "ADC", "DU", 12.5, 100, 0.5], [None, None, "FWC", None, None, None]]
+        merged = "".join(f"sheet.merge_cells('{column}10:{column}11')\n" for column in "ABDEF")
+        path = self.of_rows(["name", "net"], ["SWA", "A"], [], *links, [], *lines, more=merged)
+        self.assertEqual(self.call(path, "-o", self.output), (0, "", ""))
+        tree = toml_lines.read(read(self.output))
+        (vl,) = tree["vl"]
+        self.assertEqual((vl["period_ns"], vl["jitter_ns"], vl["a"]), (12_500_000, 500, [["ADC", "SWA", "DU"], ["ADC", "SWA", "FWC"]]))
+        self.assertEqual([row["propagation_ns"] for row in tree["link"]], [100, 150, 100])
+
+    def test_faults_name_sheet_and_line(self):
+        path = self.of_rows(["id", "source", "destinations", "bag_ms", "smax"], [1, "ADC", "DU", 10, "x"])
+        status, _, said = self.call(path)
+        self.assertEqual((status, said.splitlines()[0]), (1, f"from_table.py: {path}, sheet Sheet, line 2: smax is 'x', and no whole number"))
+
+    def test_a_formula_without_a_value(self):
+        path = self.of_rows(["id", "smax"], [1, "=64+36"])
+        told = f"from_table.py: {path}: sheet Sheet, cell B2, is a formula without a value: open and save it in the program that has made it\n"
+        self.assertEqual(self.call(path), (2, "", told))
+
+    def test_a_workbook_without_a_table(self):
+        path = self.of_rows(["Issue", "Author"], ["A", "B"])
+        status, out, said = self.call(path)
+        self.assertEqual((status, out, said.splitlines()[-1]), (1, "", f"from_table.py: {path}: has no table: --help has their columns"))
+
+    def test_what_is_no_workbook(self):
+        path = self.file("icd.xlsx", b"PK\x03\x04 and nothing more")
+        status, out, said = self.call(path)
+        self.assertEqual((status, out, said.count("\n")), (2, "", 1))
+        self.assertTrue(said.startswith(f"from_table.py: {path}: is no workbook that can be read: "), said)
+
+    def test_it_is_not_written_over(self):
+        path = os.path.join(self.folder, "icd.xlsx")
+        shutil.copy(os.path.join(EXAMPLES, "flight_deck.xlsx"), path)
+        status, _, said = self.call(path, "-o", os.path.join(self.folder, ".", "icd.xlsx"))
+        self.assertEqual((status, said.count("would be written over"), workbook.is_workbook(path)), (2, 1, True))
+
+
+class WithoutTheLibrary(Here):
+    def test_it_is_told_what_to_install(self):
+        path = os.path.join(EXAMPLES, "flight_deck.xlsx")
+        told = f"from_table.py: {path}: is a workbook, which needs a library: apt-get install -y python3-openpyxl; or save its sheets as CSV\n"
+        with mock.patch.object(workbook, "DEBIAN", "/none/python3"), mock.patch("importlib.util.find_spec", lambda name: None):
+            self.assertEqual(self.call(path), (2, "", told))
 
 
 class WithTheProgram(Here):

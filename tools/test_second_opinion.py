@@ -121,6 +121,69 @@ class Rules(unittest.TestCase):
                 self.assertEqual(called(path), (0, read(path.replace(".toml", ".tables.csv")), ""))
 
 
+class OnTheWay(unittest.TestCase):
+    """What --hops measures."""
+
+    def measured(self, text):
+        simulation = second_opinion.Measured(toml_lines.read(text))
+        simulation.run()
+        return list(simulation.hops())[1:]
+
+    def test_the_smallest_example(self):
+        wanted = """wait,1,ES1,1,0,0,0
+network,1,ES2,1,27720,27720,27720
+network_a,1,ES2,1,27720,27720,27720
+delay,1,ES1>SW1,1,5760,5760,5760
+delay,1,SW1>ES2,1,5760,5760,5760
+jitter,1,SW1,1,0,0,0
+backlog,,ES1>SW1,1,0,0,0
+backlog,,SW1>ES2,1,0,0,0
+"""
+        self.assertEqual(self.measured(N1), wanted.splitlines())
+
+    def test_the_wait_in_the_regulator_is_no_part_of_the_network(self):
+        more = [("period_ns = 1000000000000", "period_ns = 400000"), ("until_ns = 2000000", "until_ns = 1100000")]
+        found = self.measured(changed(*more))
+        self.assertEqual(found[:2], ["wait,1,ES1,2,0,600000,600000", "network,1,ES2,2,27720,27720,55440"])
+
+    def test_frames_that_wait_for_each_other(self):
+        """Twenty of 64 bytes are offered at once: the last one waits for nineteen."""
+        found = self.measured(read(os.path.join(EXAMPLES, "n2.toml")))
+        for i in range(1, 21):
+            delay = 5760 + 6720 * (i - 1)
+            for line in (f"delay,{i},ES1>SWA,1,{delay},{delay},{delay}", f"delay,{i},SWA>ES2,1,5760,5760,5760", f"skew,{i},ES2,1,0,0,0"):
+                self.assertIn(line, found)
+        self.assertIn(f"backlog,,ES1>SWA,20,0,{19 * 64},{sum(range(20)) * 64}", found)
+
+    def test_jitter_at_a_switch(self):
+        """Each frame 0.1 ms closer than a BAG of 1 ms, and then one that is late."""
+        simulation = second_opinion.Measured(toml_lines.read(N1))
+        for moment in (0, 900_000, 1_800_000, 3_800_000, 4_799_999):
+            simulation.comes_closer(moment, 2, 1)
+        self.assertEqual(simulation.found["jitter", 1, 2], [5, 0, 200_000, 300_001])
+
+    def test_wait_and_network_are_the_latency(self):
+        """Of each destination where all frames came, in sum. And by one network or the other."""
+        for name in ("cockpit", "maintenance"):
+            path = os.path.join(EXAMPLES, name + ".toml")
+            tables, found = afdx.Tables(path.replace(".toml", ".tables.csv"), afdx.Network(path)), {}
+            for line in self.measured(read(path)):
+                kind, vl, where, *numbers = line.split(",")
+                found[kind, vl and int(vl), where] = list(map(int, numbers))
+            compared = 0
+            for row in tables.latencies.values():
+                wait = found["wait", row.vl, tables.net.vls[row.vl].source]
+                network = found["network", row.vl, row.where]
+                self.assertEqual(network[0], row.count)
+                if wait[0] == row.count:
+                    compared += 1
+                    self.assertEqual(wait[3] + network[3], row.total)
+                    self.assertLessEqual(row.greatest, wait[2] + network[2])
+                least = min(found[kind, row.vl, row.where][1] for kind in ("network_a", "network_b") if (kind, row.vl, row.where) in found)
+                self.assertEqual(least, network[1])
+            self.assertGreater(compared, 0)
+
+
 class Words(unittest.TestCase):
     def setUp(self):
         folder = tempfile.TemporaryDirectory()
@@ -141,6 +204,14 @@ class Words(unittest.TestCase):
         status, out, said = called(path, "--trace", path)
         self.assertEqual((status, out, read(path)), (2, "", N1))
         self.assertIn(f"{path}: would be written over what was read as {path}", said)
+
+    def test_hops(self):
+        hops = os.path.join(self.folder, "hops.csv")
+        path = self.file(N1)
+        status, out, said = called(path, "--hops", hops)
+        self.assertEqual((status, out, said), (0, called(path)[1], ""))
+        self.assertTrue(read(hops).startswith("kind,vl,where,count,least,greatest,sum\nwait,1,ES1,1,0,0,0\n"))
+        self.assertEqual((called(path, "--hops", path)[0], read(path)), (2, N1))
 
     def test_plain_errors(self):
         none = os.path.join(self.folder, "none")
@@ -171,7 +242,7 @@ class Words(unittest.TestCase):
             [sys.executable, os.path.join(HERE, "second_opinion.py"), "--help"], capture_output=True, text=True
         )
         self.assertEqual((run.returncode, run.stderr), (0, ""))
-        for word in ("--trace", "--events", "examples:", "status:"):
+        for word in ("--trace", "--hops", "--events", "examples:", "status:"):
             self.assertIn(word, run.stdout)
 
     def test_a_standard_output_that_is_full(self):
