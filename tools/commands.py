@@ -57,7 +57,8 @@ One command for all that is done with a network: each line is a command, and `af
 
 which program runs is told on error output, once. It is
   the proved one, where it was built of these very sources: `afdx build` and ./test leave it, a package brings it;
-  else these sources by `rt try`, without a proof and with checks, where the kit is: some two minutes, and no files written;
+  else these sources by `rt try`, without a proof and with checks, where the kit is: it takes some two minutes, writes no
+  file, and passes on 1 MiB of each run;
   with --by second-opinion the plain simulator in Python, for seq and page; with --by proved and --by try just that one;
   with --program PATH the program that you name
 
@@ -253,13 +254,30 @@ def by_tool(name, words):
     if name == "outages":
         words = words[1:2] + words[:1] + words[2:] if len(words) > 1 and not words[1].startswith("-") else words[1:] + words[:1]
     asks = asks_for_help(words) or not words
-    if name in RUN_IT and not asks and not any(word.split("=")[0] == "--program" for word in words):
-        found = program.proved()
-        tell(found.says)
-        words += ["--program", found.path]
+    if name in RUN_IT and not asks:
+        words, status = with_program(words)
+        if status:
+            return status
     sys.argv = [f"afdx {name}", *words]
     runpy.run_path(os.path.join(HERE, tool.file), run_name="__main__")
     return 0
+
+
+def with_program(words):
+    """The words of a tool that has the program run, with those that tell which one; and the status where there is no use in
+    going on."""
+    words, by = taken_out(words, "--by")
+    words, path = taken_out(words, "--program")
+    it = chosen(by, path)
+    if it.how == "second opinion":
+        raise Mistake("the second opinion is one of seq NET [--trace FILE], and of page")
+    tell(it.says)
+    if it.path:
+        return [*words, "--program", it.path], 0
+    # Before the two minutes in which the program is built.
+    nets = [word for word in words[:1] if not word.startswith("-")]
+    status = explained(nets[0]) if nets else 0
+    return [*words, "--by-try"], status
 
 
 # ---- the page ----
@@ -292,17 +310,21 @@ def tool_command(file, *words):
     return [sys.executable, os.path.join(HERE, file), *words]
 
 
+def explained(net):
+    """Tells on error output what is wrong with a description or hardly meant, and answers the status."""
+    found = subprocess.run(tool_command("explain.py", net), stdin=subprocess.DEVNULL, capture_output=True, text=True)
+    sys.stderr.write(found.stderr)
+    for line in found.stdout.splitlines():
+        if not line.endswith(": accepted"):
+            print(line, file=sys.stderr)
+    return found.returncode
+
+
 def page(arguments):
     """Makes the page of a description, and answers the status."""
     words, more = page_words(arguments)
-    explained = subprocess.run(tool_command("explain.py", words.net), stdin=subprocess.DEVNULL, capture_output=True, text=True)
-    sys.stderr.write(explained.stderr)
-    if explained.returncode != 0:
-        sys.stderr.write(explained.stdout)
-        return explained.returncode
-    for line in explained.stdout.splitlines():
-        if not line.endswith(": accepted"):
-            print(line, file=sys.stderr)
+    if status := explained(words.net):
+        return status
     it = None if words.tables else chosen(words.by, words.program)
     if it:
         tell(it.says)
