@@ -346,9 +346,18 @@ def page(arguments):
         more += ["--trace", "trace.csv"] if os.path.exists(trace) else []
         more += [] if words.no_bounds else ["--bounds", "bounds.csv"]
         more += ["--made-by", it.says] if it and can_tell_who_made() else []
-        tables = os.path.abspath(words.tables) if words.tables else "tables.csv"
-        command = tool_command("report.py", os.path.abspath(words.net), tables, "-o", os.path.abspath(words.output), *more)
+        tables = linked(words.tables, folder) if words.tables else "tables.csv"
+        command = tool_command("report.py", linked(words.net, folder), tables, "-o", os.path.abspath(words.output), *more)
         return subprocess.run(command, cwd=folder).returncode
+
+
+def linked(path, folder):
+    """A name of a file in this folder, by a link; or its own from the root on, where the name is taken."""
+    name = os.path.basename(os.path.normpath(path))
+    if os.path.lexists(os.path.join(folder, name)) or name.startswith("-"):
+        return os.path.abspath(path)
+    os.symlink(os.path.abspath(path), os.path.join(folder, name))
+    return name
 
 
 def absolute(word):
