@@ -37,6 +37,7 @@ import cluster
 import each_outage
 import files
 import runs
+import tried_runs
 from afdx import CAUSES, GREATEST_SEED, PROGRAM, TABLES_HEAD, limits_of, whole
 from files import Fault, text_of, write_whole
 from runs import Failure
@@ -85,11 +86,12 @@ MOST_TOLD = 10
 
 
 class Network(afdx.Network):
-    """A description that the program has accepted."""
+    """A description that the program has accepted, where there is one to ask."""
 
     def __init__(self, path, program):
         text = text_of(path)
-        self.check(path, text, program)
+        if program:
+            self.check(path, text, program)
         super().__init__(path, text)
         self.write(self.description.tree)
 
@@ -393,6 +395,7 @@ def words_of(arguments=None):
     add("--dask", type=address, metavar="ADDRESS", help=says)
     add("--keep", action="store_true", help="keep the description and the tables of each run in DIR too")
     add("--program", default=PROGRAM, metavar="PATH", help="the program (default: crates/afdxsim/out/afdxsim)")
+    add("--by-try", action="store_true", help="these sources without a proof make the runs: built once, by the kit's `rt try`")
     add("-o", "--output", metavar="DIR", required=True, help="the folder for what comes of it; it is made if need be")
     words = parser.parse_args(arguments)
     if words.seeds is None and words.each_outage is None:
@@ -405,9 +408,9 @@ def words_of(arguments=None):
 
 def prepare(words):
     """The network, the limits and the seeds, or a fault."""
-    if not os.path.isfile(words.program):
-        raise Fault(words.program, None, "is not there. `rt run -- --help` in crates/afdxsim builds the program")
-    net = Network(words.net, words.program)
+    if not words.by_try and not os.path.isfile(words.program):
+        raise Fault(words.program, None, "is not there. `afdx build` builds the program")
+    net = Network(words.net, None if words.by_try else words.program)
     limits = limits_of(words.limits, net) if words.limits else {}
     first = net.seed if words.first is None else words.first
     if first + words.seeds - 1 > GREATEST_SEED:
@@ -422,7 +425,9 @@ def prepare(words):
 
 
 def maker_of(words, is_traced):
-    """Who makes the runs: this machine, or a cluster."""
+    """Who makes the runs: this machine, by the program or by its sources, or a cluster."""
+    if words.by_try:
+        return tried_runs.Tried(is_traced)
     if words.dask:
         return cluster.Cluster(words.dask, words.program, is_traced)
     return runs.Here(words.program, words.jobs, is_traced)
