@@ -63,10 +63,11 @@ module _ {M S K N : Type 0} (f : Simulation M S K N) (O : IsOrder f.rules.order)
   -- the letters that are left come after the same events
   after-keeps : (l : Letter M) (rest : List (Letter M)) (ls : List (Letter M)) (v : World M S) → ComeAfter ls v → ComeAfter ls (home_after f O (receiver_of l) l rest v)
   after-keeps l rest [] v c = tt
-  after-keeps l rest (x ∷ xs) v c =
-      (subst (λ ds. ours (receiver_of x) ≡ true → (y : M) → IsIn f.rules.order y ds → f.rules.order.less y x.message ≡ true)
-      (sym (put_elim (λ r z. z.done ≡ (v.parts r).done) (receiver_of l) (tallied f.rules l [] (v.parts (receiver_of l))) v.parts refl (λ r n. refl) (receiver_of x))) c.0,
-      after-keeps l rest xs v c.1)
+  after-keeps l rest (x ∷ xs) v c = (
+    subst (λ ds. ours (receiver_of x) ≡ true → (y : M) → IsIn f.rules.order y ds → f.rules.order.less y x.message ≡ true)
+        (sym (put_elim (λ r z. z.done ≡ (v.parts r).done) (receiver_of l) (tallied f.rules l [] (v.parts (receiver_of l))) v.parts refl (λ r n. refl) (receiver_of x))) c.0,
+    after-keeps l rest xs v c.1,
+  )
 
   private-mail : (l : Letter M) (ls : List (Letter M)) (v : World M S) → ((q : ℕ) → ours q ≡ true → v.mail q ≡ received_by f.rules.order q (l ∷ ls)) →
       (q : ℕ) → ours q ≡ true → (home_after f O (receiver_of l) l (received_by f.rules.order (receiver_of l) ls) v).mail q ≡ received_by f.rules.order q ls
@@ -91,10 +92,11 @@ module _ {M S K N : Type 0} (f : Simulation M S K N) (O : IsOrder f.rules.order)
     parts = λ q t. h.parts q t ∙ part q t (cases_eq (receiver_of l) q);
     mail = h.mail;
     floors = λ q t. h.floors q t ∙ floor q (cases_eq (receiver_of l) q);
-    others = λ q n. let k = h.others q n in
-        (k.0 ∙ put_elim (λ r z. ours r ≡ false → z ≡ v.parts r) (receiver_of l) _ v.parts (λ x. absurd (both_ways (ours (receiver_of l)) x o)) (λ r d x. refl) q n,
-        k.1 ∙ put_elim (λ r z. ours r ≡ false → z ≡ v.mail r) (receiver_of l) _ v.mail (λ x. absurd (both_ways (ours (receiver_of l)) x o)) (λ r d x. refl) q n,
-        k.2 ∙ put_elim (λ r z. ours r ≡ false → z ≡ v.floors r) (receiver_of l) _ v.floors (λ x. absurd (both_ways (ours (receiver_of l)) x o)) (λ r d x. refl) q n);
+    others = λ q n. let k = h.others q n in (
+      k.0 ∙ put_elim (λ r z. ours r ≡ false → z ≡ v.parts r) (receiver_of l) _ v.parts (λ x. absurd (both_ways (ours (receiver_of l)) x o)) (λ r d x. refl) q n,
+      k.1 ∙ put_elim (λ r z. ours r ≡ false → z ≡ v.mail r) (receiver_of l) _ v.mail (λ x. absurd (both_ways (ours (receiver_of l)) x o)) (λ r d x. refl) q n,
+      k.2 ∙ put_elim (λ r z. ours r ≡ false → z ≡ v.floors r) (receiver_of l) _ v.floors (λ x. absurd (both_ways (ours (receiver_of l)) x o)) (λ r d x. refl) q n,
+    );
     gvt = h.gvt;
   }
     where
@@ -213,11 +215,12 @@ module _ {M S K N : Type 0} (f : Simulation M S K N) (O : IsOrder f.rules.order)
       (xs : List M) → ((x : M) → IsIn f.rules.order x xs → f.rules.order.time m < f.rules.order.time x) → ComeAfter (map plus_of xs) (run_after f O q m v)
   sent-after q m v o n [] h = tt
   sent-after q m v o n (x ∷ xs) h =
-      let later : f.rules.order.less m x ≡ true = O.by_time m x (h x (in-head f.rules.order O x xs)) in
-      (λ t. put_elim (λ p z. ours p ≡ true → (y : M) → IsIn f.rules.order y z.done → f.rules.order.less y x ≡ true) q (emptied (handled f.rules (v.parts q) (Some m))) v.parts
-      (λ u y i. own later y (in-append f.rules.order O y (v.parts q).done (m ∷ []) i))
-      (λ p d u y i. O.transitive y m x (n p u y i) later) (f.rules.order.receiver x) t,
-      sent-after q m v o n xs (λ y i. h y (omega arith)))
+      let later : f.rules.order.less m x ≡ true = O.by_time m x (h x (in-head f.rules.order O x xs)) in (
+        λ t. put_elim (λ p z. ours p ≡ true → (y : M) → IsIn f.rules.order y z.done → f.rules.order.less y x ≡ true) q (emptied (handled f.rules (v.parts q) (Some m))) v.parts
+            (λ u y i. own later y (in-append f.rules.order O y (v.parts q).done (m ∷ []) i))
+            (λ p d u y i. O.transitive y m x (n p u y i) later) (f.rules.order.receiver x) t,
+        sent-after q m v o n xs (λ y i. h y (omega arith)),
+      )
     where
       own : f.rules.order.less m x ≡ true → (y : M) → IsIn f.rules.order y (v.parts q).done ⊎ IsIn f.rules.order y (m ∷ []) → f.rules.order.less y x ≡ true
       own l y (inl i) = O.transitive y m x (n q o y i) l
@@ -229,7 +232,7 @@ module _ {M S K N : Type 0} (f : Simulation M S K N) (O : IsOrder f.rules.order)
       ((p : ℕ) → ours p ≡ true → (x : M) → IsIn f.rules.order x (v.parts p).done → f.rules.order.less x m ≡ true) →
       ((x : M) → IsIn f.rules.order x (f.rules.sends (v.parts q).state m) → f.rules.order.time m < f.rules.order.time x) →
       AreHome (map plus_of (f.rules.sends (v.parts q).state m)) (run_after f O q m v)
-          (done_by f (Run q ∷ Post q ∷ home_steps (map plus_of (f.rules.sends (v.parts q).state m))) v)
+      (done_by f (Run q ∷ Post q ∷ home_steps (map plus_of (f.rules.sends (v.parts q).state m))) v)
       × AreDone f (home_steps (map plus_of (f.rules.sends (v.parts q).state m))) (done_by f (Run q ∷ Post q ∷ []) v)
   plain-event q m v o k e n h =
       let ls = map plus_of (f.rules.sends (v.parts q).state m) in
@@ -239,9 +242,10 @@ module _ {M S K N : Type 0} (f : Simulation M S K N) (O : IsOrder f.rules.order)
         mail = λ p t. ap (λ z. z ++ received_by f.rules.order p ((v.parts q).outbox ++ ls)) (k.mail p t) ∙ ap (λ z. received_by f.rules.order p (z ++ ls)) (k.outbox q o);
         tray = put_elim (λ p z. ours p ≡ true → z.tray ≡ []) q (emptied (handled f.rules (v.parts q) (Some m))) v.parts (λ t. k.tray q t) (λ p d t. k.tray p t);
         after = sent-after q m v o n (f.rules.sends (v.parts q).state m) h;
-      } in
-      (subst (λ z. AreHome ls (run_after f O q m v) (done_by f (home_steps ls) z)) (sym ran) (all-home ls (run_after f O q m v) way),
-      subst (λ z. AreDone f (home_steps ls) z) (sym ran) (all-enabled ls (run_after f O q m v) way))
+      } in (
+        subst (λ z. AreHome ls (run_after f O q m v) (done_by f (home_steps ls) z)) (sym ran) (all-home ls (run_after f O q m v) way),
+        subst (λ z. AreDone f (home_steps ls) z) (sym ran) (all-enabled ls (run_after f O q m v) way),
+      )
 
   -- each of these letters counts once more
   pub tally-counts : (q : ℕ) (ls t : List (Letter M)) (m : M) →

@@ -61,7 +61,7 @@ module _ {M S K N : Type 0} (f : Simulation M S K N) (O : IsOrder f.rules.order)
   comes-home q l rest v m t h =
       let taken-part : (took-home q l rest v).parts q ≡ delivered l (v.parts q) = put_here q (delivered l (v.parts q)) v.parts in
       let arrived-part : arrive f.rules (f.opening q) (delivered l (v.parts q)) ≡ tallied f.rules l [] (v.parts q) =
-          arrives-plain f.rules O (f.opening q) l (delivered l (v.parts q)) (ap (λ z. z ++ l ∷ []) t) h in
+      arrives-plain f.rules O (f.opening q) l (delivered l (v.parts q)) (ap (λ z. z ++ l ∷ []) t) h in
       ap (effect f (Arrive q)) (takes-home q l rest v m) ∙
       (λ j. record {
         parts = (ap (λ z. put q (arrive f.rules (f.opening q) z) (took-home q l rest v).parts) taken-part ∙
@@ -142,7 +142,7 @@ module _ {M : Type 0} (order : Order M) (O : IsOrder order) where
       low =
           let a = lowest-message order O (suc until) (unhandled order (plus_of m ∷ part.tally) part.done) m new-one in
           let b = lowest-messages order O (lowest (suc until) (map order.time (unhandled order (plus_of m ∷ part.tally) part.done))) (suc until) (unhandled order part.tally part.done) (lowest-top order O (suc until) (map order.time (unhandled order (plus_of m ∷ part.tally) part.done)))
-              (λ x i. lowest-message order O (suc until) (unhandled order (plus_of m ∷ part.tally) part.done) x (still x i)) in
+          (λ x i. lowest-message order O (suc until) (unhandled order (plus_of m ∷ part.tally) part.done) x (still x i)) in
           omega arith
 
       high : min (order.time m) (lowest (suc until) (map order.time (unhandled order part.tally part.done))) ≤ lowest (suc until) (map order.time (unhandled order (plus_of m ∷ part.tally) part.done))
@@ -176,8 +176,8 @@ module _ {M S K N : Type 0} (f : Simulation M S K N) (O : IsOrder f.rules.order)
   plain-enabled q l rest v i m =
       let a : is_enabled f (Take q 0) v ≡ true = rw (lt-ltb q f.processes i) (ap (λ z. nat_lt 0 (length z)) m ∙ lt-ltb 0 (length (l ∷ rest)) (omega arith)) in
       let moved : step f (Take q 0) v ≡ took-home f O q l rest v =
-          ap (λ b. cond b (effect f (Take q 0) v) v) a ∙ takes-home f O q l rest v m in
+      ap (λ b. cond b (effect f (Take q 0) v) v) a ∙ takes-home f O q l rest v m in
       let b : is_enabled f (Arrive q) (took-home f O q l rest v) ≡ true =
-          rw (lt-ltb q f.processes i) (ap (λ z. nat_lt 0 (length z.tray)) (put_here q (delivered l (v.parts q)) v.parts) ∙
-          lt-ltb 0 (length ((v.parts q).tray ++ l ∷ [])) (let k = length-append (v.parts q).tray (l ∷ []) in omega (arith, k))) in
+      rw (lt-ltb q f.processes i) (ap (λ z. nat_lt 0 (length z.tray)) (put_here q (delivered l (v.parts q)) v.parts) ∙
+      lt-ltb 0 (length ((v.parts q).tray ++ l ∷ [])) (let k = length-append (v.parts q).tray (l ∷ []) in omega (arith, k))) in
       (a, (ap (is_enabled f (Arrive q)) moved ∙ b, tt))
