@@ -6,11 +6,16 @@ aimed one; those of several lines come to their ends together. Ports are taken i
 the frame at one port says when it comes to the next. Then some offsets are moved here and there, and what makes the
 frame later is kept. Other offsets may make it later still: what is found is reached, and no bound.
 """
+import contextlib
 import random
+from collections import namedtuple
 
 import afdx
 import bounds
+import files
+import runs
 import second_opinion
+from files import Fault
 
 # How often an offset is moved to see whether the frame comes later.
 MOVES = 200
@@ -129,10 +134,17 @@ class Aim:
         Those that do not meet are first offered when the aimed frame has arrived."""
         first, arrived = {}, self.arrival()
         for vl in self.net.vls.values():
-            drawn = next(afdx.words(seed, vl.id)) % (vl.jitter_ns + 1)
-            first[vl.id] = self.offers[vl.id] - drawn if vl.id in self.offers else arrived
+            first[vl.id] = self.offers[vl.id] - self.drawn(seed, vl) if vl.id in self.offers else arrived
         begin = -min(first.values())
         return {vl: moment + begin for vl, moment in first.items()}
+
+    @staticmethod
+    def drawn(seed, vl):
+        """The jitter of the first offer."""
+        return next(afdx.words(seed, vl.id)) % (vl.jitter_ns + 1)
+
+    def name(self):
+        return f"virtual link {self.vl.id} at {self.where} by {self.side}"
 
 
 def aimed(net, vl, where, side, found=None, moves=MOVES):
@@ -140,3 +152,112 @@ def aimed(net, vl, where, side, found=None, moves=MOVES):
     aim = Aim(net, found or bounds.Bounds(net), vl, where, side)
     aim.set_ahead()
     return aim, aim.improve(moves)
+
+
+# ---- runs ----
+
+HEAD = "vl,where,network,seed,plain_ns,aimed_ns,frame_ns,way_ns,bound_ns,wait_ns"
+
+
+class AimedRuns:
+    """The runs of a campaign that aims at virtual links, and what came of them: one for each of their destinations, each
+    network and each seed, beside that of the description with this seed."""
+
+    def __init__(self, net, vls, seeds, tables_of, moves=MOVES):
+        self.net, self.seeds, self.tables_of = net, seeds, tables_of
+        self.bounds = bounds.Bounds(net)
+        self.courses = []
+        for vl in vls:
+            for where in sorted(net.vls[vl].destinations, key=net.process.get):
+                for side in sorted(net.vls[vl].paths):
+                    if (where in (path[-1] for path in net.vls[vl].paths[side])) and (vl, where) in self.bounds.by_network:
+                        self.courses.append(aimed(net, vl, where, side, self.bounds, moves))
+        self.lines, self.done, self.status, self.failure = [], 0, 0, None
+
+    def count(self):
+        return len(self.seeds) * (1 + len(self.courses))
+
+    def plan(self):
+        """For each run its seed, and whom it is aimed at, or None."""
+        for seed in self.seeds:
+            yield seed, None
+            for course in self.courses:
+                yield seed, course
+
+    def runs(self):
+        for seed, course in self.plan():
+            if course is None:
+                yield runs.Run(f"seed {seed}", self.net.with_seed(seed, False))
+            else:
+                aim, frame = course
+                offsets = aim.offsets(seed)
+                arrives = offsets[aim.vl.id] + aim.drawn(seed, aim.vl) + frame
+                if arrives > self.net.until_ns:
+                    text = f"the run ends before the aimed frame arrives: until_ns must be {arrives} at the least"
+                    raise Fault(self.net.path, self.net.description.line("top", None, "until_ns"), text)
+                yield runs.Run(f"aimed at {aim.name()}, seed {seed}", self.net.with_offsets(seed, offsets))
+
+    def run(self, maker, keep, progress):
+        """Has all runs made, and takes what they print. The first one that fails ends it."""
+        progress.listen(maker)
+        plain = None
+        with contextlib.closing(maker.results(self.runs())) as results:
+            try:
+                for seed, course in self.plan():
+                    run, printed = next(results)
+                    tables = self.tables_of(self.net, run, printed.tables)
+                    if course is None:
+                        plain, name = tables, f"seed-{seed}"
+                    else:
+                        name = f"aimed-{1 + self.courses.index(course)}-seed-{seed}"
+                        self.lines.append(self.line(seed, *course, plain, tables))
+                    keep(name, run.text, printed.tables)
+                    self.done += 1
+                    progress.tell(self.done, None)
+            except runs.Failure as failure:
+                self.status, self.failure = 1, str(failure)
+            except Fault as fault:
+                self.status, self.failure = files.BAD, str(fault)
+            except files.ENDS as ended:
+                self.status, said = files.why(ended)
+                self.failure = f"{said}, after {self.done} of {self.count()} runs"
+            finally:
+                progress.end()
+
+    def line(self, seed, aim, frame, plain, tables):
+        """What a line of the table has."""
+        key = aim.vl.id, aim.where
+        bound, _ = self.bounds.latencies[key]
+        way = self.bounds.by_network[key][aim.side].longest
+        reached = [plain.latencies[key].greatest, tables.latencies[key].greatest, frame]
+        return Line(*key, aim.side, seed, *reached, way, bound, self.bounds.links[aim.vl.id].wait)
+
+    def above(self):
+        """The lines whose latency is above a bound: one of the two is wrong."""
+        is_above = lambda found, bound: bound is not None and found > bound
+        return [it for it in self.lines if is_above(max(it.plain_ns, it.aimed_ns), it.bound_ns) or is_above(it.frame_ns, it.way_ns)]
+
+    def table(self):
+        return "\n".join([HEAD, *(",".join(map(bounds.said, it)) for it in self.lines)]) + "\n"
+
+    def long_rows(self):
+        for it in self.lines:
+            for measure in HEAD.split(",")[4:]:
+                if getattr(it, measure) is not None:
+                    yield "aim", it.vl, it.where, measure, getattr(it, measure), {"network": it.network, "seed": it.seed}
+
+    def in_words(self):
+        """For each destination the greatest latency with offsets and without, beside its bound."""
+        found = {}
+        for it in self.lines:
+            found.setdefault((it.vl, it.where), []).append(it)
+        for (vl, where), ones in found.items():
+            best = max(ones, key=lambda it: it.frame_ns)
+            latency = max(it.aimed_ns for it in ones)
+            of = f"{latency * 100 / best.bound_ns:.1f} percent of its bound, {best.bound_ns} ns" if best.bound_ns else "it has no bound"
+            way = f"{best.frame_ns} of {best.way_ns} ns" if best.way_ns else f"{best.frame_ns} ns"
+            plain = max(it.plain_ns for it in ones)
+            yield f"virtual link {vl} at {where}: {latency} ns, {of}; from the release on {way}; as described {plain} ns"
+
+
+Line = namedtuple("Line", HEAD.split(","))
