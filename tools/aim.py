@@ -17,27 +17,26 @@ import runs
 import second_opinion
 from files import Fault
 
-# How often an offset is moved to see whether the frame comes later.
-MOVES = 200
+# How often an offset is moved to see whether the frame comes later, and how often all are set right again: with so many
+# frames that meet it, and with more of them less often.
+MOVES, OF_FRAMES, ROUNDS = 200, 20, 6
 
 
 class Meeting(second_opinion.Simulation):
-    """A run that notes when the first frame of a virtual link comes to each line's port, and to its destinations."""
+    """A run that notes when the first frame of each virtual link comes to each line's port, and to nodes by each network."""
 
-    def __init__(self, tree, vl):
-        self.vl, self.came = vl, {}
+    def __init__(self, tree):
+        self.came = {}
         super().__init__(tree)
 
     def put(self, t, p, q, frame, high):
-        if frame[0] == self.vl and frame[1] == 0:
-            self.came.setdefault(self.names[self.out[p, q]], t)
+        self.came.setdefault((frame[0], self.names[self.out[p, q]]), t)
         super().put(t, p, q, frame, high)
 
     def handle(self, t, p, variant, fields):
         if variant == "Arrive":
             frame = fields[1]
-            if frame[0] == self.vl and frame[1] == 0:
-                self.came.setdefault((self.names[p], frame[5]), t)
+            self.came.setdefault((frame[0], self.names[p], frame[5]), t)
         super().handle(t, p, variant, fields)
 
 
@@ -59,7 +58,8 @@ class Aim:
                 if other != vl and other not in self.meets:
                     self.meets[other] = place, hop.earliest(), hop.before and hop.before.port
         self.tree = self.of_these()
-        self.offers = {vl: 0}
+        # `due` has when each of the others is to be at the port where it meets the way.
+        self.offers, self.due = {vl: 0}, {}
 
     def of_these(self):
         """What the description says, with the virtual links alone that meet."""
@@ -69,26 +69,26 @@ class Aim:
         return tree
 
     def met(self):
-        """When the aimed frame comes to each port, and to the destination, with the offers so far; none other is offered."""
+        """When first frames come to ports and nodes, with the offers so far; none other is offered."""
         begin = -min(self.offers.values())
         rows = []
         for row in self.tree["vl"]:
             if row["id"] in self.offers:
                 moment = self.offers[row["id"]] + begin
                 rows.append(row | {"offset_ns": moment, "jitter_ns": 0, "period_ns": afdx.LATEST_NS})
-        run = Meeting(self.tree | {"vl": rows, "until_ns": afdx.LATEST_NS}, self.vl.id)
+        run = Meeting(self.tree | {"vl": rows, "until_ns": afdx.LATEST_NS})
         run.run()
         return {place: moment - begin for place, moment in run.came.items()}
 
-    def arrival(self):
+    def arrival(self, met=None):
         """How long after its offer the aimed frame is at the destination, or 0 where it is lost."""
-        return self.met().get((self.where, self.side), 0)
+        return (self.met() if met is None else met).get((self.vl.id, self.where, self.side), 0)
 
     def set_ahead(self):
         """Sets the others so that they meet the frame, port by port. Where they go behind it by their priority, they come
         before all that go ahead, so that one of them is being sent when these come."""
         for place, line in enumerate(self.lines):
-            came = self.met().get(line)
+            came = self.met().get((self.vl.id, line))
             if came is None:
                 return
             meeting = [other for other, (where, _, _) in self.meets.items() if where == place]
@@ -104,17 +104,33 @@ class Aim:
         for other in sorted(others, key=lambda it: (-self.net.vls[it].size, it)):
             _, earliest, up = self.meets[other]
             ahead = lines.get(up, behind)
+            self.due[other] = came - ahead
             self.offers[other] = came - ahead - earliest
             first = max(first, ahead)
             if up is not None:
                 lines[up] = ahead + (self.net.vls[other].size + afdx.BYTES_BETWEEN_FRAMES) * up.byte_ns
         return first
 
+    def set_right(self):
+        """The others delay each other on their own ways. So they are offered earlier by what they were late, or later,
+        some times over; the offers by which the frame came latest are kept."""
+        met = self.met()
+        best, kept = self.arrival(met), dict(self.offers)
+        for _ in range(ROUNDS):
+            for other, due in self.due.items():
+                came = met.get((other, self.lines[self.meets[other][0]]))
+                if came is not None:
+                    self.offers[other] += due - came
+            met = self.met()
+            if self.arrival(met) > best:
+                best, kept = self.arrival(met), dict(self.offers)
+        self.offers = kept
+
     def improve(self, moves):
         """Moves offers here and there, and keeps what makes the frame later."""
         draw, best = random.Random(f"{self.vl.id} {self.where} {self.side}"), self.arrival()
         others = sorted(self.meets)
-        for _ in range(moves if others else 0):
+        for _ in range(moves * OF_FRAMES // max(OF_FRAMES, len(others)) if others else 0):
             other = draw.choice(others)
             before = self.offers.get(other)
             frame = (self.net.vls[draw.choice(others)].size + afdx.BYTES_BETWEEN_FRAMES) * 80
@@ -151,6 +167,7 @@ def aimed(net, vl, where, side, found=None, moves=MOVES):
     """Who meets a virtual link on its way to a destination on a network, set so that it comes late, and how late it is."""
     aim = Aim(net, found or bounds.Bounds(net), vl, where, side)
     aim.set_ahead()
+    aim.set_right()
     return aim, aim.improve(moves)
 
 

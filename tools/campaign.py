@@ -11,6 +11,12 @@ and sums are added and leasts and greatests taken, exactly; so the merged tables
 DIR/greatest.csv has of the greatest latencies of the runs the least, the mean and the greatest. With --histograms each
 latency is counted (DIR/histograms.csv), and percentiles of the frames of all runs stand in DIR/greatest.csv.
 
+With --set a key of the description has several values in turn, or several keys each combination of theirs. DIR/sweep.csv
+and the page DIR/sweep.html tell what the values do, beside what the seeds do.
+
+With --aim the offsets are such that the frames of others meet those of a virtual link at each port of its way, just ahead
+of them. DIR/aim.csv tells how much of its bounds is then reached.
+
 With --each-outage each link and each switch is out in turn, for the whole run or from a moment on. DIR/outages.csv and the
 page DIR/outages.html tell what is then lost end to end, and what becomes late, beside the same runs without it.
 
@@ -55,6 +61,11 @@ examples:
   campaign.py net.toml --seeds 1 --first 42 --offsets --keep -o worst
         the run of the seed 42 once more, and its description: worst/seed-42.toml, which afdxsim and report.py can be
         given to look at what happened in it
+  campaign.py net.toml --set vl.157.bag_ms=4,8,16 --set link.3.mbit=10,100 --seeds 20 -o sweep
+        six combinations, each with twenty seeds: of the virtual link 157, and of the third link of the description.
+        Nodes have names, as node.SWA.latency_ns=8000,16000. sweep/sweep.html shows effects beside the spread of seeds
+  campaign.py net.toml --aim 157 --until 100000000 -o aim
+        how near 157 comes to its bound at each destination, in runs of 100 ms: aim/aim.csv
   campaign.py net.toml --each-outage -o outages
         what is lost and what becomes late without each link and each switch: outages/outages.html
   campaign.py net.toml --each-outage 50000000 --seeds 5 --keep -o outages
@@ -72,7 +83,7 @@ greatest latency in ns that it may have. Lines that are empty or begin with # ar
 
 status:
   0  each run was made and merged, and no limit is broken
-  1  a limit is broken; or a run failed. The first one that fails is named with its message and ends the campaign. The
+  1  a limit is broken, or with --aim a bound; or a run failed. The first one that fails is named with its message and ends the campaign. The
      runs of all seeds before it are in DIR/merged.csv
   2  a word is wrong, a file cannot be read or written, or it is not what it has to be: one line on error output names
      the file and the line, and nothing is written

@@ -1,10 +1,26 @@
-"""Tables, bounds and what comes of campaigns as JSON, in one long form: a list of objects with `kind`, `vl`, `where`,
-`measure` and `value`, one a line. Each value is a whole number, so that who reads it needs no floats: where there is none,
+#!/usr/bin/env python3
+"""Writes tables of a run or of a campaign as JSON in one long form, so that pandas and others read whole numbers: a list of
+objects with `kind`, `vl`, `where`, `measure` and `value`, one a line. Each value is a whole number; where there is none,
 there is no object. `vl` is null where a number is of no virtual link.
 
-    pandas.read_json("tables.json")
+bounds.py, second_opinion.py and campaign.py write it themselves with --json.
 """
+import argparse
 import json
+import sys
+
+import afdx
+import files
+
+EXAMPLES = """
+examples:
+  afdxsim seq net.toml > tables.csv
+  long_form.py net.toml tables.csv -o tables.json
+        the tables that the program printed; or merged ones
+  python3 -c 'import pandas; print(pandas.read_json("tables.json"))'
+
+status: 0; 2 where a word is wrong, a file cannot be read or written, or TABLES are not those of NET.
+"""
 
 KEYS = ("kind", "vl", "where", "measure", "value")
 
@@ -33,12 +49,37 @@ def rows_of_tables(latencies, losses):
         yield "dropped", row.vl, row.where, row.cause, row.count
 
 
-def rows_of_csv(kind, text, measures=None):
-    """The rows of a text of CSV with the columns vl and where: of each other column, or of some, what is a whole number."""
+def rows_of_csv(kind, text, measures):
+    """The rows of a text of CSV with the columns vl and where: of some other columns what is a whole number."""
     head, *lines = text.splitlines()
     columns = head.split(",")
     for line in lines:
         cells = dict(zip(columns, line.split(",")))
-        for measure in measures or columns:
-            if measure not in ("vl", "where") and cells.get(measure, "").isdigit():
+        for measure in measures:
+            if cells[measure].isdigit():
                 yield kind, int(cells["vl"]) if cells["vl"] else None, cells["where"], measure, int(cells[measure])
+
+
+def words_of(arguments):
+    parser = argparse.ArgumentParser(
+        description=__doc__, epilog=EXAMPLES, formatter_class=argparse.RawDescriptionHelpFormatter
+    )
+    parser.add_argument("net", metavar="NET", help="the description (TOML)")
+    parser.add_argument("tables", metavar="TABLES", help="the tables that the program printed for it, or merged ones")
+    parser.add_argument("-o", "--output", metavar="FILE", help="the file to write (default: standard output)")
+    return parser.parse_args(arguments)
+
+
+@files.tool
+def main(arguments=None):
+    words = words_of(arguments)
+    tables = afdx.Tables(words.tables, afdx.Network(words.net))
+    text = text_of(rows_of_tables(tables.latencies.values(), tables.losses.values()))
+    if words.output:
+        files.write_whole(words.output, text)
+    else:
+        files.write_out(text)
+
+
+if __name__ == "__main__":
+    sys.exit(main())
