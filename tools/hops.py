@@ -71,3 +71,59 @@ class Hops:
     def greatest(self, kind, vl, where):
         found = self.of.get((kind, vl, where))
         return found and found.greatest
+
+
+# ---- measured beside bounds ----
+
+# How a cell is marked, as the page numbers it.
+BAD = 2
+
+
+def tone(measured, bound):
+    return BAD if measured is not None and bound is not None and measured > bound else 0
+
+
+class OnTheWay:
+    """What was measured on the way beside its bound, each of which may be absent, column by column: of destinations,
+    of hops, of switches and of ports. `bound` answers that of a kind, a virtual link and a place, or None."""
+
+    def __init__(self, net, hops, bound):
+        self.net = net
+        self.measured = hops.greatest if hops else lambda *_: None
+        self.bound = bound or (lambda *_: None)
+
+    def columns(self, kinds, places, names):
+        """The columns of places, each a virtual link or None and a name: those of these names, and for each kind what was
+        measured, its bound and its mark."""
+        found = {name: [place[i] for place in places] for i, name in enumerate(names) if name}
+        for kind in kinds:
+            pairs = [(self.measured(kind, *place), self.bound(kind, *place)) for place in places]
+            found[kind], found[kind + "_bound"] = [it for it, _ in pairs], [it for _, it in pairs]
+            found[kind + "_tone"] = [tone(*pair) for pair in pairs]
+        return found
+
+    def destinations(self):
+        places = [(vl.id, where) for vl in self.net.vls.values() for where in vl.destinations]
+        found = self.columns(["network", "network_a", "network_b", "skew"], places, ["vl", "where"])
+        waits = self.columns(["wait"], [(vl, self.net.vls[vl].source) for vl, _ in places], [])
+        return found | waits | {"skew_max": [self.net.vls[vl].skew_ns for vl, _ in places]}
+
+    def hops(self):
+        places = [(vl.id, line) for vl in self.net.vls.values() for line in vl.lines]
+        return self.columns(["delay"], places, ["vl", "line"])
+
+    def switches(self):
+        switches = {node.name for node in self.net.nodes.values() if node.kind == "switch"}
+        in_order = lambda vl: sorted(vl.places & switches, key=self.net.process.get)
+        places = [(vl.id, name) for vl in self.net.vls.values() for name in in_order(vl)]
+        return self.columns(["jitter"], places, ["vl", "where"]) | {"allowed": [self.net.vls[vl].policing_ns for vl, _ in places]}
+
+    def ports(self):
+        places = [(None, line) for line in self.net.mbit if self.net.users[line]]
+        holds = [self.net.nodes[line.split(">")[0]].port_bytes for _, line in places]
+        return self.columns(["backlog"], places, [None, "line"]) | {"holds": holds}
+
+    def above(self):
+        """How often something measured is above its bound."""
+        tables = [self.destinations(), self.hops(), self.switches(), self.ports()]
+        return sum(mark == BAD for table in tables for key, marks in table.items() if key.endswith("_tone") for mark in marks)
