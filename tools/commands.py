@@ -209,6 +209,8 @@ def by_program(name, words):
             raise Mistake("the second opinion is one of seq NET [--trace FILE], and of page")
         tell(it.says)
         return subprocess.run([sys.executable, os.path.join(HERE, "second_opinion.py"), *words]).returncode
+    if len(read) < OF_PROGRAM[name].files:
+        raise Mistake(f"usage: afdx {name} {OF_PROGRAM[name].usage}")
     if written:
         raise NoProgram(
             f"{written[0]} writes a file, which `rt try` cannot keep: `afdx build` builds the proved program"

@@ -62,6 +62,8 @@ class CrateTimes:
         self.first, self.root = first, os.path.realpath(root)
         # For each process what it does, and its time; both by its number and its beginning, as numbers come again.
         self.works, self.times, self.ended = {}, {}, threading.Event()
+        # What is done now, and since when.
+        self.at = {}
 
     def __enter__(self):
         self.thread = threading.Thread(target=self.go, daemon=True)
@@ -77,7 +79,7 @@ class CrateTimes:
             self.look()
 
     def look(self):
-        found = processes()
+        found, at = processes(), {}
         for number in below(found, self.first):
             _, seconds, began = found[number]
             key = number, began
@@ -85,6 +87,14 @@ class CrateTimes:
             if self.works.get(key) is None:
                 self.works[key] = work_of(number, self.root)
             self.times[key] = max(seconds, self.times.get(key, 0))
+            if work := self.works[key]:
+                at[work] = self.at.get(work, now())
+        self.at = at
+
+    def at_work(self):
+        """What is done now and since when, in words."""
+        found = sorted(self.at.items(), key=lambda it: it[1])
+        return ", ".join(f"{name}{'' if kind == 'proof' else f' ({kind})'} since {minutes(now() - since)}" for (name, kind), since in found)
 
     def seconds(self):
         """For each crate its seconds by kind."""
@@ -107,7 +117,7 @@ def in_lines(seconds):
 
 
 def minutes(seconds):
-    return f"{seconds:.0f} s" if seconds < 100 else f"{seconds / 60:.0f} min"
+    return f"{seconds:.0f} s" if seconds < 120 else f"{seconds / 60:.0f} min"
 
 
 def now():

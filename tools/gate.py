@@ -16,6 +16,7 @@ import subprocess
 import sys
 import time
 
+import by_rt
 import crate_times
 import program
 from crate_times import minutes, now
@@ -28,6 +29,8 @@ MODULES = {
 }
 # Debian's packages are for this interpreter.
 DEBIAN = "/usr/bin/python3"
+# How often it tells what is proved, in s.
+EACH = 60
 INSTALL = ["apt-get", "install", "-y", "--no-install-recommends"]
 
 
@@ -121,8 +124,11 @@ class Progress:
         if not found or found[1] not in self.crates:
             return
         (self.edits if "must-fail" in found[0] else self.done).add(found[1])
+        tell(self.says())
+
+    def says(self):
         edits = f", edits of {len(self.edits)} of {len(self.with_edits)} crates" if self.with_edits else ""
-        tell(f"crate {len(self.done)} of {len(self.crates)}{edits}, {minutes(now() - self.begin)}{self.of_last()}")
+        return f"crate {len(self.done)} of {len(self.crates)}{edits}, {minutes(now() - self.begin)}{self.of_last()}"
 
 
 def crates_of():
@@ -136,8 +142,9 @@ def crates_of():
 # ---- what is run ----
 
 
-def said_by(command, take=lambda line: None, times=None):
-    """What a command says, which is shown as it comes, and its status."""
+def said_by(command, progress=None, times=None):
+    """What a command says, which is shown as it comes, and its status. Of `rt ci` it tells besides how far it is, and takes
+    down what each crate takes."""
     said = []
     try:
         run = subprocess.Popen(command, stdout=subprocess.PIPE, stderr=subprocess.STDOUT, text=True, errors="replace")
@@ -149,13 +156,15 @@ def said_by(command, take=lambda line: None, times=None):
         for line in run.stdout:
             print(line, end="", flush=True)
             said.append(line)
-            take(line.rstrip("\n"))
+            if progress:
+                progress.take(line.rstrip("\n"))
         return "".join(said), run.wait()
 
-    if times is None:
+    if progress is None:
         return listen()
     with crate_times.CrateTimes(run.pid, os.getcwd()) as watched:
-        found = listen()
+        with by_rt.Meanwhile(lambda _: f"{progress.says()}; {watched.at_work()}", EACH, tell):
+            found = listen()
     times.update(watched.seconds())
     return found
 
@@ -194,7 +203,7 @@ def prove(counts, last, times):
     """Runs `rt ci`, and writes down what the program that it leaves was built of."""
     kit_line = program.kit(os.getcwd())
     sources = program.sum_of_sources(kit_line, os.getcwd())
-    said, status = said_by(["rt", "ci"], Progress(last).take, times)
+    said, status = said_by(["rt", "ci"], Progress(last), times)
     counts.add(counts_of_rt(said), status)
     if not counts.failed and os.path.isfile(program.BUILT) and program.sum_of_sources(kit_line, os.getcwd()) == sources:
         program.write_record(kit_line, sources, f"{counts.passed} passed, 0 failed", os.getcwd())

@@ -56,7 +56,7 @@ class Gate(unittest.TestCase):
         os.chmod(self.folder, 0o755)
         os.mkdir(os.path.join(self.folder, "tools"))
         shutil.copy(os.path.join(HERE, "..", "test"), self.folder)
-        for name in ("gate.py", "program.py", "crate_times.py"):
+        for name in ("gate.py", "program.py", "crate_times.py", "by_rt.py"):
             shutil.copy(os.path.join(HERE, name), os.path.join(self.folder, "tools"))
         # What the tests need is there, whatever this machine has.
         for name in gate.MODULES:
@@ -70,6 +70,10 @@ class Gate(unittest.TestCase):
         with open(path, "w") as out:
             out.write(text)
         os.chmod(path, mode)
+
+    def text(self, name):
+        with open(os.path.join(self.folder, name)) as file:
+            return file.read()
 
     def script(self, name, text):
         self.write(name, "#!/bin/sh\n" + textwrap.dedent(text), 0o755)
@@ -188,6 +192,13 @@ class Gate(unittest.TestCase):
         self.assertRegex(row, r"^test:   low +[23] +[12] +[12] +0$")
         self.assertTrue(any(re.match(r"test:   test_it.py +0$", line) for line in lines))
         self.assertRegex(lines[lines.index(last) - 1], "^test: proofs and edits .*, tools .*, all .*$")
+
+    def test_it_tells_at_times_what_is_proved(self):
+        self.sources()
+        self.write("tools/gate.py", self.text("tools/gate.py").replace("\nEACH = 60\n", "\nEACH = 2\n"))
+        lines = self.ended(WORKS.replace("{python}", sys.executable))[0]
+        told = [line for line in lines if re.match(r"test: crate 0 of 2, .*; low( \(tests\))? since \d s$", line)]
+        self.assertTrue(told, lines)
 
     def test_the_program_gets_a_record_where_all_was_proved(self):
         self.sources()
