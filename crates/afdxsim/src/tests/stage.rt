@@ -7,6 +7,8 @@
 //!
 //! A call that is refused memory is made again, where it left all as it was; `work` goes on with what its first try left. So a row holds
 //! with ample memory, and where any one growth of its calls is refused.
+ghost use Rattle.std.specs.Prelude.{◌≡◌, true};
+
 use nodes::Node;
 use std::cell::Cell;
 use std::test::Fail;
@@ -17,9 +19,9 @@ use worker_pool::{
 
 /// An exchange of a network, its processes, and their gate.
 #[derive(Drop)]
-pub struct Stage<'a, J: NetworkRun> {
-    pub exchange: Exchange<'a, Node, Of<J>>,
-    pub helds: Vec<Held<'a, Node, Of<J>>>,
+pub struct Stage<J: NetworkRun> {
+    pub exchange: Exchange<Node, Of<J>>,
+    pub helds: Vec<Held<Node, Of<J>>>,
     pub gate: CountingGate,
     /// Which calls were refused memory, a line each.
     pub refused: String,
@@ -65,16 +67,6 @@ pub struct Word<'w> {
     pub third: u64,
 }
 
-// What a call answers.
-#[derive(Clone, Copy)]
-enum Answer {
-    Number(u64),
-    Is(bool),
-    At(Step),
-    Done,
-    Nothing,
-}
-
 /// The word that this text writes.
 pub fn word_of(text: &str) -> Result<Word<'_>, Fail> {
     let mut pieces = text.split(':');
@@ -102,26 +94,28 @@ fn small(number: u64) -> u32 {
     u32::try_from(number).unwrap_or(u32::MAX)
 }
 
-impl<'a, J: NetworkRun> Stage<'a, J> {
+impl<J: NetworkRun> Stage<J> {
     /// Plays a word, and tells what it answers.
-    pub fn play(&mut self, word: &str, told: &mut String) -> Result<(), Fail> {
-        let word = word_of(word)?;
+    pub fn play(&mut self, text: &str, told: &mut String) -> Result<(), Fail>
+        requires { J.keeps ≡ true }
+    {
+        let word = word_of(text)?;
+        told.reserve(64)?;
         let before = self.seen(word);
-        let mut answer = self.act(word)?;
-        if answer_is_memory(&answer) && self.seen(word) == before {
-            self.note_refused(word.name)?;
-            answer = self.act(word)?;
+        let mut answer = self.act(word, told);
+        if answer == Err(PoolFault::OutOfMemory) && self.seen(word) == before {
+            self.note_refused(word)?;
+            answer = self.act(word, told);
         }
         match answer {
-            Ok(answer) => tell(answer, told),
-            Err(fault) => tell_fault(fault, told),
+            Ok(()) => Ok(()),
+            Err(fault) => Ok(told.push_str(name_of(fault))?),
         }
     }
 
-    fn note_refused(&mut self, call: &str) -> Result<(), Fail> {
-        self.refused.push_str(call)?;
-        self.refused.push_str(" was refused memory\n")?;
-        Ok(())
+    fn note_refused(&mut self, word: Word<'_>) -> Result<(), PoolFault> {
+        let call = word.name;
+        Ok(write!(self.refused, "{call} was refused memory\n")?)
     }
 
     // What a refused call leaves as it was: the count of steps, GVT, and the mail, the block and the mark of its process.
@@ -134,75 +128,70 @@ impl<'a, J: NetworkRun> Stage<'a, J> {
         (self.exchange.steps(), self.exchange.gvt(), mail, held)
     }
 
-    fn act(&mut self, word: Word<'_>) -> Result<Result<Answer, PoolFault>, Fail> {
-        match word.name {
-            "collect" => self.collect(word),
-            "work" => self.work(word),
-            "post" => self.post(word),
-            "publish" => Ok(self.publish()),
-            _ => Ok(Ok(self.asked(word)?)),
+    // What the call answers, or what is asked of the exchange, the gate or the process.
+    fn act(&mut self, word: Word<'_>, told: &mut String) -> Result<(), PoolFault>
+        requires { J.keeps ≡ true }
+    {
+        let number = match word.name {
+            "collect" => return self.collect(word, told),
+            "work" => self.work(word)?,
+            "post" => return self.post(word, told),
+            "publish" => publish(&mut self.exchange)?.ns(),
+            "steps" => self.exchange.steps(),
+            "step" => return tell_step(self.exchange.step_at(word.first), told),
+            "gvt" => self.exchange.gvt().ns(),
+            "mail" => self.letters(word),
+            "before" => self.gate.before.get(),
+            "after" => self.gate.after.get(),
+            _ => return self.ask(word, told),
+        };
+        Ok(write!(told, "{number}")?)
+    }
+
+    fn collect(&mut self, word: Word<'_>, told: &mut String) -> Result<(), PoolFault> {
+        match self.helds.get_mut(word.first as usize) {
+            Some(held) if held.pending() == 0 => {
+                let count = collect(held, &mut self.exchange, small(word.second))?;
+                Ok(write!(told, "{count}")?)
+            }
+            _ => Ok(told.push_str("none")?),
         }
     }
 
-    fn collect(&mut self, word: Word<'_>) -> Result<Result<Answer, PoolFault>, Fail> {
-        let held = self.helds.get_mut(word.first as usize).ok_or("no process")?;
-        if held.pending() != 0 {
-            return Err("it has a block")?;
-        }
-        let count = collect(held, &mut self.exchange, small(word.second));
-        Ok(count.map(|count| Answer::Number(u64::from(count))))
-    }
-
-    fn work(&mut self, word: Word<'_>) -> Result<Result<Answer, PoolFault>, Fail> {
-        let held = self.helds.get_mut(word.first as usize).ok_or("no process")?;
+    // How many steps joined the block, those before a refusal among them: then it goes on.
+    fn work(&mut self, word: Word<'_>) -> Result<u64, PoolFault> {
+        let Some(held) = self.helds.get_mut(word.first as usize) else {
+            return Ok(0);
+        };
         let (turn, before) = (small(word.second), held.pending());
-        let mut count = work(held, turn, word.third, &self.gate);
+        let count = work(held, turn, word.third, &self.gate);
+        if count != Err(PoolFault::OutOfMemory) {
+            return count;
+        }
         let left = held.pending().saturating_sub(before);
-        if count == Err(PoolFault::OutOfMemory) {
-            count = work(held, turn, word.third, &self.gate);
-            self.note_refused(word.name)?;
-            return Ok(count.map(|count| Answer::Number(count.saturating_add(left))));
+        let rest = work(held, turn, word.third, &self.gate)?;
+        self.note_refused(word)?;
+        Ok(rest.saturating_add(left))
+    }
+
+    fn post(&mut self, word: Word<'_>, told: &mut String) -> Result<(), PoolFault> {
+        match self.helds.get_mut(word.first as usize) {
+            Some(held) => post(held, &mut self.exchange)?,
+            None => {}
         }
-        Ok(count.map(|count| Answer::Number(count)))
+        Ok(told.push_str("ok")?)
     }
 
-    fn post(&mut self, word: Word<'_>) -> Result<Result<Answer, PoolFault>, Fail> {
-        let held = self.helds.get_mut(word.first as usize).ok_or("no process")?;
-        Ok(post(held, &mut self.exchange).map(|_| Answer::Done))
-    }
-
-    fn publish(&mut self) -> Result<Answer, PoolFault> {
-        let gvt = publish(&mut self.exchange)?;
-        Ok(Answer::Number(gvt.ns()))
-    }
-
-    fn asked(&self, word: Word<'_>) -> Result<Answer, Fail> {
-        match word.name {
-            "steps" | "step" | "gvt" | "mail" => Ok(self.asked_of_exchange(word)),
-            "before" => Ok(Answer::Number(self.gate.before.get())),
-            "after" => Ok(Answer::Number(self.gate.after.get())),
-            _ => self.asked_of_held(word),
-        }
-    }
-
-    fn asked_of_exchange(&self, word: Word<'_>) -> Answer {
-        match word.name {
-            "steps" => Answer::Number(self.exchange.steps()),
-            "step" => at(self.exchange.step_at(word.first)),
-            "gvt" => Answer::Number(self.exchange.gvt().ns()),
-            _ => Answer::Number(self.letters(word)),
-        }
-    }
-
-    fn asked_of_held(&self, word: Word<'_>) -> Result<Answer, Fail> {
+    fn ask(&self, word: Word<'_>, told: &mut String) -> Result<(), PoolFault> {
         let Some(held) = self.helds.get(word.first as usize) else {
-            return Ok(Answer::Nothing);
+            return Ok(told.push_str("none")?);
         };
         match word.name {
-            "pending" => Ok(Answer::Number(held.pending())),
-            "fits" => Ok(Answer::Is(self.exchange.fits(held))),
-            _ => Err("no such word")?,
+            "pending" => write!(told, "{}", held.pending())?,
+            "fits" if self.exchange.fits(held) => told.push_str("yes")?,
+            _ => told.push_str("no")?,
         }
+        Ok(())
     }
 
     // How many letters there are in the mail of a process, up to 100.
@@ -218,51 +207,26 @@ impl<'a, J: NetworkRun> Stage<'a, J> {
     }
 }
 
-fn at(step: Option<Step>) -> Answer {
-    match step {
-        Some(step) => Answer::At(step),
-        None => Answer::Nothing,
-    }
-}
-
-fn answer_is_memory(answer: &Result<Answer, PoolFault>) -> bool {
-    match answer {
-        Err(PoolFault::OutOfMemory) => true,
-        _ => false,
-    }
-}
-
-fn tell(answer: Answer, told: &mut String) -> Result<(), Fail> {
-    match answer {
-        Answer::Number(number) => write!(told, "{number}")?,
-        Answer::Is(true) => told.push_str("yes")?,
-        Answer::Is(false) => told.push_str("no")?,
-        Answer::At(step) => tell_step(step, told)?,
-        Answer::Done => told.push_str("ok")?,
-        Answer::Nothing => told.push_str("none")?,
-    }
-    Ok(())
-}
-
-fn tell_fault(fault: PoolFault, told: &mut String) -> Result<(), Fail> {
-    told.push_str(match fault {
+// How a row tells a refusal.
+fn name_of(fault: PoolFault) -> &'static str {
+    match fault {
         PoolFault::OutOfMemory => "memory",
         PoolFault::Exhausted => "exhausted",
         PoolFault::JournalFull => "full",
         PoolFault::Spawn => "spawn",
         PoolFault::Torn => "torn",
-    })?;
-    Ok(())
+    }
 }
 
-fn tell_step(step: Step, told: &mut String) -> Result<(), Fail> {
+fn tell_step(step: Option<Step>, told: &mut String) -> Result<(), PoolFault> {
     match step {
-        Step::Take { process, place } => write!(told, "T:{process}:{place}")?,
-        Step::Arrive { process } => write!(told, "A:{process}")?,
-        Step::Run { process } => write!(told, "R:{process}")?,
-        Step::Post { process } => write!(told, "P:{process}")?,
-        Step::Gvt => told.push_str("G")?,
-        Step::Commit { process } => write!(told, "C:{process}")?,
+        Some(Step::Take { process, place }) => write!(told, "T:{process}:{place}")?,
+        Some(Step::Arrive { process }) => write!(told, "A:{process}")?,
+        Some(Step::Run { process }) => write!(told, "R:{process}")?,
+        Some(Step::Post { process }) => write!(told, "P:{process}")?,
+        Some(Step::Gvt) => told.push_str("G")?,
+        Some(Step::Commit { process }) => write!(told, "C:{process}")?,
+        None => told.push_str("none")?,
     }
     Ok(())
 }

@@ -1,4 +1,5 @@
 //! Rows of elements in hand.
+use crate::tests::node_rows;
 use crate::tests::playing::told_by;
 use crate::tests::words::{byte, long, numbers, size};
 use bag_regulator::BagRegulator;
@@ -7,14 +8,13 @@ use output_port::Port;
 use policer::{Account, Measure};
 use redundancy::Redundancy;
 use std::alloc::{AllocError, Global};
-use std::test::Fail;
 
 // An element with its fixed numbers, and the events that it is given; then its answers, the state that it comes to, and the states to
 // which undoing the events leads back, one after another, up to the first.
 //
 // A regulator has its BAG in ns, its depth and its sub-virtual links, an account the greatest frame in bytes, BAG and jitter in ns, and
 // behind them `frames` where it counts frames, redundancy management the greatest skew in ns, a port its bytes.
-const ROWS: &str = "\
+pub const ROWS: &str = "\
 regulator 1000000 2 1, offer@0 offer@10 offer@20 offer@30 => Released 0:0:0 Kept, release@1000000 Kept Dropped | (1 Some(0)) (1 Some(0)) (1 Some(0)) (1 Some(0)) (0 None)
 regulator 1000000 2 1, offer@0 offer@10 offer@20 release@999999 release@1000000 release@2000000 => Released 0:0:0 Kept, release@1000000 Kept Nothing Released 1:10:1000000, release@2000000 Released 2:20:2000000 | (3 Some(2000000)) (2 Some(1000000)) (1 Some(0)) (1 Some(0)) (1 Some(0)) (1 Some(0)) (0 None)
 regulator 1000000 0 1, offer@0 offer@10 => Released 0:0:0 Dropped | (1 Some(0)) (1 Some(0)) (0 None)
@@ -64,23 +64,8 @@ port 100, low:1:64 high:2:80 free free free => Started 1 for 6720 Kept Started 2
 port 0, low:1:64 low:2:64 => Started 1 for 6720 Dropped | (busy 0) (busy 0) (idle 0)
 port 1048576, low:1:64 low:2:1518 => Started 1 for 6720 Kept | (busy 1518) (busy 0) (idle 0)";
 
-// A row that finds no memory is played once more, so that the rows hold also where an allocation was refused.
-#[test]
-fn elements_answer_and_undo_as_the_rows_tell(rt: HostRuntime) -> Result<(), Fail> {
-    for line in ROWS.lines() {
-        let (row, wanted) = line.split_once(" => ").ok_or("a row")?;
-        let (opening, script) = row.split_once(',').ok_or("an opening")?;
-        let told = match tells(rt.alloc(), opening, script) {
-            Ok(told) => told,
-            Err(_) => tells(rt.alloc(), opening, script)?,
-        };
-        assert_eq!(rt; told.as_str(), wanted, "{row}");
-    }
-    Ok(())
-}
-
-// What the element that is opened so tells of the script; `none` where its numbers are beyond the limits.
-fn tells(alloc: Global, opening: &str, script: &str) -> Result<String, AllocError> {
+// What the element that is opened so tells of the script, `none` where its numbers are beyond the limits; or what a node does.
+pub fn tells(alloc: Global, opening: &str, script: &str) -> Result<String, AllocError> {
     let (label, written) = opening.split_once(' ').unwrap_or((opening, ""));
     let fixed = numbers(written);
     match label {
@@ -88,7 +73,8 @@ fn tells(alloc: Global, opening: &str, script: &str) -> Result<String, AllocErro
         "account" => of_account(alloc, measure_in(written), fixed, script),
         "integrity" => told_by(alloc, Integrity::default(), script),
         "redundancy" => of_redundancy(alloc, fixed, script),
-        _ => of_port(alloc, fixed, script),
+        "port" => told_by(alloc, Port::new(alloc, long(fixed[0]))?, script),
+        _ => node_rows::tells(alloc, opening, script),
     }
 }
 
@@ -126,9 +112,4 @@ fn of_redundancy(alloc: Global, fixed: [u64; 8], script: &str) -> Result<String,
         Some(redundancy) => told_by(alloc, redundancy, script),
         None => String::from_str(alloc, "none"),
     }
-}
-
-fn of_port(alloc: Global, fixed: [u64; 8], script: &str) -> Result<String, AllocError> {
-    let [bytes, ..] = fixed;
-    told_by(alloc, Port::new(alloc, long(bytes))?, script)
 }

@@ -9,7 +9,6 @@ use output_port::Port;
 use reverse::{Actor, Sends};
 use std::alloc::{AllocError, Global};
 use std::fmt::Write;
-use std::test::Fail;
 use traffic::offers;
 use vlink::{Message, Note, VlId};
 
@@ -19,7 +18,7 @@ use vlink::{Message, Note, VlId};
 //
 // In place of a process, the offers of the network: the first words of PCG for the state 42 and the stream 54, 2707161783 and 2068313097,
 // leave 326 and 851 modulo 1001.
-const ROWS: &str = "\
+pub const ROWS: &str = "\
 one 0, offer@0:1.64 => 3.0.0/carry@5760:1.64.0.0.0.0 0.0.1/free@6720:0 ; | #2 (1 Some(0)) (busy 0) #0 (0 None) (idle 0)
 short 0, offer@0:1.64 => 3.0.0/carry@5760:1.64.0.0.0.0 ; | #1 (1 Some(0)) (busy 0) #0 (0 None) (idle 0)
 one 2, arrive@5860:0:1.64 arrive@5860:0:1.64 => 2.2.0/enqueue@21860:1:1.64.0.0.0.0 ; lost 1 Policed 64 ; | #1 (idle 0) (idle 0) #1 (idle 0) (idle 0) #0 (idle 0) (idle 0)
@@ -103,23 +102,8 @@ fn tell_note(note: &Note, told: &mut String) -> Result<(), AllocError> {
     }
 }
 
-// A row that finds no memory is played once more.
-#[test]
-fn nodes_send_note_and_undo_as_the_rows_tell(rt: HostRuntime) -> Result<(), Fail> {
-    for line in ROWS.lines() {
-        let (row, wanted) = line.split_once(" => ").ok_or("a row")?;
-        let (process, script) = row.split_once(',').ok_or("a process")?;
-        let told = match tells(rt.alloc(), process, script) {
-            Ok(told) => told,
-            Err(_) => tells(rt.alloc(), process, script)?,
-        };
-        assert_eq!(rt; told.as_str(), wanted, "{row}");
-    }
-    Ok(())
-}
-
 // What this process tells of the script.
-fn tells(alloc: Global, process: &str, script: &str) -> Result<String, AllocError> {
+pub fn tells(alloc: Global, process: &str, script: &str) -> Result<String, AllocError> {
     let (network, number) = process.split_once(' ').unwrap_or((process, ""));
     let text = text_of(alloc, network)?;
     match read(alloc, &text) {
