@@ -4,17 +4,11 @@ ghost use Rattle.output_port.specs.declared.event.PortRecord.TheVariants as save
 ghost use Rattle.output_port.specs.declared.event.PutRecord.{PutRecord};
 ghost use Rattle.nodes.specs.rules.Changes.{port_change, transit_change};
 
+use crate::copies::CopiesRecord;
 use crate::receiving::ReceivingRecord;
 use bag_regulator::RegRecord;
 use output_port::{PortRecord, PutRecord};
 use policer::AccountRecord;
-
-/// What became of the copies of a frame, at the port of each network that one was put to.
-#[derive(Clone, Copy, Debug, PartialEq, Eq)]
-pub struct CopiesRecord {
-    pub a: Option<PutRecord>,
-    pub b: Option<PutRecord>,
-}
 
 /// What an event changed in a node: the place of the element that it changed, and what that kept of it.
 #[derive(Clone, Copy, Debug, PartialEq, Eq)]

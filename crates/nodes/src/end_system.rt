@@ -13,13 +13,12 @@ ghost use Rattle.nodes.specs.rules.EndSystem.{end_system, lost, offered_frame, r
 ghost use Rattle.nodes.specs.undoing.Changes.{end_system_undone, modified, source_undone, reception_undone, IsLastOfSource, IsLastOfEndSystem};
 
 use crate::change::Change;
+use crate::copies::take_back;
 use crate::finding::place_of;
-use crate::networks::is_on;
 use crate::ports::Ports;
 use crate::receiving::ReceivingRecord;
 use crate::reception::Reception;
-use crate::sending::{lose_offered, regulate};
-use crate::source::Source;
+use crate::source::{Source, lose_offered};
 use bag_regulator::{BagRegulator, RegEvent, RegRecord};
 use output_port::Port;
 use reverse::Outbound;
@@ -97,7 +96,7 @@ impl EndSystem {
                 copies,
                 kept,
             } => {
-                self.ports.take_back_copies(copies);
+                take_back(copies, &mut self.ports);
                 self.take_back_source(place, kept);
             }
             Change::Reception { place, kept } => self.take_back_reception(place, kept),
@@ -143,7 +142,7 @@ impl EndSystem {
             return Change::Nothing;
         };
         let source = &mut self.sources[place];
-        regulate(at, event, place as u16, source, &mut self.ports, out)
+        source.regulate(at, event, place as u16, &mut self.ports, out)
     }
 
     /// A frame has come. It is lost where its virtual link does not end here on its network.
@@ -188,7 +187,7 @@ impl EndSystem {
         ensures small { IfSome result (λ place. place < 2 ^ 16) }
     {
         let place = place_of(self.receptions.as_slice(), vl)?;
-        if is_on(&self.receptions[place].end, net) {
+        if self.receptions[place].end.is_on(net) {
             Some(place)
         } else {
             None

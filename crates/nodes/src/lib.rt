@@ -2,20 +2,19 @@
 #![tactic(auto)]
 
 mod change;
+mod copies;
 mod end_system;
 mod equipment;
 mod finding;
 mod line;
 mod making;
 mod meeting;
-mod networks;
 mod node;
 mod opening;
 mod outputs;
 mod ports;
 mod receiving;
 mod reception;
-mod sending;
 mod source;
 mod switch;
 mod transit;

@@ -7,14 +7,12 @@ ghost use Rattle.nodes.specs.rules.Ports.{answered, changed, exists, outlet_at, 
 ghost use Rattle.output_port.specs.Port.{free_answer, put_answer};
 ghost use Rattle.output_port.specs.declared.event.Priority.{Priority};
 ghost use Rattle.output_port.specs.declared.event.PortEvent.TheVariants.{Put, Free};
-ghost use Rattle.nodes.specs.undoing.Ports.{restored, uncopied, unput, IsLastAtPort, IsPortValue};
+ghost use Rattle.nodes.specs.undoing.Ports.{restored, unput, IsLastAtPort, IsPortValue};
 
-use crate::change::CopiesRecord;
-use crate::networks::port_of;
 use output_port::{FreeRecord, Port, PortRecord, Priority, PutRecord};
 use reverse::Outbound;
 use std::marker::Model;
-use vlink::{Body, Cause, Frame, Net, Time, busy_ns, last_bit_ns};
+use vlink::{Body, Cause, Frame, Time, busy_ns, last_bit_ns};
 
 /// The line that a port leads into.
 #[derive(Clone, Copy, Debug, PartialEq, Eq)]
@@ -145,17 +143,9 @@ impl Ports {
         }
     }
 
-    /// Takes the copies of a frame back, B before A.
-    pub fn take_back_copies(&mut self, copies: CopiesRecord)
-        ensures { self.new ≡ uncopied copies self.old }
-    {
-        self.take_back_put(port_of(Net::B), copies.b);
-        self.take_back_put(port_of(Net::A), copies.a);
-    }
-
     /// Takes back that a frame was put to a port.
     #[tactic(auto, using(std::proofs::lemmas::Grind::common_steps, crate::proofs::PortLemmas::reads))]
-    fn take_back_put(&mut self, port: u8, kept: Option<PutRecord>)
+    pub fn take_back_put(&mut self, port: u8, kept: Option<PutRecord>)
         ensures { self.new ≡ unput port kept self.old }
     {
         let Some(kept) = kept else { return };

@@ -26,7 +26,7 @@ use Rattle.redundancy.specs.declared.delivery.Delivery.{Delivery}
 use Rattle.redundancy.specs.declared.delivery.Delivery.TheVariants as delivery
 use Rattle.nodes.specs.declared.change.Change.{Change}
 use Rattle.nodes.specs.declared.change.Change.TheVariants as change
-use Rattle.nodes.specs.declared.change.CopiesRecord.{CopiesRecord}
+use Rattle.nodes.specs.declared.copies.CopiesRecord.{CopiesRecord}
 use Rattle.nodes.specs.declared.vl_end.VlEnd.{VlEnd}
 use Rattle.nodes.specs.declared.receiving.Receiving.{Receiving}
 use Rattle.nodes.specs.declared.receiving.ReceivingRecord.{ReceivingRecord}

@@ -6,7 +6,7 @@ use Rattle.output_port.specs.declared.event.PortRecord.{PortRecord}
 use Rattle.output_port.specs.declared.event.PortRecord.TheVariants.{Put}
 use Rattle.output_port.specs.declared.event.PutRecord.{PutRecord}
 use Rattle.reverse.specs.Plain.{CameFrom}
-use Rattle.nodes.specs.declared.change.CopiesRecord.{CopiesRecord}
+use Rattle.nodes.specs.declared.copies.CopiesRecord.{CopiesRecord}
 use Rattle.nodes.specs.declared.ports.Outlet.{Outlet}
 use Rattle.nodes.specs.rules.Ports.{PortsState, outlet_at}
 

@@ -19,12 +19,12 @@ returns-clause-state c =
     let event = c.args.event.now in
     let source = c.index_mut-source.result.now in
     subst (λ (s : EndSystemState).
-    record { sources = slice_set i.sources.items place c.regulate.new.source; receptions = i.receptions.items; ports = c.regulate.new.ports }
+    record { sources = slice_set i.sources.items place c.regulate.new.self; receptions = i.receptions.items; ports = c.regulate.new.ports }
     ≡ record s {
       sources = slice_set s.sources place (record source { regulator = regulator.after source.regulator event });
       ports = released_out source.end (regulator.out source.regulator event).answer s.ports;
     }) c.self.view_is
-    (λ t. record { sources = slice_set i.sources.items place (c.regulate.ensures.source t); receptions = i.receptions.items; ports = c.regulate.ensures.ports t })
+    (λ t. record { sources = slice_set i.sources.items place (c.regulate.ensures.state t); receptions = i.receptions.items; ports = c.regulate.ensures.ports t })
     ∙ ap (λ found. (regulated c.args.out.now.sender.number c.args.at event (lost Unknown event) c.args.self.now found).state) (sym (found c))
 
 pub returns-clause-reply : goal.returns-clause-reply
@@ -54,15 +54,15 @@ returns-clause-last c =
     let event = c.args.event.now in
     let source = c.index_mut-source.result.now in
     let s : EndSystemState = record { sources = i.sources.items; receptions = i.receptions.items; ports = i.ports } in
-    let now : EndSystemState = record { sources = slice_set s.sources place c.regulate.new.source; receptions = s.receptions; ports = c.regulate.new.ports } in
+    let now : EndSystemState = record { sources = slice_set s.sources place c.regulate.new.self; receptions = s.receptions; ports = c.regulate.new.ports } in
     let there = subst (λ (s : EndSystemState). slice_get s.sources place ≡ Some source) (sym c.self.view_is) (found-there source_number c.args.self.now.sources c.args.vl.0 (record { place = place; entry = source }) (found c)) in
     subst (λ change. IsLastOfEndSystem change now) (sym c.regulate.ensures.change)
-    (subst (λ new. IfSome (slice_get (slice_set s.sources place new) place) (IsLastOfSource (regulator.saves source.regulator event))) (sym c.regulate.ensures.source)
+    (subst (λ new. IfSome (slice_get (slice_set s.sources place new) place) (IsLastOfSource (regulator.saves source.regulator event))) (sym c.regulate.ensures.state)
     (source-last s place source event there c.regulate.ensures.valid))
 
 -- the numbers of the virtual links stay
 pub invariant_of-self : goal.invariant_of-self
 invariant_of-self c = (
-  rising-kept source_number c.self.inside.sources.items c.in-Some.place c.index_mut-source.result.now c.regulate.new.source c.index_mut-source.ensures.value (ap source_number c.regulate.ensures.source) c.self.invariant.0,
+  rising-kept source_number c.self.inside.sources.items c.in-Some.place c.index_mut-source.result.now c.regulate.new.self c.index_mut-source.ensures.value (ap source_number c.regulate.ensures.state) c.self.invariant.0,
   c.self.invariant.1,
 )

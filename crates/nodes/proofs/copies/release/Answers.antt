@@ -3,7 +3,7 @@ use Rattle.vlink.specs.declared.frame.Net.TheVariants.{A, B}
 use Rattle.reverse.specs.Sending.{OutboundState, replied}
 use Rattle.nodes.specs.Words.{PortsState, copied_reply, released_reply}
 use Rattle.nodes.proofs.SendingLemmas.{replied-joined}
-use Rattle.nodes.proofs.sending.release.Goals as goal
+use Rattle.nodes.proofs.copies.release.Goals as goal
 
 pub returns-clause-reply : goal.returns-clause-reply
 returns-clause-reply c =

@@ -5,13 +5,13 @@ use Rattle.reverse.specs.Sending.{joined, replied, OutboundState}
 use Rattle.nodes.specs.Words.{asked, full, released_reply}
 use Rattle.nodes.proofs.SendingLemmas.{replied-joined}
 use Rattle.nodes.proofs.EndSystemLemmas.{full-released, asked-quiet}
-use Rattle.nodes.proofs.sending.regulate.Goals as goal
+use Rattle.nodes.proofs.source.Source.regulate.Goals as goal
 
 pub release-requires-clause-notes : goal.release-requires-clause-notes
 release-requires-clause-notes c = λ frame is.
     let lost = c.lose_if_full.new.out in
     ap (λ (o : OutboundState). o.notes) c.ask.ensures
-    ∙ ap (λ (ns : List Note). lost.notes ++ ns) (asked-quiet lost.sender.number c.args.source.now.end.vl c.apply.result.0.release_at)
+    ∙ ap (λ (ns : List Note). lost.notes ++ ns) (asked-quiet lost.sender.number c.args.self.now.end.vl c.apply.result.0.release_at)
     ∙ append-nil lost.notes
     ∙ ap (λ (o : OutboundState). o.notes) c.lose_if_full.ensures
     ∙ ap (λ (ns : List Note). ns ++ (full c.args.event.now c.apply.result.0.answer).notes) c.requires.notes
@@ -23,7 +23,7 @@ returns-clause-reply c =
     let out = c.args.out.now in
     let number = out.sender.number in
     let event = c.args.event.now in
-    let end = c.args.source.now.end in
+    let end = c.args.self.now.end in
     let ports = c.args.ports.now in
     let told = c.apply.result.0 in
     c.release.ensures.reply

@@ -1,0 +1,93 @@
+//! Both copies of a frame that an end system sends: they are put to the ports of A and B, and taken back.
+ghost use Rattle.std.specs.Prelude.{◌≡◌, ◌+◌, ◌<◌, ◌≤◌, [], length};
+ghost use Rattle.vlink.specs.Numbering.{greatest_number};
+ghost use Rattle.vlink.specs.declared.frame.Frame.{Frame};
+ghost use Rattle.bag_regulator.specs.declared.event.RegAnswer.TheVariants.{Released};
+ghost use Rattle.reverse.specs.Sending.{replied};
+ghost use Rattle.nodes.specs.rules.EndSystem.{copied, copied_kept, copied_reply, port_of, released_kept, released_out, released_reply};
+ghost use Rattle.nodes.specs.undoing.Ports.{uncopied};
+
+use crate::ports::Ports;
+use crate::vl_end::VlEnd;
+use bag_regulator::RegAnswer;
+use output_port::{Priority, PutRecord};
+use reverse::Outbound;
+use vlink::{Frame, Net, Time};
+
+/// What became of the copies of a frame, at the port of each network that one was put to.
+#[derive(Clone, Copy, Debug, PartialEq, Eq)]
+pub struct CopiesRecord {
+    pub a: Option<PutRecord>,
+    pub b: Option<PutRecord>,
+}
+
+/// Both copies of the frame that a regulator releases go out, A before B.
+pub fn release(
+    at: Time,
+    end: &VlEnd,
+    answer: RegAnswer,
+    ports: &mut Ports,
+    out: &mut Outbound,
+) -> CopiesRecord
+    requires room { length out.old.messages + 4 ≤ 24 }
+    requires notes { (frame : Frame) → answer ≡ Released frame → out.old.notes ≡ [] }
+    requires numbers { out.old.sender.counter + 4 ≤ greatest_number }
+    ensures ports { ports.new ≡ released_out end.now answer ports.old }
+    ensures reply { out.new ≡ replied out.old (released_reply out.old.sender.number at end.now answer ports.old) }
+    ensures kept { result ≡ released_kept end.now answer ports.old }
+{
+    let RegAnswer::Released(frame) = answer else {
+        return CopiesRecord { a: None, b: None };
+    };
+    let a = copy_out(at, end, Net::A, &frame, ports, out);
+    let b = copy_out(at, end, Net::B, &frame, ports, out);
+    CopiesRecord { a, b }
+}
+
+/// Takes both copies back, B before A.
+pub fn take_back(copies: CopiesRecord, ports: &mut Ports)
+    ensures { ports.new ≡ uncopied copies ports.old }
+{
+    ports.take_back_put(port_of(Net::B), copies.b);
+    ports.take_back_put(port_of(Net::A), copies.a);
+}
+
+/// The copy of a frame for this network is put to the network's port, where the virtual link is on it.
+fn copy_out(
+    at: Time,
+    end: &VlEnd,
+    net: Net,
+    frame: &Frame,
+    ports: &mut Ports,
+    out: &mut Outbound,
+) -> Option<PutRecord>
+    requires room { length out.old.messages + 2 ≤ 24 }
+    requires notes { length out.old.notes < 2 }
+    requires numbers { out.old.sender.counter + 2 ≤ greatest_number }
+    ensures ports { ports.new ≡ copied end.now net frame.now ports.old }
+    ensures reply { out.new ≡ replied out.old (copied_reply out.old.sender.number at end.now net frame.now ports.old) }
+    ensures kept { result ≡ copied_kept end.now net frame.now ports.old }
+{
+    if !end.is_on(net) {
+        return None;
+    }
+    let copy = copy(net, frame);
+    ports.put(at, port_of(net), &copy, Priority::Low, out)
+}
+
+/// The copy of a frame for this network. All frames of an end system have low priority at its ports (profile).
+fn copy(net: Net, frame: &Frame) -> Frame
+    ensures { result ≡ record frame.now { net = net } }
+{
+    Frame { net, ..*frame }
+}
+
+/// The number of the port of this network.
+fn port_of(net: Net) -> u8
+    ensures { result ≡ port_of net }
+{
+    match net {
+        Net::A => 0,
+        Net::B => 1,
+    }
+}
