@@ -3,7 +3,7 @@ use Rattle.std.proofs.Common.{◌≡◌, ℕ, zero, suc, ◌+◌, ◌-◌, ◌<�
 use Rattle.nodes.specs.declared.source.Source.{Source}
 use Rattle.netdesc.specs.declared.wiring.Way.{Way}
 use Rattle.netdesc.specs.Words.{is_none, Plan, NodePlan, VlPlan, IsAccepted, lines_of, process_count}
-use Rattle.nodes.specs.declared.meeting.Side.TheVariants.{Out}
+use Rattle.nodes.specs.declared.opening.meeting.Side.TheVariants.{Out}
 use Rattle.nodes.specs.Words.{ways_at, with_ways, leaves_by, wire_among, wires_of, outlet_of, ports_of, source_of, node_opening, equipment_opening, line_opening, opening, AllWires, IsPlacedEquipment, IsPlaced, IsWiredEquipment, IsWired}
 use Rattle.std.specs.List.{AllByRecursion, range_with_len}
 use Rattle.std.proofs.lemmas.List.Elements.{All-from_recursion}

@@ -3,7 +3,7 @@ use Rattle.std.proofs.Common.{◌≡◌, ℕ, ◌-◌, ◌≤◌, length, map, a
 use Rattle.std.proofs.lemmas.Option.{slice_get_past}
 use Rattle.netdesc.specs.declared.too_many.TheConstants.{GREATEST_PORTS}
 use Rattle.netdesc.specs.Words.{Plan, IsAccepted, lines_of}
-use Rattle.nodes.specs.declared.meeting.Side.TheVariants.{Out, In}
+use Rattle.nodes.specs.declared.opening.meeting.Side.TheVariants.{Out, In}
 use Rattle.nodes.specs.declared.equipment.Equipment.TheVariants as equipment
 use Rattle.nodes.specs.Words.{ways_at, with_ways, meetings, EndSystemState, SwitchState, LineState, line_opening, equipment_opening, ports_of, end_system_opening, switch_opening, source_met, reception_met, transit_met}
 use Rattle.nodes.proofs.MakingLemmas.{sources-made, receptions-made, transits-made}

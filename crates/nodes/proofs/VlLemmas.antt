@@ -4,7 +4,7 @@ use Rattle.network_rows.specs.declared.rows.VirtualLink.{VirtualLink}
 use Rattle.netdesc.specs.declared.wiring.Way.{Way}
 use Rattle.netdesc.specs.Words.{place_by, Plan, VlPlan, place_of_vl}
 use Rattle.nodes.specs.Words.{ports_by, groups, met, met_by, all_met}
-use Rattle.nodes.specs.declared.meeting.Meeting.{Meeting}
+use Rattle.nodes.specs.declared.opening.meeting.Meeting.{Meeting}
 
 -- a place is one of the list
 pub place_by-within : {X : Type 0} (test : X → Bool) (xs : List X) (k : ℕ) → place_by test xs ≡ Some k → k < length xs

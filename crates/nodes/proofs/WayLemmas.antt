@@ -11,8 +11,8 @@ use Rattle.netdesc.specs.declared.wiring.Way.{Way}
 use Rattle.netdesc.specs.Words.{Plan, VlPlan, IsAccepted, ids_of, is_none, lines_of, out_at, in_at, ways_over, route_over, place_of_vl}
 use Rattle.netdesc.proofs.PortLemmas.{line-within}
 use Rattle.netdesc.proofs.RisingLemmas.{ids-rise}
-use Rattle.nodes.specs.declared.meeting.Side.{Side}
-use Rattle.nodes.specs.declared.meeting.Side.TheVariants.{Out, In}
+use Rattle.nodes.specs.declared.opening.meeting.Side.{Side}
+use Rattle.nodes.specs.declared.opening.meeting.Side.TheVariants.{Out, In}
 use Rattle.nodes.specs.Words.{ways_at, with_ways, first_port, ports_by, meeting, meetings, IsRising, number_met, met, met_by, vl_with, all_met}
 use Rattle.nodes.proofs.GroupLemmas.{AreOf, below, groups-flat_map}
 

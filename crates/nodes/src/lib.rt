@@ -7,8 +7,6 @@ mod end_system;
 mod equipment;
 mod finding;
 mod line;
-mod making;
-mod meeting;
 mod node;
 mod opening;
 mod outputs;
@@ -19,7 +17,6 @@ mod source;
 mod switch;
 mod transit;
 mod vl_end;
-mod wiring;
 
 pub use change::Change;
 pub use node::{Node, NodeRecord};

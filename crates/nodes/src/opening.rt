@@ -4,16 +4,20 @@ ghost use Rattle.netdesc.specs.declared.too_many.TheConstants.{GREATEST_PORTS};
 ghost use Rattle.netdesc.specs.Words.{process_count, lines_of};
 ghost use Rattle.nodes.specs.rules.Opening.{end_system_opening, switch_opening, line_opening, equipment_opening, opening};
 
+mod making;
+mod meeting;
+mod wiring;
+
 use crate::end_system::EndSystem;
 use crate::equipment::Equipment;
 use crate::line::Line;
-use crate::making::{receptions_of, sources_of, transits_of};
-use crate::meeting::{Side, meetings};
 use crate::node::Node;
 use crate::switch::Switch;
-use crate::wiring::ports_of;
+use making::{receptions_of, sources_of, transits_of};
+use meeting::{Side, meetings};
 use netdesc::{GREATEST_PORTS, Network, NodeKind};
 use std::alloc::{AllocError, Global};
+use wiring::ports_of;
 
 /// An end system at each of whose ports so many bytes may wait.
 fn end_system(

@@ -4,9 +4,9 @@ use Rattle.std.specs.List.{list_any, range_with_len}
 use Rattle.netdesc.specs.declared.too_many.TheConstants.{GREATEST_PORTS}
 use Rattle.netdesc.specs.declared.wiring.Way.{Way}
 use Rattle.netdesc.specs.Words.{Plan, VlPlan, is_none, lines_of, leaves, comes_in}
-use Rattle.nodes.specs.declared.meeting.Meeting.{Meeting}
-use Rattle.nodes.specs.declared.meeting.Side.{Side}
-use Rattle.nodes.specs.declared.meeting.Side.TheVariants.{Out, In}
+use Rattle.nodes.specs.declared.opening.meeting.Meeting.{Meeting}
+use Rattle.nodes.specs.declared.opening.meeting.Side.{Side}
+use Rattle.nodes.specs.declared.opening.meeting.Side.TheVariants.{Out, In}
 
 -- the ways by which a virtual link leaves node n, or comes in there
 abbrev pub ways_at : Plan → ℕ → Side → VlPlan → List Way

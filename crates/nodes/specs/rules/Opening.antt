@@ -21,7 +21,7 @@ use Rattle.network_rows.specs.declared.rows.VirtualLink.{VirtualLink}
 use Rattle.netdesc.specs.declared.wiring.Direction.{Direction}
 use Rattle.netdesc.specs.declared.wiring.Way.{Way}
 use Rattle.netdesc.specs.Words.{Plan, NodePlan, VlPlan, lines_of, outages_of}
-use Rattle.nodes.specs.declared.meeting.Side.TheVariants.{Out, In}
+use Rattle.nodes.specs.declared.opening.meeting.Side.TheVariants.{Out, In}
 use Rattle.nodes.specs.declared.equipment.Equipment.{Equipment}
 use Rattle.nodes.specs.declared.equipment.Equipment.TheVariants as equipment
 use Rattle.nodes.specs.declared.ports.Outlet.{Outlet}

@@ -1,6 +1,6 @@
 use Rattle.std.proofs.Common.{◌==◌, sym, ◌∙◌}
 use Rattle.nodes.proofs.VlLemmas.{place_by-within, met-made, met-pushed}
-use Rattle.nodes.proofs.meeting.meet.Goals as goal
+use Rattle.nodes.proofs.opening.meeting.meet.Goals as goal
 
 pub virtual_link-requires : goal.virtual_link-requires
 virtual_link-requires c =

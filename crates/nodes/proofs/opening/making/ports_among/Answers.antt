@@ -1,8 +1,8 @@
 use Rattle.std.proofs.Common.{refl, ap, sym, ◌∙◌, option_and_then}
-use Rattle.nodes.specs.declared.meeting.Meeting.{Meeting}
+use Rattle.nodes.specs.declared.opening.meeting.Meeting.{Meeting}
 use Rattle.nodes.specs.Words.{found_at, number_met, ports_found}
 use Rattle.nodes.proofs.NumberLemmas.{found-read}
-use Rattle.nodes.proofs.making.ports_among.Goals as goal
+use Rattle.nodes.proofs.opening.making.ports_among.Goals as goal
 
 pub returns-in-Some : goal.returns-in-Some
 returns-in-Some c =

@@ -5,8 +5,8 @@ ghost use Rattle.nodes.specs.rules.Finding.{IsRising};
 ghost use Rattle.nodes.specs.rules.Opening.{regulator_of, receiving_of, account_of, measure_of, port_priority};
 ghost use Rattle.nodes.specs.laws.Making.{number_met, end_met, source_met, reception_met, ports_among, transit_met};
 
+use super::meeting::Meeting;
 use crate::finding::place_of;
-use crate::meeting::Meeting;
 use crate::outputs::Outputs;
 use crate::receiving::Receiving;
 use crate::reception::Reception;

@@ -2,7 +2,7 @@ use Rattle.std.proofs.Common.{◌≡◌, ◌<◌, ◌++◌, length, All}
 use Rattle.netdesc.specs.declared.too_many.TheConstants.{GREATEST_PORTS}
 use Rattle.netdesc.specs.Words.{IsLinkInLimits}
 use Rattle.nodes.specs.Words.{all_met}
-use Rattle.nodes.proofs.meeting.all_met.Given as goal
+use Rattle.nodes.proofs.opening.meeting.all_met.Given as goal
 
 abbrev pub invariant-loop-rest : goal.invariant-loop-rest
 invariant-loop-rest l = record {

@@ -2,7 +2,7 @@ use Rattle.std.proofs.Common.{◌<◌, sym, ◌∙◌, subst, All}
 use Rattle.std.proofs.lemmas.List.Elements.{All-drop}
 use Rattle.netdesc.specs.declared.too_many.TheConstants.{GREATEST_PORTS}
 use Rattle.nodes.proofs.VlLemmas.{all_met-more}
-use Rattle.nodes.proofs.meeting.all_met.Goals as goal
+use Rattle.nodes.proofs.opening.meeting.all_met.Goals as goal
 
 pub loop-rest-preserved : goal.loop-rest-preserved
 loop-rest-preserved c =

@@ -1,7 +1,7 @@
 use Rattle.std.proofs.Common.{◌≡◌, ℕ, ◌<◌, false, length, take, get_or}
 use Rattle.netdesc.specs.declared.too_many.TheConstants.{GREATEST_PORTS}
 use Rattle.nodes.specs.Words.{is_by}
-use Rattle.nodes.proofs.meeting.ports_by.Given as goal
+use Rattle.nodes.proofs.opening.meeting.ports_by.Given as goal
 
 abbrev pub invariant-loop-way : goal.invariant-loop-way
 invariant-loop-way l = record {

@@ -2,12 +2,12 @@ use Rattle.std.proofs.Common.{◌≡◌, ℕ, ◌<◌, List, map, ap, sym, ◌�
 use Rattle.netdesc.specs.declared.too_many.TheConstants.{GREATEST_PORTS}
 use Rattle.netdesc.specs.declared.wiring.Way.{Way}
 use Rattle.netdesc.specs.Words.{Plan, IsAccepted}
-use Rattle.nodes.specs.declared.meeting.Side.{Side}
-use Rattle.nodes.specs.declared.meeting.Meeting.{Meeting}
+use Rattle.nodes.specs.declared.opening.meeting.Side.{Side}
+use Rattle.nodes.specs.declared.opening.meeting.Meeting.{Meeting}
 use Rattle.nodes.specs.Words.{ways_at, meetings, IsRising, number_met, all_met}
 use Rattle.std.proofs.lemmas.Result.{IfOk-weaker}
 use Rattle.nodes.proofs.WayLemmas.{ways-own, ways-within, all_met-is, meetings-rise}
-use Rattle.nodes.proofs.meeting.meetings.Goals as goal
+use Rattle.nodes.proofs.opening.meeting.meetings.Goals as goal
 
 pub all_met-requires : goal.all_met-requires
 all_met-requires c = subst (All (λ way. way.port < GREATEST_PORTS)) (sym c.ways_at.ensures) (ways-within c.args.network.now c.args.node c.args.side c.accepted.ensures)

@@ -3,7 +3,7 @@ use Rattle.std.proofs.lemmas.List.FromFn.{fill_by_all}
 use Rattle.netdesc.specs.Words.{lines_of}
 use Rattle.nodes.specs.Words.{wire_among, wires_of}
 use Rattle.nodes.proofs.WireLemmas.{wire_among-more}
-use Rattle.nodes.proofs.wiring.wires_of.Goals as goal
+use Rattle.nodes.proofs.opening.wiring.wires_of.Goals as goal
 
 pub loop-k-preserved : goal.loop-k-preserved
 loop-k-preserved c =

@@ -3,7 +3,7 @@ use Rattle.std.proofs.lemmas.Bool.Decides.{nat_tests}
 use Rattle.std.proofs.lemmas.List.{drop_more, drop_all}
 use Rattle.std.proofs.lemmas.List.Elements.{All-more}
 use Rattle.nodes.proofs.GroupLemmas.{group-at, apart-later, no_way}
-use Rattle.nodes.proofs.meeting.group_len.Goals as goal
+use Rattle.nodes.proofs.opening.meeting.group_len.Goals as goal
 
 pub returns-then-ne-clause-group : goal.returns-then-ne-clause-group
 returns-then-ne-clause-group c =

@@ -1,7 +1,7 @@
 use Rattle.std.proofs.Common.{◌≡◌, ℕ, ◌<◌, None, length, take, get_or, vec_len}
 use Rattle.netdesc.specs.Words.{lines_of}
 use Rattle.nodes.specs.Words.{wire_among}
-use Rattle.nodes.proofs.wiring.wires_of.Given as goal
+use Rattle.nodes.proofs.opening.wiring.wires_of.Given as goal
 
 abbrev pub invariant-loop-k : goal.invariant-loop-k
 invariant-loop-k l = record {
