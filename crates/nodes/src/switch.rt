@@ -92,6 +92,7 @@ impl Switch {
     }
 
     /// Takes back that the account at a place judged a frame.
+    #[tactic(auto, using(std::proofs::lemmas::Grind::common_steps, crate::proofs::PortLemmas::reads, crate::proofs::NumberLemmas::numbers_stay))]
     fn take_back_transit(&mut self, place: u16, kept: AccountRecord)
         requires { IfSome (slice_get self.old.transits place) (IsLastOfTransit kept) }
         ensures { self.new ≡ record self.old { transits = modified place (transit_undone kept) self.old.transits } }

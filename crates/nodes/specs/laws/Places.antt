@@ -1,7 +1,6 @@
 -- For proofs alone: what stands at a place of a list, and what is found by its number, when an entry is set there.
 use Rattle.std.proofs.Common.{◌≡◌, ℕ, List, map, Option, None, Some, slice_get, slice_set, All, option_map, option_and_then, refl, sym, subst, ap, ◌∙◌, arith, set-set, get_or-set_same, length-set}
 use Rattle.std.proofs.lemmas.List.{set-get_or}
-use Rattle.std.proofs.Math.Seq.{map-set_same}
 use Rattle.std.proofs.lemmas.Option.{none-some, same_Some, slice_get-get_or, slice_get_within, get_or_from_slice_get}
 use Rattle.nodes.specs.rules.Finding.{Found, found_at, find, place_of}
 use Rattle.nodes.specs.undoing.Changes.{modified, modified_at}

@@ -1,5 +1,5 @@
 -- For proofs alone: undoing a change gives back the node before it, and the change of an event is the last one.
-use Rattle.std.proofs.Common.{◌≡◌, ◌≤◌, ◌==◌, ℕ, Bool, true, false, cond, nat_lt, Option, None, Some, IfSome, slice_get, slice_set, refl, sym, subst, ap, ◌∙◌}
+use Rattle.std.proofs.Common.{◌≡◌, ◌==◌, ℕ, Bool, true, false, cond, nat_lt, Option, None, Some, IfSome, slice_get, slice_set, refl, sym, subst, ap, ◌∙◌}
 use Rattle.vlink.specs.declared.frame.Frame.{Frame}
 use Rattle.vlink.specs.declared.frame.Net.{Net}
 use Rattle.vlink.specs.declared.frame.Net.TheVariants.{A, B}
@@ -29,7 +29,7 @@ use Rattle.nodes.specs.rules.EndSystem.{EndSystemState, check_of, copied, copied
 use Rattle.nodes.specs.rules.Node.{handled}
 use Rattle.nodes.specs.rules.Ports.{PortsState, changed, port_kept, port_put_kept}
 use Rattle.nodes.specs.rules.Switch.{SwitchState, entered, entered_kept, transit_number}
-use Rattle.nodes.specs.undoing.Changes.{end_system_undone, modified, reception_undone, source_undone, switch_undone, transit_undone, undelivered, undone, unreceived, IsLastOfEndSystem, IsLastOfSource, IsLastOfSwitch, IsLastOfTransit}
+use Rattle.nodes.specs.undoing.Changes.{end_system_undone, reception_undone, source_undone, switch_undone, transit_undone, undelivered, undone, unreceived, IsLastOfEndSystem, IsLastOfSource, IsLastOfSwitch, IsLastOfTransit}
 use Rattle.nodes.specs.undoing.Ports.{uncopied, unput, IsPortValue}
 use Rattle.nodes.specs.laws.EndSystemSending.{end_system-cases}
 use Rattle.nodes.specs.laws.Places.{found-same, found-there, get-set, modified-back}

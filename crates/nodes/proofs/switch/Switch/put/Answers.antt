@@ -1,5 +1,4 @@
 use Rattle.std.proofs.Common.{◌≡◌, ap, ◌∙◌, sym, subst, option_map}
-use Rattle.output_port.specs.declared.event.PortEvent.{PortEvent}
 use Rattle.output_port.specs.declared.event.PortEvent.TheVariants.{Put}
 use Rattle.output_port.specs.declared.event.PortRecord.TheVariants as saved
 use Rattle.nodes.specs.rules.Changes.{port_change}
