@@ -2,7 +2,8 @@
 ghost use Rattle.std.specs.Prelude.{◌≡◌, option_map};
 ghost use Rattle.output_port.specs.declared.event.PortRecord.TheVariants as saved;
 ghost use Rattle.output_port.specs.declared.event.PutRecord.{PutRecord};
-ghost use Rattle.nodes.specs.rules.Changes.{port_change, transit_change};
+ghost use Rattle.nodes.specs.rules.Ports.{port_change};
+ghost use Rattle.nodes.specs.rules.Switch.{transit_change};
 
 use crate::copies::CopiesRecord;
 use crate::receiving::ReceivingRecord;

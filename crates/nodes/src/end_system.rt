@@ -13,7 +13,6 @@ ghost use Rattle.nodes.specs.rules.EndSystem.{end_system, lost, offered_frame, r
 ghost use Rattle.nodes.specs.undoing.Changes.{end_system_undone, modified, source_undone, reception_undone, IsLastOfSource, IsLastOfEndSystem};
 
 use crate::change::Change;
-use crate::copies::take_back;
 use crate::finding::place_of;
 use crate::ports::Ports;
 use crate::receiving::ReceivingRecord;
@@ -96,7 +95,7 @@ impl EndSystem {
                 copies,
                 kept,
             } => {
-                take_back(copies, &mut self.ports);
+                copies.take_back(&mut self.ports);
                 self.take_back_source(place, kept);
             }
             Change::Reception { place, kept } => self.take_back_reception(place, kept),

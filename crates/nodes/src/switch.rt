@@ -111,6 +111,7 @@ impl Switch {
     }
 
     /// A frame has come to a port.
+    #[tactic(auto, using(crate::proofs::NumberLemmas::numbers_stay))]
     #[inline(always)]
     fn take(&mut self, at: Time, port: u8, frame: &Frame, out: &mut Outbound) -> Change
         requires messages { out.old.messages ≡ [] }
@@ -175,6 +176,7 @@ fn enter(
     requires notes { out.old.notes ≡ [] }
     requires numbers { out.old.sender.counter + 24 ≤ greatest_number }
     ensures transit { transit.new ≡ entered at port frame.now transit.old }
+    ensures number { transit_number transit.new ≡ transit_number transit.old }
     ensures reply { out.new ≡ replied out.old (entered_reply out.old.sender.number at latency_ns port frame.now transit.old) }
     ensures kept { result ≡ entered_kept at port frame.now transit.old }
     ensures last { IfSome result (λ kept. IsLastOfTransit kept transit.new) }
