@@ -211,8 +211,9 @@ class Tree:
                 files.add((source.crate, "specs/" + "/".join(parts) + ".antt"))
                 waiting += self.by_definition(source)
             else:
-                files.add((source.crate, f"src/{parts[1]}.rt"))
-                waiting += self.by_type(source.crate, parts[1], parts[2])
+                module = "/".join(part for part in parts[1:] if part[0].islower())
+                files.add((source.crate, f"src/{module}.rt"))
+                waiting += self.by_type(source.crate, module, next(part for part in parts[1:] if part[0].isupper()))
         return files, libraries
 
     def head_of(self, crate, path):

@@ -2,7 +2,6 @@ pub mod EndSystemLemmas
 pub mod GroupLemmas
 pub mod PortLemmas
 pub mod SendingLemmas
-pub mod SwitchLemmas
 pub mod VlLemmas
 pub mod WayLemmas
 pub mod WireLemmas

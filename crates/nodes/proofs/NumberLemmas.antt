@@ -10,7 +10,7 @@ use Rattle.std.proofs.lemmas.List.{get_or-map, length-map}
 use Rattle.std.proofs.lemmas.List.Sorted.{IsNonDecreasingBy-from_default}
 use Rattle.std.proofs.lemmas.Map.Keys.{below_from_sorted, sorted_tail, non_decreasing_from_sorted}
 use Rattle.std.proofs.lemmas.Option.{none-some, same_Some, slice_get-get_or}
-use Rattle.nodes.specs.Words.{place_of, find, found_at, modified, modified_at, IsRising}
+use Rattle.nodes.specs.Words.{place_of, find, found_at, IsRising}
 
 -- the number at a place is found there, since each one before it is less
 pub place-there : (numbers : List ℕ) (id i : ℕ) → IsRising numbers → i < length numbers → get_or numbers i 0 ≡ id → place_of numbers id ≡ Some i
@@ -94,12 +94,7 @@ pub rising-kept : {X : Type 0} (number : X → ℕ) (xs : List X) (i : ℕ) (x y
     IsRising (map number xs) → IsRising (map number (slice_set xs i y))
 rising-kept number xs i x y is same rising = subst IsRising (sym (map-set_same number xs i y x (same ∙ ap number is))) rising
 
--- the entry that was read at a place, and changed there
-pub modified-there : {X : Type 0} (f : X → X) (xs : List X) (place i : ℕ) (x y : X) → i ≡ place → i < length xs → x ≡ slice_index_or xs i x → y ≡ f x →
-    slice_set xs i y ≡ modified place f xs
-modified-there f xs place i x y at within is new =
-    let there : slice_get xs place ≡ Some x = ap (slice_get xs) (sym at) ∙ slice_get-get_or xs i x within ∙ ap (λ z. Some z) (sym is) in
-    (λ t. slice_set xs (at t) (new t)) ∙ ap (modified_at place f xs) (sym there)
+pub ruleset numbers_stay = (rising-kept)
 
 -- a place that a search answers is one of the list
 pub ok-within : (r : Result ℕ ℕ) (n : ℕ) → IsSearchInRange r n → IfSome (result_ok r) (λ i. i < n)

@@ -19,5 +19,5 @@ pub use Rattle.nodes.specs.rules.Placed.{AllWires, IsPlaced, IsPlacedEquipment, 
 pub use Rattle.nodes.specs.rules.Ports.{PortsState, exists}
 pub use Rattle.nodes.specs.rules.Simulation.{simulation_of}
 pub use Rattle.nodes.specs.rules.Switch.{SwitchState, entered, entered_reply, forwarded, transit_at, transit_number}
-pub use Rattle.nodes.specs.undoing.Changes.{end_system_undone, modified, modified_at, reception_undone, source_undone, switch_undone, transit_undone, undone, IsLastOfEndSystem, IsLastOfSource, IsLastOfSwitch, IsLastOfTransit}
+pub use Rattle.nodes.specs.undoing.Changes.{undone, IsLastOfEndSystem, IsLastOfSource, IsLastOfSwitch, IsLastOfTransit}
 pub use Rattle.nodes.specs.undoing.Node.{IsNodeValue}

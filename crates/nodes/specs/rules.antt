@@ -1,5 +1,4 @@
 -- The definition of nodes: what each does with a message, how it begins, and the simulation that a network gives.
-pub mod Changes
 pub mod EndSystem
 pub mod Finding
 pub mod Line

@@ -2,12 +2,13 @@
 ghost use Rattle.std.specs.Prelude.{◌≡◌, option_map};
 ghost use Rattle.output_port.specs.declared.event.PortRecord.TheVariants as saved;
 ghost use Rattle.output_port.specs.declared.event.PutRecord.{PutRecord};
-ghost use Rattle.nodes.specs.rules.Changes.{port_change, transit_change};
+ghost use Rattle.nodes.specs.rules.Ports.{port_change};
+ghost use Rattle.nodes.specs.rules.Switch.{transit_change};
 
 use crate::copies::CopiesRecord;
 use crate::receiving::ReceivingRecord;
 use bag_regulator::RegRecord;
-use output_port::PortRecord;
+use output_port::{PortRecord, PutRecord};
 use policer::AccountRecord;
 
 /// What an event changed in a node: the place of the element that it changed, and what that kept of it.

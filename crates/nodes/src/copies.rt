@@ -14,11 +14,21 @@ use output_port::{Priority, PutRecord};
 use reverse::Outbound;
 use vlink::{Frame, Net, Time};
 
-/// What became of the copies of a frame, at the port of each network that one was put to.
+/// What became of the copies of a frame at the ports of A and B: nothing, where none was put.
 #[derive(Clone, Copy, Debug, PartialEq, Eq)]
 pub struct CopiesRecord {
-    pub a: Option<PutRecord>,
-    pub b: Option<PutRecord>,
+    pub a: PutRecord,
+    pub b: PutRecord,
+}
+
+impl CopiesRecord {
+    /// Takes both copies back, B before A.
+    pub fn take_back(self, ports: &mut Ports)
+        ensures { ports.new ≡ uncopied self ports.old }
+    {
+        ports.take_back_put(port_of(Net::B), self.b);
+        ports.take_back_put(port_of(Net::A), self.a);
+    }
 }
 
 /// Both copies of the frame that a regulator releases go out, A before B.
@@ -37,19 +47,14 @@ pub fn release(
     ensures kept { result ≡ released_kept end.now answer ports.old }
 {
     let RegAnswer::Released(frame) = answer else {
-        return CopiesRecord { a: None, b: None };
+        return CopiesRecord {
+            a: PutRecord::Nothing,
+            b: PutRecord::Nothing,
+        };
     };
     let a = copy_out(at, end, Net::A, &frame, ports, out);
     let b = copy_out(at, end, Net::B, &frame, ports, out);
     CopiesRecord { a, b }
-}
-
-/// Takes both copies back, B before A.
-pub fn take_back(copies: CopiesRecord, ports: &mut Ports)
-    ensures { ports.new ≡ uncopied copies ports.old }
-{
-    ports.take_back_put(port_of(Net::B), copies.b);
-    ports.take_back_put(port_of(Net::A), copies.a);
 }
 
 /// The copy of a frame for this network is put to the network's port, where the virtual link is on it.
@@ -60,7 +65,7 @@ fn copy_out(
     frame: &Frame,
     ports: &mut Ports,
     out: &mut Outbound,
-) -> Option<PutRecord>
+) -> PutRecord
     requires room { length out.old.messages + 2 ≤ 24 }
     requires notes { length out.old.notes < 2 }
     requires numbers { out.old.sender.counter + 2 ≤ greatest_number }
@@ -69,10 +74,11 @@ fn copy_out(
     ensures kept { result ≡ copied_kept end.now net frame.now ports.old }
 {
     if !end.is_on(net) {
-        return None;
+        return PutRecord::Nothing;
     }
     let copy = copy(net, frame);
-    ports.put(at, port_of(net), &copy, Priority::Low, out)
+    let kept = ports.put(at, port_of(net), &copy, Priority::Low, out);
+    kept.unwrap_or(PutRecord::Nothing)
 }
 
 /// The copy of a frame for this network. All frames of an end system have low priority at its ports (profile).

@@ -13,7 +13,6 @@ ghost use Rattle.nodes.specs.rules.EndSystem.{end_system, lost, offered_frame, r
 ghost use Rattle.nodes.specs.undoing.Changes.{end_system_undone, modified, source_undone, reception_undone, IsLastOfSource, IsLastOfEndSystem};
 
 use crate::change::Change;
-use crate::copies::take_back;
 use crate::finding::place_of;
 use crate::ports::Ports;
 use crate::receiving::ReceivingRecord;
@@ -96,7 +95,7 @@ impl EndSystem {
                 copies,
                 kept,
             } => {
-                take_back(copies, &mut self.ports);
+                copies.take_back(&mut self.ports);
                 self.take_back_source(place, kept);
             }
             Change::Reception { place, kept } => self.take_back_reception(place, kept),
@@ -106,6 +105,7 @@ impl EndSystem {
     }
 
     /// Takes back what the regulator at a place was asked.
+    #[tactic(auto, using(std::proofs::lemmas::Grind::common_steps, crate::proofs::PortLemmas::reads, crate::proofs::NumberLemmas::numbers_stay))]
     fn take_back_source(&mut self, place: u16, kept: RegRecord)
         requires { IfSome (slice_get self.old.sources place) (IsLastOfSource kept) }
         ensures { self.new ≡ record self.old { sources = modified place (source_undone kept) self.old.sources } }
@@ -117,6 +117,7 @@ impl EndSystem {
     }
 
     /// Takes back that a frame came to the checks at a place.
+    #[tactic(auto, using(std::proofs::lemmas::Grind::common_steps, crate::proofs::PortLemmas::reads, crate::proofs::NumberLemmas::numbers_stay))]
     fn take_back_reception(&mut self, place: u16, kept: ReceivingRecord)
         ensures { self.new ≡ record self.old { receptions = modified place (reception_undone kept) self.old.receptions } }
     {
@@ -127,6 +128,7 @@ impl EndSystem {
     }
 
     /// The regulator of a virtual link is asked to do something. A frame of a virtual link that does not begin here is lost.
+    #[tactic(auto, using(crate::proofs::NumberLemmas::numbers_stay))]
     #[inline(always)]
     fn regulate(&mut self, at: Time, vl: VlId, event: &RegEvent, out: &mut Outbound) -> Change
         requires messages { out.old.messages ≡ [] }
@@ -146,6 +148,7 @@ impl EndSystem {
     }
 
     /// A frame has come. It is lost where its virtual link does not end here on its network.
+    #[tactic(auto, using(crate::proofs::NumberLemmas::numbers_stay))]
     #[inline(always)]
     fn take(&mut self, at: Time, frame: &Frame, out: &mut Outbound) -> Change
         requires { length out.old.notes < 2 }

@@ -7,7 +7,8 @@ ghost use Rattle.nodes.specs.rules.Ports.{answered, changed, exists, outlet_at, 
 ghost use Rattle.output_port.specs.Port.{free_answer, put_answer};
 ghost use Rattle.output_port.specs.declared.event.Priority.{Priority};
 ghost use Rattle.output_port.specs.declared.event.PortEvent.TheVariants.{Put, Free};
-ghost use Rattle.nodes.specs.undoing.Ports.{restored, unput, IsLastAtPort, IsPortValue};
+ghost use Rattle.output_port.specs.declared.event.PortRecord.TheVariants as saved;
+ghost use Rattle.nodes.specs.undoing.Ports.{restored, IsLastAtPort, IsPortValue};
 
 use output_port::{FreeRecord, Port, PortRecord, Priority, PutRecord};
 use reverse::Outbound;
@@ -145,10 +146,9 @@ impl Ports {
 
     /// Takes back that a frame was put to a port.
     #[tactic(auto, using(std::proofs::lemmas::Grind::common_steps, crate::proofs::PortLemmas::reads))]
-    pub fn take_back_put(&mut self, port: u8, kept: Option<PutRecord>)
-        ensures { self.new ≡ unput port kept self.old }
+    pub fn take_back_put(&mut self, port: u8, kept: PutRecord)
+        ensures { self.new ≡ restored port (saved.Put kept) self.old }
     {
-        let Some(kept) = kept else { return };
         let Some(slot) = self.outlets.get_mut(usize::from(port)) else {
             return;
         };

@@ -92,6 +92,7 @@ impl Switch {
     }
 
     /// Takes back that the account at a place judged a frame.
+    #[tactic(auto, using(std::proofs::lemmas::Grind::common_steps, crate::proofs::PortLemmas::reads, crate::proofs::NumberLemmas::numbers_stay))]
     fn take_back_transit(&mut self, place: u16, kept: AccountRecord)
         requires { IfSome (slice_get self.old.transits place) (IsLastOfTransit kept) }
         ensures { self.new ≡ record self.old { transits = modified place (transit_undone kept) self.old.transits } }
@@ -110,6 +111,7 @@ impl Switch {
     }
 
     /// A frame has come to a port.
+    #[tactic(auto, using(crate::proofs::NumberLemmas::numbers_stay))]
     #[inline(always)]
     fn take(&mut self, at: Time, port: u8, frame: &Frame, out: &mut Outbound) -> Change
         requires messages { out.old.messages ≡ [] }
@@ -174,6 +176,7 @@ fn enter(
     requires notes { out.old.notes ≡ [] }
     requires numbers { out.old.sender.counter + 24 ≤ greatest_number }
     ensures transit { transit.new ≡ entered at port frame.now transit.old }
+    ensures number { transit_number transit.new ≡ transit_number transit.old }
     ensures reply { out.new ≡ replied out.old (entered_reply out.old.sender.number at latency_ns port frame.now transit.old) }
     ensures kept { result ≡ entered_kept at port frame.now transit.old }
     ensures last { IfSome result (λ kept. IsLastOfTransit kept transit.new) }

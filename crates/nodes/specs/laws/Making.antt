@@ -7,7 +7,7 @@ use Rattle.nodes.specs.declared.vl_end.VlEnd.{VlEnd}
 use Rattle.nodes.specs.declared.source.Source.{Source}
 use Rattle.nodes.specs.declared.reception.Reception.{Reception}
 use Rattle.nodes.specs.rules.Finding.{Found, find}
-use Rattle.nodes.specs.rules.Opening.{regulator_of, receiving_of, account_of, port_priority}
+use Rattle.nodes.specs.rules.Opening.{regulator_of, receiving_of, transit_by}
 
 -- its number
 abbrev pub number_met : Meeting → ℕ
@@ -33,11 +33,4 @@ ports_among meetings id = ports_found (find number_met meetings id)
 
 -- at a switch, where these virtual links leave it
 abbrev pub transit_met : List Meeting → Meeting → Transit
-transit_met departing m = record {
-  vl = m.link.id;
-  input = m.first;
-  outputs = ports_among departing m.link.id.0;
-  smax = m.link.smax;
-  priority = port_priority m.link.priority;
-  account = account_of m.link;
-}
+transit_met departing m = transit_by m.link m.first (ports_among departing m.link.id.0)

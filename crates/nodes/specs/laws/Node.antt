@@ -1,5 +1,5 @@
 -- For proofs alone: a node as an actor: undoing an event gives back the node, and what it sends is its own, in time and numbered on.
-use Rattle.std.proofs.Common.{◌≡◌, ℕ, ◌+◌, ◌-◌, ◌≤◌, length, All, refl, arith}
+use Rattle.std.proofs.Common.{◌≡◌, ◌+◌, ◌-◌, ◌≤◌, length, All, refl, arith}
 use Rattle.vlink.specs.declared.message.Message.{Message}
 use Rattle.virtual_time.specs.Law.{IsNumbered}
 use Rattle.reverse.specs.Plain.{IsReversible}

@@ -1,7 +1,6 @@
 -- For proofs alone: what stands at a place of a list, and what is found by its number, when an entry is set there.
 use Rattle.std.proofs.Common.{◌≡◌, ℕ, List, map, Option, None, Some, slice_get, slice_set, All, option_map, option_and_then, refl, sym, subst, ap, ◌∙◌, arith, set-set, get_or-set_same, length-set}
 use Rattle.std.proofs.lemmas.List.{set-get_or}
-use Rattle.std.proofs.Math.Seq.{map-set_same}
 use Rattle.std.proofs.lemmas.Option.{none-some, same_Some, slice_get-get_or, slice_get_within, get_or_from_slice_get}
 use Rattle.nodes.specs.rules.Finding.{Found, found_at, find, place_of}
 use Rattle.nodes.specs.undoing.Changes.{modified, modified_at}
@@ -20,6 +19,10 @@ get-set xs i x y e =
 pub set-back : {X : Type 0} (xs : List X) (i : ℕ) (x y : X) → slice_get xs i ≡ Some x → slice_set (slice_set xs i y) i x ≡ xs
 set-back xs i x y e =
     set-set xs i y x ∙ ap (slice_set xs i) (sym (get_or_from_slice_get xs i x x e)) ∙ set-get_or xs i x
+
+-- setting the one that is there leaves the list
+pub set-same : {X : Type 0} (xs : List X) (i : ℕ) (x : X) → slice_get xs i ≡ Some x → slice_set xs i x ≡ xs
+set-same xs i x e = ap (slice_set xs i) (sym (get_or_from_slice_get xs i x x e)) ∙ set-get_or xs i x
 
 -- the same, where the one before is what f makes of the one that is set
 pub modified-back : {X : Type 0} (f : X → X) (xs : List X) (i : ℕ) (x y : X) → slice_get xs i ≡ Some x → f y ≡ x → modified i f (slice_set xs i y) ≡ xs
@@ -51,7 +54,3 @@ module _ {X : Type 0} (number : X → ℕ) (xs : List X) (id : ℕ) (found : Fou
 
   pub found-there : slice_get xs found.place ≡ Some found.entry
   found-there = is-found.there
-
-  -- setting what is found leaves the list
-  pub found-same : slice_set xs found.place found.entry ≡ xs
-  found-same = ap (slice_set xs found.place) (sym (get_or_from_slice_get xs found.place found.entry found.entry found-there)) ∙ set-get_or xs found.place found.entry

@@ -1,5 +1,5 @@
 -- For proofs alone: the ports of a node: undoing an event gives back the ports, their lines stay, and what follows from an event.
-use Rattle.std.proofs.Common.{◌≡◌, ℕ, ◌+◌, [], ◌∷◌, Option, None, Some, IfSome, All, slice_get, slice_set, option_map, option_and_then, refl, sym, subst, ap, ◌∙◌}
+use Rattle.std.proofs.Common.{◌≡◌, ℕ, ◌+◌, [], ◌∷◌, Option, None, Some, IfSome, All, slice_get, slice_set, option_map, option_and_then, unwrap_or, refl, sym, subst, ap, ◌∙◌}
 use Rattle.std.proofs.lemmas.Option.{option_and_then_some}
 use Rattle.std.proofs.lemmas.List.Elements.{All-nil, All-cons, All-set}
 use Rattle.vlink.specs.Wire.{last_bit_after, busy_for}
@@ -11,6 +11,7 @@ use Rattle.output_port.specs.Undoing.{port-undoes, put-saves}
 use Rattle.output_port.specs.declared.event.Priority.{Priority}
 use Rattle.output_port.specs.declared.event.PortRecord.{PortRecord}
 use Rattle.output_port.specs.declared.event.PortRecord.TheVariants as saved
+use Rattle.output_port.specs.declared.event.PutRecord.TheVariants as of_put
 use Rattle.output_port.specs.declared.event.PortEvent.{PortEvent}
 use Rattle.output_port.specs.declared.event.PortEvent.TheVariants.{Put, Free}
 use Rattle.output_port.specs.declared.event.PortAnswer.{PortAnswer}
@@ -20,9 +21,9 @@ use Rattle.nodes.specs.declared.ports.Wire.{Wire}
 use Rattle.reverse.specs.Plain.{CameFrom}
 use Rattle.reverse.specs.Sending.{Wish, Reply, silent, loss}
 use Rattle.nodes.specs.rules.Ports.{PortsState, changed, changed_at, outlet_at, port_kept, port_put_kept, reply, reply_at, answered, start}
-use Rattle.nodes.specs.undoing.Ports.{restored, restored_at, unput, IsPortValue, IsLastAtPort}
+use Rattle.nodes.specs.undoing.Ports.{restored, restored_at, IsPortValue, IsLastAtPort}
 use Rattle.nodes.specs.rules.Placed.{AllWires}
-use Rattle.nodes.specs.laws.Places.{All-there, get-set, set-back}
+use Rattle.nodes.specs.laws.Places.{All-there, get-set, set-back, set-same}
 use Rattle.nodes.specs.laws.Replies.{IsQuiet, silent-quiet, loss-quiet, quiet-all}
 
 -- what stands at port q stands in the list
@@ -69,13 +70,22 @@ put-kept q frame priority ports = go (outlet_at ports q)
     go (Some outlet) = ap (λ k. Some k) (sym (put-saves outlet.port frame priority))
     go None = refl
 
--- a frame that was put is taken back
-pub unput-undoes : (q : ℕ) (frame : Frame) (priority : Priority) (ports : PortsState) →
-    unput q (port_put_kept q frame priority ports) (changed q (Put frame priority) ports) ≡ ports
-unput-undoes q frame priority ports = go (outlet_at ports q) refl
+-- to take back that nothing was put leaves the ports
+pub nothing-undone : (q : ℕ) (ports : PortsState) → restored q (saved.Put of_put.Nothing) ports ≡ ports
+nothing-undone q ports = go (outlet_at ports q) refl
   where
-    go : (o : Option Outlet) → outlet_at ports q ≡ o → unput q (option_map (λ outlet. put_kept outlet.port frame priority) o) (changed_at q (Put frame priority) ports o) ≡ ports
+    go : (o : Option Outlet) → outlet_at ports q ≡ o → restored_at q (saved.Put of_put.Nothing) ports o ≡ ports
     go None is = refl
+    go (Some outlet) is = set-same ports q (Some outlet) (there ports q outlet is)
+
+-- a frame that was put is taken back
+pub put-undone : (q : ℕ) (frame : Frame) (priority : Priority) (ports : PortsState) →
+    restored q (saved.Put (unwrap_or (port_put_kept q frame priority ports) of_put.Nothing)) (changed q (Put frame priority) ports) ≡ ports
+put-undone q frame priority ports = go (outlet_at ports q) refl
+  where
+    go : (o : Option Outlet) → outlet_at ports q ≡ o →
+        restored q (saved.Put (unwrap_or (option_map (λ outlet. put_kept outlet.port frame priority) o) of_put.Nothing)) (changed_at q (Put frame priority) ports o) ≡ ports
+    go None is = nothing-undone q ports
     go (Some outlet) is =
         ap (λ kept. restored q kept (slice_set ports q (Some (after_at (Put frame priority) outlet)))) (sym (put-saves outlet.port frame priority))
         ∙ restored-back q (Put frame priority) ports outlet is

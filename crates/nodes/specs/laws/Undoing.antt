@@ -1,5 +1,5 @@
 -- For proofs alone: undoing a change gives back the node before it, and the change of an event is the last one.
-use Rattle.std.proofs.Common.{◌≡◌, ◌≤◌, ◌==◌, ℕ, Bool, true, false, cond, nat_lt, Option, None, Some, IfSome, slice_get, slice_set, refl, sym, subst, ap, ◌∙◌}
+use Rattle.std.proofs.Common.{◌≡◌, ◌==◌, ℕ, Bool, true, false, cond, nat_lt, Option, None, Some, IfSome, slice_get, slice_set, unwrap_or, refl, sym, subst, ap, ◌∙◌}
 use Rattle.vlink.specs.declared.frame.Frame.{Frame}
 use Rattle.vlink.specs.declared.frame.Net.{Net}
 use Rattle.vlink.specs.declared.frame.Net.TheVariants.{A, B}
@@ -14,6 +14,8 @@ use Rattle.policer.specs.declared.account.Arrival.{Arrival}
 use Rattle.policer.specs.declared.account.AccountRecord.{AccountRecord}
 use Rattle.output_port.specs.declared.event.PortEvent.{PortEvent}
 use Rattle.output_port.specs.declared.event.PortEvent.TheVariants.{Free}
+use Rattle.output_port.specs.declared.event.PortRecord.TheVariants as saved
+use Rattle.output_port.specs.declared.event.PutRecord.TheVariants as of_put
 use Rattle.output_port.specs.declared.event.Priority.TheVariants.{Low}
 use Rattle.integrity.specs.Integrity.{integrity}
 use Rattle.integrity.specs.declared.checking.Checked.{Checked}
@@ -24,33 +26,36 @@ use Rattle.nodes.specs.declared.receiving.Receiving.{Receiving}
 use Rattle.nodes.specs.declared.source.Source.{Source}
 use Rattle.nodes.specs.declared.transit.Transit.{Transit}
 use Rattle.nodes.specs.declared.vl_end.VlEnd.{VlEnd}
-use Rattle.nodes.specs.rules.Changes.{port_change, transit_change}
 use Rattle.nodes.specs.rules.EndSystem.{EndSystemState, check_of, copied, copied_kept, copy, delivery_kept, is_on, port_of, received, received_kept, reception_number, redundant, released_kept, released_out, source_number, with_check}
 use Rattle.nodes.specs.rules.Node.{handled}
-use Rattle.nodes.specs.rules.Ports.{PortsState, changed, port_kept, port_put_kept}
-use Rattle.nodes.specs.rules.Switch.{SwitchState, entered, entered_kept, transit_number}
-use Rattle.nodes.specs.undoing.Changes.{end_system_undone, modified, reception_undone, source_undone, switch_undone, transit_undone, undelivered, undone, unreceived, IsLastOfEndSystem, IsLastOfSource, IsLastOfSwitch, IsLastOfTransit}
-use Rattle.nodes.specs.undoing.Ports.{uncopied, unput, IsPortValue}
+use Rattle.nodes.specs.rules.Ports.{PortsState, changed, port_change, port_kept, port_put_kept}
+use Rattle.nodes.specs.rules.Switch.{SwitchState, entered, entered_kept, transit_change, transit_number}
+use Rattle.nodes.specs.undoing.Changes.{end_system_undone, reception_undone, source_undone, switch_undone, transit_undone, undelivered, undone, unreceived, IsLastOfEndSystem, IsLastOfSource, IsLastOfSwitch, IsLastOfTransit}
+use Rattle.nodes.specs.undoing.Ports.{restored, uncopied, IsPortValue}
 use Rattle.nodes.specs.laws.EndSystemSending.{end_system-cases}
-use Rattle.nodes.specs.laws.Places.{found-same, found-there, get-set, modified-back}
-use Rattle.nodes.specs.laws.Ports.{port-cases, unput-undoes}
+use Rattle.nodes.specs.laws.Places.{found-there, get-set, modified-back, set-same}
+use Rattle.nodes.specs.laws.Ports.{nothing-undone, port-cases, put-undone}
 use Rattle.nodes.specs.laws.SwitchSending.{switch-cases}
 
 -- a copy that was put is taken back, and both copies of a frame
 copied-undone : (end : VlEnd) (net : Net) (frame : Frame) (ports : PortsState) →
-    unput (port_of net) (copied_kept end net frame ports) (copied end net frame ports) ≡ ports
+    restored (port_of net) (saved.Put (copied_kept end net frame ports)) (copied end net frame ports) ≡ ports
 copied-undone end net frame ports = go (is_on end net)
   where
-    go : (b : Bool) → unput (port_of net) (cond b (port_put_kept (port_of net) (record frame { net = net }) Low ports) None) (cond b (changed (port_of net) (copy net frame) ports) ports) ≡ ports
-    go true = unput-undoes (port_of net) (record frame { net = net }) Low ports
-    go false = refl
+    go : (b : Bool) → restored (port_of net) (saved.Put (cond b (unwrap_or (port_put_kept (port_of net) (record frame { net = net }) Low ports) of_put.Nothing) of_put.Nothing))
+        (cond b (changed (port_of net) (copy net frame) ports) ports) ≡ ports
+    go true = put-undone (port_of net) (record frame { net = net }) Low ports
+    go false = nothing-undone (port_of net) ports
+
+none-undone : (ports : PortsState) → uncopied (record { a = of_put.Nothing; b = of_put.Nothing }) ports ≡ ports
+none-undone ports = ap (restored 0 (saved.Put of_put.Nothing)) (nothing-undone 1 ports) ∙ nothing-undone 0 ports
 
 released-undone : (end : VlEnd) (a : RegAnswer) (ports : PortsState) → uncopied (released_kept end a ports) (released_out end a ports) ≡ ports
 released-undone end (answer.Released frame) ports =
-    ap (unput 0 (copied_kept end A frame ports)) (copied-undone end B frame (copied end A frame ports)) ∙ copied-undone end A frame ports
-released-undone end answer.Kept ports = refl
-released-undone end answer.Dropped ports = refl
-released-undone end answer.Nothing ports = refl
+    ap (restored 0 (saved.Put (copied_kept end A frame ports))) (copied-undone end B frame (copied end A frame ports)) ∙ copied-undone end A frame ports
+released-undone end answer.Kept ports = none-undone ports
+released-undone end answer.Dropped ports = none-undone ports
+released-undone end answer.Nothing ports = none-undone ports
 
 -- the checks that a frame went through
 received-undone : (t : ℕ) (frame : Frame) (r : Receiving) → unreceived (received_kept frame r) (received t frame r) ≡ r
@@ -82,9 +87,9 @@ end_system-undone n m s = end_system-cases (λ o. EndSystem (end_system_undone o
 }) m.body
 
 -- the account of a virtual link to which a frame came
-entered-undone : (s : SwitchState) (place : ℕ) (x : Transit) (t q : ℕ) (frame : Frame) → slice_get s.transits place ≡ Some x → slice_set s.transits place x ≡ s.transits →
+entered-undone : (s : SwitchState) (place : ℕ) (x : Transit) (t q : ℕ) (frame : Frame) → slice_get s.transits place ≡ Some x →
     switch_undone (transit_change place (entered_kept t q frame x)) (record s { transits = slice_set s.transits place (entered t q frame x) }) ≡ s
-entered-undone s place x t q frame there same = go (x.input == q) (nat_lt x.smax frame.size)
+entered-undone s place x t q frame there = go (x.input == q) (nat_lt x.smax frame.size)
   where
     arrival : Arrival
     arrival = record { at = t; size = frame.size }
@@ -94,9 +99,9 @@ entered-undone s place x t q frame there same = go (x.input == q) (nat_lt x.smax
 
     go : (b c : Bool) → switch_undone (transit_change place (cond b (cond c None (Some (account.saves x.account arrival))) None))
         (record s { transits = slice_set s.transits place (cond b (cond c x new) x) }) ≡ s
-    go true true = ap (λ transits. record s { transits = transits }) same
+    go true true = ap (λ transits. record s { transits = transits }) (set-same s.transits place x there)
     go true false = ap (λ transits. record s { transits = transits }) (modified-back (transit_undone (account.saves x.account arrival)) s.transits place x new there refl)
-    go false c = ap (λ transits. record s { transits = transits }) same
+    go false c = ap (λ transits. record s { transits = transits }) (set-same s.transits place x there)
 
 switch-undone : (n : ℕ) (m : Message) (s : SwitchState) → undone (handled n m (Switch s)).change (handled n m (Switch s)).equipment ≡ Switch s
 switch-undone n m s = switch-cases (λ o. Switch (switch_undone o.change o.state) ≡ Switch s) n m.time s (record {
@@ -104,7 +109,7 @@ switch-undone n m s = switch-cases (λ o. Switch (switch_undone o.change o.state
   at_ports = λ q e. port-cases (λ kept now. Switch (switch_undone (port_change q kept) (record s { ports = now })) ≡ Switch s) q e s.ports refl
       (λ kept now back last. ap (λ ports. Switch (record s { ports = ports })) back);
   takes = λ q frame found h.
-      ap (λ s. Switch s) (entered-undone s found.place found.entry m.time q frame (found-there transit_number s.transits frame.vl.0 found h) (found-same transit_number s.transits frame.vl.0 found h));
+      ap (λ s. Switch s) (entered-undone s found.place found.entry m.time q frame (found-there transit_number s.transits frame.vl.0 found h));
 }) m.body
 
 -- the law of undoing, of all nodes

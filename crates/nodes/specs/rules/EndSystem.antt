@@ -1,5 +1,5 @@
 -- Definition: what an end system does with a message.
-use Rattle.std.specs.Prelude.{ℕ, ◌-◌, Bool, if◌then◌else◌, List, [], ◌∷◌, Option, None, Some, slice_set, option_and_then}
+use Rattle.std.specs.Prelude.{ℕ, ◌-◌, Bool, if◌then◌else◌, List, [], ◌∷◌, Option, None, Some, slice_set, option_and_then, unwrap_or}
 use Rattle.vlink.specs.declared.frame.Frame.{Frame}
 use Rattle.vlink.specs.declared.frame.VlId.{VlId}
 use Rattle.vlink.specs.declared.frame.Net.{Net}
@@ -18,6 +18,7 @@ use Rattle.output_port.specs.declared.event.PortEvent.{PortEvent}
 use Rattle.output_port.specs.declared.event.PortEvent.TheVariants.{Put, Free}
 use Rattle.output_port.specs.declared.event.Priority.TheVariants.{Low}
 use Rattle.output_port.specs.declared.event.PutRecord.{PutRecord}
+use Rattle.output_port.specs.declared.event.PutRecord.TheVariants as put
 use Rattle.integrity.specs.Integrity.{integrity}
 use Rattle.integrity.specs.declared.checking.Checked.{Checked}
 use Rattle.integrity.specs.declared.checking.Checked.TheVariants as check
@@ -33,8 +34,7 @@ use Rattle.nodes.specs.declared.receiving.ReceivingRecord.{ReceivingRecord}
 use Rattle.nodes.specs.declared.source.Source.{Source}
 use Rattle.nodes.specs.declared.reception.Reception.{Reception}
 use Rattle.reverse.specs.Sending.{Reply, silent, joined, loss}
-use Rattle.nodes.specs.rules.Changes.{port_change}
-use Rattle.nodes.specs.rules.Ports.{PortsState, changed, exists, port_kept, port_put_kept, reply}
+use Rattle.nodes.specs.rules.Ports.{PortsState, changed, exists, port_change, port_kept, port_put_kept, reply}
 use Rattle.nodes.specs.rules.Finding.{Found, find}
 
 -- the virtual links that it sends, those that it receives, and its ports
@@ -84,8 +84,8 @@ copied end net frame ports = if is_on end net then changed (port_of net) (copy n
 abbrev pub copied_reply : ℕ → ℕ → VlEnd → Net → Frame → PortsState → Reply
 copied_reply n t end net frame ports = if is_on end net then reply n t (port_of net) (copy net frame) ports else silent
 
-abbrev pub copied_kept : VlEnd → Net → Frame → PortsState → Option PutRecord
-copied_kept end net frame ports = if is_on end net then port_put_kept (port_of net) (record frame { net = net }) Low ports else None
+abbrev pub copied_kept : VlEnd → Net → Frame → PortsState → PutRecord
+copied_kept end net frame ports = if is_on end net then unwrap_or (port_put_kept (port_of net) (record frame { net = net }) Low ports) put.Nothing else put.Nothing
 
 -- both copies, A before B, of the frame that a regulator releases
 abbrev pub released_out : VlEnd → RegAnswer → PortsState → PortsState
@@ -103,9 +103,9 @@ released_reply n t end answer.Nothing ports = silent
 
 abbrev pub released_kept : VlEnd → RegAnswer → PortsState → CopiesRecord
 released_kept end (answer.Released frame) ports = record { a = copied_kept end A frame ports; b = copied_kept end B frame (copied end A frame ports) }
-released_kept end answer.Kept ports = record { a = None; b = None }
-released_kept end answer.Dropped ports = record { a = None; b = None }
-released_kept end answer.Nothing ports = record { a = None; b = None }
+released_kept end answer.Kept ports = record { a = put.Nothing; b = put.Nothing }
+released_kept end answer.Dropped ports = record { a = put.Nothing; b = put.Nothing }
+released_kept end answer.Nothing ports = record { a = put.Nothing; b = put.Nothing }
 
 -- the Release that a regulator asks for
 abbrev pub asked : ℕ → VlId → Option ℕ → Reply

@@ -108,15 +108,19 @@ measure_of policing.Frames = measure.Frames
 abbrev pub account_of : VirtualLink → policer.Policing
 account_of link = full link.smax (bag_ns link) link.policing_jitter_ns (measure_of link.policing)
 
-abbrev pub transit_of : Plan → ℕ → VlPlan → Transit
-transit_of plan n vl = record {
-  vl = vl.link.id;
-  input = first_port (ways_at plan n In vl);
-  outputs = ports_by (ways_at plan n Out vl);
-  smax = vl.link.smax;
-  priority = port_priority vl.link.priority;
-  account = account_of vl.link;
+-- a virtual link that comes in at this port and goes out at these
+abbrev pub transit_by : VirtualLink → ℕ → List Bool → Transit
+transit_by link input outputs = record {
+  vl = link.id;
+  input = input;
+  outputs = outputs;
+  smax = link.smax;
+  priority = port_priority link.priority;
+  account = account_of link;
 }
+
+abbrev pub transit_of : Plan → ℕ → VlPlan → Transit
+transit_of plan n vl = transit_by vl.link (first_port (ways_at plan n In vl)) (ports_by (ways_at plan n Out vl))
 
 -- switch n with this delay, at each of whose ports so many bytes may wait
 abbrev pub switch_opening : Plan → ℕ → ℕ → ℕ → SwitchState

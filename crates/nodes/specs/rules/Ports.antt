@@ -12,6 +12,8 @@ use Rattle.output_port.specs.declared.event.PortAnswer.{PortAnswer}
 use Rattle.output_port.specs.declared.event.PortAnswer.TheVariants as answer
 use Rattle.output_port.specs.declared.event.PortRecord.{PortRecord}
 use Rattle.output_port.specs.declared.event.PutRecord.{PutRecord}
+use Rattle.nodes.specs.declared.change.Change.{Change}
+use Rattle.nodes.specs.declared.change.Change.TheVariants as change
 use Rattle.nodes.specs.declared.ports.Outlet.{Outlet}
 use Rattle.nodes.specs.declared.ports.Wire.{Wire}
 use Rattle.reverse.specs.Sending.{Reply, silent, loss}
@@ -66,9 +68,14 @@ reply_at n t q e None = silent
 abbrev pub reply : ℕ → ℕ → ℕ → PortEvent → PortsState → Reply
 reply n t q e ports = reply_at n t q e (outlet_at ports q)
 
--- what the port keeps of it, and of a frame put
+-- what the port keeps of it, if there is such a port, and of a frame put
 abbrev pub port_kept : ℕ → PortEvent → PortsState → Option PortRecord
 port_kept q e ports = option_map (λ outlet. port.saves outlet.port e) (outlet_at ports q)
 
 abbrev pub port_put_kept : ℕ → Frame → Priority → PortsState → Option PutRecord
 port_put_kept q frame priority ports = option_map (λ outlet. put_kept outlet.port frame priority) (outlet_at ports q)
+
+-- which is the change of a node
+abbrev pub port_change : ℕ → Option PortRecord → Change
+port_change q None = change.Nothing
+port_change q (Some kept) = change.Outlet q kept

@@ -15,8 +15,7 @@ use Rattle.nodes.specs.declared.change.Change.{Change}
 use Rattle.nodes.specs.declared.change.Change.TheVariants as change
 use Rattle.nodes.specs.declared.transit.Transit.{Transit}
 use Rattle.reverse.specs.Sending.{Reply, silent, loss}
-use Rattle.nodes.specs.rules.Changes.{port_change, transit_change}
-use Rattle.nodes.specs.rules.Ports.{PortsState, changed, exists, port_kept, reply}
+use Rattle.nodes.specs.rules.Ports.{PortsState, changed, exists, port_change, port_kept, reply}
 use Rattle.nodes.specs.rules.Finding.{Found, find}
 use Rattle.nodes.specs.rules.Outputs.{marked_from}
 
@@ -70,12 +69,16 @@ entered_reply n t delay q frame transit =
     then (if nat_lt transit.smax frame.size then loss TooLong frame else judged n (t + delay) frame (outputs_of transit) (account.out transit.account (record { at = t; size = frame.size })))
     else loss Unknown frame
 
--- what the account keeps of it, where it judges the frame
+-- what the account keeps of it, where it judges the frame; and that as the change of a node
 abbrev pub entered_kept : ℕ → ℕ → Frame → Transit → Option AccountRecord
 entered_kept t q frame transit =
     if transit.input == q
     then (if nat_lt transit.smax frame.size then None else Some (account.saves transit.account (record { at = t; size = frame.size })))
     else None
+
+abbrev pub transit_change : ℕ → Option AccountRecord → Change
+transit_change place None = change.Nothing
+transit_change place (Some kept) = change.Transit place kept
 
 -- and where its virtual link does not go through the switch
 abbrev pub taken : ℕ → ℕ → ℕ → Frame → SwitchState → Option (Found Transit) → SwitchOutcome

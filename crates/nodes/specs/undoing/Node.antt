@@ -1,5 +1,5 @@
 -- Undoing: what is kept of an event of a node, and the node before it.
-use Rattle.std.specs.Prelude.{ℕ, ◌-◌, length}
+use Rattle.std.specs.Prelude.{◌-◌, length}
 use Rattle.vlink.specs.declared.message.Message.{Message}
 use Rattle.reverse.specs.declared.sends.Sends.{Sends}
 use Rattle.reverse.specs.Plain.{Plain}

@@ -4,7 +4,6 @@ use Rattle.output_port.specs.Port.{port, undone, IsWithinBytes}
 use Rattle.output_port.specs.declared.event.PortEvent.{PortEvent}
 use Rattle.output_port.specs.declared.event.PortRecord.{PortRecord}
 use Rattle.output_port.specs.declared.event.PortRecord.TheVariants.{Put}
-use Rattle.output_port.specs.declared.event.PutRecord.{PutRecord}
 use Rattle.reverse.specs.Plain.{CameFrom}
 use Rattle.nodes.specs.declared.copies.CopiesRecord.{CopiesRecord}
 use Rattle.nodes.specs.declared.ports.Outlet.{Outlet}
@@ -18,14 +17,9 @@ restored_at q kept ports None = ports
 abbrev pub restored : ℕ → PortRecord → PortsState → PortsState
 restored q kept ports = restored_at q kept ports (outlet_at ports q)
 
--- before a frame was put to port q, if one was
-abbrev pub unput : ℕ → Option PutRecord → PortsState → PortsState
-unput q None ports = ports
-unput q (Some kept) ports = restored q (Put kept) ports
-
 -- before the copies of a frame were put to the ports of A and B
 abbrev pub uncopied : CopiesRecord → PortsState → PortsState
-uncopied copies ports = unput 0 copies.a (unput 1 copies.b ports)
+uncopied copies ports = restored 0 (Put copies.a) (restored 1 (Put copies.b) ports)
 
 -- what waits at port q, where there is such a port, is a value of its type
 abbrev pub IsPortValue : ℕ → PortsState → Type 0

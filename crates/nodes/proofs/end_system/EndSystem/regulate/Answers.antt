@@ -4,7 +4,7 @@ use Rattle.bag_regulator.specs.Regulator.{regulator}
 use Rattle.reverse.specs.Sending.{joined, replied}
 use Rattle.nodes.specs.declared.change.Change.TheVariants as change
 use Rattle.nodes.specs.Words.{EndSystemState, asked, found-there, full, lost, regulated, released_kept, released_out, released_reply, source-last, source_at, source_number, IsLastOfEndSystem, IsLastOfSource}
-use Rattle.nodes.proofs.NumberLemmas.{found-read, rising-kept}
+use Rattle.nodes.proofs.NumberLemmas.{found-read}
 use Rattle.nodes.proofs.end_system.EndSystem.regulate.Goals as goal
 
 found : (c : goal.After-self-1) → source_at c.args.self.now c.args.vl ≡ Some (record { place = c.in-Some.place; entry = c.index_mut-source.result.now })
@@ -59,10 +59,3 @@ returns-clause-last c =
     subst (λ change. IsLastOfEndSystem change now) (sym c.regulate.ensures.change)
     (subst (λ new. IfSome (slice_get (slice_set s.sources place new) place) (IsLastOfSource (regulator.saves source.regulator event))) (sym c.regulate.ensures.state)
     (source-last s place source event there c.regulate.ensures.valid))
-
--- the numbers of the virtual links stay
-pub invariant_of-self : goal.invariant_of-self
-invariant_of-self c = (
-  rising-kept source_number c.self.inside.sources.items c.in-Some.place c.index_mut-source.result.now c.regulate.new.self c.index_mut-source.ensures.value (ap source_number c.regulate.ensures.state) c.self.invariant.0,
-  c.self.invariant.1,
-)

@@ -1,9 +1,8 @@
-use Rattle.std.proofs.Common.{◌≡◌, Some, ap, ◌∙◌, sym, subst, slice_set, refl}
+use Rattle.std.proofs.Common.{◌≡◌, Some, ap, ◌∙◌, sym, subst, slice_set}
 use Rattle.reverse.specs.Sending.{replied}
 use Rattle.nodes.specs.rules.EndSystem.{taken}
-use Rattle.nodes.specs.Words.{EndSystemState, received, reception_at, reception_number}
+use Rattle.nodes.specs.Words.{EndSystemState, received, reception_at}
 use Rattle.nodes.specs.declared.change.Change.TheVariants as change
-use Rattle.nodes.proofs.NumberLemmas.{rising-kept}
 use Rattle.nodes.proofs.EndSystemLemmas.{reception-found}
 use Rattle.nodes.proofs.end_system.EndSystem.take.Goals as goal
 
@@ -31,11 +30,3 @@ returns-clause-reply c =
 pub returns-clause-change : goal.returns-clause-change
 returns-clause-change c =
     ap (λ kept. change.Reception c.in-Some.place kept) c.receive.ensures.kept ∙ ap (λ found. (taken c.args.at c.args.frame.now c.args.self.now found).change) (sym (found c))
-
--- the numbers of the virtual links stay
-pub invariant_of-self : goal.invariant_of-self
-invariant_of-self c =
-    let reception = c.index_mut-reception.result.now in (
-      c.self.invariant.0,
-      rising-kept reception_number c.self.inside.receptions.items c.in-Some.place reception (record reception { receiving = c.receive.new.self }) c.index_mut-reception.ensures.value refl c.self.invariant.1,
-    )

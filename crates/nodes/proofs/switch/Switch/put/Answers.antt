@@ -1,9 +1,7 @@
 use Rattle.std.proofs.Common.{◌≡◌, ap, ◌∙◌, sym, subst, option_map}
-use Rattle.output_port.specs.declared.event.PortEvent.{PortEvent}
 use Rattle.output_port.specs.declared.event.PortEvent.TheVariants.{Put}
 use Rattle.output_port.specs.declared.event.PortRecord.TheVariants as saved
-use Rattle.nodes.specs.rules.Changes.{port_change}
-use Rattle.nodes.specs.rules.Ports.{port_kept}
+use Rattle.nodes.specs.rules.Ports.{port_change, port_kept}
 use Rattle.nodes.specs.Words.{PortsState, SwitchState, put-kept, switch-port-last, IsLastOfSwitch}
 use Rattle.nodes.proofs.switch.Switch.put.Goals as goal
 

@@ -1,10 +1,8 @@
 use Rattle.std.proofs.Common.{◌≡◌, Some, ap, ◌∙◌, sym, subst, slice_get, slice_set}
 use Rattle.reverse.specs.Sending.{replied}
-use Rattle.nodes.specs.rules.Switch.{taken}
-use Rattle.nodes.specs.rules.Changes.{transit_change}
+use Rattle.nodes.specs.rules.Switch.{taken, transit_change}
 use Rattle.nodes.specs.Words.{SwitchState, entered, entered_reply, found-there, transit-last, transit_at, transit_number, IsLastOfSwitch}
-use Rattle.nodes.proofs.NumberLemmas.{found-read, rising-kept}
-use Rattle.nodes.proofs.SwitchLemmas.{entered-number}
+use Rattle.nodes.proofs.NumberLemmas.{found-read}
 use Rattle.nodes.proofs.switch.Switch.take.Goals as goal
 
 found : (c : goal.After-of_transit) → transit_at c.args.self.now c.args.frame.now.vl ≡ Some (record { place = c.in-Some.place; entry = c.index_mut-transit.result.now })
@@ -47,10 +45,3 @@ returns-clause-last c =
     let there = subst (λ (s : SwitchState). slice_get s.transits place ≡ Some transit) (sym c.self.view_is) (found-there transit_number c.args.self.now.transits c.args.frame.now.vl.0 (record { place = place; entry = transit }) (found c)) in
     subst (λ change. IsLastOfSwitch change (record s { transits = slice_set s.transits place c.enter.new.transit })) (sym c.of_transit.ensures)
     (transit-last s place transit c.enter.new.transit c.enter.result there c.enter.ensures.last)
-
--- the numbers of the virtual links stay
-pub invariant_of-self : goal.invariant_of-self
-invariant_of-self c =
-    let transit = c.index_mut-transit.result.now in
-    let number = ap transit_number c.enter.ensures.transit ∙ entered-number c.args.at c.args.port c.args.frame.now transit in
-    rising-kept transit_number c.self.inside.transits.items c.in-Some.place transit c.enter.new.transit c.index_mut-transit.ensures.value number c.self.invariant
