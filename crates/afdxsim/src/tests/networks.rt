@@ -1,4 +1,4 @@
-//! The networks of examples/ that rows begin with, and some that differ from them.
+//! The networks of examples/ that rows begin with.
 use super::changes::lines_of;
 use std::alloc::Global;
 use std::test::Fail;
@@ -25,9 +25,6 @@ pub fn network(alloc: Global, name: &str) -> Result<String, Fail> {
         "n1" => one_switch(alloc),
         "n2" => two_networks(alloc),
         "n3" => there_and_back(alloc),
-        "top" => lines_of(alloc, TOP),
-        "empty" => Ok(String::new(alloc)),
-        "endless" => endless(alloc),
         _ => Err("no such network")?,
     }
 }
@@ -47,13 +44,6 @@ fn there_and_back(alloc: Global) -> Result<String, Fail> {
     let second = format!(in alloc; "{second}{paths}")?;
     let second = lines_of(alloc, second.as_str())?;
     Ok(format!(in alloc; "{first}{second}")?)
-}
-
-/// The network `n2` with more offers than any memory holds: 20 * (10^12 + 1).
-fn endless(alloc: Global) -> Result<String, Fail> {
-    let net = two_networks(alloc)?;
-    let net = net.replace(alloc, "until_ns = 2000000", "until_ns = 1000000000000000")?;
-    Ok(net.replace(alloc, "period_ns = 1000000000000", "period_ns = 1000")?)
 }
 
 /// Twenty virtual links, each on both networks.

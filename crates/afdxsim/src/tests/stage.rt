@@ -132,30 +132,40 @@ impl<J: NetworkRun> Stage<J> {
     fn act(&mut self, word: Word<'_>, told: &mut String) -> Result<(), PoolFault>
         requires { J.keeps ≡ true }
     {
-        let number = match word.name {
-            "collect" => return self.collect(word, told),
-            "work" => self.work(word)?,
-            "post" => return self.post(word, told),
-            "publish" => publish(&mut self.exchange)?.ns(),
-            "steps" => self.exchange.steps(),
-            "step" => return tell_step(self.exchange.step_at(word.first), told),
-            "gvt" => self.exchange.gvt().ns(),
-            "mail" => self.letters(word),
-            "before" => self.gate.before.get(),
-            "after" => self.gate.after.get(),
-            _ => return self.ask(word, told),
-        };
-        Ok(write!(told, "{number}")?)
+        match word.name {
+            "collect" => self.collect(word, told),
+            "post" => self.post(word, told),
+            "step" => tell_step(self.exchange.step_at(word.first), told),
+            "pending" | "fits" => self.ask(word, told),
+            _ => {
+                let number = self.number(word)?;
+                Ok(write!(told, "{number}")?)
+            }
+        }
     }
 
-    fn collect(&mut self, word: Word<'_>, told: &mut String) -> Result<(), PoolFault> {
-        match self.helds.get_mut(word.first as usize) {
-            Some(held) if held.pending() == 0 => {
-                let count = collect(held, &mut self.exchange, small(word.second))?;
-                Ok(write!(told, "{count}")?)
-            }
-            _ => Ok(told.push_str("none")?),
+    fn number(&mut self, word: Word<'_>) -> Result<u64, PoolFault> {
+        match word.name {
+            "work" => self.work(word),
+            "publish" => Ok(publish(&mut self.exchange)?.ns()),
+            "steps" => Ok(self.exchange.steps()),
+            "gvt" => Ok(self.exchange.gvt().ns()),
+            "mail" => Ok(self.letters(word)),
+            "before" => Ok(self.gate.before.get()),
+            _ => Ok(self.gate.after.get()),
         }
+    }
+
+    // A process with a block collects nothing.
+    fn collect(&mut self, word: Word<'_>, told: &mut String) -> Result<(), PoolFault> {
+        let Some(held) = self.helds.get_mut(word.first as usize) else {
+            return Ok(told.push_str("none")?);
+        };
+        if held.pending() != 0 {
+            return Ok(told.push_str("none")?);
+        }
+        let count = collect(held, &mut self.exchange, small(word.second))?;
+        Ok(write!(told, "{count}")?)
     }
 
     // How many steps joined the block, those before a refusal among them: then it goes on.
@@ -175,10 +185,10 @@ impl<J: NetworkRun> Stage<J> {
     }
 
     fn post(&mut self, word: Word<'_>, told: &mut String) -> Result<(), PoolFault> {
-        match self.helds.get_mut(word.first as usize) {
-            Some(held) => post(held, &mut self.exchange)?,
-            None => {}
-        }
+        let Some(held) = self.helds.get_mut(word.first as usize) else {
+            return Ok(told.push_str("none")?);
+        };
+        post(held, &mut self.exchange)?;
         Ok(told.push_str("ok")?)
     }
 
@@ -186,12 +196,15 @@ impl<J: NetworkRun> Stage<J> {
         let Some(held) = self.helds.get(word.first as usize) else {
             return Ok(told.push_str("none")?);
         };
-        match word.name {
-            "pending" => write!(told, "{}", held.pending())?,
-            "fits" if self.exchange.fits(held) => told.push_str("yes")?,
-            _ => told.push_str("no")?,
+        if word.name == "pending" {
+            return Ok(write!(told, "{}", held.pending())?);
         }
-        Ok(())
+        let answer = if self.exchange.fits(held) {
+            "yes"
+        } else {
+            "no"
+        };
+        Ok(told.push_str(answer)?)
     }
 
     // How many letters there are in the mail of a process, up to 100.

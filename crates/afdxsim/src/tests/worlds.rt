@@ -1,6 +1,5 @@
 //! What a replay of a journal leaves that the program does not show. What is expected was worked out by hand.
 use super::changes::{changed, repeated};
-use super::segments;
 use journal_text::read_steps;
 use netdesc::read;
 use nodes::Node;
@@ -14,7 +13,7 @@ use vlink::{Body, Letter, Sign, VlId};
 /// and whether its port 0 is busy.
 ///
 /// Steps have pieces with ` + ` between them. `3 x STEPS` is that piece three times.
-const KEPT: &str = "
+pub const ROWS: &str = "
 n1 => until_ns = 2000000 -> until_ns = 1100000 => period_ns = 1000000000000 -> period_ns = 400000 => 0 x G; => mail, next 0, last none, number 0, idle
 n1 => until_ns = 2000000 -> until_ns = 1100000 => period_ns = 1000000000000 -> period_ns = 400000 => T 0 1; => mail, next 0, last none, number 0, idle
 n1 => until_ns = 2000000 -> until_ns = 1100000 => period_ns = 1000000000000 -> period_ns = 400000 => T 0 1;A 0; => mail, next 0, last none, number 0, idle
@@ -32,34 +31,16 @@ n1 => T 0 0;A 0;R 0;P 0;T 3 0;A 3;R 3;P 3;T 0 0;A 0;R 0;P 0;T 2 0;A 2;R 2;P 2;T 
 n1 => until_ns = 2000000 -> until_ns = 10000000 => period_ns = 1000000000000 -> period_ns = 1000 => 10000 x T 0 1; + 10000 x A 0; + 10000 x R 0; + T 0 0;A 0;P 0;G; => mail +6760 -6760, next 0, last none, number 0, idle
 ";
 
-#[test]
-fn what_is_left_is_as_rows_tell(rt: HostRuntime) -> Result<(), Fail> {
-    for row in KEPT.lines() {
-        if !row.is_empty() {
-            assert!(rt; is_kept(rt.alloc(), row)?, "{row}");
-        }
-    }
-    for (most, told) in [(1, "too many lines"), (2, "line 2 is no step")] {
-        assert!(rt; is_refused(rt.alloc(), most, told)?, "{told}");
-    }
-    for row in segments::ROWS.lines() {
-        if !row.is_empty() {
-            assert!(rt; segments::is_told(rt.alloc(), row)?, "{row}");
-        }
-    }
-    Ok(())
-}
-
-// A journal whose second line is bad, where so many lines are allowed, is refused in these words.
-fn is_refused(alloc: Global, most: u64, told: &str) -> Result<bool, Fail> {
+/// A journal whose second line is bad, where so many lines are allowed, is refused in these words.
+pub fn is_refused(alloc: Global, most: u64, told: &str) -> Result<bool, Fail> {
     match read_steps(alloc, b"G\nx\n", most) {
         Ok(_) => Ok(false),
         Err(fault) => Ok(format!(in alloc; "{fault}")?.as_str() == told),
     }
 }
 
-// What the steps of the journal leave, read and done at once, is what the row tells.
-fn is_kept(alloc: Global, row: &str) -> Result<bool, Fail> {
+/// What the steps of the journal leave, read and done at once, is what the row tells.
+pub fn is_told(alloc: Global, row: &str) -> Result<bool, Fail> {
     let (begin, told) = row.rsplit_once(" => ").ok_or("a row of one piece")?;
     let (net, steps) = changed(alloc, begin)?;
     let steps = read_steps(alloc, steps_of(alloc, steps)?.as_bytes(), 100_000)?;

@@ -45,11 +45,15 @@ fn frame(fields: &str) -> Frame {
     Frame {
         vl: VlId(short(vl)),
         number: byte(number),
-        net: if net == 0 { Net::A } else { Net::B },
+        net: net_of(net),
         size: size(bytes),
         offered: moment(offered),
         released: moment(released),
     }
+}
+
+fn net_of(number: u64) -> Net {
+    if number == 0 { Net::A } else { Net::B }
 }
 
 pub fn tell_message(message: &Message, told: &mut String) -> Result<(), AllocError> {
@@ -78,7 +82,7 @@ pub fn tell_message(message: &Message, told: &mut String) -> Result<(), AllocErr
 }
 
 fn tell_frame(frame: &Frame, told: &mut String) -> Result<(), AllocError> {
-    let (vl, bytes, net) = (frame.vl.0, frame.size.bytes(), frame.net as u8);
-    let (number, offered, released) = (frame.number, frame.offered.ns(), frame.released.ns());
-    write!(told, "{vl}.{bytes}.{number}.{net}.{offered}.{released} ")
+    write!(told, "{}.{}.", frame.vl.0, frame.size.bytes())?;
+    write!(told, "{}.{}.", frame.number, frame.net as u8)?;
+    write!(told, "{}.{} ", frame.offered.ns(), frame.released.ns())
 }

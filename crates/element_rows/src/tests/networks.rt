@@ -98,7 +98,14 @@ to_ns = 5760
 
 // The text of the network that rows call so: that of network A alone, with one piece replaced.
 pub fn text_of(alloc: Global, network: &str) -> Result<String, AllocError> {
-    let (piece, by) = match network {
+    let (piece, by) = change_of(network);
+    let (before, after) = ONE.split_once(piece).unwrap_or((ONE, ""));
+    format!(in alloc; "{before}{by}{after}")
+}
+
+// The piece that is replaced, and what stands in its place.
+fn change_of(network: &str) -> (&'static str, &'static str) {
+    match network {
         "two" => ("b = []\n", SECOND_NETWORK),
         "mixed" => ("b = []\n", SECOND_VL),
         "short" => ("until_ns = 2000000", "until_ns = 6000"),
@@ -109,7 +116,5 @@ pub fn text_of(alloc: Global, network: &str) -> Result<String, AllocError> {
         "outage" => ("[[vl]]", OUTAGE),
         "outage_before" => ("[[vl]]", OUTAGE_BEFORE),
         _ => ("", ""),
-    };
-    let (before, after) = ONE.split_once(piece).unwrap_or((ONE, ""));
-    format!(in alloc; "{before}{by}{after}")
+    }
 }

@@ -53,17 +53,15 @@ pub fn tells(alloc: Global, row: &str) -> Result<String, AllocError> {
 
 // Whether each of these messages comes before the next one, and not the other way round.
 fn is_rising(words: &str) -> bool {
-    let mut last: Option<Message> = None;
-    for word in words.split_whitespace() {
-        let next = message(word);
-        if let Some(last) = last {
-            if compare(&last, &next) != Ordering::Less
-                || compare(&next, &last) != Ordering::Greater
-            {
-                return false;
-            }
+    let next = words.split_whitespace().skip(1);
+    for (first, second) in words.split_whitespace().zip(next) {
+        if !rises(&message(first), &message(second)) {
+            return false;
         }
-        last = Some(next);
     }
     true
+}
+
+fn rises(first: &Message, second: &Message) -> bool {
+    compare(first, second) == Ordering::Less && compare(second, first) == Ordering::Greater
 }

@@ -114,11 +114,15 @@ fn act(alloc: Global, stage: &mut Stage, word: &str) -> Result<(), ProcFault> {
 
 // A word whose answer is a number, or none.
 fn tell_answer(stage: &mut Stage, call: &str, rest: &str) -> Result<(), ProcFault> {
-    match asking::ask(&mut stage.process, call, rest)? {
-        Some(number) => write!(stage.told, "{number} ")?,
-        None => stage.told.push_str("none ")?,
+    let answer = asking::ask(&mut stage.process, call, rest)?;
+    tell_number(&mut stage.told, answer)
+}
+
+fn tell_number(told: &mut String, answer: Option<u64>) -> Result<(), ProcFault> {
+    match answer {
+        Some(number) => Ok(write!(told, "{number} ")?),
+        None => Ok(told.push_str("none ")?),
     }
-    Ok(())
 }
 
 // The test actor with this counter.
