@@ -1,13 +1,14 @@
 //! Journals: all their steps in order, and what holds of them.
-ghost use Rattle.std.specs.Prelude.{◌≡◌, ◌≢◌, ◌≤◌, ◌+◌, ℕ, map, take, Err, IfOk, OnOk, slice_get, Some, length};
+ghost use Rattle.std.specs.Prelude.{◌≡◌, ◌≢◌, ◌≤◌, ◌+◌, ℕ, [], map, take, true, Err, IfOk, OnOk, slice_get, Some, length};
 ghost use Rattle.vlink.specs.declared.message.Message.{Message};
 ghost use Rattle.virtual_time.specs.declared.step.Step.{Step};
-ghost use Rattle.virtual_time.specs.Law.{earlier, start, Safe, history, CountLaw, IsFinished, IsWhole};
+ghost use Rattle.virtual_time.specs.Law.{earlier, start, is_enabled, Safe, history, CountLaw, IsFinished, IsWhole};
 ghost use Rattle.nodes.specs.Words.{simulation_of};
-ghost use Rattle.actor_world.specs.declared.fault.StepFault.TheVariants.{NoProcess, Exhausted};
+ghost use Rattle.actor_world.specs.declared.fault.StepFault.TheVariants.{NoProcess, OutOfMemory, Exhausted};
 ghost use Rattle.actor_world.specs.Worlds.{IsExhausted};
 ghost use Rattle.seqsim.specs.Committed.{after};
 ghost use Rattle.timewarp.specs.Networks.{IsAfter};
+ghost use Rattle.timewarp.specs.Replayed.{IsReplayed, StandsBefore};
 ghost use Rattle.timewarp.specs.Replaying.{did, not_enabled, refused};
 
 use crate::laws::world_laws;
@@ -16,6 +17,29 @@ use actor_world::StepFault;
 use netdesc::Network;
 use std::alloc::Global;
 use vlink::Step;
+
+/// Does all these steps where none was done yet, in their order, and counts them. A refusal comes at a step that is not done, and leaves
+/// the replay as it stands before it: `Exhausted` where numbers are wanting there, and `OutOfMemory` where they are not.
+fn do_all(replay: &mut Replay, steps: &[Step]) -> Result<(), StepFault>
+    requires none { IsReplayed replay.old [] }
+    requires totals { replay.old.did + replay.old.not_enabled + replay.old.refused ≡ 0 }
+    ensures replayed { OnOk result (IsReplayed replay.new steps.now) }
+    ensures network { replay.new.world.plan ≡ replay.old.world.plan }
+    ensures all { OnOk result (replay.new.did + replay.new.not_enabled + replay.new.refused ≡ length steps.now) }
+    ensures known { result ≢ Err NoProcess }
+    ensures exhausted { result ≡ Err Exhausted → (n : ℕ) × (x : Step) × StandsBefore replay.new steps.now n x ×
+        IsExhausted (simulation_of replay.old.world.plan) x (after replay.old.world.plan (take n steps.now)) }
+    ensures memory { result ≡ Err OutOfMemory → (n : ℕ) × (x : Step) × StandsBefore replay.new steps.now n x ×
+        (is_enabled (simulation_of replay.old.world.plan) x (after replay.old.world.plan (take n steps.now)) ≡ true) ×
+        ¬ (IsExhausted (simulation_of replay.old.world.plan) x (after replay.old.world.plan (take n steps.now))) }
+    ensures numbered { OnOk result ((n : ℕ) (x : Step) → slice_get steps.now n ≡ Some x →
+        ¬ (IsExhausted (simulation_of replay.old.world.plan) x (after replay.old.world.plan (take n steps.now)))) }
+{
+    for step in steps {
+        replay.do_step(*step)?;
+    }
+    Ok(())
+}
 
 /// Does all steps of a journal on a network, in their order, and counts them. A step that is not enabled, or names a process that there
 /// is not, is counted and passed over: it changes nothing. The first other refusal ends the replay: `OutOfMemory` comes only where a
@@ -51,8 +75,6 @@ pub fn replay(alloc: Global, network: Network, steps: &[Step]) -> Result<Replay,
 {
     world_laws(&network);
     let mut replay = Replay::new(alloc, network)?;
-    for step in steps {
-        replay.do_step(*step)?;
-    }
+    do_all(&mut replay, steps)?;
     Ok(replay)
 }

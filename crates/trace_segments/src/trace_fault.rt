@@ -1,5 +1,6 @@
 //! Why a trace is not written.
 use crate::fault::OutFault;
+use crate::layout::row_fault;
 use crate::segment_fault::SegmentFault;
 use thiserror::Error;
 
@@ -14,13 +15,15 @@ pub enum TraceFault {
     Out(OutFault),
 }
 
-impl From<OutFault> for TraceFault {
+impl From<csv::Error> for TraceFault {
     ghost use Rattle.std.specs.Prelude.{◌≡◌};
+    ghost use Rattle.csv.specs.Reading.{error_kind as kind_of_row};
+    ghost use Rattle.trace_segments.specs.Layout.{row_fault};
     ghost use Rattle.trace_segments.specs.declared.trace_fault.TraceFault.TheVariants.{Out};
 
-    ghost from_gives = { λ fault told. told ≡ Out fault };
+    ghost from_gives = { λ error told. told ≡ Out (row_fault (kind_of_row error)) };
 
-    fn from(fault: OutFault) -> Self {
-        TraceFault::Out(fault)
+    fn from(error: csv::Error) -> Self {
+        TraceFault::Out(row_fault(&error))
     }
 }

@@ -11,42 +11,39 @@ use crate::fault::OutFault;
 use crate::line::{empty, text_of};
 use crate::sink::{Sink, write_all};
 use crate::trace;
+use csv::Error;
 use netdesc::Network;
 use std::alloc::Global;
 use vlink::Row;
 
-/// The text of a trace.
-fn trace_bytes(alloc: Global, network: &Network, rows: &[Row]) -> Result<Vec<u8>, OutFault>
-    ensures text { IfOk result (λ bytes. bytes.items ≡ trace_text network.now rows.now) }
-    ensures fault { IfErr result (λ fault. fault ≢ Device) }
+/// The text of a trace. An error is the library's own.
+fn trace_bytes(alloc: Global, network: &Network, rows: &[Row]) -> Result<Vec<u8>, Error>
+    ensures { IfOk result (λ bytes. bytes.items ≡ trace_text network.now rows.now) }
 {
     let mut out = empty(alloc);
     trace::push_head(&mut out)?;
     trace::push_rows(&mut out, network, rows)?;
-    let bytes = text_of(out)?;
-    Ok(bytes)
+    text_of(out)
 }
 
-/// The lines of these rows alone.
-fn line_bytes(alloc: Global, network: &Network, rows: &[Row]) -> Result<Vec<u8>, OutFault>
-    ensures text { IfOk result (λ bytes. bytes.items ≡ flat_map (trace_line network.now) rows.now) }
-    ensures fault { IfErr result (λ fault. fault ≢ Device) }
+/// The lines of these rows alone. An error is the library's own.
+fn line_bytes(alloc: Global, network: &Network, rows: &[Row]) -> Result<Vec<u8>, Error>
+    ensures { IfOk result (λ bytes. bytes.items ≡ flat_map (trace_line network.now) rows.now) }
 {
     let mut out = empty(alloc);
     trace::push_rows(&mut out, network, rows)?;
-    let bytes = text_of(out)?;
-    Ok(bytes)
+    text_of(out)
 }
 
-/// The lines of these rows, behind the first line of the trace unless that is written.
+/// The lines of these rows, behind the first line of the trace unless that is written. An error is the library's own, so that it is told
+/// as want of memory or as `Layout` where it is turned into a fault, and nowhere before.
 pub(crate) fn next_bytes(
     alloc: Global,
     network: &Network,
     begun: bool,
     rows: &[Row],
-) -> Result<Vec<u8>, OutFault>
-    ensures text { IfOk result (λ bytes. bytes.items ≡ next_text network.now begun rows.now) }
-    ensures fault { IfErr result (λ fault. fault ≢ Device) }
+) -> Result<Vec<u8>, Error>
+    ensures { IfOk result (λ bytes. bytes.items ≡ next_text network.now begun rows.now) }
 {
     if begun {
         line_bytes(alloc, network, rows)

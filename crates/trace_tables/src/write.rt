@@ -7,22 +7,21 @@ ghost use Rattle.trace_tables.specs.Text.{tables_text};
 
 use crate::tables::Tables;
 use crate::text;
+use csv::Error;
 use netdesc::Network;
 use std::alloc::Global;
 use trace_segments::line::{empty, text_of};
 use trace_segments::{OutFault, Sink, write_all};
 
-/// The text of the tables of a network.
-fn csv_text(alloc: Global, network: &Network, tables: &Tables) -> Result<Vec<u8>, OutFault>
-    ensures text { IfOk result (λ bytes. bytes.items ≡ tables_text network.now tables.now) }
-    ensures fault { IfErr result (λ fault. fault ≢ Device) }
+/// The text of the tables of a network. An error is the library's own.
+fn csv_text(alloc: Global, network: &Network, tables: &Tables) -> Result<Vec<u8>, Error>
+    ensures { IfOk result (λ bytes. bytes.items ≡ tables_text network.now tables.now) }
 {
     let mut out = empty(alloc);
     text::push_head(&mut out)?;
     text::push_latencies(&mut out, network, tables.latencies())?;
     text::push_drops(&mut out, network, tables.drops())?;
-    let bytes = text_of(out)?;
-    Ok(bytes)
+    text_of(out)
 }
 
 /// Writes the tables of a network as comma-separated rows, each with a line feed at its end.
