@@ -6,33 +6,37 @@ aimed one; those of several lines come to their ends together. Ports are taken i
 the frame at one port says when it comes to the next. Then some offsets are moved here and there, and what makes the
 frame later is kept. Other offsets may make it later still: what is found is reached, and no bound.
 """
+import contextlib
 import random
+from collections import namedtuple
 
 import afdx
 import bounds
+import files
+import runs
 import second_opinion
+from files import Fault
 
-# How often an offset is moved to see whether the frame comes later.
-MOVES = 200
+# How often an offset is moved to see whether the frame comes later, and how often all are set right again: with so many
+# frames that meet it, and with more of them less often.
+MOVES, OF_FRAMES, ROUNDS = 200, 20, 6
 
 
 class Meeting(second_opinion.Simulation):
-    """A run that notes when the first frame of a virtual link comes to each line's port, and to its destinations."""
+    """A run that notes when the first frame of each virtual link comes to each line's port, and to nodes by each network."""
 
-    def __init__(self, tree, vl):
-        self.vl, self.came = vl, {}
+    def __init__(self, tree):
+        self.came = {}
         super().__init__(tree)
 
     def put(self, t, p, q, frame, high):
-        if frame[0] == self.vl and frame[1] == 0:
-            self.came.setdefault(self.names[self.out[p, q]], t)
+        self.came.setdefault((frame[0], self.names[self.out[p, q]]), t)
         super().put(t, p, q, frame, high)
 
     def handle(self, t, p, variant, fields):
         if variant == "Arrive":
             frame = fields[1]
-            if frame[0] == self.vl and frame[1] == 0:
-                self.came.setdefault((self.names[p], frame[5]), t)
+            self.came.setdefault((frame[0], self.names[p], frame[5]), t)
         super().handle(t, p, variant, fields)
 
 
@@ -54,7 +58,8 @@ class Aim:
                 if other != vl and other not in self.meets:
                     self.meets[other] = place, hop.earliest(), hop.before and hop.before.port
         self.tree = self.of_these()
-        self.offers = {vl: 0}
+        # `due` has when each of the others is to be at the port where it meets the way.
+        self.offers, self.due = {vl: 0}, {}
 
     def of_these(self):
         """What the description says, with the virtual links alone that meet."""
@@ -64,26 +69,26 @@ class Aim:
         return tree
 
     def met(self):
-        """When the aimed frame comes to each port, and to the destination, with the offers so far; none other is offered."""
+        """When first frames come to ports and nodes, with the offers so far; none other is offered."""
         begin = -min(self.offers.values())
         rows = []
         for row in self.tree["vl"]:
             if row["id"] in self.offers:
                 moment = self.offers[row["id"]] + begin
                 rows.append(row | {"offset_ns": moment, "jitter_ns": 0, "period_ns": afdx.LATEST_NS})
-        run = Meeting(self.tree | {"vl": rows, "until_ns": afdx.LATEST_NS}, self.vl.id)
+        run = Meeting(self.tree | {"vl": rows, "until_ns": afdx.LATEST_NS})
         run.run()
         return {place: moment - begin for place, moment in run.came.items()}
 
-    def arrival(self):
+    def arrival(self, met=None):
         """How long after its offer the aimed frame is at the destination, or 0 where it is lost."""
-        return self.met().get((self.where, self.side), 0)
+        return (self.met() if met is None else met).get((self.vl.id, self.where, self.side), 0)
 
     def set_ahead(self):
         """Sets the others so that they meet the frame, port by port. Where they go behind it by their priority, they come
         before all that go ahead, so that one of them is being sent when these come."""
         for place, line in enumerate(self.lines):
-            came = self.met().get(line)
+            came = self.met().get((self.vl.id, line))
             if came is None:
                 return
             meeting = [other for other, (where, _, _) in self.meets.items() if where == place]
@@ -99,17 +104,33 @@ class Aim:
         for other in sorted(others, key=lambda it: (-self.net.vls[it].size, it)):
             _, earliest, up = self.meets[other]
             ahead = lines.get(up, behind)
+            self.due[other] = came - ahead
             self.offers[other] = came - ahead - earliest
             first = max(first, ahead)
             if up is not None:
                 lines[up] = ahead + (self.net.vls[other].size + afdx.BYTES_BETWEEN_FRAMES) * up.byte_ns
         return first
 
+    def set_right(self):
+        """The others delay each other on their own ways. So they are offered earlier by what they were late, or later,
+        some times over; the offers by which the frame came latest are kept."""
+        met = self.met()
+        best, kept = self.arrival(met), dict(self.offers)
+        for _ in range(ROUNDS):
+            for other, due in self.due.items():
+                came = met.get((other, self.lines[self.meets[other][0]]))
+                if came is not None:
+                    self.offers[other] += due - came
+            met = self.met()
+            if self.arrival(met) > best:
+                best, kept = self.arrival(met), dict(self.offers)
+        self.offers = kept
+
     def improve(self, moves):
         """Moves offers here and there, and keeps what makes the frame later."""
         draw, best = random.Random(f"{self.vl.id} {self.where} {self.side}"), self.arrival()
         others = sorted(self.meets)
-        for _ in range(moves if others else 0):
+        for _ in range(moves * OF_FRAMES // max(OF_FRAMES, len(others)) if others else 0):
             other = draw.choice(others)
             before = self.offers.get(other)
             frame = (self.net.vls[draw.choice(others)].size + afdx.BYTES_BETWEEN_FRAMES) * 80
@@ -129,14 +150,131 @@ class Aim:
         Those that do not meet are first offered when the aimed frame has arrived."""
         first, arrived = {}, self.arrival()
         for vl in self.net.vls.values():
-            drawn = next(afdx.words(seed, vl.id)) % (vl.jitter_ns + 1)
-            first[vl.id] = self.offers[vl.id] - drawn if vl.id in self.offers else arrived
+            first[vl.id] = self.offers[vl.id] - self.drawn(seed, vl) if vl.id in self.offers else arrived
         begin = -min(first.values())
         return {vl: moment + begin for vl, moment in first.items()}
+
+    @staticmethod
+    def drawn(seed, vl):
+        """The jitter of the first offer."""
+        return next(afdx.words(seed, vl.id)) % (vl.jitter_ns + 1)
+
+    def name(self):
+        return f"virtual link {self.vl.id} at {self.where} by {self.side}"
 
 
 def aimed(net, vl, where, side, found=None, moves=MOVES):
     """Who meets a virtual link on its way to a destination on a network, set so that it comes late, and how late it is."""
     aim = Aim(net, found or bounds.Bounds(net), vl, where, side)
     aim.set_ahead()
+    aim.set_right()
     return aim, aim.improve(moves)
+
+
+# ---- runs ----
+
+HEAD = "vl,where,network,seed,plain_ns,aimed_ns,frame_ns,way_ns,bound_ns,wait_ns"
+
+
+class AimedRuns:
+    """The runs of a campaign that aims at virtual links, and what came of them: one for each of their destinations, each
+    network and each seed, beside that of the description with this seed."""
+
+    def __init__(self, net, vls, seeds, tables_of, moves=MOVES):
+        self.net, self.seeds, self.tables_of = net, seeds, tables_of
+        self.bounds = bounds.Bounds(net)
+        self.courses = []
+        for vl in vls:
+            for where in sorted(net.vls[vl].destinations, key=net.process.get):
+                for side in sorted(net.vls[vl].paths):
+                    if (where in (path[-1] for path in net.vls[vl].paths[side])) and (vl, where) in self.bounds.by_network:
+                        self.courses.append(aimed(net, vl, where, side, self.bounds, moves))
+        self.lines, self.done, self.status, self.failure = [], 0, 0, None
+
+    def count(self):
+        return len(self.seeds) * (1 + len(self.courses))
+
+    def plan(self):
+        """For each run its seed, and whom it is aimed at, or None."""
+        for seed in self.seeds:
+            yield seed, None
+            for course in self.courses:
+                yield seed, course
+
+    def runs(self):
+        for seed, course in self.plan():
+            if course is None:
+                yield runs.Run(f"seed {seed}", self.net.with_seed(seed, False))
+            else:
+                aim, frame = course
+                offsets = aim.offsets(seed)
+                arrives = offsets[aim.vl.id] + aim.drawn(seed, aim.vl) + frame
+                if arrives > self.net.until_ns:
+                    text = f"the run ends before the aimed frame arrives: until_ns must be {arrives} at the least"
+                    raise Fault(self.net.path, self.net.description.line("top", None, "until_ns"), text)
+                yield runs.Run(f"aimed at {aim.name()}, seed {seed}", self.net.with_offsets(seed, offsets))
+
+    def run(self, maker, keep, progress):
+        """Has all runs made, and takes what they print. The first one that fails ends it."""
+        progress.listen(maker)
+        plain = None
+        with contextlib.closing(maker.results(self.runs())) as results:
+            try:
+                for seed, course in self.plan():
+                    run, printed = next(results)
+                    tables = self.tables_of(self.net, run, printed.tables)
+                    if course is None:
+                        plain, name = tables, f"seed-{seed}"
+                    else:
+                        name = f"aimed-{1 + self.courses.index(course)}-seed-{seed}"
+                        self.lines.append(self.line(seed, *course, plain, tables))
+                    keep(name, run.text, printed.tables)
+                    self.done += 1
+                    progress.tell(self.done, None)
+            except runs.Failure as failure:
+                self.status, self.failure = 1, str(failure)
+            except Fault as fault:
+                self.status, self.failure = files.BAD, str(fault)
+            except files.ENDS as ended:
+                self.status, said = files.why(ended)
+                self.failure = f"{said}, after {self.done} of {self.count()} runs"
+            finally:
+                progress.end()
+
+    def line(self, seed, aim, frame, plain, tables):
+        """What a line of the table has."""
+        key = aim.vl.id, aim.where
+        bound, _ = self.bounds.latencies[key]
+        way = self.bounds.by_network[key][aim.side].longest
+        reached = [plain.latencies[key].greatest, tables.latencies[key].greatest, frame]
+        return Line(*key, aim.side, seed, *reached, way, bound, self.bounds.links[aim.vl.id].wait)
+
+    def above(self):
+        """The lines whose latency is above a bound: one of the two is wrong."""
+        is_above = lambda found, bound: bound is not None and found > bound
+        return [it for it in self.lines if is_above(max(it.plain_ns, it.aimed_ns), it.bound_ns) or is_above(it.frame_ns, it.way_ns)]
+
+    def table(self):
+        return "\n".join([HEAD, *(",".join(map(bounds.said, it)) for it in self.lines)]) + "\n"
+
+    def long_rows(self):
+        for it in self.lines:
+            for measure in HEAD.split(",")[4:]:
+                if getattr(it, measure) is not None:
+                    yield "aim", it.vl, it.where, measure, getattr(it, measure), {"network": it.network, "seed": it.seed}
+
+    def in_words(self):
+        """For each destination the greatest latency with offsets and without, beside its bound."""
+        found = {}
+        for it in self.lines:
+            found.setdefault((it.vl, it.where), []).append(it)
+        for (vl, where), ones in found.items():
+            best = max(ones, key=lambda it: it.frame_ns)
+            latency = max(it.aimed_ns for it in ones)
+            of = f"{latency * 100 / best.bound_ns:.1f} percent of its bound, {best.bound_ns} ns" if best.bound_ns else "it has no bound"
+            way = f"{best.frame_ns} of {best.way_ns} ns" if best.way_ns else f"{best.frame_ns} ns"
+            plain = max(it.plain_ns for it in ones)
+            yield f"virtual link {vl} at {where}: {latency} ns, {of}; from the release on {way}; as described {plain} ns"
+
+
+Line = namedtuple("Line", HEAD.split(","))

@@ -8,8 +8,15 @@ offer of each virtual link, anew and evenly within its period: so frames that ne
 DIR/merged.csv has the tables of all runs together, in the form in which the program prints tables, with one column
 more: the seed that gave the greatest latency of a line, or the most losses. tools/report.py makes a page of it. Counts
 and sums are added and leasts and greatests taken, exactly; so the merged tables do not depend on --jobs.
-DIR/campaign.json says of what description, seeds and program they are. DIR/greatest.csv has of the greatest latencies of the runs the least, the mean and the greatest. With --histograms each
-latency is counted (DIR/histograms.csv), and percentiles of the frames of all runs stand in DIR/greatest.csv.
+DIR/campaign.json says of what description, seeds and program they are. DIR/greatest.csv has of the greatest latencies of
+the runs the least, the mean and the greatest. With --histograms each latency is counted (DIR/histograms.csv), and
+percentiles of the frames of all runs stand in DIR/greatest.csv.
+
+With --set a key of the description has several values in turn, or several keys each combination of theirs. DIR/sweep.csv
+and the page DIR/sweep.html tell what the values do, beside what the seeds do.
+
+With --aim the offsets are such that the frames of others meet those of a virtual link at each port of its way, just ahead
+of them. DIR/aim.csv tells how much of its bounds is then reached.
 
 With --each-outage each link and each switch is out in turn, for the whole run or from a moment on. DIR/outages.csv and the
 page DIR/outages.html tell what is then lost end to end, and what becomes late, beside the same runs without it.
@@ -33,11 +40,16 @@ from fractions import Fraction
 from math import floor
 
 import afdx
+import aim
+import bounds
 import cluster
 import each_outage
+import explain
 import files
+import long_form
 import record
 import runs
+import sweep
 from afdx import CAUSES, GREATEST_SEED, PROGRAM, TABLES_HEAD, whole
 from files import Fault, text_of, write_whole
 from limits import limits_of
@@ -54,6 +66,11 @@ examples:
   campaign.py net.toml --seeds 1 --first 42 --offsets --keep -o worst
         the run of the seed 42 once more, and its description: worst/seed-42.toml, which afdxsim and report.py can be
         given to look at what happened in it
+  campaign.py net.toml --set vl.157.bag_ms=4,8,16 --set link.3.mbit=10,100 --seeds 20 -o sweep
+        six combinations, each with twenty seeds: of the virtual link 157, and of the third link of the description.
+        Nodes have names, as node.SWA.latency_ns=8000,16000. sweep/sweep.html shows effects beside the spread of seeds
+  campaign.py net.toml --aim 157 --until 100000000 -o aim
+        how near 157 comes to its bound at each destination, in runs of 100 ms: aim/aim.csv
   campaign.py net.toml --each-outage -o outages
         what is lost and what becomes late without each link and each switch: outages/outages.html
   campaign.py net.toml --each-outage 50000000 --seeds 5 --keep -o outages
@@ -71,14 +88,17 @@ greatest latency in ns that it may have. Lines that are empty or begin with # ar
 
 status:
   0  each run was made and merged, and no limit is broken
-  1  a limit is broken; or a run failed. The first one that fails is named with its message and ends the campaign. The
+  1  a limit is broken, or with --aim a bound; or a run failed. The first one that fails is named with its message and ends the campaign. The
      runs of all seeds before it are in DIR/merged.csv
   2  a word is wrong, a file cannot be read or written, or it is not what it has to be: one line on error output names
      the file and the line, and nothing is written
 """
 
 # The names of the files that it writes.
-WRITTEN = r"campaign\.json|(merged|greatest|histograms|outages)\.csv|outages\.html|(outage-\d+-)?seed-\d+\.(toml|tables\.csv)"
+WRITTEN = (
+    r"campaign\.json|(merged|greatest|histograms|outages|sweep|aim)\.(csv|json)|(outages|sweep)\.html"
+    r"|((outage|set|aimed)-\d+-)?seed-\d+\.(toml|tables\.csv)"
+)
 GREATEST_HEAD = "vl,where,runs,least_greatest_ns,mean_greatest_ns,greatest_ns,sum_greatest_ns,seed"
 PERCENTS = [50, 95, 99]
 # Of so many outages a line tells what they do.
@@ -89,13 +109,21 @@ MOST_TOLD = 10
 
 
 class Network(afdx.Network):
-    """A description that the program has accepted."""
+    """A description that the program has accepted, or has by all that is known."""
 
-    def __init__(self, path, program):
-        text = text_of(path)
-        self.check(path, text, program)
-        super().__init__(path, text)
+    def __init__(self, description):
+        super().__init__(description.path, description.text, description)
         self.write(self.description.tree)
+
+    @classmethod
+    def accepted(cls, path, program, until_ns=None):
+        """The network of a file, with another end where one is given."""
+        text = text_of(path)
+        cls.check(path, text, program)
+        description = afdx.Description(path, text)
+        if until_ns is not None:
+            description.tree["until_ns"] = until_ns
+        return cls(description)
 
     @staticmethod
     def check(path, text, program):
@@ -132,6 +160,13 @@ class Network(afdx.Network):
             draw = random.Random(seed).random
             for place, period in self.offsets:
                 lines[place + 1] = f"offset_ns = {int(draw() * period)}"
+        return "\n".join(lines) + "\n"
+
+    def with_offsets(self, seed, offsets):
+        """The text of the description with another seed, and these offsets of its virtual links by their numbers."""
+        lines = [f"seed = {seed}", *self.lines]
+        for (place, _), row in zip(self.offsets, self.description.rows("vl")):
+            lines[place + 1] = f"offset_ns = {offsets[row['id']]}"
         return "\n".join(lines) + "\n"
 
 
@@ -250,6 +285,13 @@ class Merged:
             count, _, seed = self.losses[vl, where, cause]
             lines.append(f"dropped,{vl},{where},{cause},{count},,,,{seed}")
         return "\n".join(lines) + "\n"
+
+    def long_rows(self):
+        """The merged tables and the greatest latencies of the runs in the long form."""
+        tables = afdx.Tables("merged tables", self.net, self.text())
+        yield from long_form.rows_of_tables(tables.latencies.values(), tables.losses.values())
+        measures = ["runs", "least_greatest_ns", "mean_greatest_ns", "sum_greatest_ns"]
+        yield from long_form.rows_of_csv("greatest", self.greatest_text(False), measures)
 
     def worst(self):
         """The greatest latency of all as (ns, virtual link, destination, seed), or None where nothing was delivered."""
@@ -387,7 +429,20 @@ def words_of(arguments=None):
         "--each-outage", type=whole(0, afdx.LATEST_NS), nargs="?", const=0, metavar="NS",
         help="runs each seed with each link and each switch out in turn, from this moment in ns on (default: 0)",
     )
-    add("--first", type=whole(0, GREATEST_SEED), metavar="SEED", help="the first seed (default: that of NET)")
+    add(
+        "--set", type=sweep.setting, action="append", metavar="KEY=VALUES",
+        help="runs each seed with each value of a key, as vl.157.bag_ms=4,8,16; of several, with each combination",
+    )
+    add(
+        "--aim", type=whole(0, 65535), action="append", metavar="VL",
+        help="runs each seed (1 unless told) with offsets that let other frames meet those of this virtual link at each port",
+    )
+    add("--until", type=whole(1, afdx.LATEST_NS), metavar="NS", help="the end of the runs (default: that of NET)")
+    add(
+        "--first", "--seed", type=whole(0, GREATEST_SEED), metavar="SEED",
+        help="the first seed, in place of that of NET",
+    )
+    add("--json", action="store_true", help="writes the tables of DIR in long form too: DIR/merged.json, sweep.json, ..")
     jobs = len(os.sched_getaffinity(0)) if hasattr(os, "sched_getaffinity") else os.cpu_count() or 1
     add("--jobs", type=whole(1, 1024), default=jobs, metavar="N", help=f"runs side by side (default here: {jobs})")
     add("--offsets", action="store_true", help="draw the offset of each virtual link within its period, for each run")
@@ -399,10 +454,16 @@ def words_of(arguments=None):
     add("--program", default=PROGRAM, metavar="PATH", help="the program (default: crates/afdxsim/out/afdxsim)")
     add("-o", "--output", metavar="DIR", required=True, help="the folder for what comes of it; it is made if need be")
     words = parser.parse_args(arguments)
-    if words.seeds is None and words.each_outage is None:
+    kinds = {"--each-outage": words.each_outage is not None, "--set": bool(words.set), "--aim": bool(words.aim)}
+    named = [name for name, is_named in kinds.items() if is_named]
+    if words.seeds is None and not named:
         parser.error("how many seeds? --seeds N")
-    if words.histograms and words.each_outage is not None:
-        parser.error("--histograms counts the latencies of runs over seeds, and not with --each-outage")
+    if len(named) > 1:
+        parser.error(f"{' and '.join(named)} are two kinds of campaigns")
+    if words.histograms and named:
+        parser.error(f"--histograms counts the latencies of runs over seeds, and not with {named[0]}")
+    if words.aim and (words.offsets or words.limits):
+        parser.error(f"--aim has offsets of its own, and no {'--offsets' if words.offsets else '--limits'}")
     words.seeds = words.seeds or 1
     return words
 
@@ -411,7 +472,7 @@ def prepare(words):
     """The network, the limits and the seeds, or a fault."""
     if not os.path.isfile(words.program):
         raise Fault(words.program, None, "is not there. `rt run -- --help` in crates/afdxsim builds the program")
-    net = Network(words.net, words.program)
+    net = Network.accepted(words.net, words.program, words.until)
     limits = limits_of(words.limits, net) if words.limits else {}
     first = net.seed if words.first is None else words.first
     if first + words.seeds - 1 > GREATEST_SEED:
@@ -464,8 +525,73 @@ def over_seeds(words, net, limits, seeds):
     campaign.run(maker_of(words, words.histograms), keeper(words))
     if campaign.done:
         path = write_results(words, campaign)
+        write_json(words, "merged.json", campaign.merged.long_rows)
     campaign.tell(path, time.monotonic() - begin)
     return campaign.status or (1 if campaign.broken else 0)
+
+
+def over_settings(words, net, limits, seeds):
+    """Runs all seeds with each combination of the values that are set, and answers the status."""
+    begin = time.monotonic()
+    courses = [
+        (it, Campaign(Network(it.description), limits, seeds, words.offsets))
+        for it in sweep.combinations_of(net.description, words.set)
+    ]
+    found = sweep.Sweep(words.set, courses)
+    found.run(maker_of(words, False), keeper(words), Progress(found.count()))
+    if found.failure:
+        files.tell("campaign.py", found.failure)
+    whole = found.whole()
+    if not whole:
+        files.say("no combination was run to its end, and nothing is written")
+        return found.status
+    table, page = (os.path.join(words.output, name) for name in ("sweep.csv", "sweep.html"))
+    write_whole(table, found.table())
+    write_whole(page, sweep.page(found, words.net, bool(limits)))
+    write_json(words, "sweep.json", found.long_rows)
+    files.say(f"{table} and {page}: {len(whole)} combinations, {found.done} runs, in {time.monotonic() - begin:.1f} s")
+    for it in found.effects()[:MOST_TOLD]:
+        spread = f"seeds {it.spread} ns" if len(seeds) > 1 else "one seed"
+        files.say(f"virtual link {it.vl} at {it.where}: effect {it.effect} ns, {spread}")
+    broken = [(it.name, campaign.broken) for it, campaign in whole if campaign.broken]
+    if limits:
+        files.say(f"limits: {len(limits)}; combinations that break one: {len(broken)}")
+    for name, of in broken:
+        files.say(f"limit broken with {name}: {', '.join(f'virtual link {vl} at {where}' for vl, where in sorted(of))}")
+    return found.status or (1 if broken else 0)
+
+
+def over_aims(words, net, _, seeds):
+    """Runs all seeds with offsets that aim at virtual links, and answers the status."""
+    begin = time.monotonic()
+    for vl in words.aim:
+        if vl not in net.vls:
+            known = explain.meant(str(vl), map(str, net.vls))
+            raise Fault(words.net, net.description.line("vl"), f"--aim {vl}: there is no such virtual link{known}")
+    found = aim.AimedRuns(net, list(dict.fromkeys(words.aim)), seeds, tables_of)
+    if not found.courses:
+        raise Fault(words.net, None, "no frame of the aimed virtual links arrives: size is above smax")
+    found.run(maker_of(words, False), keeper(words), Progress(found.count()))
+    if found.failure:
+        files.tell("campaign.py", found.failure)
+    if not found.lines:
+        files.say("no aimed run was made, and nothing is written")
+        return found.status
+    table = os.path.join(words.output, "aim.csv")
+    write_whole(table, found.table())
+    write_json(words, "aim.json", found.long_rows)
+    files.say(f"{table}: {found.done} runs, in {time.monotonic() - begin:.1f} s")
+    for text in found.in_words():
+        files.say(text)
+    for it in found.above():
+        files.say(f"above its bound, so one of the two is wrong: {','.join(map(bounds.said, it))}")
+    return found.status or (1 if found.above() else 0)
+
+
+def write_json(words, name, rows):
+    """Writes a table in long form too, where that is asked for."""
+    if words.json:
+        write_whole(os.path.join(words.output, name), long_form.text_of(rows()))
 
 
 def over_outages(words, net, limits, seeds):
@@ -508,7 +634,8 @@ def main(arguments=None):
     words = words_of(arguments)
     if words.dask and not cluster.is_here():
         return by_another(sys.argv[1:] if arguments is None else arguments)
-    return (over_seeds if words.each_outage is None else over_outages)(words, *prepare(words))
+    over = over_settings if words.set else over_aims if words.aim else over_seeds if words.each_outage is None else over_outages
+    return over(words, *prepare(words))
 
 
 def by_another(arguments):

@@ -30,6 +30,8 @@ what is told, in this order:
   warnings  size above smax: every frame is dropped at the first switch
             a destination that is reached by one network alone, where there are two
             a period below the BAG: frames wait in the regulator, and are dropped once its depth is full
+            a jitter of offers by which more frames may wait in the regulator than it holds, or longer than a BAG; then
+            most of a latency is the regulator's and not the network's (second_opinion.py --hops tells them apart)
             a line that gets more than 75 percent of what it carries, or more than 100
             an outage that begins after the end; a virtual link that offers nothing before the end
             a BAG longer than the run
@@ -632,12 +634,25 @@ class Warnings:
         if vl.period_ns < vl.bag_ns:
             text = f"is {vl.period_ns}, below the BAG of {vl.bag_ns} ns: frames wait in the regulator, and are dropped "
             add("period_ns", text + "once as many wait as depth says (queue_full)")
+        else:
+            self.wait(vl, add)
         if vl.bag_ns > net.until_ns:
             add("bag_ms", f"is longer than the run, which ends at {net.until_ns} ns: one frame leaves at most")
         drawn = afdx.offers(net.seed, vl.id, vl.offset_ns, vl.period_ns, vl.jitter_ns, net.until_ns)
         if next(drawn, None) is None:
             add("offset_ns", f"is {vl.offset_ns}: nothing is offered before the end, which is at {net.until_ns} ns")
         self.networks(vl, add)
+
+    @staticmethod
+    def wait(vl, add):
+        """What the jitter of offers alone may keep in the regulator."""
+        import bounds  # It imports this file.
+
+        most, depth = -(-vl.jitter_ns // vl.period_ns), vl.depth * vl.sub
+        if most > depth:
+            add("jitter_ns", f"is {vl.jitter_ns}: {most} frames may wait in the regulator, and it holds {depth} (queue_full)")
+        elif (wait := bounds.longest_wait(vl)) > vl.bag_ns:
+            add("jitter_ns", f"is {vl.jitter_ns}: up to {wait} ns of a latency, which begins at the offer, are the regulator's")
 
     def networks(self, vl, add):
         """Destinations without a second copy, where the description has two networks."""

@@ -12,6 +12,7 @@ import sys
 import afdx
 import explain
 import files
+import long_form
 from afdx import CAUSES, Fault
 
 EXAMPLES = """
@@ -365,9 +366,11 @@ def main(arguments=None):
     parser.add_argument("net", metavar="NET", help="the description (TOML)")
     parser.add_argument("--trace", metavar="FILE", help="writes the trace to this file")
     parser.add_argument("--hops", metavar="FILE", help="writes what was measured on the way to this file")
+    parser.add_argument("--json", action="store_true", help="prints the tables as JSON in long form (docs/TOOLS.md, section 7)")
     parser.add_argument("--events", action="store_true", help="tells on error output how many messages were handled")
     words = parser.parse_args(arguments)
-    net = small_enough(explain.accepted(words.net))
+    description = explain.accepted(words.net)
+    net = small_enough(description)
     written = [path for path in (words.trace, words.hops) if path]
     files.judge(written, prints=True)
     simulation = (Measured if words.hops else Simulation)(net)
@@ -375,7 +378,11 @@ def main(arguments=None):
     text_of = lambda lines: "".join(line + "\n" for line in lines)
     texts = {words.trace: text_of(simulation.trace())} if words.trace else {}
     files.write_all(texts | ({words.hops: text_of(simulation.hops())} if words.hops else {}))
-    files.write_out(text_of(simulation.tables()))
+    tables = text_of(simulation.tables())
+    if words.json:
+        found = afdx.Tables("tables", afdx.Network(words.net, description=description), tables)
+        tables = long_form.text_of(long_form.rows_of_tables(found.latencies.values(), found.losses.values()))
+    files.write_out(tables)
     if words.events:
         print(simulation.handled, "events", file=sys.stderr)
 

@@ -477,6 +477,8 @@ class Explained(unittest.TestCase):
         for changes, wanted in (
             ([("size = 128", "size = 129")], f"20: warning: {vl}, size is 129, above smax, which is 128: every frame is dropped at the first switch (too_long)"),
             ([("period_ns = 8_000_000", "period_ns = 7_999_999")], f"22: warning: {vl}, period_ns is 7999999, below the BAG of 8000000 ns: frames wait in the regulator, and are dropped once as many wait as depth says (queue_full)"),
+            ([("jitter_ns = 0", "jitter_ns = 40_000_000")], f"23: warning: {vl}, jitter_ns is 40000000: 5 frames may wait in the regulator, and it holds 4 (queue_full)"),
+            ([("jitter_ns = 0", "jitter_ns = 24_000_000")], f"23: warning: {vl}, jitter_ns is 24000000: up to 24000000 ns of a latency, which begins at the offer, are the regulator's"),
             ([("bag_ms = 8", "bag_ms = 16")], f"22: warning: {vl}, period_ns is 8000000, below the BAG of 16000000 ns: "),
             ([("bag_ms = 8", "bag_ms = 16"), ("8_000_000", "16_000_000")], f"14: warning: {vl}, bag_ms is longer than the run, which ends at 10000000 ns: one frame leaves at most"),
             ([("offset_ns = 0", "offset_ns = 10_000_001")], f"21: warning: {vl}, offset_ns is 10000001: nothing is offered before the end, which is at 10000000 ns"),

@@ -28,6 +28,7 @@ FILES = {
     "trace.csv": "time_ns,where,vl,what,value\n27720,ES2,1,delivered,27720\n",
     "limits.csv": "1,ES2,50000\n",
     "bounds.csv": "",
+    "broken.xlsx": "PK\x03\x04",
     "DIR/merged.csv": "1,ES2,50000\n",
 }
 
@@ -119,6 +120,22 @@ ROWS = [
     # Names that are not UTF-8, or have a line feed.
     ("bounds n\udcff.toml", 2, "n\\xff.toml: cannot be read: No such file or directory"),
     ("bounds a\nb", 2, "a\\nb: cannot be read: No such file or directory"),
+    # Captures, what is measured, the long form, sweeps and aims.
+    ("pcap net.toml trace.csv -o net.toml", 2, "net.toml: " + READ.format("net.toml")),
+    ("pcap net.toml trace.csv -o hard.toml", 2, "hard.toml: " + READ.format("net.toml")),
+    ("pcap net.toml trace.csv -o ./trace.csv", 2, "./trace.csv: " + READ.format("trace.csv")),
+    ("pcap net.toml tables.csv -o net.pcapng", 2, "tables.csv line 1: the columns are not those of a trace: time_ns,where,vl,what,value"),
+    ("pcap net.toml trace.csv -o /dev/full", 2, "/dev/full: cannot be written: No space left on device"),
+    ("pcap net.toml none.csv -o net.pcapng", 2, "none.csv: cannot be read: No such file or directory"),
+    ("second_opinion net.toml --hops link.toml", 2, "link.toml: " + READ.format("net.toml")),
+    ("second_opinion net.toml --trace new.csv --hops ./new.csv", 2, "./new.csv: would be written over new.csv, which is written too; nothing is written"),
+    ("long_form net.toml tables.csv -o hard.toml", 2, "hard.toml: " + READ.format("net.toml")),
+    ("long_form net.toml tables.csv >> tables.csv", 2, "standard output: " + READ.format("tables.csv")),
+    ("long_form net.toml trace.csv", 2, "trace.csv line 1: the columns are not those of tables: table,vl,where,cause,count,least_ns,greatest_ns,sum_ns"),
+    ("campaign net.toml --set vl.1.depth=1,2 -o LINKED", 2, "LINKED/merged.csv: " + READ.format("net.toml")),
+    ("campaign net.toml --aim 1 -o LINKED", 2, "LINKED/merged.csv: " + READ.format("net.toml")),
+    ("campaign net.toml --aim 2 -o DIR", 2, "net.toml line 30: --aim 2: there is no such virtual link"),
+    ("from_table broken.xlsx -o new.toml", 2, "broken.xlsx: is no workbook that can be read: BadZipFile: File is not a zip file"),
 ]
 
 
