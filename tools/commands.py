@@ -205,8 +205,8 @@ def by_program(name, words):
         return subprocess.run([it.path, name, *words]).returncode
     read, written = files_of(name, words)
     if it.how == "second opinion":
-        if name != "seq" or any(word.startswith("--") and not word.startswith("--trace") for word in words):
-            raise Mistake("the second opinion is one of seq NET [--trace FILE], and of page")
+        if name != "seq" or "--progress" in words:
+            raise Mistake("the second opinion is one of seq, without --progress, and of page")
         tell(it.says)
         return subprocess.run([sys.executable, os.path.join(HERE, "second_opinion.py"), *words]).returncode
     if len(read) < OF_PROGRAM[name].files:
@@ -272,7 +272,7 @@ def with_program(words):
     words, path = taken_out(words, "--program")
     it = chosen(by, path)
     if it.how == "second opinion":
-        raise Mistake("the second opinion is one of seq NET [--trace FILE], and of page")
+        raise Mistake("the second opinion is one of seq, without --progress, and of page")
     tell(it.says)
     if it.path:
         return [*words, "--program", it.path], 0
