@@ -27,15 +27,17 @@ OF_PROGRAM = {
     ),
     "replay": OfProgram(2, "NET STEPS", "do the steps of a journal"),
 }
-# Of a tool: its file, the words that come before the user's, and what it says.
-OfTool = namedtuple("OfTool", "file before usage says")
+# Of a tool: its file, the option that it has in any case, and what it says.
+OfTool = namedtuple("OfTool", "file option usage says")
 OF_TOOLS = {
-    "explain": OfTool("explain.py", [], "NET", "all faults of a description with their lines, or its warnings"),
-    "bounds": OfTool("bounds.py", [], "NET [-o FILE]", "worst-case bounds of latencies and ports, as CSV"),
-    "table": OfTool("from_table.py", [], "TABLE.. -o NET", "make a description of the tables of an interface document"),
-    "campaign": OfTool("campaign.py", [], "NET --seeds N -o DIR", "run many seeds, and merge their tables"),
-    "outages": OfTool("campaign.py", ["--each-outage"], "NET -o DIR", "run with each link and each switch out in turn"),
-    "pcap": OfTool("pcap.py", [], "NET TRACE -o FILE", "make a capture for Wireshark of a trace"),
+    "explain": OfTool("explain.py", None, "NET", "all faults of a description with their lines, or its warnings"),
+    "bounds": OfTool("bounds.py", None, "NET [-o FILE]", "worst-case bounds of latencies and ports, as CSV"),
+    "table": OfTool("from_table.py", None, "TABLE.. -o NET", "make a description of the tables of an interface document"),
+    "campaign": OfTool("campaign.py", None, "NET --seeds N -o DIR", "run many seeds, and merge their tables"),
+    "outages": OfTool(
+        "campaign.py", "--each-outage", "NET [--each-outage NS] -o DIR", "run with each link and each switch out in turn"
+    ),
+    "pcap": OfTool("pcap.py", None, "NET TRACE -o FILE", "make a capture for Wireshark of a trace"),
 }
 # The tools that have the program run.
 RUN_IT = ("campaign", "outages")
@@ -252,10 +254,9 @@ def by_tool(name, words):
     tool = OF_TOOLS[name]
     if not is_there(tool):
         raise Mistake(f"there is no tools/{tool.file}")
-    words = [*tool.before, *words]
-    if name == "outages":
-        words = words[1:2] + words[:1] + words[2:] if len(words) > 1 and not words[1].startswith("-") else words[1:] + words[:1]
     asks = asks_for_help(words) or not words
+    # At the end, since the option may have a value.
+    words = words + [tool.option] * bool(tool.option and not any(word.startswith(tool.option) for word in words))
     if name in RUN_IT and not asks:
         words, status = with_program(words)
         if status:
@@ -275,11 +276,10 @@ def with_program(words):
         raise Mistake("the second opinion is one of seq, without --progress, and of page")
     tell(it.says)
     if it.path:
-        return [*words, "--program", it.path], 0
+        return ["--program", it.path, *words], 0
     # Before the two minutes in which the program is built.
-    nets = [word for word in words[:1] if not word.startswith("-")]
-    status = explained(nets[0]) if nets else 0
-    return [*words, "--by-try"], status
+    status = explained(words[0]) if words and not words[0].startswith("-") else 0
+    return ["--by-try", *words], status
 
 
 # ---- the page ----
