@@ -25,7 +25,7 @@ import program
 from program import ROOT, NoProgram
 
 # Tools for who changes the program: they need its sources.
-ONLY_IN_A_CLONE = ("gate.py", "crate_times.py", "package.py", "reading_list.py", "refuse_memory.py", "threaded_runs.py")
+ONLY_IN_A_CLONE = ("gate.py", "package.py", "reading_list.py", "refuse_memory.py", "threaded_runs.py")
 PYTHON = "/usr/bin/python3"
 CONTROL = """Package: afdxsim
 Version: {version}
