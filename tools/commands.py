@@ -347,7 +347,7 @@ def page(arguments):
         more = [absolute(word) for word in more]
         more += ["--trace", "trace.csv"] if os.path.exists(trace) else []
         more += [] if words.no_bounds else ["--bounds", "bounds.csv"]
-        more += ["--made-by", it.says] if it and can_tell_who_made() else []
+        more += ["--made-by", it.says] if it else []
         tables = linked(words.tables, folder) if words.tables else "tables.csv"
         command = tool_command("report.py", linked(words.net, folder), tables, "-o", os.path.abspath(words.output), *more)
         return subprocess.run(command, cwd=folder).returncode
@@ -366,11 +366,6 @@ def absolute(word):
     """A word with the file that it names, if it does, named from the root on."""
     option, has_value, value = word.rpartition("=") if word.startswith("--") else ("", "", word)
     return option + has_value + (os.path.abspath(value) if os.path.exists(value) else value)
-
-
-def can_tell_who_made():
-    with open(os.path.join(HERE, "report.py"), encoding="utf-8") as file:
-        return '"--made-by"' in file.read()
 
 
 def simulate(it, net, tables, trace):

@@ -386,6 +386,9 @@ FACTS += ["policing_ns", "skew_ns", "depth", "sub"]
 class Page:
     """The page. Its tables are data, which its script draws."""
 
+    # Who made the tables, where that is told.
+    made_by = None
+
     def __init__(self, given):
         self.given, self.net, self.tables = given, given.net, given.tables
         self.ends = EndTable(given).columns
@@ -739,6 +742,9 @@ class Page:
         return words + f"One run of {span(net.until_ns)} with the seed {net.seed}."
 
     def foot(self):
+        return self.made_of() + (f" The tables are by {esc(self.made_by)}." if self.made_by else "")
+
+    def made_of(self):
         given = self.given
         files = [given.net, given.tables, given.trace, given.limits, given.bounds, given.other and given.other.tables]
         runs = "these runs" if self.tables.merged else "this run"
@@ -764,6 +770,7 @@ def words_of(arguments=None):
     seed = afdx.whole(0, afdx.GREATEST_SEED)
     add("--first", type=seed, metavar="SEED", help="the first of them (default: that of NET)")
     add("--offsets", action="store_true", help="of merged tables: the campaign drew offsets")
+    add("--made-by", metavar="TEXT", help="who made the tables, for the foot of the page: the program, and whether it was proved")
     add("-o", "--output", metavar="FILE", required=True, help="the page to write (HTML)")
     words = parser.parse_args(arguments)
     if words.against_net and not words.against:
@@ -801,7 +808,9 @@ def main(arguments=None):
     words = words_of(arguments)
     given = given_by(words)
     files.judge([words.output])
-    files.write_whole(words.output, Page(given).html())
+    page = Page(given)
+    page.made_by = words.made_by
+    files.write_whole(words.output, page.html())
 
 
 if __name__ == "__main__":
