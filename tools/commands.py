@@ -198,7 +198,8 @@ def by_program(name, words):
         with contextlib.suppress(NoProgram):
             found = program.given(path) if path else program.proved()
             return subprocess.run([found.path, name, *words]).returncode
-        print(f"usage: afdx {name} {OF_PROGRAM[name].usage}\n\n{OF_PROGRAM[name].says}\n\ndocs/FORMATS.md, section 9, has all of it.")
+        it = OF_PROGRAM[name]
+        files.say(f"usage: afdx {name} {it.usage}\n\n{it.says}\n\ndocs/FORMATS.md, section 9, has all of it.")
         return 0
     it = chosen(by, path)
     if it.how in ("proved", "given"):
@@ -405,7 +406,7 @@ def build(arguments):
     )
     parser.add_argument("--jobs", type=afdx.whole(1, 1024), default=len(os.sched_getaffinity(0)), metavar="N", help="crates side by side")
     record = by_rt.build(parser.parse_args(arguments).jobs)
-    print(f"{program.BUILT}: {program.in_words(record)}")
+    files.say(f"{program.BUILT}: {program.in_words(record)}")
     return 0
 
 
@@ -453,7 +454,7 @@ def completion_text(is_clone=program.is_clone()):
 def completion(arguments):
     if arguments != ["bash"]:
         raise Mistake("completion is for bash: afdx completion bash")
-    sys.stdout.write(completion_text())
+    files.write_out(completion_text())
     return 0
 
 
@@ -466,10 +467,10 @@ def package(arguments):
 def answer(words):
     """Does what the words say, and answers the status."""
     if words[:1] in (["--help"], ["-h"], ["help"]):
-        sys.stdout.write(help_text())
+        files.write_out(help_text())
         return 0
     if words[:1] == ["--version"]:
-        sys.stdout.write(version_text())
+        files.write_out(version_text())
         return 0
     # What is said of the program may also stand before the command.
     asked = []
@@ -492,7 +493,10 @@ def answer(words):
 def main(words=None):
     try:
         with files.signals_taken():
-            return answer(list(sys.argv[1:] if words is None else words))
+            files.settle_streams()
+            status = answer(list(sys.argv[1:] if words is None else words))
+        # As a shell tells what a signal ended.
+        return status if status >= 0 else files.BEHIND_A_SIGNAL - status
     except (Mistake, NoProgram) as fault:
         tell(str(fault))
         return files.BAD

@@ -235,5 +235,5 @@ def main(arguments):
     )
     parser.add_argument("-o", "--output", metavar="DIR", default="dist", help="the folder for it (default: dist)")
     package = make(parser.parse_args(arguments).output)
-    print(f"{package}: sha256 {program.sum_of_file(package)}")
+    files.say(f"{package}: sha256 {program.sum_of_file(package)}")
     return 0
