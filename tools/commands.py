@@ -27,15 +27,17 @@ OF_PROGRAM = {
     ),
     "replay": OfProgram(2, "NET STEPS", "do the steps of a journal"),
 }
-# Of a tool: its file, the words that come before the user's, and what it says.
-OfTool = namedtuple("OfTool", "file before usage says")
+# Of a tool: its file, the option that it has in any case, and what it says.
+OfTool = namedtuple("OfTool", "file option usage says")
 OF_TOOLS = {
-    "explain": OfTool("explain.py", [], "NET", "all faults of a description with their lines, or its warnings"),
-    "bounds": OfTool("bounds.py", [], "NET [-o FILE]", "worst-case bounds of latencies and ports, as CSV"),
-    "table": OfTool("from_table.py", [], "TABLE.. -o NET", "make a description of the tables of an interface document"),
-    "campaign": OfTool("campaign.py", [], "NET --seeds N -o DIR", "run many seeds, and merge their tables"),
-    "outages": OfTool("campaign.py", ["--each-outage"], "NET -o DIR", "run with each link and each switch out in turn"),
-    "pcap": OfTool("pcap.py", [], "NET TRACE -o FILE", "make a capture for Wireshark of a trace"),
+    "explain": OfTool("explain.py", None, "NET", "all faults of a description with their lines, or its warnings"),
+    "bounds": OfTool("bounds.py", None, "NET [-o FILE]", "worst-case bounds of latencies and ports, as CSV"),
+    "table": OfTool("from_table.py", None, "TABLE.. -o NET", "make a description of the tables of an interface document"),
+    "campaign": OfTool("campaign.py", None, "NET --seeds N -o DIR", "run many seeds, and merge their tables"),
+    "outages": OfTool(
+        "campaign.py", "--each-outage", "NET [--each-outage NS] -o DIR", "run with each link and each switch out in turn"
+    ),
+    "pcap": OfTool("pcap.py", None, "NET TRACE -o FILE", "make a capture for Wireshark of a trace"),
 }
 # The tools that have the program run.
 RUN_IT = ("campaign", "outages")
@@ -196,7 +198,8 @@ def by_program(name, words):
         with contextlib.suppress(NoProgram):
             found = program.given(path) if path else program.proved()
             return subprocess.run([found.path, name, *words]).returncode
-        print(f"usage: afdx {name} {OF_PROGRAM[name].usage}\n\n{OF_PROGRAM[name].says}\n\ndocs/FORMATS.md, section 9, has all of it.")
+        it = OF_PROGRAM[name]
+        files.say(f"usage: afdx {name} {it.usage}\n\n{it.says}\n\ndocs/FORMATS.md, section 9, has all of it.")
         return 0
     it = chosen(by, path)
     if it.how in ("proved", "given"):
@@ -205,8 +208,8 @@ def by_program(name, words):
         return subprocess.run([it.path, name, *words]).returncode
     read, written = files_of(name, words)
     if it.how == "second opinion":
-        if name != "seq" or any(word.startswith("--") and not word.startswith("--trace") for word in words):
-            raise Mistake("the second opinion is one of seq NET [--trace FILE], and of page")
+        if name != "seq" or "--progress" in words:
+            raise Mistake("the second opinion is one of seq, without --progress, and of page")
         tell(it.says)
         return subprocess.run([sys.executable, os.path.join(HERE, "second_opinion.py"), *words]).returncode
     if len(read) < OF_PROGRAM[name].files:
@@ -252,10 +255,9 @@ def by_tool(name, words):
     tool = OF_TOOLS[name]
     if not is_there(tool):
         raise Mistake(f"there is no tools/{tool.file}")
-    words = [*tool.before, *words]
-    if name == "outages":
-        words = words[1:2] + words[:1] + words[2:] if len(words) > 1 and not words[1].startswith("-") else words[1:] + words[:1]
     asks = asks_for_help(words) or not words
+    # At the end, since the option may have a value.
+    words = words + [tool.option] * bool(tool.option and not any(word.startswith(tool.option) for word in words))
     if name in RUN_IT and not asks:
         words, status = with_program(words)
         if status:
@@ -272,14 +274,13 @@ def with_program(words):
     words, path = taken_out(words, "--program")
     it = chosen(by, path)
     if it.how == "second opinion":
-        raise Mistake("the second opinion is one of seq NET [--trace FILE], and of page")
+        raise Mistake("the second opinion is one of seq, without --progress, and of page")
     tell(it.says)
     if it.path:
-        return [*words, "--program", it.path], 0
+        return ["--program", it.path, *words], 0
     # Before the two minutes in which the program is built.
-    nets = [word for word in words[:1] if not word.startswith("-")]
-    status = explained(nets[0]) if nets else 0
-    return [*words, "--by-try"], status
+    status = explained(words[0]) if words and not words[0].startswith("-") else 0
+    return ["--by-try", *words], status
 
 
 # ---- the page ----
@@ -347,7 +348,7 @@ def page(arguments):
         more = [absolute(word) for word in more]
         more += ["--trace", "trace.csv"] if os.path.exists(trace) else []
         more += [] if words.no_bounds else ["--bounds", "bounds.csv"]
-        more += ["--made-by", it.says] if it and can_tell_who_made() else []
+        more += ["--made-by", it.says] if it else []
         tables = linked(words.tables, folder) if words.tables else "tables.csv"
         command = tool_command("report.py", linked(words.net, folder), tables, "-o", os.path.abspath(words.output), *more)
         return subprocess.run(command, cwd=folder).returncode
@@ -366,11 +367,6 @@ def absolute(word):
     """A word with the file that it names, if it does, named from the root on."""
     option, has_value, value = word.rpartition("=") if word.startswith("--") else ("", "", word)
     return option + has_value + (os.path.abspath(value) if os.path.exists(value) else value)
-
-
-def can_tell_who_made():
-    with open(os.path.join(HERE, "report.py"), encoding="utf-8") as file:
-        return '"--made-by"' in file.read()
 
 
 def simulate(it, net, tables, trace):
@@ -410,7 +406,7 @@ def build(arguments):
     )
     parser.add_argument("--jobs", type=afdx.whole(1, 1024), default=len(os.sched_getaffinity(0)), metavar="N", help="crates side by side")
     record = by_rt.build(parser.parse_args(arguments).jobs)
-    print(f"{program.BUILT}: {program.in_words(record)}")
+    files.say(f"{program.BUILT}: {program.in_words(record)}")
     return 0
 
 
@@ -458,7 +454,7 @@ def completion_text(is_clone=program.is_clone()):
 def completion(arguments):
     if arguments != ["bash"]:
         raise Mistake("completion is for bash: afdx completion bash")
-    sys.stdout.write(completion_text())
+    files.write_out(completion_text())
     return 0
 
 
@@ -471,10 +467,10 @@ def package(arguments):
 def answer(words):
     """Does what the words say, and answers the status."""
     if words[:1] in (["--help"], ["-h"], ["help"]):
-        sys.stdout.write(help_text())
+        files.write_out(help_text())
         return 0
     if words[:1] == ["--version"]:
-        sys.stdout.write(version_text())
+        files.write_out(version_text())
         return 0
     # What is said of the program may also stand before the command.
     asked = []
@@ -497,7 +493,10 @@ def answer(words):
 def main(words=None):
     try:
         with files.signals_taken():
-            return answer(list(sys.argv[1:] if words is None else words))
+            files.settle_streams()
+            status = answer(list(sys.argv[1:] if words is None else words))
+        # As a shell tells what a signal ended.
+        return status if status >= 0 else files.BEHIND_A_SIGNAL - status
     except (Mistake, NoProgram) as fault:
         tell(str(fault))
         return files.BAD

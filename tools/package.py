@@ -25,7 +25,8 @@ import program
 from program import ROOT, NoProgram
 
 # Tools for who changes the program: they need its sources.
-ONLY_IN_A_CLONE = ("gate.py", "crate_times.py", "package.py", "reading_list.py", "refuse_memory.py", "threaded_runs.py")
+ONLY_IN_A_CLONE = ("gate.py", "package.py", "reading_list.py", "refuse_memory.py", "threaded_runs.py")
+OF_A_TOOL = re.compile(r"tools/(?!test_)\w+\.(py|lua)|tools/page/.*")
 PYTHON = "/usr/bin/python3"
 CONTROL = """Package: afdxsim
 Version: {version}
@@ -178,9 +179,10 @@ def fill(tree, path, record, begin, root=ROOT):
     for name in sorted(git("ls-files", "-z", "tools", "docs", "examples", "README.md", "CHANGELOG.md", root=root).split("\0")):
         source = os.path.join(root, name)
         base = os.path.basename(name)
-        if not name or base in ONLY_IN_A_CLONE or base.startswith("test_"):
+        is_tool = name.startswith("tools/")
+        if not name or is_tool and (base in ONLY_IN_A_CLONE or not OF_A_TOOL.fullmatch(name)):
             continue
-        folder = "usr/lib/afdxsim" if name.startswith("tools/") else "usr/share/doc/afdxsim"
+        folder = "usr/lib/afdxsim" if is_tool else "usr/share/doc/afdxsim"
         tree.copy(source, f"{folder}/{name}")
     for name, text in manuals(path, begin, record["version"], root).items():
         tree.write(f"usr/share/man/man1/{name}.1.gz", zipped(text))
@@ -233,5 +235,5 @@ def main(arguments):
     )
     parser.add_argument("-o", "--output", metavar="DIR", default="dist", help="the folder for it (default: dist)")
     package = make(parser.parse_args(arguments).output)
-    print(f"{package}: sha256 {program.sum_of_file(package)}")
+    files.say(f"{package}: sha256 {program.sum_of_file(package)}")
     return 0

@@ -170,7 +170,9 @@ class Packages(unittest.TestCase):
         with open(os.path.join(TOP, "examples", "cockpit.tables.csv")) as file:
             tables = file.read()
         net = f"{examples}/cockpit.toml"
-        version = call("afdx", "--version").stdout.splitlines()
+        found = call("afdx", "--version")
+        self.assertEqual(found.returncode, 0, found.stderr)
+        version = found.stdout.splitlines()
         self.assertEqual(version[0], f"afdxsim {program.version(TOP)}")
         self.assertRegex(version[1], "^program: .*, proved, commit [0-9a-f]{8}, " + KIT)
         found = call("afdx", "seq", net)
