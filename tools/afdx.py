@@ -8,6 +8,7 @@ how offers are drawn, tables and traces.
 None of this judges a description as the program does: `afdxsim check` does, and tools/explain.py tells all its faults.
 """
 import argparse
+import hashlib
 import json
 import os
 import re
@@ -15,7 +16,7 @@ from collections import Counter, namedtuple
 from fractions import Fraction
 
 import toml_lines
-from files import Fault, is_same_file, text_of, write_out, write_whole  # noqa: F401: other tools have them from here
+from files import Fault, cut, is_same_file, text_of, write_out, write_whole  # noqa: F401: other tools have them from here
 
 HERE = os.path.dirname(os.path.abspath(__file__))
 PROGRAM = os.path.normpath(os.path.join(HERE, "..", "crates", "afdxsim", "out", "afdxsim"))
@@ -23,8 +24,9 @@ PROGRAM = os.path.normpath(os.path.join(HERE, "..", "crates", "afdxsim", "out", 
 CAUSES = ["queue_full", "port_full", "outage", "unknown", "too_long", "policed", "integrity", "duplicate"]
 TABLES_HEAD = "table,vl,where,cause,count,least_ns,greatest_ns,sum_ns"
 TRACE_HEAD = "time_ns,where,vl,what,value"
-LIMITS_HEAD = "vl,destination,limit_ns"
 NUMBER = re.compile(r"0|[1-9][0-9]*")
+# More digits has no number of a file: counts and sums of any campaign have some thirty.
+MOST_DIGITS = 100
 
 GREATEST_SEED = 2**63 - 1
 # The latest end of a run and the longest period, and the longest jitter and propagation, in ns.
@@ -36,6 +38,15 @@ BYTES_BETWEEN_FRAMES = 20
 BAGS_MS = (1, 2, 4, 8, 16, 32, 64, 128)
 MOST_PROCESSES, MOST_PORTS, MOST_OUTAGES, MOST_DESTINATIONS = 4096, 24, 1024, 64
 MOST_NODES_OF_A_PATH = 32
+
+
+def whole_number(path, line, name, text):
+    """The number that a field of a file is."""
+    if not NUMBER.fullmatch(text):
+        raise Fault(path, line, f"{name} is {cut(text)}, and no whole number")
+    if len(text) > MOST_DIGITS:
+        raise Fault(path, line, f"{name} has {len(text):,} digits, and may have {MOST_DIGITS}")
+    return int(text)
 
 
 def whole(least, greatest):
@@ -62,6 +73,11 @@ def lines_of(path, head, name, text=None):
     if lines.pop():
         raise Fault(path, len(lines) + 1, "the line feed at the end is missing, so the file is not whole")
     return lines
+
+
+def checksum(text):
+    """What tells one description from another: the first digits of its SHA-256."""
+    return hashlib.sha256(text.encode("utf-8")).hexdigest()[:16]
 
 
 # ---- the keys of a description ----
@@ -495,9 +511,7 @@ class Tables:
         return Loss(vl.id, where, cause, count, seed, i)
 
     def number(self, i, column, text):
-        if not NUMBER.fullmatch(text):
-            raise Fault(self.path, i, f"{column} is {text!r}, and no whole number")
-        return int(text)
+        return whole_number(self.path, i, column, text)
 
     def virtual_link(self, i, text):
         number = self.number(i, "vl", text)
@@ -521,8 +535,8 @@ class Trace:
         for i, line in enumerate(lines[1:], 2):
             time, _, rest = line.partition(",")
             what, _, value = rest.rpartition(",")
-            if not (NUMBER.fullmatch(time) and NUMBER.fullmatch(value)):
-                raise Fault(path, i, "has no whole number at its begin and at its end")
+            if not (NUMBER.fullmatch(time) and NUMBER.fullmatch(value) and len(time) < 20 and len(value) < 20):
+                raise Fault(path, i, "has no whole number of 64 bits at its begin and at its end")
             moment, number = int(time), int(value)
             if not before <= moment <= until:
                 text = f"its moment, {moment} ns, is before that of the line above, or after the end of {self.net.path}"
@@ -533,6 +547,9 @@ class Trace:
             where, vl, what, found = known[what]
             self.rows.append((moment, where, vl, what, number))
             if found is None:
+                if number != self.net.vls[vl].size:
+                    text = f"a frame of virtual link {vl} has {number} bytes, and in {self.net.path} it has {self.net.vls[vl].size}"
+                    raise Fault(path, i, text)
                 self.losses[vl, where, what] += 1
             else:
                 found.append(number)
@@ -546,8 +563,8 @@ class Trace:
         if len(fields) != 3:
             raise Fault(self.path, i, f"has {len(fields) + 2} fields in place of 5")
         where, vl, what = fields
-        if not NUMBER.fullmatch(vl) or int(vl) not in self.net.vls:
-            raise Fault(self.path, i, f"virtual link {vl} is not in {self.net.path}")
+        if not NUMBER.fullmatch(vl) or len(vl) > 5 or int(vl) not in self.net.vls:
+            raise Fault(self.path, i, f"virtual link {vl if len(vl) < 20 else cut(vl)} is not in {self.net.path}")
         if what == "delivered":
             if (int(vl), where) not in self.latencies:
                 raise Fault(self.path, i, f"{where!r} is no destination of virtual link {vl} in {self.net.path}")
@@ -573,30 +590,3 @@ class Trace:
             if self.losses[key] != (row.count if row else 0):
                 text = f"{self.losses[key]} frames of virtual link {key[0]} were lost at {key[1]} as {key[2]}, "
                 raise Fault(self.path, last, text + f"and the tables have {row.count if row else 0}, " + other)
-
-
-# ---- limits ----
-
-Limit = namedtuple("Limit", "vl where ns line")
-
-
-def limits_of(path, net):
-    """The limits of a file, by virtual link and destination. The names of the columns may stand above."""
-    limits = {}
-    for i, line in enumerate(text_of(path).split("\n"), 1):
-        if not line.strip() or line.startswith("#") or line == LIMITS_HEAD and not limits:
-            continue
-        fields = line.split(",")
-        if len(fields) != 3:
-            raise Fault(path, i, f"has {len(fields)} fields in place of 3: VL,NAME,NS")
-        vl, where, ns = fields
-        for name, text in (("the virtual link", vl), ("the limit", ns)):
-            if not NUMBER.fullmatch(text):
-                raise Fault(path, i, f"{name} is {text!r}, and no whole number")
-        key = int(vl), where
-        if key not in net.destinations:
-            raise Fault(path, i, f"{where!r} is no destination of virtual link {vl} in {net.path}")
-        if key in limits:
-            raise Fault(path, i, f"says again what line {limits[key].line} says")
-        limits[key] = Limit(*key, int(ns), i)
-    return limits

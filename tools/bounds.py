@@ -25,19 +25,32 @@ sys.path.insert(0, HERE)
 import afdx  # noqa: E402
 import explain  # noqa: E402
 import files  # noqa: E402
+import limits  # noqa: E402
 
 EXAMPLES = """
 examples:
   bounds.py net.toml > bounds.csv
         all bounds of a network; report.py --bounds bounds.csv shows them beside the latencies of a run
+  bounds.py net.toml -o bounds.csv --limits limits.csv --strict --junit limits.xml
+        for a build server: the margins, the least first, and the status 1 where a limit is below its bound
 
-columns:
-  vl,where     a virtual link and a destination; or no virtual link, and the line before which an output port is
-  bound_ns     the greatest latency that a frame may have there, in ns, or none
+columns (further ones may stand beside them; who reads the file goes by their names):
+  vl,where     a virtual link and a destination; or a virtual link and a switch, for its account there; or no virtual
+               link, and the line before which an output port is
+  bound_ns     the greatest latency that a frame may have at the destination, in ns, or none
   wait_ns      how much of it is the wait in the regulator, in ns
   waiting_bytes  the greatest sum of the sizes of the frames that wait at the output port, in bytes, or none
   port_bytes   how many may wait there, in bytes. Where this is less, frames may be lost
   why          why there is no bound
+  sure         the networks by which each frame comes to the destination in the worst case: A, B, AB, or none of them
+  skew_ns      the longest time between the two copies of a frame at the destination, in ns, or none
+  skew_max_ns  how much later the second copy is still known as a copy, in ns
+  jitter_ns    by how much frames may come to the switch closer than a BAG, in ns, or none
+  policing_jitter_ns  how much of it the account there allows, in ns
+  warning      what may go wrong in the worst case, with blanks between: the account may_refuse a frame; at the
+               destination neither network is sure (not_sure); the second copy of a frame may come so late that it is
+               delivered_twice; the port is too_small
+  description  checksum of the description: the first 16 digits of its SHA-256
 
 There is no bound (none)
   where a line of the way may be given more than it can send: the frames that come to it are allowed more by their BAGs.
@@ -49,11 +62,15 @@ A virtual link with both networks has the lesser of the two bounds only where no
 copy of the other can come so late that it is taken for a new frame (skew_max_ns); else the greater.
 
 status:
-  0  the bounds are written, also where there are none
+  0  the bounds are written, also where there are none, and whatever they warn of
+  1  with --strict a limit is below its bound, or has none
   2  a word is wrong, a file cannot be read or written, or `afdxsim` would refuse NET: one line on error output says why
 """
 
-HEAD = "vl,where,bound_ns,wait_ns,waiting_bytes,port_bytes,why"
+COLUMNS = [
+    "vl", "where", "bound_ns", "wait_ns", "waiting_bytes", "port_bytes", "why", "sure", "skew_ns", "skew_max_ns", "jitter_ns",
+    "policing_jitter_ns", "warning", "description",
+]
 
 # Each BAG divides the longest one. So in units of a byte by this many parts a rate is whole, and a line's speed too.
 PARTS = 128 * 10**6
@@ -492,15 +509,55 @@ class Bounds:
         earliest = min(way.least, other.least)
         return other.longest - way.least <= vl.skew_ns and other.longest - earliest <= MOST_STEPS * vl.bag_ns
 
-    def text(self):
-        lines = [HEAD]
+    def bound(self, vl, where):
+        return self.latencies[vl, where][0]
+
+    # ---- what may go wrong in the worst case ----
+
+    def sure(self, vl, where):
+        """The networks by which each frame comes to a destination."""
+        return "".join(side for side, way in self.by_network.get((vl, where), {}).items() if way.is_sure)
+
+    def may_be_twice(self, vl, where):
+        """Whether the second copy of a frame may come so late that it is taken for a new one."""
+        ways = list(self.by_network.get((vl, where), {}).values())
+        known = self.is_known_as_copy
+        return len(ways) == 2 and not all(known(self.links[vl].vl, *pair) for pair in (ways, ways[::-1]))
+
+    def accounts(self):
+        """Each virtual link and switch whose account frames come to, in the order of tables."""
+        return sorted((key for key, hop in self.at.items() if hop.before is not None), key=self.order)
+
+    def may_refuse(self, vl, switch):
+        return not self.links[vl].is_never_refused(self.jitter(vl, switch))
+
+    # ---- as text ----
+
+    def rows(self):
+        """The rows of bounds.csv by columns: destinations, then accounts, then ports."""
         for (vl, where), (bound, why) in self.latencies.items():
-            lines.append(f"{vl},{where},{said(bound)},{self.links[vl].wait},,,{why}")
+            row = {"vl": vl, "where": where, "bound_ns": said(bound), "wait_ns": self.links[vl].wait, "why": why}
+            row["sure"], warnings = self.sure(vl, where), []
+            if not row["sure"]:
+                warnings.append("not_sure")
+            if len(self.by_network.get((vl, where), {})) == 2:
+                row |= {"skew_ns": said(self.skew(vl, where)), "skew_max_ns": self.links[vl].vl.skew_ns}
+                warnings += ["delivered_twice"] if self.may_be_twice(vl, where) else []
+            yield row | {"warning": " ".join(warnings)}
+        for vl, switch in self.accounts():
+            row = {"vl": vl, "where": switch, "jitter_ns": said(self.jitter(vl, switch))}
+            row["policing_jitter_ns"] = self.links[vl].vl.policing_ns
+            yield row | {"warning": "may_refuse" if self.may_refuse(vl, switch) else ""}
         for line in sorted(self.ports, key=self.net.process.get):
             port = self.ports[line]
-            why = port.why if port.most is None else ""
-            lines.append(f",{line},,,{said(port.most)},{port.node.port_bytes},{why}")
-        return "\n".join(lines) + "\n"
+            row = {"where": line, "waiting_bytes": said(port.most), "port_bytes": port.node.port_bytes}
+            is_small = port.most is None or port.most > port.node.port_bytes
+            yield row | {"why": port.why if port.most is None else "", "warning": "too_small" if is_small else ""}
+
+    def text(self):
+        description = afdx.checksum(self.net.text)
+        lines = [COLUMNS] + [[row.get(column, "") for column in COLUMNS[:-1]] + [description] for row in self.rows()]
+        return "".join(",".join(map(str, line)) + "\n" for line in lines)
 
 
 def said(number):
@@ -522,17 +579,33 @@ def words_of(arguments=None):
     )
     parser.add_argument("net", metavar="NET", help="the description (TOML)")
     parser.add_argument("-o", "--output", metavar="FILE", help="the file for the bounds (default: standard output)")
-    return parser.parse_args(arguments)
+    says = "holds limits against the bounds: standard output has the margins, in place of the bounds"
+    parser.add_argument("--limits", metavar="FILE", help=says + "; NET itself for its comments")
+    parser.add_argument("--strict", action="store_true", help="the status is 1 where a limit is below its bound, or has none")
+    parser.add_argument("--junit", metavar="FILE", help="writes what became of each limit as JUnit's XML")
+    words = parser.parse_args(arguments)
+    if (words.strict or words.junit) and not words.limits:
+        parser.error("--strict and --junit are about limits, and there are none: --limits FILE")
+    return words
 
 
 @files.tool
 def main(arguments=None):
     words = words_of(arguments)
-    text = Bounds(accepted(words.net)).text()
-    if words.output:
-        files.write_whole(words.output, text)
-    else:
-        files.write_out(text)
+    net = accepted(words.net)
+    found = Bounds(net)
+    texts = {words.output: found.text()} if words.output else {}
+    if not words.limits:
+        files.write_all(texts)
+        if not words.output:
+            files.write_out(found.text())
+        return 0
+    margins = limits.margins_of(limits.limits_of(words.limits, net), bounds=found)
+    if words.junit:
+        texts[words.junit] = limits.junit_text(margins, words.strict, os.path.basename(words.net))
+    files.write_all(texts, prints=True)
+    files.write_out(limits.margins_text(margins))
+    return 1 if limits.has_failed(margins, words.strict) else 0
 
 
 if __name__ == "__main__":

@@ -8,7 +8,7 @@ offer of each virtual link, anew and evenly within its period: so frames that ne
 DIR/merged.csv has the tables of all runs together, in the form in which the program prints tables, with one column
 more: the seed that gave the greatest latency of a line, or the most losses. tools/report.py makes a page of it. Counts
 and sums are added and leasts and greatests taken, exactly; so the merged tables do not depend on --jobs.
-DIR/greatest.csv has of the greatest latencies of the runs the least, the mean and the greatest. With --histograms each
+DIR/campaign.json says of what description, seeds and program they are. DIR/greatest.csv has of the greatest latencies of the runs the least, the mean and the greatest. With --histograms each
 latency is counted (DIR/histograms.csv), and percentiles of the frames of all runs stand in DIR/greatest.csv.
 
 With --set a key of the description has several values in turn, or several keys each combination of theirs. DIR/sweep.csv
@@ -46,17 +46,21 @@ import each_outage
 import explain
 import files
 import long_form
+import record
 import runs
 import sweep
 import tried_runs
-from afdx import CAUSES, GREATEST_SEED, PROGRAM, TABLES_HEAD, limits_of, whole
+from afdx import CAUSES, GREATEST_SEED, PROGRAM, TABLES_HEAD, whole
 from files import Fault, text_of, write_whole
+from limits import limits_of
 from runs import Failure
 
 EXAMPLES = """
 examples:
   campaign.py net.toml --seeds 100 -o campaign
         a hundred runs, as many side by side as there are processors; campaign/merged.csv
+  report.py net.toml campaign -o report.html
+        the page of them
   campaign.py net.toml --seeds 1000 --jobs 4 --offsets --limits limits.csv -o campaign
         a thousand runs, four at a time, with drawn offsets, each held against limits.csv
   campaign.py net.toml --seeds 1 --first 42 --offsets --keep -o worst
@@ -92,9 +96,11 @@ status:
 
 # The names of the files that it writes.
 WRITTEN = (
-    r"(merged|greatest|histograms|outages|sweep|aim)\.(csv|json)|(outages|sweep)\.html"
+    r"(merged|greatest|histograms|outages|sweep|aim)\.(csv|json)|campaign\.json|(outages|sweep)\.html"
     r"|((outage|set|aimed)-\d+-)?seed-\d+\.(toml|tables\.csv)"
 )
+# What a campaign says of the program where it was these sources by `rt try`.
+NOT_PROVED = "afdxsim, not proved: its sources by rt try"
 GREATEST_HEAD = "vl,where,runs,least_greatest_ns,mean_greatest_ns,greatest_ns,sum_greatest_ns,seed"
 PERCENTS = [50, 95, 99]
 # Of so many outages a line tells what they do.
@@ -494,14 +500,29 @@ def maker_of(words, is_traced):
     return runs.Here(words.program, words.jobs, is_traced)
 
 
-def write_results(folder, merged, has_counts):
+def write_results(words, campaign):
     """Writes what came of the runs, and answers the path of the merged tables."""
-    path = os.path.join(folder, "merged.csv")
-    write_whole(path, merged.text())
-    write_whole(os.path.join(folder, "greatest.csv"), merged.greatest_text(has_counts))
+    path, merged, has_counts = os.path.join(words.output, record.MERGED), campaign.merged, words.histograms
+    text = merged.text()
+    write_whole(path, text)
+    write_whole(os.path.join(words.output, "greatest.csv"), merged.greatest_text(has_counts))
     if has_counts:
-        write_whole(os.path.join(folder, "histograms.csv"), merged.histograms_text())
+        write_whole(os.path.join(words.output, "histograms.csv"), merged.histograms_text())
+    write_record(words, campaign.net, campaign.seeds[: campaign.done], text)
     return path
+
+
+def write_record(words, net, seeds, merged=None):
+    """Writes what the campaign says of itself."""
+    own = ["--seeds", str(words.seeds)]
+    own += ["--each-outage", str(words.each_outage)] if words.each_outage is not None else []
+    own += [name for name, is_given in (("--offsets", words.offsets), ("--histograms", words.histograms)) if is_given]
+    made_by = NOT_PROVED if words.by_try else cluster.version_of(words.program)
+    found = record.Record(
+        afdx.checksum(net.text), made_by, net.until_ns, seeds[0] if seeds else net.seed, len(seeds), words.offsets, own,
+        None if merged is None else afdx.checksum(merged),
+    )
+    write_whole(os.path.join(words.output, record.NAME), found.text())
 
 
 def over_seeds(words, net, limits, seeds):
@@ -510,7 +531,7 @@ def over_seeds(words, net, limits, seeds):
     campaign = Campaign(net, limits, seeds, words.offsets)
     campaign.run(maker_of(words, words.histograms), keeper(words))
     if campaign.done:
-        path = write_results(words.output, campaign.merged, words.histograms)
+        path = write_results(words, campaign)
         write_json(words, "merged.json", campaign.merged.long_rows)
     campaign.tell(path, time.monotonic() - begin)
     return campaign.status or (1 if campaign.broken else 0)
@@ -593,6 +614,7 @@ def over_outages(words, net, limits, seeds):
     table, page = (os.path.join(words.output, name) for name in ("outages.csv", "outages.html"))
     write_whole(table, found.table())
     write_whole(page, each_outage.page(found, words.net))
+    write_record(words, net, seeds)
     summaries = found.summaries()
     files.say(f"{table} and {page}: {len(summaries)} outages, {found.done} runs, in {time.monotonic() - begin:.1f} s")
     for it in summaries[:MOST_TOLD]:

@@ -38,8 +38,9 @@ Sent = namedtuple("Sent", "offered released waiting refused")
 
 # What became of the frames of a virtual link at one of its destinations: `again` were delivered a second time, since
 # their second copy came later than SkewMax; `under_way` has those that wait in the regulator too; `copies` are the
-# second copies that were dropped; `lost` has for each network the copies that were lost on it.
-End = namedtuple("End", "offered delivered again under_way missing copies lost")
+# second copies that were dropped; `lost` has for each network the copies that were lost on it. `too_long` is how many are
+# said to be under way at the end for longer than twice the time that any took.
+End = namedtuple("End", "offered delivered again under_way missing copies lost too_long")
 
 
 def through_regulator(vl, offers, until_ns):
@@ -223,7 +224,14 @@ class Ends:
         again = again.within(missing + under_way - exactly(released - row.count))
         refused, waiting = (exactly(sum(counts)) for counts in zip(*((sent.refused, sent.waiting) for sent in runs)))
         offered = sum(sent.offered for sent in runs)
-        return End(offered, row.count, again, under_way + waiting, missing + refused, copies, lost)
+        too_long = 0 if self.trace else max(0, under_way.least - self.may_be_under_way(journey, runs, row))
+        return End(offered, row.count, again, under_way + waiting, missing + refused, copies, lost, too_long)
+
+    def may_be_under_way(self, journey, runs, row):
+        """How many frames were released so late that they may be under way at the end, if none takes longer than twice the
+        greatest latency that was seen, or that a frame has alone."""
+        longest = 2 * max(row.greatest, *(way.arrival for way in journey.ways.values()))
+        return sum(moment > self.net.until_ns - longest for sent in runs for _, moment in sent.released)
 
     def by_counts(self, journey, runs, row):
         """What tables alone tell of frames that were delivered again, are under way, and are missing."""
@@ -259,6 +267,27 @@ class Ends:
         before = last + 1 - came
         again = exactly(row.count - came)
         return again, Range(sure, len(rest)), Range(before, before + most)
+
+
+def hold(tables):
+    """Refuses tables that no run of their network can give, whatever is offered."""
+    net, other = tables.net, f"so they are tables of another network than {tables.net.path}"
+    for (number, where), row in tables.latencies.items():
+        vl = net.vls[number]
+        if row.count and vl.size > vl.smax:
+            text = f"frames of virtual link {number} came to {where}, and its size is above its smax"
+            raise Fault(tables.path, row.line, f"{text}; {other}")
+        soonest = min(Way(net, vl, path).arrival for path in ways_of(vl, where).values())
+        if row.count and row.least < soonest:
+            text = f"a frame of virtual link {number} came to {where} in {row.least} ns, and it takes {soonest} ns at least"
+            raise Fault(tables.path, row.line, f"{text}; {other}")
+    out = {outage.line for outage in net.outages}
+    for (number, where, cause), row in tables.losses.items():
+        vl = net.vls[number]
+        if cause == "outage" and where not in out or cause == "too_long" and vl.size <= vl.smax:
+            why = f"{where} has no outage" if cause == "outage" else "its size is not above its smax"
+            text = f"frames of virtual link {number} were lost at {where} as {cause}, and {why}"
+            raise Fault(tables.path, row.line, f"{text}; {other}")
 
 
 def drawn_offsets(net, seed):

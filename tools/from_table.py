@@ -169,6 +169,13 @@ def commented(section):
     return [*COMMENTED.get(section, []), REMARKS]
 
 
+def reader_of(path):
+    """A reader of a file of CSV: with or without a byte order mark, by commas, semicolons or tabs."""
+    text = afdx.text_of(path).removeprefix("\ufeff")
+    first = next((line for line in text.split("\n") if line.strip() and not line.startswith("#")), "")
+    return csv.reader(io.StringIO(text, newline=""), delimiter=max(",;\t", key=first.count))
+
+
 def numbered(rows):
     """The rows of a reader of CSV, with their lines."""
     for cells in rows:
@@ -188,9 +195,7 @@ class Tables:
         self.lines["vl"] = self.joined(self.lines["vl"])
 
     def read_csv(self, path):
-        text = afdx.text_of(path).removeprefix("\ufeff")
-        first = next((line for line in text.split("\n") if line.strip() and not line.startswith("#")), "")
-        rows = csv.reader(io.StringIO(text, newline=""), delimiter=max(",;\t", key=first.count))
+        rows = reader_of(path)
         try:
             self.read(path, numbered(rows), self.add)
         except csv.Error as fault:

@@ -21,13 +21,17 @@ import re
 import sys
 from collections import Counter, defaultdict, namedtuple
 from fractions import Fraction
+from urllib.parse import quote
 
 import afdx
 import files
+import frames
+import limits
+import record
 from afdx import CAUSES, Network, Tables, Trace
 from drawing import MOMENTS, Drawing, chart_over_time, heat, legend_of_loads
+from files import cut
 from frames import Ends, Journey, Range, Way, ways_of
-from limits import Bounds, Limits
 from page_text import counted, esc, frame_count, frames_of, hundredths, round_up, span, two_places
 
 EXAMPLES = """
@@ -76,6 +80,10 @@ whole; so an earlier page stays until then.
 LOSSES = CAUSES[:-1]
 COLOURS = dict(zip(LOSSES, ["#e69f00", "#c9392b", "#6c757d", "#111827", "#8e5ea2", "#2f6fb0", "#2a9d78"]))
 
+# Stands for the margin of a limit without a bound where margins are sorted.
+NO_BOUND = -(2**53)
+# Of so many latencies above their bounds a line tells.
+MOST_TOLD = 10
 # Fewer frames than so many tell little of a destination.
 FEW = 10
 # Of so many frames or more there is a histogram; fewer are drawn one by one.
@@ -181,8 +189,8 @@ class EndTable:
             yield "seed", row.seed
         if given.ends:
             yield from self.of_end(given.ends.of[key])
-        if given.limits or given.bounds:
-            yield from self.of_limit(key, row)
+        if given.margins or given.bounds:
+            yield from self.of_limit(key, vl, row)
         if given.trace:
             rising = given.trace.latencies[key]
             for percent in PERCENTS:
@@ -206,18 +214,19 @@ class EndTable:
         for side in "AB":
             yield "lost" + side, one_or_range(end.lost[side]) if side in end.lost else None
 
-    def of_limit(self, key, row):
-        limits, bounds = self.given.limits, self.given.bounds
-        limit = limits.of.get(key) if limits else None
-        bound, _ = bounds.of[key] if bounds else (None, "")
-        worst = bound if bounds else row.greatest if row.count else None
-        yield from (("limit", limit), ("bound", bound))
-        is_known = limit is not None and worst is not None
-        yield "margin", limit - max(worst, row.greatest) if is_known else None
-        tone = 0
-        if limit is not None:
-            tone = BAD if row.greatest > limit else WARN if bounds and (bound is None or bound > limit) else 0
-        yield "limit_tone", tone
+    def of_limit(self, key, vl, row):
+        bounds, margin = self.given.bounds, self.given.margins.get(key)
+        found = bounds.of[key] if bounds else None
+        yield from (("limit", margin.limit.ns if margin else None), ("bound", found.ns if found else None))
+        yield "margin", margin.ns() if margin else None
+        # A limit without a bound stands before all margins.
+        yield "margin_order", (NO_BOUND if margin.has_bound and margin.bound is None else margin.ns()) if margin else None
+        yield "limit_tone", {limits.BROKEN: BAD, limits.BELOW: WARN}.get(margin.verdict(), 0) if margin else 0
+        if bounds:
+            is_above = found.ns is not None and row.count and row.greatest > found.ns
+            yield from (("bound_tone", BAD if is_above else 0), ("skew", found.skew_ns))
+            yield from (("sure", " and ".join(found.sure) or "neither"), ("sure_tone", 0 if found.sure else WARN))
+            yield from (("skew_max", vl.skew_ns), ("skew_tone", WARN if found.may_be_twice else 0))
 
 
 def comparison(given):
@@ -249,27 +258,67 @@ def comparison(given):
 # ---- the tiles ----
 
 
-def tile(name, value, more="", look=""):
+def tile(name, value, more="", look="", where=""):
+    """A tile, which leads to its lines: to a part of the page, or to a virtual link or a line of the network."""
     said = f"<span>{esc(name)}</span><b>{esc(value)}</b><small>{esc(more)}</small>"
-    return f'<div class="tile {look}" data-name="{esc(name)}">{said}</div>'
+    if not where:
+        return f'<div class="tile {look}" data-name="{esc(name)}">{said}</div>'
+    return f'<a class="tile {look}" data-name="{esc(name)}" href="#{esc(where)}">{said}</a>'
 
 
 def tiles(given, ends):
-    found = [tile_of_lost(given, ends), tile_of_copies_lost(given.tables), *tiles_of_limits(given, ends)]
-    found += [tile_of_few(given, ends), *tiles_of_run(given)]
+    found = [tile_of_above(given), tile_of_lost(given, ends), tile_of_too_long(given), tile_of_copies_lost(given.tables)]
+    found += [*tiles_of_limits(given, ends), *tiles_of_bounds(given.bounds), tile_of_few(given, ends), *tiles_of_run(given)]
     return '<div class="tiles">' + "".join(filter(None, found)) + "</div>"
+
+
+def tile_of_above(given):
+    """The latencies above their bounds."""
+    above = given.bounds.above(given.tables.latencies) if given.bounds else []
+    if not above:
+        return ""
+    worst = max(above, key=lambda row: row.greatest - given.bounds.of[row.vl, row.where].ns)
+    more = f"most virtual link {worst.vl} at {worst.where}: one of the two is wrong"
+    return tile("above their bound", counted(len(above), "latency", "latencies"), more, "bad", "latency")
+
+
+def tile_of_too_long(given):
+    """Frames that may be of another run."""
+    count = sum(end.too_long for end in given.ends.of.values()) if given.ends else 0
+    if not count:
+        return ""
+    more = "would be longer on their way than twice any latency. Are these tables of another run, or other seeds?"
+    return tile("under way too long", frame_count(count), more, "bad", "ends")
+
+
+def tiles_of_bounds(bounds):
+    """What may go wrong in the worst case."""
+    if not bounds:
+        return
+    refusing, twice, unsure, small = bounds.refusing(), bounds.twice(), bounds.not_sure(), bounds.too_small()
+    links = counted(len({vl for vl, _ in refusing}), "virtual link")
+    for name, found, all_of, more in (
+        ("accounts may refuse", refusing, bounds.accounts, f"frames of {links} come closer than policing_jitter_ns allows"),
+        ("may be lost on both", unsure, bounds.of, "destinations to which no network brings each frame"),
+        ("may be delivered twice", twice, bounds.of, "destinations where the copies may be further apart than SkewMax"),
+        ("ports too small", small, bounds.waiting, "more bytes may wait there than port_bytes"),
+    ):
+        where = "loads" if found is small else "worst"
+        told = f"in the worst case: {more}" if found else "in the worst case"
+        yield tile(name, f"{len(found):,} of {len(all_of):,}", told, "warn" if found else "good", where)
 
 
 def tile_of_lost(given, ends):
     if not given.ends:
-        return tile("lost end to end", "not known", "of merged tables it is known with --seeds", "warn")
+        more = "of merged tables it is known with the folder of their campaign, or with --seeds"
+        return tile("lost end to end", "not known", more, "warn", "ends")
     missing = under_way = Range(0, 0)
     for end in given.ends.of.values():
         missing, under_way = missing + end.missing, under_way + end.under_way
     offered = sum(ends["offered"])
     more = f"of {offered:,} offered, counted at each destination; {frames_of(under_way)} under way at the end"
     look = "bad" if missing.least else "warn" if missing.most or 0 in ends["count"] else "good"
-    return tile("lost end to end", frames_of(missing), more, look)
+    return tile("lost end to end", frames_of(missing), more, look, "ends")
 
 
 def tile_of_copies_lost(tables):
@@ -278,11 +327,11 @@ def tile_of_copies_lost(tables):
         lost[row.cause] += row.count
     del lost["duplicate"]
     causes = ", ".join(f"{cause} {frame_count(count)}" for cause, count in lost.most_common())
-    return tile("copies lost", frame_count(lost.total()), causes or "no copy was lost", "" if lost else "good")
+    return tile("copies lost", frame_count(lost.total()), causes or "no copy was lost", "" if lost else "good", "losses")
 
 
 def tiles_of_limits(given, ends):
-    if not given.limits:
+    if not given.margins:
         return
     found = [i for i, limit in enumerate(ends["limit"]) if limit is not None]
     broken = sum(ends["limit_tone"][i] == BAD for i in found)
@@ -293,7 +342,7 @@ def tiles_of_limits(given, ends):
     told += [f"nothing was delivered at {silent}"] if silent else []
     look = "bad" if broken else "warn" if below or silent else "good"
     kept = f"{len(found) - broken - silent:,} of {len(found):,}"
-    yield tile("limits kept", kept, ", ".join(told) or "none is broken", look)
+    yield tile("limits kept", kept, ", ".join(told) or "none is broken", look, "latency")
 
 
 def tile_of_few(given, ends):
@@ -309,7 +358,7 @@ def tile_of_few(given, ends):
         told.append(f"run {span(max(needed))} (until_ns = {max(needed):_}) for ten frames each")
     if len(needed) < len(few):
         told.append(f"at {len(few) - len(needed):,} too many are lost for that")
-    return tile("fewer than ten frames", f"at {len(few):,} of {len(ends['count']):,}", "; ".join(told), "warn")
+    return tile("fewer than ten frames", f"at {len(few):,} of {len(ends['count']):,}", "; ".join(told), "warn", "ends")
 
 
 def tiles_of_run(given):
@@ -318,18 +367,21 @@ def tiles_of_run(given):
     copies = sum(row.count for row in tables.losses.values() if row.cause == "duplicate")
     of_runs = f"runs of {span(net.until_ns)} each" if tables.merged else span(net.until_ns)
     ordinary = f"; {counted(copies, 'second copy', 'second copies')} dropped, which is ordinary" if copies else ""
-    yield tile("delivered", frame_count(delivered), f"in {of_runs}{ordinary}")
+    yield tile("delivered", frame_count(delivered), f"in {of_runs}{ordinary}", "", "copies" if copies else "ends")
     worst = max(tables.latencies.values(), key=lambda row: row.greatest, default=None)
     if worst and worst.count:
         seed = f", seed {worst.seed}" if worst.seed is not None else ""
-        yield tile("greatest latency", span(worst.greatest), f"virtual link {worst.vl} at {worst.where}{seed}")
+        told = f"virtual link {worst.vl} at {worst.where}{seed}"
+        yield tile("greatest latency", span(worst.greatest), told, "", f"vl-{worst.vl}")
     if net.load:
         line = max(net.load, key=net.load.get)
         load = two_places(net.load[line]) + " %"
-        yield tile("busiest line", load, f"{line}, of {net.mbit[line]} Mbit/s", "bad" if net.load[line] > 100 else "")
+        look = "bad" if net.load[line] > 100 else ""
+        yield tile("busiest line", load, f"{line}, of {net.mbit[line]} Mbit/s", look, "line-" + quote(line, safe=""))
     if net.outages:
         count = len(net.outages)
-        yield tile("outages", str(count), f"on {len({outage.line for outage in net.outages})} of {len(net.mbit)} lines")
+        told = f"on {len({outage.line for outage in net.outages})} of {len(net.mbit)} lines"
+        yield tile("outages", str(count), told, "", "grid-outages")
 
 
 # ---- the page ----
@@ -342,7 +394,8 @@ def part_of_page(name):
 
 # What a page is made of. `ends` is what became of all frames, where it can be known; `other` has the latencies of the
 # run to compare with and its Ends.
-Given = namedtuple("Given", "net tables trace ends limits bounds other")
+# `margins` has those of the destinations that have a limit, the least first, and `files` all files that it is made of.
+Given = namedtuple("Given", "net tables trace ends margins bounds other files")
 Other = namedtuple("Other", "tables ends")
 
 
@@ -403,10 +456,11 @@ class Page:
 
     # ---- tables ----
 
-    def grid(self, name, columns, sort, rows="ends", only=None, what="lines"):
-        """A table: its columns, the one by which it is sorted, the greatest first, and where its values stand. It has
-        all rows, or those of these numbers alone."""
+    def grid(self, name, columns, sort, rows="ends", only=None, what="lines", up=False):
+        """A table: its columns, the one by which it is sorted, the greatest first or (`up`) the least, and where its values
+        stand. It has all rows, or those of these numbers alone."""
         spec = {"name": name, "columns": columns, "sort": sort, "rows": rows, "what": what}
+        spec |= {"up": True} if up else {}
         self.grids.append(spec if only is None else spec | {"only": only})
         return f'<div class="grid" id="grid-{name}"></div>'
 
@@ -454,8 +508,8 @@ class Page:
     def end_to_end(self):
         if not self.given.ends:
             words = (
-                "How many frames were offered is not known of merged tables alone: give <code>--seeds</code>, and "
-                "<code>--first</code> and <code>--offsets</code> where the campaign had them."
+                "How many frames were offered is not known of merged tables alone: give the folder of the campaign, or "
+                "<code>--seeds</code>, and <code>--first</code> and <code>--offsets</code> where the campaign had them."
             )
             return panel("ends", "End to end", words)
         wide = {"look": "range_of_counts"}
@@ -491,7 +545,7 @@ class Page:
         return [i for *_, i in sorted(found)]
 
     def latency(self):
-        has_limits, has_bounds = bool(self.given.limits), bool(self.given.bounds)
+        has_limits, has_bounds = bool(self.given.margins), bool(self.given.bounds)
         columns = [
             VL_COLUMN,
             DESTINATION_COLUMN,
@@ -504,10 +558,10 @@ class Page:
         if has_limits:
             columns.append(time_column("limit", "limit", "", "limit_tone"))
         if has_bounds:
-            columns.append(time_column("bound", "bound", "a bound of this model, computed outside the proofs"))
+            columns.append(time_column("bound", "bound", "a bound of this model, computed outside the proofs", "bound_tone"))
         if has_limits:
             hint = "the limit less " + ("the bound" if has_bounds else "the greatest")
-            columns.append(time_column("margin", "margin", hint, "limit_tone"))
+            columns.append(time_column("margin", "margin", hint, "limit_tone") | {"order": "margin_order"})
         closer = "policing_jitter_ns: how much closer than a BAG frames may come to a switch"
         columns += [
             column("bag", "bag", "BAG", "ms"),
@@ -523,7 +577,38 @@ class Page:
             "regulator. Each step of the axis is ten times the one before."
         )
         marks = self.marks_of_ranges(has_limits, has_bounds)
-        return panel("latency", "Latencies", words, marks, self.grid("latencies", columns, "greatest"))
+        # Where there are limits, the least margin comes first.
+        grid = self.grid("latencies", columns, "margin", up=True) if has_limits else self.grid("latencies", columns, "greatest")
+        return panel("latency", "Latencies", words, marks, grid)
+
+    def worst_case(self):
+        """What the bounds tell of the worst case beside latencies."""
+        bounds = self.given.bounds
+        refusing = sorted(bounds.refusing(), key=lambda key: (key[0], self.net.process[key[1]]))
+        rows = {"vl": [vl for vl, _ in refusing], "where": [where for _, where in refusing]}
+        found = [bounds.accounts[key] for key in refusing]
+        rows |= {"jitter": [it.jitter_ns for it in found], "policing": [it.policing_ns for it in found]}
+        columns = [VL_COLUMN, column("where", "text", "switch")]
+        columns.append(time_column("jitter", "jitter there", "by how much frames may come closer than a BAG; – where it has no bound"))
+        columns.append(time_column("policing", "policing jitter", "policing_jitter_ns: how much of it the account allows"))
+        pieces = [f"<h3>Accounts that may refuse a frame ({len(refusing):,} of {len(bounds.accounts):,})</h3>"]
+        if refusing:
+            pieces.append(self.grid("accounts", columns, "jitter", rows, what="accounts"))
+        troubled = {key for key, bound in bounds.of.items() if not bound.sure or bound.may_be_twice}
+        only = [i for i, key in enumerate(zip(self.ends["vl"], self.ends["where"])) if key in troubled]
+        pieces.append(f"<h3>Destinations where a frame may be lost, or delivered twice ({len(only):,} of {len(bounds.of):,})</h3>")
+        if only:
+            sure = "the networks by which each frame comes, also in the worst case"
+            columns = [VL_COLUMN, DESTINATION_COLUMN, column("sure", "text", "sure by", "network", sure, "sure_tone")]
+            hint = "the longest time between the two copies of a frame; – where there is one network, or no bound"
+            columns += [time_column("skew", "skew of A and B", hint, "skew_tone"), time_column("skew_max", "SkewMax")]
+            pieces.append(self.grid("unsure", columns, "skew", only=only, what="destinations"))
+        words = (
+            "What the bounds say beside latencies: no run has to show it, and some run may. An account refuses frames that "
+            "come closer to each other than BAG and policing jitter allow (<code>policed</code>); a copy that comes later "
+            "than SkewMax is delivered again. Ports that may be too small are in the table of loads above."
+        )
+        return panel("worst", "In the worst case", words, *pieces)
 
     @staticmethod
     def marks_of_ranges(has_limits, has_bounds):
@@ -674,9 +759,9 @@ class Page:
             out[outage.line].append([outage.from_ns, outage.to_ns])
         found["outages"] = list(out.values())
         if bounds:
-            ports = {line: bounds.waiting.get(line, (0, "")) for line in net.mbit}
-            found["waiting"] = [most for most, _ in ports.values()]
-            found["holds"] = [net.nodes[self.ends_of[line][0]].port_bytes for line in net.mbit]
+            ports = {line: bounds.waiting.get(line, limits.Waiting(0, "")) for line in net.mbit}
+            found["waiting"] = [port.most for port in ports.values()]
+            found["holds"] = [bounds.holds(line) for line in net.mbit]
             tones = zip(found["waiting"], found["holds"])
             found["waiting_tone"] = [WARN if most is None or most > holds else 0 for most, holds in tones]
         return found
@@ -716,6 +801,7 @@ class Page:
         net, given = self.net, self.given
         name = os.path.basename(net.path)
         panels = [self.network(), self.end_to_end(), self.latency()]
+        panels += [self.worst_case()] if given.bounds else []
         panels += [self.against()] if given.other else []
         panels += [self.distribution()] if given.trace else []
         panels += [self.losses()] + ([self.over_time()] if given.trace else []) + [self.second_copies()]
@@ -746,9 +832,8 @@ class Page:
 
     def made_of(self):
         given = self.given
-        files = [given.net, given.tables, given.trace, given.limits, given.bounds, given.other and given.other.tables]
         runs = "these runs" if self.tables.merged else "this run"
-        told = f"Made of {esc(', '.join(file.path for file in files if file))}. It tells what happened in {runs}"
+        told = f"Made of {esc(', '.join(map(files.printable, given.files)))}. It tells what happened in {runs}"
         if given.bounds:
             return told + ". Bounds are bounds of this model, computed outside the proofs."
         return told + ", and is no bound on what can happen."
@@ -760,13 +845,16 @@ def words_of(arguments=None):
     )
     add = parser.add_argument
     add("net", metavar="NET", help="the description (TOML)")
-    add("tables", metavar="TABLES", help="the tables that the program printed for it, or merged ones")
+    add("tables", metavar="TABLES", help="the tables that the program printed for it, merged ones, or the folder of a campaign")
     add("--trace", metavar="FILE", help="the trace of the same run")
-    add("--limits", metavar="FILE", help="the greatest latency that each destination may have, lines VL,NAME,NS")
+    add("--limits", metavar="FILE", help="the greatest latency that each destination may have; NET itself for its comments")
     add("--bounds", metavar="FILE", help="the worst-case bounds that tools/bounds.py printed for NET")
+    add("--strict", action="store_true", help="the status is 1 also where a limit is below its bound, or has none")
+    add("--junit", metavar="FILE", help="writes what became of each limit as JUnit's XML")
     add("--against", metavar="FILE", help="the tables of another run, to compare this one with: before and after")
     add("--against-net", metavar="NET", help="the description of the other run (default: NET)")
-    add("--seeds", type=afdx.whole(1, 10**9), metavar="N", help="of merged tables: how many seeds the campaign had")
+    says = "of merged tables without the record of their campaign: how many seeds they have"
+    add("--seeds", type=afdx.whole(1, 10**9), metavar="N", help=says)
     seed = afdx.whole(0, afdx.GREATEST_SEED)
     add("--first", type=seed, metavar="SEED", help="the first of them (default: that of NET)")
     add("--offsets", action="store_true", help="of merged tables: the campaign drew offsets")
@@ -777,40 +865,111 @@ def words_of(arguments=None):
         parser.error("--against-net says of which network the tables of --against are, and there are none")
     if (words.first is not None or words.offsets) and not words.seeds:
         parser.error("--first and --offsets tell of the runs of a campaign, and --seeds how many they were")
+    if words.junit and not words.limits:
+        parser.error("--junit tells what became of limits, and there are none: --limits FILE")
+    if words.strict and not (words.limits and words.bounds):
+        parser.error("--strict holds limits against bounds: it needs --limits FILE and --bounds FILE")
     return words
 
 
-def ends_of(words, tables, trace=None):
-    """What became of all frames; None where the seeds of merged tables are not told."""
-    first = tables.net.seed if words.first is None else words.first
+# The seeds of the runs of merged tables, and whether their offsets were drawn.
+Runs = namedtuple("Runs", "seeds draws_offsets")
+
+
+def tables_of(path, net):
+    """The tables of a file or of the folder of a campaign, and the record of their campaign, or None."""
+    is_folder = os.path.isdir(path)
+    path = os.path.join(path, record.MERGED) if is_folder else path
+    text = files.text_of(path)
+    found = record.beside(path, text)
+    if is_folder and found is None:
+        raise files.Fault(os.path.dirname(path), None, f"has no {record.NAME} that is the record of its {record.MERGED}")
+    if found and found.description != afdx.checksum(net.text):
+        told = f"its checksum is {cut(found.description)}, and that of {net.path} is {afdx.checksum(net.text)}"
+        raise files.Fault(path, None, f"these are tables of a campaign with another description: {told}")
+    if found and found.until_ns != net.until_ns:
+        raise files.Fault(path, None, f"the runs ended at {found.until_ns} ns, and {net.path} ends at {net.until_ns} ns")
+    tables = Tables(path, net, text)
+    frames.hold(tables)
+    return tables, found
+
+
+def runs_of(words, tables, found):
+    """Which runs the tables are of: as their campaign says, else as the words say; None where nobody does."""
+    first, net = words.first, tables.net
     if not tables.merged:
-        return Ends(tables, [tables.net.seed], trace=trace)
-    return Ends(tables, range(first, first + words.seeds), words.offsets, trace) if words.seeds else None
+        if words.seeds:
+            raise files.Fault(tables.path, None, "these are the tables of one run, and --seeds tells of a campaign")
+        return Runs([net.seed], False)
+    if found:
+        told = Runs(found.all_seeds(), found.offsets)
+        said = words.seeds in (None, found.seeds) and first in (None, found.first_seed)
+        if not said or words.seeds and words.offsets != found.offsets:
+            seeds = f"{found.seeds} seeds from {found.first_seed} on, {'with' if found.offsets else 'without'} drawn offsets"
+            raise files.Fault(tables.path, None, f"the campaign had {seeds}, and the words say something else: leave them out")
+        return told
+    if not words.seeds:
+        return None
+    first = net.seed if first is None else first
+    if first + words.seeds - 1 > afdx.GREATEST_SEED:
+        raise files.Fault(net.path, None, f"the seeds from {first} on would pass {afdx.GREATEST_SEED}")
+    seeds = range(first, first + words.seeds)
+    for row in (*tables.latencies.values(), *tables.losses.values()):
+        if row.seed is not None and row.seed not in seeds:
+            told = f"the seed {row.seed} is none of the {counted(words.seeds, 'seed')} from {first} on"
+            raise files.Fault(tables.path, row.line, f"{told}, so the campaign had others")
+    return Runs(seeds, words.offsets)
+
+
+def ends_of(words, tables, found, trace=None):
+    """What became of all frames; None where the seeds of merged tables are not told."""
+    runs = runs_of(words, tables, found)
+    return Ends(tables, runs.seeds, runs.draws_offsets, trace) if runs else None
 
 
 def given_by(words):
     net = Network(words.net)
-    tables = Tables(words.tables, net)
+    tables, found = tables_of(words.tables, net)
+    if tables.merged and words.trace:
+        raise files.Fault(words.trace, None, f"is the trace of one run, and {tables.path} has the tables of several")
     trace = Trace(words.trace, tables) if words.trace else None
-    limits = None
-    if words.limits:
-        limits = Limits(words.limits, {key: limit.ns for key, limit in afdx.limits_of(words.limits, net).items()})
-    bounds = Bounds(words.bounds, net) if words.bounds else None
+    bounds = limits.Bounds(words.bounds, net) if words.bounds else None
+    margins = limits.margins_of(limits.limits_of(words.limits, net), tables.latencies, bounds) if words.limits else []
     other = None
     if words.against:
-        before = Tables(words.against, Network(words.against_net) if words.against_net else net)
-        other = Other(before, ends_of(words, before))
-    return Given(net, tables, trace, ends_of(words, tables, trace), limits, bounds, other)
+        before, record_before = tables_of(words.against, Network(words.against_net) if words.against_net else net)
+        other = Other(before, ends_of(words, before, record_before) if before.merged == tables.merged else None)
+    made_of = [net.path, tables.path, words.trace, words.limits, words.bounds, other and other.tables.path]
+    margins = {it.limit[:2]: it for it in margins}
+    return Given(net, tables, trace, ends_of(words, tables, found, trace), margins, bounds, other, list(filter(None, made_of)))
+
+
+def tell_above(given):
+    """Tells the latencies above their bounds, and answers whether there are any."""
+    above = given.bounds.above(given.tables.latencies) if given.bounds else []
+    for row in above[:MOST_TOLD]:
+        told = f"virtual link {row.vl} at {row.where} took {row.greatest} ns, and its bound is {given.bounds.of[row.vl, row.where].ns} ns"
+        files.tell("report.py", f"{told}: one of the two is wrong")
+    if len(above) > MOST_TOLD:
+        files.tell("report.py", f"so are {len(above) - MOST_TOLD:,} more latencies above their bounds")
+    return bool(above)
 
 
 @files.tool
 def main(arguments=None):
     words = words_of(arguments)
     given = given_by(words)
-    files.judge([words.output])
+    files.judge(list(filter(None, [words.output, words.junit])), prints=bool(words.limits))
     page = Page(given)
     page.made_by = words.made_by
-    files.write_whole(words.output, page.html())
+    texts = {words.output: page.html()}
+    if words.junit:
+        texts[words.junit] = limits.junit_text(list(given.margins.values()), words.strict, os.path.basename(words.net))
+    files.write_all(texts)
+    if words.limits:
+        files.write_out(limits.margins_text(given.margins.values()))
+    is_above = tell_above(given)
+    return 1 if is_above or limits.has_failed(given.margins.values(), words.strict) else 0
 
 
 if __name__ == "__main__":

@@ -2,6 +2,7 @@
 networks whose runs are held against the bounds (bounded_runs.py; more of them by hand)."""
 import contextlib
 import glob
+import hashlib
 import io
 import os
 import resource
@@ -215,7 +216,7 @@ class ByHand(unittest.TestCase):
                 changes = {"bag_ms": bag, "period_ns": period, "jitter_ns": jitter, "depth": depth, "sub": sub}
                 found = network([virtual_link(1, way("E1", "A", "E2"), **changes)])
                 self.assertEqual(found.latencies[1, "E2"], (27720 + wait, ""))
-                self.assertIn(f"1,E2,{27720 + wait},{wait},,,\n", found.text())
+                self.assertIn(f"1,E2,{27720 + wait},{wait},,,,A,,,,,,", found.text())
 
     def test_both_networks(self):
         """The lesser bound of two where each frame arrives by the faster network and the copy is known; else the greater.
@@ -244,6 +245,38 @@ class ByHand(unittest.TestCase):
                 found = network([*vls, virtual_link(2, way("E1", "A", "E2"))], {("B", "E1"): 10, ("B", "E2"): 10}, outages)
                 self.assertEqual(found.latencies[1, "E2"], (bound, ""))
 
+    def test_what_may_go_wrong(self):
+        """By the numbers of the test before: which networks are sure, how far apart the copies are, what an account gets."""
+        lesser, greater, alone = 34440, 131400, 27720
+        outage = {"from": "E1", "to": "A", "from_ns": 0, "to_ns": 1}
+        for changes, outages, sure, warning, refuses in (
+            ({}, (), "AB", "", ""),
+            ({}, [outage], "B", "", ""),
+            ({"policing_jitter_ns": busy(64) - 1}, (), "B", "", "may_refuse"),
+            ({"policing_jitter_ns": busy(64)}, (), "AB", "", ""),
+            ({"skew_max_ns": greater - alone}, (), "AB", "", ""),
+            ({"skew_max_ns": greater - alone - 1}, (), "AB", "delivered_twice", ""),
+            ({"policing_jitter_ns": 0, "smax": 64, "size": 65}, (), "", "not_sure", None),
+        ):
+            with self.subTest(changes=changes, outages=outages):
+                row = virtual_link(1, way("E1", "A", "E2"), way("E1", "B", "E2")) | changes
+                found = network([row, virtual_link(2, way("E1", "A", "E2"))], {("B", "E1"): 10, ("B", "E2"): 10}, outages)
+                told = {(it.get("vl"), it["where"]): it for it in found.rows()}
+                self.assertEqual((told[1, "E2"]["sure"], told[1, "E2"]["warning"]), (sure, warning))
+                if refuses is None:
+                    self.assertNotIn((1, "A"), told)
+                    continue
+                self.assertEqual((told[1, "E2"]["skew_ns"], told[1, "E2"]["skew_max_ns"]), (str(greater - alone), row["skew_max_ns"]))
+                account = {"vl": 1, "where": "A", "jitter_ns": str(busy(64)), "policing_jitter_ns": row["policing_jitter_ns"]}
+                self.assertEqual(told[1, "A"], account | {"warning": refuses})
+                self.assertEqual(told[1, "B"]["jitter_ns"], "0")
+        self.assertEqual(lesser, alone + busy(64))
+        # Twenty frames are released together: nineteen of them may wait.
+        vls = [virtual_link(i, way("E1", "A", "E2")) for i in range(20)]
+        for port_bytes, warning in ((19 * 64, ""), (19 * 64 - 1, "too_small")):
+            (port,) = (it for it in network(vls, port_bytes=port_bytes).rows() if it["where"] == "E1>A")
+            self.assertEqual((port["waiting_bytes"], port["warning"]), (str(19 * 64), warning))
+
     def test_a_port_that_may_be_full(self):
         """At a port of 1518 bytes 23 frames of 64 bytes may wait, and not 24. By B, ten times slower, each frame waits for
         one of 1518, at the source and then at the switch, where it is whole when the long one has just begun to leave."""
@@ -266,8 +299,8 @@ class ByHand(unittest.TestCase):
         vls = [virtual_link(i, way(f"E{i}", "A", "E3"), **size) for i in (1, 2)]
         found = network(vls, slow)
         self.assertEqual(found.latencies, {(1, "E3"): (None, too_much), (2, "E3"): (None, too_much)})
-        self.assertIn(f"1,E3,none,0,,,{too_much}\n", found.text())
-        self.assertIn(f",A>E3,,,none,65536,{too_much}\n", found.text())
+        self.assertIn(f"1,E3,none,0,,,{too_much},,,,,,not_sure,", found.text())
+        self.assertIn(f",A>E3,,,none,65536,{too_much},,,,,,too_small,", found.text())
         # A high one goes first, and waits for one low frame at most.
         found = network([*vls, virtual_link(3, way("E4", "A", "E3"), priority="high")], slow)
         self.assertEqual(found.latencies[1, "E3"], (None, too_much))
@@ -372,8 +405,11 @@ class Command(unittest.TestCase):
 
     def test_it_writes_csv(self):
         path = os.path.join(EXAMPLES, "n1.toml")
-        text = "vl,where,bound_ns,wait_ns,waiting_bytes,port_bytes,why\n1,ES2,27720,0,,,\n"
-        text += ",ES1>SW1,,,0,4096,\n,SW1>ES2,,,0,65536,\n"
+        with open(path, "rb") as file:
+            own = hashlib.sha256(file.read()).hexdigest()[:16]
+        text = "vl,where,bound_ns,wait_ns,waiting_bytes,port_bytes,why,sure,skew_ns,skew_max_ns,jitter_ns,"
+        text += f"policing_jitter_ns,warning,description\n1,ES2,27720,0,,,,A,,,,,,{own}\n1,SW1,,,,,,,,,0,0,,{own}\n"
+        text += f",ES1>SW1,,,0,4096,,,,,,,,{own}\n,SW1>ES2,,,0,65536,,,,,,,,{own}\n"
         self.assertEqual(self.call(path), (0, text, ""))
         with tempfile.TemporaryDirectory() as folder:
             out = os.path.join(folder, "bounds.csv")
@@ -411,15 +447,15 @@ class Command(unittest.TestCase):
             status, said, _ = self.call(path)
             self.assertLess(resource.getrusage(resource.RUSAGE_CHILDREN).ru_utime - before, 3)
             self.assertEqual(status, 0)
-            latencies = [line for line in said.splitlines()[1:] if line[0] != ","]
+            latencies = [line for line in said.splitlines()[1:] if line[0] != "," and line.split(",")[2]]
             self.assertGreater(len(latencies), 5000)
-            self.assertNotIn("none", said)
+            self.assertNotIn("none", [line.split(",")[2] for line in latencies])
 
     def test_help_says_what_it_is(self):
         status, said, _ = self.call("--help")
         self.assertEqual(status, 0)
         self.assertIn("A bound of this model, computed outside the proofs.", said)
-        for word in ("columns:", "There is no bound", "wait_ns", "status:"):
+        for word in ("columns (", "may_refuse", "There is no bound", "wait_ns", "status:"):
             self.assertIn(word, said)
 
 

@@ -138,7 +138,7 @@ class WithTheProgram(Here):
         for jobs in ("1", "4"):
             self.assertEqual(self.call(COCKPIT, "--seeds", "5", "--jobs", jobs)[0], 0)
             self.assertEqual(read(self.merged), expected)
-            self.assertEqual(sorted(os.listdir(self.output)), ["greatest.csv", "merged.csv"])
+            self.assertEqual(sorted(os.listdir(self.output)), ["campaign.json", "greatest.csv", "merged.csv"])
         net = report.Network(COCKPIT)
         self.assertTrue(report.Tables(self.merged, net).merged)
 
@@ -328,7 +328,7 @@ class WithAStandIn(Here):
         # Without --histograms no latency is counted by itself.
         self.output = os.path.join(self.folder, "plain")
         self.assertEqual(self.call(COCKPIT, "--seeds", "5")[0], 0)
-        self.assertEqual(sorted(os.listdir(self.output)), ["greatest.csv", "merged.csv"])
+        self.assertEqual(sorted(os.listdir(self.output)), ["campaign.json", "greatest.csv", "merged.csv"])
         told = read(os.path.join(self.output, "greatest.csv")).splitlines()
         self.assertEqual(told, [head, *(line.rsplit(",", 3)[0] for line in lines)])
 
@@ -396,7 +396,6 @@ class WithAStandIn(Here):
             ("\n# x\n1,ES2,5,6\n", "line 3: has 4 fields in place of 3: VL,NAME,NS"),
             ("x,ES2,5\n", "line 1: the virtual link is 'x', and no whole number"),
             ("1,ES2,-5\n", "line 1: the limit is '-5', and no whole number"),
-            ("1,ES2,5 \n", "line 1: the limit is '5 ', and no whole number"),
             ("2,ES2,5\n", f"line 1: 'ES2' is no destination of virtual link 2 in {N1}"),
             ("1,ES1,5\n", f"line 1: 'ES1' is no destination of virtual link 1 in {N1}"),
             ("1,ES2,5\n1,ES2,5\n", "line 2: says again what line 1 says"),
@@ -422,7 +421,7 @@ class WithAStandIn(Here):
             self.call(N1, "--seeds", "1"), (2, "", f"campaign.py: {self.output}: cannot be made: File exists\n")
         )
         self.program = none
-        said = f"campaign.py: {none}: is not there. `rt run -- --help` in crates/afdxsim builds the program\n"
+        said = f"campaign.py: {none}: is not there. `afdx build` builds the program\n"
         self.assertEqual(self.call(N1, "--seeds", "1"), (2, "", said))
         for words in (["--seeds", "0"], ["--seeds", "x"], ["--jobs", "0", "--seeds", "1"], []):
             with self.assertRaises(SystemExit) as ended:

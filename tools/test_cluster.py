@@ -84,7 +84,7 @@ class WithACluster(Here):
         self.stand_in()
         self.assertEqual(self.call(*words, "--jobs", "2")[0], 0)
         names = sorted(os.listdir(self.output))
-        self.assertEqual(len(names), 3 + 2 * 12)
+        self.assertEqual(len(names), 4 + 2 * 12)
         alone = {name: read(os.path.join(self.output, name)) for name in names}
         self.output = os.path.join(self.folder, "together")
         self.stand_in(SLOW.format(runs=self.runs))

@@ -138,7 +138,7 @@ class EachOutage(Here):
         )
         told = "link FCC SWA: 18 frames more lost end to end at 1 destinations, 1 later, most virtual link 3 at FCC from 33480"
         self.assertIn(told + " to 33880 ns\n", out)
-        self.assertEqual(len(os.listdir(self.output)), 2 + 2 * 7)
+        self.assertEqual(len(os.listdir(self.output)), 3 + 2 * 7)
         with open(os.path.join(self.output, "outage-5-seed-1.toml"), "rb") as file:
             outages = tomllib.load(file)["outage"]
         with open(FAILING, "rb") as file:

@@ -25,7 +25,7 @@ import campaign  # noqa: E402
 import report  # noqa: E402
 from drawing import Drawing  # noqa: E402
 from frames import Ends, drawn_offsets  # noqa: E402
-from limits import BOUNDS_HEAD  # noqa: E402
+from limits import BOUNDS_COLUMNS  # noqa: E402
 from page_text import span, two_places  # noqa: E402
 from second_opinion import Simulation  # noqa: E402
 
@@ -172,10 +172,17 @@ def way(side, source, destination):
     return [f"E{source}", *dict.fromkeys(switches), f"E{destination}"]
 
 
+def bounds_text(path, *rows):
+    """A file of bounds of a description: rows by columns."""
+    own = {"description": afdx.checksum(read(path))}
+    lines = [",".join(str((own | row).get(name, "")) for name in BOUNDS_COLUMNS) for row in rows]
+    return "".join(line + "\n" for line in [",".join(BOUNDS_COLUMNS), *lines])
+
+
 def make(*words):
     """The status of report.py with these words, and what it says on error output."""
     said = io.StringIO()
-    with contextlib.redirect_stderr(said):
+    with contextlib.redirect_stderr(said), contextlib.redirect_stdout(io.StringIO()):
         status = report.main(list(words))
     return status, said.getvalue()
 
@@ -356,8 +363,8 @@ class InTheBrowser(unittest.TestCase):
         cls.browser = Browser(cls.folder)
         cls.page = os.path.join(cls.folder, "report.html")
 
-    def made(self, net, tables, *words):
-        self.assertEqual(make(net, tables, *words, "-o", self.page), (0, ""))
+    def made(self, net, tables, *words, status=0):
+        self.assertEqual(make(net, tables, *words, "-o", self.page), (status, ""))
 
     def compare(self, page, net, tables, rows, ends):
         """Compares a page, all of whose tables are unfolded, with the description, the tables, a run's notes, and what
@@ -553,8 +560,8 @@ class InTheBrowser(unittest.TestCase):
             out.write("vl,destination,limit_ns\n")
             out.writelines(f"{vl},{where},{5 * row.greatest}\n" for (vl, where), row in found.items() if row.count)
         with open(bounds, "w", encoding="ascii") as out:
-            out.write(BOUNDS_HEAD + "\n")
-            out.writelines(f"{vl},{where},{(vl % 9 + 1) * 10**6},0,,,\n" for vl, where in found)
+            bound = lambda vl: (vl % 9 + 1) * 10**6
+            out.write(bounds_text(net.path, *({"vl": vl, "where": where, "bound_ns": bound(vl), "sure": "A"} for vl, where in found)))
         return limits, bounds
 
     def test_a_click_sorts(self):
@@ -618,17 +625,40 @@ class InTheBrowser(unittest.TestCase):
             out.writelines(f"{vl},{where},{ns}\n" for (vl, where), ns in given.items())
         found = dict.fromkeys(greatest, 10**8) | {(101, "FMC1"): 140170, (102, "DU_L"): 300001, (201, "DU_R"): None}
         with open(bounds, "w", encoding="ascii") as out:
-            out.write(BOUNDS_HEAD + "\n")
-            out.writelines(f"{vl},{where},{'none' if ns is None else ns},0,,,\n" for (vl, where), ns in found.items())
-            out.write(",FMC1>SWA1,,,16385,16384,\n,SWA1>FMC1,,,5000,65536,\n")
+            rows = [
+                {"vl": vl, "where": where, "bound_ns": "none" if ns is None else ns, "sure": "AB", "skew_ns": 5000}
+                for (vl, where), ns in found.items()
+            ]
+            rows[0] |= {"sure": "", "warning": "not_sure"}
+            rows[1] |= {"warning": "delivered_twice"}
+            account = {"vl": 101, "jitter_ns": 600_000, "policing_jitter_ns": 500_000}
+            rows += [account | {"where": "SWA1", "warning": "may_refuse"}, account | {"where": "SWA2", "jitter_ns": 0}]
+            rows += [{"where": "FMC1>SWA1", "waiting_bytes": 16385}, {"where": "SWA1>FMC1", "waiting_bytes": 5000}]
+            out.write(bounds_text(path, *rows))
         told = {
             (101, "FMC1"): ("140.170", "140.170", "0.000", ""),
             (101, "DU_R"): ("169.759", "100,000.000", "-99,830.241", "bad"),
             (102, "DU_L"): ("300.000", "300.001", "-0.001", "warn"),
             (201, "DU_R"): ("1,000,000.000", "–", "–", "warn"),
         }
-        self.made(path, tables, "--limits", limits, "--bounds", bounds)
+        self.made(path, tables, "--limits", limits, "--bounds", bounds, status=1)
         page = self.browser.open(self.page, UNFOLD + 'location.hash = "vl-101"; choose();')
+        # The least margin comes first, and tiles lead to their lines.
+        margins = [row["margin"] for row in page.columns("latencies")]
+        self.assertEqual(margins, ["–", "-99,830.241", "-0.001", "0.000"] + ["–"] * (len(found) - 4))
+        for name, value, mark, where in (
+            ("accounts may refuse", "1 of 2", "warn", "#worst"), ("may be lost on both", f"1 of {len(found)}", "warn", "#worst"),
+            ("may be delivered twice", f"1 of {len(found)}", "warn", "#worst"), ("ports too small", "1 of 2", "warn", "#loads"),
+            ("limits kept", "3 of 4", "bad", "#latency"), ("busiest line", page.tiles["busiest line"][0], "", "#line-"),
+        ):
+            self.assertEqual((page.tiles[name][0], page.tile_marks[name]), (value, mark))
+            (tile,) = (it for tag, it in page.elements if it.get("data-name") == name)
+            self.assertTrue(tile["href"].startswith(where))
+        self.assertEqual(page.rows("accounts"), [["101", "SWA1", "600.000", "500.000"]])
+        unsure = {(int(row["VL"]), row["destination"]): row for row in page.columns("unsure")}
+        keys = list(found)
+        self.assertEqual([unsure[key]["sure by"] for key in keys[:2]], ["neither", "A and B"])
+        self.assertEqual(len(unsure), 2)
         for row, marks in zip(page.columns("latencies"), page.marked("latencies")):
             key = int(row["VL"]), row["destination"]
             limit, bound, margin, mark = told.get(key, ("–", "100,000.000", "–", ""))
@@ -659,6 +689,20 @@ class InTheBrowser(unittest.TestCase):
         margins = {(int(it["VL"]), it["destination"]): it["margin"] for it in page.columns("latencies")}
         self.assertEqual(margins, {other: "–" for other in margins} | {key: "0.005"})
         self.assertEqual(page.tiles["limits kept"], ["1 of 1", "none is broken"])
+
+    def test_a_latency_above_its_bound(self):
+        """One of the two is wrong: it is told in red, and by the status."""
+        path, tables = example("n1")
+        bounds = os.path.join(self.folder, "bounds.csv")
+        for bound, status in ((27720, 0), (27719, 1)):
+            with open(bounds, "w", encoding="ascii") as out:
+                out.write(bounds_text(path, {"vl": 1, "where": "ES2", "bound_ns": bound, "sure": "A"}))
+            told = f"report.py: virtual link 1 at ES2 took 27720 ns, and its bound is {bound} ns: one of the two is wrong\n"
+            self.assertEqual(make(path, tables, "--bounds", bounds, "-o", self.page), (status, told * status))
+            page = self.browser.open(self.page, UNFOLD)
+            self.assertEqual("above their bound" in page.tiles, bool(status))
+            self.assertEqual(page.marked("latencies")[0]["bound"], "bad" * status)
+        self.assertEqual(page.tile_marks["above their bound"], "bad")
 
     def test_one_virtual_link(self):
         """Its way is lit, hop by hop with loads; which virtual links use a line; and the search."""
@@ -965,19 +1009,28 @@ class WithoutABrowser(unittest.TestCase):
 
     def test_bad_limits_and_bounds(self):
         path, tables = example("n1")
-        head = BOUNDS_HEAD
+        row = {"vl": 1, "where": "ES2", "bound_ns": 50000, "sure": "A"}
+        of = lambda *rows: bounds_text(path, *({**row, **it} for it in rows))
+        own = afdx.checksum(read(path))
+        lacks = "line 1: the columns are not those of bounds: where is not among them"
         for word, text, said in (
             ("--limits", "1,ES2\n", "line 1: has 2 fields in place of 3: VL,NAME,NS"),
             ("--limits", "1,ES2,x\n", "line 1: the limit is 'x', and no whole number"),
             ("--limits", "1,ES1,5\n", f"line 1: 'ES1' is no destination of virtual link 1 in {path}"),
             ("--limits", "vl,destination,limit_ns\n1,ES2,5\n1,ES2,6\n", "line 3: says again what line 2 says"),
-            ("--bounds", "vl\n", "line 1: the columns are not those of bounds: " + head),
-            ("--bounds", head + "\n", f"line 1: the file ends without the bound of virtual link 1 at ES2"),
-            ("--bounds", head + "\n1,ES2,5\n", "line 2: has 3 fields in place of 7"),
-            ("--bounds", head + "\n1,ES2,many,0,,,\n", "line 2: bound_ns is 'many', and no whole number"),
-            ("--bounds", head + "\n1,ES3,5,0,,,\n", f"line 2: 'ES3' is no destination of virtual link 1 in {path}"),
-            ("--bounds", head + "\n,ES2>ES1,,,0,0,\n", f"line 2: 'ES2>ES1' is no line in {path}"),
-            ("--bounds", head + "\n1,ES2,5,0,,,\n1,ES2,5,0,,,\n", "line 3: says again what line 2 says"),
+            ("--bounds", "vl\n", lacks),
+            ("--bounds", of(), f"line 1: the file ends without the bound of virtual link 1 at ES2"),
+            ("--bounds", of() + "1,ES2,5\n", "line 2: has 3 fields in place of 11"),
+            ("--bounds", of({"bound_ns": "many"}), "line 2: bound_ns is 'many', and no whole number"),
+            ("--bounds", of({"where": "ES3"}), f"line 2: 'ES3' is no destination of virtual link 1 in {path}"),
+            ("--bounds", of({"vl": "", "where": "ES2>ES1"}), f"line 2: 'ES2>ES1' is no line in {path}"),
+            ("--bounds", of({}, {}), "line 3: says again what line 2 says"),
+            ("--bounds", of({})[:-1], "line 2: the line feed at the end is missing, so the file is not whole"),
+            (
+                "--bounds", of({"description": "0123456789abcdef"}),
+                "line 2: these are bounds of another description: its checksum is '0123456789abcdef', and that of "
+                f"{path} is {own}. tools/bounds.py makes them anew",
+            ),
         ):
             with self.subTest(said):
                 bad = self.file("bad.csv", text)
@@ -1091,7 +1144,7 @@ class WithoutABrowser(unittest.TestCase):
         for text, said in (
             (lines[1], "line 1: the columns are not those of a trace: time_ns,where,vl,what,value"),
             (good[:-1], f"line {count}: the line feed at the end is missing, so the file is not whole"),
-            (good.replace(lines[2], "\n"), "line 3: has no whole number at its begin and at its end"),
+            (good.replace(lines[2], "\n"), "line 3: has no whole number of 64 bits at its begin and at its end"),
             (good.replace(lines[2], lines[2].replace(",1,", ",1,1,")), "line 3: has 6 fields in place of 5"),
             (good.replace(lines[1], lines[1].replace(",1,", ",8,")), f"line 2: virtual link 8 is not in {path}"),
             (
@@ -1162,7 +1215,7 @@ class WithoutABrowser(unittest.TestCase):
             make(none, tables, "-o", self.page), (2, f"report.py: {none}: cannot be read: No such file or directory\n")
         )
         self.assertEqual(
-            make(path, self.folder, "-o", self.page), (2, f"report.py: {self.folder}: cannot be read: Is a directory\n")
+            make(path, self.folder, "-o", self.page), (2, f"report.py: {self.folder}/merged.csv: cannot be read: No such file or directory\n")
         )
         page = os.path.join(none, "report.html")
         self.assertEqual(

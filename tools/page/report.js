@@ -95,7 +95,7 @@ const LOOKS = {
   histogram: {fixed: true, show: (value, i) => histogram(i), more: "hg"},
 };
 const TONES = ["", "warn", "bad"];
-const least = value => value === null ? -Infinity : Array.isArray(value) ? value[0] + value[1] / 1e9 : value;
+const least = value => value === null || value === undefined ? -Infinity : Array.isArray(value) ? value[0] + value[1] / 1e9 : value;
 
 // ---- tables: the ten worst rows, or all, of which those are drawn that are in sight ----
 
@@ -113,7 +113,7 @@ class Grid {
     this.wants = "";
     this.isAll = this.numbers.length <= FOLD_ABOVE;
     this.build(place);
-    this.sortBy(this.columns.findIndex(column => column.key === this.sort && !column.fixed), true);
+    this.sortBy(this.columns.findIndex(column => column.key === this.sort && !column.fixed), !this.up);
   }
 
   build(place) {
@@ -169,8 +169,10 @@ class Grid {
 
   sortBy(at, down) {
     if (at >= 0) {
-      const {key, number} = this.columns[at], values = this.rows[key];
-      const keys = number ? values.map(least) : values;
+      const {key, order, number} = this.columns[at], values = this.rows[order ?? key];
+      // What is not known stands last.
+      const last = down ? -Infinity : Infinity;
+      const keys = number ? values.map(value => value === null ? last : least(value)) : values;
       const compare = (a, b) => keys[a] < keys[b] ? -1 : keys[a] > keys[b] ? 1 : 0;
       this.numbers.sort((a, b) => (down ? compare(b, a) : compare(a, b)) || this.rank[a] - this.rank[b]);
       this.table.querySelectorAll("th").forEach((th, i) =>
