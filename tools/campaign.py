@@ -8,8 +8,9 @@ offer of each virtual link, anew and evenly within its period: so frames that ne
 DIR/merged.csv has the tables of all runs together, in the form in which the program prints tables, with one column
 more: the seed that gave the greatest latency of a line, or the most losses. tools/report.py makes a page of it. Counts
 and sums are added and leasts and greatests taken, exactly; so the merged tables do not depend on --jobs.
-DIR/campaign.json says of what description, seeds and program they are. DIR/greatest.csv has of the greatest latencies of the runs the least, the mean and the greatest. With --histograms each
-latency is counted (DIR/histograms.csv), and percentiles of the frames of all runs stand in DIR/greatest.csv.
+DIR/campaign.json says of what description, seeds and program they are. DIR/greatest.csv has of the greatest latencies of
+the runs the least, the mean and the greatest. With --histograms each latency is counted (DIR/histograms.csv), and
+percentiles of the frames of all runs stand in DIR/greatest.csv.
 
 With --set a key of the description has several values in turn, or several keys each combination of theirs. DIR/sweep.csv
 and the page DIR/sweep.html tell what the values do, beside what the seeds do.
@@ -96,7 +97,7 @@ status:
 
 # The names of the files that it writes.
 WRITTEN = (
-    r"(merged|greatest|histograms|outages|sweep|aim)\.(csv|json)|campaign\.json|(outages|sweep)\.html"
+    r"campaign\.json|(merged|greatest|histograms|outages|sweep|aim)\.(csv|json)|(outages|sweep)\.html"
     r"|((outage|set|aimed)-\d+-)?seed-\d+\.(toml|tables\.csv)"
 )
 # What a campaign says of the program where it was these sources by `rt try`.

@@ -28,6 +28,8 @@ def limits_of(path, net):
         found.read_comments()
     else:
         found.read_table()
+    if not found.of:
+        raise Fault(path, None, "has no limits")
     return found.of
 
 

@@ -211,9 +211,10 @@ td.bars { text-align: left; }
 WIDTH, HEIGHT = 260, 9
 
 
-def strip(bars, last):
-    """A bar for each combination, from the least to the greatest of its runs, with a mark at the mean; all from 0 to one
-    last moment."""
+def strip(bars):
+    """A bar for each combination, from the least to the greatest of its runs, with a mark at the mean. The whole goes from 0
+    to the greatest of all."""
+    last = max(1, max(bar.greatest for bar in bars))
     at = lambda ns: f"{ns * WIDTH / last:.1f}"
     pieces = []
     for i, bar in enumerate(bars):
@@ -228,15 +229,15 @@ def strip(bars, last):
 
 
 def effects_table(settings, effects, has_spread):
-    last = max((bar.greatest for it in effects for bar in it.bars), default=1)
-    heads = plain("virtual link", "destination", "effect", "spread of seeds", *(f"effect of {it.name}" for it in settings))
-    heads.append(("", "each combination, from the least to the greatest of its runs"))
+    several = [i for i, it in enumerate(settings) if len(it.values) > 1] if len(settings) > 1 else []
+    heads = plain("virtual link", "destination", "effect", "spread of seeds", *(f"effect of {settings[i].name}" for i in several))
+    heads.append(("", "each combination, from 0 to the greatest"))
     rows = []
     for it in effects[:MOST_ON_THE_PAGE]:
-        cells = plain(it.vl, it.where, span(it.effect), span(it.spread) if has_spread else "one seed", *map(span, it.of))
+        cells = plain(it.vl, it.where, span(it.effect), span(it.spread) if has_spread else "one seed", *(span(it.of[i]) for i in several))
         if has_spread and it.effect > it.spread:
             cells[2] = ' class="clear"', cells[2][1]
-        rows.append(row([*cells, (' class="bars"', strip(it.bars, last))]))
+        rows.append(row([*cells, (' class="bars"', strip(it.bars))]))
     rest = len(effects) - len(rows)
     more = f"<p>{rest:,} more are in sweep.csv.</p>" if rest > 0 else ""
     return f'<table id="effects"><thead>{row(heads, "th")}</thead><tbody>{"".join(rows)}</tbody></table>{more}'

@@ -1,8 +1,10 @@
 """What the tools answer where they are given what they cannot use: each row of the table is a call, its status, and the line
 that it says. No call of it changes any file, and none leaves one."""
 import contextlib
+import hashlib
 import os
 import resource
+import shutil
 import signal
 import subprocess
 import sys
@@ -27,7 +29,7 @@ FILES = {
     "limits.csv": "1,ES2,50000\n",
     "bounds.csv": "",
     "broken.xlsx": "PK\x03\x04",
-    "DIR/merged.csv": "",
+    "DIR/merged.csv": "1,ES2,50000\n",
 }
 
 # Which tool, its words, the status, and what it says behind its name.
@@ -71,6 +73,50 @@ ROWS = [
     ("make_journal net.toml >> /dev/full", 2, "standard output: cannot be written: No space left on device"),
     ("second_opinion net.toml >> /dev/full", 2, "standard output: cannot be written: No space left on device"),
     ("bounds net.toml >&-", 2, "standard output: cannot be written: it is closed"),
+    # What is of another network, another run, or another campaign. other.toml is net.toml with 10 Mbit/s, 100 bytes and seed 1;
+    # RUNS is the folder of a campaign of net.toml with the seeds 42 to 44, and copy.csv its merged tables.
+    (
+        "report other.toml tables.csv -o page.html", 2,
+        "tables.csv line 2: a frame of virtual link 1 came to ES2 in 27720 ns, and it takes 189000 ns at least; so they are "
+        "tables of another network than other.toml",
+    ),
+    (
+        "report net.toml lost.csv -o page.html", 2,
+        "lost.csv line 3: frames of virtual link 1 were lost at ES1>SW1 as outage, and ES1>SW1 has no outage; so they are "
+        "tables of another network than net.toml",
+    ),
+    (
+        "report net.toml long.csv -o page.html", 2,
+        "long.csv line 3: frames of virtual link 1 were lost at SW1 as too_long, and its size is not above its smax; so they "
+        "are tables of another network than net.toml",
+    ),
+    (
+        "report twice.toml lost.csv --trace sized.csv -o page.html", 2,
+        "sized.csv line 2: a frame of virtual link 1 has 65 bytes, and in twice.toml it has 64",
+    ),
+    ("report net.toml tables.csv --bounds tables.csv -o page.html", 2, "tables.csv line 1: the columns are not those of bounds: bound_ns is not among them"),
+    ("report net.toml tables.csv --seeds 3 -o page.html", 2, "tables.csv: these are the tables of one run, and --seeds tells of a campaign"),
+    ("report net.toml DIR -o page.html", 2, "DIR: has no campaign.json that is the record of its merged.csv"),
+    ("report net.toml RUNS --trace trace.csv -o page.html", 2, "trace.csv: is the trace of one run, and RUNS/merged.csv has the tables of several"),
+    ("report net.toml RUNS --seeds 4 -o page.html", 2, "RUNS/merged.csv: the campaign had 3 seeds from 42 on, without drawn offsets, and the words say something else: leave them out"),
+    ("report net.toml RUNS/merged.csv --seeds 3 --offsets -o page.html", 2, "RUNS/merged.csv: the campaign had 3 seeds from 42 on, without drawn offsets, and the words say something else: leave them out"),
+    ("report net.toml copy.csv --seeds 3 --first 43 -o page.html", 2, "copy.csv line 2: the seed 42 is none of the 3 seeds from 43 on, so the campaign had others"),
+    ("report net.toml copy.csv --seeds 1000 --first 9223372036854775000 -o page.html", 2, "net.toml: the seeds from 9223372036854775000 on would pass 9223372036854775807"),
+    ("report net.toml copy.csv --seeds 2 -o page.html", 2, "copy.csv line 2: 2 frames of virtual link 1 would be sent to ES2, and the tables have 3 delivered, 0 copies and 0 lost; so they are tables of another run than that of net.toml"),
+    ("report same.toml RUNS -o page.html", 2, "RUNS/merged.csv: these are tables of a campaign with another description: its checksum is '{net}', and that of same.toml is {same}"),
+    ("report same.toml tables.csv --bounds bounds.csv -o page.html", 2, "bounds.csv line 2: these are bounds of another description: its checksum is '{net}', and that of same.toml is {same}. tools/bounds.py makes them anew"),
+    ("report net.toml BAD -o page.html", 2, "BAD/campaign.json line 1: is no JSON: Expecting value"),
+    ("report net.toml DEEP -o page.html", 2, "DEEP/campaign.json: is no JSON: a number is too long, or it is nested too deep"),
+    ("report net.toml LACKS -o page.html", 2, "LACKS/campaign.json: is no record of a campaign: it has no description"),
+    # Numbers of any length.
+    ("report net.toml huge.csv -o page.html", 2, "huge.csv line 2: count has 5,000 digits, and may have 100"),
+    ("report net.toml tables.csv --trace huge_trace.csv -o page.html", 2, "huge_trace.csv line 2: has no whole number of 64 bits at its begin and at its end"),
+    ("report net.toml tables.csv --limits huge_limits.csv -o page.html", 2, "huge_limits.csv line 1: the limit has 5,000 digits, and may have 100"),
+    ("bounds huge.toml", 2, "huge.toml line 1: is no TOML: 111111111111111111111111111111.. of 5,000 characters does not fit 64 signed bits: it must be from -2^63 to 2^63 - 1"),
+    ("bounds deep.toml", 2, "deep.toml line 1: is no TOML: lists and tables are more than 80 deep in one another"),
+    # Limits.
+    ("report net.toml tables.csv --limits empty_limits.csv -o page.html", 2, "empty_limits.csv: has no limits"),
+    ("bounds net.toml --limits net.toml", 2, "net.toml: has no limits"),
     # Names that are not UTF-8, or have a line feed.
     ("bounds n\udcff.toml", 2, "n\\xff.toml: cannot be read: No such file or directory"),
     ("bounds a\nb", 2, "a\\nb: cannot be read: No such file or directory"),
@@ -123,8 +169,25 @@ class Rows(unittest.TestCase):
         program = STAND_IN.format(python=sys.executable, tools=HERE, lines="")
         texts = FILES | {"net.toml": net, "DIR/seed-42.toml": net, "net.csv": table.stdout, "afdxsim": program}
         texts["bounds.csv"] = bounds
-        for name in ("DIR", "LINKED", "DOUBLE"):
+        texts["same.toml"] = "# the same\n" + net
+        texts["other.toml"] = net.replace("mbit = 100", "mbit = 10").replace("= 64", "= 100").replace("seed = 42", "seed = 1")
+        texts["twice.toml"] = net.replace("[[vl]]", '[[outage]]\nfrom = "ES1"\nto = "SW1"\nfrom_ns = 0\nto_ns = 9000\n[[vl]]')
+        self.sums = {name: hashlib.sha256(texts[name + ".toml"].encode()).hexdigest()[:16] for name in ("net", "same")}
+        head, none = texts["tables.csv"].split("\n")[0] + "\n", "latency,1,ES2,,0,0,0,0\n"
+        texts["lost.csv"] = head + none + "dropped,1,ES1>SW1,outage,1,,,\n"
+        texts["long.csv"] = head + none + "dropped,1,SW1,too_long,1,,,\n"
+        texts["sized.csv"] = "time_ns,where,vl,what,value\n5760,ES1>SW1,1,outage,65\n"
+        huge = "1" * 5000
+        texts["huge.csv"] = head + f"latency,1,ES2,,{huge},1,1,1\n"
+        texts["huge_trace.csv"] = f"time_ns,where,vl,what,value\n{huge},ES2,1,delivered,1\n"
+        texts["huge_limits.csv"] = f"1,ES2,{huge}\n"
+        texts["empty_limits.csv"] = "# none\n"
+        texts["huge.toml"] = f"until_ns = {huge}\nseed = 1\n"
+        texts["deep.toml"] = "until_ns = " + "[" * 100_000
+        for name in ("DIR", "LINKED", "DOUBLE", "RUNS", "BAD", "DEEP", "LACKS"):
             os.mkdir(self.path(name))
+        texts |= {"BAD/campaign.json": "", "DEEP/campaign.json": "[" * 100_000, "LACKS/campaign.json": "{}"}
+        texts |= {f"{name}/merged.csv": "" for name in ("BAD", "DEEP", "LACKS")}
         for name, text in texts.items():
             with open(self.path(name), "w", encoding="utf-8") as out:
                 out.write(text)
@@ -152,6 +215,8 @@ class Rows(unittest.TestCase):
         return run.returncode, (run.stdout or b"").decode(), run.stderr.decode()
 
     def test_rows(self):
+        self.assertEqual(self.call("campaign net.toml --seeds 3 -o RUNS")[0], 0)
+        shutil.copy(self.path("RUNS/merged.csv"), self.path("copy.csv"))
         before = tree_of(self.folder)
         for line, status, said in ROWS:
             with self.subTest(line):
@@ -159,7 +224,7 @@ class Rows(unittest.TestCase):
                 found = self.call(line)
                 # What large_network tells of its network goes before.
                 told = found[2].splitlines()[tool_tells(line) :]
-                self.assertEqual((found[0], told), (status, [name + said]))
+                self.assertEqual((found[0], told), (status, [name + said.format(**self.sums)]))
                 self.assertEqual(found[1], "")
                 self.assertEqual(tree_of(self.folder), before)
 

@@ -347,7 +347,7 @@ class Reader:
         if digits:
             if not re.fullmatch(digits, plain[2:]):
                 self.refuse(place, f"{word} is no number")
-            return self.integer(int(plain[2:], radix), word, place)
+            return self.integer(plain[2:], radix, word, place)
         if plain in ("inf", "+inf", "-inf", "nan", "+nan", "-nan"):
             return float(plain)
         found = DECIMAL.fullmatch(plain)
@@ -356,7 +356,7 @@ class Reader:
                 self.refuse(place, f"{word} is no number" + self.number_hint(plain))
             self.refuse(place, f"{word} is a text without quotes; it is written \"{word}\"")
         if found[3] is None and found[4] is None:
-            return self.integer(int(plain), word, place)
+            return self.integer(plain, 10, word, place)
         value = float(plain)
         if value in (float("inf"), float("-inf")):
             self.refuse(place, f"{word} is greater than any number that can be kept")
@@ -370,9 +370,11 @@ class Reader:
             return f": digits are set apart by _, as in {plain.replace(' ', '_')}"
         return ""
 
-    def integer(self, value, word, place):
+    def integer(self, plain, radix, word, place):
+        value = int(plain, radix) if len(plain.lstrip("0+-")) <= 64 else 2**64
         if not -(2**63) <= value < 2**63:
-            self.refuse(place, f"{word} does not fit 64 signed bits: it must be from -2^63 to 2^63 - 1")
+            shown = word if len(word) <= 64 else f"{word[:30]}.. of {len(word):,} characters"
+            self.refuse(place, f"{shown} does not fit 64 signed bits: it must be from -2^63 to 2^63 - 1")
         return value
 
 
