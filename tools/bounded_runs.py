@@ -195,7 +195,7 @@ class Count:
                 tell(f"virtual link {key[0]} at {key[1]} took {greatest} ns, and its bound is {bound} ns")
         for (kind, vl, place), (_, _, greatest, _) in run.found.items():
             where = run.names[place]
-            bound = bound_of(found, kind, vl, where)
+            bound = found.of_kind(kind, vl, where)
             if bound is None:
                 continue
             if kind == "backlog":
@@ -224,24 +224,6 @@ def greatest_latencies(run):
         if what == "delivered":
             found[vl, run.names[place]] = max(value, found.get((vl, run.names[place]), 0))
     return found
-
-
-def bound_of(found, kind, vl, where):
-    """The bound of what a run measures, or None."""
-    if kind == "backlog":
-        return found.ports[where].most
-    if kind == "wait":
-        return found.links[vl].wait
-    if kind == "delay":
-        return next(hop.delay for hop in found.ports[where].hops if hop.link.vl.id == vl)
-    if kind == "jitter":
-        return found.jitter(vl, where)
-    if kind == "skew":
-        return found.skew(vl, where)
-    if kind in ("network_a", "network_b"):
-        return found.by_network[vl, where][kind[-1].upper()].longest
-    bound, _ = found.latencies[vl, where]
-    return bound and bound - found.links[vl].wait
 
 
 def hold_network(number, runs, keep, count, tell):

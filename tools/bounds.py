@@ -26,6 +26,7 @@ import afdx  # noqa: E402
 import explain  # noqa: E402
 import files  # noqa: E402
 import limits  # noqa: E402
+import long_form  # noqa: E402
 
 EXAMPLES = """
 examples:
@@ -35,8 +36,8 @@ examples:
         for a build server: the margins, the least first, and the status 1 where a limit is below its bound
 
 columns (further ones may stand beside them; who reads the file goes by their names):
-  vl,where     a virtual link and a destination; or a virtual link and a switch, for its account there; or no virtual
-               link, and the line before which an output port is
+  vl,where     a virtual link and a destination; or a virtual link and a switch, for its account there; or a virtual
+               link and a line, for its hop there; or no virtual link, and the line before which an output port is
   bound_ns     the greatest latency that a frame may have at the destination, in ns, or none
   wait_ns      how much of it is the wait in the regulator, in ns
   waiting_bytes  the greatest sum of the sizes of the frames that wait at the output port, in bytes, or none
@@ -50,6 +51,11 @@ columns (further ones may stand beside them; who reads the file goes by their na
   warning      what may go wrong in the worst case, with blanks between: the account may_refuse a frame; at the
                destination neither network is sure (not_sure); the second copy of a frame may come so late that it is
                delivered_twice; the port is too_small
+  network_ns   how much of bound_ns is the network's own: bound_ns less wait_ns, or none
+  network_a_ns, network_b_ns  the longest time from the release of a frame to its arrival at the destination by this
+               network alone, in ns, or none
+  delay_ns     the longest time from the arrival of a frame at the output port before the line to its last bit on the
+               line, in ns, or none
   description  checksum of the description: the first 16 digits of its SHA-256
 
 There is no bound (none)
@@ -69,7 +75,7 @@ status:
 
 COLUMNS = [
     "vl", "where", "bound_ns", "wait_ns", "waiting_bytes", "port_bytes", "why", "sure", "skew_ns", "skew_max_ns", "jitter_ns",
-    "policing_jitter_ns", "warning", "description",
+    "policing_jitter_ns", "warning", "network_ns", "network_a_ns", "network_b_ns", "delay_ns", "description",
 ]
 
 # Each BAG divides the longest one. So in units of a byte by this many parts a rate is whole, and a line's speed too.
@@ -386,8 +392,8 @@ class Bounds:
     or None and why; `ports` the ports by line."""
 
     def __init__(self, net):
-        # `at` has for each virtual link and switch a hop by which it leaves there.
-        self.net, self.ports, self.ways, self.at = net, {}, {}, {}
+        # `hops` has those of each virtual link by line, and `at` one by which it leaves a switch.
+        self.net, self.ports, self.ways, self.hops, self.at = net, {}, {}, {}, {}
         self.links = {vl.id: Link(vl) for vl in net.vls.values()}
         for link in self.links.values():
             self.add(link)
@@ -423,7 +429,7 @@ class Bounds:
                         port = self.ports.get(line) or self.ports.setdefault(line, Port(self.net, line))
                         hops[line] = Hop(link, port, before)
                         port.hops.append(hops[line])
-                        self.at[link.vl.id, port.node.name] = hops[line]
+                        self.hops[link.vl.id, line] = self.at[link.vl.id, port.node.name] = hops[line]
                     before = hops[line]
                     way.append(before)
                 self.ways.setdefault((link.vl.id, path[-1]), {})[side] = way
@@ -486,6 +492,21 @@ class Bounds:
                     found.append(way.longest)
         return (min(found) + link.wait, "") if found else (None, whys[0])
 
+    def of_kind(self, kind, vl, where):
+        """The bound of what second_opinion.py --hops measures, in ns or bytes; None where there is none."""
+        if kind == "wait":
+            return self.links[vl].wait
+        if kind == "network":
+            return self.latencies[vl, where][0] and self.latencies[vl, where][0] - self.links[vl].wait
+        if kind in ("network_a", "network_b"):
+            way = self.by_network.get((vl, where), {}).get(kind[-1].upper())
+            return way and way.longest
+        if kind == "skew":
+            return self.skew(vl, where)
+        if kind == "delay":
+            return self.hops[vl, where].delay
+        return self.jitter(vl, where) if kind == "jitter" else self.ports[where].most
+
     def jitter(self, vl, switch):
         """By how much frames may come to a switch closer than a BAG in ns, counted from any earlier one; None where it has
         no bound, or where the switch passes no frame on."""
@@ -534,9 +555,13 @@ class Bounds:
     # ---- as text ----
 
     def rows(self):
-        """The rows of bounds.csv by columns: destinations, then accounts, then ports."""
+        """The rows of bounds.csv by columns: destinations, then accounts, then hops, then ports."""
         for (vl, where), (bound, why) in self.latencies.items():
             row = {"vl": vl, "where": where, "bound_ns": said(bound), "wait_ns": self.links[vl].wait, "why": why}
+            row["network_ns"] = said(self.of_kind("network", vl, where))
+            for side in self.by_network.get((vl, where), {}):
+                kind = f"network_{side.lower()}"
+                row[kind + "_ns"] = said(self.of_kind(kind, vl, where))
             row["sure"], warnings = self.sure(vl, where), []
             if not row["sure"]:
                 warnings.append("not_sure")
@@ -548,6 +573,9 @@ class Bounds:
             row = {"vl": vl, "where": switch, "jitter_ns": said(self.jitter(vl, switch))}
             row["policing_jitter_ns"] = self.links[vl].vl.policing_ns
             yield row | {"warning": "may_refuse" if self.may_refuse(vl, switch) else ""}
+        for vl, line in sorted(self.hops, key=self.order):
+            hop = self.hops[vl, line]
+            yield {"vl": vl, "where": line, "delay_ns": said(hop.delay), "why": hop.port.why if hop.delay is None else ""}
         for line in sorted(self.ports, key=self.net.process.get):
             port = self.ports[line]
             row = {"where": line, "waiting_bytes": said(port.most), "port_bytes": port.node.port_bytes}
@@ -558,6 +586,15 @@ class Bounds:
         description = afdx.checksum(self.net.text)
         lines = [COLUMNS] + [[row.get(column, "") for column in COLUMNS[:-1]] + [description] for row in self.rows()]
         return "".join(",".join(map(str, line)) + "\n" for line in lines)
+
+
+def long_rows(rows):
+    """The rows of bounds.csv in long form, without what is no number."""
+    for row in rows:
+        kind = "port" if "vl" not in row else "account" if "jitter_ns" in row else "hop" if "delay_ns" in row else "bound"
+        for column in COLUMNS[2:]:
+            if str(row.get(column, "")).isdigit():
+                yield kind, row.get("vl"), row["where"], column, int(row[column])
 
 
 def said(number):
@@ -579,6 +616,7 @@ def words_of(arguments=None):
     )
     parser.add_argument("net", metavar="NET", help="the description (TOML)")
     parser.add_argument("-o", "--output", metavar="FILE", help="the file for the bounds (default: standard output)")
+    parser.add_argument("--json", action="store_true", help="writes JSON in long form (docs/TOOLS.md, section 7) in place of CSV")
     says = "holds limits against the bounds: standard output has the margins, in place of the bounds"
     parser.add_argument("--limits", metavar="FILE", help=says + "; NET itself for its comments")
     parser.add_argument("--strict", action="store_true", help="the status is 1 where a limit is below its bound, or has none")
@@ -594,11 +632,12 @@ def main(arguments=None):
     words = words_of(arguments)
     net = accepted(words.net)
     found = Bounds(net)
-    texts = {words.output: found.text()} if words.output else {}
+    text = long_form.text_of(long_rows(found.rows())) if words.json else found.text()
+    texts = {words.output: text} if words.output else {}
     if not words.limits:
         files.write_all(texts)
         if not words.output:
-            files.write_out(found.text())
+            files.write_out(text)
         return 0
     margins = limits.margins_of(limits.limits_of(words.limits, net), bounds=found)
     if words.junit:

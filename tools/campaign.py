@@ -100,6 +100,8 @@ WRITTEN = (
     r"campaign\.json|(merged|greatest|histograms|outages|sweep|aim)\.(csv|json)|(outages|sweep)\.html"
     r"|((outage|set|aimed)-\d+-)?seed-\d+\.(toml|tables\.csv)"
 )
+# What a campaign says of the program where it was these sources by `rt try`.
+NOT_PROVED = "afdxsim, not proved: its sources by rt try"
 GREATEST_HEAD = "vl,where,runs,least_greatest_ns,mean_greatest_ns,greatest_ns,sum_greatest_ns,seed"
 PERCENTS = [50, 95, 99]
 # Of so many outages a line tells what they do.
@@ -110,23 +112,18 @@ MOST_TOLD = 10
 
 
 class Network(afdx.Network):
-    """A description that the program has accepted, or has by all that is known."""
+    """A description that the program has accepted, with another end where one is given."""
 
-    def __init__(self, description):
-        super().__init__(description.path, description.text, description)
-        self.write(self.description.tree)
-
-    @classmethod
-    def accepted(cls, path, program, until_ns=None):
-        """The network of a file, with another end where one is given."""
+    def __init__(self, path, program, until_ns=None):
         text = text_of(path)
         # Without a program its runs judge it.
         if program:
-            cls.check(path, text, program)
+            self.check(path, text, program)
         description = afdx.Description(path, text)
         if until_ns is not None:
             description.tree["until_ns"] = until_ns
-        return cls(description)
+        super().__init__(path, description=description)
+        self.write(self.description.tree)
 
     @staticmethod
     def check(path, text, program):
@@ -171,6 +168,14 @@ class Network(afdx.Network):
         for (place, _), row in zip(self.offsets, self.description.rows("vl")):
             lines[place + 1] = f"offset_ns = {offsets[row['id']]}"
         return "\n".join(lines) + "\n"
+
+
+class Changed(Network):
+    """An accepted description of which some values were changed, so that it still is one."""
+
+    def __init__(self, description):
+        afdx.Network.__init__(self, description.path, description=description)
+        self.write(self.description.tree)
 
 
 # ---- tables ----
@@ -476,7 +481,7 @@ def prepare(words):
     """The network, the limits and the seeds, or a fault."""
     if not words.by_try and not os.path.isfile(words.program):
         raise Fault(words.program, None, "is not there. `afdx build` builds the program")
-    net = Network.accepted(words.net, None if words.by_try else words.program, words.until)
+    net = Network(words.net, None if words.by_try else words.program, words.until)
     limits = limits_of(words.limits, net) if words.limits else {}
     first = net.seed if words.first is None else words.first
     if first + words.seeds - 1 > GREATEST_SEED:
@@ -515,10 +520,12 @@ def write_record(words, net, seeds, merged=None):
     """Writes what the campaign says of itself."""
     own = ["--seeds", str(words.seeds)]
     own += ["--each-outage", str(words.each_outage)] if words.each_outage is not None else []
+    own += ["--until", str(words.until)] if words.until is not None else []
+    own += [word for it in words.set or () for word in ("--set", it.text)] + [word for vl in words.aim or () for word in ("--aim", str(vl))]
     own += [name for name, is_given in (("--offsets", words.offsets), ("--histograms", words.histograms)) if is_given]
-    program = cluster.version_of(words.program)
+    made_by = NOT_PROVED if words.by_try else cluster.version_of(words.program)
     found = record.Record(
-        afdx.checksum(net.text), program, net.until_ns, seeds[0] if seeds else net.seed, len(seeds), words.offsets, own,
+        afdx.checksum(net.text), made_by, net.until_ns, seeds[0] if seeds else net.seed, len(seeds), words.offsets, own,
         None if merged is None else afdx.checksum(merged),
     )
     write_whole(os.path.join(words.output, record.NAME), found.text())
@@ -540,7 +547,7 @@ def over_settings(words, net, limits, seeds):
     """Runs all seeds with each combination of the values that are set, and answers the status."""
     begin = time.monotonic()
     courses = [
-        (it, Campaign(Network(it.description), limits, seeds, words.offsets))
+        (it, Campaign(Changed(it.description), limits, seeds, words.offsets))
         for it in sweep.combinations_of(net.description, words.set)
     ]
     found = sweep.Sweep(words.set, courses)
@@ -555,6 +562,7 @@ def over_settings(words, net, limits, seeds):
     write_whole(table, found.table())
     write_whole(page, sweep.page(found, words.net, bool(limits)))
     write_json(words, "sweep.json", found.long_rows)
+    write_record(words, net, seeds)
     files.say(f"{table} and {page}: {len(whole)} combinations, {found.done} runs, in {time.monotonic() - begin:.1f} s")
     for it in found.effects()[:MOST_TOLD]:
         spread = f"seeds {it.spread} ns" if len(seeds) > 1 else "one seed"
@@ -586,6 +594,7 @@ def over_aims(words, net, _, seeds):
     table = os.path.join(words.output, "aim.csv")
     write_whole(table, found.table())
     write_json(words, "aim.json", found.long_rows)
+    write_record(words, net, seeds)
     files.say(f"{table}: {found.done} runs, in {time.monotonic() - begin:.1f} s")
     for text in found.in_words():
         files.say(text)

@@ -88,7 +88,7 @@ class OnTheWay:
     of hops, of switches and of ports. `bound` answers that of a kind, a virtual link and a place, or None."""
 
     def __init__(self, net, hops, bound):
-        self.net = net
+        self.net, self.is_measured, self.is_bounded = net, hops is not None, bound is not None
         self.measured = hops.greatest if hops else lambda *_: None
         self.bound = bound or (lambda *_: None)
 

@@ -138,10 +138,11 @@ BOUNDS_COLUMNS = [
 
 class Bounds:
     """The bounds that tools/bounds.py prints, which must be those of this description: `of` has the destinations,
-    `accounts` the virtual links at switches, and `waiting` the ports by line."""
+    `accounts` the virtual links at switches, `waiting` the ports by line, and `kinds` all that second_opinion.py --hops
+    measures, by kind, virtual link (None: of all) and place."""
 
     def __init__(self, path, net):
-        self.path, self.net, self.of, self.accounts, self.waiting = path, net, {}, {}, {}
+        self.path, self.net, self.of, self.accounts, self.waiting, self.kinds = path, net, {}, {}, {}, {}
         lines, said = afdx.text_of(path).split("\n"), {}
         columns = lines[0].removesuffix("\r").split(",")
         lacks = [name for name in BOUNDS_COLUMNS if name not in columns]
@@ -169,12 +170,18 @@ class Bounds:
             raise Fault(self.path, i, f"says again what line {said[key]} says")
         said[key] = i
         if key in self.net.destinations:
-            skew = number("skew_ns") if row["skew_ns"] else None
-            self.of[key] = Bound(number("bound_ns"), row["why"], row["sure"], skew, "delivered_twice" in warnings)
-        elif type(key) is tuple:
-            self.accounts[key] = Account(number("jitter_ns"), number("policing_jitter_ns"), "may_refuse" in warnings)
-        else:
+            known = {kind: number(kind + "_ns") for kind in ("wait", "network", "network_a", "network_b", "skew") if row.get(kind + "_ns")}
+            self.of[key] = Bound(number("bound_ns"), row["why"], row["sure"], known.get("skew"), "delivered_twice" in warnings)
+            self.kinds["wait", key[0], self.net.vls[key[0]].source] = known.pop("wait", None)
+            self.kinds |= {(kind, *key): found for kind, found in known.items()}
+        elif type(key) is not tuple:
             self.waiting[key] = Waiting(number("waiting_bytes"), row["why"])
+            self.kinds["backlog", None, key] = self.waiting[key].most
+        elif key[1] in self.net.mbit:
+            self.kinds["delay", *key] = number("delay_ns") if row.get("delay_ns") else None
+        else:
+            self.accounts[key] = Account(number("jitter_ns"), number("policing_jitter_ns"), "may_refuse" in warnings)
+            self.kinds["jitter", *key] = self.accounts[key].jitter_ns
 
     def key(self, i, row):
         """What a row is of: a virtual link and a place, or a line."""
@@ -185,12 +192,17 @@ class Bounds:
             return where
         key = afdx.whole_number(self.path, i, "the virtual link", row["vl"]), where
         is_account = key[0] in self.net.vls and where in self.net.nodes and self.net.nodes[where].kind == "switch"
-        if key not in self.net.destinations and not is_account:
+        is_hop = key[0] in self.net.vls and where in self.net.vls[key[0]].lines
+        if key not in self.net.destinations and not is_account and not is_hop:
             raise Fault(self.path, i, f"{cut(where)} is no destination of virtual link {key[0]} in {self.net.path}")
         return key
 
     def bound(self, vl, where):
         return self.of[vl, where].ns
+
+    def of_kind(self, kind, vl, where):
+        """The bound of what second_opinion.py --hops measures, or None."""
+        return self.kinds.get((kind, vl, where))
 
     def holds(self, line):
         """How many bytes may wait at the port before a line."""

@@ -27,6 +27,7 @@ import afdx
 import comparison
 import files
 import frames
+import hops
 import limits
 import record
 from afdx import CAUSES, Network, Tables, Trace
@@ -48,6 +49,9 @@ examples:
         the same with the limit, the worst-case bound and the margin of each destination
   report.py net.toml after.csv --against before.csv -o report.html
         what became slower, faster, or was lost, sorted by how much
+  second_opinion.py net.toml --hops hops.csv > tables.csv
+  report.py net.toml tables.csv --hops hops.csv --bounds bounds.csv -o report.html
+        the same with what was measured on the way, beside its bounds: each hop, jitter, skew, what waits
   campaign.py net.toml --seeds 100 --offsets -o campaign
   report.py net.toml campaign/merged.csv --seeds 100 --offsets -o report.html
         the page of a hundred runs together
@@ -232,8 +236,15 @@ def tile(name, value, more="", look="", where=""):
     return f'<a class="tile {look}" data-name="{esc(name)}" href="#{esc(where)}">{said}</a>'
 
 
+def tile_of_way(given):
+    """What was measured on the way and is above its bound."""
+    above = given.way.above() if given.way else 0
+    more = "hops, jitters, skews or what waits: one of the two is wrong"
+    return tile("above on the way", f"{above:,}", more, "bad", "way") if above else ""
+
+
 def tiles(given, ends):
-    found = [tile_of_above(given), tile_of_lost(given, ends), tile_of_too_long(given), tile_of_copies_lost(given.tables)]
+    found = [tile_of_above(given), tile_of_way(given), tile_of_lost(given, ends), tile_of_too_long(given), tile_of_copies_lost(given.tables)]
     found += [*tiles_of_limits(given, ends), *tiles_of_bounds(given.bounds), tile_of_few(given, ends), *tiles_of_run(given)]
     return '<div class="tiles">' + "".join(filter(None, found)) + "</div>"
 
@@ -361,7 +372,8 @@ def part_of_page(name):
 # What a page is made of. `ends` is what became of all frames, where it can be known; `other` has the latencies of the
 # run to compare with and its Ends.
 # `margins` has those of the destinations that have a limit, the least first, and `files` all files that it is made of.
-Given = namedtuple("Given", "net tables trace ends margins bounds other files made_by date")
+# `way` has what was measured on the way and its bounds, or is None where there is neither.
+Given = namedtuple("Given", "net tables trace ends margins bounds other way files made_by date")
 Other = namedtuple("Other", "tables ends bounds")
 
 
@@ -572,6 +584,42 @@ class Page:
             "than SkewMax is delivered again. Ports that may be too small are in the table of loads above."
         )
         return panel("worst", "In the worst case", words, *pieces)
+
+    def on_the_way(self):
+        """What was measured on the way, and its bounds."""
+        way = self.given.way
+        sides = [("", "measured")] * way.is_measured + [("_bound", "bound")] * way.is_bounded
+
+        def pair(kind, name, hint, make=time_column):
+            return [make(kind + side, f"{name}, {said}" if len(sides) > 1 else name, hint, kind + "_tone") for side, said in sides]
+
+        self.rows |= {"parts": way.destinations(), "delays": way.hops(), "jitters": way.switches(), "backlogs": way.ports()}
+        first = sides[0][0]
+        parts = [VL_COLUMN, DESTINATION_COLUMN, *pair("wait", "wait in the regulator", "from the offer of a frame to its release")]
+        parts += pair("network", "network's own", "from the release to the delivery: the latency less the wait")
+        parts += pair("network_a", "by A", "from the release to the arrival of a copy by network A")
+        parts += pair("network_b", "by B", "from the release to the arrival of a copy by network B")
+        parts += [*pair("skew", "skew", "from the arrival of the first copy to that of the second"), time_column("skew_max", "SkewMax")]
+        delays = [VL_COLUMN, column("line", "line", "line")]
+        delays += pair("delay", "delay", "from the arrival at the output port before the line to the last bit on the line")
+        jitters = [VL_COLUMN, column("where", "text", "switch")]
+        jitters += pair("jitter", "jitter", "by how much frames come closer than a BAG")
+        jitters.append(time_column("allowed", "allowed", "policing_jitter_ns"))
+        in_bytes = lambda *words: count_column(*words, "bytes")
+        backlogs = [column("line", "line", "line"), *pair("backlog", "waits", "bytes of frames at the output port", in_bytes)]
+        backlogs.append(count_column("holds", "port holds", unit="bytes"))
+        words = {
+            (True, True): "The greatest that was measured in this run, and its bound; red where it is above.",
+            (True, False): "The greatest that was measured in this run. <code>--bounds</code> shows bounds beside it.",
+            (False, True): "Bounds. <code>--hops</code> shows what was measured beside them.",
+        }[way.is_measured, way.is_bounded]
+        return panel(
+            "way", "On the way", words,
+            "<h3>Regulator, networks and skew</h3>", self.grid("parts", parts, "network" + first, "parts", what="destinations"),
+            "<h3>Each hop</h3>", self.grid("delays", delays, "delay" + first, "delays", what="hops"),
+            "<h3>Jitter at switches</h3>", self.grid("jitters", jitters, "jitter" + first, "jitters", what="accounts"),
+            "<h3>What waits</h3>", self.grid("backlogs", backlogs, "backlog" + first, "backlogs", what="ports"),
+        )
 
     @staticmethod
     def marks_of_ranges(has_limits, has_bounds):
@@ -790,6 +838,7 @@ class Page:
         name = os.path.basename(net.path)
         panels = [self.network(), self.end_to_end(), self.latency()]
         panels += [self.worst_case()] if given.bounds else []
+        panels += [self.on_the_way()] if given.way else []
         panels += [self.against()] if given.other else []
         panels += [self.distribution()] if given.trace else []
         panels += [self.losses()] + ([self.over_time()] if given.trace else []) + [self.second_copies()]
@@ -844,6 +893,7 @@ def words_of(arguments=None):
     add("--bounds", metavar="FILE", help="the worst-case bounds that tools/bounds.py printed for NET")
     add("--strict", action="store_true", help="the status is 1 also where a limit is below its bound, or has none")
     add("--junit", metavar="FILE", help="writes what became of each limit as JUnit's XML")
+    add("--hops", metavar="FILE", help="what second_opinion.py --hops has measured in the same run")
     add("--against", metavar="FILE", help="the tables of another run, to compare this one with: before and after")
     add("--against-net", metavar="NET", help="the description of the other run (default: NET)")
     says = "of merged tables without the record of their campaign: how many seeds they have"
@@ -884,8 +934,9 @@ def tables_of(path, net):
     if found and found.description != afdx.checksum(net.text):
         told = f"its checksum is {cut(found.description)}, and that of {net.path} is {afdx.checksum(net.text)}"
         raise files.Fault(path, None, f"these are tables of a campaign with another description: {told}")
-    if found and found.until_ns != net.until_ns:
-        raise files.Fault(path, None, f"the runs ended at {found.until_ns} ns, and {net.path} ends at {net.until_ns} ns")
+    if found:
+        # The runs of a campaign may have an end of their own.
+        net.until_ns = found.until_ns
     tables = Tables(path, net, text)
     frames.hold(tables)
     return tables, found
@@ -932,16 +983,18 @@ def given_by(words):
     trace = Trace(words.trace, tables) if words.trace else None
     bounds = limits.Bounds(words.bounds, net) if words.bounds else None
     margins = limits.margins_of(limits.limits_of(words.limits, net), tables.latencies, bounds) if words.limits else []
+    measured = hops.Hops(words.hops, tables) if words.hops else None
+    way = hops.OnTheWay(net, measured, bounds and bounds.of_kind) if measured or bounds else None
     other = None
     if words.against:
         before, record_before = tables_of(words.against, Network(words.against_net) if words.against_net else net)
         ends_before = ends_of(words, before, record_before) if before.merged == tables.merged else None
         other = Other(before, ends_before, limits.Bounds(words.against_bounds, before.net) if words.against_bounds else None)
-    made_of = [net.path, tables.path, words.trace, words.limits, words.bounds, words.against, words.against_net, words.against_bounds]
+    made_of = [net.path, tables.path, words.trace, words.limits, words.bounds, words.hops, words.against, words.against_net, words.against_bounds]
     made_by = words.made_by or (f"{found.program}, as their campaign says" if found else None)
     margins = {it.limit[:2]: it for it in margins}
     ends, made_of = ends_of(words, tables, found, trace), list(filter(None, made_of))
-    return Given(net, tables, trace, ends, margins, bounds, other, made_of, made_by, words.date)
+    return Given(net, tables, trace, ends, margins, bounds, other, way, made_of, made_by, words.date)
 
 
 def tell_above(given):
@@ -952,7 +1005,10 @@ def tell_above(given):
         files.tell("report.py", f"{told}: one of the two is wrong")
     if len(above) > MOST_TOLD:
         files.tell("report.py", f"so are {len(above) - MOST_TOLD:,} more latencies above their bounds")
-    return bool(above)
+    on_the_way = given.way.above() if given.way else 0
+    if on_the_way:
+        files.tell("report.py", f"{on_the_way:,} of what was measured on the way are above their bounds: one of the two is wrong")
+    return bool(above or on_the_way)
 
 
 @files.tool

@@ -27,8 +27,8 @@ MOST_COMBINATIONS = 10_000
 MOST_ON_THE_PAGE = 200
 HEAD = "vl,where,runs,delivered,least_greatest_ns,mean_greatest_ns,greatest_ns,seed,copies_lost"
 
-# A key of a row that is set, with the values: `who` is the number or the name of the row.
-Setting = namedtuple("Setting", "name section who key values")
+# A key of a row that is set, with the values: `who` is the number or the name of the row, `text` the word that said it.
+Setting = namedtuple("Setting", "name section who key values text")
 
 
 def setting(text):
@@ -51,7 +51,7 @@ def setting(text):
         values = [int(value.replace("_", "")) for value in values]
     if len(set(values)) < len(values):
         raise argparse.ArgumentTypeError(f"{text!r} has a value twice")
-    return Setting(f"{section}.{who}.{name}", section, who, key, values)
+    return Setting(f"{section}.{who}.{name}", section, who, key, values, text)
 
 
 def place_of(description, it):

@@ -274,7 +274,7 @@ class ByHand(unittest.TestCase):
         # Twenty frames are released together: nineteen of them may wait.
         vls = [virtual_link(i, way("E1", "A", "E2")) for i in range(20)]
         for port_bytes, warning in ((19 * 64, ""), (19 * 64 - 1, "too_small")):
-            (port,) = (it for it in network(vls, port_bytes=port_bytes).rows() if it["where"] == "E1>A")
+            (port,) = (it for it in network(vls, port_bytes=port_bytes).rows() if it["where"] == "E1>A" and "vl" not in it)
             self.assertEqual((port["waiting_bytes"], port["warning"]), (str(19 * 64), warning))
 
     def test_a_port_that_may_be_full(self):
@@ -408,8 +408,10 @@ class Command(unittest.TestCase):
         with open(path, "rb") as file:
             own = hashlib.sha256(file.read()).hexdigest()[:16]
         text = "vl,where,bound_ns,wait_ns,waiting_bytes,port_bytes,why,sure,skew_ns,skew_max_ns,jitter_ns,"
-        text += f"policing_jitter_ns,warning,description\n1,ES2,27720,0,,,,A,,,,,,{own}\n1,SW1,,,,,,,,,0,0,,{own}\n"
-        text += f",ES1>SW1,,,0,4096,,,,,,,,{own}\n,SW1>ES2,,,0,65536,,,,,,,,{own}\n"
+        text += "policing_jitter_ns,warning,network_ns,network_a_ns,network_b_ns,delay_ns,description\n"
+        text += f"1,ES2,27720,0,,,,A,,,,,,27720,27720,,,{own}\n1,SW1,,,,,,,,,0,0,,,,,,{own}\n"
+        text += f"1,ES1>SW1,,,,,,,,,,,,,,,5760,{own}\n1,SW1>ES2,,,,,,,,,,,,,,,5760,{own}\n"
+        text += f",ES1>SW1,,,0,4096,,,,,,,,,,,,{own}\n,SW1>ES2,,,0,65536,,,,,,,,,,,,{own}\n"
         self.assertEqual(self.call(path), (0, text, ""))
         with tempfile.TemporaryDirectory() as folder:
             out = os.path.join(folder, "bounds.csv")

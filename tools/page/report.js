@@ -290,13 +290,22 @@ const hops = paths => {
   return walk(tree, 1);
 };
 
+// What was measured of a hop, and its bound, where either is known.
+const delays = new Map(data.delays?.vl.map((id, i) => [id + " " + data.delays.line[i], i]));
+const delayColumns = !data.delays ? [] : [["delay", "µs"], ["delay_bound", "µs"]]
+  .filter(([key]) => data.delays[key].some(ns => ns !== null));
+const delayCells = (vl, line) => delayColumns.map(([key]) => {
+  const i = delays.get(vl.id + " " + lines.name[line]), ns = data.delays[key][i] ?? null;
+  return `<span class="${TONES[data.delays.delay_tone[i] ?? 0]}">${ns === null ? "–" : us(ns)}</span>`;
+});
+
 const hopRows = vl => ["A", "B"].flatMap(side => hops(vl.paths[side]).map(([line, hop]) => {
   const [, there] = data.nodes[line];
   const lost = [lostAt(vl, lines.name[line], side), lostAt(vl, there, side)].filter(Boolean).join("; ");
   const out = lines.outages[line].map(([from, to]) => ` (out ${span(from)} to ${span(to)})`).join("");
   return [side, hop, `<span style="padding-left:${hop - 1}em">${toLine(lines.name[line])}</span>`,
     bar(line) + percent(lines.load[line]), share(vl, line).toFixed(2), whole(usersOf[line].length),
-    (lost || "–") + out];
+    ...delayCells(vl, line), (lost || "–") + out];
 }));
 
 const strips = vl => `<div class="strips">${["A", "B"].filter(side => vl.paths[side].length).map(side => {
@@ -342,7 +351,8 @@ const vlPart = vl => {
   const facts = factsOf(vl).map(([name, value]) => `<div><dt>${name}</dt><dd>${value}</dd></div>`).join("");
   return `<h3>At each destination</h3>${table("vl-ends", columns, rows)}
     <h3>Hop by hop</h3>${table("vl-hops", [["network"], ["hop", "number"], ["line"], ["load", "%"], ["of this", "%"],
-      ["virtual links", "number"], ["lost on it or at its end"]], hopRows(vl))}
+      ["virtual links", "number"], ...delayColumns.map(([key, unit]) => [key === "delay" ? "delay" : "bound of it", unit]),
+      ["lost on it or at its end"]], hopRows(vl))}
     <h3>Copies lost</h3>${lost.length ? table("vl-lost", [["place"], ["network"], ["cause"], ["lost", "frames"],
       ["on the way to"]], lost) : "<p><b>No copy was lost.</b></p>"}
     ${drawn ? `<h3>Latencies</h3><div class="legend">${percentiles}</div><div class="figures">${drawn}</div>` : ""}
