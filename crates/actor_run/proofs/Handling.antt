@@ -12,7 +12,8 @@ use Rattle.virtual_time.proofs.Least.{IsLeast, least-some, least-from}
 use Rattle.virtual_time.proofs.OneThread.{right, times-without, put_same, put_other}
 use Rattle.reverse.specs.Setting.{Setting, simulation_of, Opens, AreInStates}
 use Rattle.actor_run.specs.Running.{AreOnTheWay, HasNumbersFrom, IsExhaustedAt, StandsAt}
-use Rattle.actor_run.proofs.Counting.{times-permutation, taken-least}
+use Rattle.two_lists.proofs.Counting.{times-permutation}
+use Rattle.actor_run.proofs.Counting.{taken-least}
 
 -- one actor is in a new state
 pub states-put : {S : Type 0} (processes : ℕ) (states : ℕ → S) (actors : List S) (p : ℕ) (s : S) → p < processes →

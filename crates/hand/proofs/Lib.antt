@@ -1,0 +1,13 @@
+pub mod Shares
+pub mod Offers
+pub mod Telling
+pub mod Member
+pub mod Running
+pub mod Coming
+pub mod Going
+pub mod Taking
+pub mod Handled
+pub mod Passed
+pub mod FirstEvent
+pub mod Sealing
+pub mod Still

@@ -1,0 +1,64 @@
+-- The offers beside the lists: the last of them is first.
+use Rattle.std.proofs.Common.{◌≡◌, ◌<◌, ◌-◌, ◌++◌, ◌∙◌, ℕ, List, ◌∷◌, [], Bool, true, false, Option, Some, None, length, slice_get, All, IfSome, IfNone, IsPermutation, MatchOption, subst, sym, ap, refl, arith, Bor, Contains, option_to_list, option_copied, IsSortedBy}
+use Rattle.std.specs.Cmp.{IsTotalOrder}
+use Rattle.std.proofs.lemmas.List.Elements.{All-nil, All-append, All-contains, Contains-append_right}
+use Rattle.std.proofs.lemmas.List.Sorted.{IsPermutation-to_front, IsPermutation-sym, Contains-permutation}
+use Rattle.std.proofs.lemmas.Option.{get_or_from_slice_get, slice_get_within, slice_get-get_or}
+use Rattle.vlink.specs.declared.message.Message.{Message}
+use Rattle.vlink.specs.Order.{message_cmp, message_order}
+use Rattle.virtual_time.specs.Law.{IsOrder}
+use Rattle.reverse.specs.Rules.{is_before}
+use Rattle.two_lists.proofs.Firsts.{NoneBefore, no-later, last-first, last-is}
+
+-- where there is room there is a place
+pub took : (b : Bool) (n : ℕ) → 0 < n → (b ≡ false → n ≡ 0) → b ≡ true
+took true n l f = refl
+took false n l f = absurd (let e = f refl in omega arith)
+
+pub last-before : IsTotalOrder message_cmp → (offers : List Message) → IsSortedBy (λ x y. is_before y x) offers → (last : Option (Bor Message)) →
+    option_copied last ≡ slice_get offers (length offers - 1) → IfSome last (λ m. NoneBefore m.now offers)
+last-before o offers falls None e = tt
+last-before o offers falls (Some m) e = last-first o offers m.now falls (sym e)
+
+pub last-none : (offers : List Message) (last : Option (Bor Message)) → option_copied last ≡ slice_get offers (length offers - 1) → IfNone last (offers ≡ [])
+last-none offers (Some m) e = tt
+last-none [] None e = refl
+last-none (x ∷ xs) None e = let k = slice_get-get_or (x ∷ xs) (length (x ∷ xs) - 1) x (omega arith) in cc
+
+pub last-in : (offers : List Message) (last : Option (Bor Message)) → option_copied last ≡ slice_get offers (length offers - 1) → IfSome last (λ m. Contains offers m.now)
+last-in offers None e = tt
+last-in offers (Some m) e =
+    (length offers - 1, slice_get_within offers (length offers - 1) m.now (sym e), get_or_from_slice_get offers (length offers - 1) m.now m.now (sym e))
+
+pub last-out : (offers rest : List Message) (taken : Option Message) → offers ≡ rest ++ option_to_list taken → IfSome taken (λ m. IsPermutation offers (m ∷ rest))
+last-out offers rest None e = tt
+last-out offers rest (Some m) e = subst (λ (xs : List Message). IsPermutation xs (m ∷ rest)) (sym e) (IsPermutation-to_front rest m)
+
+pub last-out-before : IsTotalOrder message_cmp → (offers rest : List Message) (taken : Option Message) → IsSortedBy (λ x y. is_before y x) offers →
+    offers ≡ rest ++ option_to_list taken → IfSome taken (λ m. NoneBefore m offers)
+last-out-before o offers rest None falls e = tt
+last-out-before o offers rest (Some m) falls e = last-first o offers m falls (last-is offers rest m e)
+
+-- the last of the offers, where no message of the lists comes before it
+pub last-of-all : IsTotalOrder message_cmp → (lists offers : List Message) → IsSortedBy (λ x y. is_before y x) offers → (last : Option (Bor Message)) →
+    option_copied last ≡ slice_get offers (length offers - 1) → MatchOption last (lists ≡ []) (λ r. NoneBefore r.now lists) →
+    IfSome (option_copied last) (λ m. NoneBefore m (lists ++ offers))
+last-of-all o lists offers falls None e k = tt
+last-of-all o lists offers falls (Some m) e k = All-append (λ x. is_before x m.now ≡ false) lists offers k (last-first o offers m.now falls (sym e))
+
+pub last-among : (lists offers : List Message) (last : Option (Bor Message)) → option_copied last ≡ slice_get offers (length offers - 1) →
+    IfSome (option_copied last) (Contains (lists ++ offers))
+last-among lists offers None e = tt
+last-among lists offers (Some m) e = Contains-append_right lists offers m.now (last-in offers (Some m) e)
+
+pub room-then : (n k : ℕ) → n ≡ k → 0 < k → 0 < n
+room-then n k e l = omega arith
+
+-- two that are first of a list are one
+pub first-out : IsOrder message_order → (old new : List Message) (m : Message) (taken : Option Message) → Contains old m → NoneBefore m old →
+    IfSome taken (λ z. IsPermutation old (z ∷ new)) → IfSome taken (λ z. NoneBefore z old) → IfNone taken (old ≡ []) → IsPermutation old (m ∷ new)
+first-out O old new m None there first p q none = absurd (let k = subst (λ (xs : List Message). Contains xs m) none there in let l = k.1 in omega (arith, l))
+first-out O old new m (Some z) there first p q none =
+    let inside : Contains old z = Contains-permutation (z ∷ new) old z (IsPermutation-sym old (z ∷ new) p) (0, omega arith, refl) in
+    let same : z ≡ m = O.total z m (All-contains (λ x. is_before x m ≡ false) old z first inside) (All-contains (λ x. is_before x z ≡ false) old m q there) in
+    subst (λ (w : Message). IsPermutation old (w ∷ new)) same p

@@ -1,0 +1,136 @@
+-- A message is handled: what the hand has of its receiver, and of the others, stands for what Run and Post make of the receiver's part.
+use Rattle.std.proofs.Common.{◌≡◌, ℕ, ◌+◌, ◌<◌, ◌==◌, ◌⊎◌, inl, inr, Bool, true, false, cond, List, [], ◌∷◌, ◌++◌, map, Some, refl, sym, ap, ◌∙◌, subst, arith, pos, ◌-ℤ◌, eq-eqb, ne_eqb}
+use Rattle.std.specs.Bool.{⊤}
+use Rattle.std.proofs.lemmas.Bool.{cases_eq, cases_lt, both_ways}
+use Rattle.vlink.specs.declared.message.Message.{Message}
+use Rattle.vlink.specs.declared.note.Note.{Note}
+use Rattle.virtual_time.specs.Law.{Rules, IsOrder, IsIn, times_in, one_if, same, plus_of, pluses, minuses, IsNamed, received_by, reached, rowed, rows_at, Part, emptied, handled, next_of, IsWell}
+use Rattle.virtual_time.specs.declared.letter.Letter.{Letter}
+use Rattle.virtual_time.proofs.Letters.{pluses-append, minuses-append, pluses-plus, minuses-plus, received-mine, received-here, named-none}
+use Rattle.virtual_time.proofs.Lists.{times-append}
+use Rattle.virtual_time.proofs.Handling.{reached-append}
+use Rattle.virtual_time.proofs.WellRun.{run-well}
+use Rattle.virtual_time.proofs.WellStep.{emptied-well}
+use Rattle.antimessages.specs.Counting.{HaveSameCounts}
+use Rattle.process_queues.specs.Past.{AreValues}
+use Rattle.hand.specs.Deeds.{Deed, deed_of, deeds_at, deeds_of, messages_of}
+use Rattle.hand.specs.Hands.{Held, IsMember, counted}
+
+module _ {S K : Type 0} (r : Rules Message S K Note) (O : IsOrder r.order) (V : S → Message → Type 0) where
+  -- lists with the same pluses and minuses of each message have them for each receiver
+  pub received-same : (q : ℕ) (xs ys : List (Letter Message)) → ((m : Message) → pluses r.order m xs ≡ pluses r.order m ys) → ((m : Message) → minuses r.order m xs ≡ minuses r.order m ys) →
+      HaveSameCounts r.order (received_by r.order q xs) (received_by r.order q ys)
+  received-same q xs ys p n m = go (cases_eq (r.order.receiver m) q)
+    where
+      none : (ls : List (Letter Message)) → (r.order.receiver m ≡ q → ⊥) → pluses r.order m (received_by r.order q ls) + minuses r.order m (received_by r.order q ls) ≡ 0
+      none ls d = named-none r.order O m (received_by r.order q ls) (λ i. d (received-here r.order O q m ls i))
+
+      go : (r.order.receiver m ≡ q) ⊎ (r.order.receiver m ≡ q → ⊥) →
+          pos (pluses r.order m (received_by r.order q xs)) -ℤ pos (minuses r.order m (received_by r.order q xs))
+          ≡ pos (pluses r.order m (received_by r.order q ys)) -ℤ pos (minuses r.order m (received_by r.order q ys))
+      go (inl e) =
+          let a = received-mine r.order O q m e xs in
+          let b = received-mine r.order O q m e ys in
+          let x : pluses r.order m (received_by r.order q xs) ≡ pluses r.order m (received_by r.order q ys) = a.0 ∙ (p m ∙ sym b.0) in
+          let y : minuses r.order m (received_by r.order q xs) ≡ minuses r.order m (received_by r.order q ys) = a.1 ∙ (n m ∙ sym b.1) in
+          ap (λ z. pos z -ℤ pos (minuses r.order m (received_by r.order q xs))) x ∙ ap (λ z. pos (pluses r.order m (received_by r.order q ys)) -ℤ pos z) y
+      go (inr d) =
+          let a = none xs d in
+          let b = none ys d in
+          let x : pluses r.order m (received_by r.order q xs) ≡ pluses r.order m (received_by r.order q ys) = omega arith in
+          let y : minuses r.order m (received_by r.order q xs) ≡ minuses r.order m (received_by r.order q ys) = omega arith in
+          ap (λ z. pos z -ℤ pos (minuses r.order m (received_by r.order q xs))) x ∙ ap (λ z. pos (pluses r.order m (received_by r.order q ys)) -ℤ pos z) y
+
+  values-more : (s : S) (ms : List Message) (m : Message) → AreValues r V s ms → V (reached r s ms) m → AreValues r V s (ms ++ m ∷ [])
+  values-more s [] m vs v = (v, tt)
+  values-more s (x ∷ xs) m vs v = (vs.0, values-more (r.after s x) xs m vs.1 v)
+
+  deeds-push : (s : S) (ms : List Message) (m : Message) → deeds_of r s (ms ++ m ∷ []) ≡ deeds_of r s ms ++ deed_of r (reached r s ms) m ∷ []
+  deeds-push s [] m = refl
+  deeds-push s (x ∷ xs) m = ap (λ z. deed_of r s x ∷ z) (deeds-push (r.after s x) xs m)
+
+  at-push : (q : ℕ) (ds : List (Deed K)) (d : Deed K) → deeds_at r.order q (ds ++ d ∷ []) ≡ deeds_at r.order q ds ++ deeds_at r.order q (d ∷ [])
+  at-push q [] d = refl
+  at-push q (x ∷ xs) d = go (r.order.receiver x.message == q) (at-push q xs d)
+    where
+      go : (b : Bool) → deeds_at r.order q (xs ++ d ∷ []) ≡ deeds_at r.order q xs ++ deeds_at r.order q (d ∷ []) →
+          cond b (x ∷ deeds_at r.order q (xs ++ d ∷ [])) (deeds_at r.order q (xs ++ d ∷ [])) ≡ cond b (x ∷ deeds_at r.order q xs) (deeds_at r.order q xs) ++ deeds_at r.order q (d ∷ [])
+      go true e = ap (λ z. x ∷ z) e
+      go false e = e
+
+  pub messages-push : (ds : List (Deed K)) (d : Deed K) → messages_of (ds ++ d ∷ []) ≡ messages_of ds ++ d.message ∷ []
+  messages-push [] d = refl
+  messages-push (x ∷ xs) d = ap (λ z. x.message ∷ z) (messages-push xs d)
+
+  -- the message went from the queue to the done events
+  module _ (h new : Held S K) (m : Message) (d : Deed K) (is : d.message ≡ m)
+      (queue : (x : Message) → times_in r.order x h.flow.queue ≡ one_if (same r.order x m) + times_in r.order x new.flow.queue)
+      (done : new.done ≡ h.done ++ d ∷ []) (extra : new.flow.extra ≡ h.flow.extra) (tray : new.flow.tray ≡ h.flow.tray) (rows : new.rows ≡ h.rows) where
+    pub new-pluses : (x : Message) → pluses r.order x (counted h) ≡ pluses r.order x (counted new)
+    new-pluses x =
+        let a = pluses-append r.order O x (map plus_of h.flow.queue) (map plus_of (messages_of h.done) ++ h.flow.extra) in
+        let b = pluses-append r.order O x (map plus_of (messages_of h.done)) h.flow.extra in
+        let c = pluses-plus r.order O x h.flow.queue in
+        let e = pluses-plus r.order O x (messages_of h.done) in
+        let a' = pluses-append r.order O x (map plus_of new.flow.queue) (map plus_of (messages_of new.done) ++ new.flow.extra) in
+        let b' = pluses-append r.order O x (map plus_of (messages_of new.done)) new.flow.extra in
+        let c' = pluses-plus r.order O x new.flow.queue in
+        let e' = pluses-plus r.order O x (messages_of new.done) in
+        let g : times_in r.order x (messages_of new.done) ≡ times_in r.order x (messages_of h.done ++ m ∷ []) =
+        ap (times_in r.order x) (ap messages_of done ∙ (messages-push h.done d ∙ ap (λ z. messages_of h.done ++ z ∷ []) is)) in
+        let i = times-append r.order O x (messages_of h.done) (m ∷ []) in
+        let j = ap (pluses r.order x) extra in
+        let k = queue x in
+        omega arith
+
+    pub new-minuses : (x : Message) → minuses r.order x (counted h) ≡ minuses r.order x (counted new)
+    new-minuses x =
+        let a = minuses-append r.order O x (map plus_of h.flow.queue) (map plus_of (messages_of h.done) ++ h.flow.extra) in
+        let b = minuses-append r.order O x (map plus_of (messages_of h.done)) h.flow.extra in
+        let c = minuses-plus r.order O x h.flow.queue in
+        let e = minuses-plus r.order O x (messages_of h.done) in
+        let a' = minuses-append r.order O x (map plus_of new.flow.queue) (map plus_of (messages_of new.done) ++ new.flow.extra) in
+        let b' = minuses-append r.order O x (map plus_of (messages_of new.done)) new.flow.extra in
+        let c' = minuses-plus r.order O x new.flow.queue in
+        let e' = minuses-plus r.order O x (messages_of new.done) in
+        let j = ap (minuses r.order x) extra in
+        omega arith
+
+    -- another member
+    pub ran-other : (opening : S) (p : ℕ) (part : Part Message S) (s : S) → (r.order.receiver m ≡ p → ⊥) → IsMember r V opening p part s h → IsMember r V opening p part s new
+    ran-other opening p part s n k = record {
+      state = k.state;
+      done = ap (deeds_at r.order p) done ∙ (at-push p h.done d ∙
+          (ap (λ b. deeds_at r.order p h.done ++ cond b (d ∷ []) []) (ne_eqb (r.order.receiver d.message) p (λ e. n (ap r.order.receiver (sym is) ∙ e))) ∙ (nothing _ ∙ k.done)));
+      values = k.values;
+      counts = λ x. k.counts x ∙ received-same p (counted h) (counted new) new-pluses new-minuses x;
+      tray = k.tray ∙ ap (received_by r.order p) (sym tray);
+      outbox = k.outbox;
+      rows = subst (λ z. rows_at p z ≡ rowed r opening part.committed) (sym rows) k.rows;
+      well = k.well;
+    }
+      where
+        nothing : (xs : List (Deed K)) → xs ++ [] ≡ xs
+        nothing [] = refl
+        nothing (x ∷ xs) = ap (λ z. x ∷ z) (nothing xs)
+
+    -- the receiver, whose next message it was
+    pub ran-member : (law : (s : S) (e : Message) → r.undo (r.after s e) e (r.kept s e) ≡ s) (opening : S) (q : ℕ) (part : Part Message S) (s : S) → r.order.receiver m ≡ q →
+        d ≡ deed_of r s m → V s m → next_of r.order part ≡ Some m → IsMember r V opening q part s h → IsMember r V opening q (emptied (handled r part (Some m))) (r.after s m) new
+    ran-member law opening q part s e deed value next k = record {
+      state = ap (λ z. r.after z m) k.state;
+      done = ap (deeds_at r.order q) done ∙ (at-push q h.done d ∙
+          (ap (λ b. deeds_at r.order q h.done ++ cond b (d ∷ []) []) (eq-eqb (r.order.receiver d.message) q (ap r.order.receiver is ∙ e)) ∙
+          (ap (λ z. z ++ d ∷ []) k.done ∙ (ap (λ z. deeds_of r (reached r opening part.committed) part.done ++ z ∷ []) (deed ∙ ap (λ z. deed_of r z m) from) ∙
+          sym (deeds-push (reached r opening part.committed) part.done m)))));
+      values = values-more (reached r opening part.committed) part.done m k.values (subst (λ z. V z m) from value);
+      counts = λ x. k.counts x ∙ received-same q (counted h) (counted new) new-pluses new-minuses x;
+      tray = k.tray ∙ ap (received_by r.order q) (sym tray);
+      outbox = refl;
+      rows = subst (λ z. rows_at q z ≡ rowed r opening part.committed) (sym rows) k.rows;
+      well = emptied-well r (λ z. ⊤) opening (handled r part (Some m))
+          (subst (IsWell r (λ z. ⊤) opening) (ap (handled r part) next) (run-well r O (λ z. ⊤) (λ z x g. law z x) opening part k.well tt).well);
+    }
+      where
+        from : s ≡ reached r (reached r opening part.committed) part.done
+        from = sym k.state ∙ (k.well.state_is ∙ reached-append r opening part.committed part.done)

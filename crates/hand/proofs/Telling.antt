@@ -1,0 +1,53 @@
+-- Words that are told one behind another.
+use Rattle.std.proofs.Common.{◌≡◌, true, cond, List, [], ◌∷◌, ◌++◌, refl, sym, ap, ◌∙◌, subst, append_assoc, append-nil}
+use Rattle.vlink.specs.declared.message.Message.{Message}
+use Rattle.vlink.specs.declared.note.Note.{Note}
+use Rattle.vlink.specs.Letters.{Letter}
+use Rattle.virtual_time.specs.Law.{Simulation, Rules, World, AreDone, done_by, is_enabled, effect, step}
+use Rattle.virtual_time.specs.declared.step.Step.{Step}
+use Rattle.reverse.specs.Setting.{simulation_of}
+use Rattle.hand.specs.declared.block.Did.{Did}
+use Rattle.hand.specs.Block.{steps_of_word, steps_told}
+use Rattle.hand.specs.Hands.{Held, DoesSent, StandsForSent}
+
+module _ {M S K N : Type 0} (f : Simulation M S K N) where
+  pub done-append : (xs ys : List Step) (v : World M S) → done_by f (xs ++ ys) v ≡ done_by f ys (done_by f xs v)
+  done-append [] ys v = refl
+  done-append (x ∷ xs) ys v = done-append xs ys (effect f x v)
+
+  pub step-does : (x : Step) (v : World M S) → is_enabled f x v ≡ true → step f x v ≡ effect f x v
+  unfolding step
+  step-does x v e = ap (λ b. cond b (effect f x v) v) e
+
+  pub are_done-append : (xs ys : List Step) (v : World M S) → AreDone f xs v → AreDone f ys (done_by f xs v) → AreDone f (xs ++ ys) v
+  are_done-append [] ys v a b = b
+  are_done-append (x ∷ xs) ys v a b = (
+    a.0,
+    subst (λ w. AreDone f (xs ++ ys) w) (sym (step-does x v a.0))
+        (are_done-append xs ys (effect f x v) (subst (λ w. AreDone f xs w) (step-does x v a.0) a.1) b),
+  )
+
+pub told-append : (xs ys : List Did) → steps_told (xs ++ ys) ≡ steps_told xs ++ steps_told ys
+told-append [] ys = refl
+told-append (x ∷ xs) ys = ap (λ z. steps_of_word x ++ z) (told-append xs ys) ∙ sym (append_assoc (steps_of_word x) (steps_told xs) (steps_told ys))
+
+module _ {S K : Type 0} (r : Rules Message S K Note) (V : S → Message → Type 0) where
+  pub does-nothing : (h : Held S K) (sent : List Letter) → DoesSent r V h sent h sent
+  does-nothing h sent = record {
+    did = [];
+    block = sym (append-nil h.flow.words);
+    stands = λ x L v g. (tt, g);
+  }
+
+  pub does-both : (h mid new : Held S K) (sent between left : List Letter) → DoesSent r V h sent mid between → DoesSent r V mid between new left → DoesSent r V h sent new left
+  does-both h mid new sent between left a b = record {
+    did = a.did ++ b.did;
+    block = b.block ∙ (ap (λ z. z ++ b.did) a.block ∙ append_assoc h.flow.words a.did b.did);
+    stands = λ x L v g.
+        let f = simulation_of r x in
+        let one = a.stands x L v g in
+        let two = b.stands x L (done_by f (steps_told a.did) v) one.1 in (
+          subst (λ xs. AreDone f xs v) (sym (told-append a.did b.did)) (are_done-append f (steps_told a.did) (steps_told b.did) v one.0 two.0),
+          subst (λ w. StandsForSent r V x w new left) (sym (ap (λ xs. done_by f xs v) (told-append a.did b.did) ∙ done-append f (steps_told a.did) (steps_told b.did) v)) two.1,
+        );
+  }

@@ -1,0 +1,5 @@
+pub mod Block
+pub mod Deeds
+pub mod Flow
+pub mod Hands
+pub mod Passing

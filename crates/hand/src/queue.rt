@@ -1,0 +1,111 @@
+//! The messages that a group has to handle: what was sent, in two lists, and beside them the offers.
+ghost use Rattle.std.specs.Prelude.{◌≡◌, ◌≢◌, ◌+◌, ◌<◌, ◌≤◌, [], ◌∷◌, ◌++◌, true, false, All, Contains, OnOk, IfOk, IfSome, IfNone, IsPermutation};
+ghost use Rattle.std.specs.List.Sorted.{IsSortedBy};
+ghost use Rattle.std.proofs.Props.{props};
+ghost use Rattle.vlink.specs.Order.{message_order};
+ghost use Rattle.vlink.specs.declared.message.Message.{Message};
+ghost use Rattle.reverse.specs.Rules.{is_before};
+
+use std::alloc::{AllocError, Global};
+use std::marker::Model;
+use two_lists::{TwoLists, sort};
+use vlink::{Message, lawful_order, message_order};
+
+/// The messages that a group has to handle. All offers are known from the start and are sorted once; one that is undone goes to the lists.
+///
+/// Clauses see it as the list of all, in no particular order, in which a message can be several times, and for how many more there is room.
+#[derive(Drop)]
+pub(crate) struct Queue {
+    lists: TwoLists,
+    /// The first of them is at the end.
+    offers: Vec<Message>,
+    ghost falling: { IsSortedBy (λ x y. is_before y x) offers.items } by { Prim.hlevel props },
+}
+
+impl Model for Queue {
+    ghost use Rattle.std.specs.Prelude.{◌++◌};
+    ghost use Rattle.two_lists.specs.Listing.{Listing};
+
+    ghost Value = { Listing };
+
+    ghost view = { λ q. record { messages = q.lists.messages ++ q.offers.items; room = q.lists.room } };
+}
+
+impl Queue {
+    /// These offers.
+    pub(crate) fn of_offers(alloc: Global, offers: Vec<Message>) -> Result<Self, AllocError>
+        ensures { IfOk result (λ queue. IsPermutation offers.items queue.messages) }
+    {
+        let mut offers = offers;
+        sort(&mut offers);
+        Ok(Queue {
+            lists: TwoLists::empty(alloc)?,
+            offers,
+        })
+    }
+
+    /// The first message, if there is one.
+    #[inline(always)]
+    pub(crate) fn first(&mut self) -> Option<Message>
+        ensures same { IsPermutation self.old.messages self.new.messages }
+        ensures room { self.old.room ≤ self.new.room }
+        ensures among { IfSome result (Contains self.old.messages) }
+        ensures first { IfSome result (λ m. All (λ x. is_before x m ≡ false) self.old.messages) }
+        ensures none { IfNone result (self.old.messages ≡ []) }
+    {
+        message_order();
+        let last = self.offers.last();
+        let Some(message) = self.lists.first_before(last) else {
+            return last.copied();
+        };
+        Some(message)
+    }
+
+    /// Takes the first message out, if there is one.
+    #[inline(always)]
+    fn pop(&mut self) -> Option<Message>
+        ensures one { IfSome result (λ m. IsPermutation self.old.messages (m ∷ self.new.messages)) }
+        ensures first { IfSome result (λ m. All (λ x. is_before x m ≡ false) self.old.messages) }
+        ensures none { IfNone result (self.old.messages ≡ []) }
+        ensures room { self.old.room ≤ self.new.room }
+    {
+        message_order();
+        let Some(message) = self.lists.pop_before(self.offers.last()) else {
+            return self.offers.pop();
+        };
+        Some(message)
+    }
+
+    /// Takes out the first message, which is this one.
+    #[inline(always)]
+    pub(crate) fn take_first(&mut self, message: &Message)
+        requires among { Contains self.old.messages message.now }
+        requires first { All (λ x. is_before x message.now ≡ false) self.old.messages }
+        ensures taken { IsPermutation self.old.messages (message.now ∷ self.new.messages) }
+        ensures room { self.old.room ≤ self.new.room }
+    {
+        lawful_order();
+        let _first = self.pop();
+    }
+
+    /// Makes room for so many messages more: as long as no other call comes between, so many calls of `push_reserved` have it.
+    #[inline(always)]
+    pub(crate) fn reserve(&mut self, more: usize) -> Result<(), AllocError>
+        requires few { more ≤ 4096 }
+        ensures room { OnOk result (more ≤ self.new.room) }
+        ensures same { self.new.messages ≡ self.old.messages }
+    {
+        self.lists.reserve(more)?;
+        Ok(())
+    }
+
+    /// One message more, for which there is room.
+    #[inline(always)]
+    pub(crate) fn push_reserved(&mut self, message: &Message)
+        requires { 0 < self.old.room }
+        ensures more { IsPermutation (message.now ∷ self.old.messages) self.new.messages }
+        ensures room { self.old.room ≤ self.new.room + 1 }
+    {
+        let _taken = self.lists.push(message);
+    }
+}
