@@ -50,6 +50,7 @@ import long_form
 import record
 import runs
 import sweep
+import tried_runs
 from afdx import CAUSES, GREATEST_SEED, PROGRAM, TABLES_HEAD, whole
 from files import Fault, text_of, write_whole
 from limits import limits_of
@@ -113,7 +114,9 @@ class Network(afdx.Network):
 
     def __init__(self, path, program, until_ns=None):
         text = text_of(path)
-        self.check(path, text, program)
+        # Without a program its runs judge it.
+        if program:
+            self.check(path, text, program)
         description = afdx.Description(path, text)
         if until_ns is not None:
             description.tree["until_ns"] = until_ns
@@ -455,6 +458,7 @@ def words_of(arguments=None):
     add("--dask", type=address, metavar="ADDRESS", help=says)
     add("--keep", action="store_true", help="keep the description and the tables of each run in DIR too")
     add("--program", default=PROGRAM, metavar="PATH", help="the program (default: crates/afdxsim/out/afdxsim)")
+    add("--by-try", action="store_true", help="these sources without a proof make the runs: built once, by the kit's `rt try`")
     add("-o", "--output", metavar="DIR", required=True, help="the folder for what comes of it; it is made if need be")
     words = parser.parse_args(arguments)
     kinds = {"--each-outage": words.each_outage is not None, "--set": bool(words.set), "--aim": bool(words.aim)}
@@ -473,9 +477,9 @@ def words_of(arguments=None):
 
 def prepare(words):
     """The network, the limits and the seeds, or a fault."""
-    if not os.path.isfile(words.program):
-        raise Fault(words.program, None, "is not there. `rt run -- --help` in crates/afdxsim builds the program")
-    net = Network(words.net, words.program, words.until)
+    if not words.by_try and not os.path.isfile(words.program):
+        raise Fault(words.program, None, "is not there. `afdx build` builds the program")
+    net = Network(words.net, None if words.by_try else words.program, words.until)
     limits = limits_of(words.limits, net) if words.limits else {}
     first = net.seed if words.first is None else words.first
     if first + words.seeds - 1 > GREATEST_SEED:
@@ -490,7 +494,9 @@ def prepare(words):
 
 
 def maker_of(words, is_traced):
-    """Who makes the runs: this machine, or a cluster."""
+    """Who makes the runs: this machine, by the program or by its sources, or a cluster."""
+    if words.by_try:
+        return tried_runs.Tried(is_traced)
     if words.dask:
         return cluster.Cluster(words.dask, words.program, is_traced)
     return runs.Here(words.program, words.jobs, is_traced)

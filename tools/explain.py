@@ -21,6 +21,8 @@ EXAMPLES = """
 examples:
   explain.py net.toml
         the faults of net.toml, or its warnings
+  bounds.py net.toml -o bounds.csv && explain.py net.toml --bounds bounds.csv
+        further warnings, of what may go wrong in the worst case
 
 what is told, in this order:
   faults    by the number that `afdxsim` gives them, then by section, row and key; docs/FORMATS.md, section 4, has them.
@@ -33,6 +35,8 @@ what is told, in this order:
             a line that gets more than 75 percent of what it carries, or more than 100
             an outage that begins after the end; a virtual link that offers nothing before the end
             a BAG longer than the run
+            with --bounds, of the worst case: accounts that may refuse frames, destinations to which neither network
+            brings each frame, copies that may be further apart than SkewMax, ports that are too small
 
 status: 0 where the description is accepted, with or without warnings; 1 where it has a fault; 2 where a word is wrong or
 the file cannot be read.
@@ -664,11 +668,64 @@ class Warnings:
                 add(other, f"has no path to {names}: reached by network {key.upper()} alone, without a second copy")
 
 
+class WorstCase(Warnings):
+    """What may go wrong in the worst case, by the bounds that tools/bounds.py worked out."""
+
+    def __init__(self, net, bounds):
+        self.net, self.bounds, self.findings = net, bounds, []
+        self.rows = {name: i for i, name in enumerate(net.nodes, 1)}
+        self.of_each(bounds.refusing(), self.refusing)
+        self.of_each(bounds.not_sure(), self.not_sure)
+        self.of_each(bounds.twice(), self.twice)
+        for line in bounds.too_small():
+            self.too_small(line)
+        self.findings.sort(key=lambda it: it.line)
+
+    def of_each(self, keys, tell):
+        """Tells of each virtual link, and the places where it is so."""
+        places = {}
+        for vl, where in keys:
+            places.setdefault(vl, []).append(where)
+        for vl, found in places.items():
+            tell(self.net.vls[vl], sorted(found, key=self.net.process.get))
+
+    def tell(self, vl, key, text):
+        self.add("vl", vl.row, key, f"virtual link {vl.id}", text)
+
+    def refusing(self, vl, places):
+        told = [f"{where} ({ns_or_none(self.bounds.accounts[vl.id, where].jitter_ns)})" for where in places]
+        text = f"is {vl.policing_ns}, and in the worst case frames come closer than a BAG by more than that at {few(told)}: "
+        self.tell(vl, "policing_jitter_ns", text + "the accounts there may refuse them (policed)")
+
+    def not_sure(self, vl, places):
+        networks = "neither network brings" if all(vl.paths.values()) else "its network does not bring"
+        self.tell(vl, None, f"{networks} each frame to {few(places)} in the worst case")
+
+    def twice(self, vl, places):
+        told = [f"{where} ({ns_or_none(self.bounds.of[vl.id, where].skew_ns)})" for where in places]
+        text = f"is {vl.skew_ns}, and in the worst case the copies of a frame are further apart at {few(told)}: "
+        self.tell(vl, "skew_max_ns", text + "the second one would be delivered too")
+
+    def too_small(self, line):
+        most, name = self.bounds.waiting[line].most, line.split(">")[0]
+        waits = "there is no bound on the bytes that may wait" if most is None else f"in the worst case {most} bytes wait"
+        text = f"is {self.bounds.holds(line)}, and {waits} before {line}: frames may be lost there (port_full)"
+        self.add("node", self.rows[name], "port_bytes", f"node {name}", text)
+
+
+def ns_or_none(number):
+    return "no bound" if number is None else f"{number} ns"
+
+
+def few(texts, most=4):
+    return ", ".join(texts[:most]) + (f" and {len(texts) - most} more" if len(texts) > most else "")
+
+
 # ---- words of the command line ----
 
 
-def explain(path):
-    """What is told of a file, faults or warnings, and the status."""
+def explain(path, bounds=None):
+    """What is told of a file, faults or warnings, and the status. `bounds` names a file of bounds."""
     try:
         text = afdx.text_of(path)
     except Fault as fault:
@@ -683,7 +740,13 @@ def explain(path):
         behind = "" if description else f"; what is behind line {found[-1].line} was not judged"
         lines.append(f"{path}: {counted(found, 'fault')}, the first is what afdxsim answers{behind}")
     else:
-        warnings = Warnings(afdx.Network(path, text, description)).findings
+        net = afdx.Network(path, text, description)
+        warnings = Warnings(net).findings
+        if bounds:
+            # What reads them stands on this module.
+            import limits
+
+            warnings += WorstCase(net, limits.Bounds(bounds, net)).findings
         lines = [line_of(path, finding) for finding in warnings]
         lines.append(f"{path}: accepted" + (f", {counted(warnings, 'warning')}" if warnings else ""))
     return "".join(line + "\n" for line in lines), 1 if found else 0
@@ -699,8 +762,9 @@ def main(arguments=None):
         description=__doc__, epilog=EXAMPLES, formatter_class=argparse.RawDescriptionHelpFormatter
     )
     parser.add_argument("net", metavar="NET", help="the description (TOML)")
+    parser.add_argument("--bounds", metavar="FILE", help="warns of the worst case too: the bounds that tools/bounds.py printed for NET")
     words = parser.parse_args(arguments)
-    told, status = explain(words.net)
+    told, status = explain(words.net, words.bounds)
     files.write_out(told)
     return status
 

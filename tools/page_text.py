@@ -51,5 +51,14 @@ def round_up(ns):
     return -(-ns // unit) * unit
 
 
+def mean_ns(row):
+    return (2 * row.total + row.count) // (2 * row.count) if row.count else 0
+
+
+def one_or_range(found):
+    """A count for the script: a number, or the least and the greatest."""
+    return found.least if found.least == found.most else [*found]
+
+
 def esc(text):
     return html.escape(str(text), quote=True)

@@ -24,6 +24,7 @@ from fractions import Fraction
 from urllib.parse import quote
 
 import afdx
+import comparison
 import files
 import frames
 import hops
@@ -33,7 +34,7 @@ from afdx import CAUSES, Network, Tables, Trace
 from drawing import MOMENTS, Drawing, chart_over_time, heat, legend_of_loads
 from files import cut
 from frames import Ends, Journey, Range, Way, ways_of
-from page_text import counted, esc, frame_count, frames_of, hundredths, round_up, span, two_places
+from page_text import counted, esc, frame_count, frames_of, hundredths, mean_ns, one_or_range, round_up, span, two_places
 
 EXAMPLES = """
 examples:
@@ -116,10 +117,6 @@ def percentile(rising, percent):
     return rising[-(-len(rising) * percent // 100) - 1]
 
 
-def mean_ns(row):
-    return (2 * row.total + row.count) // (2 * row.count) if row.count else 0
-
-
 def histogram(rising):
     """How many of the values are in each of the steps between the least and the greatest; or the values, if few."""
     if len(rising) < ENOUGH_FOR_BARS:
@@ -159,11 +156,6 @@ COPIES_COLUMN = count_column("copies", "copies", "second copies that were droppe
 
 # How a cell is marked, as the script numbers it.
 WARN, BAD = 1, 2
-
-
-def one_or_range(found):
-    """A count for the script: a number, or the least and the greatest."""
-    return found.least if found.least == found.most else [*found]
 
 
 class EndTable:
@@ -231,32 +223,6 @@ class EndTable:
             yield from (("bound_tone", BAD if is_above else 0), ("skew", found.skew_ns))
             yield from (("sure", " and ".join(found.sure) or "neither"), ("sure_tone", 0 if found.sure else WARN))
             yield from (("skew_max", vl.skew_ns), ("skew_tone", WARN if found.may_be_twice else 0))
-
-
-def comparison(given):
-    """For each virtual link and destination of both runs: before and now, and what changed, column by column."""
-    found = {}
-    for key, row in given.tables.latencies.items():
-        before = given.other.tables.latencies.get(key)
-        if before is None:
-            continue
-        change = row.greatest - before.greatest if row.count and before.count else None
-        lost = before.count - row.count
-        told = {"vl": row.vl, "where": row.where, "change": change, "fall": None if change is None else -change}
-        told |= {"before": before.greatest if before.count else None, "greatest": row.greatest if row.count else None}
-        told["percent"] = hundredths(Fraction(row.greatest * 100, before.greatest)) if change is not None else None
-        told |= {"mean_before": mean_ns(before) if before.count else None, "mean": mean_ns(row) if row.count else None}
-        told |= {"count_before": before.count, "count": row.count}
-        if given.ends and given.other.ends:
-            now, then = given.ends.of[key].missing, given.other.ends.of[key].missing
-            told |= {"missing_before": one_or_range(then), "missing": one_or_range(now)}
-            # Of what is left open, the change that is sure.
-            sure, fewer = now.least - then.most, then.least - now.most
-            lost = max(0, sure) - max(0, fewer)
-        told |= {"lost": lost, "kept": -lost}
-        for name, value in told.items():
-            found.setdefault(name, []).append(value)
-    return found or {"vl": [], "change": [], "fall": [], "lost": [], "kept": []}
 
 
 # ---- the tiles ----
@@ -407,8 +373,8 @@ def part_of_page(name):
 # run to compare with and its Ends.
 # `margins` has those of the destinations that have a limit, the least first, and `files` all files that it is made of.
 # `way` has what was measured on the way and its bounds, or is None where there is neither.
-Given = namedtuple("Given", "net tables trace ends margins bounds other way files")
-Other = namedtuple("Other", "tables ends")
+Given = namedtuple("Given", "net tables trace ends margins bounds other way files made_by date")
+Other = namedtuple("Other", "tables ends bounds")
 
 
 def panel(name, title, words, *pieces):
@@ -766,7 +732,7 @@ class Page:
 
     def against(self):
         other = self.given.other.tables
-        rows = self.rows["against"] = comparison(self.given)
+        rows = self.rows["against"] = comparison.of_both(self.given)
         pieces = []
         for name, title, key, change in CHANGES:
             only = [i for i, value in enumerate(rows[key]) if (value or 0) > 0]
@@ -775,6 +741,7 @@ class Page:
                 times = BEFORE_AND_NOW if change["look"] == "us" else []
                 columns = [VL_COLUMN, DESTINATION_COLUMN, change, *times, *self.counts_of_both()]
                 pieces.append(self.grid(name, columns, key, "against", only))
+        pieces += self.bounds_moved() + self.differences()
         words = f"This run against that of <code>{esc(os.path.basename(other.path))}</code>, worst first."
         alone = sorted(set(other.latencies) ^ set(self.tables.latencies))
         if alone:
@@ -782,6 +749,30 @@ class Page:
             more = " and others" if len(alone) > 5 else ""
             words += f" {counted(len(alone), 'destination')} of one run alone: {esc(told)}{more}."
         return panel("against", "Against another run", words, *pieces)
+
+    def bounds_moved(self):
+        """The bounds of both descriptions, those that moved most first."""
+        before, now = self.given.other.bounds, self.given.bounds
+        if not before:
+            return []
+        rows = self.rows["bounds_moved"] = comparison.bounds_moved(before, now)
+        title = f"<h3>Bounds that moved ({len(rows['vl']):,})</h3>"
+        if not rows["vl"]:
+            return [title]
+        columns = [VL_COLUMN, DESTINATION_COLUMN, time_column("moved", "moved by", "– where one of the two has no bound")]
+        columns += [time_column("before", "bound before"), time_column("now", "bound now")]
+        return [title, self.grid("bounds-moved", columns, "moved", "bounds_moved")]
+
+    def differences(self):
+        """What the two descriptions say differently."""
+        found = comparison.differences(self.given.other.tables.net, self.net)
+        title = f"<h3>What differs in the descriptions ({len(found):,})</h3>"
+        if not found:
+            return [title]
+        names = ("what", "key", "before", "now")
+        rows = self.rows["differences"] = {name: [it[i] for it in found] for i, name in enumerate(names)}
+        columns = [column(name, "text", name) for name in names]
+        return [title, self.grid("differences", columns, "", "differences")]
 
     def counts_of_both(self):
         yield from (count_column("count_before", "delivered before"), count_column("count", "delivered now"))
@@ -874,6 +865,14 @@ class Page:
         return words + f"One run of {span(net.until_ns)} with the seed {net.seed}."
 
     def foot(self):
+        """What the page is made of, and who made that: a date stands there where it is given, so the same words make the
+        same page."""
+        given = self.given
+        by = f"The tables are by {esc(given.made_by)}." if given.made_by else "Who made the tables is not told (--made-by)."
+        date = f" {esc(given.date)}." if given.date else ""
+        return f"{self.made_of()} {by} Description: SHA-256 {afdx.checksum(self.net.text)}..{date}"
+
+    def made_of(self):
         given = self.given
         runs = "these runs" if self.tables.merged else "this run"
         told = f"Made of {esc(', '.join(map(files.printable, given.files)))}. It tells what happened in {runs}"
@@ -902,10 +901,15 @@ def words_of(arguments=None):
     seed = afdx.whole(0, afdx.GREATEST_SEED)
     add("--first", type=seed, metavar="SEED", help="the first of them (default: that of NET)")
     add("--offsets", action="store_true", help="of merged tables: the campaign drew offsets")
+    add("--against-bounds", metavar="FILE", help="the bounds of the other run's description: how bounds moved (with --bounds)")
+    add("--date", metavar="TEXT", help="a date for the foot of the page, which else has none")
+    add("--made-by", metavar="TEXT", help="who made the tables, for the foot of the page: the program, and whether it was proved")
     add("-o", "--output", metavar="FILE", required=True, help="the page to write (HTML)")
     words = parser.parse_args(arguments)
     if words.against_net and not words.against:
         parser.error("--against-net says of which network the tables of --against are, and there are none")
+    if words.against_bounds and not (words.against and words.bounds):
+        parser.error("--against-bounds are the bounds of the other run: it needs --against FILE and --bounds FILE")
     if (words.first is not None or words.offsets) and not words.seeds:
         parser.error("--first and --offsets tell of the runs of a campaign, and --seeds how many they were")
     if words.junit and not words.limits:
@@ -984,11 +988,14 @@ def given_by(words):
     other = None
     if words.against:
         before, record_before = tables_of(words.against, Network(words.against_net) if words.against_net else net)
-        other = Other(before, ends_of(words, before, record_before) if before.merged == tables.merged else None)
-    made_of = [net.path, tables.path, words.trace, words.limits, words.bounds, words.hops, other and other.tables.path]
+        ends_before = ends_of(words, before, record_before) if before.merged == tables.merged else None
+        other = Other(before, ends_before, limits.Bounds(words.against_bounds, before.net) if words.against_bounds else None)
+    made_of = [net.path, tables.path, words.trace, words.limits, words.bounds, words.hops]
+    made_of += [words.against, words.against_net, words.against_bounds]
+    made_by = words.made_by or (f"{found.program}, as their campaign says" if found else None)
     margins = {it.limit[:2]: it for it in margins}
     ends, made_of = ends_of(words, tables, found, trace), list(filter(None, made_of))
-    return Given(net, tables, trace, ends, margins, bounds, other, way, made_of)
+    return Given(net, tables, trace, ends, margins, bounds, other, way, made_of, made_by, words.date)
 
 
 def tell_above(given):

@@ -2,6 +2,7 @@
 `rt ci` leaves it; the others have a stand-in of a few lines, which can be told to fail."""
 import contextlib
 import io
+import json
 import os
 import pty
 import signal
@@ -15,6 +16,7 @@ import unittest
 HERE = os.path.dirname(os.path.abspath(__file__))
 sys.path.insert(0, HERE)
 
+import afdx  # noqa: E402
 import campaign  # noqa: E402
 import report  # noqa: E402
 from second_opinion import CAUSES, Simulation  # noqa: E402
@@ -331,6 +333,26 @@ class WithAStandIn(Here):
         self.assertEqual(sorted(os.listdir(self.output)), ["campaign.json", "greatest.csv", "merged.csv"])
         told = read(os.path.join(self.output, "greatest.csv")).splitlines()
         self.assertEqual(told, [head, *(line.rsplit(",", 3)[0] for line in lines)])
+
+    def test_the_page_of_its_folder(self):
+        """The campaign says of which seeds it is. Told other seeds, the page of its tables alone is red: frames would be
+        under way for longer than any took."""
+        self.stand_in()
+        page = os.path.join(self.folder, "page.html")
+        for words in ([], ["--offsets", "--first", "5"]):
+            self.output = os.path.join(self.folder, f"campaign{len(words)}")
+            self.assertEqual(self.call(COCKPIT, "--seeds", "3", *words)[0], 0)
+            told = json.loads(read(os.path.join(self.output, "campaign.json")))
+            self.assertEqual(told["description"], afdx.checksum(read(COCKPIT)))
+            wanted = ("stand-in 1", 512_000_000, 5 if words else 7, 3, bool(words), ["--seeds", "3"] + words[:1])
+            self.assertEqual(tuple(told[name] for name in ("program", "until_ns", "first_seed", "seeds", "offsets", "words")), wanted)
+            self.assertEqual(report.main([COCKPIT, self.output, "-o", page]), 0)
+            self.assertIn('data-name="lost end to end"', read(page))
+            self.assertNotIn('data-name="under way too long"', read(page))
+            self.assertRegex(read(page), r'<a class="tile good" data-name="lost end to end".*?<b>0 frames</b>')
+        merged = self.file("alone.csv", read(os.path.join(self.folder, "campaign0", "merged.csv")))
+        self.assertEqual(report.main([COCKPIT, merged, "--seeds", "6", "-o", page]), 0)
+        self.assertRegex(read(page), r'<a class="tile bad" data-name="under way too long"')
 
     def test_a_destination_without_frames_over_seeds(self):
         self.stand_in()

@@ -1,0 +1,506 @@
+"""The one command for all that a user does: what each word of it is handed to."""
+import argparse
+import contextlib
+import os
+import re
+import runpy
+import subprocess
+import sys
+import tempfile
+from collections import namedtuple
+
+import afdx
+import by_rt
+import files
+import program
+from by_rt import tell
+from program import HERE, NoProgram
+
+# Of a command of the program: which of its words are files that it reads, in order, and what it says.
+OfProgram = namedtuple("OfProgram", "files usage says")
+OF_PROGRAM = {
+    "check": OfProgram(1, "NET", "judge a description, and count what it has"),
+    "seq": OfProgram(1, "NET [--trace FILE] [--progress]", "simulate it on one thread; tables as CSV"),
+    "run": OfProgram(
+        1, "NET [--workers N] [--turn N] [--window NS] [--journal FILE] [--trace FILE] [--progress]",
+        "the same by Time Warp on several threads",
+    ),
+    "replay": OfProgram(2, "NET STEPS", "do the steps of a journal"),
+}
+# Of a tool: its file, the option that it has in any case, and what it says.
+OfTool = namedtuple("OfTool", "file option usage says")
+OF_TOOLS = {
+    "explain": OfTool("explain.py", None, "NET", "all faults of a description with their lines, or its warnings"),
+    "bounds": OfTool("bounds.py", None, "NET [-o FILE]", "worst-case bounds of latencies and ports, as CSV"),
+    "table": OfTool("from_table.py", None, "TABLE.. -o NET", "make a description of the tables of an interface document"),
+    "campaign": OfTool("campaign.py", None, "NET --seeds N -o DIR", "run many seeds, and merge their tables"),
+    "outages": OfTool(
+        "campaign.py", "--each-outage", "NET [--each-outage NS] -o DIR", "run with each link and each switch out in turn"
+    ),
+    "pcap": OfTool("pcap.py", None, "NET TRACE -o FILE", "make a capture for Wireshark of a trace"),
+}
+# The tools that have the program run.
+RUN_IT = ("campaign", "outages")
+OWN = {
+    "page": ("NET [TABLES] -o FILE", "explain, simulate, bound and draw: one page to look at"),
+    "build": ("[--jobs N]", "prove all crates and build the program"),
+    "package": ("[-o DIR]", "make a Debian package of the proved program and the tools"),
+    "completion": ("bash", "print what completes words in a shell"),
+}
+# The options of the program that have a value, and those that name a file which it writes.
+VALUED = ("--trace", "--journal", "--workers", "--turn", "--window")
+WRITES = ("--trace", "--journal")
+
+HELP = """usage: afdx [--help] [--version] COMMAND ..
+
+One command for all that is done with a network: each line is a command, and `afdx COMMAND --help` tells its words.
+
+{commands}
+
+which program runs is told on error output, once. It is
+  the proved one, where it was built of these very sources: `afdx build` and ./test leave it, a package brings it;
+  else these sources by `rt try`, without a proof and with checks, where the kit is: it takes some two minutes, writes no
+  file, and passes on 1 MiB of each run;
+  with --by second-opinion the plain simulator in Python, for seq and page; with --by proved and --by try just that one;
+  with --program PATH the program that you name
+
+run is for those who want to see Time Warp at work. On a machine that does other things besides, run with four workers was
+measured to take 20 times as long as seq, as its workers wait for each other: where tables are all that is wanted, use seq.
+
+examples:
+  afdx page net.toml -o net.html
+        whether the description is accepted, its run, its bounds, and a page of all that
+  afdx seq net.toml --trace trace.csv > tables.csv
+        tables and trace of a run
+  afdx page net.toml -o net.html --by second-opinion
+        without the program, by Python alone
+  source <(afdx completion bash)
+        words are completed by the tabulator
+
+status: that of the program or the tool; 2 where a word is wrong, or where no program is there
+"""
+
+
+class Mistake(Exception):
+    """What is wrong with the words, in one line."""
+
+
+def commands(is_clone=program.is_clone()):
+    """Each command with its words and what it says, in the order of the help. A package has no sources to build."""
+    found = {"page": OWN["page"]}
+    found |= {name: (it.usage, it.says) for name, it in OF_PROGRAM.items()}
+    found |= {name: (it.usage, it.says) for name, it in OF_TOOLS.items() if is_there(it)}
+    return found | {name: it for name, it in OWN.items() if name != "page" and (is_clone or name == "completion")}
+
+
+def is_there(tool):
+    return os.path.isfile(os.path.join(HERE, tool.file))
+
+
+def help_text(is_clone=program.is_clone()):
+    lines = [f"  {name:<12}{says}" for name, (_, says) in commands(is_clone).items()]
+    return HELP.format(commands="\n".join(lines))
+
+
+def version_text():
+    """The version, with the commit and the kit, and the program that is here."""
+    lines = [f"afdxsim {program.version()}"]
+    if program.is_clone():
+        lines += [f"commit: {program.commit() or 'unknown'}", f"kit: {program.kit() or 'not here'}"]
+    try:
+        found = program.proved()
+        lines.append(f"program: {os.path.normpath(found.path)}: {found.says}")
+    except NoProgram as fault:
+        lines.append(f"program: {fault}")
+    return "\n".join(lines) + "\n"
+
+
+# ---- which program ----
+
+
+def taken_out(words, name):
+    """The words without the option of this name and its value, which may stand anywhere before --, and the value."""
+    end = words.index("--") if "--" in words else len(words)
+    for place, word in enumerate(words[:end]):
+        if word.startswith(name + "="):
+            return words[:place] + words[place + 1 :], word.partition("=")[2]
+        if word == name:
+            if place + 1 >= end:
+                raise Mistake(f"{name} needs a value")
+            return words[:place] + words[place + 2 :], words[place + 1]
+    return words, None
+
+
+def chosen(by, path):
+    """The program that is to run, by what the user asks for."""
+    if by not in (None, "proved", "try", "second-opinion"):
+        raise Mistake(f"--by is proved, try or second-opinion, and not {by!r}")
+    if path is not None:
+        if by is not None:
+            raise Mistake("--by and --program name a program each: give one of them")
+        return program.given(path)
+    if by == "second-opinion":
+        return program.second_opinion()
+    if by == "try":
+        return program.tried()
+    try:
+        return program.proved()
+    except NoProgram as why:
+        if by == "proved" or not program.is_clone():
+            raise
+        return why_tried(why)
+
+
+def why_tried(why):
+    """The program by `rt try`, since there is no proved one."""
+    try:
+        found = program.tried()
+    except NoProgram as other:
+        raise NoProgram(
+            f"{why}, and {other}: `afdx build` needs the kit; seq and page have --by second-opinion"
+        ) from None
+    tell(f"{why}; `afdx build` builds it, in 25 to 60 minutes")
+    return found
+
+
+# ---- the program's commands ----
+
+
+def files_of(name, words):
+    """The places of the words that name files which the command reads, and the names of files that it writes."""
+    read, written, rest = [], [], iter(range(len(words)))
+    only_paths = False
+    for place in rest:
+        word = words[place]
+        if not only_paths and word == "--":
+            only_paths = True
+        elif not only_paths and word.startswith("-") and word != "-":
+            option, has_value, value = word.partition("=")
+            if option in VALUED and not has_value:
+                place = next(rest, None)
+                value = words[place] if place is not None else ""
+            if option in WRITES:
+                written.append(option)
+        else:
+            read.append(place)
+    return read[: OF_PROGRAM[name].files], written
+
+
+def asks_for_help(words):
+    return any(word in ("--help", "-h") for word in words[: words.index("--") if "--" in words else len(words)])
+
+
+def by_program(name, words):
+    """Hands the words to the program, and answers its status."""
+    words, by = taken_out(words, "--by")
+    words, path = taken_out(words, "--program")
+    if asks_for_help(words):
+        with contextlib.suppress(NoProgram):
+            found = program.given(path) if path else program.proved()
+            return subprocess.run([found.path, name, *words]).returncode
+        it = OF_PROGRAM[name]
+        files.say(f"usage: afdx {name} {it.usage}\n\n{it.says}\n\ndocs/FORMATS.md, section 9, has all of it.")
+        return 0
+    it = chosen(by, path)
+    if it.how in ("proved", "given"):
+        tell(it.says)
+        warn_of_load(name)
+        return subprocess.run([it.path, name, *words]).returncode
+    read, written = files_of(name, words)
+    if it.how == "second opinion":
+        if name != "seq" or "--progress" in words:
+            raise Mistake("the second opinion is one of seq, without --progress, and of page")
+        tell(it.says)
+        return subprocess.run([sys.executable, os.path.join(HERE, "second_opinion.py"), *words]).returncode
+    if len(read) < OF_PROGRAM[name].files:
+        raise Mistake(f"usage: afdx {name} {OF_PROGRAM[name].usage}")
+    if written:
+        raise NoProgram(
+            f"{written[0]} writes a file, which `rt try` cannot keep: `afdx build` builds the proved program"
+            + (", or --by second-opinion" if name == "seq" else "")
+        )
+    for place in read:
+        if not os.access(words[place], os.R_OK) or os.path.isdir(words[place]):
+            # As the program does; it would take two minutes to say so.
+            print(f"afdxsim: cannot read {words[place]}", file=sys.stderr)
+            return 4
+    tell(it.says)
+    status, printed, said = by_rt.by_try([name, *words], [1 + place for place in read])
+    write(sys.stderr, said)
+    write(sys.stdout, printed)
+    return status
+
+
+def write(stream, found):
+    stream.flush()
+    stream.buffer.write(found)
+    stream.buffer.flush()
+
+
+def warn_of_load(name):
+    """Says that `run` is slow where the machine has other work."""
+    cores = len(os.sched_getaffinity(0))
+    if name == "run" and os.getloadavg()[0] > cores / 2:
+        tell(
+            f"this machine has other work (load {os.getloadavg()[0]:.1f} on {cores} processors): run may take many times as "
+            "long as seq, which gives the same tables"
+        )
+
+
+# ---- tools ----
+
+
+def by_tool(name, words):
+    """Runs a tool in this very process."""
+    tool = OF_TOOLS[name]
+    if not is_there(tool):
+        raise Mistake(f"there is no tools/{tool.file}")
+    asks = asks_for_help(words) or not words
+    # At the end, since the option may have a value.
+    words = words + [tool.option] * bool(tool.option and not any(word.startswith(tool.option) for word in words))
+    if name in RUN_IT and not asks:
+        words, status = with_program(words)
+        if status:
+            return status
+    sys.argv = [f"afdx {name}", *words]
+    runpy.run_path(os.path.join(HERE, tool.file), run_name="__main__")
+    return 0
+
+
+def with_program(words):
+    """The words of a tool that has the program run, with those that tell which one; and the status where there is no use in
+    going on."""
+    words, by = taken_out(words, "--by")
+    words, path = taken_out(words, "--program")
+    it = chosen(by, path)
+    if it.how == "second opinion":
+        raise Mistake("the second opinion is one of seq, without --progress, and of page")
+    tell(it.says)
+    if it.path:
+        return ["--program", it.path, *words], 0
+    # Before the two minutes in which the program is built.
+    status = explained(words[0]) if words and not words[0].startswith("-") else 0
+    return ["--by-try", *words], status
+
+
+# ---- the page ----
+
+
+def page_words(arguments):
+    parser = argparse.ArgumentParser(
+        prog="afdx page", usage="afdx page NET [TABLES] -o FILE [--by WHAT] [--program PATH] [--no-bounds] ..",
+        description="Explains a description, has it simulated, bounds its latencies and draws all of it: one page. With tables\n"
+        "that are there, behind NET, as those of a campaign, nothing is simulated.",
+        epilog="All other options are those of report.py (afdx page NET -o FILE --limits FILE, say): tools/report.py --help.\n"
+        "status: 0; 1 where the description has a fault; else that of the step that fails, which says why",
+        formatter_class=argparse.RawDescriptionHelpFormatter,
+    )
+    add = parser.add_argument
+    add("net", metavar="NET", help="the description (TOML)")
+    add("-o", "--output", metavar="FILE", required=True, help="the page to write (HTML)")
+    add("--by", metavar="WHAT", help="proved, try or second-opinion (default: proved, else try)")
+    add("--program", metavar="PATH", help="the program to run, whatever it is")
+    add("--no-bounds", action="store_true", help="leave the worst-case bounds out")
+    # Only behind NET, since words behind an option that is the page's own may be its value.
+    is_told = len(arguments) > 1 and not arguments[0].startswith("-") and not arguments[1].startswith("-")
+    words, more = parser.parse_known_args([arguments[0], *arguments[2:]] if is_told else arguments)
+    words.tables = arguments[1] if is_told else None
+    words.no_bounds = words.no_bounds or any(word.split("=")[0] == "--bounds" for word in more)
+    return words, more
+
+
+def tool_command(file, *words):
+    return [sys.executable, os.path.join(HERE, file), *words]
+
+
+def explained(net):
+    """Tells on error output what is wrong with a description or hardly meant, and answers the status."""
+    found = subprocess.run(tool_command("explain.py", net), stdin=subprocess.DEVNULL, capture_output=True, text=True)
+    sys.stderr.write(found.stderr)
+    for line in found.stdout.splitlines():
+        if not line.endswith(": accepted"):
+            print(line, file=sys.stderr)
+    return found.returncode
+
+
+def page(arguments):
+    """Makes the page of a description, and answers the status."""
+    words, more = page_words(arguments)
+    if status := explained(words.net):
+        return status
+    it = None if words.tables else chosen(words.by, words.program)
+    if it:
+        tell(it.says)
+    with tempfile.TemporaryDirectory(prefix="afdx-page-") as folder:
+        tables, trace, bounds = (os.path.join(folder, name) for name in ("tables.csv", "trace.csv", "bounds.csv"))
+        reckoning = None if words.no_bounds else subprocess.Popen(tool_command("bounds.py", words.net, "-o", bounds))
+        try:
+            status = simulate(it, words.net, tables, trace) if it else 0
+        except BaseException:
+            if reckoning:
+                reckoning.kill()
+            raise
+        finally:
+            bounded = reckoning.wait() if reckoning else 0
+        if status or bounded:
+            return status or bounded
+        # The page names what it was made of, so it is made where these names are short and always the same.
+        more = [absolute(word) for word in more]
+        more += ["--trace", "trace.csv"] if os.path.exists(trace) else []
+        more += [] if words.no_bounds else ["--bounds", "bounds.csv"]
+        more += ["--made-by", it.says] if it else []
+        tables = linked(words.tables, folder) if words.tables else "tables.csv"
+        command = tool_command("report.py", linked(words.net, folder), tables, "-o", os.path.abspath(words.output), *more)
+        return subprocess.run(command, cwd=folder).returncode
+
+
+def linked(path, folder):
+    """A name of a file in this folder, by a link; or its own from the root on, where the name is taken."""
+    name = os.path.basename(os.path.normpath(path))
+    if os.path.lexists(os.path.join(folder, name)) or name.startswith("-"):
+        return os.path.abspath(path)
+    os.symlink(os.path.abspath(path), os.path.join(folder, name))
+    return name
+
+
+def absolute(word):
+    """A word with the file that it names, if it does, named from the root on."""
+    option, has_value, value = word.rpartition("=") if word.startswith("--") else ("", "", word)
+    return option + has_value + (os.path.abspath(value) if os.path.exists(value) else value)
+
+
+def simulate(it, net, tables, trace):
+    """Has the tables made, and the trace where files can be kept, and answers the status."""
+    with open(tables, "wb") as out:
+        if it.how == "tried":
+            return simulate_by_try(net, out, trace)
+        command = [it.path, "seq"] if it.path else tool_command("second_opinion.py")
+        return subprocess.run([*command, net, "--trace", trace], stdin=subprocess.DEVNULL, stdout=out).returncode
+
+
+def simulate_by_try(net, out, trace):
+    """The same by `rt try`, with the trace where it is not too long to be passed on."""
+    with open(net, "rb") as file:
+        text = file.read()
+    traced, alone = by_rt.cases_by_try([(text, ["--trace", "/dev/stderr"]), (text, [])])
+    if traced[0] == 0:
+        with open(trace, "wb") as file:
+            file.write(traced[2])
+    elif alone[0] == 0:
+        tell("the trace is too long for `rt try`: the page has no histograms, and tells the losses of tables alone")
+    else:
+        write(sys.stderr, alone[2])
+        if alone[0] is None:
+            raise NoProgram("`rt try` gave no answer: it passes on at most 1 MiB, and `afdx build` builds the proved program")
+    out.write(traced[1] if traced[0] == 0 else alone[1])
+    return alone[0]
+
+
+# ---- building and the shell ----
+
+
+def build(arguments):
+    parser = argparse.ArgumentParser(
+        prog="afdx build", description="Proves all crates and builds the program: crates/afdxsim/out/afdxsim.",
+        epilog="What it said in full is in crates/afdxsim/out/build.log.",
+    )
+    parser.add_argument("--jobs", type=afdx.whole(1, 1024), default=len(os.sched_getaffinity(0)), metavar="N", help="crates side by side")
+    record = by_rt.build(parser.parse_args(arguments).jobs)
+    files.say(f"{program.BUILT}: {program.in_words(record)}")
+    return 0
+
+
+def options_of(name):
+    """The options that a command's help names."""
+    if name in OF_PROGRAM:
+        return sorted({*re.findall(r"--[a-z-]+", OF_PROGRAM[name].usage), "--by", "--program", "--help"})
+    if name in OF_TOOLS:
+        words = tool_command(OF_TOOLS[name].file, "--help")
+        said = subprocess.run(words, capture_output=True, text=True, stdin=subprocess.DEVNULL).stdout
+        return sorted(set(re.findall(r"(?<![\w-])--[a-z][a-z-]*[a-z]", said)))
+    more = {"page": ["--by", "--limits", "--no-bounds", "--output", "--program"], "build": ["--jobs"], "package": ["--output"]}
+    return [*more.get(name, []), "--help"]
+
+
+COMPLETION = """# bash completion of afdx; made by `afdx completion bash`
+_afdx() {{
+    local word=${{COMP_WORDS[COMP_CWORD]}} before=${{COMP_WORDS[COMP_CWORD - 1]}} options
+    if [ "$COMP_CWORD" -eq 1 ]; then
+        COMPREPLY=($(compgen -W "{names} --help --version" -- "$word"))
+        return
+    fi
+    case $before in
+    --by) COMPREPLY=($(compgen -W "proved try second-opinion" -- "$word")); return ;;
+    esac
+    case ${{COMP_WORDS[1]}} in
+{cases}
+    esac
+    case $word in
+    -*) COMPREPLY=($(compgen -W "$options" -- "$word")) ;;
+    *) COMPREPLY=($(compgen -f -- "$word")) ;;
+    esac
+}}
+complete -o filenames -F _afdx afdx ./afdx
+"""
+
+
+def completion_text(is_clone=program.is_clone()):
+    """What bash is to read, so that it completes words."""
+    names = commands(is_clone)
+    cases = "\n".join(f"    {name}) options=\"{' '.join(options_of(name))}\" ;;" for name in names)
+    return COMPLETION.format(names=" ".join(names), cases=cases)
+
+
+def completion(arguments):
+    if arguments != ["bash"]:
+        raise Mistake("completion is for bash: afdx completion bash")
+    files.write_out(completion_text())
+    return 0
+
+
+def package(arguments):
+    import package as packing
+
+    return packing.main(arguments)
+
+
+def answer(words):
+    """Does what the words say, and answers the status."""
+    if words[:1] in (["--help"], ["-h"], ["help"]):
+        files.write_out(help_text())
+        return 0
+    if words[:1] == ["--version"]:
+        files.write_out(version_text())
+        return 0
+    # What is said of the program may also stand before the command.
+    asked = []
+    while words and words[0].split("=")[0] in ("--by", "--program"):
+        taken = 1 if "=" in words[0] else 2
+        asked, words = asked + words[:taken], words[taken:]
+    if not words:
+        raise Mistake("which command? afdx --help tells all")
+    name, words = words[0], words[1:] + asked if "--" not in words else asked + words[1:]
+    if name in OF_PROGRAM:
+        return by_program(name, words)
+    if name in OF_TOOLS:
+        return by_tool(name, words)
+    own = {"page": page, "build": build, "package": package, "completion": completion}
+    if name not in own or name not in commands():
+        raise Mistake(f"there is no command {name!r}: afdx --help tells all")
+    return own[name](words)
+
+
+def main(words=None):
+    try:
+        with files.signals_taken():
+            files.settle_streams()
+            status = answer(list(sys.argv[1:] if words is None else words))
+        # As a shell tells what a signal ended.
+        return status if status >= 0 else files.BEHIND_A_SIGNAL - status
+    except (Mistake, NoProgram) as fault:
+        tell(str(fault))
+        return files.BAD
+    except files.ENDS as ended:
+        status, said = files.why(ended)
+        tell(said)
+        return status
