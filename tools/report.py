@@ -990,7 +990,8 @@ def given_by(words):
         before, record_before = tables_of(words.against, Network(words.against_net) if words.against_net else net)
         ends_before = ends_of(words, before, record_before) if before.merged == tables.merged else None
         other = Other(before, ends_before, limits.Bounds(words.against_bounds, before.net) if words.against_bounds else None)
-    made_of = [net.path, tables.path, words.trace, words.limits, words.bounds, words.hops, words.against, words.against_net, words.against_bounds]
+    made_of = [net.path, tables.path, words.trace, words.limits, words.bounds, words.hops]
+    made_of += [words.against, words.against_net, words.against_bounds]
     made_by = words.made_by or (f"{found.program}, as their campaign says" if found else None)
     margins = {it.limit[:2]: it for it in margins}
     ends, made_of = ends_of(words, tables, found, trace), list(filter(None, made_of))

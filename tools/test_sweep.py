@@ -13,6 +13,7 @@ sys.path.insert(0, HERE)
 import afdx  # noqa: E402
 import bounds  # noqa: E402
 import long_form  # noqa: E402
+import report  # noqa: E402
 from second_opinion import Simulation  # noqa: E402
 from test_campaign import COCKPIT, N1, SATURATED, Here, read  # noqa: E402
 
@@ -140,6 +141,10 @@ class Words(Here):
         rows = {(int(row["vl"]), row["where"]): row for row in csv.DictReader(read(self.merged).splitlines()) if row["table"] == "latency"}
         for key, (greatest, count) in greatest_of(tree).items():
             self.assertEqual((int(rows[key]["greatest_ns"]), int(rows[key]["count"])), (greatest, count))
+        # The page of the campaign knows of its end.
+        page = os.path.join(self.folder, "page.html")
+        self.assertEqual(report.main([COCKPIT, self.output, "-o", page]), 0)
+        self.assertIn("in runs of 100 ms each", read(page))
 
 
 class Aims(Here):
