@@ -438,6 +438,10 @@ def words_of(arguments=None):
         help="runs each seed with each link and each switch out in turn, from this moment in ns on (default: 0)",
     )
     add(
+        "--later", type=each_outage.least_later, default=each_outage.USUAL_LATER, metavar="NS",
+        help="of --each-outage: by how much a latency must grow to be later, in ns, or in percent as 5%% (default: 1%%)",
+    )
+    add(
         "--set", type=sweep.setting, action="append", metavar="KEY=VALUES",
         help="runs each seed with each value of a key, as vl.157.bag_ms=4,8,16; of several, with each combination",
     )
@@ -612,7 +616,7 @@ def write_json(words, name, rows):
 def over_outages(words, net, limits, seeds):
     """Runs all seeds with each link and each switch out in turn, and answers the status."""
     begin = time.monotonic()
-    found = each_outage.EachOutage(net, limits, seeds, words.offsets, words.each_outage)
+    found = each_outage.EachOutage(net, limits, seeds, words.offsets, words.each_outage, words.later)
     found.run(maker_of(words, True), keeper(words), Progress(found.count()), (tables_of, trace_of))
     if found.failure:
         files.tell("campaign.py", found.failure)

@@ -3,7 +3,9 @@ what becomes late is told beside the same runs without it, as a table and as a p
 import contextlib
 import copy
 import html
+import re
 from collections import namedtuple
+from fractions import Fraction
 
 import afdx
 import files
@@ -92,7 +94,7 @@ class Known:
 
 
 # What an outage does to a virtual link at a destination: the counts and latencies without it and with it.
-Change = namedtuple("Change", "vl where delivered_before delivered lost_before lost greatest_before greatest")
+Change = namedtuple("Change", "vl where delivered_before delivered lost_before lost greatest_before greatest later")
 
 
 def more_lost(change):
@@ -103,8 +105,32 @@ def more_lost(change):
 
 
 def later(change):
-    """By how much the greatest latency grows, in ns."""
-    return max(0, change.greatest - change.greatest_before)
+    """By how much the greatest latency grows, in ns, where it is more than what counts; else 0."""
+    return change.later
+
+
+def growth_that_counts(before, now, least):
+    """By how much a latency grows, in ns; 0 where it is no more than the least that counts: so many ns, or such a part of
+    what it was."""
+    grown = max(0, now - before)
+    return grown if grown > (least if isinstance(least, int) else before * least) else 0
+
+
+def least_later(text):
+    """The type of a word of the command line: from how much on a latency is later, in ns, or in percent of what it was."""
+    if re.fullmatch(r"[0-9]{1,15}", text):
+        return int(text)
+    if re.fullmatch(r"[0-9]{1,6}(\.[0-9]{1,6})?%", text):
+        return Fraction(text[:-1]) / 100
+    raise ValueError
+
+
+def later_in_words(least):
+    return f"{least:,} ns" if isinstance(least, int) else f"{float(least * 100):g} percent"
+
+
+# What counts as later where nothing else is said.
+USUAL_LATER = Fraction(1, 100)
 
 
 class EachOutage:
@@ -112,8 +138,9 @@ class EachOutage:
 
     An element that no virtual link passes changes nothing, and is not run."""
 
-    def __init__(self, net, limits, seeds, draws_offsets, from_ns):
+    def __init__(self, net, limits, seeds, draws_offsets, from_ns, least_later=USUAL_LATER):
         self.net, self.limits, self.seeds, self.draws_offsets, self.from_ns = net, limits, seeds, draws_offsets, from_ns
+        self.least_later = least_later
         self.elements = elements_of(net)
         used = [element for element in self.elements if any(net.users[line] for line in element.lines)]
         self.courses = [Course(element, number) for number, element in enumerate([None, *used])]
@@ -164,8 +191,9 @@ class EachOutage:
         for vl, where in sorted(course.lost, key=lambda it: (it[0], self.net.process[it[1]])):
             key = vl, where
             counts = before.delivered[key], course.delivered[key], before.lost[key], course.lost[key]
-            change = Change(vl, where, *counts, before.greatest[key], course.greatest[key])
-            if more_lost(change).most or later(change):
+            greatest = before.greatest[key], course.greatest[key]
+            change = Change(vl, where, *counts, *greatest, growth_that_counts(*greatest, self.least_later))
+            if more_lost(change).most or greatest[1] > greatest[0]:
                 found.append(change)
         return found
 
@@ -255,7 +283,8 @@ def tile(name, value, look=""):
 
 def changes_table(changes):
     """The destinations of an outage, the worst first."""
-    worst = sorted(changes, key=lambda it: (-more_lost(it).least, -more_lost(it).most, -later(it), it.vl))
+    told = [it for it in changes if more_lost(it).most or later(it)]
+    worst = sorted(told, key=lambda it: (-more_lost(it).least, -more_lost(it).most, -later(it), it.vl))
     heads = plain("virtual link", "destination", "delivered before", "delivered", "lost before", "lost", "greatest before", "greatest")
     rows = []
     for it in worst[:MOST_ON_THE_PAGE]:
@@ -273,7 +302,8 @@ def changes_table(changes):
 
 def summary_row(it, has_limits):
     name = html.escape(it.name())
-    first = f"<details><summary>{name}</summary>{changes_table(it.changes)}</details>" if it.changes else name
+    is_told = any(more_lost(change).most or later(change) for change in it.changes)
+    first = f"<details><summary>{name}</summary>{changes_table(it.changes)}</details>" if is_told else name
     latest = max(it.late(), key=later, default=None)
     cells = [("", first), *plain(said(it.lost()), said(it.losing()), f"{len(it.late()):,}", f"{it.latest():,} ns" if latest else "")]
     if it.lost().most:
@@ -309,5 +339,5 @@ def page(found, path):
         f'<div class="tiles">{"".join(tiles)}</div><table id="outages"><thead>{row(heads, "th")}</thead><tbody>{body}</tbody>'
         "</table><footer>A frame is lost end to end where it is delivered by neither network. Of a frame whose copies may "
         "be lost or under way at the end, both are told: from the least to the most. Later means that the greatest latency "
-        "grows. It tells what happened in these runs, and is no bound on what can happen.</footer></main></body></html>\n"
+        f"grows by more than {later_in_words(found.least_later)}; outages.csv has each. It tells what happened in these runs, and is no bound on what can happen.</footer></main></body></html>\n"
     )

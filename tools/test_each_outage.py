@@ -213,10 +213,22 @@ class EachOutage(Here):
                 self.call(N1, *words)
             self.assertEqual(ended.exception.code, 2)
 
+    def test_what_counts_as_later(self):
+        """In ns, or as a part of what it was; unless told, more than one percent."""
+        for word, before, now, counts in (
+            ("0", 1000, 1001, 1), ("0", 1000, 1000, 0), ("0", 1000, 900, 0), ("10", 1000, 1010, 0), ("10", 1000, 1011, 11),
+            ("5%", 1000, 1050, 0), ("5%", 1000, 1051, 51), ("0.1%", 1000, 1001, 0), ("0.1%", 1000, 1002, 2), ("1%", 0, 5, 5),
+        ):
+            self.assertEqual(each_outage.growth_that_counts(before, now, each_outage.least_later(word)), counts)
+        self.assertEqual(each_outage.USUAL_LATER, each_outage.least_later("1%"))
+        for word in ("", "x", "-1", "5 %", "1e3", "1" * 5000):
+            with self.assertRaises(ValueError):
+                each_outage.least_later(word)
+
     def test_ranges(self):
         """Where it is known only from the least to the most how many are lost, so are the frames more."""
         three, five = Range(1, 3), each_outage.Range(2, 5)
-        change = each_outage.Change(1, "E", 9, 8, three, five, 10, 10)
+        change = each_outage.Change(1, "E", 9, 8, three, five, 10, 10, 0)
         self.assertEqual(tuple(each_outage.more_lost(change)), (0, 4))
         self.assertEqual(each_outage.said(each_outage.more_lost(change)), "0 to 4")
 

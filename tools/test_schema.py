@@ -11,6 +11,10 @@ import unittest
 HERE = os.path.dirname(os.path.abspath(__file__))
 sys.path.insert(0, HERE)
 
+import packages  # noqa: E402
+
+jsonschema = packages.needed("jsonschema", "python3-jsonschema")
+
 import afdx  # noqa: E402
 import toml_lines  # noqa: E402
 
@@ -148,9 +152,12 @@ class Keys(unittest.TestCase):
             (key,) = [key for key in afdx.KEYS[section] if key.name == name]
             self.assertEqual(said, key.says)
 
+    def test_the_schema_is_one(self):
+        jsonschema.Draft7Validator.check_schema(self.schema.tree)
+
     def test_the_examples_meet_the_schema(self):
         for path in glob.glob(os.path.join(TOP, "examples", "*.toml")):
-            self.assertEqual(faults_by(self.schema.tree, toml_lines.read(read(path)), path), [])
+            self.assertEqual(faults_by(self.schema.tree, toml_lines.read(read(path))), [])
 
     def test_what_is_wrong_does_not(self):
         n1 = read(TOP, "examples", "n1.toml")
@@ -167,40 +174,12 @@ class Keys(unittest.TestCase):
             ("depth = 16", "depth = 16\nsub = 5"),
         ):
             with self.subTest(new or old):
-                self.assertTrue(faults_by(self.schema.tree, toml_lines.read(n1.replace(old, new, 1)), "n1"))
+                self.assertTrue(faults_by(self.schema.tree, toml_lines.read(n1.replace(old, new, 1))))
 
 
-def faults_by(schema, value, place):
-    """What is wrong with a value by a schema, of those words of JSON Schema that ours has."""
-    if schema is False:
-        return [f"{place} may not be"]
-    value_type = schema.get("type")
-    value_types = {"object": dict, "array": list, "string": str, "integer": int}
-    if value_type and (not isinstance(value, value_types[value_type]) or type(value) is bool):
-        return [f"{place} is no {value_type}"]
-    found = []
-    if "enum" in schema and value not in schema["enum"] or "const" in schema and value != schema["const"]:
-        found.append(f"{place} is {value}")
-    if not schema.get("minimum", value) <= value <= schema.get("maximum", value) if value_type == "integer" else False:
-        found.append(f"{place} is {value}")
-    if value_type == "string" and not re.search(schema.get("pattern", ""), value):
-        found.append(f"{place} is {value}")
-    if value_type == "array":
-        if not schema.get("minItems", 0) <= len(value) <= schema.get("maxItems", len(value)):
-            found.append(f"{place} has {len(value)} items")
-        for i, item in enumerate(value):
-            found += faults_by(schema.get("items", {}), item, f"{place} {i}")
-    if isinstance(value, dict):
-        found += [f"{place} lacks {name}" for name in schema.get("required", []) if name not in value]
-        known = schema.get("properties", {})
-        for name in value:
-            if name in known:
-                found += faults_by(known[name], value[name], f"{place} {name}")
-            elif schema.get("additionalProperties") is False:
-                found.append(f"{place} has {name}")
-    if "if" in schema:
-        found += faults_by(schema["else" if faults_by(schema["if"], value, place) else "then"], value, place)
-    return found
+def faults_by(schema, value):
+    """What is wrong with a value by a schema."""
+    return [fault.message for fault in jsonschema.Draft7Validator(schema).iter_errors(value)]
 
 
 if __name__ == "__main__":

@@ -25,6 +25,7 @@ import collections
 import os
 import random
 import re
+import shutil
 import subprocess
 import sys
 import tempfile
@@ -210,12 +211,11 @@ def one_run(words, number, tell):
     except Difference as fault:
         found = "another way"
         tell(f"run {number} ({' '.join(drawn.pace())}): {fault}")
+    finally:
+        if not words.keep:
+            shutil.rmtree(folder)
     if words.keep:
         tell(f"run {number}: {folder}")
-    else:
-        for name in os.listdir(folder):
-            os.unlink(os.path.join(folder, name))
-        os.rmdir(folder)
     return found
 
 
