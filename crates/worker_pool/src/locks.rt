@@ -51,7 +51,7 @@ fn mutexes_of<J: NetworkRun>(
     alloc: Global,
     helds: Vec<Locked<J>>,
 ) -> Result<Vec<Mutex<Locked<J>>>, AllocError>
-    ensures { IfOk result (λ locks. length locks.items ≡ length helds.entry.items) }
+    ensures { IfOk result (λ locks. length locks.items ≡ length helds.items) }
 {
     let mut locks = Vec::with_capacity(alloc, helds.len())?;
     for held in helds {
