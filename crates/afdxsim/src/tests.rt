@@ -11,4 +11,6 @@ mod runs;
 mod segments;
 mod stage;
 mod tables;
+mod telling_host;
+mod watching;
 mod words;

@@ -206,6 +206,7 @@ impl Host for MemoryHost {
       with_errors = λ host out. record host { errors = out };
       made = λ host _. host;
       closed = λ host _ _. host;
+      missed = λ host _. host;
       wrote = ⟦<Leaf as Sink>⟧.taken;
       unwritten = ⟦<Leaf as Sink>⟧.failures;
       showed = ⟦<Page as Sink>⟧.taken;
@@ -215,7 +216,7 @@ impl Host for MemoryHost {
     } };
 
     ghost lawful = { record {
-      equal_paths = λ _ _ _ told. told refl;
+      equal_paths = λ _ _ _ _ told. told refl;
       output_stays = λ _ _. refl;
       errors_beside = λ _ _. refl;
       errors_stay = λ _ _. refl;
@@ -224,6 +225,9 @@ impl Host for MemoryHost {
       errors_at_made = λ _ _. refl;
       output_at_closed = λ _ _ _. refl;
       errors_at_closed = λ _ _ _. refl;
+      output_at_missed = λ _ _. refl;
+      errors_at_missed = λ _ _. refl;
+      output_same = λ _. refl;
       file_took = λ _. refl;
       file_failed = λ _. refl;
       output_took = λ _. refl;
