@@ -7,12 +7,12 @@ use Rattle.command_line.specs.declared.orders.Order.{Order}
 use Rattle.netdesc.specs.Words.{Plan}
 use Rattle.afdxsim.specs.declared.fault.Fault.{Fault}
 use Rattle.afdxsim.specs.declared.fault.Fault.TheVariants.{CannotWrite}
-use Rattle.afdxsim.specs.Ending.{IsFaultOfOutput}
+use Rattle.afdxsim.specs.Files.{TellsAlone}
 use Rattle.afdxsim.specs.Naming.{net_of}
-use Rattle.afdxsim.specs.Orders.{Done, DoneOn, HasEnded, IsFaultOf, IsFaultOfWork, IsFaultOn, IsHeard, IsTold, asks_progress, heard_host}
+use Rattle.afdxsim.specs.Orders.{Done, DoneOn, HasEnded, IsFaultOf, IsFaultOn, IsHeard, IsTold, asks_progress}
 use Rattle.afdxsim.specs.Outside.{Outside}
 use Rattle.afdxsim.specs.Performing.{found_in}
-use Rattle.afdxsim.specs.Reading.{GivesNetwork, IsFaultOfNet}
+use Rattle.afdxsim.specs.Reading.{GivesNetwork}
 use Rattle.afdxsim.specs.Telling.{TellsOne}
 
 -- what follows from what holds of an answer that is good, and of a fault
@@ -40,6 +40,13 @@ pub same_err : {T : Type 0} (P : Fault → Type 0) (r : Result T Fault) (fault :
 same_err P (Ok x) fault same p = tt
 same_err P (Err x) fault same p = subst P (sym same) p
 
+-- what holds of the value or the fault that an answer has
+pub at_ok : {T F : Type 0} (P : Type 0) (r : Result T F) (x : T) → r ≡ Ok x → OnOk r P → P
+at_ok P r x is holds = subst (λ y. OnOk y P) is holds
+
+pub at_err : {T F : Type 0} (P : F → Type 0) (r : Result T F) (why : F) → r ≡ Err why → IfErr r P → P why
+at_err P r why is holds = subst (λ x. IfErr x P) is holds
+
 -- what holds of three paths holds of those that are the same
 pub moved : (R : List ℕ → Option (List ℕ) → Option (List ℕ) → Type 0) (path net : List ℕ) (kept journal given trace : Option (List ℕ)) →
     path ≡ net → kept ≡ journal → given ≡ trace → R path kept given → R net journal trace
@@ -57,39 +64,28 @@ module _ {S F O E : Type 0} (outside : Outside S F O E) (r : Result (Unit {0}) F
     pub done_there : OnOk r (DoneOn outside begun new plan order) → OnOk r (Done outside old new order)
     done_there did = ok_then r did (λ is. (plan, gives, subst (λ host. DoneOn outside host new plan order) same is))
 
-    pub fault_there : (heard : E) → IfErr r (IsFaultOn outside begun new plan order heard) → OnErr r (IsHeard outside begun (asks_progress order) plan heard) →
-        IfErr r (IsFaultOf outside old new order heard)
-    fault_there heard met hears = err_both r met hears (λ fault is h. inr (
+    pub fault_there : IfErr r (IsFaultOn outside begun new plan order) → OnErr r (IsHeard outside begun (asks_progress order) plan (outside.errors new)) →
+        IfErr r (IsFaultOf outside old new order)
+    fault_there met hears = err_both r met hears (λ fault is h. inr (
       plan,
       gives,
-      subst (λ host. IsFaultOn outside host new plan order heard fault) same is,
-      subst (λ host. IsHeard outside host (asks_progress order) plan heard) same h,
+      subst (λ host. IsFaultOn outside host new plan order fault) same is,
+      subst (λ host. IsHeard outside host (asks_progress order) plan (outside.errors new)) same h,
     ))
 
   -- the host was `old` before and `after` once the order was done or met a fault; then that was told, and it is `new`
-  pub has_ended : (status : ℕ) (old after new : S) → OnOk r (Done outside old after order) → IfErr r (IsFaultOf outside old after order (outside.errors after)) →
+  pub has_ended : (status : ℕ) (old after new : S) → OnOk r (Done outside old after order) → IfErr r (IsFaultOf outside old after order) →
       IfErr r (λ fault. fault ≢ CannotWrite → outside.output after ≡ outside.output old) →
-      OnOk r ((status ≡ 0) × (new ≡ after)) → IfErr r (λ fault. TellsOne fault (IsTold outside after new status)) →
+      OnOk r ((status ≡ 0) × (new ≡ after)) → IfErr r (λ fault. TellsOne fault (IsTold outside after new status)) → OnErr r (TellsAlone outside after new) →
       outside.output new ≡ outside.output after → HasEnded outside old new order status
-  has_ended status old after new done met kept zero told same = go r done met kept zero told
+  has_ended status old after new done met kept zero told alone same = go r done met kept zero told alone
     where
-      go : (r : Result (Unit {0}) Fault) → OnOk r (Done outside old after order) → IfErr r (IsFaultOf outside old after order (outside.errors after)) →
+      go : (r : Result (Unit {0}) Fault) → OnOk r (Done outside old after order) → IfErr r (IsFaultOf outside old after order) →
           IfErr r (λ fault. fault ≢ CannotWrite → outside.output after ≡ outside.output old) →
-          OnOk r ((status ≡ 0) × (new ≡ after)) → IfErr r (λ fault. TellsOne fault (IsTold outside after new status)) → HasEnded outside old new order status
-      go (Ok x) done met kept zero told = inl (zero.0, subst (λ host. Done outside old host order) (sym zero.1) done)
-      go (Err fault) done met kept zero told =
-          let heard = outside.errors after in
-          inr (
-            fault,
-            heard,
-            subst (λ out. (IsFaultOfNet (outside.gives old (net_of order)) (net_of order) fault × (heard ≡ outside.errors old))
-                ⊎ ((plan : Plan) × GivesNetwork (outside.gives old (net_of order)) plan ×
-                (IsFaultOfWork outside (heard_host outside old (asks_progress order) heard) plan order fault
-                ⊎ IsFaultOfOutput outside.unshown (outside.output old) out fault) ×
-                IsHeard outside old (asks_progress order) plan heard)) (sym same) met,
-            (λ other. same ∙ kept other),
-            told,
-          )
+          OnOk r ((status ≡ 0) × (new ≡ after)) → IfErr r (λ fault. TellsOne fault (IsTold outside after new status)) → OnErr r (TellsAlone outside after new) →
+          HasEnded outside old new order status
+      go (Ok x) done met kept zero told alone = inl (zero.0, subst (λ host. Done outside old host order) (sym zero.1) done)
+      go (Err fault) done met kept zero told alone = inr (fault, after, met, alone, told, (λ other. same ∙ kept other))
 
 -- words that are accepted, where memory was refused before they were an order
 pub memory : (words : List Text) (k : ErrorKind) → found_in words ≡ [] → (k ≡ kind.OutOfMemory) ⊎ IsAmong k (found_in words) → k ≡ kind.OutOfMemory

@@ -2,6 +2,7 @@
 use Rattle.std.proofs.Common.{◌≡◌, ◌∙◌, ℕ, Bool, true, false, List, Option, refl, sym, ap, subst, arith, flat_map}
 use Rattle.std.specs.Io.KnownBytes.{append_known}
 use Rattle.netdesc.specs.Words.{Plan}
+use Rattle.afdxsim.specs.MoreProgress.{asked_none}
 use Rattle.afdxsim.specs.Orders.{IsHeard, heard_host}
 use Rattle.afdxsim.specs.Outside.{IsHost, Outside}
 use Rattle.afdxsim.specs.Progress.{HearsAsked, HearsProgress}
@@ -74,3 +75,25 @@ module _ {S F O E : Type 0} (outside : Outside S F O E) where
   pub at_end : (asked : Bool) (old heard new : S) (P : S → Type 0) → heard ≡ heard_host outside old asked (outside.errors heard) →
       outside.errors new ≡ outside.errors heard → P heard → P (heard_host outside old asked (outside.errors new))
   at_end asked old heard new P is same p = subst P (is ∙ ap (heard_host outside old asked) (sym same)) p
+
+module _ {S F O E : Type 0} (outside : Outside S F O E) {w : F → Option (List ℕ)} {x : F → ℕ} {shown : O → Option (List ℕ)} {unshown : O → ℕ}
+    {taken : E → Option (List ℕ)} {failures : E → ℕ} (law : IsHost outside w x shown unshown taken failures) where
+  -- what can be made can be made where error output heard of a run meanwhile
+  pub makes_there : (asked : Bool) (old : S) (path : List ℕ) (said : E) (is_made : Bool) → outside.makes old path is_made →
+      outside.makes (heard_host outside old asked said) path is_made
+  makes_there true old path said is_made makes = law.makes_beside old path said is_made makes
+  makes_there false old path said is_made makes = makes
+
+  -- error output heard nothing
+  module _ (asked : Bool) (old new : S) (same : outside.errors new ≡ outside.errors old) where
+    pub same_host : heard_host outside old asked (outside.errors new) ≡ old
+    same_host = go asked
+      where
+        go : (asked : Bool) → heard_host outside old asked (outside.errors new) ≡ old
+        go true = ap (outside.with_errors old) same ∙ law.errors_same old
+        go false = refl
+
+    pub heard_none : (plan : Plan) → IsHeard outside old asked plan (outside.errors new)
+    heard_none plan =
+        subst (λ e. HearsAsked outside.said outside.unsaid asked plan.until (outside.errors old) e) (sym same)
+        (asked_none outside.said outside.unsaid plan.until asked (outside.errors old))

@@ -10,12 +10,12 @@ use Rattle.afdxsim.specs.Outside.{IsHost, Outside}
 use Rattle.worker_pool.specs.Runs.{IsJournalAsked}
 use Rattle.afdxsim.specs.Workers.{IsJournalText}
 
-if_some : {P Q : List ℕ → Type 0} (o : Option (List ℕ)) → IfSome o P → ((bytes : List ℕ) → P bytes → Q bytes) → IfSome o Q
+pub if_some : {P Q : List ℕ → Type 0} (o : Option (List ℕ)) → IfSome o P → ((bytes : List ℕ) → P bytes → Q bytes) → IfSome o Q
 if_some None p f = tt
 if_some (Some bytes) p f = f bytes p
 
 -- what stands in a file that was empty and took a text
-stands : (P : List ℕ → Type 0) (o : Option (List ℕ)) (text : List ℕ) → IfSome o (λ bytes. bytes ≡ []) → P text → IfSome (append_known o text) P
+pub stands : (P : List ℕ → Type 0) (o : Option (List ℕ)) (text : List ℕ) → IfSome o (λ bytes. bytes ≡ []) → P text → IfSome (append_known o text) P
 stands P None text none is = tt
 stands P (Some bytes) text none is = subst (λ (front : List ℕ). P (front ++ text)) (sym none) is
 

@@ -1,9 +1,10 @@
 pub mod Conclusions
 pub mod Running
 pub mod Statuses
-pub mod Unwritten
 pub mod Ended
 pub mod Leaving
+pub mod Lacking
 pub mod Streams
 pub mod Holding
 pub mod Heard
+pub mod Doing

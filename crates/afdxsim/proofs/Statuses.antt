@@ -20,6 +20,17 @@ among-asks kind (k ∷ ks) (inr later) asks = inr (among-asks kind ks later asks
 pub same_kind : (words : List Text) (kind k : ErrorKind) → k ≡ kind → (kind ≡ OutOfMemory) ⊎ IsAmong kind (found_in words) → (k ≡ OutOfMemory) ⊎ IsAmong k (found_in words)
 same_kind words kind k is has = subst (λ x. (x ≡ OutOfMemory) ⊎ IsAmong x (found_in words)) (sym is) has
 
+-- a kind that asks for no help, where nothing else does
+pub asks_none : (words : List Text) (kind : ErrorKind) → (kind ≡ OutOfMemory) ⊎ IsAmong kind (found_in words) → ¬ (AsksForText (found_in words)) → ¬ (AsksFor kind)
+asks_none words kind (inl is) none (inl help) = absurd (cc)
+asks_none words kind (inl is) none (inr version) = absurd (cc)
+asks_none words kind (inr among) none asks = none (among-asks kind (found_in words) among asks)
+
+-- want of memory asks for none
+pub memory_asks_none : (kind : ErrorKind) → kind ≡ OutOfMemory → ¬ (AsksFor kind)
+memory_asks_none kind is (inl help) = absurd (cc)
+memory_asks_none kind is (inr version) = absurd (cc)
+
 -- the answer to words that are accepted
 pub obeyed : (words : List Text) (Twice : Type 0) (status : ℕ) → found_in words ≡ [] → (status ≡ 2 → Twice) → AnswersWords words Twice status
 obeyed words Twice status none twice =

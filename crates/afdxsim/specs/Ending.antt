@@ -1,5 +1,5 @@
 -- What a stream took, what of a fault is told on it, and why standard output did not take a text.
-use Rattle.std.specs.Prelude.{◌≡◌, ℕ, ◌+◌, List, Option}
+use Rattle.std.specs.Prelude.{◌≡◌, ℕ, ◌+◌, Bool, true, List, Option}
 use Rattle.std.specs.Io.KnownBytes.{append_known}
 use Rattle.afdxsim.specs.declared.fault.Fault.{Fault}
 use Rattle.afdxsim.specs.declared.fault.Fault.TheVariants.{Description, JournalLine, JournalFull, CannotRead, CannotWriteFile, CannotWrite, Layout, OutOfMemory, Exhausted, Spawn, Torn}
@@ -13,16 +13,17 @@ Took taken old new text = taken new ≡ append_known (taken old) text
 abbrev pub Told : {A : Type 0} → (A → Option (List ℕ)) → (A → ℕ) → A → A → ℕ → Telling → Type 0
 Told taken failures old new status told = (status ≡ told.status) × (failures new ≡ failures old → Took taken old new told.line)
 
--- why a text is not on standard output: a growth was refused, its rows were not laid out, or one more write failed than before
-abbrev pub IsFaultOfOutput : {A : Type 0} → (A → ℕ) → A → A → Fault → Type 0
-IsFaultOfOutput failures old new (Description fault) = ⊥
-IsFaultOfOutput failures old new (JournalLine n) = ⊥
-IsFaultOfOutput failures old new JournalFull = ⊥
-IsFaultOfOutput failures old new (CannotRead path) = ⊥
-IsFaultOfOutput failures old new (CannotWriteFile path) = ⊥
-IsFaultOfOutput failures old new CannotWrite = failures new ≡ failures old + 1
-IsFaultOfOutput failures old new Layout = Unit
-IsFaultOfOutput failures old new OutOfMemory = Unit
-IsFaultOfOutput failures old new Exhausted = ⊥
-IsFaultOfOutput failures old new Spawn = ⊥
-IsFaultOfOutput failures old new Torn = ⊥
+-- why a text, which has rows or has none, is not on a stream: one more write failed than before; or a growth was refused, or its rows were
+-- not laid out, and then the stream is as it was
+abbrev pub IsFaultOfOutput : {A : Type 0} → Bool → (A → ℕ) → A → A → Fault → Type 0
+IsFaultOfOutput has_rows failures old new (Description fault) = ⊥
+IsFaultOfOutput has_rows failures old new (JournalLine n) = ⊥
+IsFaultOfOutput has_rows failures old new JournalFull = ⊥
+IsFaultOfOutput has_rows failures old new (CannotRead path) = ⊥
+IsFaultOfOutput has_rows failures old new (CannotWriteFile path) = ⊥
+IsFaultOfOutput has_rows failures old new CannotWrite = failures new ≡ failures old + 1
+IsFaultOfOutput has_rows failures old new Layout = (has_rows ≡ true) × (new ≡ old)
+IsFaultOfOutput has_rows failures old new OutOfMemory = new ≡ old
+IsFaultOfOutput has_rows failures old new Exhausted = ⊥
+IsFaultOfOutput has_rows failures old new Spawn = ⊥
+IsFaultOfOutput has_rows failures old new Torn = ⊥

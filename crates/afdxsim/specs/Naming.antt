@@ -3,6 +3,7 @@ use Rattle.std.specs.Prelude.{◌≡◌, ◌≢◌, ◌⊎◌, ℕ, Bool, true, 
 use Rattle.command_line.specs.declared.orders.Order.{Order}
 use Rattle.command_line.specs.declared.orders.Order.TheVariants as ordered
 use Rattle.afdxsim.specs.declared.fault.Fault.TheVariants.{OutOfMemory}
+use Rattle.afdxsim.specs.Outside.{nowhere}
 use Rattle.afdxsim.specs.Telling.{Telling, telling_of, telling_of_twice}
 
 -- the path of the description
@@ -26,9 +27,9 @@ trace_of (ordered.Seq o) = option_map string_bytes o.trace
 trace_of (ordered.Run o) = option_map string_bytes o.trace
 trace_of (ordered.Replay o) = None
 
--- these paths, where both are there, differ, and the host may tell that they name two files
+-- these paths, where both are there, differ, unless the file keeps nothing, and the host may tell that they name two files
 abbrev pub AreTwo : (List ℕ → List ℕ → Bool → Type 0) → Option (List ℕ) → Option (List ℕ) → Type 0
-AreTwo tells first second = IfSome first (λ a. IfSome second (λ b. (a ≢ b) × tells a b false))
+AreTwo tells first second = IfSome first (λ a. IfSome second (λ b. (a ≢ nowhere → a ≢ b) × tells a b false))
 
 -- both are there, the second is this one, and the host may tell that they name one file
 abbrev pub AreOne : (List ℕ → List ℕ → Bool → Type 0) → Option (List ℕ) → Option (List ℕ) → List ℕ → Type 0

@@ -1,31 +1,20 @@
--- What comes of an order. A new command is a case of `DoneOn` and of `IsFaultOfWork`, and of the files that it names.
-use Rattle.std.specs.Prelude.{◌≡◌, ◌≢◌, ◌⊎◌, ℕ, Bool, true, false, List, Option, Some, option_map, string_bytes}
+-- What comes of an order. A new command is a case of `DoneOn` and of `IsFaultOn`, and of the files that it names.
+use Rattle.std.specs.Prelude.{◌≡◌, ◌≢◌, ◌⊎◌, ℕ, Bool, true, false, List, option_map, string_bytes}
 use Rattle.command_line.specs.declared.orders.Order.{Order}
 use Rattle.command_line.specs.declared.orders.Order.TheVariants as ordered
 use Rattle.netdesc.specs.Words.{Plan}
 use Rattle.afdxsim.specs.declared.fault.Fault.{Fault}
 use Rattle.afdxsim.specs.declared.fault.Fault.TheVariants.{CannotWrite}
 use Rattle.afdxsim.specs.Checking.{check_text}
-use Rattle.afdxsim.specs.Ending.{IsFaultOfOutput, Told, Took}
-use Rattle.afdxsim.specs.Files.{IsFaultOfKeptFile, IsFaultOfTraceFile, LeavesRun, LeavesSeq, ShowsAlone, ShowsBoth, TellsAlone}
+use Rattle.afdxsim.specs.Ending.{Told, Took}
+use Rattle.afdxsim.specs.Files.{LacksOutput, LacksRun, LacksSeq, LeavesRun, LeavesSeq, ShowsAlone, ShowsBoth, TellsAlone}
 use Rattle.afdxsim.specs.Naming.{NamesApart, NamesTwice, TellsTwice, net_of}
 use Rattle.afdxsim.specs.Outside.{Outside}
 use Rattle.afdxsim.specs.Progress.{HearsAsked}
 use Rattle.afdxsim.specs.Reading.{GivesNetwork, IsFaultOfNet}
 use Rattle.afdxsim.specs.Replaying.{GivesTexts, IsFaultOfSteps}
-use Rattle.afdxsim.specs.Sequencing.{IsFaultOfRun, IsTablesText}
+use Rattle.afdxsim.specs.Sequencing.{IsTablesText}
 use Rattle.afdxsim.specs.Telling.{Telling, TellsOne}
-use Rattle.afdxsim.specs.Workers.{IsFaultOfFiles, IsFaultOfPool}
-
--- why there was nothing to show of the order on this network, where the host was `old` before
-abbrev pub IsFaultOfWork : {S F O E : Type 0} → Outside S F O E → S → Plan → Order → Fault → Type 0
-IsFaultOfWork outside old plan (ordered.Check o) fault = ⊥
-IsFaultOfWork outside old plan (ordered.Seq o) fault =
-    IsFaultOfRun plan fault ⊎ ((path : List ℕ) × (option_map string_bytes o.trace ≡ Some path) × IsFaultOfTraceFile outside old plan path fault)
-IsFaultOfWork outside old plan (ordered.Run o) fault =
-    IsFaultOfPool fault ⊎ IsFaultOfFiles (option_map string_bytes o.journal) (option_map string_bytes o.trace)
-    (IsFaultOfKeptFile outside (option_map string_bytes o.trace) old plan) (IsFaultOfTraceFile outside old plan) fault
-IsFaultOfWork outside old plan (ordered.Replay o) fault = IsFaultOfSteps plan (outside.gives old (string_bytes o.steps)) (string_bytes o.steps) fault
 
 -- whether the order asks for progress
 abbrev pub asks_progress : Order → Bool
@@ -78,41 +67,46 @@ module _ {S F O E : Type 0} (outside : Outside S F O E) (old new : S) where
       (tables : List ℕ) × (line : List ℕ) × GivesTexts plan (outside.gives old (string_bytes o.steps)) tables line × Shows tables × Says line ×
       ShowsBoth outside old new
 
-  -- why the order was not done on this network, where error output was `heard` by then: there was nothing to show, or standard output did not
-  -- take it
-  abbrev pub IsFaultOn : Plan → Order → E → Fault → Type 0
-  IsFaultOn plan order heard fault =
-      IsFaultOfWork outside (heard_host outside old (asks_progress order) heard) plan order fault
-      ⊎ IsFaultOfOutput outside.unshown (outside.output old) (outside.output new) fault
+  -- why the order was not done on this network, and what is left: the host is `new` once the fault was met
+  abbrev pub IsFaultOn : Plan → Order → Fault → Type 0
+  IsFaultOn plan (ordered.Check o) fault = LacksOutput outside false old new fault
+  IsFaultOn plan (ordered.Seq o) fault =
+      LacksSeq outside (option_map string_bytes o.trace) (heard_host outside old o.progress (outside.errors new)) new plan fault
+  IsFaultOn plan (ordered.Run o) fault =
+      LacksRun outside (option_map string_bytes o.journal) (option_map string_bytes o.trace) o.workers
+      (heard_host outside old o.progress (outside.errors new)) new plan fault
+  IsFaultOn plan (ordered.Replay o) fault =
+      IsFaultOfSteps outside plan (string_bytes o.steps) old new fault
+      ⊎ ((tables : List ℕ) × (line : List ℕ) × GivesTexts plan (outside.gives old (string_bytes o.steps)) tables line ×
+      LacksOutput outside true old new fault)
 
   -- a read of NET may give a text that describes a network, and the order was done on that
   abbrev pub Done : Order → Type 0
   Done order = (plan : Plan) × GivesNetwork (outside.gives old (net_of order)) plan × DoneOn plan order
 
-  -- why the order was not done, where error output was `heard` by then: NET gave no network, or it was not done on the one that it gave
-  abbrev pub IsFaultOf : Order → E → Fault → Type 0
-  IsFaultOf order heard fault =
-      (IsFaultOfNet (outside.gives old (net_of order)) (net_of order) fault × (heard ≡ outside.errors old))
-      ⊎ ((plan : Plan) × GivesNetwork (outside.gives old (net_of order)) plan × IsFaultOn plan order heard fault ×
-      IsHeard outside old (asks_progress order) plan heard)
+  -- why the order was not done, and what is left: NET gave no network; or it was not done on the one that it gave
+  abbrev pub IsFaultOf : Order → Fault → Type 0
+  IsFaultOf order fault =
+      IsFaultOfNet outside (net_of order) old new fault
+      ⊎ ((plan : Plan) × GivesNetwork (outside.gives old (net_of order)) plan × IsFaultOn plan order fault ×
+      IsHeard outside old (asks_progress order) plan (outside.errors new))
 
-  -- this is told on error output behind what it took before, and goes with this status
-  abbrev pub IsToldBehind : E → ℕ → Telling → Type 0
-  IsToldBehind heard status telling = Told outside.said outside.unsaid heard (outside.errors new) status telling
-
-  -- this is told, and nothing was before
+  -- this is told on error output, behind what it took before, and goes with this status
   abbrev pub IsTold : ℕ → Telling → Type 0
-  IsTold status telling = IsToldBehind (outside.errors old) status telling
+  IsTold status telling = Told outside.said outside.unsaid (outside.errors old) (outside.errors new) status telling
 
-  -- the order has ended: it was done, or a fault was met and told, and standard output took nothing, unless it is what failed
+-- the host was `old` before, and is `new` at the end
+module _ {S F O E : Type 0} (outside : Outside S F O E) (old new : S) where
+  -- the order has ended: it was done; or a fault was met, where the host was `met`, and then nothing happened but that it was told behind what
+  -- error output took before; and standard output took nothing, unless it is what failed
   abbrev pub HasEnded : Order → ℕ → Type 0
   HasEnded order status =
-      ((status ≡ 0) × Done order)
-      ⊎ ((fault : Fault) × (heard : E) × IsFaultOf order heard fault × (fault ≢ CannotWrite → outside.output new ≡ outside.output old) ×
-      TellsOne fault (IsToldBehind heard status))
+      ((status ≡ 0) × Done outside old new order)
+      ⊎ ((fault : Fault) × (met : S) × IsFaultOf outside old met order fault × TellsAlone outside met new ×
+      TellsOne fault (IsTold outside met new status) × (fault ≢ CannotWrite → outside.output new ≡ outside.output old))
 
   -- what comes of the order: it names a file twice, which is told, and nothing else happened; or it does not, and it has ended
   abbrev pub Ends : Order → ℕ → Type 0
   Ends order status =
-      ((path : List ℕ) × NamesTwice (outside.tells old) order path × TellsTwice path (IsTold status) × TellsAlone outside old new)
+      ((path : List ℕ) × NamesTwice (outside.tells old) order path × TellsTwice path (IsTold outside old new status) × TellsAlone outside old new)
       ⊎ (NamesApart (outside.tells old) order × HasEnded order status)

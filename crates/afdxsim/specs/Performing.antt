@@ -5,7 +5,7 @@ use Rattle.command_line.specs.Meaning.{Names, command_in, command_of, rows_in}
 use Rattle.command_line.specs.Program.{program}
 use Rattle.command_line.specs.declared.orders.Order.{Order}
 use Rattle.afdxsim.specs.declared.fault.Fault.TheVariants.{OutOfMemory}
-use Rattle.afdxsim.specs.Files.{TellsAlone}
+use Rattle.afdxsim.specs.Files.{ShowsBoth, TellsAlone}
 use Rattle.afdxsim.specs.Naming.{NamesTwice}
 use Rattle.afdxsim.specs.Orders.{Ends, IsTold}
 use Rattle.afdxsim.specs.Outside.{Outside}
@@ -32,6 +32,12 @@ pub record AnswersWords (words : List Text) (Twice : Type 0) (status : ℕ) : Ty
   pub done : status ≡ 0 → (found_in words ≡ []) ⊎ AsksForText (found_in words)
   -- where they ask for help it is 0, unless standard output failed or memory was refused
   pub asked : found_in words ≢ [] → ¬ (HasMistake (found_in words)) → (status ≡ 0) ⊎ (status ≡ 4) ⊎ (status ≡ 5)
+
+-- words with a mistake, or that ask for help, touch no file: nothing happened to the host but to its streams, and where they ask for no help, but
+-- to error output
+pub record TouchNoFile {S F O E : Type 0} (outside : Outside S F O E) (old new : S) (words : List Text) : Type 0 where
+  pub streams : found_in words ≢ [] → ShowsBoth outside old new
+  pub mistaken : found_in words ≢ [] → ¬ (AsksForText (found_in words)) → TellsAlone outside old new
 
 -- the words mean this order: they name its command, and each of its values
 abbrev pub Means : List Text → Order → Type 0

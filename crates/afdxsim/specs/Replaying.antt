@@ -18,6 +18,7 @@ use Rattle.timewarp.specs.Replaying.{did, not_enabled, refused}
 use Rattle.afdxsim.specs.declared.conclusion.Conclusion.{Conclusion}
 use Rattle.afdxsim.specs.declared.fault.Fault.{Fault}
 use Rattle.afdxsim.specs.declared.fault.Fault.TheVariants.{Description, JournalLine, JournalFull, CannotRead, CannotWriteFile, CannotWrite, Layout, OutOfMemory, Exhausted, Spawn, Torn}
+use Rattle.afdxsim.specs.Outside.{Outside}
 use Rattle.afdxsim.specs.Reading.{IsFaultOfFile}
 
 -- the most lines of a journal
@@ -102,6 +103,9 @@ GivesTexts plan gives tables line =
     (bytes : List ℕ) × (conclusion : Conclusion) × gives (Some bytes) × TellsOfJournal plan bytes conclusion ×
     (tables ≡ tables_text plan conclusion.tables) × (line ≡ string_bytes conclusion.line)
 
--- why a journal in the file with this path was not done on this network: the file was not read, or the journal was not done
-abbrev pub IsFaultOfSteps : Plan → (Option (List ℕ) → Type 0) → List ℕ → Fault → Type 0
-IsFaultOfSteps plan gives path fault = IsFaultOfFile gives path fault ⊎ ((bytes : List ℕ) × gives (Some bytes) × IsFaultOfJournal plan bytes fault)
+-- why a journal in the file with this path was not done on this network, where the host was `old` before and is `new` after: the file was not
+-- read, or the journal was not done
+abbrev pub IsFaultOfSteps : {S F O E : Type 0} → Outside S F O E → Plan → List ℕ → S → S → Fault → Type 0
+IsFaultOfSteps outside plan path old new fault =
+    IsFaultOfFile outside path old new fault
+    ⊎ ((bytes : List ℕ) × outside.gives old path (Some bytes) × IsFaultOfJournal plan bytes fault × (new ≡ old))

@@ -1,5 +1,5 @@
 -- What the program writes of a one-thread run, and why it gives one up.
-use Rattle.std.specs.Prelude.{◌≡◌, ◌⊎◌, ℕ, Bool, true, false, List}
+use Rattle.std.specs.Prelude.{◌≡◌, ℕ, List}
 use Rattle.vlink.specs.Letters.{Row}
 use Rattle.netdesc.specs.Words.{Plan}
 use Rattle.nodes.specs.Words.{simulation_of}
@@ -40,18 +40,3 @@ IsFaultOfRun plan OutOfMemory = Unit
 IsFaultOfRun plan Exhausted = (n : ℕ) × IsExhaustedAt (simulation_of plan) n
 IsFaultOfRun plan Spawn = ⊥
 IsFaultOfRun plan Torn = ⊥
-
--- why a trace is not in the file with this path, where makes tells what a make of it may come to: it may be that it is not made; or it may be
--- that it is, and it was not written, its rows were not laid out, or a growth was refused
-abbrev pub IsFaultOfTrace : (Bool → Type 0) → Type 0 → List ℕ → Fault → Type 0
-IsFaultOfTrace makes Unwritten path (Description fault) = ⊥
-IsFaultOfTrace makes Unwritten path (JournalLine n) = ⊥
-IsFaultOfTrace makes Unwritten path JournalFull = ⊥
-IsFaultOfTrace makes Unwritten path (CannotRead at) = ⊥
-IsFaultOfTrace makes Unwritten path (CannotWriteFile at) = (at.now ≡ path) × (makes false ⊎ (makes true × Unwritten))
-IsFaultOfTrace makes Unwritten path CannotWrite = ⊥
-IsFaultOfTrace makes Unwritten path Layout = makes true
-IsFaultOfTrace makes Unwritten path OutOfMemory = makes true
-IsFaultOfTrace makes Unwritten path Exhausted = ⊥
-IsFaultOfTrace makes Unwritten path Spawn = ⊥
-IsFaultOfTrace makes Unwritten path Torn = ⊥

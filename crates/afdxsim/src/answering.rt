@@ -1,10 +1,10 @@
 //! What is answered where words are no order that can be done: help, or why they are refused.
-ghost use Rattle.std.specs.Prelude.{◌≡◌, ◌≢◌, ◌⊎◌, IfSome};
+ghost use Rattle.std.specs.Prelude.{◌≡◌, ◌≢◌, ◌⊎◌, false, IfSome};
 ghost use Rattle.clap.specs.declared.error.kind.ErrorKind.TheVariants as Kind;
 ghost use Rattle.afdxsim.specs.declared.fault.Fault.TheVariants.{CannotWrite, OutOfMemory};
 ghost use Rattle.afdxsim.specs.Telling.{TellsOne, telling_of};
 ghost use Rattle.afdxsim.specs.Ending.{IsFaultOfOutput};
-ghost use Rattle.afdxsim.specs.Files.{TellsAlone};
+ghost use Rattle.afdxsim.specs.Files.{ShowsBoth, TellsAlone};
 ghost use Rattle.afdxsim.specs.Naming.{TellsTwice};
 ghost use Rattle.afdxsim.specs.Orders.{IsTold, Says, Shows};
 ghost use Rattle.afdxsim.specs.Words.{AsksFor};
@@ -41,8 +41,9 @@ pub fn refuse_twice<H: Host>(alloc: Global, path: &str, host: &mut H) -> u8
 fn show<H: Host>(alloc: Global, text: &str, host: &mut H) -> u8
     ensures status { (result ≡ 0) ⊎ (result ≡ 4) ⊎ (result ≡ 5) }
     ensures shown { result ≡ 0 → Shows H.outside host.old host.new text.now }
-    ensures failed { result ≢ 0 → IsFaultOfOutput H.outside.unshown (H.outside.output host.old) (H.outside.output host.new) CannotWrite }
+    ensures failed { result ≢ 0 → IsFaultOfOutput false H.outside.unshown (H.outside.output host.old) (H.outside.output host.new) CannotWrite }
     ensures told { result ≢ 0 → TellsOne CannotWrite (IsTold H.outside host.old host.new result) }
+    ensures both { ShowsBoth H.outside host.old host.new }
 {
     match write_all(host.output(), text.as_bytes()) {
         Ok(()) => DONE,
@@ -54,9 +55,10 @@ fn show<H: Host>(alloc: Global, text: &str, host: &mut H) -> u8
 fn give_help<M: Display, H: Host>(alloc: Global, help: &M, host: &mut H) -> u8
     ensures status { (result ≡ 0) ⊎ (result ≡ 4) ⊎ (result ≡ 5) }
     ensures shown { result ≡ 0 → IfSome (M.output help.now) (Shows H.outside host.old host.new) }
-    ensures failed { result ≡ 4 → IsFaultOfOutput H.outside.unshown (H.outside.output host.old) (H.outside.output host.new) CannotWrite }
+    ensures failed { result ≡ 4 → IsFaultOfOutput false H.outside.unshown (H.outside.output host.old) (H.outside.output host.new) CannotWrite }
     ensures cannot_write { result ≡ 4 → TellsOne CannotWrite (IsTold H.outside host.old host.new result) }
     ensures memory { result ≡ 5 → TellsOne OutOfMemory (IsTold H.outside host.old host.new result) }
+    ensures both { ShowsBoth H.outside host.old host.new }
 {
     match help.to_string(alloc) {
         Ok(text) => show(alloc, text.as_str(), host),
@@ -69,6 +71,7 @@ fn refuse<M: Display, H: Host>(alloc: Global, why: &M, host: &mut H) -> u8
     ensures status { (result ≡ 2) ⊎ (result ≡ 5) }
     ensures said { result ≡ 2 → IfSome (M.output why.now) (Says H.outside host.old host.new) }
     ensures memory { result ≡ 5 → TellsOne OutOfMemory (IsTold H.outside host.old host.new result) }
+    ensures alone { TellsAlone H.outside host.old host.new }
     ensures output { H.outside.output host.new ≡ H.outside.output host.old }
 {
     match why.to_string(alloc) {
@@ -86,12 +89,13 @@ pub fn answer<M: Display, H: Host>(alloc: Global, kind: ErrorKind, message: &M, 
     ensures status { (result ≡ 0) ⊎ (result ≡ 2) ⊎ (result ≡ 4) ⊎ (result ≡ 5) }
     ensures memory { kind ≡ Kind.OutOfMemory → result ≡ 5 }
     ensures told { result ≡ 5 → TellsOne OutOfMemory (IsTold H.outside host.old host.new result) }
-    ensures alone { kind ≡ Kind.OutOfMemory → TellsAlone H.outside host.old host.new }
+    ensures alone { ¬ (AsksFor kind) → TellsAlone H.outside host.old host.new }
+    ensures both { ShowsBoth H.outside host.old host.new }
     ensures only_done { result ≡ 0 → AsksFor kind }
     ensures only_shown { result ≡ 4 → AsksFor kind }
     ensures only_mistake { result ≡ 2 → ¬ (AsksFor kind) }
     ensures shown { result ≡ 0 → IfSome (M.output message.now) (Shows H.outside host.old host.new) }
-    ensures failed { result ≡ 4 → IsFaultOfOutput H.outside.unshown (H.outside.output host.old) (H.outside.output host.new) CannotWrite }
+    ensures failed { result ≡ 4 → IsFaultOfOutput false H.outside.unshown (H.outside.output host.old) (H.outside.output host.new) CannotWrite }
     ensures cannot_write { result ≡ 4 → TellsOne CannotWrite (IsTold H.outside host.old host.new result) }
     ensures said { result ≡ 2 → IfSome (M.output message.now) (Says H.outside host.old host.new) }
 {

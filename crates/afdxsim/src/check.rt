@@ -1,9 +1,9 @@
 //! `check NET`: what a network has whose description is accepted.
-ghost use Rattle.std.specs.Prelude.{◌≡◌, ◌≢◌, IfOk, IfErr, OnOk, string_bytes};
+ghost use Rattle.std.specs.Prelude.{◌≡◌, ◌≢◌, false, IfOk, IfErr, OnOk, string_bytes};
 ghost use Rattle.afdxsim.specs.declared.fault.Fault.TheVariants.{CannotWrite};
 ghost use Rattle.afdxsim.specs.Checking.{counts_text, check_text};
 ghost use Rattle.afdxsim.specs.Ending.{Took, IsFaultOfOutput};
-ghost use Rattle.afdxsim.specs.Files.{ShowsAlone};
+ghost use Rattle.afdxsim.specs.Files.{LacksOutput, ShowsAlone};
 ghost use Rattle.afdxsim.specs.Orders.{IsQuiet, Shows};
 
 use crate::fault::Fault;
@@ -41,7 +41,7 @@ fn show_counts<O: Sink>(
     output: &mut O,
 ) -> Result<(), Fault<'static>>
     ensures text { OnOk result (Took O.taken output.old output.new (check_text network.now)) }
-    ensures fault { IfErr result (IsFaultOfOutput O.failures output.old output.new) }
+    ensures fault { IfErr result (IsFaultOfOutput false O.failures output.old output.new) }
     ensures kept { IfErr result (λ fault. fault ≢ CannotWrite → output.new ≡ output.old) }
 {
     let line = line_of(alloc, network)?;
@@ -56,7 +56,7 @@ fn show_counts<O: Sink>(
 pub fn check<H: Host>(alloc: Global, network: &Network, host: &mut H) -> Result<(), Fault<'static>>
     ensures text { OnOk result (Shows H.outside host.old host.new (check_text network.now)) }
     ensures left { OnOk result (ShowsAlone H.outside host.old host.new) }
-    ensures fault { IfErr result (IsFaultOfOutput H.outside.unshown (H.outside.output host.old) (H.outside.output host.new)) }
+    ensures fault { IfErr result (LacksOutput H.outside false host.old host.new) }
     ensures kept { IfErr result (λ fault. fault ≢ CannotWrite → H.outside.output host.new ≡ H.outside.output host.old) }
     ensures quiet { IsQuiet H.outside host.old host.new }
 {

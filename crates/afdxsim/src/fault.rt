@@ -36,7 +36,7 @@ pub enum Fault<'a> {
     Exhausted,
     /// A worker cannot be started.
     Spawn,
-    /// In a run by workers a process was not the one of the journal, or an entry of the journal was there already.
+    /// Rows of the trace of a run by workers are missing or come twice, or left a process and were not counted.
     Torn,
 }
 

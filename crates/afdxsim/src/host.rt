@@ -34,26 +34,31 @@ pub trait Host {
     /// and which of their paths name one; one that does not allows more.
     ghost outside: { Outside Self Self.File Self.Output Self.Errors };
 
-    /// Whether two paths name one file, as far as the host can tell. Nothing is made or written.
+    /// Whether two paths name one file, as far as the host can tell, of which something could be lost. Nothing is made or written.
     fn is_one_file(&self, first: &str, second: &str) -> bool
         ensures { outside.tells self.now first.now second.now result };
 
-    /// The bytes of the file with this path. `Device` comes where it cannot be read, and `OutOfMemory` only where it can be read and a growth
-    /// was refused.
+    /// The bytes of the file with this path. `Device` comes where it cannot be read, which the host may note, and `OutOfMemory` only where it
+    /// can be read and a growth was refused.
     fn read(&mut self, alloc: Global, path: &str) -> Result<Vec<u8>, FileFault>
         ensures bytes { IfOk result (λ bytes. outside.gives self.old path.now (Some bytes.items)) }
         ensures absent { IfErr result (λ fault. fault ≡ Device → outside.gives self.old path.now None) }
         ensures memory { IfErr result (λ fault. fault ≡ OutOfMemory → (bytes : List ℕ) × outside.gives self.old path.now (Some bytes)) }
-        ensures host { self.new ≡ self.old };
+        ensures host { OnOk result (self.new ≡ self.old) }
+        ensures missed { IfErr result (λ fault. fault ≡ Device → self.new ≡ outside.missed self.old path.now) }
+        ensures kept { IfErr result (λ fault. fault ≡ OutOfMemory → self.new ≡ self.old) };
 
-    /// A new, empty file with this path, in the place of one that was there. `Device` comes where it cannot be made, and `OutOfMemory` only
-    /// where it can be made and a growth was refused.
+    /// A new, empty file with this path, in the place of one that was there. `Device` comes where it cannot be made, which the host may note,
+    /// and `OutOfMemory` only where it can be made and a growth was refused.
     fn make(&mut self, path: &str) -> Result<Self::File, FileFault>
         ensures empty { IfOk result (λ file. IfSome (outside.wrote file) (λ bytes. bytes ≡ [])) }
+        ensures fresh { IfOk result (λ file. outside.unwritten file ≡ 0) }
         ensures host { OnOk result (self.new ≡ outside.made self.old path.now) }
         ensures made { OnOk result (outside.makes self.old path.now true) }
         ensures refused { IfErr result (λ fault. fault ≡ Device → outside.makes self.old path.now false) }
+        ensures missed { IfErr result (λ fault. fault ≡ Device → self.new ≡ outside.missed self.old path.now) }
         ensures memory { IfErr result (λ fault. fault ≡ OutOfMemory → outside.makes self.old path.now true) }
+        ensures kept { IfErr result (λ fault. fault ≡ OutOfMemory → self.new ≡ self.old) }
         ensures output { outside.output self.new ≡ outside.output self.old }
         ensures errors { outside.errors self.new ≡ outside.errors self.old };
 

@@ -1,6 +1,7 @@
 //! What an order comes to: it is done, or the fault that it met is told.
 ghost use Rattle.std.specs.Prelude.{◌≡◌, ◌≢◌, ◌⊎◌, ℕ, List, OnOk, OnErr, IfErr};
 ghost use Rattle.afdxsim.specs.declared.fault.Fault.TheVariants.{CannotWrite};
+ghost use Rattle.afdxsim.specs.Files.{TellsAlone};
 ghost use Rattle.afdxsim.specs.Naming.{NamesTwice};
 ghost use Rattle.afdxsim.specs.Orders.{Done, DoneOn, Ends, IsFaultOf, IsFaultOn, IsHeard, IsTold, asks_progress};
 ghost use Rattle.afdxsim.specs.Telling.{TellsOne};
@@ -31,7 +32,7 @@ fn done_on<'a, H: Host, T: Threads + Wait + Clock + Sync>(
     host: &mut H,
 ) -> Result<(), Fault<'a>>
     ensures done { OnOk result (DoneOn H.outside host.old host.new network order.entry.now) }
-    ensures fault { IfErr result (IsFaultOn H.outside host.old host.new network order.entry.now (H.outside.errors host.new)) }
+    ensures fault { IfErr result (IsFaultOn H.outside host.old host.new network order.entry.now) }
     ensures kept { IfErr result (λ fault. fault ≢ CannotWrite → H.outside.output host.new ≡ H.outside.output host.old) }
     ensures heard { OnErr result (IsHeard H.outside host.old (asks_progress order.entry.now) network (H.outside.errors host.new)) }
 {
@@ -51,7 +52,7 @@ fn done<'a, H: Host, T: Threads + Wait + Clock + Sync>(
     host: &mut H,
 ) -> Result<(), Fault<'a>>
     ensures done { OnOk result (Done H.outside host.old host.new order.entry.now) }
-    ensures fault { IfErr result (IsFaultOf H.outside host.old host.new order.entry.now (H.outside.errors host.new)) }
+    ensures fault { IfErr result (IsFaultOf H.outside host.old host.new order.entry.now) }
     ensures kept { IfErr result (λ fault. fault ≢ CannotWrite → H.outside.output host.new ≡ H.outside.output host.old) }
 {
     let network = network_of(alloc, net_of(order), host)?;
@@ -63,6 +64,7 @@ fn end<H: Host>(alloc: Global, outcome: Result<(), Fault<'_>>, host: &mut H) -> 
     ensures status { (result ≡ 0) ⊎ (result ≡ 3) ⊎ (result ≡ 4) ⊎ (result ≡ 5) }
     ensures done { OnOk outcome.entry ((result ≡ 0) × (host.new ≡ host.old)) }
     ensures told { IfErr outcome.entry (λ fault. TellsOne fault (IsTold H.outside host.old host.new result)) }
+    ensures alone { OnErr outcome.entry (TellsAlone H.outside host.old host.new) }
     ensures output { H.outside.output host.new ≡ H.outside.output host.old }
 {
     match outcome {

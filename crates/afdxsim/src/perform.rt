@@ -1,7 +1,7 @@
 //! The whole program: from its words to its status.
 ghost use Rattle.std.specs.Prelude.{◌≡◌, [], map};
 ghost use Rattle.afdxsim.specs.Telling.{IsStatus};
-ghost use Rattle.afdxsim.specs.Performing.{AnswersWords, NameTwice, Performs, found_in};
+ghost use Rattle.afdxsim.specs.Performing.{AnswersWords, NameTwice, Performs, TouchNoFile, found_in};
 
 use crate::answering::answer;
 use crate::host::Host;
@@ -29,6 +29,7 @@ pub fn perform<'a, S: AsStr, H: Host, T: Threads + Wait + Clock + Sync>(
 ) -> u8
     ensures status { IsStatus result }
     ensures words { AnswersWords (map S.text words.entry.now) (NameTwice (H.outside.tells host.old) (map S.text words.entry.now)) result }
+    ensures beside { TouchNoFile H.outside host.old host.new (map S.text words.entry.now) }
     ensures ordered { found_in (map S.text words.entry.now) ≡ [] → Performs H.outside host.old host.new (map S.text words.entry.now) result }
 {
     match order(alloc, words) {

@@ -36,8 +36,10 @@ pub fn bytes_of<'a, H: Host>(
     host: &mut H,
 ) -> Result<Vec<u8>, Fault<'a>>
     ensures bytes { IfOk result (λ bytes. H.outside.gives host.old path.entry.now (Some bytes.items)) }
-    ensures fault { IfErr result (IsFaultOfFile (H.outside.gives host.old path.entry.now) path.entry.now) }
-    ensures host { host.new ≡ host.old }
+    ensures fault { IfErr result (IsFaultOfFile H.outside path.entry.now host.old host.new) }
+    ensures host { OnOk result (host.new ≡ host.old) }
+    ensures output { H.outside.output host.new ≡ H.outside.output host.old }
+    ensures quiet { H.outside.errors host.new ≡ H.outside.errors host.old }
 {
     match host.read(alloc, path) {
         Ok(bytes) => Ok(bytes),
@@ -53,8 +55,9 @@ pub fn network_of<'a, H: Host>(
     host: &mut H,
 ) -> Result<Network, Fault<'a>>
     ensures network { IfOk result (GivesNetwork (H.outside.gives host.old path.entry.now)) }
-    ensures fault { IfErr result (IsFaultOfNet (H.outside.gives host.old path.entry.now) path.entry.now) }
-    ensures host { host.new ≡ host.old }
+    ensures fault { IfErr result (IsFaultOfNet H.outside path.entry.now host.old host.new) }
+    ensures host { OnOk result (host.new ≡ host.old) }
+    ensures output { H.outside.output host.new ≡ H.outside.output host.old }
 {
     let bytes = bytes_of(alloc, path, host)?;
     network_in(alloc, bytes.as_slice())

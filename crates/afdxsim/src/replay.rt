@@ -1,10 +1,9 @@
 //! `replay NET STEPS`: the steps of a journal, done on a network.
-ghost use Rattle.std.specs.Prelude.{◌≡◌, ◌≢◌, ℕ, List, Some, IfErr, IfOk, OnErr, OnOk, string_bytes};
+ghost use Rattle.std.specs.Prelude.{◌≡◌, ◌≢◌, ℕ, true, List, Some, IfErr, IfOk, OnErr, OnOk, string_bytes};
 ghost use Rattle.command_line.specs.declared.orders.Order.TheVariants as ordered;
 ghost use Rattle.trace_tables.specs.Text.{tables_text};
 ghost use Rattle.afdxsim.specs.declared.fault.Fault.TheVariants.{CannotWrite};
-ghost use Rattle.afdxsim.specs.Ending.{IsFaultOfOutput};
-ghost use Rattle.afdxsim.specs.Files.{ShowsBoth};
+ghost use Rattle.afdxsim.specs.Files.{LacksOutput, ShowsBoth};
 ghost use Rattle.afdxsim.specs.Orders.{DoneOn, IsFaultOn, IsQuiet, Says, Shows};
 ghost use Rattle.afdxsim.specs.Replaying.{IsFaultOfSteps, TellsOfJournal};
 
@@ -27,8 +26,10 @@ fn conclusion_in<'a, H: Host>(
 ) -> Result<Conclusion, Fault<'a>>
     ensures told { IfOk result (λ conclusion. (bytes : List ℕ) × H.outside.gives host.old steps.entry.now (Some bytes) × TellsOfJournal network bytes conclusion) }
     ensures network { IfOk result (λ conclusion. conclusion.world.plan ≡ network) }
-    ensures fault { IfErr result (IsFaultOfSteps network (H.outside.gives host.old steps.entry.now) steps.entry.now) }
-    ensures host { host.new ≡ host.old }
+    ensures fault { IfErr result (IsFaultOfSteps H.outside network steps.entry.now host.old host.new) }
+    ensures host { OnOk result (host.new ≡ host.old) }
+    ensures output { H.outside.output host.new ≡ H.outside.output host.old }
+    ensures quiet { IsQuiet H.outside host.old host.new }
 {
     let text = bytes_of(alloc, steps, host)?;
     conclusion_of(alloc, network, text.as_slice())
@@ -42,7 +43,7 @@ fn show_conclusion<H: Host>(
 ) -> Result<(), Fault<'static>>
     ensures tables { OnOk result (Shows H.outside host.old host.new (tables_text conclusion.now.world.plan conclusion.now.tables)) }
     ensures line { OnOk result (Says H.outside host.old host.new (string_bytes conclusion.now.line)) }
-    ensures fault { IfErr result (IsFaultOfOutput H.outside.unshown (H.outside.output host.old) (H.outside.output host.new)) }
+    ensures fault { IfErr result (LacksOutput H.outside true host.old host.new) }
     ensures kept { IfErr result (λ fault. fault ≢ CannotWrite → H.outside.output host.new ≡ H.outside.output host.old) }
     ensures left { OnOk result (ShowsBoth H.outside host.old host.new) }
     ensures quiet { OnErr result (IsQuiet H.outside host.old host.new) }
@@ -66,7 +67,7 @@ pub fn replay<'a, H: Host>(
     host: &mut H,
 ) -> Result<(), Fault<'a>>
     ensures done { OnOk result (DoneOn H.outside host.old host.new network (ordered.Replay order.entry.now)) }
-    ensures fault { IfErr result (IsFaultOn H.outside host.old host.new network (ordered.Replay order.entry.now) (H.outside.errors host.new)) }
+    ensures fault { IfErr result (IsFaultOn H.outside host.old host.new network (ordered.Replay order.entry.now)) }
     ensures kept { IfErr result (λ fault. fault ≢ CannotWrite → H.outside.output host.new ≡ H.outside.output host.old) }
     ensures quiet { OnErr result (IsQuiet H.outside host.old host.new) }
 {

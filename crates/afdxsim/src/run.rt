@@ -1,22 +1,24 @@
 //! `run NET [--workers N] [--turn N] [--window NS] [--journal FILE] [--trace FILE] [--progress]`: the run of a network by workers.
-ghost use Rattle.std.specs.Prelude.{◌≡◌, ◌≢◌, ◌⊎◌, ℕ, true, List, IfErr, IfOk, OnOk, option_map, is_some, string_bytes};
+ghost use Rattle.std.specs.Prelude.{◌≡◌, ◌≢◌, ◌⊎◌, ℕ, false, List, Some, IfErr, IfOk, OnOk, option_map, is_some, string_bytes};
 ghost use Rattle.command_line.specs.declared.orders.Order.TheVariants as ordered;
 ghost use Rattle.journal_text.specs.Text.{steps_text};
 ghost use Rattle.trace_tables.specs.Text.{tables_text};
+ghost use Rattle.netdesc.specs.Words.{process_count};
+ghost use Rattle.worker_pool.specs.Outcomes.{CanWantWorkers};
 ghost use Rattle.worker_pool.specs.Runs.{IsJournalAsked};
 ghost use Rattle.afdxsim.specs.declared.fault.Fault.TheVariants.{CannotWrite};
 ghost use Rattle.afdxsim.specs.Ending.{Took};
-ghost use Rattle.afdxsim.specs.Files.{IsFaultOfTraceFile, LeavesRun, TookSome, WritesAsked, WritesFile, WritesSome};
+ghost use Rattle.afdxsim.specs.Files.{IsFaultOfWrite, LacksFile, LacksTrace, LeavesRun, MakesAsked, WritesAsked, WritesFile};
 ghost use Rattle.afdxsim.specs.Orders.{IsFaultOn, IsHeard, IsQuiet, ShowsTables, heard_host};
 ghost use Rattle.afdxsim.specs.Sequencing.{IsTablesText, IsTraceText};
-ghost use Rattle.afdxsim.specs.Workers.{IsFaultOfPool, IsFaultOfJournalFile};
+ghost use Rattle.afdxsim.specs.Workers.{CanWantThreads, IsFaultOfPool};
 
 use crate::fault::Fault;
 use crate::host::{FileFault, Host};
 use crate::progress::asked_of;
 use crate::seq::show_tables;
 use crate::steps::write_steps;
-use crate::workers::{found_by_workers, found_with_trace, pace_of};
+use crate::workers::{fault_of_trace, found_by_workers, pace_of, traced};
 use command_line::Run;
 use netdesc::Network;
 use std::alloc::Global;
@@ -25,11 +27,10 @@ use std::thread::Threads;
 use std::time::Clock;
 use trace_tables::{OutFault, Sink};
 use vlink::Step;
-use worker_pool::{Pace, Summary};
+use worker_pool::{Pace, Summary, Traced};
 
 /// Makes the file with this path, and simulates the network by workers, which write the trace into it. Error output is told how far the run is,
-/// where that is asked for.
-#[tactic(auto, using(crate::proofs::Unwritten::run_took))]
+/// where that is asked for. At the end of the run the file is given back with what it took, and then a fault of the trace is told.
 fn simulate_with_trace<'a, H: Host, T: Threads + Wait + Clock + Sync>(
     rt: &T,
     alloc: Global,
@@ -44,8 +45,10 @@ fn simulate_with_trace<'a, H: Host, T: Threads + Wait + Clock + Sync>(
     ensures journal { IfOk result (λ found. IsJournalAsked network.now with_steps found.journal.items) }
     ensures trace { OnOk result (WritesFile H.outside path.entry.now (IsTraceText network.now)
         (heard_host H.outside host.old is_asked (H.outside.errors host.new)) host.new) }
-    ensures fault { IfErr result (λ fault. IsFaultOfPool fault ⊎
-        IsFaultOfTraceFile H.outside (heard_host H.outside host.old is_asked (H.outside.errors host.new)) network.now path.entry.now fault) }
+    ensures fault { IfErr result (λ fault.
+        (IsFaultOfPool network.now Unit fault ×
+        MakesAsked H.outside (Some path.entry.now) (heard_host H.outside host.old is_asked (H.outside.errors host.new)) host.new) ⊎
+        LacksTrace H.outside path.entry.now network.now (heard_host H.outside host.old is_asked (H.outside.errors host.new)) host.new fault) }
     ensures output { H.outside.output host.new ≡ H.outside.output host.old }
     ensures heard { IsHeard H.outside host.old is_asked network.now (H.outside.errors host.new) }
 {
@@ -53,11 +56,16 @@ fn simulate_with_trace<'a, H: Host, T: Threads + Wait + Clock + Sync>(
     match host.make(path) {
         Ok(file) => {
             let errors = host.errors();
-            let (found, file) = found_with_trace(
-                rt, alloc, network, pace, with_steps, path, file, asked, errors,
-            )?;
-            host.close(path, file);
-            Ok(found)
+            let Traced {
+                outcome,
+                written,
+                sink,
+            } = traced(rt, alloc, network, pace, with_steps, file, asked, errors)?;
+            host.close(path, sink);
+            match written {
+                Ok(()) => Ok(outcome),
+                Err(why) => Err(fault_of_trace(path, why)),
+            }
         }
         Err(FileFault::Device) => Err(Fault::CannotWriteFile(path)),
         Err(FileFault::OutOfMemory) => Err(Fault::OutOfMemory),
@@ -76,7 +84,7 @@ fn heard_by_workers<H: Host, T: Threads + Wait + Clock + Sync>(
 ) -> Result<Summary, Fault<'static>>
     ensures text { IfOk result (λ found. IsTablesText network.now (tables_text network.now found.tables)) }
     ensures journal { IfOk result (λ found. IsJournalAsked network.now with_steps found.journal.items) }
-    ensures fault { IfErr result IsFaultOfPool }
+    ensures fault { IfErr result (IsFaultOfPool network.now (CanWantWorkers pace.workers (process_count network.now))) }
     ensures heard { IsHeard H.outside host.old is_asked network.now (H.outside.errors host.new) }
     ensures host { host.new ≡ heard_host H.outside host.old is_asked (H.outside.errors host.new) }
     ensures output { H.outside.output host.new ≡ H.outside.output host.old }
@@ -98,9 +106,12 @@ fn simulate<'a, H: Host, T: Threads + Wait + Clock + Sync>(
     ensures journal { IfOk result (λ found. IsJournalAsked network.now (is_some order.entry.now.journal) found.journal.items) }
     ensures trace { OnOk result (WritesAsked H.outside (option_map string_bytes order.entry.now.trace) (IsTraceText network.now)
         (heard_host H.outside host.old order.entry.now.progress (H.outside.errors host.new)) host.new) }
-    ensures fault { IfErr result (λ fault. IsFaultOfPool fault ⊎
+    ensures fault { IfErr result (λ fault.
+        (IsFaultOfPool network.now (CanWantThreads (option_map string_bytes order.entry.now.trace) order.entry.now.workers network.now) fault ×
+        MakesAsked H.outside (option_map string_bytes order.entry.now.trace)
+        (heard_host H.outside host.old order.entry.now.progress (H.outside.errors host.new)) host.new) ⊎
         ((path : List ℕ) × (option_map string_bytes order.entry.now.trace ≡ Some path) ×
-        IsFaultOfTraceFile H.outside (heard_host H.outside host.old order.entry.now.progress (H.outside.errors host.new)) network.now path fault)) }
+        LacksTrace H.outside path network.now (heard_host H.outside host.old order.entry.now.progress (H.outside.errors host.new)) host.new fault)) }
     ensures output { H.outside.output host.new ≡ H.outside.output host.old }
     ensures heard { IsHeard H.outside host.old order.entry.now.progress network.now (H.outside.errors host.new) }
 {
@@ -129,8 +140,7 @@ fn write_steps_of<'a, F: Sink>(
     file: &mut F,
 ) -> Result<(), Fault<'a>>
     ensures text { OnOk result (Took F.taken file.old file.new (steps_text steps.now)) }
-    ensures fault { IfErr result (IsFaultOfJournalFile (λ made. made ≡ true)
-        (TookSome F.taken F.failures file.old file.new (steps_text steps.now)) path.entry.now) }
+    ensures fault { IfErr result (IsFaultOfWrite false F.taken F.failures file.old file.new (steps_text steps.now) path.entry.now) }
 {
     match write_steps(alloc, steps, file) {
         Ok(()) => Ok(()),
@@ -139,8 +149,7 @@ fn write_steps_of<'a, F: Sink>(
     }
 }
 
-/// Makes the file with this path and writes the steps of a run into it.
-#[tactic(auto, using(crate::proofs::Unwritten::journal_took))]
+/// Makes the file with this path and writes the steps of a run into it. Where that fails, the file is given back with what it took.
 fn keep_steps<'a, H: Host>(
     alloc: Global,
     steps: &[Step],
@@ -148,16 +157,15 @@ fn keep_steps<'a, H: Host>(
     host: &mut H,
 ) -> Result<(), Fault<'a>>
     ensures file { OnOk result (WritesFile H.outside path.entry.now (λ text. text ≡ steps_text steps.now) host.old host.new) }
-    ensures fault { IfErr result (IsFaultOfJournalFile (H.outside.makes host.old path.entry.now)
-        (WritesSome H.outside (λ text. text ≡ steps_text steps.now)) path.entry.now) }
+    ensures fault { IfErr result (LacksFile H.outside false path.entry.now (λ text. text ≡ steps_text steps.now) host.old host.new) }
     ensures output { H.outside.output host.new ≡ H.outside.output host.old }
     ensures quiet { IsQuiet H.outside host.old host.new }
 {
     match host.make(path) {
         Ok(mut file) => {
-            write_steps_of(alloc, steps, path, &mut file)?;
+            let written = write_steps_of(alloc, steps, path, &mut file);
             host.close(path, file);
-            Ok(())
+            written
         }
         Err(FileFault::Device) => Err(Fault::CannotWriteFile(path)),
         Err(FileFault::OutOfMemory) => Err(Fault::OutOfMemory),
@@ -173,7 +181,7 @@ fn keep_journal<'a, H: Host>(
 ) -> Result<(), Fault<'a>>
     ensures file { OnOk result (WritesAsked H.outside (option_map string_bytes order.entry.now.journal) (λ text. text ≡ steps_text steps.now) host.old host.new) }
     ensures fault { IfErr result (λ fault. (path : List ℕ) × (option_map string_bytes order.entry.now.journal ≡ Some path) ×
-        IsFaultOfJournalFile (H.outside.makes host.old path) (WritesSome H.outside (λ text. text ≡ steps_text steps.now)) path fault) }
+        LacksFile H.outside false path (λ text. text ≡ steps_text steps.now) host.old host.new fault) }
     ensures output { H.outside.output host.new ≡ H.outside.output host.old }
     ensures quiet { IsQuiet H.outside host.old host.new }
 {
@@ -186,7 +194,6 @@ fn keep_journal<'a, H: Host>(
 /// Simulates the network by workers, which write the trace on the way, if one is ordered: its file is made before the run. Error output is told
 /// how far it is, where that is ordered. Then the journal goes into its file, if one is ordered, and then the tables to standard output. A fault ends it at once: what was written stays, and nothing
 /// that comes later is made or written. Steps are listed only for a journal, and rows never.
-#[tactic(auto, using(crate::proofs::Unwritten::kept_of))]
 pub fn run<'a, H: Host, T: Threads + Wait + Clock + Sync>(
     rt: &T,
     alloc: Global,
@@ -197,7 +204,7 @@ pub fn run<'a, H: Host, T: Threads + Wait + Clock + Sync>(
     ensures tables { OnOk result (ShowsTables H.outside host.old host.new network.now) }
     ensures left { OnOk result (LeavesRun H.outside (option_map string_bytes order.entry.now.journal) (option_map string_bytes order.entry.now.trace)
         (heard_host H.outside host.old order.entry.now.progress (H.outside.errors host.new)) host.new network.now) }
-    ensures fault { IfErr result (IsFaultOn H.outside host.old host.new network.now (ordered.Run order.entry.now) (H.outside.errors host.new)) }
+    ensures fault { IfErr result (IsFaultOn H.outside host.old host.new network.now (ordered.Run order.entry.now)) }
     ensures kept { IfErr result (λ fault. fault ≢ CannotWrite → H.outside.output host.new ≡ H.outside.output host.old) }
     ensures heard { IsHeard H.outside host.old order.entry.now.progress network.now (H.outside.errors host.new) }
 {

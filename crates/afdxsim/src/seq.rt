@@ -1,15 +1,15 @@
 //! `seq NET [--trace FILE] [--progress]`: the one-thread run of a network.
-ghost use Rattle.std.specs.Prelude.{◌≡◌, ◌≢◌, ◌⊎◌, true, IfErr, IfOk, OnOk, option_map, string_bytes};
+ghost use Rattle.std.specs.Prelude.{◌≡◌, ◌≢◌, true, None, Some, IfErr, IfOk, OnOk, option_map, string_bytes};
 ghost use Rattle.command_line.specs.declared.orders.Order.TheVariants as ordered;
 ghost use Rattle.seqsim.specs.Networks.{AreRowsOf};
 ghost use Rattle.trace_segments.specs.Words.{trace_text};
 ghost use Rattle.trace_tables.specs.Text.{tables_text};
 ghost use Rattle.afdxsim.specs.declared.fault.Fault.TheVariants.{CannotWrite};
 ghost use Rattle.afdxsim.specs.Ending.{Took, IsFaultOfOutput};
-ghost use Rattle.afdxsim.specs.Files.{IsFaultOfTraceFile, LeavesSeq, ShowsAlone, TookSome, WritesFile, WritesSome};
+ghost use Rattle.afdxsim.specs.Files.{IsFaultOfWrite, LacksFile, LacksSeq, LeavesSeq, ShowsAlone, WritesFile};
 ghost use Rattle.afdxsim.specs.Orders.{IsFaultOn, IsHeard, IsQuiet, ShowsTables, heard_host};
 ghost use Rattle.afdxsim.specs.Progress.{HearsAsked};
-ghost use Rattle.afdxsim.specs.Sequencing.{IsTablesText, IsFaultOfRun, IsFaultOfTrace};
+ghost use Rattle.afdxsim.specs.Sequencing.{IsTablesText, IsFaultOfRun};
 
 use crate::fault::Fault;
 use crate::host::{FileFault, Host};
@@ -30,7 +30,7 @@ pub fn show_tables<O: Sink>(
     output: &mut O,
 ) -> Result<(), Fault<'static>>
     ensures text { OnOk result (Took O.taken output.old output.new (tables_text network.now tables.now)) }
-    ensures fault { IfErr result (IsFaultOfOutput O.failures output.old output.new) }
+    ensures fault { IfErr result (IsFaultOfOutput true O.failures output.old output.new) }
     ensures kept { IfErr result (λ fault. fault ≢ CannotWrite → output.new ≡ output.old) }
 {
     match write_csv(alloc, network, tables, output) {
@@ -50,8 +50,7 @@ fn write_trace_of<'a, F: Sink>(
     file: &mut F,
 ) -> Result<(), Fault<'a>>
     ensures text { OnOk result (Took F.taken file.old file.new (trace_text network.now rows.now)) }
-    ensures fault { IfErr result (IsFaultOfTrace (λ made. made ≡ true)
-        (TookSome F.taken F.failures file.old file.new (trace_text network.now rows.now)) path.entry.now) }
+    ensures fault { IfErr result (IsFaultOfWrite true F.taken F.failures file.old file.new (trace_text network.now rows.now) path.entry.now) }
 {
     match write_trace(alloc, network, rows, file) {
         Ok(()) => Ok(()),
@@ -61,8 +60,7 @@ fn write_trace_of<'a, F: Sink>(
     }
 }
 
-/// Makes the file with this path and writes the trace of a run into it.
-#[tactic(auto, using(crate::proofs::Unwritten::trace_took))]
+/// Makes the file with this path and writes the trace of a run into it. Where that fails, the file is given back with what it took.
 fn keep_trace<'a, H: Host>(
     alloc: Global,
     network: &Network,
@@ -71,16 +69,15 @@ fn keep_trace<'a, H: Host>(
     host: &mut H,
 ) -> Result<(), Fault<'a>>
     ensures file { OnOk result (WritesFile H.outside path.entry.now (λ text. text ≡ trace_text network.now rows.now) host.old host.new) }
-    ensures fault { IfErr result (IsFaultOfTrace (H.outside.makes host.old path.entry.now)
-        (WritesSome H.outside (λ text. text ≡ trace_text network.now rows.now)) path.entry.now) }
+    ensures fault { IfErr result (LacksFile H.outside true path.entry.now (λ text. text ≡ trace_text network.now rows.now) host.old host.new) }
     ensures output { H.outside.output host.new ≡ H.outside.output host.old }
     ensures quiet { IsQuiet H.outside host.old host.new }
 {
     match host.make(path) {
         Ok(mut file) => {
-            write_trace_of(alloc, network, rows, path, &mut file)?;
+            let written = write_trace_of(alloc, network, rows, path, &mut file);
             host.close(path, file);
-            Ok(())
+            written
         }
         Err(FileFault::Device) => Err(Fault::CannotWriteFile(path)),
         Err(FileFault::OutOfMemory) => Err(Fault::OutOfMemory),
@@ -173,8 +170,7 @@ fn run_to_tables<H: Host, T: Clock>(
 ) -> Result<(), Fault<'static>>
     ensures tables { OnOk result (ShowsTables H.outside host.old host.new network.now) }
     ensures left { OnOk result (ShowsAlone H.outside (heard_host H.outside host.old is_asked (H.outside.errors host.new)) host.new) }
-    ensures fault { IfErr result (λ fault. IsFaultOfRun network.now fault ⊎
-        IsFaultOfOutput H.outside.unshown (H.outside.output host.old) (H.outside.output host.new) fault) }
+    ensures fault { IfErr result (LacksSeq H.outside None (heard_host H.outside host.old is_asked (H.outside.errors host.new)) host.new network.now) }
     ensures kept { IfErr result (λ fault. fault ≢ CannotWrite → H.outside.output host.new ≡ H.outside.output host.old) }
     ensures heard { IsHeard H.outside host.old is_asked network.now (H.outside.errors host.new) }
 {
@@ -194,9 +190,7 @@ fn run_to_trace<'a, H: Host, T: Clock>(
 ) -> Result<(), Fault<'a>>
     ensures tables { OnOk result (ShowsTables H.outside host.old host.new network.now) }
     ensures left { OnOk result (LeavesSeq H.outside (Some path.entry.now) (heard_host H.outside host.old is_asked (H.outside.errors host.new)) host.new network.now) }
-    ensures fault { IfErr result (λ fault. (IsFaultOfRun network.now fault ⊎
-        IsFaultOfTraceFile H.outside (heard_host H.outside host.old is_asked (H.outside.errors host.new)) network.now path.entry.now fault) ⊎
-        IsFaultOfOutput H.outside.unshown (H.outside.output host.old) (H.outside.output host.new) fault) }
+    ensures fault { IfErr result (LacksSeq H.outside (Some path.entry.now) (heard_host H.outside host.old is_asked (H.outside.errors host.new)) host.new network.now) }
     ensures kept { IfErr result (λ fault. fault ≢ CannotWrite → H.outside.output host.new ≡ H.outside.output host.old) }
     ensures heard { IsHeard H.outside host.old is_asked network.now (H.outside.errors host.new) }
 {
@@ -218,7 +212,7 @@ pub fn seq<'a, H: Host, T: Clock>(
     ensures tables { OnOk result (ShowsTables H.outside host.old host.new network.now) }
     ensures left { OnOk result (LeavesSeq H.outside (option_map string_bytes order.entry.now.trace)
         (heard_host H.outside host.old order.entry.now.progress (H.outside.errors host.new)) host.new network.now) }
-    ensures fault { IfErr result (IsFaultOn H.outside host.old host.new network.now (ordered.Seq order.entry.now) (H.outside.errors host.new)) }
+    ensures fault { IfErr result (IsFaultOn H.outside host.old host.new network.now (ordered.Seq order.entry.now)) }
     ensures kept { IfErr result (λ fault. fault ≢ CannotWrite → H.outside.output host.new ≡ H.outside.output host.old) }
     ensures heard { IsHeard H.outside host.old order.entry.now.progress network.now (H.outside.errors host.new) }
 {

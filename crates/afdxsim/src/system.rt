@@ -91,11 +91,22 @@ fn fault_of(error: &Error) -> FileFault {
 /// A file that is there: its device, and its number on it.
 type Place = (u64, u64);
 
+/// The path of a file that keeps nothing of what is written into it.
+const NOWHERE: &str = "/dev/null";
+
 impl System {
     /// The file that this path names, where one is there.
     fn place_of(&self, path: Path<'_>) -> Option<Place> {
         let found = fs::metadata(&self.runtime, path).ok()?;
         Some((found.dev(), found.ino()))
+    }
+
+    /// Whether this path names a plain file that is there. Any other, as a terminal, holds nothing that could be written over.
+    fn is_plain(&self, path: Path<'_>) -> bool {
+        match fs::metadata(&self.runtime, path) {
+            Ok(found) => found.is_file(),
+            Err(_) => false,
+        }
     }
 
     /// The folder that this path names a file in, where it is there, and the name in it.
@@ -111,11 +122,11 @@ impl System {
         Some((self.place_of(folder)?, name))
     }
 
-    /// Both paths name one file that is there, or one name of one folder where none is yet.
+    /// Both paths name one plain file that is there, or one name of one folder where none is yet.
     fn is_same(&self, first: &str, second: &str) -> bool {
         let (first, second) = (Path::new(first), Path::new(second));
         match (self.place_of(first), self.place_of(second)) {
-            (Some(one), Some(other)) => one == other,
+            (Some(one), Some(other)) => one == other && self.is_plain(first),
             (None, None) => match (self.entry_of(first), self.entry_of(second)) {
                 (Some(one), Some(other)) => one == other,
                 _ => false,
@@ -126,7 +137,8 @@ impl System {
 }
 
 impl Host for System {
-    ghost use Rattle.std.proofs.Common.{refl, true, ◌≡◌};
+    ghost use Rattle.std.proofs.Common.{refl, true, ◌≡◌, ◌≢◌};
+    ghost use Rattle.afdxsim.specs.Outside.{nowhere};
 
     type File = Device<File>;
 
@@ -134,17 +146,18 @@ impl Host for System {
 
     type Errors = Device<Stderr>;
 
-    // What a file of the system holds, and which can be made, is for the system to tell; and what paths name, but that equal ones name one file.
+    // What a file of the system holds, and which can be made, is for the system to tell; and what paths name, but that equal ones name one file, unless it keeps nothing.
     ghost outside = { record {
       gives = λ _ _ _. Unit;
       makes = λ _ _ _. Unit;
-      tells = λ _ first second is_one. first ≡ second → is_one ≡ true;
+      tells = λ _ first second is_one. first ≢ nowhere → first ≡ second → is_one ≡ true;
       output = λ system. system.output;
       errors = λ system. system.errors;
       with_output = λ system out. record system { output = out };
       with_errors = λ system out. record system { errors = out };
       made = λ system _. system;
       closed = λ system _ _. system;
+      missed = λ system _. system;
       wrote = ⟦<Device<File> as Sink>⟧.taken;
       unwritten = ⟦<Device<File> as Sink>⟧.failures;
       showed = ⟦<Device<Stdout> as Sink>⟧.taken;
@@ -154,7 +167,7 @@ impl Host for System {
     } };
 
     ghost lawful = { record {
-      equal_paths = λ _ _ _ told. told refl;
+      equal_paths = λ _ _ _ kept told. told kept refl;
       output_stays = λ _ _. refl;
       errors_beside = λ _ _. refl;
       errors_stay = λ _ _. refl;
@@ -163,6 +176,9 @@ impl Host for System {
       errors_at_made = λ _ _. refl;
       output_at_closed = λ _ _ _. refl;
       errors_at_closed = λ _ _ _. refl;
+      output_at_missed = λ _ _. refl;
+      errors_at_missed = λ _ _. refl;
+      output_same = λ _. refl;
       file_took = λ _. refl;
       file_failed = λ _. refl;
       output_took = λ _. refl;
@@ -175,7 +191,7 @@ impl Host for System {
     } };
 
     fn is_one_file(&self, first: &str, second: &str) -> bool {
-        first == second || self.is_same(first, second)
+        (first == second && first != NOWHERE) || self.is_same(first, second)
     }
 
     fn read(&mut self, alloc: Global, path: &str) -> Result<Vec<u8>, FileFault> {

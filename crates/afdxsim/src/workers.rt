@@ -1,16 +1,17 @@
 //! A run by workers: its tables, and what else is asked for.
-ghost use Rattle.std.specs.Prelude.{◌≡◌, ◌⊎◌, ◌+◌, ℕ, true, List, IfErr, IfOk, OnOk};
+ghost use Rattle.std.specs.Prelude.{◌≡◌, ◌+◌, List, IfErr, IfOk, OnOk};
 ghost use Rattle.vlink.specs.Letters.{Row};
+ghost use Rattle.netdesc.specs.Words.{process_count};
 ghost use Rattle.trace_segments.specs.declared.fault.OutFault.TheVariants.{Device};
 ghost use Rattle.trace_segments.specs.declared.trace_fault.TraceFault.TheVariants.{Out};
 ghost use Rattle.trace_segments.specs.Words.{IsBeginning, trace_text};
 ghost use Rattle.trace_tables.specs.Text.{tables_text};
 ghost use Rattle.seqsim.specs.Networks.{AreRowsOf};
+ghost use Rattle.worker_pool.specs.Outcomes.{CanWantWorkers};
 ghost use Rattle.worker_pool.specs.Runs.{IsJournalAsked};
 ghost use Rattle.afdxsim.specs.Ending.{Took};
-ghost use Rattle.afdxsim.specs.Files.{TookSome};
 ghost use Rattle.afdxsim.specs.Progress.{HearsAsked};
-ghost use Rattle.afdxsim.specs.Sequencing.{IsFaultOfTrace, IsTablesText, IsTraceText};
+ghost use Rattle.afdxsim.specs.Sequencing.{IsTablesText};
 ghost use Rattle.afdxsim.specs.Workers.{fault_of_trace, IsFaultOfPool};
 
 use crate::fault::Fault;
@@ -58,7 +59,7 @@ pub fn found_by_workers<E: Sink, T: Threads + Wait + Clock + Sync>(
 ) -> Result<Summary, Fault<'static>>
     ensures text { IfOk result (λ found. IsTablesText network.now (tables_text network.now found.tables)) }
     ensures journal { IfOk result (λ found. IsJournalAsked network.now with_steps found.journal.items) }
-    ensures fault { IfErr result IsFaultOfPool }
+    ensures fault { IfErr result (IsFaultOfPool network.now (CanWantWorkers pace.workers (process_count network.now))) }
     ensures heard { HearsAsked E.taken E.failures asked.is_asked network.now.until errors.old errors.new }
 {
     let mut progress = Progress::new(rt, alloc, network.until(), asked, errors);
@@ -67,9 +68,10 @@ pub fn found_by_workers<E: Sink, T: Threads + Wait + Clock + Sync>(
     Ok(found)
 }
 
-/// That run, where it writes its trace into this file. What the file has taken is at any end a beginning of the trace of the one-thread run.
-#[tactic(auto, using(crate::proofs::Running::tables_made, crate::proofs::Running::workers_gave_up))]
-fn traced<F: Sink + Drop + Send, E: Sink, T: Threads + Wait + Clock + Sync>(
+/// That run, where it writes its trace into this file, which is given back at the end of the run. What it has taken is then a beginning of the trace
+/// of the one-thread run, whatever became of its writing. Where the run itself is given up, the file is dropped.
+#[tactic(auto, using(crate::proofs::Running::tables_made, crate::proofs::Running::tracers_gave_up))]
+pub fn traced<F: Sink + Drop + Send, E: Sink, T: Threads + Wait + Clock + Sync>(
     rt: &T,
     alloc: Global,
     network: &Network,
@@ -86,7 +88,7 @@ fn traced<F: Sink + Drop + Send, E: Sink, T: Threads + Wait + Clock + Sync>(
     ensures beginning { IfOk result (λ found. (rows : List Row) → AreRowsOf network.now rows →
         IsBeginning (F.taken file) (F.taken found.sink) (trace_text network.now rows)) }
     ensures device { IfOk result (λ found. IfErr found.written (λ why. why ≡ Out Device → F.failures found.sink ≡ F.failures file + 1)) }
-    ensures fault { IfErr result IsFaultOfPool }
+    ensures fault { IfErr result (IsFaultOfPool network.now Unit) }
     ensures heard { HearsAsked E.taken E.failures asked.is_asked network.now.until errors.old errors.new }
 {
     let mut progress = Progress::new(rt, alloc, network.until(), asked, errors);
@@ -105,7 +107,7 @@ fn traced<F: Sink + Drop + Send, E: Sink, T: Threads + Wait + Clock + Sync>(
 }
 
 /// Why a trace was not written into the file with this path, as a fault of the program.
-fn fault_of_trace<'a>(path: &'a str, why: TraceFault) -> Fault<'a>
+pub fn fault_of_trace<'a>(path: &'a str, why: TraceFault) -> Fault<'a>
     ensures { result ≡ fault_of_trace path.entry why }
 {
     match why {
@@ -114,37 +116,5 @@ fn fault_of_trace<'a>(path: &'a str, why: TraceFault) -> Fault<'a>
         TraceFault::Out(OutFault::OutOfMemory) => Fault::OutOfMemory,
         TraceFault::Out(OutFault::Device) => Fault::CannotWriteFile(path),
         TraceFault::Out(OutFault::Layout) => Fault::Layout,
-    }
-}
-
-/// That run, where it writes its trace into this file, which has this path and is given back. A fault of the trace is told once the run has
-/// come to its end.
-pub fn found_with_trace<'a, F: Sink + Drop + Send, E: Sink, T: Threads + Wait + Clock + Sync>(
-    rt: &T,
-    alloc: Global,
-    network: &Network,
-    pace: Pace,
-    with_steps: bool,
-    path: &'a str,
-    file: F,
-    asked: Asked,
-    errors: &mut E,
-) -> Result<(Summary, F), Fault<'a>>
-    ensures text { IfOk result (λ found. IsTablesText network.now (tables_text network.now found.0.tables)) }
-    ensures journal { IfOk result (λ found. IsJournalAsked network.now with_steps found.0.journal.items) }
-    ensures trace { IfOk result (λ found. (rows : List Row) → AreRowsOf network.now rows →
-        Took F.taken file found.1 (trace_text network.now rows)) }
-    ensures fault { IfErr result (λ fault. IsFaultOfPool fault ⊎ IsFaultOfTrace (λ made. made ≡ true)
-        ((full : F) × (text : List ℕ) × IsTraceText network.now text × TookSome F.taken F.failures file full text) path.entry.now fault) }
-    ensures heard { HearsAsked E.taken E.failures asked.is_asked network.now.until errors.old errors.new }
-{
-    let Traced {
-        outcome,
-        written,
-        sink,
-    } = traced(rt, alloc, network, pace, with_steps, file, asked, errors)?;
-    match written {
-        Ok(()) => Ok((outcome, sink)),
-        Err(why) => Err(fault_of_trace(path, why)),
     }
 }

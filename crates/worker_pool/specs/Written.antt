@@ -3,6 +3,10 @@ use Rattle.std.specs.Prelude.{◌≡◌, ◌≢◌, ℕ, ◌+◌, List, Option, 
 use Rattle.std.specs.Io.KnownBytes.{append_known}
 use Rattle.vlink.specs.Letters.{Row}
 use Rattle.netdesc.specs.Words.{Plan}
+use Rattle.journal.specs.declared.fault.PoolFault.{PoolFault}
+use Rattle.journal.specs.declared.fault.PoolFault.TheVariants as pool
+use Rattle.crossbeam_channel.specs.declared.err.SendError.{SendError}
+use Rattle.crossbeam_channel.specs.declared.err.SendError.TheVariants as send
 use Rattle.trace_segments.specs.declared.fault.OutFault.TheVariants.{Device}
 use Rattle.trace_segments.specs.declared.segment_fault.SegmentFault.{SegmentFault}
 use Rattle.trace_segments.specs.declared.segment_fault.SegmentFault.TheVariants.{Stranger, OutOfMemory}
@@ -18,6 +22,12 @@ IsPlaceFault fault = (fault ≢ Stranger) × (fault ≢ OutOfMemory)
 -- why the trace of a run is not whole: that, or its text did not go out
 abbrev pub IsFaultOfTrace : TraceFault → Type 0
 IsFaultOfTrace fault = (fault ≢ Segment Stranger) × (fault ≢ Segment OutOfMemory)
+
+-- what comes of a batch that was sent: want of memory is told, and a channel that is closed is passed over
+abbrev pub told_of : {B : Type 0} → Result ⊤ (SendError B) → Result ⊤ PoolFault
+told_of (Ok x) = Ok x
+told_of (Err (send.OutOfMemory batch)) = Err pool.OutOfMemory
+told_of (Err (send.Disconnected batch)) = Ok tt
 
 -- of faults that come one after another the first
 abbrev pub first_of : Option SegmentFault → SegmentFault → Option SegmentFault

@@ -9,7 +9,7 @@ ghost use Rattle.trace_segments.specs.declared.segment_fault.SegmentFault.TheVar
 ghost use Rattle.trace_segments.specs.Words.{no_segments, segment_fault, Waits, Gives, BatchRows};
 ghost use Rattle.worker_pool.specs.Segments.{IsSegmentOfRun};
 ghost use Rattle.worker_pool.specs.Traces.{HasLawfulRows, IsGatheringOfRun};
-ghost use Rattle.worker_pool.specs.Written.{IsPlaceFault, first_of};
+ghost use Rattle.worker_pool.specs.Written.{IsPlaceFault, first_of, told_of};
 
 use crate::lawful_rows::lawful_rows;
 use crate::locks::Locked;
@@ -108,10 +108,7 @@ impl<J: NetworkRun> Desk<J> {
     fn send<T: Wait>(&self, rt: &T, batch: RunBatch<J>) -> Result<(), PoolFault>
         ensures memory { IfErr result (λ fault. fault ≡ pool.OutOfMemory) }
     {
-        match self.batches.send(rt, batch) {
-            Err(SendError::OutOfMemory(_)) => Err(PoolFault::OutOfMemory),
-            Ok(()) | Err(SendError::Disconnected(_)) => Ok(()),
-        }
+        told_of(self.batches.send(rt, batch))
     }
 
     /// Keeps the fault, if it is the first.
@@ -123,6 +120,16 @@ impl<J: NetworkRun> Desk<J> {
         if self.fault.is_none() {
             self.fault = Some(fault);
         }
+    }
+}
+
+/// What comes of a batch that was sent: a channel that is closed wants no memory, and the batch is passed over.
+fn told_of<B: Drop>(sent: Result<(), SendError<B>>) -> Result<(), PoolFault>
+    ensures { result ≡ told_of sent }
+{
+    match sent {
+        Err(SendError::OutOfMemory(_)) => Err(PoolFault::OutOfMemory),
+        Ok(()) | Err(SendError::Disconnected(_)) => Ok(()),
     }
 }
 

@@ -5,13 +5,13 @@ use Rattle.afdxsim.proofs.obeying.done.Goals as goal
 pub returns-clause-done : goal.returns-clause-done
 returns-clause-done g c =
     done_there g.H.Host.outside c.done_on.result c.args.order.now c.in_ok-network.network c.net_of.result.now c.args.host.now c.network_of.new.host c.done_on.new.host
-    c.net_of.ensures c.network_of.ensures.host c.in_ok-network.ensures.network c.done_on.ensures.done
+    c.net_of.ensures c.in_ok-network.ensures.host c.in_ok-network.ensures.network c.done_on.ensures.done
 
 pub returns-clause-fault : goal.returns-clause-fault
 returns-clause-fault g c =
     fault_there g.H.Host.outside c.done_on.result c.args.order.now c.in_ok-network.network c.net_of.result.now c.args.host.now c.network_of.new.host c.done_on.new.host
-    c.net_of.ensures c.network_of.ensures.host c.in_ok-network.ensures.network (g.H.Host.outside.errors c.done_on.new.host) c.done_on.ensures.fault c.done_on.ensures.heard
+    c.net_of.ensures c.in_ok-network.ensures.host c.in_ok-network.ensures.network c.done_on.ensures.fault c.done_on.ensures.heard
 
 pub returns-clause-kept : goal.returns-clause-kept
 returns-clause-kept g c =
-    err_then c.done_on.result c.done_on.ensures.kept (λ fault kept other. kept other ∙ ap g.H.Host.outside.output c.network_of.ensures.host)
+    err_then c.done_on.result c.done_on.ensures.kept (λ fault kept other. kept other ∙ ap g.H.Host.outside.output c.in_ok-network.ensures.host)

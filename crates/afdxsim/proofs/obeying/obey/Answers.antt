@@ -18,5 +18,5 @@ returns-in-None-clause-ends g c =
     inr (
       c.named_twice.ensures.apart c.in-None.is,
       has_ended g.H.Host.outside done.result c.args.order.now c.end.result c.args.host.now done.new.host c.end.new.host
-          done.ensures.done done.ensures.fault done.ensures.kept c.end.ensures.done c.end.ensures.told c.end.ensures.output,
+          done.ensures.done done.ensures.fault done.ensures.kept c.end.ensures.done c.end.ensures.told c.end.ensures.alone c.end.ensures.output,
     )

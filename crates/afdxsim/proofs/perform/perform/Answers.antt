@@ -1,7 +1,7 @@
 use Rattle.std.proofs.Common.{inl, inr, map}
 use Rattle.clap.specs.Values.{kind_of}
 use Rattle.afdxsim.specs.Performing.{NameTwice}
-use Rattle.afdxsim.proofs.Statuses.{answered, obeyed, same_kind}
+use Rattle.afdxsim.proofs.Statuses.{answered, asks_none, memory_asks_none, obeyed, same_kind}
 use Rattle.afdxsim.proofs.Ended.{memory}
 use Rattle.afdxsim.proofs.perform.perform.Goals as goal
 
@@ -26,4 +26,17 @@ pub returns-in-Err-clause-ordered : goal.returns-in-Err-clause-ordered
 returns-in-Err-clause-ordered g c = λ none.
     let words = map g.S.AsStr.text c.args.words.now in
     let is = memory words c.kind.result none (same_kind words (kind_of c.in-Err.error) c.kind.result c.kind.ensures c.in-Err.ensures.mistake) in
-    inl (c.answer.ensures.alone is, c.answer.ensures.told (c.answer.ensures.memory is))
+    inl (c.answer.ensures.alone (memory_asks_none c.kind.result is), c.answer.ensures.told (c.answer.ensures.memory is))
+
+pub returns-in-Ok-clause-beside : goal.returns-in-Ok-clause-beside
+returns-in-Ok-clause-beside g c =
+    record { streams = λ some. absurd (some c.in-Ok.ensures.mistake); mistaken = λ some none. absurd (some c.in-Ok.ensures.mistake) }
+
+pub returns-in-Err-clause-beside : goal.returns-in-Err-clause-beside
+returns-in-Err-clause-beside g c =
+    let words = map g.S.AsStr.text c.args.words.now in
+    record {
+      streams = λ some. c.answer.ensures.both;
+      mistaken = λ some none. c.answer.ensures.alone
+          (asks_none words c.kind.result (same_kind words (kind_of c.in-Err.error) c.kind.result c.kind.ensures c.in-Err.ensures.mistake) none);
+    }

@@ -16,4 +16,5 @@ returns-clause-fault g c =
       c.as_slice.result.now,
       subst (λ (items : List ℕ). g.H.Host.outside.gives c.args.host.now c.args.steps.now (Some items)) (sym c.as_slice.ensures.value) c.in_ok-text.ensures.bytes,
       is,
+      c.in_ok-text.ensures.host,
     ))

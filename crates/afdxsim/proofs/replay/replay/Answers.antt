@@ -1,7 +1,6 @@
-use Rattle.std.proofs.Common.{List, Some, ℕ, inr, refl, subst, string_bytes}
+use Rattle.std.proofs.Common.{List, Some, ℕ, true, inr, refl, subst, string_bytes}
 use Rattle.trace_tables.specs.Text.{tables_text}
-use Rattle.afdxsim.specs.Ending.{IsFaultOfOutput}
-use Rattle.afdxsim.specs.Files.{ShowsBoth}
+use Rattle.afdxsim.specs.Files.{LacksOutput, ShowsBoth}
 use Rattle.afdxsim.specs.Orders.{Says, Shows}
 use Rattle.afdxsim.proofs.Ended.{err_then, on_three}
 use Rattle.afdxsim.proofs.replay.replay.Goals as goal
@@ -14,7 +13,7 @@ returns-clause-done g c =
     let after = c.show_conclusion.new.host in
     let conclusion = c.in_ok-conclusion.conclusion in
     let told = c.in_ok-conclusion.ensures.told in
-    let same = c.conclusion_in.ensures.host in
+    let same = c.in_ok-conclusion.ensures.host in
     let tables = tables_text c.args.network conclusion.tables in
     let line = string_bytes conclusion.line in
     on_three c.show_conclusion.result c.show_conclusion.ensures.left c.show_conclusion.ensures.tables c.show_conclusion.ensures.line (λ left shown spoken. (
@@ -30,5 +29,12 @@ returns-clause-done g c =
 pub returns-clause-fault : goal.returns-clause-fault
 returns-clause-fault g c =
     let outside = g.H.Host.outside in
-    err_then c.show_conclusion.result c.show_conclusion.ensures.fault (λ fault is.
-    inr (subst (λ host. IsFaultOfOutput outside.unshown (outside.output host) (outside.output c.show_conclusion.new.host) fault) c.conclusion_in.ensures.host is))
+    let before = c.args.host.now in
+    let conclusion = c.in_ok-conclusion.conclusion in
+    let told = c.in_ok-conclusion.ensures.told in
+    err_then c.show_conclusion.result c.show_conclusion.ensures.fault (λ fault is. inr (
+      tables_text c.args.network conclusion.tables,
+      string_bytes conclusion.line,
+      (told.0, conclusion, subst (λ (path : List ℕ). outside.gives before path (Some told.0)) c.as_str.ensures.value told.1, told.2, refl, refl),
+      subst (λ host. LacksOutput outside true host c.show_conclusion.new.host fault) c.in_ok-conclusion.ensures.host is,
+    ))

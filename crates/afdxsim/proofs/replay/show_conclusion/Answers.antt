@@ -1,6 +1,8 @@
 use Rattle.std.proofs.Common.{◌≡◌, ◌∙◌, subst}
 use Rattle.trace_tables.specs.Text.{tables_text}
 use Rattle.afdxsim.specs.Ending.{Took}
+use Rattle.afdxsim.proofs.Ended.{same_err}
+use Rattle.afdxsim.proofs.Lacking.{no_output}
 use Rattle.afdxsim.proofs.Streams.{says, shows}
 use Rattle.afdxsim.proofs.replay.show_conclusion.Goals as goal
 
@@ -26,3 +28,9 @@ returns-clause-line g c =
     c.as_str.ensures.value
     (says outside law before after c.errors.result.now c.say.new.errors c.as_str.result.now
     (c.errors.ensures.value ∙ law.errors_beside before c.show_tables.new.output) (law.errors_stay shown c.say.new.errors) c.say.ensures.took)
+
+pub returns-in_err-show_tables-clause-fault : goal.returns-in_err-show_tables-clause-fault
+returns-in_err-show_tables-clause-fault g c =
+    same_err _ c.from_residual.result c.in_err-show_tables.field-0.0 c.from_residual.ensures.1
+    (no_output g.H.Host.outside g.met.H.Host.lawful _ c.args.host.now c.output.result.now c.show_tables.new.output c.in_err-show_tables.field-0.0 c.output.ensures.value
+    c.in_err-show_tables.ensures.fault)

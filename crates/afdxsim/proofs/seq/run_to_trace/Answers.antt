@@ -1,13 +1,17 @@
-use Rattle.std.proofs.Common.{◌≡◌, ◌∙◌, Some, List, ℕ, inl, inr, refl, sym, subst}
+use Rattle.std.proofs.Common.{◌≡◌, ◌∙◌, Some, List, ℕ, true, inl, inr, refl, sym, subst}
 use Rattle.trace_segments.specs.Words.{trace_text}
 use Rattle.seqsim.specs.Networks.{AreRowsOf}
-use Rattle.afdxsim.specs.Files.{IsFaultOfTraceFile, LeavesSeq}
+use Rattle.afdxsim.specs.Files.{LacksFile, LacksSeq, LeavesSeq}
 use Rattle.afdxsim.specs.Sequencing.{IsTraceText}
-use Rattle.afdxsim.proofs.Ended.{ok_then, same_err}
+use Rattle.afdxsim.proofs.Ended.{err_then, ok_then, same_err}
 use Rattle.afdxsim.proofs.Heard.{at_end}
+use Rattle.afdxsim.proofs.Lacking.{lacks_rows, no_output}
 use Rattle.afdxsim.proofs.Leaving.{of_text}
-use Rattle.afdxsim.proofs.Unwritten.{rows_took}
 use Rattle.afdxsim.proofs.seq.run_to_trace.Goals as goal
+
+pub returns-in_err-finished-clause-fault : goal.returns-in_err-finished-clause-fault
+returns-in_err-finished-clause-fault g c =
+    same_err _ c.from_residual.result c.in_err-finished.field-0.0 c.from_residual.ensures.1 (inl (c.in_err-finished.ensures.fault, c.heard_run.ensures.host))
 
 pub returns-in_err-keep_trace-clause-fault : goal.returns-in_err-keep_trace-clause-fault
 returns-in_err-keep_trace-clause-fault g c =
@@ -15,11 +19,38 @@ returns-in_err-keep_trace-clause-fault g c =
     let outside = g.H.Host.outside in
     let fault = c.in_err-keep_trace.field-0.0 in
     let heard = c.heard_run.new.host in
+    let new = c.keep_trace.new.host in
+    let rows = c.as_slice.result.now in
     same_err _ c.from_residual-in_err-keep_trace.result fault c.from_residual-in_err-keep_trace.ensures.1
-    (inl (inr (at_end outside c.args.is_asked c.args.host.now heard c.keep_trace.new.host (λ host. IsFaultOfTraceFile outside host plan c.args.path.now fault)
-    c.heard_run.ensures.host c.keep_trace.ensures.quiet
-    (rows_took outside heard plan c.as_slice.result.now c.args.path.now fault
-    (subst (AreRowsOf plan) (sym c.as_slice.ensures.value) c.in_ok-finished.ensures.rows) c.in_err-keep_trace.ensures.fault))))
+    (inr (inl (
+      c.args.path.now,
+      refl,
+      at_end outside c.args.is_asked c.args.host.now heard new (λ host. LacksFile outside true c.args.path.now (IsTraceText plan) host new fault)
+          c.heard_run.ensures.host c.keep_trace.ensures.quiet
+          (lacks_rows outside plan rows c.args.path.now heard new fault (subst (AreRowsOf plan) (sym c.as_slice.ensures.value) c.in_ok-finished.ensures.rows)
+          c.in_err-keep_trace.ensures.fault),
+    )))
+
+pub returns-clause-fault : goal.returns-clause-fault
+returns-clause-fault g c =
+    let plan = c.args.network.now in
+    let outside = g.H.Host.outside in
+    let law = g.met.H.Host.lawful in
+    let heard = c.heard_run.new.host in
+    let traced = c.keep_trace.new.host in
+    let out = c.show_tables.new.output in
+    let new = outside.with_output traced out in
+    let rows = c.as_slice.result.now in
+    let are = subst (AreRowsOf plan) (sym c.as_slice.ensures.value) c.in_ok-finished.ensures.rows in
+    err_then c.show_tables.result c.show_tables.ensures.fault (λ fault met.
+    at_end outside c.args.is_asked c.args.host.now heard new (λ host. LacksSeq outside (Some c.args.path.now) host new plan fault) c.heard_run.ensures.host
+    (law.errors_beside traced out ∙ c.keep_trace.ensures.quiet)
+    (inr (inr (
+      traced,
+      of_text outside c.args.path.now (λ (text : List ℕ). text ≡ trace_text plan rows) (IsTraceText plan) heard traced c.in_ok-keep_trace.ensures.file
+          (λ text same. (rows, are, same)),
+      no_output outside law true traced c.output.result.now out fault c.output.ensures.value met,
+    ))))
 
 pub returns-clause-left : goal.returns-clause-left
 returns-clause-left g c =

@@ -1,0 +1,160 @@
+-- Why a text is not where it should be, and what is left of it, told of the host.
+use Rattle.std.proofs.Common.{◌≡◌, ◌∙◌, ◌⊎◌, ◌≢◌, inl, inr, ℕ, ◌+◌, Bool, true, false, List, [], ◌++◌, length, take, Option, Some, None, Result, Ok, Err, refl, sym, ap, subst, option_map, IfErr, IfSome, is_some, Bor, append-nil, arith}
+use Rattle.std.specs.Io.KnownBytes.{append_known}
+use Rattle.vlink.specs.Letters.{Row}
+use Rattle.virtual_time.specs.declared.step.Step.{Step}
+use Rattle.netdesc.specs.Words.{Plan}
+use Rattle.journal_text.specs.Text.{steps_text}
+use Rattle.seqsim.specs.Networks.{AreRowsOf}
+use Rattle.trace_segments.specs.Words.{IsBeginning, trace_text}
+use Rattle.trace_segments.specs.declared.fault.OutFault.TheVariants as out
+use Rattle.trace_segments.specs.declared.segment_fault.SegmentFault.TheVariants as segment
+use Rattle.trace_segments.specs.declared.trace_fault.TraceFault.{TraceFault}
+use Rattle.trace_segments.specs.declared.trace_fault.TraceFault.TheVariants.{Segment, Out}
+use Rattle.worker_pool.specs.Runs.{IsJournalAsked, IsJournalOf}
+use Rattle.afdxsim.specs.declared.fault.Fault.{Fault}
+use Rattle.afdxsim.specs.declared.fault.Fault.TheVariants.{Description, JournalLine, JournalFull, CannotRead, CannotWriteFile, CannotWrite, Layout, OutOfMemory, Exhausted, Spawn, Torn}
+use Rattle.afdxsim.specs.Ending.{IsFaultOfOutput}
+use Rattle.afdxsim.specs.Files.{BeginsFile, IsFaultOfWrite, IsFront, LacksFile, LacksOutput, LacksTrace}
+use Rattle.afdxsim.specs.Outside.{IsHost, Outside}
+use Rattle.afdxsim.specs.Sequencing.{IsTraceText}
+use Rattle.afdxsim.specs.Workers.{fault_of_trace, IsJournalText}
+use Rattle.afdxsim.proofs.Leaving.{if_some, stands}
+
+-- a file that is as it was took none of a text
+none_taken : (text : List ℕ) (old new : Option (List ℕ)) → new ≡ old → IsBeginning old new text
+none_taken text None new same = (0, omega arith, same)
+none_taken text (Some bytes) new same = (0, omega arith, same ∙ ap Some (sym (append-nil bytes)))
+
+module _ {S F O E : Type 0} (outside : Outside S F O E) {taken : F → Option (List ℕ)} {failures : F → ℕ} {shown : O → Option (List ℕ)} {unshown : O → ℕ}
+    {said : E → Option (List ℕ)} {unsaid : E → ℕ} (law : IsHost outside taken failures shown unshown said unsaid) where
+  -- standard output was lent and did not take a text
+  pub no_output : (has_rows : Bool) (host : S) (lent out : O) (fault : Fault) → lent ≡ outside.output host → IsFaultOfOutput has_rows unshown lent out fault →
+      LacksOutput outside has_rows host (outside.with_output host out) fault
+  no_output has_rows host lent out fault from met =
+      ((out, refl), subst (λ end. IsFaultOfOutput has_rows outside.unshown (outside.output host) end fault) (sym (law.output_stays host out)) (of fault met))
+    where
+      of : (fault : Fault) → IsFaultOfOutput has_rows unshown lent out fault → IsFaultOfOutput has_rows outside.unshown (outside.output host) out fault
+      of (Description fault) met = met
+      of (JournalLine n) met = met
+      of JournalFull met = met
+      of (CannotRead path) met = met
+      of (CannotWriteFile path) met = met
+      of CannotWrite met = law.output_failed out ∙ (met ∙ ap (λ n. n + 1) (ap unshown from ∙ sym (law.output_failed (outside.output host))))
+      of Layout met = (met.0, met.1 ∙ from)
+      of OutOfMemory met = met ∙ from
+      of Exhausted met = met
+      of Spawn met = met
+      of Torn met = met
+
+  -- a new file with this path was made, took a beginning of a text and was given back
+  module _ (path : List ℕ) (IsText : List ℕ → Type 0) (old begun new : S) (empty file : F) (text : List ℕ) (opened : begun ≡ outside.made old path)
+      (none : IfSome (outside.wrote empty) (λ bytes. bytes ≡ [])) (fresh : outside.unwritten empty ≡ 0) (is : IsText text)
+      (given : new ≡ outside.closed begun path file) where
+    front : IsBeginning (taken empty) (taken file) text → IfSome (outside.wrote file) (IsFront IsText)
+    front took = subst (λ o. IfSome o (IsFront IsText))
+        (sym (law.file_took file ∙ (took.2 ∙ ap (λ o. append_known o (take took.0 text)) (sym (law.file_took empty)))))
+        (stands (IsFront IsText) (outside.wrote empty) (take took.0 text) none (text, is, (took.0, took.1, refl)))
+
+    -- so many writes of it failed
+    count : (n : ℕ) → failures file ≡ failures empty + n → outside.unwritten file ≡ n
+    count n failed =
+        let a = law.file_failed file in
+        let b = law.file_failed empty in omega arith
+
+    pub begins : (n : ℕ) → IsBeginning (taken empty) (taken file) text → failures file ≡ failures empty + n → BeginsFile outside n path IsText old new
+    begins n took failed = (file, front took, count n failed, given ∙ ap (λ host. outside.closed host path file) opened)
+
+    pub begins_some : IsBeginning (taken empty) (taken file) text → (n : ℕ) × BeginsFile outside n path IsText old new
+    begins_some took = (outside.unwritten file, (file, front took, refl, given ∙ ap (λ host. outside.closed host path file) opened))
+
+    begins_none : file ≡ empty → BeginsFile outside 0 path IsText old new
+    begins_none same = begins 0 (none_taken text (taken empty) (taken file) (ap taken same)) (let a = ap failures same in omega arith)
+
+    -- and it is not whole
+    pub lacks : (has_rows : Bool) (fault : Fault) → outside.makes old path true → IsFaultOfWrite has_rows taken failures empty file text path fault →
+        LacksFile outside has_rows path IsText old new fault
+    lacks has_rows (Description fault) made met = met
+    lacks has_rows (JournalLine n) made met = met
+    lacks has_rows JournalFull made met = met
+    lacks has_rows (CannotRead at) made met = met
+    lacks has_rows (CannotWriteFile at) made met = (met.0, inr (made, begins 1 met.1 met.2))
+    lacks has_rows CannotWrite made met = met
+    lacks has_rows Layout made met = (met.0, made, begins_none met.1)
+    lacks has_rows OutOfMemory made met = (made, inr (begins_none met))
+    lacks has_rows Exhausted made met = met
+    lacks has_rows Spawn made met = met
+    lacks has_rows Torn made met = met
+
+  -- the file of the trace of a run by workers was made and given back, and the trace is not whole
+  module _ (path : Bor (List ℕ)) (plan : Plan) (old begun new : S) (empty file : F) (rows : List Row) (opened : begun ≡ outside.made old path.now)
+      (none : IfSome (outside.wrote empty) (λ bytes. bytes ≡ [])) (fresh : outside.unwritten empty ≡ 0) (are : AreRowsOf plan rows)
+      (given : new ≡ outside.closed begun path.now file) (made : outside.makes old path.now true)
+      (took : IsBeginning (taken empty) (taken file) (trace_text plan rows)) where
+    is : IsTraceText plan (trace_text plan rows)
+    is = (rows, are, refl)
+
+    lacks_part : (fault : Fault) → (fault ≡ OutOfMemory) ⊎ (fault ≡ Layout) ⊎ (fault ≡ Torn) → LacksTrace outside path.now plan old new fault
+    lacks_part fault kind = inr (
+      kind,
+      made,
+      begins_some path.now (IsTraceText plan) old begun new empty file (trace_text plan rows) opened none fresh is given took,
+    )
+
+    pub lacks_trace : (why : TraceFault) → (why ≡ Out out.Device → failures file ≡ failures empty + 1) → LacksTrace outside path.now plan old new (fault_of_trace path why)
+    lacks_trace (Segment segment.Gap) failed = lacks_part Torn (inr (inr refl))
+    lacks_trace (Segment segment.Double) failed = lacks_part Torn (inr (inr refl))
+    lacks_trace (Segment segment.Stranger) failed = lacks_part Torn (inr (inr refl))
+    lacks_trace (Segment segment.OutOfMemory) failed = lacks_part OutOfMemory (inl refl)
+    lacks_trace (Out out.OutOfMemory) failed = lacks_part OutOfMemory (inl refl)
+    lacks_trace (Out out.Layout) failed = lacks_part Layout (inr (inl refl))
+    lacks_trace (Out out.Device) failed = inl (
+      refl,
+      inr (made, begins path.now (IsTraceText plan) old begun new empty file (trace_text plan rows) opened none fresh is given 1 took (failed refl)),
+    )
+
+-- the steps that were asked for are the journal of the run
+asked : (plan : Plan) (steps : List Step) (is_some : Bool) → is_some ≡ true → IsJournalAsked plan is_some steps → IsJournalOf plan steps
+asked plan steps true is h = h
+asked plan steps false is h = absurd (let bad : false ≡ true = is in cc)
+
+module _ {S F O E : Type 0} (outside : Outside S F O E) where
+  -- a beginning of a text of another sort
+  begins_other : (n : ℕ) (path : List ℕ) (P Q : List ℕ → Type 0) (old new : S) → ((text : List ℕ) → P text → Q text) → BeginsFile outside n path P old new →
+      BeginsFile outside n path Q old new
+  begins_other n path P Q old new f begun =
+      (begun.0, if_some (outside.wrote begun.0) begun.1 (λ bytes front. (front.0, f front.0 front.1, front.2)), begun.2, begun.3)
+
+  pub lacks_other : (has_rows : Bool) (path : List ℕ) (P Q : List ℕ → Type 0) (old new : S) (fault : Fault) → ((text : List ℕ) → P text → Q text) →
+      LacksFile outside has_rows path P old new fault → LacksFile outside has_rows path Q old new fault
+  lacks_other has_rows path P Q old new (Description fault) f met = met
+  lacks_other has_rows path P Q old new (JournalLine n) f met = met
+  lacks_other has_rows path P Q old new JournalFull f met = met
+  lacks_other has_rows path P Q old new (CannotRead at) f met = met
+  lacks_other has_rows path P Q old new (CannotWriteFile at) f met =
+      (met.0, elim met.1 [ inl none ↦ inl none | inr some ↦ inr (some.0, begins_other 1 path P Q old new f some.1) ])
+  lacks_other has_rows path P Q old new CannotWrite f met = met
+  lacks_other has_rows path P Q old new Layout f met = (met.0, met.1, begins_other 0 path P Q old new f met.2)
+  lacks_other has_rows path P Q old new OutOfMemory f met =
+      (met.0, elim met.1 [ inl none ↦ inl none | inr some ↦ inr (begins_other 0 path P Q old new f some) ])
+  lacks_other has_rows path P Q old new Exhausted f met = met
+  lacks_other has_rows path P Q old new Spawn f met = met
+  lacks_other has_rows path P Q old new Torn f met = met
+
+  -- the trace of a run, of its rows
+  pub lacks_rows : (plan : Plan) (rows : List Row) (path : List ℕ) (old new : S) (fault : Fault) → AreRowsOf plan rows →
+      LacksFile outside true path (λ text. text ≡ trace_text plan rows) old new fault → LacksFile outside true path (IsTraceText plan) old new fault
+  lacks_rows plan rows path old new fault are met =
+      lacks_other true path (λ text. text ≡ trace_text plan rows) (IsTraceText plan) old new fault (λ text same. (rows, are, same)) met
+
+  -- the journal of a run, of its steps
+  pub lacks_steps : {X : Type 0} (bytes : X → List ℕ) (journal : Option X) (plan : Plan) (steps : List Step) (path : List ℕ) (old new : S) (fault : Fault) →
+      IsJournalAsked plan (is_some journal) steps → option_map bytes journal ≡ Some path →
+      LacksFile outside false path (λ text. text ≡ steps_text steps) old new fault → LacksFile outside false path (IsJournalText plan) old new fault
+  lacks_steps {X} bytes journal plan steps path old new fault is there met =
+      lacks_other false path (λ text. text ≡ steps_text steps) (IsJournalText plan) old new fault
+      (λ text same. (steps, asked plan steps (is_some journal) (some_there journal there) is, same)) met
+    where
+      some_there : (o : Option X) → option_map bytes o ≡ Some path → is_some o ≡ true
+      some_there (Some x) is = refl
+      some_there None is = absurd (let bad : None ≡ Some path = is in cc)
