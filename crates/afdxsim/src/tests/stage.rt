@@ -7,6 +7,8 @@
 //!
 //! A call that is refused memory is made again, where it left all as it was; `work` goes on with what its first try left. So a row holds
 //! with ample memory, and where any one growth of its calls is refused.
+ghost use Rattle.std.specs.Prelude.{◌≡◌, true};
+
 use nodes::Node;
 use std::cell::Cell;
 use std::test::Fail;
@@ -15,14 +17,15 @@ use worker_pool::{
     Exchange, Gate, Held, Mark, NetworkRun, Of, PoolFault, collect, post, publish, work,
 };
 
-/// An exchange of a network, its processes, and their gate.
+/// An exchange of a network, whose journal is kept, its processes, and their gate.
 #[derive(Drop)]
-pub struct Stage<'a, J: NetworkRun> {
-    pub exchange: Exchange<'a, Node, Of<J>>,
-    pub helds: Vec<Held<'a, Node, Of<J>>>,
+pub struct Stage<J: NetworkRun> {
+    pub exchange: Exchange<Node, Of<J>>,
+    pub helds: Vec<Held<Node, Of<J>>>,
     pub gate: CountingGate,
     /// Which calls were refused memory, a line each.
     pub refused: String,
+    pub ghost kept: { J.keeps ≡ true },
 }
 
 /// Counts what it is told of, as long as the counts of a process come in order.
@@ -102,7 +105,7 @@ fn small(number: u64) -> u32 {
     u32::try_from(number).unwrap_or(u32::MAX)
 }
 
-impl<'a, J: NetworkRun> Stage<'a, J> {
+impl<J: NetworkRun> Stage<J> {
     /// Plays a word, and tells what it answers.
     pub fn play(&mut self, word: &str, told: &mut String) -> Result<(), Fail> {
         let word = word_of(word)?;
