@@ -1,12 +1,12 @@
 //! A process takes letters from the mail.
-ghost use Rattle.std.specs.Prelude.{◌≡◌, ◌≢◌, ◌<◌, ◌≤◌, ◌+◌, ◌⊎◌, ℕ, [], map, min, set, take, length, slice_get, IfOk, OnErr, IfErr, Err};
+ghost use Rattle.std.specs.Prelude.{◌≡◌, ◌≢◌, ◌<◌, ◌≤◌, ◌+◌, ◌⊎◌, ℕ, [], map, min, set, take, length, slice_get, IfOk, OnErr, IfErr, Err, true};
 ghost use Rattle.std.specs.Option.{option_map};
 ghost use Rattle.virtual_time.specs.Law.{lowest, times_of, Took, reach, steps};
 ghost use Rattle.reverse.specs.Rules.{rules_of};
 ghost use Rattle.reverse.specs.Setting.{simulation_of};
 ghost use Rattle.vlink.specs.Order.{message_order};
 ghost use Rattle.antimessages.specs.Mailing.{letters_for};
-ghost use Rattle.journal.specs.declared.fault.PoolFault.TheVariants.{OutOfMemory, JournalFull};
+ghost use Rattle.journal.specs.declared.fault.PoolFault.TheVariants.{OutOfMemory, JournalFull, Torn};
 ghost use Rattle.journal.specs.Deeds.{seen_deed};
 ghost use Rattle.exchange.specs.Keeps.{IsDeedWithinMail};
 ghost use Rattle.exchange.specs.Effects.{Collects, mark_at};
@@ -26,6 +26,7 @@ use std::snapshot::Snapshot;
 /// where there are any. Both marks note the GVT of the exchange. The answer is how many letters were taken.
 ///
 /// Any refusal leaves both as they were. `JournalFull`: exactly where the steps would pass the limit, which is looked at before any growth.
+/// `Torn`: the journal is kept, and another one has written the entry's place in the table, which is seen behind all growths.
 pub fn collect<R: Actor, J: ActorRun<R>>(
     held: &mut Held<R, J>,
     exchange: &mut Exchange<R, J>,
@@ -38,7 +39,7 @@ pub fn collect<R: Actor, J: ActorRun<R>>(
         + min most (length ((reach (simulation_of (rules_of R.plain) J.setting) exchange.old.entries).mail held.old.number)) }
     ensures limited { exchange.old.limit < length (steps exchange.old.entries)
         + min most (length ((reach (simulation_of (rules_of R.plain) J.setting) exchange.old.entries).mail held.old.number)) → result ≡ Err JournalFull }
-    ensures faults { IfErr result (λ fault. (fault ≡ OutOfMemory) ⊎ (fault ≡ JournalFull)) }
+    ensures faults { IfErr result (λ fault. (fault ≡ OutOfMemory) ⊎ ((fault ≡ JournalFull) ⊎ ((fault ≡ Torn) × (J.keeps ≡ true)))) }
 {
     actor_laws::<R>();
     let count = exchange.mail.count(held.number).min(most as usize);
@@ -53,8 +54,8 @@ pub fn collect<R: Actor, J: ActorRun<R>>(
     if held.process.reserve_letters(count).is_err() {
         return Err(PoolFault::OutOfMemory);
     }
-    if exchange.journal.reserve().is_err() {
-        return Err(PoolFault::OutOfMemory);
+    if let Err(fault) = exchange.journal.reserve() {
+        return Err(fault);
     }
     let prior = mem::replace(&mut held.standing.last, Prior::Opening);
     let entry = entry_of(prior, held.number, &exchange.mail, count as u32);

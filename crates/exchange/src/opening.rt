@@ -1,5 +1,5 @@
 //! An exchange and its processes at the start.
-ghost use Rattle.std.specs.Prelude.{◌≡◌, ℕ, ◌<◌, ◌≤◌, ◌^◌, [], map, replicate, length, slice_get, slice_index, Some, IfOk, IfErr};
+ghost use Rattle.std.specs.Prelude.{◌≡◌, ℕ, ◌<◌, ◌≤◌, ◌^◌, [], map, replicate, length, slice_get, slice_index, Some, is_some, IfOk, IfErr};
 ghost use Rattle.vlink.specs.declared.time.TheConstants.{GREATEST_NS};
 ghost use Rattle.reverse.specs.Rules.{rules_of};
 ghost use Rattle.reverse.specs.Setting.{Opens, IsLaidOut};
@@ -14,7 +14,7 @@ use crate::run_of::ActorRun;
 use antimessages::{Mail, plus_letters};
 use gvt::Floors;
 use halves::RightHalf;
-use journal::{Block, Entries, PoolFault, Prior};
+use journal::{Block, Entries, PoolFault, Prior, Table};
 use process_queues::Process;
 use reverse::{Actor, Outbound, actor_laws};
 use std::alloc::Global;
@@ -23,14 +23,14 @@ use vlink::{Message, Time};
 
 impl<R: Actor + Drop, J: ActorRun<R>> Exchange<R, J> {
     /// An exchange with no entry, and a process in hand for each actor, in order: each actor is in its opening state, the offers are in the
-    /// mail, every floor is the moment after the end, and GVT is 0. The journal can have `limit` steps, and is kept where `keeps` says so. It is refused for
-    /// memory alone.
+    /// mail, every floor is the moment after the end, and GVT is 0. The journal can have `limit` steps; it is kept where there is a table,
+    /// and has its places there. It is refused for memory alone.
     pub fn open(
         alloc: Global,
         actors: Vec<R>,
         offers: &[Message],
         until: Time,
-        keeps: bool,
+        table: Option<Table>,
         pairs: Pairs,
         limit: u64,
     ) -> Result<(Exchange<R, J>, Vec<Held<R, J>>), PoolFault>
@@ -38,7 +38,7 @@ impl<R: Actor + Drop, J: ActorRun<R>> Exchange<R, J> {
         requires until { until ≡ J.setting.until }
         requires end { until < GREATEST_NS }
         requires layout { IsLaidOut (rules_of R.plain) R.number R.end R.is_placed J.setting }
-        requires keeps { keeps ≡ J.keeps }
+        requires keeps { is_some table ≡ J.keeps }
         requires names { pairs ≡ J.names }
         requires each { length J.names ≡ J.setting.processes }
         requires few { J.setting.processes ≤ 4096 }
@@ -60,7 +60,7 @@ impl<R: Actor + Drop, J: ActorRun<R>> Exchange<R, J> {
             mail,
             floors,
             gvt: Time::default(),
-            journal: Entries::new(alloc, keeps),
+            journal: Entries::new(alloc, table),
             steps: 0,
             marks: lefts,
             limit,

@@ -1,9 +1,9 @@
 //! What a process did goes to the journal, and its letters to the mail.
-ghost use Rattle.std.specs.Prelude.{◌≡◌, ◌<◌, ◌+◌, ◌⊎◌, length, OnOk, OnErr, IfErr, Err};
+ghost use Rattle.std.specs.Prelude.{◌≡◌, ◌<◌, ◌+◌, ◌⊎◌, length, OnOk, OnErr, IfErr, Err, true};
 ghost use Rattle.virtual_time.specs.Law.{steps};
 ghost use Rattle.reverse.specs.Rules.{rules_of};
 ghost use Rattle.reverse.specs.Setting.{simulation_of};
-ghost use Rattle.journal.specs.declared.fault.PoolFault.TheVariants.{OutOfMemory, JournalFull};
+ghost use Rattle.journal.specs.declared.fault.PoolFault.TheVariants.{OutOfMemory, JournalFull, Torn};
 ghost use Rattle.exchange.specs.Effects.{Posts};
 
 use crate::exchange::Exchange;
@@ -18,6 +18,7 @@ use std::mem;
 /// an empty block nothing changes.
 ///
 /// Any refusal leaves both as they were. `JournalFull`: exactly where the steps would pass the limit, which is looked at before any growth.
+/// `Torn`: the journal is kept, and another one has written the entry's place in the table, which is seen behind all growths.
 pub fn post<R: Actor, J: ActorRun<R>>(
     held: &mut Held<R, J>,
     exchange: &mut Exchange<R, J>,
@@ -28,7 +29,7 @@ pub fn post<R: Actor, J: ActorRun<R>>(
         (0 < length held.old.block) × (exchange.old.limit < length (steps exchange.old.entries) + length held.old.block + 1) }
     ensures limited { 0 < length held.old.block → exchange.old.limit < length (steps exchange.old.entries) + length held.old.block + 1 →
         result ≡ Err JournalFull }
-    ensures faults { IfErr result (λ fault. (fault ≡ OutOfMemory) ⊎ (fault ≡ JournalFull)) }
+    ensures faults { IfErr result (λ fault. (fault ≡ OutOfMemory) ⊎ ((fault ≡ JournalFull) ⊎ ((fault ≡ Torn) × (J.keeps ≡ true)))) }
 {
     actor_laws::<R>();
     let moves = held.block.len() as u64;
@@ -42,8 +43,8 @@ pub fn post<R: Actor, J: ActorRun<R>>(
     if held.process.reserve_post(&mut exchange.mail).is_err() {
         return Err(PoolFault::OutOfMemory);
     }
-    if exchange.journal.reserve().is_err() {
-        return Err(PoolFault::OutOfMemory);
+    if let Err(fault) = exchange.journal.reserve() {
+        return Err(fault);
     }
     let prior = mem::replace(&mut held.standing.last, Prior::Opening);
     let block = mem::replace(&mut held.block, Block::new());

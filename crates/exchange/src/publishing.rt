@@ -1,9 +1,9 @@
 //! GVT is set.
-ghost use Rattle.std.specs.Prelude.{◌≡◌, ◌<◌, ◌≤◌, ◌⊎◌, ℕ, length, IfOk, IfErr, OnErr, Err};
+ghost use Rattle.std.specs.Prelude.{◌≡◌, ◌<◌, ◌≤◌, ◌⊎◌, ℕ, length, IfOk, IfErr, OnErr, Err, true};
 ghost use Rattle.virtual_time.specs.Law.{steps};
 ghost use Rattle.reverse.specs.Rules.{rules_of};
 ghost use Rattle.reverse.specs.Setting.{simulation_of};
-ghost use Rattle.journal.specs.declared.fault.PoolFault.TheVariants.{OutOfMemory, JournalFull};
+ghost use Rattle.journal.specs.declared.fault.PoolFault.TheVariants.{OutOfMemory, JournalFull, Torn};
 ghost use Rattle.exchange.specs.Effects.{Publishes, IsHeldBack};
 
 use crate::exchange::Exchange;
@@ -17,13 +17,13 @@ use vlink::{Note, Time};
 /// before, there is no entry. The answer is GVT, in ns.
 ///
 /// Any refusal leaves the exchange as it was. `JournalFull`: exactly where the steps would pass the limit, which is looked at before any
-/// growth.
+/// growth. `Torn`: the journal is kept, and another one has written the entry's place in the table, which is seen behind all growths.
 pub fn publish<R: Actor, J: ActorRun<R>>(exchange: &mut Exchange<R, J>) -> Result<Time, PoolFault>
     ensures ok { IfOk result (λ gvt. Publishes (simulation_of (rules_of R.plain) J.setting) exchange.old exchange.new gvt) }
     ensures unchanged { OnErr result (exchange.new ≡ exchange.old) }
     ensures full { result ≡ Err JournalFull → IsHeldBack (simulation_of (rules_of R.plain) J.setting) exchange.old × (exchange.old.limit ≤ length (steps exchange.old.entries)) }
     ensures limited { IsHeldBack (simulation_of (rules_of R.plain) J.setting) exchange.old → exchange.old.limit ≤ length (steps exchange.old.entries) → result ≡ Err JournalFull }
-    ensures faults { IfErr result (λ fault. (fault ≡ OutOfMemory) ⊎ (fault ≡ JournalFull)) }
+    ensures faults { IfErr result (λ fault. (fault ≡ OutOfMemory) ⊎ ((fault ≡ JournalFull) ⊎ ((fault ≡ Torn) × (J.keeps ≡ true)))) }
 {
     actor_laws::<R>();
     gvt_law::<R, R::Record, Note>();
@@ -34,8 +34,8 @@ pub fn publish<R: Actor, J: ActorRun<R>>(exchange: &mut Exchange<R, J>) -> Resul
     if exchange.steps >= exchange.limit {
         return Err(PoolFault::JournalFull);
     }
-    if exchange.journal.reserve().is_err() {
-        return Err(PoolFault::OutOfMemory);
+    if let Err(fault) = exchange.journal.reserve() {
+        return Err(fault);
     }
     let entry = Entry::new(Prior::Opening, Deed::Publish, 0);
     exchange.journal.push_reserved(entry);

@@ -5,9 +5,11 @@ mod block;
 mod entry;
 mod fault;
 mod list;
+mod table;
 mod turn;
 
 pub use block::Block;
 pub use entry::{Deed, Entry, Prior};
 pub use fault::PoolFault;
 pub use list::Entries;
+pub use table::Table;

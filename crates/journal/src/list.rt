@@ -1,19 +1,27 @@
 //! The list of a journal's entries.
-ghost use Rattle.std.specs.Prelude.{◌≡◌, ◌<◌, [], ◌∷◌, ◌++◌, true, Some, length, slice_get, OnOk, IfErr};
-ghost use Rattle.journal.specs.declared.fault.PoolFault.TheVariants.{OutOfMemory};
+ghost use Rattle.std.specs.Prelude.{◌≡◌, ◌<◌, ◌⊎◌, [], ◌∷◌, ◌++◌, true, Some, is_some, length, slice_get, OnOk, IfErr};
+ghost use Rattle.journal.specs.declared.fault.PoolFault.TheVariants.{OutOfMemory, Torn};
 
 use crate::entry::Entry;
 use crate::fault::PoolFault;
+use crate::table::Table;
 use std::alloc::Global;
 use std::marker::Model;
 use std::snapshot::Snapshot;
+
+/// The entries that are kept, and the table whose places they have.
+#[derive(Drop)]
+pub(crate) struct Kept {
+    pub(crate) entries: Vec<Entry>,
+    pub(crate) table: Table,
+}
 
 /// The entries of a journal, in order. Each is there as a snapshot, which has no bytes and is read in proofs alone; and, where they are kept,
 /// once more as it is.
 #[derive(Drop)]
 pub struct Entries {
     told: Vec<Snapshot<Entry>>,
-    kept: Option<Vec<Entry>>,
+    kept: Option<Kept>,
 }
 
 impl Model for Entries {
@@ -30,21 +38,28 @@ impl Model for Entries {
     ghost view = { λ e. record {
       entries = map (λ s. s.value) e.told.items;
       keeps = is_some e.kept;
-      room = room_of (vec_capacity e.told - vec_len e.told) (option_map (λ k. vec_capacity k - vec_len k) e.kept);
+      room = room_of (vec_capacity e.told - vec_len e.told) (option_map (λ k. vec_capacity k.entries - vec_len k.entries) e.kept);
     } };
 
-    ghost invariant = { λ e. IfSome e.kept (λ k. k.items ≡ map (λ s. s.value) e.told.items) };
+    ghost invariant = { λ e. IfSome e.kept (λ k. k.entries.items ≡ map (λ s. s.value) e.told.items) };
 }
 
 impl Entries {
-    /// No entry, and whether those that come are kept.
-    pub fn new(alloc: Global, keeps: bool) -> Self
+    /// No entry. Those that come are kept where there is a table, and have its places.
+    pub fn new(alloc: Global, table: Option<Table>) -> Self
         ensures entries { result.entries ≡ [] }
-        ensures keeps { result.keeps ≡ keeps }
+        ensures keeps { result.keeps ≡ is_some table }
     {
-        Entries {
-            told: Vec::new(alloc),
-            kept: if keeps { Some(Vec::new(alloc)) } else { None },
+        let told = Vec::new(alloc);
+        match table {
+            Some(table) => Entries {
+                told,
+                kept: Some(Kept {
+                    entries: Vec::new(alloc),
+                    table,
+                }),
+            },
+            None => Entries { told, kept: None },
         }
     }
 
@@ -55,16 +70,21 @@ impl Entries {
         self.told.len()
     }
 
-    /// Makes room for one more. Where they are not kept it takes no memory.
+    /// Makes room for one more, and then writes its place in the table. Where they are not kept it takes no memory and nothing is written.
+    /// `Torn`: another journal has written there before, which is looked at behind the growths.
     pub fn reserve(&mut self) -> Result<(), PoolFault>
         ensures room { OnOk result (0 < self.new.room) }
         ensures entries { self.new.entries ≡ self.old.entries }
         ensures keeps { self.new.keeps ≡ self.old.keeps }
-        ensures memory { IfErr result (λ fault. fault ≡ OutOfMemory) }
+        ensures faults { IfErr result (λ fault. (fault ≡ OutOfMemory) ⊎ ((fault ≡ Torn) × (self.old.keeps ≡ true))) }
     {
         self.told.reserve(1)?;
+        let place = self.told.len() as u64;
         if let Some(kept) = &mut self.kept {
-            kept.reserve(1)?;
+            kept.entries.reserve(1)?;
+            if !kept.table.write(place) {
+                return Err(PoolFault::Torn);
+            }
         }
         Ok(())
     }
@@ -77,7 +97,7 @@ impl Entries {
     {
         self.told.push_reserved(Snapshot::of(&entry));
         if let Some(kept) = &mut self.kept {
-            kept.push_reserved(entry);
+            kept.entries.push_reserved(entry);
         }
     }
 
@@ -88,7 +108,7 @@ impl Entries {
         ensures { slice_get self.now.entries at ≡ Some result.now }
     {
         match &self.kept {
-            Some(kept) => &kept[at],
+            Some(kept) => &kept.entries[at],
             None => unreachable!(),
         }
     }

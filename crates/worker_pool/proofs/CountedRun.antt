@@ -1,9 +1,11 @@
--- The tables of a run: those of the rows that were counted before a moment, and of the rows that each process has from there on.
-use Rattle.std.proofs.Common.{◌≡◌, ◌∙◌, ℕ, suc, ◌+◌, ◌<◌, ◌≤◌, ◌==◌, inl, inr, Bool, true, false, ◌&&◌, cond, nat_le, nat_lt, List, [], ◌∷◌, ◌++◌, length, take, refl, sym, ap, subst, arith, append-nil, ne_eqb, Option, Some, IfSome, ◌^◌, All, lt-ltb, eqb-true}
-use mathlib.Core.Logic.{∥∥₁_elim, ∥∥₁_map}
+-- The tables of a run: those of the rows that were counted while it went on, of each process before a moment of its own, and of the rows that each
+-- has from there on.
+use Rattle.std.proofs.Common.{◌≡◌, ◌≢◌, ◌∙◌, ℕ, suc, ◌+◌, ◌<◌, ◌≤◌, ◌==◌, inl, inr, Bool, true, false, ◌&&◌, cond, nat_le, nat_lt, List, [], ◌∷◌, ◌++◌, length, set, take, refl, sym, ap, subst, arith, append-nil, ne_eqb, Option, IfSome, Some, ◌^◌, All, lt-ltb, eqb-true}
+use mathlib.Core.Logic.{∥∥₁_elim, ∥∥₁_map, ∥∥₁_map₂}
 use Rattle.std.proofs.Props.{props}
 use Rattle.std.proofs.Math.Seq.{take-append_seam}
 use Rattle.std.proofs.lemmas.Bool.{cases_eq, cases_lt}
+use Rattle.std.proofs.lemmas.List.{get_or-set_same, get_or-set_other}
 use Rattle.std.proofs.lemmas.List.Elements.{filter-append}
 use Rattle.virtual_time.specs.Law.{rows_at}
 use Rattle.vlink.specs.Letters.{Row}
@@ -14,7 +16,7 @@ use Rattle.trace_tables.specs.Tables.{TableLists, tables_of}
 use Rattle.trace_segments.proofs.SortedLemmas.{filters-swap}
 use Rattle.trace_segments.proofs.TimeLemmas.{none-before}
 use Rattle.seqsim.specs.Networks.{AreRowsOf}
-use Rattle.worker_pool.specs.Counts.{AreCountedBefore}
+use Rattle.worker_pool.specs.Counts.{moment_of, AreCountedBefore}
 use Rattle.worker_pool.specs.Traces.{AreLawfulRows, HasLawfulRows, IsBatchOfRun}
 use Rattle.worker_pool.proofs.SegmentRows.{AreAsInRun, same-rows}
 use Rattle.worker_pool.proofs.TraceText.{before-more}
@@ -27,47 +29,6 @@ pub counts-in : (plan network : Plan) → network ≡ plan → (rows more : List
 counts-in plan network same rows more is old new counts earlier so_far =
     subst (λ (p : Plan). IsSoFar p new (earlier ++ more)) same (subst (λ (xs : List Row). IsSoFar network new (earlier ++ xs)) is
     (counts earlier (subst (λ (p : Plan). IsSoFar p old earlier) (sym same) so_far)))
-
--- ---- while batches come
--- no row is counted at first
-pub none-counted : (plan network : Plan) → network ≡ plan → (tables : SoFarLists) → IsSoFar network tables [] → (end : ℕ) → end ≡ 0 → AreCountedBefore plan end tables
-none-counted plan network same tables so_far end begins =
-    record {
-      counted = [];
-      so_far = subst (λ (p : Plan). IsSoFar p tables []) same so_far;
-      rows_are = λ rows r. sym (none-before end rows (λ i d below. omega arith));
-    }
-
-module _ (plan : Plan) (lawful : HasLawfulRows plan) (splits : Splits) (end : ℕ) where
-  -- the rows of a batch come behind those before its beginning
-  joined : (batch : BatchRows) → IsBatchOfRun plan batch → batch.from ≡ end → (counted : List Row) →
-      ((rows : List Row) → AreRowsOf plan rows → counted ≡ rows_before end rows) → (rows : List Row) → AreRowsOf plan rows →
-      counted ++ batch.rows ≡ rows_before batch.to rows
-  joined batch B at counted rows_are rows r =
-      let le : end ≤ batch.to = (let i = B.ordered in omega arith) in
-      ap (λ (xs : List Row). xs ++ batch.rows) (rows_are rows r)
-      ∙ (ap (λ (xs : List Row). rows_before end rows ++ xs) (B.rows_are rows r ∙ ap (λ (from : ℕ). rows_within from batch.to rows) at)
-      ∙ before-more rows (λ moment. splits moment rows (lawful rows r).ordered) end batch.to le)
-
-  -- so they are counted up to its end
-  batch-counted : (old new : SoFarLists) → AreCountedBefore plan end old → (batch : BatchRows) → ∥ IsBatchOfRun plan batch ∥₁ → batch.from ≡ end →
-      ((earlier : List Row) → IsSoFar plan old earlier → IsSoFar plan new (earlier ++ batch.rows)) → AreCountedBefore plan batch.to new
-  batch-counted old new C batch B at more =
-      record {
-        counted = C.counted ++ batch.rows;
-        so_far = more C.counted C.so_far;
-        rows_are = λ rows r. ∥∥₁_elim B (hlevel props) (λ b. joined batch b at C.counted C.rows_are rows r);
-      }
-
--- as a call that counts them says it of the network
-pub next-counted : (plan network : Plan) → network ≡ plan → HasLawfulRows network → Splits → (end : ℕ) (tables : Option SoFarLists) →
-    IfSome tables (AreCountedBefore plan end) → (old new : SoFarLists) → tables ≡ Some old → (batch : BatchRows) → ∥ IsBatchOfRun plan batch ∥₁ →
-    batch.from ≡ end → (rows : List Row) → rows ≡ batch.rows → ((earlier : List Row) → IsSoFar network old earlier → IsSoFar network new (earlier ++ rows)) →
-    (to : ℕ) → to ≡ batch.to → AreCountedBefore plan to new
-next-counted plan network same lawful splits end tables C old new some batch B at rows is counts to ends =
-    subst (λ (z : ℕ). AreCountedBefore plan z new) (sym ends)
-    (batch-counted plan (subst HasLawfulRows same lawful) splits end old new (subst (λ (o : Option SoFarLists). IfSome o (AreCountedBefore plan end)) some C)
-    batch B at (counts-in plan network same rows batch.rows is old new counts))
 
 -- tables of some rows, where no more is known of them
 pub known-so-far : (plan : Plan) (tables : SoFarLists) (rows : List Row) → ∥ IsSoFar plan tables rows ∥₁ → IsSoFar plan tables rows
@@ -85,7 +46,7 @@ known-so-far plan tables rows some =
         ap (take tables.counted) s.split
         ∙ (ap (λ (n : ℕ). take n (s.first ++ tables.rest)) s.many ∙ take-append_seam s.first tables.rest)
 
--- ---- once the run is ended
+-- ---- rows at one process
 -- the rows of a process are those of it again, and of no other process
 again : (p : ℕ) (rows : List Row) → rows_at p (rows_at p rows) ≡ rows_at p rows
 again p [] = refl
@@ -120,86 +81,166 @@ late until moment (row ∷ rows) early =
         ap (λ (z : Bool). cond z (row ∷ rows_within moment (until + 1) rows) (rows_within moment (until + 1) rows)) e ∙ ap (λ (xs : List Row). row ∷ xs) later
     go false c e later = later
 
--- at the first n processes the rows are those of the run, and at each other process those before a moment
-pub record AreCountedBelow (moment n : ℕ) (run rows : List Row) : Type 0 where
+-- ---- while the run goes on
+-- no row is counted at first
+pub none-counted : (plan : Plan) (moment : ℕ → ℕ) → ((p : ℕ) → moment p ≡ 0) → AreCountedBefore plan moment []
+none-counted plan moment first =
+    record {
+      rows_are = λ rows r p.
+          sym (ap (rows_at p) (ap (λ (m : ℕ). rows_before m rows) (first p) ∙ none-before 0 rows (λ i d below. omega arith)));
+    }
+
+module _ (plan : Plan) (lawful : HasLawfulRows plan) (splits : Splits) where
+  -- the rows of a process within two moments come behind those before the first
+  behind : (run : List Row) → AreRowsOf plan run → (p from to : ℕ) → from ≤ to →
+      rows_at p (rows_before from run) ++ rows_at p (rows_within from to run) ≡ rows_at p (rows_before to run)
+  behind run r p from to le =
+      sym (filter-append (λ row. row.place == p) (rows_before from run) (rows_within from to run))
+      ∙ ap (rows_at p) (before-more run (λ moment. splits moment run (lawful run r).ordered) from to le)
+
+  -- the rows of a batch more, which begins where all are counted to
+  pub batch-counted : (end : ℕ) (counted : List Row) → AreCountedBefore plan (moment_of [] end) counted → (batch : BatchRows) →
+      IsBatchOfRun plan batch → batch.from ≡ end → AreCountedBefore plan (moment_of [] batch.to) (counted ++ batch.rows)
+  batch-counted end counted C batch B at =
+      record {
+        rows_are = λ run r p.
+            let le : end ≤ batch.to = (let i = B.ordered in omega arith) in
+            filter-append (λ row. row.place == p) counted batch.rows
+            ∙ (ap (λ (xs : List Row). xs ++ rows_at p batch.rows) (C.rows_are run r p)
+            ∙ (ap (λ (xs : List Row). rows_at p (rows_before end run) ++ rows_at p xs) (B.rows_are run r ∙ ap (λ (from : ℕ). rows_within from batch.to run) at)
+            ∙ behind run r p end batch.to le));
+      }
+
+  -- the rows of a process more, from its moment on
+  module _ (own : List ℕ) (end n to : ℕ) (listed : n < length own) (le : moment_of own end n ≤ to) (counted more : List Row)
+      (C : AreCountedBefore plan (moment_of own end) counted) (here : AreAsInRun plan n (moment_of own end n) to more) where
+    module _ (run : List Row) (r : AreRowsOf plan run) where
+      abbrev begin : ℕ
+      begin = moment_of own end n
+
+      both : (p : ℕ) → rows_at p (counted ++ more) ≡ rows_at p (rows_before (moment_of own end p) run) ++ rows_at p more
+      both p = filter-append (λ row. row.place == p) counted more ∙ ap (λ (xs : List Row). xs ++ rows_at p more) (C.rows_are run r p)
+
+      more-is : more ≡ rows_at n (rows_within begin to run)
+      more-is =
+          same-rows plan n begin to more run here r
+          ∙ filters-swap (λ row. nat_le begin row.message.time && nat_lt row.message.time to) (λ row. row.place == n) run
+
+      mine : rows_at n (counted ++ more) ≡ rows_at n (rows_before (moment_of (set own n to) end n) run)
+      mine =
+          both n ∙ (ap (λ (xs : List Row). rows_at n (rows_before begin run) ++ xs) (ap (rows_at n) more-is ∙ again n (rows_within begin to run))
+          ∙ (behind run r n begin to le ∙ ap (λ (m : ℕ). rows_at n (rows_before m run)) (sym (get_or-set_same own n to end listed))))
+
+      as-before : (p : ℕ) → p ≢ n → rows_at p (counted ++ more) ≡ rows_at p (rows_before (moment_of (set own n to) end p) run)
+      as-before p d =
+          both p ∙ (ap (λ (xs : List Row). rows_at p (rows_before (moment_of own end p) run) ++ xs)
+          (ap (rows_at p) more-is ∙ other p n (λ e. d (sym e)) (rows_within begin to run))
+          ∙ (append-nil (rows_at p (rows_before (moment_of own end p) run))
+          ∙ ap (λ (m : ℕ). rows_at p (rows_before m run)) (sym (get_or-set_other own n p to end d))))
+
+      at-each : (p : ℕ) → rows_at p (counted ++ more) ≡ rows_at p (rows_before (moment_of (set own n to) end p) run)
+      at-each p = elim (cases_eq p n) [
+        | inl e ↦ subst (λ q. rows_at q (counted ++ more) ≡ rows_at q (rows_before (moment_of (set own n to) end q) run)) (sym e) mine
+        | inr d ↦ as-before p d
+      ]
+
+    pub process-counted : AreCountedBefore plan (moment_of (set own n to) end) (counted ++ more)
+    process-counted = record { rows_are = at-each }
+
+-- as a call that counts the rows of a batch says it
+pub batch-known : (plan network : Plan) → network ≡ plan → HasLawfulRows network → Splits → (own : List ℕ) → own ≡ [] → (end : ℕ) (tables : Option (List Row)) →
+    ∥ IfSome tables (AreCountedBefore plan (moment_of own end)) ∥₁ → (counted : List Row) → tables ≡ Some counted → (batch : BatchRows) →
+    ∥ IsBatchOfRun plan batch ∥₁ → batch.from ≡ end → (rows new : List Row) → rows ≡ batch.rows → new ≡ counted ++ rows → (to : ℕ) → to ≡ batch.to →
+    ∥ AreCountedBefore plan (moment_of own to) new ∥₁
+batch-known plan network same lawful splits own none end tables C counted some batch B at rows new is longer to ends =
+    ∥∥₁_map₂ (subst (λ (o : Option (List Row)). ∥ IfSome o (AreCountedBefore plan (moment_of own end)) ∥₁) some C) B (λ c b.
+    subst (λ (z : ℕ). AreCountedBefore plan (moment_of own z) new) (sym ends)
+    (subst (AreCountedBefore plan (moment_of own batch.to)) (sym (longer ∙ ap (λ (xs : List Row). counted ++ xs) is))
+    (subst (λ (o : List ℕ). AreCountedBefore plan (moment_of o batch.to) (counted ++ batch.rows)) (sym none)
+    (batch-counted plan (subst HasLawfulRows same lawful) splits end counted (subst (λ (o : List ℕ). AreCountedBefore plan (moment_of o end) counted) none c) batch b at))))
+
+-- and one that counts those of a process
+pub rows-known : (plan network : Plan) → network ≡ plan → HasLawfulRows network → Splits → (own : List ℕ) (end n from to : ℕ) → n < length own →
+    from ≡ moment_of own end n → from ≤ to → (tables : Option (List Row)) → ∥ IfSome tables (AreCountedBefore plan (moment_of own end)) ∥₁ →
+    (counted : List Row) → tables ≡ Some counted → (rows new : List Row) → AreAsInRun plan n from to rows → new ≡ counted ++ rows →
+    ∥ AreCountedBefore plan (moment_of (set own n to) end) new ∥₁
+rows-known plan network same lawful splits own end n first to listed at le tables C counted some rows new here longer =
+    ∥∥₁_map (subst (λ (o : Option (List Row)). ∥ IfSome o (AreCountedBefore plan (moment_of own end)) ∥₁) some C)
+    (λ c. subst (AreCountedBefore plan (moment_of (set own n to) end)) (sym longer)
+    (process-counted plan (subst HasLawfulRows same lawful) splits own end n to listed (subst (λ (z : ℕ). z ≤ to) at le) counted rows c
+    (subst (λ (z : ℕ). AreAsInRun plan n z to rows) at here)))
+
+-- ---- once the run is ended
+-- at the first n processes the rows are those of the run, and at each other process those before its moment
+pub record AreCountedBelow (moment : ℕ → ℕ) (n : ℕ) (run rows : List Row) : Type 0 where
   pub below : (p : ℕ) → p < n → rows_at p rows ≡ rows_at p run
-  pub above : (p : ℕ) → n ≤ p → rows_at p rows ≡ rows_at p (rows_before moment run)
+  pub above : (p : ℕ) → n ≤ p → rows_at p rows ≡ rows_at p (rows_before (moment p) run)
 
--- at no process more than those
-pub none-below : (moment : ℕ) (run rows : List Row) → rows ≡ rows_before moment run → AreCountedBelow moment 0 run rows
-none-below moment run rows is = record { below = λ p i. absurd (omega arith); above = λ p i. ap (rows_at p) is }
+module _ (plan : Plan) (moment : ℕ → ℕ) (run : List Row) (lawful : AreLawfulRows plan run) where
+  module _ (n : ℕ) (split : run ≡ rows_before (moment n) run ++ rows_from (moment n) run) (rows more : List Row)
+      (is : more ≡ rows_within (moment n) (plan.until + 1) (rows_at n run)) where
+    here-is : more ≡ rows_at n (rows_from (moment n) run)
+    here-is =
+        is ∙ (filters-swap (λ row. nat_le (moment n) row.message.time && nat_lt row.message.time (plan.until + 1)) (λ row. row.place == n) run
+        ∙ ap (rows_at n) (late plan.until (moment n) run lawful.in_time))
 
-module _ (plan : Plan) (moment : ℕ) (run : List Row) (lawful : AreLawfulRows plan run) where
-  module _ (split : run ≡ rows_before moment run ++ rows_from moment run) (n : ℕ) (rows more : List Row)
-      (is : more ≡ rows_within moment (plan.until + 1) (rows_at n run)) where
-    here : more ≡ rows_at n (rows_from moment run)
-    here =
-        is ∙ (filters-swap (λ row. nat_le moment row.message.time && nat_lt row.message.time (plan.until + 1)) (λ row. row.place == n) run
-        ∙ ap (rows_at n) (late plan.until moment run lawful.in_time))
+    both-of : (p : ℕ) → rows_at p (rows ++ more) ≡ rows_at p rows ++ rows_at p more
+    both-of p = filter-append (λ row. row.place == p) rows more
 
-    both : (p : ℕ) → rows_at p (rows ++ more) ≡ rows_at p rows ++ rows_at p more
-    both p = filter-append (λ row. row.place == p) rows more
+    mine-is : AreCountedBelow moment n run rows → rows_at n (rows ++ more) ≡ rows_at n run
+    mine-is h =
+        both-of n ∙ (ap (λ (xs : List Row). xs ++ rows_at n more) (h.above n (omega arith))
+        ∙ (ap (λ (xs : List Row). rows_at n (rows_before (moment n) run) ++ xs) (ap (rows_at n) here-is ∙ again n (rows_from (moment n) run))
+        ∙ (sym (filter-append (λ row. row.place == n) (rows_before (moment n) run) (rows_from (moment n) run)) ∙ ap (rows_at n) (sym split))))
 
-    mine : AreCountedBelow moment n run rows → rows_at n (rows ++ more) ≡ rows_at n run
-    mine h =
-        both n ∙ (ap (λ (xs : List Row). xs ++ rows_at n more) (h.above n (omega arith))
-        ∙ (ap (λ (xs : List Row). rows_at n (rows_before moment run) ++ xs) (ap (rows_at n) here ∙ again n (rows_from moment run))
-        ∙ (sym (filter-append (λ row. row.place == n) (rows_before moment run) (rows_from moment run)) ∙ ap (rows_at n) (sym split))))
-
-    as-before : (p : ℕ) → (n ≡ p → ⊥) → rows_at p (rows ++ more) ≡ rows_at p rows
-    as-before p d =
-        both p ∙ (ap (λ (xs : List Row). rows_at p rows ++ xs) (ap (rows_at p) here ∙ other p n d (rows_from moment run)) ∙ append-nil (rows_at p rows))
+    others-are : (p : ℕ) → (n ≡ p → ⊥) → rows_at p (rows ++ more) ≡ rows_at p rows
+    others-are p d =
+        both-of p ∙ (ap (λ (xs : List Row). rows_at p rows ++ xs) (ap (rows_at p) here-is ∙ other p n d (rows_from (moment n) run)) ∙ append-nil (rows_at p rows))
 
     -- at one process more
     pub one-below : AreCountedBelow moment n run rows → AreCountedBelow moment (n + 1) run (rows ++ more)
     one-below h =
         record {
           below = λ p i. elim (cases_eq n p) [
-            | inl d ↦ subst (λ q. rows_at q (rows ++ more) ≡ rows_at q run) d (mine h)
-            | inr d ↦ as-before p d ∙ h.below p (omega arith)
+            | inl d ↦ subst (λ q. rows_at q (rows ++ more) ≡ rows_at q run) d (mine-is h)
+            | inr d ↦ others-are p d ∙ h.below p (omega arith)
           ];
-          above = λ p i. as-before p (λ d. absurd (omega arith)) ∙ h.above p (omega arith);
+          above = λ p i. others-are p (λ d. absurd (omega arith)) ∙ h.above p (omega arith);
         }
 
   -- and so at all
   pub all-below : (n : ℕ) → process_count plan ≤ n → (rows : List Row) → AreCountedBelow moment n run rows → (p : ℕ) → rows_at p rows ≡ rows_at p run
   all-below n all rows h p = elim (cases_lt p n) [
     | inl i ↦ h.below p i
-    | inr i ↦ h.above p i ∙ (filters-swap (λ row. row.place == p) (λ row. nat_lt row.message.time moment) run
-        ∙ (ap (rows_before moment) (lawful.none_outside p (omega arith)) ∙ sym (lawful.none_outside p (omega arith))))
+    | inr i ↦ h.above p i ∙ (filters-swap (λ row. row.place == p) (λ row. nat_lt row.message.time (moment p)) run
+        ∙ (ap (rows_before (moment p)) (lawful.none_outside p (omega arith)) ∙ sym (lawful.none_outside p (omega arith))))
   ]
 
--- so many processes are counted: the tables are those of rows that are, at these, those of the run
-pub record AreCountedOf (plan : Plan) (moment n : ℕ) (tables : SoFarLists) : Type 0 where
-  pub rows : List Row
-  pub so_far : IsSoFar plan tables rows
+-- so many processes are counted whole: the rows are, at these, those of the run
+pub record AreCountedOf (plan : Plan) (moment : ℕ → ℕ) (n : ℕ) (rows : List Row) : Type 0 where
   pub each : (run : List Row) → AreRowsOf plan run → AreCountedBelow moment n run rows
 
-module _ (plan : Plan) (moment : ℕ) where
-  -- none, where the rows before the moment are counted
-  pub none-of-processes : (tables : SoFarLists) → ∥ AreCountedBefore plan moment tables ∥₁ → (run : List Row) → AreRowsOf plan run → AreCountedOf plan moment 0 tables
-  none-of-processes tables C run r =
+module _ (plan : Plan) (moment : ℕ → ℕ) where
+  -- none, where the rows before the moments are counted
+  pub none-of-processes : (rows : List Row) → ∥ AreCountedBefore plan moment rows ∥₁ → AreCountedOf plan moment 0 rows
+  none-of-processes rows C =
       record {
-        rows = rows_before moment run;
-        so_far = known-so-far plan tables (rows_before moment run) (∥∥₁_map C (λ c. subst (IsSoFar plan tables) (c.rows_are run r) c.so_far));
-        each = λ same s. none-below moment same (rows_before moment run) (∥∥₁_elim C (hlevel props) (λ c. sym (c.rows_are run r) ∙ c.rows_are same s));
+        each = λ run r. record {
+          below = λ p i. absurd (omega arith);
+          above = λ p i. ∥∥₁_elim C (hlevel props) (λ c. c.rows_are run r p);
+        };
       }
 
   -- one more
-  pub one-of-processes : HasLawfulRows plan → Splits → (n : ℕ) (old new : SoFarLists) → AreCountedOf plan moment n old → (more : List Row) →
-      AreAsInRun plan n moment (plan.until + 1) more → ((earlier : List Row) → IsSoFar plan old earlier → IsSoFar plan new (earlier ++ more)) →
-      AreCountedOf plan moment (n + 1) new
-  one-of-processes lawful splits n old new C more here counts =
+  pub one-of-processes : HasLawfulRows plan → Splits → (n : ℕ) (rows : List Row) → AreCountedOf plan moment n rows → (more : List Row) →
+      AreAsInRun plan n (moment n) (plan.until + 1) more → AreCountedOf plan moment (n + 1) (rows ++ more)
+  one-of-processes lawful splits n rows C more here =
       record {
-        rows = C.rows ++ more;
-        so_far = counts C.rows C.so_far;
-        each = λ run r. one-below plan moment run (lawful run r) (splits moment run (lawful run r).ordered) n C.rows more
-            (same-rows plan n moment (plan.until + 1) more run here r) (C.each run r);
+        each = λ run r. one-below plan moment run (lawful run r) n (splits (moment n) run (lawful run r).ordered) rows more
+            (same-rows plan n (moment n) (plan.until + 1) more run here r) (C.each run r);
       }
 
   -- and all: the tables are those of the run
   pub all-of-processes : HasLawfulRows plan → ((xs ys : List Row) → ((p : ℕ) → rows_at p xs ≡ rows_at p ys) → tables_of plan xs ≡ tables_of plan ys) →
-      (n : ℕ) → process_count plan ≤ n → (so_far : SoFarLists) → AreCountedOf plan moment n so_far → (tables : TableLists) →
-      ((rows : List Row) → IsSoFar plan so_far rows → tables ≡ tables_of plan rows) → (run : List Row) → AreRowsOf plan run → tables ≡ tables_of plan run
-  all-of-processes lawful by_place n all so_far C tables are run r =
-      are C.rows C.so_far ∙ by_place C.rows run (all-below plan moment run (lawful run r) n all C.rows (C.each run r))
+      (n : ℕ) → process_count plan ≤ n → (rows : List Row) → AreCountedOf plan moment n rows → (run : List Row) → AreRowsOf plan run → tables_of plan rows ≡ tables_of plan run
+  all-of-processes lawful by_place n all rows C run r = by_place rows run (all-below plan moment run (lawful run r) n all rows (C.each run r))

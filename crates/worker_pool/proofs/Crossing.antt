@@ -31,7 +31,12 @@ use Rattle.halves.proofs.RightHalf.TheSendSync as right
 use Rattle.nodes.proofs.node.Node.TheSendSync as node
 use Rattle.nodes.proofs.node.NodeRecord.TheSendSync as node_record
 use Rattle.worker_pool.specs.declared.network_run.NetworkRun.{Ghosts as NetworkGhosts}
+use Rattle.trace_tables.proofs.so_far.TablesSoFar.TheSendSync as so_far
+use Rattle.worker_pool.specs.contracts.counted.Counted as Counted
+use Rattle.worker_pool.specs.contracts.leaving.Leaving as Leaving
 use Rattle.worker_pool.specs.contracts.locks.Locks as Locks
+use Rattle.worker_pool.specs.contracts.row_tables.RowTables as RowTables
+use Rattle.worker_pool.specs.contracts.row_tables.RowTables.TheInside as RowTablesIn
 use Rattle.worker_pool.specs.contracts.shared.Shared as Shared
 use Rattle.worker_pool.specs.contracts.shared.Shared.TheInside as SharedIn
 use Rattle.worker_pool.proofs.desk.TraceLock.TheSendSync as trace
@@ -67,8 +72,20 @@ exchange-send R J K g h k = view_send _ _ _ _ _ (declared_send (ExchangeIn.the_t
 pub shared-send : (J : RattleType) (g : NetworkGhosts J.Denot) → IsSend (Shared.the_row J g)
 shared-send J g = view_send _ _ _ _ _ (declared_send (SharedIn.the_type J g) (search (exchange-send, crosses) depth 10, tt))
 
+tables-send : (J : RattleType) (g : NetworkGhosts J.Denot) → IsSend (RowTables.the_row J g)
+tables-send J g = view_send _ _ _ _ _ (declared_send (RowTablesIn.the_type J g) (search (so_far.the_send, sendable, crosses) depth 20))
+
+pub counted-send : (J : RattleType) (g : NetworkGhosts J.Denot) → IsSend (Counted.the_row J g)
+counted-send J g = declared_send (Counted.the_type J g) (search (tables-send, option.the_send, time.the_send, sendable, crosses) depth 20)
+
+leaving-sync : (J : RattleType) (g : NetworkGhosts J.Denot) → IsSync (Leaving.the_row J g)
+leaving-sync J g = declared_sync (Leaving.the_type J g) (
+  search (counted-send, option.the_sync, sendable, crosses) depth 20,
+  (search (trace.the_sync, option.the_sync, sendable, crosses) depth 20, tt),
+)
+
 pub locks-sync : (J : RattleType) (g : NetworkGhosts J.Denot) → IsSync (Locks.the_row J g)
 locks-sync J g = declared_sync (Locks.the_type J g) (
   search (held-send, node.the_send, node_record.the_send, sendable, crosses) depth 10,
-  (time.the_sync, (search (trace.the_sync, option.the_sync, sendable, crosses) depth 10, tt)),
+  (time.the_sync, (leaving-sync J g, tt)),
 )

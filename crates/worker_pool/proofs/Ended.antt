@@ -11,6 +11,7 @@ use Rattle.exchange.specs.Views.{HeldState}
 use Rattle.seqsim.specs.Committed.{after, AreCommittedRows}
 use Rattle.seqsim.specs.Networks.{AreRowsOf}
 use Rattle.seqsim.proofs.CommittedRows.{AreRowsBelow, rows-more, rows-all, rows-whole}
+use Rattle.worker_pool.specs.Counts.{moment_of}
 use Rattle.worker_pool.specs.Runs.{IsOfWorld, IsEnded}
 use Rattle.worker_pool.proofs.SegmentRows.{AreAsInRun, is_inside}
 use Rattle.worker_pool.proofs.Places.{some-at}
@@ -19,9 +20,9 @@ use Rattle.worker_pool.proofs.Places.{some-at}
 abbrev pub HasCommitted : ℕ → HeldState NodeState → Type 0
 HasCommitted p held = held.part.done ≡ []
 
--- the rows that have left the process at a place are of moments before this one
-abbrev pub HasGoneBy : ℕ → ℕ → HeldState NodeState → Type 0
-HasGoneBy moment p held = held.gone ≤ moment
+-- the rows that have left the process at a place are of moments before that of the place
+abbrev pub HasGoneBy : List ℕ → ℕ → ℕ → HeldState NodeState → Type 0
+HasGoneBy own end p held = held.gone ≤ moment_of own end p
 
 -- at the first n processes the rows are those that are committed in the world that the journal reaches, and at no other process is a row
 abbrev pub AreCommittedBelow : Plan → List (Entry Message) → ℕ → List Row → Type 0

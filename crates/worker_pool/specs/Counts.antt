@@ -1,13 +1,15 @@
--- The tables of a run, as far as its trace is sent. Times are in ns.
-use Rattle.std.specs.Prelude.{◌≡◌, ℕ, List}
+-- The tables of a run, as far as its rows are counted while it goes on. Times are in ns.
+use Rattle.std.specs.Prelude.{◌≡◌, ℕ, List, get_or}
 use Rattle.vlink.specs.Letters.{Row}
+use Rattle.virtual_time.specs.Law.{rows_at}
 use Rattle.netdesc.specs.Words.{Plan}
 use Rattle.trace_segments.specs.Words.{rows_before}
-use Rattle.trace_tables.specs.SoFar.{SoFarLists, IsSoFar}
 use Rattle.seqsim.specs.Networks.{AreRowsOf}
 
--- the tables are those of the rows that the one-thread run of the network has before a moment
-pub record AreCountedBefore (plan : Plan) (end : ℕ) (tables : SoFarLists) : Type 0 where
-  pub counted : List Row
-  pub so_far : IsSoFar plan tables counted
-  pub rows_are : (rows : List Row) → AreRowsOf plan rows → counted ≡ rows_before end rows
+-- of each process a moment: its own, where one is listed, and else the end of what is counted of all
+abbrev pub moment_of : List ℕ → ℕ → ℕ → ℕ
+moment_of own end p = get_or own p end
+
+-- at each process the rows are those that the one-thread run of the network has of it before its moment
+pub record AreCountedBefore (plan : Plan) (moment : ℕ → ℕ) (counted : List Row) : Type 0 where
+  pub rows_are : (rows : List Row) → AreRowsOf plan rows → (p : ℕ) → rows_at p counted ≡ rows_at p (rows_before (moment p) rows)

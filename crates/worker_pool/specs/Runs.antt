@@ -7,6 +7,7 @@ use Rattle.netdesc.specs.Words.{Plan, process_count}
 use Rattle.nodes.specs.Words.{NodeState, simulation_of}
 use Rattle.exchange.specs.Views.{HeldState}
 use Rattle.seqsim.specs.Committed.{after}
+use Rattle.worker_pool.specs.Counts.{moment_of}
 
 -- a network of nothing
 abbrev pub empty_plan : Plan
@@ -27,9 +28,9 @@ pub record IsEnded (plan : Plan) (entries : List (Entry Message)) (helds : List 
   pub count : length helds ≡ process_count plan
   pub each : (p : ℕ) (held : HeldState NodeState) → slice_get helds p ≡ Some held → IsOfWorld plan entries p held
 
--- the rows that have left the processes are of moments before this one
-abbrev pub HaveGoneBy : ℕ → List (HeldState NodeState) → Type 0
-HaveGoneBy moment helds = (p : ℕ) (held : HeldState NodeState) → slice_get helds p ≡ Some held → held.gone ≤ moment
+-- the rows that have left a process are of moments before its own
+abbrev pub HaveGoneBy : List ℕ → ℕ → List (HeldState NodeState) → Type 0
+HaveGoneBy own end helds = (p : ℕ) (held : HeldState NodeState) → slice_get helds p ≡ Some held → held.gone ≤ moment_of own end p
 
 -- after these steps the world of the network is finished
 abbrev pub IsJournalOf : Plan → List Step → Type 0

@@ -1,60 +1,122 @@
-//! The tables of a run, as far as its trace is sent to the writer's thread.
-ghost use Rattle.std.specs.Prelude.{◌≡◌, IfOk, IfSome};
-ghost use Rattle.worker_pool.specs.Counts.{AreCountedBefore};
+//! The tables of a run, as far as its rows are counted while it goes on.
+ghost use Rattle.std.specs.Prelude.{◌≡◌, ℕ, replicate, IfOk, IfSome};
+ghost use Rattle.worker_pool.specs.Counts.{moment_of, AreCountedBefore};
 
 use crate::lawful_rows::lawful_rows;
+use crate::locks::Locked;
 use crate::network_run::NetworkRun;
+use crate::row_tables::RowTables;
 use crate::run_batch::RunBatch;
 use netdesc::Network;
 use std::alloc::{AllocError, Global};
 use std::marker::PhantomData;
-use trace_tables::{TablesSoFar, batches_in_order};
+use trace_tables::batches_in_order;
 use vlink::Time;
 
-/// The tables of the rows of a run before the moment `end`, or none where a growth was refused. By its type they are those of the rows that
-/// the one-thread run of the network has there.
+/// The tables of rows of a run that are for good, or none where a growth was refused: of each process those before a moment of its own, where one
+/// is listed, and else before the moment `end`. By its type they are those of the rows that the one-thread run of the network has there.
 #[derive(Drop)]
 pub(crate) struct Counted<J: NetworkRun> {
-    pub tables: Option<TablesSoFar>,
+    pub tables: Option<RowTables<J>>,
+    pub own: Vec<Time>,
     pub end: Time,
     of: PhantomData<J>,
-    pub ghost of_run: { ∥ IfSome tables (AreCountedBefore J.plan end) ∥₁ },
+    pub ghost of_run: { ∥ IfSome tables (AreCountedBefore J.plan (moment_of own.items end)) ∥₁ },
+}
+
+/// The moment before which the rows of a process are counted.
+pub(crate) fn moment_of(own: &[Time], end: Time, process: usize) -> Time
+    ensures { result ≡ moment_of own.now end process }
+{
+    match own.get(process) {
+        Some(moment) => *moment,
+        None => end,
+    }
+}
+
+/// For each of so many processes the moment 0.
+fn first_moments(alloc: Global, processes: usize) -> Result<Vec<Time>, AllocError>
+    ensures { IfOk result (λ own. own.items ≡ replicate processes 0) }
+{
+    vec![in alloc; Time::default(); processes]
 }
 
 impl<J: NetworkRun> Counted<J> {
-    /// No row is counted yet. It is refused for memory alone.
+    /// No row is counted yet, and no process has a moment of its own. It is refused for memory alone.
     pub(crate) fn none(alloc: Global, network: &Network) -> Result<Self, AllocError>
         requires { network.now ≡ J.plan }
-        ensures counted { IfOk result (λ counted. IfSome counted.tables (AreCountedBefore J.plan counted.end)) }
-        ensures none { IfOk result (λ counted. counted.end ≡ 0) }
+    {
+        Counted::opened(alloc, network, Vec::new(alloc))
+    }
+
+    /// No row is counted yet, and each process has a moment of its own. It is refused for memory alone.
+    pub(crate) fn each(alloc: Global, network: &Network) -> Result<Self, AllocError>
+        requires { network.now ≡ J.plan }
+    {
+        let own = first_moments(alloc, network.process_count())?;
+        Counted::opened(alloc, network, own)
+    }
+
+    fn opened(alloc: Global, network: &Network, own: Vec<Time>) -> Result<Self, AllocError>
+        requires network { network.now ≡ J.plan }
+        requires first { (p : ℕ) → moment_of own.items 0 p ≡ 0 }
     {
         Ok(Counted {
-            tables: Some(TablesSoFar::none(alloc, network)?),
+            tables: Some(RowTables::none(alloc, network)?),
+            own,
             end: Time::default(),
             of: PhantomData,
         })
     }
 
-    /// Counts the rows of the next batch of the run. Where a growth is refused, there are no tables from then on. A batch that begins elsewhere
-    /// than the last one ended is not counted, and changes nothing.
+    /// Counts the rows of the next batch of the run, where no process has a moment of its own. Where a growth is refused, there are no tables from
+    /// then on. A batch that begins elsewhere than the last one ended is not counted, and changes nothing.
     pub(crate) fn take(&mut self, network: &Network, batch: &RunBatch<J>)
-        requires network { network.now ≡ J.plan }
-        requires counted { IfSome self.old.tables (AreCountedBefore J.plan self.old.end) }
-        ensures { IfSome self.new.tables (AreCountedBefore J.plan self.new.end) }
+        requires { network.now ≡ J.plan }
     {
         lawful_rows(network);
         batches_in_order();
         let batch = &batch.batch;
-        if batch.from().ns() != self.end.ns() {
+        if !self.own.is_empty() || batch.from().ns() != self.end.ns() {
             return;
         }
-        let Some(mut tables) = self.tables.take() else {
+        let Some(tables) = self.tables.take() else {
             return;
         };
-        let Ok(()) = tables.count(network, batch.rows()) else {
+        let Ok(tables) = tables.with(network, batch.rows()) else {
             return;
         };
         self.tables = Some(tables);
         self.end = batch.to();
+    }
+
+    /// Counts the rows of a process that are for good, as far as it saw, and lets them leave it, where it has a moment of its own. It fails only where
+    /// memory is refused, or was before; then there are no tables from then on.
+    pub(crate) fn take_rows(
+        &mut self,
+        network: &Network,
+        held: &mut Locked<J>,
+    ) -> Result<(), AllocError>
+        requires { network.now ≡ J.plan }
+    {
+        lawful_rows(network);
+        batches_in_order();
+        let process = usize::from(held.number());
+        let to = held.mark().seen;
+        if process >= self.own.len() || !held.is_sealed_before(to) {
+            return Ok(());
+        }
+        let from = moment_of(self.own.as_slice(), self.end, process);
+        if from.ns() < held.gone().ns() || to.ns() < from.ns() {
+            return Ok(());
+        }
+        let Some(tables) = self.tables.take() else {
+            return Err(AllocError);
+        };
+        let tables = tables.with(network, held.rows_between(from, to))?;
+        self.tables = Some(tables);
+        self.own[process] = to;
+        held.let_rows_go(to);
+        Ok(())
     }
 }

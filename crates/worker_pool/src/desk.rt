@@ -211,13 +211,3 @@ impl<J: NetworkRun> TraceLock<J> {
         self.desk.into_inner().fault
     }
 }
-
-/// The first fault of a segment that is not want of memory, where a trace is written. No batch is sent from here on.
-pub(crate) fn closed<J: NetworkRun>(trace: Option<TraceLock<J>>) -> Option<SegmentFault>
-    ensures { IfSome result IsPlaceFault }
-{
-    match trace {
-        Some(trace) => trace.into_fault(),
-        None => None,
-    }
-}

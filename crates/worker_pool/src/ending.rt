@@ -6,7 +6,8 @@ ghost use Rattle.journal.specs.declared.fault.PoolFault.TheVariants.{Spawn};
 ghost use Rattle.exchange.specs.Views.{HeldState};
 ghost use Rattle.worker_pool.specs.Runs.{IsOfWorld, IsEnded, HaveGoneBy};
 
-use crate::desk::TraceLock;
+use crate::counted::moment_of;
+use crate::leaving::Leaving;
 use crate::locks::{Locked, Locks};
 use crate::network_run::{NetworkRun, Of};
 use crate::pace::Pace;
@@ -14,17 +15,18 @@ use crate::rounds::batch::{ExchangeLock, work_to};
 use crate::run_fault::RunFault;
 use crate::shared::Shared;
 use exchange::{Exchange, Gate};
+use netdesc::Network;
 use nodes::Node;
 use std::alloc::{AllocError, Global};
 use std::sync::Wait;
 use vlink::Time;
 
-/// The exchange and all processes of a run, out of their locks, and the lock of its trace, if one is written.
+/// The exchange and all processes of a run, out of their locks, and what becomes of its rows.
 #[derive(Drop)]
 pub(crate) struct Unlocked<J: NetworkRun> {
     pub exchange: Shared<J>,
     pub helds: Vec<Locked<J>>,
-    pub trace: Option<TraceLock<J>>,
+    pub leaving: Leaving<J>,
 }
 
 /// Whether this process is number `place`, and has no step that is not in the journal: then it is the one of the journal.
@@ -48,7 +50,7 @@ impl<J: NetworkRun> Unlocked<J> {
         locks: Locks<J>,
         exchange: ExchangeLock<J>,
     ) -> Result<Self, AllocError> {
-        let Locks { locks, trace, .. } = locks;
+        let Locks { locks, leaving, .. } = locks;
         let mut helds = Vec::with_capacity(alloc, locks.len())?;
         for lock in locks {
             helds.push(lock.into_inner())?;
@@ -56,43 +58,46 @@ impl<J: NetworkRun> Unlocked<J> {
         Ok(Unlocked {
             exchange: exchange.into_inner().into_inner(),
             helds,
-            trace,
+            leaving,
         })
     }
 
     /// Sets GVT and gives each process a turn, once and again until the run is ended, and, where it is asked for, no row has left a process.
-    /// `until` is the end time of the network. In the last turn each process has seen the GVT behind the end, and has no segment of the trace left
+    /// In the last turn each process has seen the GVT behind the end, and has no segment of the trace left
     /// to give.
     pub(crate) fn end<G: Gate, T: Wait>(
         &mut self,
         rt: &T,
-        until: Time,
+        network: &Network,
         keeps_rows: bool,
         pace: &Pace,
         gate: &G,
     ) -> Result<(), RunFault<J>>
-        requires { until ≡ J.plan.until }
+        requires { network.now ≡ J.plan }
         ensures ended { OnOk result (IsEnded J.plan self.new.exchange.entries self.new.helds.items) }
-        ensures kept { OnOk result (IsTrue keeps_rows → HaveGoneBy 0 self.new.helds.items) }
+        ensures kept { OnOk result (IsTrue keeps_rows → HaveGoneBy [] 0 self.new.helds.items) }
         ensures no_spawn { IfErr result (λ fault. fault ≢ Spawn) }
     {
+        let until = network.until();
         for _ in rt.forever() {
             let _gvt = self.exchange.set_gvt()?;
-            self.take_turns(rt, pace, gate)?;
-            if self.is_ended(until) && (!keeps_rows || self.have_gone_by(Time::default())) {
+            self.take_turns(rt, network, pace, gate)?;
+            if self.is_ended(until) && (!keeps_rows || self.have_gone_by(&[], Time::default())) {
                 return Ok(());
             }
         }
         unreachable!()
     }
 
-    /// Each process gets a turn, and gives the segments of the trace that it can give.
+    /// Each process gets a turn, and its rows that are for good leave it where they do.
     fn take_turns<G: Gate, T: Wait>(
         &mut self,
         rt: &T,
+        network: &Network,
         pace: &Pace,
         gate: &G,
     ) -> Result<(), RunFault<J>>
+        requires { network.now ≡ J.plan }
         ensures no_spawn { IfErr result (λ fault. fault ≢ Spawn) }
     {
         for held in self.helds.iter_mut() {
@@ -101,9 +106,7 @@ impl<J: NetworkRun> Unlocked<J> {
                 return Err(self.exchange.fault_of(held, fault));
             }
             self.exchange.give_block(held)?;
-            if let Some(trace) = &self.trace {
-                trace.give_segments(rt, held)?;
-            }
+            self.leaving.take_rows(rt, network, held)?;
         }
         Ok(())
     }
@@ -119,13 +122,14 @@ impl<J: NetworkRun> Unlocked<J> {
         self.all_committed()
     }
 
-    /// Whether all rows that have left the processes are of moments before this one, in ns; none has where it is 0.
-    pub(crate) fn have_gone_by(&self, moment: Time) -> bool
-        ensures { result ≡ true → HaveGoneBy moment self.now.helds.items }
+    /// Whether all rows that have left a process are of moments before its own, in ns, where one is listed, and else before `end`; none has left
+    /// where that is 0.
+    pub(crate) fn have_gone_by(&self, own: &[Time], end: Time) -> bool
+        ensures { result ≡ true → HaveGoneBy own.now end self.now.helds.items }
     {
         for place in 0..self.helds.len() {
             let held = &self.helds[place];
-            if held.gone().ns() > moment.ns() {
+            if held.gone().ns() > moment_of(own, end, place).ns() {
                 return false;
             }
         }

@@ -3,7 +3,7 @@ ghost use Rattle.std.specs.Prelude.{◌≡◌, ◌≤◌, ℕ, length, IfOk, IfE
 ghost use Rattle.netdesc.specs.Words.{process_count, greatest_processes};
 ghost use Rattle.journal.specs.declared.fault.PoolFault.TheVariants.{OutOfMemory};
 
-use crate::desk::TraceLock;
+use crate::leaving::Leaving;
 use crate::network_run::{NetworkRun, Of};
 use exchange::Held;
 use journal::PoolFault;
@@ -16,22 +16,22 @@ use vlink::Time;
 /// What one lock keeps: a process in hand.
 pub(crate) type Locked<J> = Held<Node, Of<J>>;
 
-/// A lock for each process of the run, the end time of the run, and the lock of its trace, if one is written.
+/// A lock for each process of the run, the end time of the run, and what becomes of its rows.
 #[derive(Drop)]
 pub(crate) struct Locks<J: NetworkRun> {
     pub locks: Vec<Mutex<Locked<J>>>,
     pub until: Time,
-    pub trace: Option<TraceLock<J>>,
+    pub leaving: Leaving<J>,
     pub ghost all: { length locks.items ≡ process_count J.plan },
     pub ghost few: { length locks.items ≤ greatest_processes },
 }
 
-/// A lock for each process of the network, in order, beside that of the trace. It is refused for memory alone.
+/// A lock for each process of the network, in order, beside what becomes of its rows. It is refused for memory alone.
 pub(crate) fn locks_of<J: NetworkRun>(
     alloc: Global,
     network: &Network,
     helds: Vec<Locked<J>>,
-    trace: Option<TraceLock<J>>,
+    leaving: Leaving<J>,
 ) -> Result<Locks<J>, PoolFault>
     requires network { network.now ≡ J.plan }
     requires all { length helds.items ≡ process_count network.now }
@@ -42,7 +42,7 @@ pub(crate) fn locks_of<J: NetworkRun>(
     Ok(Locks {
         locks,
         until: network.until(),
-        trace,
+        leaving,
     })
 }
 

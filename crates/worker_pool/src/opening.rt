@@ -1,5 +1,5 @@
 //! The exchange of a network at the start.
-ghost use Rattle.std.specs.Prelude.{◌≡◌, ℕ, ◌<◌, ◌≤◌, ◌^◌, [], replicate, length, slice_get, Some, IfOk, IfErr};
+ghost use Rattle.std.specs.Prelude.{◌≡◌, ℕ, ◌<◌, ◌≤◌, ◌^◌, [], replicate, length, slice_get, Some, is_some, IfOk, IfErr};
 ghost use Rattle.netdesc.specs.Words.{process_count};
 ghost use Rattle.nodes.specs.Words.{opening};
 ghost use Rattle.journal.specs.declared.fault.PoolFault.TheVariants.{OutOfMemory};
@@ -7,7 +7,7 @@ ghost use Rattle.exchange.specs.Views.{blank, opened_held};
 
 use crate::network_run::{NetworkRun, Of};
 use exchange::{Exchange, Held, Pairs};
-use journal::PoolFault;
+use journal::{PoolFault, Table};
 use netdesc::Network;
 use nodes::Node;
 use seqsim::{network_layout, nodes_of};
@@ -15,17 +15,17 @@ use std::alloc::Global;
 use traffic::offers;
 
 /// The exchange of a network, with no entry in its journal, and each of its nodes and lines in hand, in order, in its opening state: the
-/// offers are in the mail, every floor is the moment after the end, and GVT is 0. The journal can have `limit` steps, and is
-/// kept where `keeps` says so. Each process has the other half of its mark. It is refused for memory alone.
+/// offers are in the mail, every floor is the moment after the end, and GVT is 0. The journal can have `limit` steps; it is
+/// kept where there is a table, and has its places there. Each process has the other half of its mark. It is refused for memory alone.
 pub fn open_network<J: NetworkRun>(
     alloc: Global,
     network: &Network,
-    keeps: bool,
+    table: Option<Table>,
     pairs: Pairs,
     limit: u64,
 ) -> Result<(Exchange<Node, Of<J>>, Vec<Held<Node, Of<J>>>), PoolFault>
     requires network { network.now ≡ J.plan }
-    requires keeps { keeps ≡ J.keeps }
+    requires keeps { is_some table ≡ J.keeps }
     requires names { pairs ≡ J.names }
     requires each { length J.names ≡ process_count network.now }
     requires some { 1 ≤ limit }
@@ -40,5 +40,5 @@ pub fn open_network<J: NetworkRun>(
     let _processes = network.process_count();
     let offers = offers(alloc, network)?;
     let nodes = nodes_of(alloc, network)?;
-    Exchange::open(alloc, nodes, &offers, network.until(), keeps, pairs, limit)
+    Exchange::open(alloc, nodes, &offers, network.until(), table, pairs, limit)
 }

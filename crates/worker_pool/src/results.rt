@@ -1,5 +1,5 @@
 //! What an ended run has found.
-ghost use Rattle.std.specs.Prelude.{◌≡◌, true, List, IfOk, IfErr};
+ghost use Rattle.std.specs.Prelude.{◌≡◌, true, List, [], IfOk, IfErr};
 ghost use Rattle.vlink.specs.Letters.{Row};
 ghost use Rattle.virtual_time.specs.Law.{steps};
 ghost use Rattle.journal.specs.declared.fault.PoolFault.TheVariants.{OutOfMemory};
@@ -8,7 +8,7 @@ ghost use Rattle.seqsim.specs.Committed.{AreCommittedRows};
 ghost use Rattle.seqsim.specs.Networks.{AreRowsOf};
 ghost use Rattle.worker_pool.specs.Runs.{IsEnded, IsJournalOf, HaveGoneBy};
 
-use crate::counted::Counted;
+use crate::counted::{Counted, moment_of};
 use crate::ending::Unlocked;
 use crate::lawful_rows::lawful_rows;
 use crate::network_run::NetworkRun;
@@ -36,7 +36,7 @@ impl<J: NetworkRun> Unlocked<J> {
     fn gathered_rows(&self, alloc: Global, network: &Network) -> Result<Vec<Row>, AllocError>
         requires network { network.now ≡ J.plan }
         requires ended { IsEnded J.plan self.now.exchange.entries self.now.helds.items }
-        requires kept { HaveGoneBy 0 self.now.helds.items }
+        requires kept { HaveGoneBy [] 0 self.now.helds.items }
         ensures { IfOk result (λ rows. AreCommittedRows J.plan (steps self.now.exchange.entries) rows.items) }
     {
         network_laws(network);
@@ -52,7 +52,7 @@ impl<J: NetworkRun> Unlocked<J> {
     pub(crate) fn rows(&self, alloc: Global, network: &Network) -> Result<Vec<Row>, AllocError>
         requires network { network.now ≡ J.plan }
         requires ended { IsEnded J.plan self.now.exchange.entries self.now.helds.items }
-        requires kept { HaveGoneBy 0 self.now.helds.items }
+        requires kept { HaveGoneBy [] 0 self.now.helds.items }
         ensures { IfOk result (λ rows. AreRowsOf J.plan rows.items) }
     {
         rows_by_process(network);
@@ -71,7 +71,7 @@ impl<J: NetworkRun> Unlocked<J> {
     ) -> Result<Tables, AllocError>
         requires network { network.now ≡ J.plan }
         requires ended { IsEnded J.plan self.now.exchange.entries self.now.helds.items }
-        requires counted { HaveGoneBy counted.end self.now.helds.items }
+        requires counted { HaveGoneBy counted.own.items counted.end self.now.helds.items }
         ensures whole { IfOk result (λ tables. (rows : List Row) × AreRowsOf J.plan rows × (tables ≡ tables_of J.plan rows)) }
         ensures each { IfOk result (λ tables. (rows : List Row) → AreRowsOf J.plan rows → tables ≡ tables_of J.plan rows) }
     {
@@ -80,15 +80,21 @@ impl<J: NetworkRun> Unlocked<J> {
         batches_in_order();
         headline::<Message, Node, NodeRecord, Note>();
         tables_by_place();
-        let Counted { tables, end, .. } = counted;
+        let Counted {
+            tables,
+            own,
+            end,
+            ..
+        } = counted;
         let Some(mut tables) = tables else {
             return Err(AllocError);
         };
         let behind = Time::known(network.until().ns() + 1);
         for process in 0..self.helds.len() {
             let held = &self.helds[process];
-            tables.count(network, held.rows_between(end, behind))?;
+            let from = moment_of(own.as_slice(), end, process);
+            tables = tables.with(network, held.rows_between(from, behind))?;
         }
-        Ok(tables.tables(network)?)
+        tables.tables(network)
     }
 }

@@ -1,5 +1,5 @@
 //! The run of a network by workers.
-ghost use Rattle.std.specs.Prelude.{◌≡◌, true, length, IsNone, IfOk, IfErr, IfSome};
+ghost use Rattle.std.specs.Prelude.{◌≡◌, true, [], length, is_some, IsTrue, IfOk, IfErr, IfSome};
 ghost use Rattle.netdesc.specs.Words.{process_count};
 ghost use Rattle.journal.specs.declared.fault.PoolFault.TheVariants.{Exhausted, Spawn};
 ghost use Rattle.trace_tables.specs.Tables.{tables_of};
@@ -8,8 +8,9 @@ ghost use Rattle.worker_pool.specs.Outcomes.{CanWantWorkers, UsesUpNumbers};
 ghost use Rattle.worker_pool.specs.Runs.{IsEnded, IsJournalOf, HaveGoneBy};
 ghost use Rattle.worker_pool.specs.Written.{IsPlaceFault};
 
-use crate::desk::{TraceLock, closed};
+use crate::counted::Counted;
 use crate::ending::Unlocked;
+use crate::leaving::Leaving;
 use crate::locks::locks_of;
 use crate::network_run::NetworkRun;
 use crate::opening::open_network;
@@ -19,9 +20,9 @@ use crate::shared::{Shared, most_steps};
 use crate::workers::start_all;
 use actor_run::{Unwatched, Watch};
 use exchange::{Gate, Pairs};
-use journal::PoolFault;
+use journal::{PoolFault, Table};
 use netdesc::Network;
-use std::alloc::Global;
+use std::alloc::{AllocError, Global};
 use std::marker::Brand;
 use std::sync::{Mutex, Wait};
 use std::thread::Threads;
@@ -37,9 +38,9 @@ pub struct Outcome {
     pub journal: Vec<Step>,
 }
 
-/// Runs a network by workers until it is ended, with a journal that is kept where `keeps` says so. The segments of the trace go to its lock, if there is one, and no batch is sent
-/// once the run is ended; without one no row leaves a process. Beside the run is the first fault of a segment that is not want of memory. The watch
-/// is shown GVT while the run goes on.
+/// Runs a network by workers until it is ended, with a journal that is kept where `keeps` says so. Rows that are for good leave the processes, or stay, and where they are to be kept none has left at the end; once the run is ended
+/// no batch is sent to a trace. Beside the run are the first fault of a segment that is not want of memory, and what was counted, where rows are.
+/// The watch is shown GVT while the run goes on.
 pub(crate) fn run_to_end<
     J: NetworkRun + Send + Sync,
     G: Gate + Sync,
@@ -53,30 +54,42 @@ pub(crate) fn run_to_end<
     pairs: Pairs,
     pace: &Pace,
     gate: &G,
-    trace: Option<TraceLock<J>>,
+    leaving: Leaving<J>,
+    keeps_rows: bool,
     watch: &mut W,
-) -> Result<(Unlocked<J>, Option<SegmentFault>), PoolFault>
+) -> Result<(Unlocked<J>, Option<SegmentFault>, Option<Counted<J>>), PoolFault>
     requires network { network.now ≡ J.plan }
     requires keeps { keeps ≡ J.keeps }
     requires names { pairs ≡ J.names }
     requires each_name { length J.names ≡ process_count network.now }
     ensures ended { IfOk result (λ r. IsEnded J.plan r.0.exchange.entries r.0.helds.items) }
-    ensures kept { IfOk result (λ r. IsNone trace → HaveGoneBy 0 r.0.helds.items) }
+    ensures kept { IfOk result (λ r. IsTrue keeps_rows → HaveGoneBy [] 0 r.0.helds.items) }
     ensures fault { IfOk result (λ r. IfSome r.1 IsPlaceFault) }
     ensures exhausted { IfErr result (λ fault. fault ≡ Exhausted → UsesUpNumbers J.plan) }
     ensures spawn { IfErr result (λ fault. fault ≡ Spawn → CanWantWorkers pace.now.workers (process_count network.now)) }
     ensures watched { W.becomes watch.old watch.new }
 {
-    let (exchange, helds) = open_network::<J>(alloc, network, keeps, pairs, most_steps(keeps))?;
-    let keeps_rows = trace.is_none();
-    let locks = locks_of(alloc, network, helds, trace)?;
+    let table = table_of(alloc, keeps)?;
+    let (exchange, helds) = open_network::<J>(alloc, network, table, pairs, most_steps(keeps))?;
+    let locks = locks_of(alloc, network, helds, leaving)?;
     let exchange = Mutex::new(Apart::new(Shared { inner: exchange }));
     let (started, _watch) = start_all(rt, alloc, network, &locks, &exchange, pace, gate, watch);
     started?;
     let mut unlocked = Unlocked::of(alloc, locks, exchange)?;
-    unlocked.end(rt, network.until(), keeps_rows, pace, gate)?;
-    let fault = closed(unlocked.trace.take());
-    Ok((unlocked, fault))
+    unlocked.end(rt, network, keeps_rows, pace, gate)?;
+    let (fault, counted) = unlocked.leaving.closed();
+    Ok((unlocked, fault, counted))
+}
+
+/// A table of its own for a journal that is kept. It is refused for memory alone.
+fn table_of(alloc: Global, keeps: bool) -> Result<Option<Table>, AllocError>
+    ensures { IfOk result (λ table. is_some table ≡ keeps) }
+{
+    if keeps {
+        Ok(Some(Table::new(alloc)?))
+    } else {
+        Ok(None)
+    }
 }
 
 fn run_named<J: NetworkRun + Send + Sync, G: Gate + Sync, T: Threads + Wait + Sync>(
@@ -98,8 +111,17 @@ fn run_named<J: NetworkRun + Send + Sync, G: Gate + Sync, T: Threads + Wait + Sy
     ensures spawn { IfErr result (λ fault. fault ≡ Spawn → CanWantWorkers pace.now.workers (process_count network.now)) }
 {
     let watch = &mut Unwatched;
-    let (ended, _none) = run_to_end::<J, G, T, Unwatched>(
-        rt, alloc, network, true, pairs, pace, gate, None, watch,
+    let (ended, _none, _counted) = run_to_end::<J, G, T, Unwatched>(
+        rt,
+        alloc,
+        network,
+        true,
+        pairs,
+        pace,
+        gate,
+        Leaving::stay(),
+        true,
+        watch,
     )?;
     let rows = ended.rows(alloc, network)?;
     let tables = Tables::of(alloc, network, &rows)?;

@@ -1,15 +1,16 @@
 //! What is asked of a run beside its trace: its tables, and its steps where they are wanted. No row is listed for it.
-ghost use Rattle.std.specs.Prelude.{◌≡◌, List, length, IfOk, IfErr};
+ghost use Rattle.std.specs.Prelude.{◌≡◌, ◌⊎◌, List, length, IfOk, IfErr};
 ghost use Rattle.vlink.specs.Letters.{Row};
 ghost use Rattle.netdesc.specs.Words.{process_count};
-ghost use Rattle.journal.specs.declared.fault.PoolFault.TheVariants.{OutOfMemory, Exhausted, Spawn};
+ghost use Rattle.journal.specs.declared.fault.PoolFault.TheVariants.{OutOfMemory, Exhausted, Spawn, Torn};
 ghost use Rattle.trace_tables.specs.Tables.{tables_of};
 ghost use Rattle.seqsim.specs.Networks.{AreRowsOf};
 ghost use Rattle.worker_pool.specs.Outcomes.{CanWantWorkers, UsesUpNumbers};
-ghost use Rattle.worker_pool.specs.Runs.{IsEnded, IsJournalAsked, HaveGoneBy};
+ghost use Rattle.worker_pool.specs.Runs.{IsEnded, IsJournalAsked};
 
 use crate::counted::Counted;
 use crate::ending::Unlocked;
+use crate::leaving::Leaving;
 use crate::network_run::NetworkRun;
 use crate::pace::Pace;
 use crate::running::run_to_end;
@@ -32,23 +33,28 @@ pub struct Summary {
 }
 
 impl<J: NetworkRun> Unlocked<J> {
-    /// The tables of an ended run, of which so much is counted, and its steps where they are asked for.
+    /// The tables of an ended run, of which so much is counted, and its steps where they are asked for. `Torn`: rows have left that nobody counted.
     pub(crate) fn summary(
         &self,
         alloc: Global,
         network: &Network,
-        counted: Counted<J>,
+        counted: Option<Counted<J>>,
         with_steps: bool,
     ) -> Result<Summary, PoolFault>
         requires network { network.now ≡ J.plan }
         requires ended { IsEnded J.plan self.now.exchange.entries self.now.helds.items }
-        requires counted { HaveGoneBy counted.end self.now.helds.items }
         requires keeps { with_steps ≡ J.keeps }
         ensures tables { IfOk result (λ s. (rows : List Row) × AreRowsOf J.plan rows × (s.tables ≡ tables_of J.plan rows)) }
         ensures each { IfOk result (λ s. (rows : List Row) → AreRowsOf J.plan rows → s.tables ≡ tables_of J.plan rows) }
         ensures journal { IfOk result (λ s. IsJournalAsked J.plan with_steps s.journal.items) }
-        ensures memory { IfErr result (λ fault. fault ≡ OutOfMemory) }
+        ensures faults { IfErr result (λ fault. (fault ≡ OutOfMemory) ⊎ (fault ≡ Torn)) }
     {
+        let Some(counted) = counted else {
+            return Err(PoolFault::Torn);
+        };
+        if !self.have_gone_by(counted.own.as_slice(), counted.end) {
+            return Err(PoolFault::Torn);
+        }
         let tables = self.tables(network, counted)?;
         let journal = self.steps_asked(alloc, with_steps)?;
         Ok(Summary { tables, journal })
@@ -90,10 +96,10 @@ fn summary_named<J: NetworkRun + Send + Sync, G: Gate + Sync, T: Threads + Wait 
     ensures spawn { IfErr result (λ fault. fault ≡ Spawn → CanWantWorkers pace.now.workers (process_count network.now)) }
     ensures watched { W.becomes watch.old watch.new }
 {
-    let (ended, _none) = run_to_end::<J, G, T, W>(
-        rt, alloc, network, with_steps, pairs, pace, gate, None, watch,
+    let leaving = Leaving::counted(Counted::each(alloc, network)?);
+    let (ended, _none, counted) = run_to_end::<J, G, T, W>(
+        rt, alloc, network, with_steps, pairs, pace, gate, leaving, false, watch,
     )?;
-    let counted = Counted::none(alloc, network)?;
     ended.summary(alloc, network, counted, with_steps)
 }
 

@@ -9,7 +9,6 @@ ghost use Rattle.trace_segments.specs.declared.trace_fault.TraceFault.TheVariant
 ghost use Rattle.trace_segments.specs.Words.{IsBeginning, trace_text};
 ghost use Rattle.trace_tables.specs.Tables.{tables_of};
 ghost use Rattle.seqsim.specs.Networks.{AreRowsOf};
-ghost use Rattle.worker_pool.specs.Counts.{AreCountedBefore};
 ghost use Rattle.worker_pool.specs.Outcomes.{UsesUpNumbers};
 ghost use Rattle.worker_pool.specs.Runs.{IsEnded, IsJournalAsked};
 ghost use Rattle.worker_pool.specs.Written.{IsFaultOfTrace, IsPlaceFault, IsWritten};
@@ -17,6 +16,7 @@ ghost use Rattle.worker_pool.specs.Written.{IsFaultOfTrace, IsPlaceFault, IsWrit
 use crate::counted::Counted;
 use crate::desk::TraceLock;
 use crate::ending::Unlocked;
+use crate::leaving::Leaving;
 use crate::network_run::NetworkRun;
 use crate::pace::Pace;
 use crate::running::run_to_end;
@@ -50,7 +50,7 @@ pub struct Traced<S> {
 fn traced_of<'a, J: NetworkRun, K: TraceRun, S: Sink + Drop>(
     alloc: Global,
     network: &Network,
-    ran: Result<(Unlocked<J>, Option<SegmentFault>), PoolFault>,
+    ran: Result<(Unlocked<J>, Option<SegmentFault>, Option<Counted<J>>), PoolFault>,
     writing: Writing<'a, J, K, S>,
     counted: Counted<J>,
     with_steps: bool,
@@ -66,11 +66,8 @@ fn traced_of<'a, J: NetworkRun, K: TraceRun, S: Sink + Drop>(
     ensures written { IfOk result (λ t. IsWritten J.plan K.taken K.failures t.written (S.taken t.sink) (S.failures t.sink)) }
     ensures exhausted { IfErr result (λ fault. fault ≡ Exhausted → UsesUpNumbers J.plan) }
 {
-    let (ended, fault) = ran?;
-    if !ended.have_gone_by(counted.end) {
-        return Err(PoolFault::Torn);
-    }
-    let outcome = ended.summary(alloc, network, counted, with_steps)?;
+    let (ended, fault, _none) = ran?;
+    let outcome = ended.summary(alloc, network, Some(counted), with_steps)?;
     let (written, sink) = writing.finish(fault);
     Ok(Traced {
         outcome,
@@ -129,7 +126,6 @@ fn traced_named<
             requires keeps { with_steps ≡ J.keeps }
             requires names { pairs ≡ J.names }
             requires each_name { length J.names ≡ process_count network.now }
-            requires counted { IfSome counted.tables (AreCountedBefore J.plan counted.end) }
             ensures tables { IfOk result.0 (λ t. (rows : List Row) × AreRowsOf J.plan rows × (t.outcome.tables ≡ tables_of J.plan rows)) }
             ensures each { IfOk result.0 (λ t. (rows : List Row) → AreRowsOf J.plan rows → t.outcome.tables ≡ tables_of J.plan rows) }
             ensures journal { IfOk result.0 (λ t. IsJournalAsked J.plan with_steps t.outcome.journal.items) }
@@ -150,7 +146,8 @@ fn traced_named<
                 pairs,
                 pace,
                 gate,
-                Some(trace),
+                Leaving::traced(trace),
+                false,
                 &mut watch,
             );
             let (writing, counted) = writer.join(rt);

@@ -63,6 +63,7 @@ pub(crate) fn start_all<
         thread::scope_env(),
         rt,
         |scope| -> (Result<(), RunFault<J>>, W)
+            requires { network.now ≡ J.plan }
             ensures watched { W.becomes watch result.1 }
         {
             let mut handles = Vec::new(alloc);
@@ -73,7 +74,7 @@ pub(crate) fn start_all<
                     break;
                 }
                 match scope.spawn(move || work(
-                    rt, alloc, picker, schedule, locks, exchange, pace, gate, stop,
+                    rt, alloc, network, picker, schedule, locks, exchange, pace, gate, stop,
                 )) {
                     Ok(handle) => handles.push_reserved(handle),
                     Err(_) => {
@@ -134,6 +135,7 @@ fn lists_of<T: Threads>(rt: &T, workers: usize) -> usize {
 fn work<'s, J: NetworkRun, G: Gate, T: Wait>(
     rt: &'s T,
     alloc: Global,
+    network: &'s Network,
     picker: Picker<J>,
     schedule: &'s Schedule<J>,
     locks: &'s Locks<J>,
@@ -141,9 +143,12 @@ fn work<'s, J: NetworkRun, G: Gate, T: Wait>(
     pace: &'s Pace,
     gate: &'s G,
     stop: &'s AtomicBool,
-) -> Result<(), RunFault<J>> {
+) -> Result<(), RunFault<J>>
+    requires { network.now ≡ J.plan }
+{
     let mut worker = Worker {
         rt,
+        network,
         picker,
         calls: Vec::new(alloc),
         rounds: 0,

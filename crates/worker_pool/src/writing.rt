@@ -6,7 +6,6 @@ ghost use Rattle.trace_segments.specs.declared.fault.OutFault.TheVariants.{Devic
 ghost use Rattle.trace_segments.specs.declared.trace_fault.TraceFault.{TraceFault};
 ghost use Rattle.trace_segments.specs.declared.trace_fault.TraceFault.TheVariants.{Out};
 ghost use Rattle.trace_segments.specs.Words.{next_text, batch_fault};
-ghost use Rattle.worker_pool.specs.Counts.{AreCountedBefore};
 ghost use Rattle.worker_pool.specs.Traces.{HasLawfulRows, IsTraceOfRun};
 ghost use Rattle.worker_pool.specs.Written.{outcome_of, IsPlaceFault, IsFaultOfTrace, IsWritten};
 
@@ -112,8 +111,7 @@ pub(crate) fn write_batches<'a, J: NetworkRun, K: TraceRun, S: Sink, T: Wait>(
     counted: Counted<J>,
     batches: Receiver<RunBatch<J>>,
 ) -> (Writing<'a, J, K, S>, Counted<J>)
-    requires network { network.now ≡ J.plan }
-    requires counted { IfSome counted.tables (AreCountedBefore J.plan counted.end) }
+    requires { network.now ≡ J.plan }
 {
     let mut writing = writing;
     let mut counted = counted;

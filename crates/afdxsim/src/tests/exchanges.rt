@@ -1,7 +1,6 @@
 //! What the calls on an exchange of a network and on its processes come to. What is expected was worked out by hand.
-ghost use Rattle.std.specs.Prelude.{◌≡◌, length};
+ghost use Rattle.std.specs.Prelude.{◌≡◌, true, length};
 ghost use Rattle.netdesc.specs.Words.{process_count};
-ghost use Rattle.journal.specs.Names.{names};
 
 use super::changes::changed;
 use super::stage::{CountingGate, Stage};
@@ -9,7 +8,7 @@ use netdesc::{Network, read};
 use std::alloc::Global;
 use std::marker::Brand;
 use std::test::Fail;
-use worker_pool::{Entries, NetworkRun, Pairs, open_network};
+use worker_pool::{NetworkRun, Pairs, Table, open_network};
 
 /// Behind the network and its changes each row has how many steps the journal can have, and a script; then what its words tell
 /// (`stage.rt` says how). What begins with `other` is done at a second exchange of the same network, over the same table.
@@ -46,12 +45,12 @@ fn is_told(alloc: Global, row: &str, refused: &mut String) -> Result<bool, Fail>
     let (net, limit) = changed(alloc, begin)?;
     let limit = limit.parse().map_err(|_| "no limit")?;
     let network = read(alloc, net.as_str())?;
-    let table = Entries::new(alloc)?;
+    let table = Table::new(alloc)?;
     let script = String::from_str(alloc, script)?;
     let first = Pairs::new(alloc, network.process_count())?;
     let second = Pairs::new(alloc, network.process_count())?;
     let found = played::<Brand, Brand>(
-        alloc, &network, &table, first, second, limit, &script, refused,
+        alloc, &network, table, first, second, limit, &script, refused,
     )?;
     Ok(found.as_str() == told)
 }
@@ -60,7 +59,7 @@ fn is_told(alloc: Global, row: &str, refused: &mut String) -> Result<bool, Fail>
 fn played<J: NetworkRun, K: NetworkRun>(
     alloc: Global,
     network: &Network,
-    table: &Entries,
+    table: Table,
     first: Pairs,
     second: Pairs,
     limit: u64,
@@ -69,14 +68,14 @@ fn played<J: NetworkRun, K: NetworkRun>(
 ) -> Result<String, Fail>
     requires first { network.now ≡ J.plan }
     requires second { network.now ≡ K.plan }
-    requires first_table { names table.now.pages.items ≡ J.pages }
-    requires second_table { names table.now.pages.items ≡ K.pages }
+    requires first_kept { J.keeps ≡ true }
+    requires second_kept { K.keeps ≡ true }
     requires first_names { first ≡ J.names }
     requires second_names { second ≡ K.names }
     requires each_first { length J.names ≡ process_count network.now }
     requires each_second { length K.names ≡ process_count network.now }
 {
-    let mut first = stage_of::<J>(alloc, network, table, first, limit)?;
+    let mut first = stage_of::<J>(alloc, network, table.shared()?, first, limit)?;
     let mut second = stage_of::<K>(alloc, network, table, second, limit)?;
     let mut told = String::new(alloc);
     for word in script.as_str().split(' ') {
@@ -94,22 +93,22 @@ fn played<J: NetworkRun, K: NetworkRun>(
 }
 
 // An exchange of the network over this table, at its start.
-fn stage_of<'a, J: NetworkRun>(
+fn stage_of<J: NetworkRun>(
     alloc: Global,
     network: &Network,
-    table: &'a Entries,
+    table: Table,
     pairs: Pairs,
     limit: u64,
-) -> Result<Stage<'a, J>, Fail>
+) -> Result<Stage<J>, Fail>
     requires network { network.now ≡ J.plan }
-    requires table { names table.now.pages.items ≡ J.pages }
+    requires kept { J.keeps ≡ true }
     requires names { pairs ≡ J.names }
     requires each { length J.names ≡ process_count network.now }
 {
     if limit == 0 || limit > 1 << 26 {
         return Err("no limit")?;
     }
-    let (exchange, helds) = open_network::<J>(alloc, network, table, pairs, limit)?;
+    let (exchange, helds) = open_network::<J>(alloc, network, Some(table), pairs, limit)?;
     let gate = CountingGate::new();
     Ok(Stage {
         exchange,

@@ -17,7 +17,7 @@ use worker_pool::{
     Exchange, Gate, Held, Mark, NetworkRun, Of, PoolFault, collect, post, publish, work,
 };
 
-/// An exchange of a network, its processes, and their gate.
+/// An exchange of a network, whose journal is kept, its processes, and their gate.
 #[derive(Drop)]
 pub struct Stage<J: NetworkRun> {
     pub exchange: Exchange<Node, Of<J>>,
@@ -25,6 +25,7 @@ pub struct Stage<J: NetworkRun> {
     pub gate: CountingGate,
     /// Which calls were refused memory, a line each.
     pub refused: String,
+    pub ghost kept: { J.keeps ≡ true },
 }
 
 /// Counts what it is told of, as long as the counts of a process come in order.

@@ -1,4 +1,6 @@
 //! A worker: it goes round after round over its list, and gives turns.
+ghost use Rattle.std.specs.Prelude.{◌≡◌};
+
 use super::batch::{Batch, ExchangeLock, add_call, collect_for, list_calls, post_for, work_to};
 use super::hint::Hint;
 use super::picker::Picker;
@@ -12,6 +14,7 @@ use crate::network_run::NetworkRun;
 use crate::pace::Pace;
 use crate::run_fault::RunFault;
 use exchange::Gate;
+use netdesc::Network;
 use std::alloc::AllocError;
 use std::sync::Wait;
 use std::sync::atomic::{AtomicBool, Ordering};
@@ -21,6 +24,7 @@ use std::{hint, thread};
 #[derive(Drop)]
 pub(crate) struct Worker<'s, J: NetworkRun, G: Gate, T: Wait> {
     pub rt: &'s T,
+    pub network: &'s Network,
     pub picker: Picker<J>,
     /// Whom the processes called that worked last.
     pub calls: Vec<Call>,
@@ -35,6 +39,7 @@ pub(crate) struct Worker<'s, J: NetworkRun, G: Gate, T: Wait> {
     pub gate: &'s G,
     /// Is set where a refusal ends all workers.
     pub stop: &'s AtomicBool,
+    pub ghost planned: { network.now ≡ J.plan },
 }
 
 impl<'s, J: NetworkRun, G: Gate, T: Wait> Worker<'s, J, G, T> {
@@ -169,8 +174,8 @@ impl<'s, J: NetworkRun, G: Gate, T: Wait> Worker<'s, J, G, T> {
         }
     }
 
-    /// Turns of the processes that it holds, up to the limit, in ns; what the workers tell one another of them, and the segments of the trace that
-    /// they can give. Then it holds none. Where the flag is set they get no turn.
+    /// Turns of the processes that it holds, up to the limit, in ns; what the workers tell one another of them, and the rows that leave them.
+    /// Then it holds none. Where the flag is set they get no turn.
     fn give_turns(&mut self, batch: &mut Batch<'s, J>, limit_ns: u64) -> Result<(), RunFault<J>> {
         if self.stop.load(Ordering::SeqCst) {
             batch.clear();
@@ -184,7 +189,7 @@ impl<'s, J: NetworkRun, G: Gate, T: Wait> Worker<'s, J, G, T> {
         }
         post_for(self.rt, batch, self.exchange)?;
         self.picker.call_all(self.calls.as_slice(), self.schedule);
-        self.give_segments(batch, limit_ns)?;
+        self.let_rows_leave(batch, limit_ns)?;
         batch.clear();
         self.schedule.turned();
         Ok(())
@@ -198,19 +203,22 @@ impl<'s, J: NetworkRun, G: Gate, T: Wait> Worker<'s, J, G, T> {
         }
     }
 
-    /// The segments of the trace that the processes can give go to its desk.
-    fn give_segments(
+    /// The rows of the processes that are for good leave them, where they do.
+    fn let_rows_leave(
         &mut self,
         batch: &mut Batch<'s, J>,
         limit_ns: u64,
     ) -> Result<(), RunFault<J>> {
-        let Some(trace) = &self.locks.trace else {
+        let leaving = &self.locks.leaving;
+        if leaving.is_stay() {
             return Ok(());
-        };
+        }
         self.calls.clear();
         for locked in batch.iter_mut() {
-            trace.give_segments(self.rt, &mut *locked)?;
-            add_call(&mut self.calls, trace.call(&*locked, limit_ns))?;
+            leaving.take_rows(self.rt, self.network, &mut *locked)?;
+            if let Some(call) = leaving.call(&*locked, limit_ns) {
+                add_call(&mut self.calls, call)?;
+            }
         }
         self.picker.call_all(self.calls.as_slice(), self.schedule);
         Ok(())

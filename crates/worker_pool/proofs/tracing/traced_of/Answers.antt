@@ -6,6 +6,5 @@ pub summary-requires : goal.summary-requires
 summary-requires g c = record {
   network = c.requires.network;
   ended = subst (λ r. IfOk r (λ r. IsEnded g.J.NetworkRun.plan r.0.exchange.entries r.0.helds.items)) c.in_ok-ended.was c.requires.ended;
-  counted = c.have_gone_by.ensures cc;
   keeps = c.requires.keeps;
 }

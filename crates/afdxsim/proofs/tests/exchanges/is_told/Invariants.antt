@@ -1,9 +1,9 @@
-use Rattle.journal.specs.Names.{names}
+use Rattle.std.specs.Prelude.{true}
 use Rattle.afdxsim.proofs.tests.exchanges.is_told.Given as goal
 
--- both exchanges are of the network that was read, over the table that was made
+-- both exchanges are of the network that was read, and their journals are kept
 abbrev pub ghosts-played-J-NetworkRun : goal.ghosts-played-J-NetworkRun
-ghosts-played-J-NetworkRun a = record { plan = a.network.now; pages = names a.table.now.pages.items; names = a.first }
+ghosts-played-J-NetworkRun a = record { plan = a.network.now; keeps = true; names = a.first }
 
 abbrev pub ghosts-played-K-NetworkRun : goal.ghosts-played-K-NetworkRun
-ghosts-played-K-NetworkRun a = record { plan = a.network.now; pages = names a.table.now.pages.items; names = a.second }
+ghosts-played-K-NetworkRun a = record { plan = a.network.now; keeps = true; names = a.second }

@@ -8,9 +8,9 @@ loop-place-preserved g c =
     let items = c.args.self.now.helds.items in
     let held = c.index-held.result.now in
     let at = read-at items c.loop-place.place held (omega arith) c.index-held.ensures in
-    below-more (HasGoneBy c.args.moment) items c.loop-place.place held at (omega arith) c.loop-place.invariant
+    below-more (HasGoneBy c.args.own.now c.args.end) items c.loop-place.place held at (omega arith) c.loop-place.invariant
 
 pub returns : goal.returns
 returns g c = λ yes.
     let items = c.args.self.now.helds.items in
-    below-all (HasGoneBy c.args.moment) items c.loop-place.place (omega arith) c.loop-place.invariant
+    below-all (HasGoneBy c.args.own.now c.args.end) items c.loop-place.place (omega arith) c.loop-place.invariant
