@@ -525,7 +525,7 @@ def write_record(words, net, seeds, merged=None):
     own += ["--until", str(words.until)] if words.until is not None else []
     own += [word for it in words.set or () for word in ("--set", it.text)] + [word for vl in words.aim or () for word in ("--aim", str(vl))]
     own += [name for name, is_given in (("--offsets", words.offsets), ("--histograms", words.histograms)) if is_given]
-    program = cluster.version_of(words.program)
+    program = "afdxsim of these sources, by `rt try` and not proved" if words.by_try else cluster.version_of(words.program)
     found = record.Record(
         afdx.checksum(net.text), program, net.until_ns, seeds[0] if seeds else net.seed, len(seeds), words.offsets, own,
         None if merged is None else afdx.checksum(merged),

@@ -443,7 +443,7 @@ class WithAStandIn(Here):
             self.call(N1, "--seeds", "1"), (2, "", f"campaign.py: {self.output}: cannot be made: File exists\n")
         )
         self.program = none
-        said = f"campaign.py: {none}: is not there. `rt run -- --help` in crates/afdxsim builds the program\n"
+        said = f"campaign.py: {none}: is not there. `afdx build` builds the program\n"
         self.assertEqual(self.call(N1, "--seeds", "1"), (2, "", said))
         for words in (["--seeds", "0"], ["--seeds", "x"], ["--jobs", "0", "--seeds", "1"], []):
             with self.assertRaises(SystemExit) as ended:
