@@ -100,6 +100,8 @@ WRITTEN = (
     r"campaign\.json|(merged|greatest|histograms|outages|sweep|aim)\.(csv|json)|(outages|sweep)\.html"
     r"|((outage|set|aimed)-\d+-)?seed-\d+\.(toml|tables\.csv)"
 )
+# What a campaign says of the program where it was these sources by `rt try`.
+NOT_PROVED = "afdxsim, not proved: its sources by rt try"
 GREATEST_HEAD = "vl,where,runs,least_greatest_ns,mean_greatest_ns,greatest_ns,sum_greatest_ns,seed"
 PERCENTS = [50, 95, 99]
 # Of so many outages a line tells what they do.
@@ -525,9 +527,9 @@ def write_record(words, net, seeds, merged=None):
     own += ["--until", str(words.until)] if words.until is not None else []
     own += [word for it in words.set or () for word in ("--set", it.text)] + [word for vl in words.aim or () for word in ("--aim", str(vl))]
     own += [name for name, is_given in (("--offsets", words.offsets), ("--histograms", words.histograms)) if is_given]
-    program = "afdxsim of these sources, by `rt try` and not proved" if words.by_try else cluster.version_of(words.program)
+    made_by = NOT_PROVED if words.by_try else cluster.version_of(words.program)
     found = record.Record(
-        afdx.checksum(net.text), program, net.until_ns, seeds[0] if seeds else net.seed, len(seeds), words.offsets, own,
+        afdx.checksum(net.text), made_by, net.until_ns, seeds[0] if seeds else net.seed, len(seeds), words.offsets, own,
         None if merged is None else afdx.checksum(merged),
     )
     write_whole(os.path.join(words.output, record.NAME), found.text())

@@ -349,9 +349,16 @@ def page(arguments):
         more += ["--trace", "trace.csv"] if os.path.exists(trace) else []
         more += [] if words.no_bounds else ["--bounds", "bounds.csv"]
         more += ["--made-by", it.says] if it else []
-        tables = linked(words.tables, folder) if words.tables else "tables.csv"
+        tables = linked_tables(words.tables, folder) if words.tables else "tables.csv"
         command = tool_command("report.py", linked(words.net, folder), tables, "-o", os.path.abspath(words.output), *more)
         return subprocess.run(command, cwd=folder).returncode
+
+
+def linked_tables(path, folder):
+    """The same of tables: by their folder, since merged ones have the record of their campaign beside them."""
+    if os.path.isdir(path):
+        return linked(path, folder)
+    return os.path.join(linked(os.path.dirname(os.path.abspath(path)), folder), os.path.basename(path))
 
 
 def linked(path, folder):
