@@ -617,7 +617,7 @@ def over_outages(words, net, limits, seeds):
     """Runs all seeds with each link and each switch out in turn, and answers the status."""
     begin = time.monotonic()
     found = each_outage.EachOutage(net, limits, seeds, words.offsets, words.each_outage, words.later)
-    found.run(maker_of(words, True), keeper(words), Progress(found.count()), (tables_of, trace_of))
+    found.run(maker_of(words, True), keeper(words), Progress(found.count()), (tables_of, trace_of), words.jobs)
     if found.failure:
         files.tell("campaign.py", found.failure)
     if not found.courses:

@@ -1,16 +1,18 @@
 """What if a link or a switch is out: tools/campaign.py --each-outage. Each is out in turn, and what is lost end to end and
 what becomes late is told beside the same runs without it, as a table and as a page."""
 import contextlib
-import copy
 import html
+import itertools
 import re
+import tempfile
 from collections import namedtuple
 from fractions import Fraction
 
 import afdx
 import files
+import reckoning
 import runs
-from frames import Ends, Range, drawn_offsets, exactly
+from frames import Range, exactly
 from runs import Failure
 
 TABLE_HEAD = (
@@ -59,38 +61,12 @@ class Course:
         self.element, self.number = element, number
         self.delivered, self.lost, self.greatest = {}, {}, {}
 
-    def take(self, tables, ends):
-        for key, end in ends.items():
-            row = tables.latencies[key]
-            self.delivered[key] = self.delivered.get(key, 0) + row.count
-            self.lost[key] = self.lost.get(key, exactly(0)) + end.missing
-            self.greatest[key] = max(self.greatest.get(key, 0), row.greatest)
-
-
-class Known:
-    """What became of all frames in the run of a seed without an outage, so that it is reckoned anew only for the virtual
-    links of which another run with this seed tells something else."""
-
-    def __init__(self, net, seed, draws_offsets):
-        drawn = drawn_offsets(net, seed) if draws_offsets else {}
-        self.net, self.seed = net, seed
-        self.vls = {vl.id: vl._replace(offset_ns=drawn.get(vl.id, vl.offset_ns)) for vl in net.vls.values()}
-        self.rows, self.ends = {}, None
-
-    def ends_of(self, tables, trace):
-        """What became of the frames of a run, by its tables and its trace. The first run is the one without an outage."""
-        rows = {}
-        for row in trace.rows:
-            rows.setdefault(row[2], []).append(row)
-        first = self.ends is None
-        other = [vl for vl in self.vls if first or rows.get(vl) != self.rows.get(vl)]
-        part = copy.copy(tables)
-        part.net = copy.copy(self.net)
-        part.net.vls = {vl: self.vls[vl] for vl in other}
-        found = Ends(part, [self.seed], trace=trace).of
-        if first:
-            self.rows, self.ends = rows, found
-        return self.ends | found
+    def take(self, came):
+        """Takes what became of the frames of one more run."""
+        for key, it in came.items():
+            self.delivered[key] = self.delivered.get(key, 0) + it.count
+            self.lost[key] = self.lost.get(key, exactly(0)) + it.missing
+            self.greatest[key] = max(self.greatest.get(key, 0), it.greatest)
 
 
 # What an outage does to a virtual link at a destination: the counts and latencies without it and with it.
@@ -144,7 +120,6 @@ class EachOutage:
         self.elements = elements_of(net)
         used = [element for element in self.elements if any(net.users[line] for line in element.lines)]
         self.courses = [Course(element, number) for number, element in enumerate([None, *used])]
-        self.known = {}
         self.done, self.status, self.failure = 0, 0, None
 
     def count(self):
@@ -159,19 +134,21 @@ class EachOutage:
                     text += outages_text(course.element, self.from_ns, self.net.until_ns)
                 yield runs.Run(name, text)
 
-    def run(self, maker, keep, progress, readers):
-        """Has the runs made. `keep` is told the beginning of the name of each one's files, and its texts; `readers` are
-        what reads the tables and the trace of a run."""
-        tables_of, trace_of = readers
+    def run(self, maker, keep, progress, readers, jobs):
+        """Has the runs made, and reckons on so many of them side by side what became of their frames. `keep` is told the
+        beginning of the name of each one's files, and its texts; `readers` are what reads the tables and the trace of a
+        run."""
         progress.listen(maker)
-        with contextlib.closing(maker.results(self.runs())) as results:
+        with contextlib.ExitStack() as stack:
+            folder = stack.enter_context(tempfile.TemporaryDirectory())
+            made = stack.enter_context(contextlib.closing(maker.results(self.runs())))
+            runs = ((seed, *it) for seed, it in zip(itertools.cycle(self.seeds), made))
+            reckoner = reckoning.Reckoner(self.net, self.draws_offsets, readers, folder)
+            results = stack.enter_context(contextlib.closing(reckoning.results(reckoner, runs, jobs)))
             try:
-                for run, printed in results:
-                    course, seed = self.courses[self.done // len(self.seeds)], self.seeds[self.done % len(self.seeds)]
-                    tables = tables_of(self.net, run, printed.tables)
-                    if seed not in self.known:
-                        self.known[seed] = Known(self.net, seed, self.draws_offsets)
-                    course.take(tables, self.known[seed].ends_of(tables, trace_of(tables, run, printed.trace)))
+                for seed, run, printed, came in results:
+                    course = self.courses[self.done // len(self.seeds)]
+                    course.take(came)
                     keep(f"outage-{course.number}-seed-{seed}", run.text, printed.tables)
                     self.done += 1
                     progress.tell(self.done, None)

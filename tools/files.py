@@ -34,6 +34,10 @@ class Fault(Exception):
         super().__init__(f"{path} line {line}: {text}" if line else f"{path}: {text}")
         self.path, self.line, self.text = path, line, text
 
+    def __reduce__(self):
+        """So it goes from one process to another."""
+        return Fault, (self.path, self.line, self.text)
+
 
 class Interrupted(KeyboardInterrupt):
     """A signal that ends the tool: `number` is its number."""

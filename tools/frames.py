@@ -97,18 +97,25 @@ class Way:
         return self.soonest[where] + (self.net.nodes[where].latency_ns if cause == "port_full" else 0)
 
 
-class Journey:
-    """A virtual link at one of its destinations: its ways there, and what tables tell of the copies lost on them."""
+class Route:
+    """The ways of a virtual link to one of its destinations, whatever happens on them."""
 
-    def __init__(self, net, vl, where, losses):
+    def __init__(self, net, vl, where):
         self.vl, self.where = vl, where
         self.ways = {side: Way(net, vl, path) for side, path in ways_of(vl, where).items()}
-        self.losses = [loss for loss in losses if any(loss.where in way.soonest for way in self.ways.values())]
         steps = {step for side in "AB" for path in vl.paths[side] for step in zip(path, path[1:])}
         forks = {here for here, count in Counter(here for here, _ in steps).items() if count > 1}
         sides = sum(bool(paths) for paths in vl.paths.values())
         # Where a copy goes on by several ports, tables do not tell at which of them it was lost.
         self.forks = forks - ({vl.source} if len(self.ways) == sides else set())
+
+
+class Journey:
+    """A virtual link at one of its destinations: its ways there, and what tables tell of the copies lost on them."""
+
+    def __init__(self, route, losses):
+        self.vl, self.where, self.ways, self.forks = route.vl, route.where, route.ways, route.forks
+        self.losses = [loss for loss in losses if any(loss.where in way.soonest for way in self.ways.values())]
         # A destination refuses frames of the networks alone on which copies were lost before.
         before = [side for side in self.ways for loss in self.losses if loss.where in self.on_the_way(side)]
         self.may_refuse = sorted(set(before)) or list(self.ways)
@@ -151,8 +158,10 @@ class Ends:
     the virtual link was delivered there: a copy that comes behind it is dropped. If it was not delivered and is not
     missing, it is under way at the end."""
 
-    def __init__(self, tables, seeds, draws_offsets=False, trace=None):
+    def __init__(self, tables, seeds, draws_offsets=False, trace=None, known=None):
         self.tables, self.net, self.trace = tables, tables.net, trace
+        # What does not depend on the tables, for those who reckon with the same seeds again.
+        self.known = {} if known is None else known
         self.losses, self.delivered, self.lost = {}, {}, {}
         for loss in tables.losses.values():
             if loss.cause not in ("queue_full", "duplicate"):
@@ -166,7 +175,9 @@ class Ends:
         for vl, runs in self.all_sent(seeds, draws_offsets):
             self.compare(vl, sum(sent.refused for sent in runs))
             for where in vl.destinations:
-                journey = Journey(self.net, vl, where, self.losses.get(vl.id, ()))
+                if (vl.id, where) not in self.known:
+                    self.known[vl.id, where] = Route(self.net, vl, where)
+                journey = Journey(self.known[vl.id, where], self.losses.get(vl.id, ()))
                 self.of[vl.id, where] = self.end(journey, runs)
 
     def all_sent(self, seeds, draws_offsets):
@@ -174,12 +185,13 @@ class Ends:
         until = self.net.until_ns
         offsets = [drawn_offsets(self.net, seed) if draws_offsets else {} for seed in seeds]
         for vl in self.net.vls.values():
-            runs = []
-            for seed, drawn in zip(seeds, offsets):
-                offset = drawn.get(vl.id, vl.offset_ns)
-                offers = afdx.offers(seed, vl.id, offset, vl.period_ns, vl.jitter_ns, until)
-                runs.append(through_regulator(vl, offers, until))
-            yield vl, runs
+            if vl.id not in self.known:
+                runs = self.known[vl.id] = []
+                for seed, drawn in zip(seeds, offsets):
+                    offset = drawn.get(vl.id, vl.offset_ns)
+                    offers = afdx.offers(seed, vl.id, offset, vl.period_ns, vl.jitter_ns, until)
+                    runs.append(through_regulator(vl, offers, until))
+            yield vl, self.known[vl.id]
 
     def refuse(self, line, text):
         raise Fault(self.tables.path, line, f"{text}; so they are tables of another run than that of {self.net.path}")

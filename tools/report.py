@@ -33,7 +33,7 @@ import record
 from afdx import CAUSES, Network, Tables, Trace
 from drawing import MOMENTS, Drawing, chart_over_time, heat, legend_of_loads
 from files import cut
-from frames import Ends, Journey, Range, Way, ways_of
+from frames import Ends, Journey, Range, Route, Way, ways_of
 from page_text import counted, esc, frame_count, frames_of, hundredths, mean_ns, one_or_range, round_up, span, two_places
 
 EXAMPLES = """
@@ -446,7 +446,7 @@ class Page:
         if found:
             return found.pop()
         if loss.cause == "integrity":
-            return " or ".join(Journey(self.net, vl, loss.where, self.lost[loss.vl]).may_refuse)
+            return " or ".join(Journey(Route(self.net, vl, loss.where), self.lost[loss.vl]).may_refuse)
         return " or ".join(side for side in "AB" if vl.paths[side])
 
     # ---- parts ----
