@@ -260,14 +260,14 @@ fn holds<R: Abort>(alloc: Global, file: &Option<Sheet<'_, R>>, text: &str) -> Re
 
 /// The status that the program ends with. Of this host a clause tells what is left, in bytes: with status 0 the words mean an order on the network
 /// that `net.toml` describes, and where that asks for a trace and for no journal, the file that was given back last holds just the trace.
-fn status_of<R: Abort + Threads + Wait + Clock + Sync>(
+fn status_of<'a, S: AsStr, R: Abort + Threads + Wait + Clock + Sync>(
     rt: &R,
     alloc: Global,
-    words: &[&str],
+    words: &'a [S],
     host: &mut TellingHost<'_, R>,
 ) -> u8
-    ensures { found_in (map ⟦<&str as AsStr>⟧.text words.entry.now) ≡ [] → result ≡ 0 → (order : Order) × (plan : Plan) ×
-        Means (map ⟦<&str as AsStr>⟧.text words.entry.now) order × Describes host.old.net.items plan ×
+    ensures { found_in (map S.text words.entry.now) ≡ [] → result ≡ 0 → (order : Order) × (plan : Plan) ×
+        Means (map S.text words.entry.now) order × Describes host.old.net.items plan ×
         (journal_of order ≡ None → IfSome (trace_of order) (λ path. IfSome host.new.last (λ file. IsTraceText plan file.bytes.items))) }
 {
     perform(rt, alloc, words, host)
