@@ -7,4 +7,3 @@ pub mod Lacking
 pub mod Streams
 pub mod Holding
 pub mod Heard
-pub mod Doing
