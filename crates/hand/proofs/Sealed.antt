@@ -1,5 +1,5 @@
 -- Done events are committed one after another.
-use Rattle.std.proofs.Common.{◌≡◌, ℕ, ◌<◌, ◌≤◌, true, false, List, [], ◌∷◌, ◌++◌, Some, All, pos, slice_get, refl, sym, ap, ◌∙◌, subst, append_assoc, append-nil, arith}
+use Rattle.std.proofs.Common.{◌≡◌, ℕ, ◌<◌, ◌≤◌, true, false, List, [], ◌∷◌, ◌++◌, Option, Some, None, IfSome, All, pos, slice_get, refl, sym, ap, ◌∙◌, subst, append_assoc, append-nil, arith}
 use Rattle.std.proofs.lemmas.Bool.{both_ways}
 use Rattle.vlink.specs.declared.message.Message.{Message}
 use Rattle.vlink.specs.declared.note.Note.{Note}
@@ -31,6 +31,12 @@ none-before O m first xs b a =
 pub oldest-is : {K : Type 0} (ds : List (Deed K)) (m : Message) → slice_get (messages_of ds) 0 ≡ Some m → (d : Deed K) × (rest : List (Deed K)) × (ds ≡ d ∷ rest) × (d.message ≡ m)
 oldest-is [] m e = absurd cc
 oldest-is (d ∷ ds) m e = (d, ds, refl, cc)
+
+pub if-some : {X : Type 0} (P : X → Type 0) (o : Option X) (x : X) → o ≡ Some x → P x → IfSome o P
+if-some P o x e p = subst (λ z. IfSome z P) (sym e) p
+
+pub if-none : {X : Type 0} (P : X → Type 0) (o : Option X) → o ≡ None → IfSome o P
+if-none P o e = subst (λ z. IfSome z P) (sym e) tt
 
 commit-gvt : {M S K N : Type 0} (f : Simulation M S K N) (p : ℕ) (v : World M S) → (effect f (Commit p) v).gvt ≡ v.gvt
 unfolding effect

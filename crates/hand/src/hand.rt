@@ -10,7 +10,7 @@ ghost use Rattle.reverse.specs.Setting.{Setting, simulation_of};
 ghost use Rattle.antimessages.specs.Counting.{is_after};
 ghost use Rattle.process_queues.specs.Past.{newest_of};
 ghost use Rattle.hand.specs.Deeds.{messages_of};
-ghost use Rattle.hand.specs.Hands.{DoesTold, StandsForGroup, CommitsTold, IsAsBefore, is_ours, with_letter};
+ghost use Rattle.hand.specs.Hands.{DoesTold, StandsForGroup, CommitsTold, StaysDone, IsAsBefore, is_ours, with_letter};
 ghost use Rattle.hand.specs.declared.fault.HandFault.TheVariants.{OutOfMemory, Exhausted};
 ghost use Rattle.hand.specs.declared.hand.Early.TheVariants.{Idle, Late};
 
@@ -159,6 +159,7 @@ impl<R: Actor> Hand<R> {
     /// the first message of the queue does not come. Their rows are sealed. A refusal stops between two events.
     pub fn commit(&mut self, moment: Time) -> Result<(), HandFault>
         ensures did { CommitsTold (rules_of R.plain) R.is_value moment self.old self.new }
+        ensures left { OnOk result (StaysDone moment self.new) }
         ensures memory { IfErr result (λ fault. fault ≡ OutOfMemory) }
     {
         'events: while self.commit_oldest(moment)? {}
@@ -169,6 +170,7 @@ impl<R: Actor> Hand<R> {
     #[inline(always)]
     fn commit_oldest(&mut self, moment: Time) -> Result<bool, HandFault>
         ensures did { CommitsTold (rules_of R.plain) R.is_value moment self.old self.new }
+        ensures left { result ≡ Ok false → StaysDone moment self.new }
         ensures fewer { result ≡ Ok true → length self.new.done + 1 ≡ length self.old.done }
         ensures memory { IfErr result (λ fault. fault ≡ OutOfMemory) }
     {

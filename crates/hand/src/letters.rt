@@ -1,5 +1,5 @@
 //! What waits for a group, and what it sent to others.
-ghost use Rattle.std.specs.Prelude.{◌≡◌, ◌+◌, ◌<◌, ◌≤◌, ◌⊎◌, [], ◌∷◌, ◌++◌, true, false, All, Contains, OnOk, OnErr, IfOk, IfSome, IfNone, IsPermutation, pos};
+ghost use Rattle.std.specs.Prelude.{◌≡◌, ◌≢◌, ◌+◌, ◌<◌, ◌≤◌, ◌⊎◌, [], ◌∷◌, ◌++◌, true, false, All, Contains, OnOk, OnErr, IfOk, IfSome, IfNone, IsPermutation, pos};
 ghost use Rattle.vlink.specs.declared.message.Message.{Message};
 ghost use Rattle.vlink.specs.Letters.{Letter};
 ghost use Rattle.vlink.specs.Order.{message_order};
@@ -139,6 +139,7 @@ impl Letters {
         ensures others { self.new ≡ record self.old { queue = self.new.queue; room = self.new.room } }
         ensures zero { result ≡ true → signed_count message_order message.now self.old.extra ≡ pos 0 }
         ensures none { result ≡ true → times_in message_order message.now self.old.queue ≡ 0 }
+        ensures left { result ≡ false → (signed_count message_order message.now self.new.extra ≢ pos 0) ⊎ ((x : Message) × Contains self.new.queue x × (message_order.less message.now x ≡ false)) }
     {
         message_order();
         lawful_order();

@@ -1,4 +1,4 @@
-use Rattle.std.proofs.Common.{◌≡◌, ◌+◌, ◌<◌, ◌++◌, ◌∷◌, [], Some, length, pos, slice_get, subst, sym, ap, ◌∙◌, refl, arith, rules}
+use Rattle.std.proofs.Common.{◌≡◌, ◌+◌, ◌<◌, ◌≤◌, inl, inr, None, ◌++◌, ◌∷◌, [], Some, length, pos, slice_get, subst, sym, ap, ◌∙◌, refl, arith, rules}
 use Rattle.vlink.specs.Order.{message_order}
 use Rattle.virtual_time.specs.Law.{times_in}
 use Rattle.reverse.specs.Rules.{rules_of}
@@ -6,10 +6,10 @@ use Rattle.antimessages.specs.Counting.{signed_count}
 use Rattle.two_lists.proofs.Counting.{times-permutation}
 use Rattle.hand.specs.declared.block.Did.TheVariants.{Committed}
 use Rattle.hand.specs.Deeds.{Deed, messages_of}
-use Rattle.hand.specs.Hands.{CommitsTold, IsAsBefore}
+use Rattle.hand.specs.Hands.{CommitsTold, StaysDone, IsAsBefore}
 use Rattle.hand.specs.Passing.{held}
 use Rattle.hand.proofs.Still.{as-first, as-reserved}
-use Rattle.hand.proofs.Sealed.{oldest-is, commits-nothing, commits-both, commits-oldest}
+use Rattle.hand.proofs.Sealed.{if-none, if-some, oldest-is, commits-nothing, commits-both, commits-oldest}
 use Rattle.hand.proofs.hand.Hand.commit_oldest.Given.{Over}
 use Rattle.hand.proofs.hand.Hand.commit_oldest.Goals.{After-reserve}
 use Rattle.hand.proofs.hand.Hand.commit_oldest.Goals as goal
@@ -80,3 +80,25 @@ returns-clause-fewer g c = λ _.
     let gone = c.in_ok-forget_oldest.ensures.forgotten o.0 o.1 o.2 in
     let more : length o.1 + 1 ≡ length (o.0 ∷ o.1) = omega arith in
     ap (λ z. length z + 1) gone.0 ∙ (more ∙ (ap length (sym o.2) ∙ ap (λ h. length h.done) c.self.view_is))
+
+pub returns-in_default-clause-left : goal.returns-in_default-clause-left
+returns-in_default-clause-left g c = λ _.
+    let none : slice_get (messages_of c.self.inside.done.deeds) 0 ≡ None = search rules in
+    subst (StaysDone c.args.moment) c.self.view_is (if-none _ (slice_get (messages_of c.self.inside.done.deeds) 0) none)
+
+pub returns-then-ge-clause-left : goal.returns-then-ge-clause-left
+returns-then-ge-clause-left g c = λ _.
+    let a = c.oldest.ensures in
+    let b = c.copied.ensures in
+    let i = c.in-Some.is in
+    let at : slice_get (messages_of c.self.inside.done.deeds) 0 ≡ Some c.in-Some.message = cc in
+    let late : c.args.moment ≤ c.in-Some.message.time = search rules in
+    subst (StaysDone c.args.moment) c.self.view_is (if-some _ (slice_get (messages_of c.self.inside.done.deeds) 0) c.in-Some.message at (inl late))
+
+pub returns-then-not-counts_once-clause-left : goal.returns-then-not-counts_once-clause-left
+returns-then-not-counts_once-clause-left g c = λ _.
+    let a = c.oldest.ensures in
+    let b = c.copied.ensures in
+    let i = c.in-Some.is in
+    let at : slice_get (messages_of c.self.inside.done.deeds) 0 ≡ Some c.in-Some.message = cc in
+    if-some _ (slice_get (messages_of c.self.inside.done.deeds) 0) c.in-Some.message at (inr (c.if-not-counts_once.ensures.left refl))
