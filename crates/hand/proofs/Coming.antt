@@ -1,17 +1,16 @@
 -- A message comes home: it joins the queue, and the hand stands for what a plain letter makes of its receiver's part.
-use Rattle.std.proofs.Common.{◌≡◌, ℕ, ◌+◌, ◌==◌, Bool, true, false, cond, List, [], ◌∷◌, ◌++◌, map, refl, sym, ap, ◌∙◌, subst, arith, eq-eqb, ne_eqb}
+use Rattle.std.proofs.Common.{◌≡◌, ℕ, ◌+◌, true, cond, [], ◌∷◌, ◌++◌, map, sym, ap, ◌∙◌, subst, arith, eq-eqb, ne_eqb}
 use Rattle.std.specs.Bool.{⊤}
 use Rattle.vlink.specs.declared.message.Message.{Message}
 use Rattle.vlink.specs.declared.note.Note.{Note}
-use Rattle.virtual_time.specs.Law.{Rules, IsOrder, IsIn, times_in, one_if, same, plus_of, pluses, minuses, received_by, rowed, rows_at, Part, delivered, tallied, arrive, IsWell}
-use Rattle.virtual_time.specs.declared.letter.Letter.{Letter}
+use Rattle.virtual_time.specs.Law.{Rules, IsOrder, IsIn, times_in, one_if, same, plus_of, pluses, minuses, received_by, rowed, rows_at, Part, delivered, tallied, IsWell}
 use Rattle.virtual_time.proofs.Letters.{pluses-append, minuses-append, pluses-plus, minuses-plus}
 use Rattle.virtual_time.proofs.WellArrive.{arrive-well}
 use Rattle.virtual_time.proofs.WellStep.{delivered-well}
 use Rattle.virtual_time.proofs.HomeLetters.{arrives-plain}
 use Rattle.antimessages.specs.Counting.{HaveSameCounts}
 use Rattle.antimessages.proofs.Agreeing.{same_counts-cons}
-use Rattle.hand.specs.Deeds.{Deed, deeds_at, messages_of}
+use Rattle.hand.specs.Deeds.{deeds_at, messages_of}
 use Rattle.hand.specs.Hands.{Held, IsMember, counted}
 use Rattle.hand.proofs.Running.{received-same}
 

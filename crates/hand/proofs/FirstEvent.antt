@@ -1,12 +1,11 @@
 -- The first message of a group is handled, and what it sends goes on.
 use Rattle.std.proofs.Common.{◌≡◌, ℕ, ◌+◌, ◌<◌, ◌≤◌, ◌⊎◌, inl, inr, true, false, Option, List, [], ◌∷◌, ◌++◌, map, length, Some, All, IsPermutation, refl, sym, ap, ◌∙◌, subst, append_assoc, slice_get, set, get_or-set_same, get_or-set_other, length-set}
-use Rattle.std.proofs.lemmas.Option.{slice_get-get_or, get_or_from_slice_get, slice_get_within, slice_get_past}
+use Rattle.std.proofs.lemmas.Option.{slice_get-get_or, slice_get_within, slice_get_past}
 use Rattle.std.proofs.lemmas.Bool.{cases_lt}
 use Rattle.vlink.specs.declared.message.Message.{Message}
-use Rattle.vlink.specs.declared.note.Note.{Note}
-use Rattle.vlink.specs.Letters.{Letter, Row}
+use Rattle.vlink.specs.Letters.{Row}
 use Rattle.vlink.specs.Order.{message_order}
-use Rattle.virtual_time.specs.Law.{Rules, IsOrder, Laws, World, IsIn, IsReached, times_in, one_if, same, plus_of, AreDone, done_by}
+use Rattle.virtual_time.specs.Law.{IsOrder, Laws, World, IsIn, IsReached, times_in, one_if, same, plus_of, AreDone, done_by}
 use Rattle.virtual_time.proofs.Lists.{in-push}
 use Rattle.reverse.specs.Plain.{Plain}
 use Rattle.reverse.specs.Rules.{rules_of}
@@ -17,12 +16,11 @@ use Rattle.antimessages.specs.Counting.{is_after}
 use Rattle.process_queues.specs.Past.{newest_of}
 use Rattle.process_queues.proofs.Newest.{after-all}
 use Rattle.two_lists.proofs.Counting.{times-permutation}
-use Rattle.hand.specs.declared.block.Did.{Did}
 use Rattle.hand.specs.declared.block.Did.TheVariants.{Ran}
 use Rattle.hand.specs.Block.{steps_told}
 use Rattle.hand.specs.Deeds.{Deed, deed_of, messages_of}
 use Rattle.hand.specs.Flow.{Flow}
-use Rattle.hand.specs.Hands.{Held, IsMember, DoesSent, StandsForSent, is_ours}
+use Rattle.hand.specs.Hands.{DoesSent, StandsForSent}
 use Rattle.hand.specs.Passing.{GoesOn, held}
 use Rattle.hand.proofs.Telling.{done-append, are_done-append}
 use Rattle.hand.proofs.Running.{messages-push}

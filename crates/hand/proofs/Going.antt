@@ -1,15 +1,13 @@
 -- A letter that was posted goes on: to the letters for others, to the queue at once, or to the tray.
-use Rattle.std.proofs.Common.{◌≡◌, ℕ, ◌+◌, ◌<◌, ◌≤◌, ◌==◌, ◌⊎◌, inl, inr, min, Bool, true, false, cond, List, [], ◌∷◌, ◌++◌, map, length, Option, Some, None, All, pos, refl, sym, ap, ◌∙◌, subst, arith, eq-eqb, ne_eqb, slice_get}
-use Rattle.std.specs.Bool.{⊤}
-use Rattle.std.proofs.lemmas.Bool.{cases_eq, cases_lt, both_ways}
+use Rattle.std.proofs.Common.{◌≡◌, ℕ, ◌+◌, ◌<◌, ◌≤◌, ◌==◌, ◌⊎◌, inl, inr, min, Bool, true, false, cond, List, [], ◌∷◌, ◌++◌, length, Option, Some, None, All, pos, refl, sym, ap, ◌∙◌, subst, arith, eq-eqb, ne_eqb, slice_get}
+use Rattle.std.proofs.lemmas.Bool.{cases_lt, both_ways}
 use Rattle.std.proofs.lemmas.Int.{ints}
 use Rattle.std.proofs.lemmas.Option.{slice_get_within}
-use Rattle.std.proofs.lemmas.List.Elements.{All-head, All-tail, All-push}
+use Rattle.std.proofs.lemmas.List.Elements.{All-head, All-tail}
 use Rattle.vlink.specs.declared.message.Message.{Message}
 use Rattle.vlink.specs.declared.note.Note.{Note}
-use Rattle.vlink.specs.Letters.{Letter, Row}
-use Rattle.virtual_time.specs.Law.{Rules, Order, IsOrder, Simulation, Laws, World, Part, put, IsIn, IsNamed, IsPresent, times_in, one_if, same, plus_of, pluses, minuses, received_by, floor_of, rows_at, IsAscending, tallied, AreDone, done_by}
-use Rattle.virtual_time.specs.declared.step.Step.{Step}
+use Rattle.vlink.specs.Letters.{Letter}
+use Rattle.virtual_time.specs.Law.{Rules, Order, IsOrder, Laws, World, Part, IsIn, IsNamed, times_in, one_if, same, plus_of, pluses, minuses, received_by, floor_of, rows_at, IsAscending, tallied, AreDone, done_by}
 use Rattle.virtual_time.specs.declared.step.Step.TheVariants.{Take, Arrive}
 use Rattle.virtual_time.proofs.Kept.{put_elim, put_elim₂}
 use Rattle.virtual_time.proofs.Order.{same_cases, less-irrefl}
@@ -18,9 +16,9 @@ use Rattle.virtual_time.proofs.Letters.{named-cons, received-mine}
 use Rattle.virtual_time.proofs.HomeLetters.{comes-home, home_after, plain-enabled, floor-tallied}
 use Rattle.virtual_time.proofs.Settled.{floor-again}
 use Rattle.reverse.specs.Setting.{Setting, simulation_of}
-use Rattle.antimessages.specs.Counting.{HaveSameCounts, signed_count}
-use Rattle.hand.specs.Deeds.{Deed, deeds_at, deeds_of, messages_of}
-use Rattle.hand.specs.Hands.{Held, IsMember, CountsBeside, StandsForSent, counted, is_held, is_ours}
+use Rattle.antimessages.specs.Counting.{signed_count}
+use Rattle.hand.specs.Deeds.{Deed, deeds_at, messages_of}
+use Rattle.hand.specs.Hands.{Held, IsMember, StandsForSent, counted, is_held, is_ours}
 use Rattle.hand.proofs.Member.{messages-of, present-here, all-pluses, all-minuses}
 use Rattle.hand.proofs.Running.{received-same}
 use Rattle.hand.proofs.Coming.{came-member, came-other, new-pluses, new-minuses}

@@ -1,13 +1,11 @@
 -- The first message of the queue is handled, and posted.
-use Rattle.std.proofs.Common.{◌≡◌, ℕ, ◌+◌, ◌<◌, ◌≤◌, ◌⊎◌, inl, inr, true, false, List, [], ◌∷◌, ◌++◌, map, length, Some, All, is_some, nat_lt, ◌&&◌, refl, sym, ap, ◌∙◌, subst, arith, slice_get, append-nil, lt-ltb}
+use Rattle.std.proofs.Common.{◌≡◌, ℕ, ◌+◌, ◌<◌, ◌≤◌, ◌⊎◌, inl, inr, true, false, [], ◌∷◌, ◌++◌, map, length, Some, All, is_some, refl, sym, ap, ◌∙◌, subst, arith, slice_get, append-nil, lt-ltb}
 use Rattle.std.proofs.lemmas.Bool.{cases_eq}
 use Rattle.std.proofs.lemmas.Option.{slice_get_within}
 use Rattle.std.proofs.lemmas.List.Elements.{All-weaker}
 use Rattle.vlink.specs.declared.message.Message.{Message}
 use Rattle.vlink.specs.declared.note.Note.{Note}
-use Rattle.vlink.specs.Letters.{Letter}
-use Rattle.virtual_time.specs.Law.{Rules, IsOrder, Laws, World, Part, put, IsIn, IsNamed, times_in, one_if, same, plus_of, pluses, minuses, received_by, floor_of, emptied, handled, next_of, IsAscending, AreDone, done_by, is_enabled, step}
-use Rattle.virtual_time.specs.declared.step.Step.{Step}
+use Rattle.virtual_time.specs.Law.{Rules, IsOrder, World, IsIn, IsNamed, times_in, one_if, same, plus_of, pluses, minuses, received_by, floor_of, emptied, handled, next_of, IsAscending, AreDone, done_by, is_enabled, step}
 use Rattle.virtual_time.specs.declared.step.Step.TheVariants.{Run, Post}
 use Rattle.virtual_time.proofs.Ascending.{ascending-push}
 use Rattle.virtual_time.proofs.Kept.{put_elim, put_elim₂}

@@ -11,3 +11,4 @@ pub mod Passed
 pub mod FirstEvent
 pub mod Sealing
 pub mod Still
+pub mod Sealed

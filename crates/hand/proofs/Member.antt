@@ -1,10 +1,9 @@
 -- What a hand has of one member: which messages are present there, which are done, and which is next.
-use Rattle.std.proofs.Common.{◌≡◌, ℕ, ◌+◌, ◌<◌, ◌≤◌, ◌==◌, ◌⊎◌, inl, inr, Bool, true, false, cond, List, [], ◌∷◌, ◌++◌, map, Some, refl, sym, ap, ◌∙◌, subst, arith, eqb-true, eq-eqb}
+use Rattle.std.proofs.Common.{◌≡◌, ℕ, ◌+◌, ◌<◌, ◌≤◌, ◌==◌, ◌⊎◌, inl, inr, Bool, true, false, cond, List, [], ◌∷◌, ◌++◌, map, Some, refl, sym, ap, ◌∙◌, arith, eq-eqb}
 use Rattle.std.proofs.lemmas.Bool.{cases_lt, both_ways}
 use Rattle.vlink.specs.declared.message.Message.{Message}
 use Rattle.vlink.specs.declared.note.Note.{Note}
-use Rattle.virtual_time.specs.Law.{Rules, IsOrder, IsIn, times_in, one_if, same, plus_of, pluses, minuses, IsPresent, is_present, received_by, Part, next_of}
-use Rattle.virtual_time.specs.declared.letter.Letter.{Letter}
+use Rattle.virtual_time.specs.Law.{Rules, IsOrder, IsIn, times_in, one_if, same, plus_of, pluses, minuses, IsPresent, received_by, Part, next_of}
 use Rattle.virtual_time.proofs.Order.{same_cases}
 use Rattle.virtual_time.proofs.Letters.{pluses-append, minuses-append, pluses-plus, minuses-plus, received-mine, received-here}
 use Rattle.virtual_time.proofs.Lists.{times-append, in-append}

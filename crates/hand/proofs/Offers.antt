@@ -1,14 +1,14 @@
 -- The offers beside the lists: the last of them is first.
-use Rattle.std.proofs.Common.{◌≡◌, ◌<◌, ◌-◌, ◌++◌, ◌∙◌, ℕ, List, ◌∷◌, [], Bool, true, false, Option, Some, None, length, slice_get, All, IfSome, IfNone, IsPermutation, MatchOption, subst, sym, ap, refl, arith, Bor, Contains, option_to_list, option_copied, IsSortedBy}
+use Rattle.std.proofs.Common.{◌≡◌, ◌<◌, ◌-◌, ◌++◌, ℕ, List, ◌∷◌, [], Bool, true, false, Option, Some, None, length, slice_get, IfSome, IfNone, IsPermutation, MatchOption, subst, sym, refl, arith, Bor, Contains, option_to_list, option_copied, IsSortedBy}
 use Rattle.std.specs.Cmp.{IsTotalOrder}
-use Rattle.std.proofs.lemmas.List.Elements.{All-nil, All-append, All-contains, Contains-append_right}
+use Rattle.std.proofs.lemmas.List.Elements.{All-append, All-contains, Contains-append_right}
 use Rattle.std.proofs.lemmas.List.Sorted.{IsPermutation-to_front, IsPermutation-sym, Contains-permutation}
 use Rattle.std.proofs.lemmas.Option.{get_or_from_slice_get, slice_get_within, slice_get-get_or}
 use Rattle.vlink.specs.declared.message.Message.{Message}
 use Rattle.vlink.specs.Order.{message_cmp, message_order}
 use Rattle.virtual_time.specs.Law.{IsOrder}
 use Rattle.reverse.specs.Rules.{is_before}
-use Rattle.two_lists.proofs.Firsts.{NoneBefore, no-later, last-first, last-is}
+use Rattle.two_lists.proofs.Firsts.{NoneBefore, last-first, last-is}
 
 -- where there is room there is a place
 pub took : (b : Bool) (n : ℕ) → 0 < n → (b ≡ false → n ≡ 0) → b ≡ true

@@ -1,23 +1,19 @@
 -- What an event sent goes on, one message after another.
-use Rattle.std.proofs.Common.{◌≡◌, ℕ, zero, suc, ◌+◌, ◌<◌, ◌≤◌, ◌⊎◌, inl, inr, Bool, true, false, Option, List, [], ◌∷◌, ◌++◌, map, All, refl, sym, ap, ◌∙◌, subst, append_assoc, append-nil, drop, length, slice_get, get_or, arith}
+use Rattle.std.proofs.Common.{◌≡◌, ℕ, zero, suc, ◌<◌, ◌⊎◌, inl, inr, Bool, true, false, Option, List, [], ◌∷◌, ◌++◌, map, All, refl, sym, ap, ◌∙◌, subst, append_assoc, append-nil, length, get_or, arith}
 use Rattle.std.proofs.lemmas.List.Elements.{All-push}
 use Rattle.vlink.specs.declared.message.Message.{Message}
-use Rattle.vlink.specs.declared.note.Note.{Note}
-use Rattle.vlink.specs.Letters.{Letter, Row}
 use Rattle.vlink.specs.Order.{message_order}
-use Rattle.virtual_time.specs.Law.{Rules, IsOrder, Laws, World, IsIn, plus_of, received_by, times_in, AreDone, done_by}
+use Rattle.virtual_time.specs.Law.{IsOrder, IsIn, plus_of, received_by, times_in, AreDone, done_by}
 use Rattle.virtual_time.proofs.Lists.{in-head}
 use Rattle.reverse.specs.Plain.{Plain}
 use Rattle.reverse.specs.Rules.{rules_of}
-use Rattle.reverse.specs.Setting.{Setting, simulation_of}
+use Rattle.reverse.specs.Setting.{simulation_of}
 use Rattle.reverse.specs.declared.sends.Sends.{Sends}
 use Rattle.two_lists.proofs.Counting.{times-permutation}
-use Rattle.hand.specs.declared.block.Did.{Did}
 use Rattle.hand.specs.declared.block.Did.TheVariants.{Home, Taken}
 use Rattle.hand.specs.Block.{steps_told}
-use Rattle.hand.specs.Deeds.{Deed, messages_of}
 use Rattle.hand.specs.Flow.{Flow, WentAbroad, CameHome, WasTaken}
-use Rattle.hand.specs.Hands.{Held, StandsForSent, is_ours}
+use Rattle.hand.specs.Hands.{StandsForSent, is_ours}
 use Rattle.hand.specs.Passing.{GoesOn, held}
 use Rattle.hand.proofs.Telling.{done-append, are_done-append, told-append}
 use Rattle.hand.proofs.Going.{stands-kept, came-steps, came-home}

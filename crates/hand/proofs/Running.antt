@@ -1,10 +1,10 @@
 -- A message is handled: what the hand has of its receiver, and of the others, stands for what Run and Post make of the receiver's part.
-use Rattle.std.proofs.Common.{◌≡◌, ℕ, ◌+◌, ◌<◌, ◌==◌, ◌⊎◌, inl, inr, Bool, true, false, cond, List, [], ◌∷◌, ◌++◌, map, Some, refl, sym, ap, ◌∙◌, subst, arith, pos, ◌-ℤ◌, eq-eqb, ne_eqb}
+use Rattle.std.proofs.Common.{◌≡◌, ℕ, ◌+◌, ◌==◌, ◌⊎◌, inl, inr, Bool, true, false, cond, List, [], ◌∷◌, ◌++◌, map, Some, refl, sym, ap, ◌∙◌, subst, arith, pos, ◌-ℤ◌, eq-eqb, ne_eqb}
 use Rattle.std.specs.Bool.{⊤}
-use Rattle.std.proofs.lemmas.Bool.{cases_eq, cases_lt, both_ways}
+use Rattle.std.proofs.lemmas.Bool.{cases_eq}
 use Rattle.vlink.specs.declared.message.Message.{Message}
 use Rattle.vlink.specs.declared.note.Note.{Note}
-use Rattle.virtual_time.specs.Law.{Rules, IsOrder, IsIn, times_in, one_if, same, plus_of, pluses, minuses, IsNamed, received_by, reached, rowed, rows_at, Part, emptied, handled, next_of, IsWell}
+use Rattle.virtual_time.specs.Law.{Rules, IsOrder, times_in, one_if, same, plus_of, pluses, minuses, received_by, reached, rowed, rows_at, Part, emptied, handled, next_of, IsWell}
 use Rattle.virtual_time.specs.declared.letter.Letter.{Letter}
 use Rattle.virtual_time.proofs.Letters.{pluses-append, minuses-append, pluses-plus, minuses-plus, received-mine, received-here, named-none}
 use Rattle.virtual_time.proofs.Lists.{times-append}

@@ -1,18 +1,17 @@
 -- The oldest done event of a group is committed.
-use Rattle.std.proofs.Common.{◌≡◌, ℕ, ◌+◌, ◌<◌, ◌≤◌, ◌==◌, ◌⊎◌, inl, inr, true, false, cond, List, [], ◌∷◌, ◌++◌, map, length, Some, All, pos, ◌-ℤ◌, nat_lt, ◌&&◌, refl, sym, ap, ◌∙◌, subst, arith, slice_get, append-nil, lt-ltb, eq-eqb, ne_eqb}
+use Rattle.std.proofs.Common.{◌≡◌, ℕ, ◌+◌, ◌<◌, ◌≤◌, ◌⊎◌, inl, inr, true, false, cond, List, [], ◌∷◌, ◌++◌, length, Some, All, pos, ◌&&◌, refl, sym, ap, ◌∙◌, subst, arith, slice_get, append-nil, lt-ltb, eq-eqb, ne_eqb}
 use Rattle.std.specs.Bool.{⊤}
-use Rattle.std.proofs.lemmas.Bool.{cases_eq}
 use Rattle.std.proofs.lemmas.Int.{ints}
 use Rattle.std.proofs.lemmas.Option.{slice_get_within}
 use Rattle.std.proofs.lemmas.List.Elements.{filter-append}
 use Rattle.vlink.specs.declared.message.Message.{Message}
 use Rattle.vlink.specs.declared.note.Note.{Note}
-use Rattle.vlink.specs.Letters.{Letter, Row}
-use Rattle.virtual_time.specs.Law.{Rules, IsOrder, World, Part, put, IsIn, IsNamed, times_in, one_if, same, plus_of, minus_of, pluses, minuses, received_by, floor_of, reached, rowed, rows_of, rows_at, IsAscending, IsWell, commit_oldest, oldest_committed, can_commit, is_early, with_part, is_enabled, effect, AreDone, done_by}
+use Rattle.vlink.specs.Letters.{Letter}
+use Rattle.virtual_time.specs.Law.{Rules, IsOrder, World, IsNamed, times_in, one_if, same, plus_of, minus_of, pluses, minuses, received_by, floor_of, reached, rowed, rows_of, rows_at, IsAscending, IsWell, commit_oldest, oldest_committed, can_commit, is_early, with_part, is_enabled, effect, AreDone, done_by}
 use Rattle.virtual_time.specs.declared.step.Step.TheVariants.{Commit}
 use Rattle.virtual_time.proofs.Kept.{put_elim}
-use Rattle.virtual_time.proofs.Order.{same_cases, same-refl}
-use Rattle.virtual_time.proofs.Lists.{times-append, times-none, in-head}
+use Rattle.virtual_time.proofs.Order.{same_cases}
+use Rattle.virtual_time.proofs.Lists.{times-append, in-head}
 use Rattle.virtual_time.proofs.Ascending.{ascending-once}
 use Rattle.virtual_time.proofs.Letters.{received-mine}
 use Rattle.virtual_time.proofs.Handling.{reached-append, rowed-append}
@@ -23,7 +22,7 @@ use Rattle.antimessages.specs.Counting.{HaveSameCounts, signed_count}
 use Rattle.antimessages.proofs.Agreeing.{same_counts-cons}
 use Rattle.process_queues.specs.Past.{AreValues}
 use Rattle.hand.specs.Deeds.{Deed, deed_of, deeds_at, deeds_of, messages_of}
-use Rattle.hand.specs.Hands.{Held, IsMember, StandsForSent, counted, is_held, is_ours}
+use Rattle.hand.specs.Hands.{Held, IsMember, StandsForSent, counted, is_ours}
 use Rattle.hand.proofs.Member.{all-pluses, all-minuses}
 use Rattle.hand.proofs.Running.{received-same}
 use Rattle.hand.proofs.Going.{held-is, received-first, received-skip}

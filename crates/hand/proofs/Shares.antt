@@ -6,7 +6,7 @@ use Rattle.vlink.specs.declared.message.Message.{Message}
 use Rattle.vlink.specs.Letters.{Row}
 use Rattle.process_queues.specs.Past.{newest_of}
 use Rattle.hand.specs.declared.deeds.Event.{Event}
-use Rattle.hand.specs.Deeds.{Deed, deeds_in, all_sent, all_noted, messages_of}
+use Rattle.hand.specs.Deeds.{deeds_in, all_sent, all_noted, messages_of}
 
 take-whole : {X : Type 0} (n : ℕ) (xs : List X) → n ≡ length xs → take n xs ≡ xs
 take-whole n xs e = take_all n xs (omega (arith, e))

@@ -1,20 +1,19 @@
 -- Where nothing changed but the order of the queue, the group stands for what it stood for.
 use Rattle.std.proofs.Common.{◌≡◌, ℕ, ◌≤◌, false, Option, List, [], ◌++◌, All, IsPermutation, refl, sym, ap, ◌∙◌, subst, append-nil, arith}
-use Rattle.std.proofs.lemmas.List.Sorted.{IsPermutation-refl}
 use Rattle.std.proofs.lemmas.List.Elements.{All-weaker}
 use Rattle.vlink.specs.declared.message.Message.{Message}
-use Rattle.vlink.specs.declared.note.Note.{Note}
-use Rattle.vlink.specs.Letters.{Letter, Row}
+use Rattle.vlink.specs.Letters.{Row}
 use Rattle.vlink.specs.Order.{message_order}
-use Rattle.virtual_time.specs.Law.{Rules, IsOrder, received_by}
+use Rattle.virtual_time.specs.Law.{IsOrder, World, received_by}
 use Rattle.virtual_time.proofs.Order.{not_less-time}
 use Rattle.reverse.specs.Plain.{Plain}
 use Rattle.reverse.specs.Rules.{rules_of, is_before}
+use Rattle.reverse.specs.Setting.{Setting}
 use Rattle.reverse.specs.declared.sends.Sends.{Sends}
 use Rattle.two_lists.proofs.Counting.{times-permutation}
 use Rattle.hand.specs.Deeds.{Deed}
 use Rattle.hand.specs.Flow.{Flow}
-use Rattle.hand.specs.Hands.{Held, DoesSent, IsAsBefore, is_ours}
+use Rattle.hand.specs.Hands.{Held, DoesSent, StandsForSent, IsAsBefore, is_ours}
 use Rattle.hand.specs.Passing.{held}
 use Rattle.hand.proofs.Going.{stands-kept}
 
@@ -38,14 +37,15 @@ not-earlier O limit m xs l a = All-weaker (λ x. is_before x m ≡ false) (λ x.
 
 module _ {S K : Type 0} (plain : Plain S Message Sends K) (V : S → Message → Type 0) (O : IsOrder message_order)
     (law : (s : S) (e : Message) → plain.before (plain.after s e) e (plain.saves s e) ≡ s) where
+  pub stands-still : (h new : Held S K) → IsAsBefore h new → (x : Setting S) (v : World Message S) → StandsForSent (rules_of plain) V x v h [] → StandsForSent (rules_of plain) V x v new []
+  stands-still h new a x v g =
+      stands-kept (rules_of plain) O V law x v h new [] [] a.members a.done a.rows (λ y. times-permutation message_order y h.flow.queue new.flow.queue a.queue)
+      (ap (λ z. z.extra) a.flow) (ap (λ z. z.tray) a.flow) (λ q. ap (λ z. received_by message_order q (z.abroad ++ [])) (sym a.flow))
+      (subst (λ z. All (λ l. is_ours h.members (message_order.receiver l.message) ≡ false) z.abroad) (sym a.flow) g.elsewhere) g
+
   pub still : (h new : Held S K) → IsAsBefore h new → DoesSent (rules_of plain) V h [] new []
   still h new a = record {
     did = [];
     block = ap (λ z. z.words) a.flow ∙ sym (append-nil h.flow.words);
-    stands = λ x L v g. (
-      tt,
-      stands-kept (rules_of plain) O V law x v h new [] [] a.members a.done a.rows (λ y. times-permutation message_order y h.flow.queue new.flow.queue a.queue)
-          (ap (λ z. z.extra) a.flow) (ap (λ z. z.tray) a.flow) (λ q. ap (λ z. received_by message_order q (z.abroad ++ [])) (sym a.flow))
-          (subst (λ z. All (λ l. is_ours h.members (message_order.receiver l.message) ≡ false) z.abroad) (sym a.flow) g.elsewhere) g,
-    );
+    stands = λ x L v g. (tt, stands-still h new a x v g);
   }

@@ -1,12 +1,12 @@
 -- A letter of the group is taken: it waits in the tray.
-use Rattle.std.proofs.Common.{◌≡◌, ℕ, ◌≤◌, ◌<◌, min, true, false, List, [], ◌∷◌, ◌++◌, length, map, Some, All, nat_lt, ◌&&◌, remove, refl, sym, ap, ◌∙◌, subst, arith, slice_get, lt-ltb, append-nil}
+use Rattle.std.proofs.Common.{◌≡◌, ℕ, ◌≤◌, ◌<◌, min, true, false, List, [], ◌∷◌, ◌++◌, length, map, Some, All, nat_lt, remove, refl, sym, ap, ◌∙◌, subst, arith, slice_get, lt-ltb, append-nil}
 use Rattle.std.specs.Bool.{⊤}
 use Rattle.std.proofs.lemmas.Option.{slice_get_within}
 use Rattle.std.proofs.lemmas.List.Elements.{All-push}
 use Rattle.vlink.specs.declared.message.Message.{Message}
 use Rattle.vlink.specs.declared.note.Note.{Note}
 use Rattle.vlink.specs.Letters.{Letter}
-use Rattle.virtual_time.specs.Law.{Rules, IsOrder, Simulation, World, Part, put, received_by, delivered, floor_of, taken, effect, is_enabled, AreDone, done_by, IsAscending, IsNamed, minuses, plus_of, pluses, rows_at, times_in}
+use Rattle.virtual_time.specs.Law.{Rules, Simulation, World, Part, put, received_by, delivered, floor_of, taken, effect, is_enabled, AreDone, done_by, IsAscending, IsNamed, minuses, plus_of, pluses, rows_at, times_in}
 use Rattle.virtual_time.specs.declared.step.Step.TheVariants.{Take}
 use Rattle.virtual_time.proofs.Kept.{put_elim, put_elim₂}
 use Rattle.virtual_time.proofs.WellStep.{delivered-well}
@@ -15,7 +15,7 @@ use Rattle.reverse.specs.Setting.{Setting, simulation_of}
 use Rattle.virtual_time.specs.declared.letter.Letter.{Letter as AnyLetter}
 use Rattle.antimessages.specs.Counting.{signed_count}
 use Rattle.hand.specs.Deeds.{deeds_at, messages_of}
-use Rattle.hand.specs.Hands.{Held, IsMember, StandsForSent, counted, is_held, is_ours}
+use Rattle.hand.specs.Hands.{Held, IsMember, StandsForSent, counted, is_ours}
 use Rattle.hand.proofs.Going.{held-is, received-append, received-first, received-skip, received-sent, received-rest, received-other}
 
 -- a letter came to the tray of its receiver from somewhere, and these letters are on their way to each process

@@ -1,11 +1,12 @@
 -- What a group holds, when that stands for its processes in a small world of the law of virtual time, and what its calls do there.
-use Rattle.std.specs.Prelude.{◌≡◌, ℕ, ◌<◌, ◌≤◌, Bool, true, false, List, [], ◌∷◌, ◌++◌, map, length, slice_get, Option, Some, None, All, min, ⊤, IsPermutation}
+use Rattle.std.specs.Prelude.{◌≡◌, ℕ, ◌<◌, ◌≤◌, Bool, true, false, List, [], ◌++◌, map, length, slice_get, Option, Some, None, All, Contains, IfSome, min, ⊤, ◌⊎◌, ◌≢◌, pos, IsPermutation}
 use Rattle.vlink.specs.declared.message.Message.{Message}
 use Rattle.vlink.specs.declared.note.Note.{Note}
 use Rattle.vlink.specs.Letters.{Letter, Row}
-use Rattle.virtual_time.specs.Law.{Order, Rules, Simulation, Laws, World, Part, reached, rowed, rows_at, times_in, pluses, minuses, plus_of, IsNamed, received_by, floor_of, IsAscending, IsWell, AreDone, done_by, put, delivered}
+use Rattle.vlink.specs.Order.{message_order}
+use Rattle.virtual_time.specs.Law.{Order, Rules, Laws, World, Part, reached, rowed, rows_at, times_in, pluses, minuses, plus_of, IsNamed, received_by, floor_of, IsAscending, IsWell, AreDone, done_by, put, delivered}
 use Rattle.reverse.specs.Setting.{Setting, simulation_of}
-use Rattle.antimessages.specs.Counting.{HaveSameCounts}
+use Rattle.antimessages.specs.Counting.{HaveSameCounts, signed_count}
 use Rattle.process_queues.specs.Past.{AreValues}
 use Rattle.hand.specs.declared.block.Did.{Did}
 use Rattle.hand.specs.Block.{steps_told}
@@ -104,3 +105,17 @@ pub record IsAsBefore {S K : Type 0} (old new : Held S K) : Type 0 where
   pub rows : new.rows ≡ old.rows
   pub queue : IsPermutation old.flow.queue new.flow.queue
   pub flow : new.flow ≡ record old.flow { queue = new.flow.queue; room = new.flow.room }
+
+-- the same where GVT stands at this moment or later; GVT stays
+pub record CommitsTold {S K : Type 0} (r : Rules Message S K Note) (is_value : S → Message → Type 0) (moment : ℕ) (old new : Held S K) : Type 0 where
+  pub did : List Did
+  pub block : new.flow.words ≡ old.flow.words ++ did
+  pub stands : (x : Setting S) → Laws (simulation_of r x) → (v : World Message S) → moment ≤ v.gvt → StandsForGroup r is_value x v old →
+      AreDone (simulation_of r x) (steps_told did) v × StandsForGroup r is_value x (done_by (simulation_of r x) (steps_told did) v) new
+      × ((done_by (simulation_of r x) (steps_told did) v).gvt ≡ v.gvt)
+
+-- the oldest done event, if there is one, is not earlier than the moment; or it counts other than once; or some message of the queue does not come after it
+abbrev pub StaysDone : {S K : Type 0} → ℕ → Held S K → Type 0
+StaysDone moment h =
+    IfSome (slice_get (messages_of h.done) 0)
+    (λ m. (moment ≤ m.time) ⊎ ((signed_count message_order m h.flow.extra ≢ pos 0) ⊎ ((x : Message) × Contains h.flow.queue x × (message_order.less m x ≡ false))))

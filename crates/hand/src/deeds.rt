@@ -1,5 +1,6 @@
 //! The done events of a group.
-ghost use Rattle.std.specs.Prelude.{◌≡◌, ◌+◌, ◌<◌, ◌≤◌, List, [], ◌∷◌, ◌++◌, map, length, drop, OnOk, IfSome, IfNone};
+ghost use Rattle.std.specs.Prelude.{◌≡◌, ◌+◌, ◌<◌, ◌≤◌, List, [], ◌∷◌, ◌++◌, map, length, take, drop, slice_get, vec_len, vec_capacity, OnOk, OnErr, IfSome, IfNone};
+ghost use Rattle.std.specs.Option.{option_copied};
 ghost use Rattle.std.specs.VecDeque.{deque_len, deque_capacity};
 ghost use Rattle.vlink.specs.Order.{message_order};
 ghost use Rattle.virtual_time.specs.Law.{rows_of};
@@ -109,6 +110,35 @@ impl<K: Copy> Deeds<K> {
             None => true,
         }
     }
+
+    /// The message of the oldest event, if there is one.
+    #[inline(always)]
+    pub(crate) fn oldest(&self) -> Option<&Message>
+        ensures { option_copied result ≡ slice_get (messages_of self.now.deeds) 0 }
+    {
+        match self.events.front() {
+            Some(event) => Some(&event.message),
+            None => None,
+        }
+    }
+
+    /// The oldest event is forgotten, if there is one. Its rows go to the end of `sealed`. A refusal changes nothing.
+    #[inline(always)]
+    pub(crate) fn forget_oldest(&mut self, sealed: &mut Vec<Row>) -> Result<(), AllocError>
+        ensures forgotten { OnOk result ((first : Deed K) (rest : List (Deed K)) → self.old.deeds ≡ first ∷ rest →
+            (self.new.deeds ≡ rest) × (sealed.new.items ≡ sealed.old.items ++ first.rows)) }
+        ensures unchanged { OnErr result ((self.new.deeds ≡ self.old.deeds) × (sealed.new.items ≡ sealed.old.items)) }
+    {
+        let Some(event) = self.events.front() else {
+            return Ok(());
+        };
+        let (sent, noted) = (usize::from(event.sent), usize::from(event.noted));
+        sealed.reserve(noted)?;
+        let _event = self.events.pop_front();
+        forget_first(&mut self.sends, sent);
+        move_first(&mut self.rows, noted, sealed);
+        Ok(())
+    }
 }
 
 /// The messages go behind those that were sent. There is room for them.
@@ -134,5 +164,32 @@ fn note_all(rows: &mut VecDeque<Row>, message: &Message, notes: &[Note])
             place: message.receiver,
             note: *note,
         });
+    }
+}
+
+/// The first messages that were sent, so many, are forgotten.
+#[inline(always)]
+fn forget_first(sends: &mut VecDeque<Message>, count: usize)
+    requires { count ≤ deque_len sends.old }
+    ensures { sends.new.items ≡ drop count sends.old.items }
+{
+    for forgotten in 0..count {
+        let _message = sends.pop_front();
+    }
+}
+
+/// The first items, so many, go to the end of `taken`, which has room for them. It has a type parameter so that the borrow checker follows it.
+#[inline(always)]
+fn move_first<T: Copy + Drop>(items: &mut VecDeque<T>, count: usize, taken: &mut Vec<T>)
+    requires enough { count ≤ deque_len items.old }
+    requires room { vec_len taken.old + count ≤ vec_capacity taken.old }
+    ensures items { items.new.items ≡ drop count items.old.items }
+    ensures taken { taken.new.items ≡ taken.old.items ++ take count items.old.items }
+{
+    for moved in 0..count {
+        match items.pop_front() {
+            Some(item) => taken.push_reserved(item),
+            None => {}
+        }
     }
 }

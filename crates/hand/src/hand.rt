@@ -10,10 +10,11 @@ ghost use Rattle.reverse.specs.Setting.{Setting, simulation_of};
 ghost use Rattle.antimessages.specs.Counting.{is_after};
 ghost use Rattle.process_queues.specs.Past.{newest_of};
 ghost use Rattle.hand.specs.Deeds.{messages_of};
-ghost use Rattle.hand.specs.Hands.{DoesTold, StandsForGroup, IsAsBefore, is_ours, with_letter};
+ghost use Rattle.hand.specs.Hands.{DoesTold, StandsForGroup, CommitsTold, StaysDone, IsAsBefore, is_ours, with_letter};
 ghost use Rattle.hand.specs.declared.fault.HandFault.TheVariants.{OutOfMemory, Exhausted};
 ghost use Rattle.hand.specs.declared.hand.Early.TheVariants.{Idle, Late};
 
+use crate::block::Did;
 use crate::deeds::Deeds;
 use crate::early::handle_first;
 use crate::fault::HandFault;
@@ -152,5 +153,49 @@ impl<R: Actor> Hand<R> {
             &message,
         );
         Ok(Early::Ran)
+    }
+
+    /// The done events that are earlier than the moment, in ns, are committed, the oldest first, up to one that counts other than once, or after which
+    /// the first message of the queue does not come. Their rows are sealed. A refusal stops between two events.
+    pub fn commit(&mut self, moment: Time) -> Result<(), HandFault>
+        ensures did { CommitsTold (rules_of R.plain) R.is_value moment self.old self.new }
+        ensures left { OnOk result (StaysDone moment self.new) }
+        ensures memory { IfErr result (λ fault. fault ≡ OutOfMemory) }
+    {
+        'events: while self.commit_oldest(moment)? {}
+        Ok(())
+    }
+
+    /// The oldest done event is committed, where it can be. The answer is whether it was.
+    #[inline(always)]
+    fn commit_oldest(&mut self, moment: Time) -> Result<bool, HandFault>
+        ensures did { CommitsTold (rules_of R.plain) R.is_value moment self.old self.new }
+        ensures left { result ≡ Ok false → StaysDone moment self.new }
+        ensures fewer { result ≡ Ok true → length self.new.done + 1 ≡ length self.old.done }
+        ensures memory { IfErr result (λ fault. fault ≡ OutOfMemory) }
+    {
+        actor_rules::<R>();
+        let Some(message) = self.done.oldest().copied() else {
+            return Ok(false);
+        };
+        if message.time >= moment {
+            return Ok(false);
+        }
+        if !self.letters.counts_once(&message) {
+            return Ok(false);
+        }
+        self.letters.reserve(1)?;
+        self.done.forget_oldest(&mut self.rows)?;
+        self.letters.tell(Did::Committed {
+            process: message.receiver,
+        });
+        Ok(true)
+    }
+
+    /// The rows of committed events, in the order of their events.
+    pub fn rows(&self) -> &[Row]
+        ensures { result.now ≡ self.now.rows }
+    {
+        &self.rows
     }
 }

@@ -1,7 +1,10 @@
 //! What waits for a group, and what it sent to others.
-ghost use Rattle.std.specs.Prelude.{◌≡◌, ◌+◌, ◌<◌, ◌≤◌, ◌⊎◌, [], ◌∷◌, ◌++◌, true, false, All, Contains, OnOk, OnErr, IfOk, IfSome, IfNone, IsPermutation};
+ghost use Rattle.std.specs.Prelude.{◌≡◌, ◌≢◌, ◌+◌, ◌<◌, ◌≤◌, ◌⊎◌, [], ◌∷◌, ◌++◌, true, false, All, Contains, OnOk, OnErr, IfOk, IfSome, IfNone, IsPermutation, pos};
 ghost use Rattle.vlink.specs.declared.message.Message.{Message};
 ghost use Rattle.vlink.specs.Letters.{Letter};
+ghost use Rattle.vlink.specs.Order.{message_order};
+ghost use Rattle.virtual_time.specs.Law.{times_in};
+ghost use Rattle.antimessages.specs.Counting.{signed_count};
 ghost use Rattle.reverse.specs.Rules.{is_before};
 ghost use Rattle.hand.specs.Flow.{WentAbroad, CameHome, WasTaken};
 
@@ -11,7 +14,7 @@ use antimessages::Tally;
 use std::alloc::{AllocError, Global};
 use std::collections::VecDeque;
 use std::marker::Model;
-use vlink::{Letter, Message, Sign};
+use vlink::{Letter, Message, Sign, compare, lawful_order, message_order};
 
 /// What waits for the members of a group, what they sent to others, and what was done.
 #[derive(Drop)]
@@ -126,6 +129,27 @@ impl Letters {
     {
         push_back(&mut self.tray, letter)?;
         Ok(())
+    }
+
+    /// Whether the message of a done event counts just once: nothing of it counts beside, and the first message of the queue, if there is one, comes
+    /// after it.
+    #[inline(always)]
+    pub(crate) fn counts_once(&mut self, message: &Message) -> bool
+        ensures same { IsPermutation self.old.queue self.new.queue }
+        ensures others { self.new ≡ record self.old { queue = self.new.queue; room = self.new.room } }
+        ensures zero { result ≡ true → signed_count message_order message.now self.old.extra ≡ pos 0 }
+        ensures none { result ≡ true → times_in message_order message.now self.old.queue ≡ 0 }
+        ensures left { result ≡ false → (signed_count message_order message.now self.new.extra ≢ pos 0) ⊎ ((x : Message) × Contains self.new.queue x × (message_order.less message.now x ≡ false)) }
+    {
+        message_order();
+        lawful_order();
+        let Some(first) = self.queue.first() else {
+            return self.extra.is_zero(message);
+        };
+        if !compare(message, &first).is_lt() {
+            return false;
+        }
+        self.extra.is_zero(message)
     }
 
     /// A message that was just sent goes on: to others; or to a member, whose letter is taken and joins the queue at once, where no letter is to

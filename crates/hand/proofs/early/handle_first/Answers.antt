@@ -1,9 +1,7 @@
-use Rattle.std.proofs.Common.{◌≡◌, ◌∷◌, [], ◌++◌, List, Option, Some, set, subst, sym, ap, ◌∙◌}
-use Rattle.vlink.specs.declared.message.Message.{Message}
+use Rattle.std.proofs.Common.{◌∷◌, [], ◌++◌, Some, set, subst, sym, ap, ◌∙◌}
 use Rattle.vlink.specs.Order.{message_order}
 use Rattle.virtual_time.specs.Law.{rows_of}
 use Rattle.reverse.specs.Rules.{rules_of}
-use Rattle.hand.specs.Deeds.{Deed, deed_of}
 use Rattle.hand.specs.Hands.{DoesSent}
 use Rattle.hand.specs.Passing.{GoesOn, held}
 use Rattle.hand.proofs.FirstEvent.{handles}

@@ -1,4 +1,4 @@
-use Rattle.std.proofs.Common.{◌≡◌, ◌<◌, ◌+◌, ◌≤◌, ◌∷◌, [], List, length, drop, drop-cons, drop_of_length-le, get_or, subst, sym, ap, ◌∙◌, refl, arith, add-one}
+use Rattle.std.proofs.Common.{◌≡◌, ◌<◌, ◌+◌, ◌∷◌, List, length, drop, drop-cons, drop_of_length-le, subst, sym, ◌∙◌, arith, add-one}
 use Rattle.vlink.specs.declared.message.Message.{Message}
 use Rattle.reverse.specs.Rules.{rules_of}
 use Rattle.hand.specs.Passing.{GoesOn}

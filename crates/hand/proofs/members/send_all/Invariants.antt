@@ -1,4 +1,4 @@
-use Rattle.std.proofs.Common.{◌≡◌, ◌+◌, ◌≤◌, length, drop}
+use Rattle.std.proofs.Common.{◌+◌, ◌≤◌, length, drop}
 use Rattle.reverse.specs.Rules.{rules_of}
 use Rattle.hand.specs.Passing.{GoesOn}
 use Rattle.hand.proofs.members.send_all.Given as goal

@@ -1,8 +1,8 @@
-use Rattle.std.proofs.Common.{◌≡◌, ◌+◌, ◌++◌, ◌∷◌, [], length, map, refl, subst, sym, ap, ◌∙◌, arith, length-append}
+use Rattle.std.proofs.Common.{◌+◌, ◌++◌, ◌∷◌, [], length, refl, sym, ap, ◌∙◌, length-append}
 use Rattle.std.proofs.lemmas.List.{length-map}
 use Rattle.vlink.specs.Order.{message_order}
 use Rattle.virtual_time.specs.Law.{rows_of}
-use Rattle.hand.specs.Deeds.{Deed, deeds_in, all_sent, all_noted}
+use Rattle.hand.specs.Deeds.{deeds_in, all_sent, all_noted}
 use Rattle.hand.proofs.Shares.{deeds-more, sent-more, noted-more}
 use Rattle.hand.proofs.deeds.Deeds.push_reserved.Goals as goal
 

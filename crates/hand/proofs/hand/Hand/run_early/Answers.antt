@@ -1,10 +1,8 @@
-use Rattle.std.proofs.Common.{◌≡◌, ◌<◌, ◌+◌, [], List, Some, false, All, Contains, slice_get, IsPermutation, subst, sym, ap, ◌∙◌, refl}
+use Rattle.std.proofs.Common.{◌≡◌, [], List, Some, false, All, Contains, slice_get, subst, sym, ap, ◌∙◌, refl}
 use Rattle.std.proofs.lemmas.List.{with_items_is}
 use Rattle.std.proofs.lemmas.List.Sorted.{Contains-permutation, All-permutation}
 use Rattle.vlink.specs.declared.message.Message.{Message}
-use Rattle.vlink.specs.Numbering.{greatest_number}
 use Rattle.reverse.specs.Rules.{rules_of, is_before}
-use Rattle.hand.specs.Flow.{Flow}
 use Rattle.hand.specs.Hands.{DoesSent, IsAsBefore}
 use Rattle.hand.specs.Passing.{held}
 use Rattle.hand.proofs.Telling.{does-both}

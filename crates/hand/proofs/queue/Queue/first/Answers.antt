@@ -1,6 +1,5 @@
-use Rattle.std.proofs.Common.{◌≡◌, ◌-◌, List, ◌∷◌, ◌++◌, length, slice_get, Contains, IfSome, IsPermutation, subst, sym, ap, option_copied}
+use Rattle.std.proofs.Common.{◌≡◌, ◌-◌, List, ◌++◌, length, slice_get, Contains, IfSome, IsPermutation, subst, sym, ap, option_copied}
 use Rattle.std.proofs.lemmas.List.Sorted.{IsPermutation-append_left}
-use Rattle.std.proofs.lemmas.List.Elements.{Contains-append_left}
 use Rattle.vlink.specs.declared.message.Message.{Message}
 use Rattle.two_lists.proofs.Firsts.{NoneBefore}
 use Rattle.two_lists.proofs.NearAndFar.{first-in-first}

@@ -1,0 +1,84 @@
+-- Done events are committed one after another.
+use Rattle.std.proofs.Common.{◌≡◌, ℕ, ◌<◌, ◌≤◌, true, false, List, [], ◌∷◌, ◌++◌, Option, Some, None, IfSome, All, pos, slice_get, refl, sym, ap, ◌∙◌, subst, append_assoc, append-nil, arith}
+use Rattle.std.proofs.lemmas.Bool.{both_ways}
+use Rattle.vlink.specs.declared.message.Message.{Message}
+use Rattle.vlink.specs.declared.note.Note.{Note}
+use Rattle.vlink.specs.Order.{message_order}
+use Rattle.virtual_time.specs.Law.{Simulation, Rules, IsOrder, World, times_in, effect, AreDone, done_by}
+use Rattle.virtual_time.specs.declared.step.Step.TheVariants.{Commit}
+use Rattle.virtual_time.proofs.Lists.{times-none}
+use Rattle.reverse.specs.Plain.{Plain}
+use Rattle.reverse.specs.Rules.{rules_of, is_before}
+use Rattle.reverse.specs.Setting.{simulation_of}
+use Rattle.reverse.specs.declared.sends.Sends.{Sends}
+use Rattle.reverse.proofs.Members.{in-all}
+use Rattle.antimessages.specs.Counting.{signed_count}
+use Rattle.hand.specs.declared.block.Did.TheVariants.{Committed}
+use Rattle.hand.specs.Block.{steps_told}
+use Rattle.hand.specs.Deeds.{Deed, messages_of}
+use Rattle.hand.specs.Hands.{Held, CommitsTold, StandsForSent, IsAsBefore}
+use Rattle.hand.proofs.Telling.{done-append, are_done-append, told-append}
+use Rattle.hand.proofs.Sealing.{sealed-steps, sealed}
+use Rattle.hand.proofs.Still.{stands-still}
+
+-- what comes before the first of the queue is not in it
+pub none-before : IsOrder message_order → (m first : Message) (xs : List Message) → message_order.less m first ≡ true → All (λ x. is_before x first ≡ false) xs →
+    times_in message_order m xs ≡ 0
+none-before O m first xs b a =
+    times-none message_order O m xs (λ i. both_ways (message_order.less m first) (in-all message_order O (λ x. is_before x first ≡ false) m xs a i) b)
+
+-- the event whose message is the oldest
+pub oldest-is : {K : Type 0} (ds : List (Deed K)) (m : Message) → slice_get (messages_of ds) 0 ≡ Some m → (d : Deed K) × (rest : List (Deed K)) × (ds ≡ d ∷ rest) × (d.message ≡ m)
+oldest-is [] m e = absurd cc
+oldest-is (d ∷ ds) m e = (d, ds, refl, cc)
+
+pub if-some : {X : Type 0} (P : X → Type 0) (o : Option X) (x : X) → o ≡ Some x → P x → IfSome o P
+if-some P o x e p = subst (λ z. IfSome z P) (sym e) p
+
+pub if-none : {X : Type 0} (P : X → Type 0) (o : Option X) → o ≡ None → IfSome o P
+if-none P o e = subst (λ z. IfSome z P) (sym e) tt
+
+commit-gvt : {M S K N : Type 0} (f : Simulation M S K N) (p : ℕ) (v : World M S) → (effect f (Commit p) v).gvt ≡ v.gvt
+unfolding effect
+commit-gvt f p v = refl
+
+module _ {S K : Type 0} (r : Rules Message S K Note) (V : S → Message → Type 0) where
+  pub commits-both : (moment : ℕ) (h mid new : Held S K) → CommitsTold r V moment h mid → CommitsTold r V moment mid new → CommitsTold r V moment h new
+  commits-both moment h mid new a b = record {
+    did = a.did ++ b.did;
+    block = b.block ∙ (ap (λ z. z ++ b.did) a.block ∙ append_assoc h.flow.words a.did b.did);
+    stands = λ x L v l g.
+        let f = simulation_of r x in
+        let one = a.stands x L v l g in
+        let two = b.stands x L (done_by f (steps_told a.did) v) (subst (λ n. moment ≤ n) (sym one.2) l) one.1 in
+        let same = ap (λ xs. done_by f xs v) (told-append a.did b.did) ∙ done-append f (steps_told a.did) (steps_told b.did) v in (
+          subst (λ xs. AreDone f xs v) (sym (told-append a.did b.did)) (are_done-append f (steps_told a.did) (steps_told b.did) v one.0 two.0),
+          subst (λ w. StandsForSent r V x w new []) (sym same) two.1,
+          ap (λ w. w.gvt) same ∙ (two.2 ∙ one.2),
+        );
+  }
+
+module _ {S K : Type 0} (plain : Plain S Message Sends K) (V : S → Message → Type 0) (O : IsOrder message_order)
+    (law : (s : S) (e : Message) → plain.before (plain.after s e) e (plain.saves s e) ≡ s) (moment : ℕ) where
+  pub commits-nothing : (h new : Held S K) → IsAsBefore h new → CommitsTold (rules_of plain) V moment h new
+  commits-nothing h new a = record {
+    did = [];
+    block = ap (λ z. z.words) a.flow ∙ sym (append-nil h.flow.words);
+    stands = λ x L v l g. (tt, stands-still plain V O law h new a x v g, refl);
+  }
+
+  pub commits-oldest : (h new : Held S K) (d : Deed K) (rest : List (Deed K)) → new.members ≡ h.members → h.done ≡ d ∷ rest → new.done ≡ rest → new.rows ≡ h.rows ++ d.rows →
+      new.flow.queue ≡ h.flow.queue → new.flow.extra ≡ h.flow.extra → new.flow.tray ≡ h.flow.tray → new.flow.abroad ≡ h.flow.abroad →
+      new.flow.words ≡ h.flow.words ++ Committed d.message.receiver ∷ [] →
+      times_in message_order d.message h.flow.queue ≡ 0 → signed_count message_order d.message h.flow.extra ≡ pos 0 → d.message.time < moment →
+      CommitsTold (rules_of plain) V moment h new
+  commits-oldest h new d rest members done left rows queue extra tray abroad words none zero early = record {
+    did = Committed d.message.receiver ∷ [];
+    block = words;
+    stands = λ x L v l g.
+        let soon : d.message.time < v.gvt = omega arith in (
+          sealed-steps (rules_of plain) O V law x v h new d rest members done left rows queue extra tray abroad none zero soon g,
+          sealed (rules_of plain) O V law x v h new d rest members done left rows queue extra tray abroad none zero soon g,
+          commit-gvt (simulation_of (rules_of plain) x) d.message.receiver v,
+        );
+  }
