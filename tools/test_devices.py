@@ -29,6 +29,7 @@ ROWS = """
 seq n1.toml --trace trace.csv => 0
 run n1.toml --workers 2 --trace trace.csv --journal journal.txt => 0
 replay n1.toml journal.txt => 0 replay: ... finished
+run n1.toml --workers 2 --trace /dev/null --journal /dev/null => 0
 replay n1.toml steps.txt => 0 replay: 41 did, 0 not enabled, 0 refused, gvt 2000001, finished
 check folder => 4 afdxsim: cannot read folder
 seq folder => 4 afdxsim: cannot read folder
