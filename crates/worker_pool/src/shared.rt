@@ -1,9 +1,9 @@
 //! The exchange that all workers of a run share.
-ghost use Rattle.std.specs.Prelude.{◌≡◌, ◌≢◌, ◌⊎◌, ◌+◌, ◌<◌, ◌≤◌, length, IfErr, Err};
+ghost use Rattle.std.specs.Prelude.{◌≡◌, ◌≢◌, ◌⊎◌, ◌+◌, ◌<◌, ◌≤◌, true, length, IfErr, Err};
 ghost use Rattle.virtual_time.specs.Law.{steps, reach};
 ghost use Rattle.netdesc.specs.Words.{process_count};
 ghost use Rattle.nodes.specs.Words.{simulation_of};
-ghost use Rattle.journal.specs.declared.fault.PoolFault.TheVariants.{Exhausted, JournalFull, OutOfMemory, Spawn};
+ghost use Rattle.journal.specs.declared.fault.PoolFault.TheVariants.{Exhausted, JournalFull, OutOfMemory, Spawn, Torn};
 ghost use Rattle.worker_pool.specs.Outcomes.{LacksNumbers};
 ghost use Rattle.worker_pool.specs.Runs.{most_steps};
 
@@ -83,7 +83,7 @@ impl<J: NetworkRun> Shared<J> {
         ensures full { result ≡ Err JournalFull → most_steps J.keeps < length (steps self.old.entries) + length locked.old.block + 1 }
         ensures limited { 0 < length locked.old.block → most_steps J.keeps < length (steps self.old.entries) + length locked.old.block + 1 →
             result ≡ Err JournalFull }
-        ensures faults { IfErr result (λ fault. (fault ≡ OutOfMemory) ⊎ (fault ≡ JournalFull)) }
+        ensures faults { IfErr result (λ fault. (fault ≡ OutOfMemory) ⊎ ((fault ≡ JournalFull) ⊎ ((fault ≡ Torn) × (J.keeps ≡ true)))) }
         ensures no_spawn { IfErr result (λ fault. fault ≢ Spawn) }
     {
         match post(locked, &mut self.inner) {
