@@ -157,6 +157,12 @@ def tree_of(folder):
     return found
 
 
+def heed_signals():
+    """What is started heeds each signal, also where the tests were started in the background, or by nohup."""
+    for number in (signal.SIGINT, signal.SIGTERM, signal.SIGHUP):
+        signal.signal(number, signal.SIG_DFL)
+
+
 class Rows(unittest.TestCase):
     def setUp(self):
         folder = tempfile.TemporaryDirectory()
@@ -314,8 +320,7 @@ class Ends(Rows):
                 (signal.SIGHUP, 129, "ended by SIGHUP"),
             ):
                 with self.subTest(words, signal=number):
-                    default = lambda: signal.signal(signal.SIGINT, signal.default_int_handler)
-                    run = self.started(*words.split(), preexec_fn=default)
+                    run = self.started(*words.split(), preexec_fn=heed_signals)
                     with open(self.path("pipe"), "w"):
                         run.send_signal(number)
                         out, told = run.communicate(timeout=60)
