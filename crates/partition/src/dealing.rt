@@ -1,0 +1,37 @@
+//! Nodes are dealt to groups by what they have to do alone, where there are more groups than switches.
+use crate::flows::{add, least};
+use crate::moving::Owners;
+use std::alloc::{AllocError, Global};
+
+/// What a node has to do.
+#[derive(Clone, Copy, PartialEq, Eq, PartialOrd, Ord)]
+struct Load {
+    events: u64,
+    node: usize,
+}
+
+/// Each node, that with most to do first, goes to the group that has least to do.
+pub(crate) fn deal(alloc: Global, loads: &[u64], groups: usize) -> Result<Owners, AllocError> {
+    let mut owners = Owners {
+        of: vec![in alloc; 0usize; loads.len()]?,
+        sums: vec![in alloc; 0u64; groups]?,
+    };
+    let mut left = Vec::with_capacity(alloc, loads.len())?;
+    for node in 0..loads.len() {
+        left.push(Load {
+            events: loads[node],
+            node,
+        })?;
+    }
+    left.sort()?;
+    for dealt in 0..loads.len() {
+        if let Some(load) = left.pop() {
+            let group = least(&owners.sums);
+            add(&mut owners.sums, group, load.events);
+            if let Some(place) = owners.of.get_mut(load.node) {
+                *place = group;
+            }
+        }
+    }
+    Ok(owners)
+}

@@ -1,0 +1,113 @@
+//! The group of each process.
+ghost use Rattle.std.specs.Prelude.{◌≡◌, ◌<◌, ◌≤◌, All, length, IfOk};
+ghost use Rattle.netdesc.specs.Faults.{process_count};
+
+use crate::clusters::Clusters;
+use crate::dealing::deal;
+use crate::flows::{Flow, add, flows_of, least, loads_of, sum_at};
+use crate::joining::join_all;
+use crate::moving::Owners;
+use crate::packing::{group_of, pack};
+use netdesc::Network;
+use std::alloc::{AllocError, Global};
+
+/// How many events a group is to have within a lead, at the least.
+const EVENTS_IN_LEAD: u64 = 8;
+
+/// How many groups a network is worth: at most so many, and each has some events within the lead, in ns, by which workers may be apart.
+pub fn group_count(
+    alloc: Global,
+    network: &Network,
+    most: usize,
+    lead_ns: u64,
+) -> Result<usize, AllocError>
+    ensures least { IfOk result (λ groups. 1 ≤ groups) }
+    ensures most { 1 ≤ most → IfOk result (λ groups. groups ≤ most) }
+{
+    let loads = loads_of(alloc, network, &flows_of(alloc, network)?)?;
+    let within = all(&loads).saturating_mul(lead_ns) / 1_000_000_000;
+    let worth = (within / EVENTS_IN_LEAD).min(65_536) as usize;
+    Ok(worth.min(most).max(1))
+}
+
+/// The group of each process of the network, by its number, where there are so many groups, from 0. Each end system goes with a switch, switches with much
+/// traffic between them go together while a group can take both, and a line goes with the node to which it leads. It is refused for memory alone.
+pub fn groups_of(alloc: Global, network: &Network, groups: usize) -> Result<Vec<usize>, AllocError>
+    requires { 1 ≤ groups }
+    ensures all { IfOk result (λ places. length places.items ≡ process_count network.now) }
+    ensures within { IfOk result (λ places. All (λ group. group < groups) places.items) }
+{
+    let flows = flows_of(alloc, network)?;
+    let loads = loads_of(alloc, network, &flows)?;
+    let owners = owners_of(alloc, network, &flows, &loads, groups)?;
+    let mut places = Vec::with_capacity(alloc, network.process_count())?;
+    for node in 0..network.node_count() {
+        places.push(owners.at(node).min(groups - 1))?;
+    }
+    for line in 0..network.line_count() {
+        let to = usize::from(network.line(line).to);
+        places.push(owners.at(to).min(groups - 1))?;
+    }
+    Ok(places)
+}
+
+/// The group of each node.
+fn owners_of(
+    alloc: Global,
+    network: &Network,
+    flows: &[Flow],
+    loads: &[u64],
+    groups: usize,
+) -> Result<Owners, AllocError>
+    requires { 1 ≤ groups }
+{
+    let even = all(loads) / groups as u64;
+    let most = even.saturating_add(even / 20);
+    let mut clusters = Clusters::new(alloc, network, flows, loads)?;
+    if groups > clusters.sums.len() {
+        return deal(alloc, loads, groups);
+    }
+    let between = join_all(alloc, &mut clusters, flows, groups, most)?;
+    let mut packed = pack(
+        alloc,
+        &clusters,
+        &between,
+        groups,
+        even.saturating_add(even / 10),
+    )?;
+    let mut of = Vec::with_capacity(alloc, loads.len())?;
+    for node in 0..loads.len() {
+        let group = match clusters.at(node) {
+            Some(cluster) => group_of(&packed, cluster),
+            None => None,
+        };
+        of.push(home(&mut packed.sums, group, sum_at(loads, node)))?;
+    }
+    let mut owners = Owners {
+        of,
+        sums: packed.sums,
+    };
+    owners.improve(alloc, network, flows, loads, most)?;
+    Ok(owners)
+}
+
+/// The group that was found for a node; where none was, the node joins the one that has least to do.
+fn home(sums: &mut [u64], group: Option<usize>, load: u64) -> usize {
+    match group {
+        Some(group) => group,
+        None => {
+            let group = least(sums);
+            add(sums, group, load);
+            group
+        }
+    }
+}
+
+/// The sum of all.
+fn all(loads: &[u64]) -> u64 {
+    let mut sum = 0u64;
+    for load in loads {
+        sum = sum.saturating_add(*load);
+    }
+    sum
+}

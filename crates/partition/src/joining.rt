@@ -1,0 +1,103 @@
+//! Clusters are joined, the two with most traffic between them first.
+use crate::clusters::Clusters;
+use crate::flows::{Flow, add, sum_at};
+use crate::matrix::Matrix;
+use std::alloc::{AllocError, Global};
+
+/// Two clusters, and what goes between them.
+#[derive(Clone, Copy)]
+struct Pair {
+    one: usize,
+    other: usize,
+    frames: u64,
+}
+
+/// Joins clusters as long as there are more than groups, and two with traffic between them have at most so much to do. A cluster that joined
+/// another has nothing to do. The answer is what goes between each two.
+pub(crate) fn join_all(
+    alloc: Global,
+    clusters: &mut Clusters,
+    flows: &[Flow],
+    groups: usize,
+    most: u64,
+) -> Result<Matrix, AllocError> {
+    let mut between = between(alloc, clusters, flows)?;
+    for joined in groups..clusters.sums.len() {
+        if let Some(pair) = closest(clusters, &between, most) {
+            join(clusters, &mut between, pair);
+        }
+    }
+    Ok(between)
+}
+
+/// What goes between each two clusters.
+fn between(alloc: Global, clusters: &Clusters, flows: &[Flow]) -> Result<Matrix, AllocError> {
+    let mut between = Matrix::new(alloc, clusters.sums.len())?;
+    for flow in flows {
+        if let (Some(one), Some(other)) = (clusters.at(flow.from), clusters.at(flow.to)) {
+            if one != other {
+                between.add(one, other, flow.frames);
+            }
+        }
+    }
+    Ok(between)
+}
+
+/// The two clusters with most traffic between them of those that have at most so much to do together, if any have traffic between them.
+fn closest(clusters: &Clusters, between: &Matrix, most: u64) -> Option<Pair> {
+    let mut closest: Option<Pair> = None;
+    for one in 0..clusters.sums.len() {
+        closest = closer(closest, closest_to(clusters, between, one, most));
+    }
+    closest
+}
+
+/// The same where one is given, and comes first.
+fn closest_to(clusters: &Clusters, between: &Matrix, one: usize, most: u64) -> Option<Pair> {
+    let mut closest: Option<Pair> = None;
+    for other in one..clusters.sums.len() {
+        if fit(&clusters.sums, one, other, most) {
+            let frames = between.at(one, other);
+            closest = closer(closest, Some(Pair { one, other, frames }));
+        }
+    }
+    closest
+}
+
+/// Whether these are two clusters, neither of which joined another, that have at most so much to do together.
+fn fit(sums: &[u64], one: usize, other: usize, most: u64) -> bool {
+    let (first, second) = (sum_at(sums, one), sum_at(sums, other));
+    one != other && first > 0 && second > 0 && first.saturating_add(second) <= most
+}
+
+/// The pair with more traffic, which is some.
+fn closer(one: Option<Pair>, other: Option<Pair>) -> Option<Pair> {
+    let more = match one {
+        Some(pair) => pair.frames,
+        None => 0,
+    };
+    match other {
+        Some(pair) if pair.frames > more => other,
+        _ => one,
+    }
+}
+
+/// The second cluster of the pair joins the first.
+fn join(clusters: &mut Clusters, between: &mut Matrix, pair: Pair) {
+    let joined = sum_at(&clusters.sums, pair.other);
+    add(&mut clusters.sums, pair.one, joined);
+    if let Some(sum) = clusters.sums.get_mut(pair.other) {
+        *sum = 0;
+    }
+    for cluster in 0..clusters.sums.len() {
+        if cluster != pair.one {
+            let frames = between.at(pair.other, cluster);
+            between.add(pair.one, cluster, frames);
+        }
+    }
+    for cluster in &mut clusters.of {
+        if *cluster == Some(pair.other) {
+            *cluster = Some(pair.one);
+        }
+    }
+}

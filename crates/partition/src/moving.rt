@@ -1,0 +1,97 @@
+//! Nodes move to other groups where less then goes between groups.
+use crate::flows::{Flow, add, is_switch, sum_at, take};
+use netdesc::Network;
+use std::alloc::{AllocError, Global};
+
+/// How often all nodes are looked at.
+const ROUNDS: usize = 8;
+
+/// The group of each node, and how many events each group has in a second.
+#[derive(Drop)]
+pub(crate) struct Owners {
+    pub(crate) of: Vec<usize>,
+    pub(crate) sums: Vec<u64>,
+}
+
+impl Owners {
+    /// The group of a node.
+    pub(crate) fn at(&self, node: usize) -> usize {
+        match self.of.get(node) {
+            Some(group) => *group,
+            None => 0,
+        }
+    }
+
+    /// Nodes move to the groups with which they have more traffic, where those then have at most so much to do, or less than the group that the node
+    /// leaves; and end systems leave a group that has more.
+    pub(crate) fn improve(
+        &mut self,
+        alloc: Global,
+        network: &Network,
+        flows: &[Flow],
+        loads: &[u64],
+        most: u64,
+    ) -> Result<(), AllocError> {
+        for round in 0..ROUNDS {
+            for node in 0..self.of.len() {
+                let traffic = self.traffic_of(alloc, flows, node)?;
+                let load = sum_at(loads, node);
+                self.settle(node, load, &traffic, most, !is_switch(network, node));
+            }
+        }
+        Ok(())
+    }
+
+    /// What goes between the node and each group.
+    fn traffic_of(
+        &self,
+        alloc: Global,
+        flows: &[Flow],
+        node: usize,
+    ) -> Result<Vec<u64>, AllocError> {
+        let mut traffic = vec![in alloc; 0u64; self.sums.len()]?;
+        for flow in flows {
+            if flow.from == node {
+                add(&mut traffic, self.at(flow.to), flow.frames);
+            }
+            if flow.to == node {
+                add(&mut traffic, self.at(flow.from), flow.frames);
+            }
+        }
+        Ok(traffic)
+    }
+
+    /// The node goes to the group to which it should go, group by group.
+    fn settle(&mut self, node: usize, load: u64, traffic: &[u64], most: u64, is_light: bool) {
+        for group in 0..self.sums.len() {
+            if group != self.at(node) && self.gains(node, group, load, traffic, most, is_light) {
+                self.move_to(node, group, load);
+            }
+        }
+    }
+
+    fn gains(
+        &self,
+        node: usize,
+        group: usize,
+        load: u64,
+        traffic: &[u64],
+        most: u64,
+        is_light: bool,
+    ) -> bool {
+        let before = sum_at(&self.sums, self.at(node));
+        let after = sum_at(&self.sums, group).saturating_add(load);
+        let more = sum_at(traffic, group) > sum_at(traffic, self.at(node));
+        let evens = is_light && before > most && after < before && sum_at(traffic, group) > 0;
+        evens || more && (after <= most || after < before)
+    }
+
+    fn move_to(&mut self, node: usize, group: usize, load: u64) {
+        let before = self.at(node);
+        take(&mut self.sums, before, load);
+        add(&mut self.sums, group, load);
+        if let Some(place) = self.of.get_mut(node) {
+            *place = group;
+        }
+    }
+}
