@@ -5,8 +5,10 @@ use Rattle.std.proofs.lemmas.Bool.{cases_lt}
 use Rattle.vlink.specs.declared.message.Message.{Message}
 use Rattle.vlink.specs.Letters.{Row}
 use Rattle.vlink.specs.Order.{message_order}
-use Rattle.virtual_time.specs.Law.{IsOrder, Laws, World, IsIn, IsReached, times_in, one_if, same, plus_of, AreDone, done_by}
-use Rattle.virtual_time.proofs.Lists.{in-push}
+use Rattle.virtual_time.specs.Law.{IsOrder, Laws, World, IsAscending, IsIn, IsReached, times_in, one_if, same, plus_of, AreDone, done_by}
+use Rattle.virtual_time.proofs.Ascending.{ascending-push}
+use Rattle.virtual_time.proofs.Lists.{in-push, times-none}
+use Rattle.virtual_time.proofs.Order.{less-irrefl}
 use Rattle.reverse.specs.Plain.{Plain}
 use Rattle.reverse.specs.Rules.{rules_of}
 use Rattle.reverse.specs.Setting.{Setting, simulation_of}
@@ -18,21 +20,21 @@ use Rattle.process_queues.proofs.Newest.{after-all}
 use Rattle.two_lists.proofs.Counting.{times-permutation}
 use Rattle.hand.specs.declared.block.Did.TheVariants.{Ran}
 use Rattle.hand.specs.Block.{steps_told}
-use Rattle.hand.specs.Deeds.{Deed, deed_of, messages_of}
+use Rattle.hand.specs.Deeds.{Deed, deed_of, deeds_at, messages_of}
 use Rattle.hand.specs.Flow.{Flow}
 use Rattle.hand.specs.Hands.{DoesSent, StandsForSent}
 use Rattle.hand.specs.Passing.{GoesOn, held}
 use Rattle.hand.proofs.Telling.{done-append, are_done-append}
-use Rattle.hand.proofs.Running.{messages-push}
+use Rattle.hand.proofs.Running.{messages-push, mine-push, kept-push}
 use Rattle.hand.proofs.Handled.{ran, ran-steps}
 
 -- a new member at its place
-set-here : {X : Type 0} (xs : List X) (p : ℕ) (x y : X) → slice_get xs p ≡ Some y → slice_get (set xs p x) p ≡ Some x
+pub set-here : {X : Type 0} (xs : List X) (p : ℕ) (x y : X) → slice_get xs p ≡ Some y → slice_get (set xs p x) p ≡ Some x
 set-here xs p x y e =
     let l = slice_get_within xs p y e in
     slice_get-get_or (set xs p x) p x (let a = length-set xs p x in subst (λ n. p < n) (sym a) l) ∙ ap (λ z. Some z) (get_or-set_same xs p x x l)
 
-set-there : {X : Type 0} (xs : List X) (p q : ℕ) (x : X) → (q ≡ p → ⊥) → slice_get (set xs p x) q ≡ slice_get xs q
+pub set-there : {X : Type 0} (xs : List X) (p q : ℕ) (x : X) → (q ≡ p → ⊥) → slice_get (set xs p x) q ≡ slice_get xs q
 set-there xs p q x n = go (cases_lt q (length xs))
   where
     go : (q < length xs) ⊎ (length xs ≤ q) → slice_get (set xs p x) q ≡ slice_get xs q
@@ -69,20 +71,36 @@ module _ {S K : Type 0} (plain : Plain S Message Sends K) (V : S → Message →
           (y : Message) → IsIn message_order y (messages_of done) → message_order.less y m ≡ true
       before-done x v g y i = after-all (rules_of plain) O (messages_of done) m g.ascending early y i
 
+      not-done : (x : Setting S) → (v : World Message S) → StandsForSent (rules_of plain) V x v (held members done rows old) [] → times_in message_order m (messages_of done) ≡ 0
+      not-done x v g = times-none message_order O m (messages_of done) (λ i. less-irrefl message_order O m m (before-done x v g m i) refl)
+
+      -- it comes behind all that the group has done
+      ascending : (x : Setting S) → (v : World Message S) → StandsForSent (rules_of plain) V x v (held members done rows old) [] →
+          IsAscending message_order (messages_of done) → IsAscending message_order (messages_of later)
+      ascending x v g up =
+          subst (IsAscending message_order) (sym (ap messages_of deed ∙ messages-push (rules_of plain) O V done (deed_of (rules_of plain) s m)))
+          (ascending-push message_order O (messages_of done) m up (before-done x v g))
+
       running : (x : Setting S) → Laws (simulation_of (rules_of plain) x) → (v : World Message S) → StandsForSent (rules_of plain) V x v (held members done rows old) [] →
           AreDone (simulation_of (rules_of plain) x) (steps_told (Ran m.receiver ∷ [])) v
           × StandsForSent (rules_of plain) V x (done_by (simulation_of (rules_of plain) x) (steps_told (Ran m.receiver ∷ [])) v) (held members' later rows told) (map plus_of ((rules_of plain).sends s m))
       running x L v g = (
         ran-steps (rules_of plain) O V law x v (held members done rows old) (held members' later rows told) m s (deed_of (rules_of plain) s m) at
             (set-here members m.receiver (Some (plain.after s m)) (Some s) at) (λ q n. set-there members m.receiver q (Some (plain.after s m)) n) (length-set members m.receiver (Some (plain.after s m)))
-            refl value waits deed refl (ap (λ z. z.extra) ran-word ∙ extra) (ap (λ z. z.tray) ran-word ∙ tray) (ap (λ z. z.abroad) ran-word ∙ abroad)
-            (λ y i. in-all message_order O (λ z. message_order.less z m ≡ false) y old.queue first i) (before-done x v g) g,
+            refl value waits mine kept (ascending x v g) refl (ap (λ z. z.extra) ran-word ∙ extra) (ap (λ z. z.tray) ran-word ∙ tray) (ap (λ z. z.abroad) ran-word ∙ abroad)
+            (λ y i. in-all message_order O (λ z. message_order.less z m ≡ false) y old.queue first i) (not-done x v g) g,
         ran (rules_of plain) O V law x v (held members done rows old) (held members' later rows told) m s (deed_of (rules_of plain) s m) at
             (set-here members m.receiver (Some (plain.after s m)) (Some s) at) (λ q n. set-there members m.receiver q (Some (plain.after s m)) n) (length-set members m.receiver (Some (plain.after s m)))
-            refl value waits deed refl (ap (λ z. z.extra) ran-word ∙ extra) (ap (λ z. z.tray) ran-word ∙ tray) (ap (λ z. z.abroad) ran-word ∙ abroad)
-            (λ y i. in-all message_order O (λ z. message_order.less z m ≡ false) y old.queue first i) (before-done x v g) g,
+            refl value waits mine kept (ascending x v g) refl (ap (λ z. z.extra) ran-word ∙ extra) (ap (λ z. z.tray) ran-word ∙ tray) (ap (λ z. z.abroad) ran-word ∙ abroad)
+            (λ y i. in-all message_order O (λ z. message_order.less z m ≡ false) y old.queue first i) (not-done x v g) g,
       )
         where
+          mine : deeds_at message_order m.receiver later ≡ deeds_at message_order m.receiver done ++ deed_of (rules_of plain) s m ∷ []
+          mine = ap (deeds_at message_order m.receiver) deed ∙ mine-push (rules_of plain) O V done (deed_of (rules_of plain) s m) m.receiver refl
+
+          kept : (q : ℕ) → (q ≡ m.receiver → ⊥) → deeds_at message_order q later ≡ deeds_at message_order q done
+          kept q n = ap (deeds_at message_order q) deed ∙ kept-push (rules_of plain) O V done (deed_of (rules_of plain) s m) q (λ e. n (sym e))
+
           waits : (y : Message) → times_in message_order y old.queue ≡ one_if (same message_order y m) + times_in message_order y told.queue
           waits y = sym (times-permutation message_order y old.queue (m ∷ popped.queue) queue) ∙
               ap (λ z. one_if (same message_order y m) + times_in message_order y z) (sym (ap (λ z. z.queue) ran-word))

@@ -7,12 +7,12 @@ use Rattle.std.proofs.lemmas.List.Elements.{All-head, All-tail}
 use Rattle.vlink.specs.declared.message.Message.{Message}
 use Rattle.vlink.specs.declared.note.Note.{Note}
 use Rattle.vlink.specs.Letters.{Letter}
-use Rattle.virtual_time.specs.Law.{Rules, Order, IsOrder, Laws, World, Part, IsIn, IsNamed, times_in, one_if, same, plus_of, pluses, minuses, received_by, floor_of, rows_at, IsAscending, tallied, AreDone, done_by}
+use Rattle.virtual_time.specs.Law.{Rules, Order, IsOrder, Laws, World, Part, IsIn, times_in, one_if, same, plus_of, pluses, minuses, received_by, floor_of, rows_at, IsAscending, tallied, AreDone, done_by}
 use Rattle.virtual_time.specs.declared.step.Step.TheVariants.{Take, Arrive}
 use Rattle.virtual_time.proofs.Kept.{put_elim, put_elim₂}
 use Rattle.virtual_time.proofs.Order.{same_cases, less-irrefl}
 use Rattle.virtual_time.proofs.Lists.{times-append, times-none}
-use Rattle.virtual_time.proofs.Letters.{named-cons, received-mine}
+use Rattle.virtual_time.proofs.Letters.{received-mine}
 use Rattle.virtual_time.proofs.HomeLetters.{comes-home, home_after, plain-enabled, floor-tallied}
 use Rattle.virtual_time.proofs.Settled.{floor-again}
 use Rattle.reverse.specs.Setting.{Setting, simulation_of}
@@ -21,7 +21,7 @@ use Rattle.hand.specs.Deeds.{Deed, deeds_at, messages_of}
 use Rattle.hand.specs.Hands.{Held, IsMember, StandsForSent, counted, is_held, is_ours}
 use Rattle.hand.proofs.Member.{messages-of, present-here, all-pluses, all-minuses}
 use Rattle.hand.proofs.Running.{received-same}
-use Rattle.hand.proofs.Coming.{came-member, came-other, new-pluses, new-minuses}
+use Rattle.hand.proofs.Coming.{came-member, came-other}
 
 pub held-is : {S : Type 0} (o : Option (Option S)) → is_held o ≡ true → (s : S) × (o ≡ Some (Some s))
 held-is (Some (Some s)) e = (s, refl)
@@ -112,8 +112,8 @@ module _ {S K : Type 0} (r : Rules Message S K Note) (O : IsOrder r.order) (V : 
       tray_home = subst (λ ms. All (λ l. is_ours ms (r.order.receiver l.message) ≡ true) new.flow.tray) (sym members)
           (subst (λ ls. All (λ l. is_ours h.members (r.order.receiver l.message) ≡ true) ls) (sym tray) g.tray_home);
       tray_in_time = subst (λ ls. All (λ l. r.order.time l.message ≤ x.until) ls) (sym tray) g.tray_in_time;
-      home = λ m n. ap (λ z. is_ours z (r.order.receiver m)) members ∙ g.home m (let a = plus-same m in let b = minus-same m in omega arith);
-      in_time = λ m n. g.in_time m (let a = plus-same m in let b = minus-same m in omega arith);
+      home = λ m n. ap (λ z. is_ours z (r.order.receiver m)) members ∙ g.home m (let a = both-same m in omega arith);
+      in_time = λ m n. g.in_time m (let a = both-same m in omega arith);
       beside = λ m. record {
         more = λ l. let a = both-same m in let e = extra-plus m in let k = extra-minus m in let i = (g.beside m).more (omega arith) in omega arith;
         less = λ l. let a = both-same m in let e = extra-plus m in let k = extra-minus m in let i = (g.beside m).less (omega arith) in omega arith;
@@ -201,10 +201,13 @@ module _ {S K : Type 0} (r : Rules Message S K Note) (O : IsOrder r.order) (V : 
               omega (arith, ints))
               not-done (tallied r (plus_of m) [] (v.parts (r.order.receiver m))) refl refl refl
 
-      named-was : (y : Message) → IsNamed r.order y (counted new) → (y ≡ m) ⊎ IsNamed r.order y (counted h)
-      named-was y n =
-          named-cons r.order O y (plus_of m) (counted h)
-          (let a = new-pluses r O V h new m queue done extra tray rows y in let b = new-minuses r O V h new m queue done extra tray rows y in omega arith)
+      there-was : (y : Message) → IsIn r.order y (new.flow.queue ++ messages_of new.done) → (y ≡ m) ⊎ IsIn r.order y (h.flow.queue ++ messages_of h.done)
+      there-was y n =
+          elim (same_cases r.order O y m) [
+            | inl e ↦ inl e
+            | inr k ↦ inr (let a = times-append r.order O y h.flow.queue (messages_of h.done) in let b = times-append r.order O y new.flow.queue (messages_of new.done) in
+                let c = queue y in let d = ap (λ z. times_in r.order y (messages_of z)) done in let e = ap one_if k in omega arith)
+          ]
 
       pub came-steps : AreDone (simulation_of r x) (Take p 0 ∷ Arrive p ∷ []) v
       came-steps = plain-enabled (simulation_of r x) O p (plus_of m) left v within mail-at
@@ -232,8 +235,8 @@ module _ {S K : Type 0} (r : Rules Message S K Note) (O : IsOrder r.order) (V : 
             tray_home = subst (λ ms. All (λ l. is_ours ms (r.order.receiver l.message) ≡ true) new.flow.tray) (sym members)
                 (subst (λ ls. All (λ l. is_ours h.members (r.order.receiver l.message) ≡ true) ls) (sym tray) g.tray_home);
             tray_in_time = subst (λ ls. All (λ l. r.order.time l.message ≤ x.until) ls) (sym tray) g.tray_in_time;
-            home = λ y n. ours-then (r.order.receiver y) ∙ home-was y (named-was y n);
-            in_time = λ y n. time-was y (named-was y n);
+            home = λ y n. ours-then (r.order.receiver y) ∙ home-was y (there-was y n);
+            in_time = λ y n. time-was y (there-was y n);
             beside = λ y. record {
               more = λ l. let e = ap (pluses r.order y) extra in let k = ap (minuses r.order y) extra in let i = (g.beside y).more (omega arith) in
                   let a = times-append r.order O y h.flow.queue (messages_of h.done) in let b = times-append r.order O y new.flow.queue (messages_of new.done) in
@@ -245,11 +248,11 @@ module _ {S K : Type 0} (r : Rules Message S K Note) (O : IsOrder r.order) (V : 
                 (λ i. floor-at) (λ q n i. g.settled q (sym (ours-then q) ∙ i));
           }
             where
-              home-was : (y : Message) → (y ≡ m) ⊎ IsNamed r.order y (counted h) → is_ours h.members (r.order.receiver y) ≡ true
+              home-was : (y : Message) → (y ≡ m) ⊎ IsIn r.order y (h.flow.queue ++ messages_of h.done) → is_ours h.members (r.order.receiver y) ≡ true
               home-was y (inl e) = ap (λ z. is_ours h.members (r.order.receiver z)) e ∙ ours
               home-was y (inr n) = g.home y n
 
-              time-was : (y : Message) → (y ≡ m) ⊎ IsNamed r.order y (counted h) → r.order.time y ≤ x.until
+              time-was : (y : Message) → (y ≡ m) ⊎ IsIn r.order y (h.flow.queue ++ messages_of h.done) → r.order.time y ≤ x.until
               time-was y (inl e) = subst (λ z. r.order.time z ≤ x.until) (sym e) soon
               time-was y (inr n) = g.in_time y n
 

@@ -1,5 +1,5 @@
 -- What a hand has of one member: which messages are present there, which are done, and which is next.
-use Rattle.std.proofs.Common.{◌≡◌, ℕ, ◌+◌, ◌<◌, ◌≤◌, ◌==◌, ◌⊎◌, inl, inr, Bool, true, false, cond, List, [], ◌∷◌, ◌++◌, map, Some, refl, sym, ap, ◌∙◌, arith, eq-eqb}
+use Rattle.std.proofs.Common.{◌≡◌, ℕ, ◌+◌, ◌<◌, ◌≤◌, ◌==◌, ◌⊎◌, inl, inr, Bool, true, false, cond, List, [], ◌∷◌, ◌++◌, map, Some, refl, sym, ap, ◌∙◌, arith, eq-eqb, eqb-true}
 use Rattle.std.proofs.lemmas.Bool.{cases_lt, both_ways}
 use Rattle.vlink.specs.declared.message.Message.{Message}
 use Rattle.vlink.specs.declared.note.Note.{Note}
@@ -19,7 +19,7 @@ module _ {S K : Type 0} (r : Rules Message S K Note) (O : IsOrder r.order) (V : 
   messages-of s (m ∷ ms) = ap (λ xs. m ∷ xs) (messages-of (r.after s m) ms)
 
   -- of a message for p the events of p have as many as all have
-  times-at : (p : ℕ) (m : Message) → r.order.receiver m ≡ p → (ds : List (Deed K)) →
+  pub times-at : (p : ℕ) (m : Message) → r.order.receiver m ≡ p → (ds : List (Deed K)) →
       times_in r.order m (messages_of (deeds_at r.order p ds)) ≡ times_in r.order m (messages_of ds)
   times-at p m e [] = refl
   times-at p m e (d ∷ ds) = go (r.order.receiver d.message == p) refl (times-at p m e ds)
@@ -31,6 +31,19 @@ module _ {S K : Type 0} (r : Rules Message S K Note) (O : IsOrder r.order) (V : 
         | inl k ↦ absurd (both_ways _ h (eq-eqb _ _ (sym (ap r.order.receiver k) ∙ e)))
         | inr n ↦ (let z = ap one_if n in omega (arith, i))
       ]
+
+  -- of a message for another process they have none
+  pub times-elsewhere : (p : ℕ) (m : Message) → (r.order.receiver m ≡ p → ⊥) → (ds : List (Deed K)) → times_in r.order m (messages_of (deeds_at r.order p ds)) ≡ 0
+  times-elsewhere p m n [] = refl
+  times-elsewhere p m n (d ∷ ds) = go (r.order.receiver d.message == p) refl (times-elsewhere p m n ds)
+    where
+      go : (b : Bool) → (r.order.receiver d.message == p) ≡ b → times_in r.order m (messages_of (deeds_at r.order p ds)) ≡ 0 →
+          times_in r.order m (messages_of (cond b (d ∷ deeds_at r.order p ds) (deeds_at r.order p ds))) ≡ 0
+      go true h i = elim (same_cases r.order O m d.message) [
+        | inl e ↦ absurd (n (ap r.order.receiver e ∙ eqb-true _ _ h))
+        | inr k ↦ (let z = ap one_if k in omega (arith, i))
+      ]
+      go false h i = i
 
   -- what counts of a message: the queue, the done events, and what is beside
   pub all-pluses : (m : Message) (h : Held S K) → pluses r.order m (counted h) ≡ times_in r.order m (h.flow.queue ++ messages_of h.done) + pluses r.order m h.flow.extra

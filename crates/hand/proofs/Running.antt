@@ -1,12 +1,13 @@
 -- A message is handled: what the hand has of its receiver, and of the others, stands for what Run and Post make of the receiver's part.
-use Rattle.std.proofs.Common.{◌≡◌, ℕ, ◌+◌, ◌==◌, ◌⊎◌, inl, inr, Bool, true, false, cond, List, [], ◌∷◌, ◌++◌, map, Some, refl, sym, ap, ◌∙◌, subst, arith, pos, ◌-ℤ◌, eq-eqb, ne_eqb}
+use Rattle.std.proofs.Common.{◌≡◌, ℕ, ◌+◌, ◌==◌, ◌⊎◌, inl, inr, Bool, true, false, cond, List, [], ◌∷◌, ◌++◌, Some, refl, sym, ap, ◌∙◌, subst, arith, pos, ◌-ℤ◌, eq-eqb, ne_eqb, append-nil}
 use Rattle.std.specs.Bool.{⊤}
 use Rattle.std.proofs.lemmas.Bool.{cases_eq}
 use Rattle.vlink.specs.declared.message.Message.{Message}
 use Rattle.vlink.specs.declared.note.Note.{Note}
-use Rattle.virtual_time.specs.Law.{Rules, IsOrder, times_in, one_if, same, plus_of, pluses, minuses, received_by, reached, rowed, rows_at, Part, emptied, handled, next_of, IsWell}
+use Rattle.virtual_time.specs.Law.{Rules, IsOrder, times_in, one_if, same, pluses, minuses, received_by, reached, rowed, rows_at, Part, emptied, handled, next_of, IsWell}
 use Rattle.virtual_time.specs.declared.letter.Letter.{Letter}
-use Rattle.virtual_time.proofs.Letters.{pluses-append, minuses-append, pluses-plus, minuses-plus, received-mine, received-here, named-none}
+use Rattle.virtual_time.proofs.Letters.{received-mine, received-here, named-none}
+use Rattle.virtual_time.proofs.Order.{same_cases}
 use Rattle.virtual_time.proofs.Lists.{times-append}
 use Rattle.virtual_time.proofs.Handling.{reached-append}
 use Rattle.virtual_time.proofs.WellRun.{run-well}
@@ -15,6 +16,7 @@ use Rattle.antimessages.specs.Counting.{HaveSameCounts}
 use Rattle.process_queues.specs.Past.{AreValues}
 use Rattle.hand.specs.Deeds.{Deed, deed_of, deeds_at, deeds_of, messages_of}
 use Rattle.hand.specs.Hands.{Held, IsMember, counted}
+use Rattle.hand.proofs.Member.{times-at, all-pluses, all-minuses}
 
 module _ {S K : Type 0} (r : Rules Message S K Note) (O : IsOrder r.order) (V : S → Message → Type 0) where
   -- lists with the same pluses and minuses of each message have them for each receiver
@@ -41,11 +43,11 @@ module _ {S K : Type 0} (r : Rules Message S K Note) (O : IsOrder r.order) (V : 
           let y : minuses r.order m (received_by r.order q xs) ≡ minuses r.order m (received_by r.order q ys) = omega arith in
           ap (λ z. pos z -ℤ pos (minuses r.order m (received_by r.order q xs))) x ∙ ap (λ z. pos (pluses r.order m (received_by r.order q ys)) -ℤ pos z) y
 
-  values-more : (s : S) (ms : List Message) (m : Message) → AreValues r V s ms → V (reached r s ms) m → AreValues r V s (ms ++ m ∷ [])
+  pub values-more : (s : S) (ms : List Message) (m : Message) → AreValues r V s ms → V (reached r s ms) m → AreValues r V s (ms ++ m ∷ [])
   values-more s [] m vs v = (v, tt)
   values-more s (x ∷ xs) m vs v = (vs.0, values-more (r.after s x) xs m vs.1 v)
 
-  deeds-push : (s : S) (ms : List Message) (m : Message) → deeds_of r s (ms ++ m ∷ []) ≡ deeds_of r s ms ++ deed_of r (reached r s ms) m ∷ []
+  pub deeds-push : (s : S) (ms : List Message) (m : Message) → deeds_of r s (ms ++ m ∷ []) ≡ deeds_of r s ms ++ deed_of r (reached r s ms) m ∷ []
   deeds-push s [] m = refl
   deeds-push s (x ∷ xs) m = ap (λ z. deed_of r s x ∷ z) (deeds-push (r.after s x) xs m)
 
@@ -62,37 +64,52 @@ module _ {S K : Type 0} (r : Rules Message S K Note) (O : IsOrder r.order) (V : 
   messages-push [] d = refl
   messages-push (x ∷ xs) d = ap (λ z. x.message ∷ z) (messages-push xs d)
 
-  -- the message went from the queue to the done events
+  -- one event more, behind all others: it is behind those of its receiver, and those of others stay
+  pub mine-push : (ds : List (Deed K)) (d : Deed K) (p : ℕ) → r.order.receiver d.message ≡ p → deeds_at r.order p (ds ++ d ∷ []) ≡ deeds_at r.order p ds ++ d ∷ []
+  mine-push ds d p e = at-push p ds d ∙ ap (λ b. deeds_at r.order p ds ++ cond b (d ∷ []) []) (eq-eqb (r.order.receiver d.message) p e)
+
+  pub kept-push : (ds : List (Deed K)) (d : Deed K) (q : ℕ) → (r.order.receiver d.message ≡ q → ⊥) → deeds_at r.order q (ds ++ d ∷ []) ≡ deeds_at r.order q ds
+  kept-push ds d q n = at-push q ds d ∙ (ap (λ b. deeds_at r.order q ds ++ cond b (d ∷ []) []) (ne_eqb (r.order.receiver d.message) q n) ∙ append-nil (deeds_at r.order q ds))
+
+  -- the message went from the queue to the done events, where it is the last of its receiver
   module _ (h new : Held S K) (m : Message) (d : Deed K) (is : d.message ≡ m)
       (queue : (x : Message) → times_in r.order x h.flow.queue ≡ one_if (same r.order x m) + times_in r.order x new.flow.queue)
-      (done : new.done ≡ h.done ++ d ∷ []) (extra : new.flow.extra ≡ h.flow.extra) (tray : new.flow.tray ≡ h.flow.tray) (rows : new.rows ≡ h.rows) where
-    pub new-pluses : (x : Message) → pluses r.order x (counted h) ≡ pluses r.order x (counted new)
+      (mine : deeds_at r.order (r.order.receiver m) new.done ≡ deeds_at r.order (r.order.receiver m) h.done ++ d ∷ [])
+      (kept : (q : ℕ) → (q ≡ r.order.receiver m → ⊥) → deeds_at r.order q new.done ≡ deeds_at r.order q h.done) (extra : new.flow.extra ≡ h.flow.extra) (tray : new.flow.tray ≡ h.flow.tray) (rows : new.rows ≡ h.rows) where
+    -- it is done once more, and all others as often as before
+    pub more-done : (x : Message) → times_in r.order x (messages_of new.done) ≡ one_if (same r.order x m) + times_in r.order x (messages_of h.done)
+    more-done x = go (cases_eq (r.order.receiver x) (r.order.receiver m))
+      where
+        go : (r.order.receiver x ≡ r.order.receiver m) ⊎ (r.order.receiver x ≡ r.order.receiver m → ⊥) →
+            times_in r.order x (messages_of new.done) ≡ one_if (same r.order x m) + times_in r.order x (messages_of h.done)
+        go (inl e) =
+            let a = times-at r O V (r.order.receiver m) x e h.done in
+            let b = times-at r O V (r.order.receiver m) x e new.done in
+            let c : times_in r.order x (messages_of (deeds_at r.order (r.order.receiver m) new.done)) ≡ times_in r.order x (messages_of (deeds_at r.order (r.order.receiver m) h.done) ++ m ∷ []) =
+            ap (times_in r.order x) (ap messages_of mine ∙ (messages-push (deeds_at r.order (r.order.receiver m) h.done) d ∙ ap (λ z. messages_of (deeds_at r.order (r.order.receiver m) h.done) ++ z ∷ []) is)) in
+            let i = times-append r.order O x (messages_of (deeds_at r.order (r.order.receiver m) h.done)) (m ∷ []) in
+            omega arith
+        go (inr n) = elim (same_cases r.order O x m) [
+          | inl e ↦ absurd (n (ap r.order.receiver e))
+          | inr k ↦ (let a = times-at r O V (r.order.receiver x) x refl h.done in let b = times-at r O V (r.order.receiver x) x refl new.done in
+              let c = ap (λ z. times_in r.order x (messages_of z)) (kept (r.order.receiver x) n) in let e = ap one_if k in omega arith)
+        ]
+
+    new-pluses : (x : Message) → pluses r.order x (counted h) ≡ pluses r.order x (counted new)
     new-pluses x =
-        let a = pluses-append r.order O x (map plus_of h.flow.queue) (map plus_of (messages_of h.done) ++ h.flow.extra) in
-        let b = pluses-append r.order O x (map plus_of (messages_of h.done)) h.flow.extra in
-        let c = pluses-plus r.order O x h.flow.queue in
-        let e = pluses-plus r.order O x (messages_of h.done) in
-        let a' = pluses-append r.order O x (map plus_of new.flow.queue) (map plus_of (messages_of new.done) ++ new.flow.extra) in
-        let b' = pluses-append r.order O x (map plus_of (messages_of new.done)) new.flow.extra in
-        let c' = pluses-plus r.order O x new.flow.queue in
-        let e' = pluses-plus r.order O x (messages_of new.done) in
-        let g : times_in r.order x (messages_of new.done) ≡ times_in r.order x (messages_of h.done ++ m ∷ []) =
-        ap (times_in r.order x) (ap messages_of done ∙ (messages-push h.done d ∙ ap (λ z. messages_of h.done ++ z ∷ []) is)) in
-        let i = times-append r.order O x (messages_of h.done) (m ∷ []) in
+        let a = all-pluses r O V x h in
+        let b = all-pluses r O V x new in
+        let c = times-append r.order O x h.flow.queue (messages_of h.done) in
+        let e = times-append r.order O x new.flow.queue (messages_of new.done) in
+        let g = more-done x in
         let j = ap (pluses r.order x) extra in
         let k = queue x in
         omega arith
 
-    pub new-minuses : (x : Message) → minuses r.order x (counted h) ≡ minuses r.order x (counted new)
+    new-minuses : (x : Message) → minuses r.order x (counted h) ≡ minuses r.order x (counted new)
     new-minuses x =
-        let a = minuses-append r.order O x (map plus_of h.flow.queue) (map plus_of (messages_of h.done) ++ h.flow.extra) in
-        let b = minuses-append r.order O x (map plus_of (messages_of h.done)) h.flow.extra in
-        let c = minuses-plus r.order O x h.flow.queue in
-        let e = minuses-plus r.order O x (messages_of h.done) in
-        let a' = minuses-append r.order O x (map plus_of new.flow.queue) (map plus_of (messages_of new.done) ++ new.flow.extra) in
-        let b' = minuses-append r.order O x (map plus_of (messages_of new.done)) new.flow.extra in
-        let c' = minuses-plus r.order O x new.flow.queue in
-        let e' = minuses-plus r.order O x (messages_of new.done) in
+        let a = all-minuses r O V x h in
+        let b = all-minuses r O V x new in
         let j = ap (minuses r.order x) extra in
         omega arith
 
@@ -100,8 +117,7 @@ module _ {S K : Type 0} (r : Rules Message S K Note) (O : IsOrder r.order) (V : 
     pub ran-other : (opening : S) (p : ℕ) (part : Part Message S) (s : S) → (r.order.receiver m ≡ p → ⊥) → IsMember r V opening p part s h → IsMember r V opening p part s new
     ran-other opening p part s n k = record {
       state = k.state;
-      done = ap (deeds_at r.order p) done ∙ (at-push p h.done d ∙
-          (ap (λ b. deeds_at r.order p h.done ++ cond b (d ∷ []) []) (ne_eqb (r.order.receiver d.message) p (λ e. n (ap r.order.receiver (sym is) ∙ e))) ∙ (nothing _ ∙ k.done)));
+      done = kept p (λ e. n (sym e)) ∙ k.done;
       values = k.values;
       counts = λ x. k.counts x ∙ received-same p (counted h) (counted new) new-pluses new-minuses x;
       tray = k.tray ∙ ap (received_by r.order p) (sym tray);
@@ -109,25 +125,20 @@ module _ {S K : Type 0} (r : Rules Message S K Note) (O : IsOrder r.order) (V : 
       rows = subst (λ z. rows_at p z ≡ rowed r opening part.committed) (sym rows) k.rows;
       well = k.well;
     }
-      where
-        nothing : (xs : List (Deed K)) → xs ++ [] ≡ xs
-        nothing [] = refl
-        nothing (x ∷ xs) = ap (λ z. x ∷ z) (nothing xs)
 
     -- the receiver, whose next message it was
-    pub ran-member : (law : (s : S) (e : Message) → r.undo (r.after s e) e (r.kept s e) ≡ s) (opening : S) (q : ℕ) (part : Part Message S) (s : S) → r.order.receiver m ≡ q →
-        d ≡ deed_of r s m → V s m → next_of r.order part ≡ Some m → IsMember r V opening q part s h → IsMember r V opening q (emptied (handled r part (Some m))) (r.after s m) new
-    ran-member law opening q part s e deed value next k = record {
+    pub ran-member : (law : (s : S) (e : Message) → r.undo (r.after s e) e (r.kept s e) ≡ s) (opening : S) (part : Part Message S) (s : S) →
+        d ≡ deed_of r s m → V s m → next_of r.order part ≡ Some m → IsMember r V opening (r.order.receiver m) part s h →
+        IsMember r V opening (r.order.receiver m) (emptied (handled r part (Some m))) (r.after s m) new
+    ran-member law opening part s deed value next k = record {
       state = ap (λ z. r.after z m) k.state;
-      done = ap (deeds_at r.order q) done ∙ (at-push q h.done d ∙
-          (ap (λ b. deeds_at r.order q h.done ++ cond b (d ∷ []) []) (eq-eqb (r.order.receiver d.message) q (ap r.order.receiver is ∙ e)) ∙
-          (ap (λ z. z ++ d ∷ []) k.done ∙ (ap (λ z. deeds_of r (reached r opening part.committed) part.done ++ z ∷ []) (deed ∙ ap (λ z. deed_of r z m) from) ∙
-          sym (deeds-push (reached r opening part.committed) part.done m)))));
+      done = mine ∙ (ap (λ z. z ++ d ∷ []) k.done ∙ (ap (λ z. deeds_of r (reached r opening part.committed) part.done ++ z ∷ []) (deed ∙ ap (λ z. deed_of r z m) from) ∙
+          sym (deeds-push (reached r opening part.committed) part.done m)));
       values = values-more (reached r opening part.committed) part.done m k.values (subst (λ z. V z m) from value);
-      counts = λ x. k.counts x ∙ received-same q (counted h) (counted new) new-pluses new-minuses x;
-      tray = k.tray ∙ ap (received_by r.order q) (sym tray);
+      counts = λ x. k.counts x ∙ received-same (r.order.receiver m) (counted h) (counted new) new-pluses new-minuses x;
+      tray = k.tray ∙ ap (received_by r.order (r.order.receiver m)) (sym tray);
       outbox = refl;
-      rows = subst (λ z. rows_at q z ≡ rowed r opening part.committed) (sym rows) k.rows;
+      rows = subst (λ z. rows_at (r.order.receiver m) z ≡ rowed r opening part.committed) (sym rows) k.rows;
       well = emptied-well r (λ z. ⊤) opening (handled r part (Some m))
           (subst (IsWell r (λ z. ⊤) opening) (ap (handled r part) next) (run-well r O (λ z. ⊤) (λ z x g. law z x) opening part k.well tt).well);
     }

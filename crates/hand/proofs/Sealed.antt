@@ -1,6 +1,8 @@
 -- Done events are committed one after another.
-use Rattle.std.proofs.Common.{◌≡◌, ℕ, ◌<◌, ◌≤◌, true, false, List, [], ◌∷◌, ◌++◌, Option, Some, None, IfSome, All, pos, slice_get, refl, sym, ap, ◌∙◌, subst, append_assoc, append-nil, arith}
+use Rattle.std.proofs.Common.{◌≡◌, ℕ, ◌<◌, ◌≤◌, true, false, List, [], ◌∷◌, ◌++◌, Option, Some, None, IfSome, All, Contains, IsPermutation, pos, refl, sym, ap, ◌∙◌, subst, append_assoc, append-nil, arith}
 use Rattle.std.proofs.lemmas.Bool.{both_ways}
+use Rattle.std.proofs.lemmas.List.Elements.{All-head, All-tail, All-weaker}
+use Rattle.std.proofs.lemmas.List.Sorted.{IsPermutation-refl}
 use Rattle.vlink.specs.declared.message.Message.{Message}
 use Rattle.vlink.specs.declared.note.Note.{Note}
 use Rattle.vlink.specs.Order.{message_order}
@@ -15,8 +17,10 @@ use Rattle.reverse.proofs.Members.{in-all}
 use Rattle.antimessages.specs.Counting.{signed_count}
 use Rattle.hand.specs.declared.block.Did.TheVariants.{Committed}
 use Rattle.hand.specs.Block.{steps_told}
-use Rattle.hand.specs.Deeds.{Deed, messages_of}
+use Rattle.hand.specs.Deeds.{Deed}
+use Rattle.hand.specs.Flow.{IsFirst}
 use Rattle.hand.specs.Hands.{Held, CommitsTold, StandsForSent, IsAsBefore}
+use Rattle.hand.specs.Sealing.{CanSeal, rows_in, words_of}
 use Rattle.hand.proofs.Telling.{done-append, are_done-append, told-append}
 use Rattle.hand.proofs.Sealing.{sealed-steps, sealed}
 use Rattle.hand.proofs.Still.{stands-still}
@@ -27,16 +31,16 @@ pub none-before : IsOrder message_order → (m first : Message) (xs : List Messa
 none-before O m first xs b a =
     times-none message_order O m xs (λ i. both_ways (message_order.less m first) (in-all message_order O (λ x. is_before x first ≡ false) m xs a i) b)
 
--- the event whose message is the oldest
-pub oldest-is : {K : Type 0} (ds : List (Deed K)) (m : Message) → slice_get (messages_of ds) 0 ≡ Some m → (d : Deed K) × (rest : List (Deed K)) × (ds ≡ d ∷ rest) × (d.message ≡ m)
-oldest-is [] m e = absurd cc
-oldest-is (d ∷ ds) m e = (d, ds, refl, cc)
+-- nothing of it is in the queue, where it comes before the first message, if there is one
+pub none-in : IsOrder message_order → (m : Message) (first : Option Message) (queue : List Message) → IsFirst first queue → IfSome first (λ f. message_order.less m f ≡ true) →
+    times_in message_order m queue ≡ 0
+none-in O m None queue e b = ap (times_in message_order m) e
+none-in O m (Some f) queue i b = none-before O m f queue b i.1
 
-pub if-some : {X : Type 0} (P : X → Type 0) (o : Option X) (x : X) → o ≡ Some x → P x → IfSome o P
-if-some P o x e p = subst (λ z. IfSome z P) (sym e) p
-
-pub if-none : {X : Type 0} (P : X → Type 0) (o : Option X) → o ≡ None → IfSome o P
-if-none P o e = subst (λ z. IfSome z P) (sym e) tt
+-- the first message of the queue, where it does not come before that
+pub not-after : (m : Message) (first : Option Message) (queue : List Message) → IsFirst first queue → (f : Message) × (first ≡ Some f) × (message_order.less m f ≡ false) →
+    (x : Message) × Contains queue x × (message_order.less m x ≡ false)
+not-after m first queue i n = (n.0, (subst (λ o. IsFirst o queue) n.1 i).0, n.2)
 
 commit-gvt : {M S K N : Type 0} (f : Simulation M S K N) (p : ℕ) (v : World M S) → (effect f (Commit p) v).gvt ≡ v.gvt
 unfolding effect
@@ -82,3 +86,29 @@ module _ {S K : Type 0} (plain : Plain S Message Sends K) (V : S → Message →
           commit-gvt (simulation_of (rules_of plain) x) d.message.receiver v,
         );
   }
+
+  -- the events at the front of the list, one after another
+  pub commits-many : (ds : List (Deed K)) (h new : Held S K) (rest : List (Deed K)) → new.members ≡ h.members → h.done ≡ ds ++ rest → new.done ≡ rest → new.rows ≡ h.rows ++ rows_in ds →
+      new.flow ≡ record h.flow { words = h.flow.words ++ words_of ds; room = new.flow.room } → All (λ d. CanSeal moment h.flow d.message) ds →
+      CommitsTold (rules_of plain) V moment h new
+  commits-many [] h new rest members done left rows flow can = commits-nothing h new (record {
+    members = members;
+    done = left ∙ sym done;
+    rows = rows ∙ append-nil h.rows;
+    queue = subst (λ z. IsPermutation h.flow.queue z) (sym (ap (λ z. z.queue) flow)) (IsPermutation-refl h.flow.queue);
+    flow = flow ∙ (λ j. record h.flow { queue = (ap (λ z. z.queue) (sym flow)) j; words = append-nil h.flow.words j; room = new.flow.room });
+  })
+  commits-many (d ∷ ds) h new rest members done left rows flow can =
+      let one : CanSeal moment h.flow d.message = All-head (λ (d : Deed K). CanSeal moment h.flow d.message) d ds can in
+      let mid : Held S K = record {
+        members = h.members;
+        done = ds ++ rest;
+        rows = h.rows ++ d.rows;
+        flow = record h.flow { words = h.flow.words ++ Committed d.message.receiver ∷ [] };
+      } in
+      commits-both (rules_of plain) V moment h mid new
+      (commits-oldest h mid d (ds ++ rest) refl done refl refl refl refl refl refl refl one.none one.zero one.early)
+      (commits-many ds mid new rest members refl left (rows ∙ sym (append_assoc h.rows d.rows (rows_in ds)))
+      (flow ∙ (λ j. record h.flow { words = sym (append_assoc h.flow.words (Committed d.message.receiver ∷ []) (words_of ds)) j; room = new.flow.room }))
+      (All-weaker (λ (d : Deed K). CanSeal moment h.flow d.message) (λ (d : Deed K). CanSeal moment mid.flow d.message)
+      (λ d c. record { early = c.early; zero = c.zero; none = c.none }) ds (All-tail (λ (d : Deed K). CanSeal moment h.flow d.message) d ds can)))

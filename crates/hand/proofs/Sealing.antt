@@ -7,7 +7,7 @@ use Rattle.std.proofs.lemmas.List.Elements.{filter-append}
 use Rattle.vlink.specs.declared.message.Message.{Message}
 use Rattle.vlink.specs.declared.note.Note.{Note}
 use Rattle.vlink.specs.Letters.{Letter}
-use Rattle.virtual_time.specs.Law.{Rules, IsOrder, World, IsNamed, times_in, one_if, same, plus_of, minus_of, pluses, minuses, received_by, floor_of, reached, rowed, rows_of, rows_at, IsAscending, IsWell, commit_oldest, oldest_committed, can_commit, is_early, with_part, is_enabled, effect, AreDone, done_by}
+use Rattle.virtual_time.specs.Law.{Rules, IsOrder, World, IsIn, times_in, one_if, same, plus_of, minus_of, pluses, minuses, received_by, floor_of, reached, rowed, rows_of, rows_at, IsAscending, IsWell, commit_oldest, oldest_committed, can_commit, is_early, with_part, is_enabled, effect, AreDone, done_by}
 use Rattle.virtual_time.specs.declared.step.Step.TheVariants.{Commit}
 use Rattle.virtual_time.proofs.Kept.{put_elim}
 use Rattle.virtual_time.proofs.Order.{same_cases}
@@ -69,15 +69,14 @@ module _ {S K : Type 0} (r : Rules Message S K Note) (O : IsOrder r.order) (V : 
     zero-counts : pluses r.order d.message h.flow.extra ≡ minuses r.order d.message h.flow.extra
     zero-counts = let z = zero in omega (arith, ints)
 
-    named : IsNamed r.order d.message (counted h)
-    named =
-        let a = all-pluses r O V d.message h in
+    is-there : IsIn r.order d.message (h.flow.queue ++ messages_of h.done)
+    is-there =
         let b = times-append r.order O d.message h.flow.queue (messages_of h.done) in
         let c = done-first in
         omega arith
 
     ours : is_ours h.members (r.order.receiver d.message) ≡ true
-    ours = g.home d.message named
+    ours = g.home d.message is-there
 
     at : (s : S) × (slice_get h.members (r.order.receiver d.message) ≡ Some (Some s))
     at = held-is (slice_get h.members (r.order.receiver d.message)) ours
@@ -200,8 +199,11 @@ module _ {S K : Type 0} (r : Rules Message S K Note) (O : IsOrder r.order) (V : 
         there : (q : ℕ) (s : S) → slice_get new.members q ≡ Some (Some s) → slice_get h.members q ≡ Some (Some s)
         there q s e = ap (λ z. slice_get z q) (sym members) ∙ e
 
-        named-was : (y : Message) → IsNamed r.order y (counted new) → IsNamed r.order y (counted h)
-        named-was y n = let a = plus-more y in let b = minus-same y in omega arith
+        there-was : (y : Message) → IsIn r.order y (new.flow.queue ++ messages_of new.done) → IsIn r.order y (h.flow.queue ++ messages_of h.done)
+        there-was y n =
+            let c = times-append r.order O y h.flow.queue (messages_of h.done) in let e = times-append r.order O y new.flow.queue (messages_of new.done) in
+            let j = ap (λ z. times_in r.order y (messages_of z)) done in let k = ap (λ z. times_in r.order y (messages_of z)) left in
+            let q = ap (times_in r.order y) queue in omega arith
 
         stands : StandsForSent r V x (with_part (simulation_of r x) (r.order.receiver d.message) (oldest_committed r (v.parts (r.order.receiver d.message)) (d.message ∷ first.0)) v) new []
         stands = record {
@@ -217,8 +219,8 @@ module _ {S K : Type 0} (r : Rules Message S K Note) (O : IsOrder r.order) (V : 
           tray_home = subst (λ ms. All (λ l. is_ours ms (r.order.receiver l.message) ≡ true) new.flow.tray) (sym members)
               (subst (λ ls. All (λ l. is_ours h.members (r.order.receiver l.message) ≡ true) ls) (sym tray) g.tray_home);
           tray_in_time = subst (λ ls. All (λ l. r.order.time l.message ≤ x.until) ls) (sym tray) g.tray_in_time;
-          home = λ y n. ap (λ z. is_ours z (r.order.receiver y)) members ∙ g.home y (named-was y n);
-          in_time = λ y n. g.in_time y (named-was y n);
+          home = λ y n. ap (λ z. is_ours z (r.order.receiver y)) members ∙ g.home y (there-was y n);
+          in_time = λ y n. g.in_time y (there-was y n);
           beside = λ y. record { more = λ l. more y l (same_cases r.order O y d.message); less = λ l. less y l };
           ascending = subst (λ ds. IsAscending r.order (messages_of ds)) (sym left) (let a = subst (λ ds. IsAscending r.order (messages_of ds)) done g.ascending in a.1);
           settled = λ q t. g.settled q (ap (λ z. is_ours z q) (sym members) ∙ t) ∙

@@ -1,5 +1,7 @@
 -- Where nothing changed but the order of the queue, the group stands for what it stood for.
-use Rattle.std.proofs.Common.{◌≡◌, ℕ, ◌≤◌, false, Option, List, [], ◌++◌, All, IsPermutation, refl, sym, ap, ◌∙◌, subst, append-nil, arith}
+use Rattle.std.proofs.Common.{◌≡◌, ℕ, ◌≤◌, false, Option, Some, None, IfSome, IfNone, List, [], ◌∷◌, ◌++◌, length, All, Contains, IsPermutation, Result, Ok, Err, OnErr, refl, sym, ap, ◌∙◌, subst, append-nil, arith}
+use Rattle.std.proofs.lemmas.List.{nil_from_length}
+use Rattle.std.proofs.lemmas.List.Sorted.{IsPermutation-refl, IsPermutation-sym, IsPermutation-trans, length_permutation, Contains-permutation, All-permutation}
 use Rattle.std.proofs.lemmas.List.Elements.{All-weaker}
 use Rattle.vlink.specs.declared.message.Message.{Message}
 use Rattle.vlink.specs.Letters.{Row}
@@ -12,7 +14,7 @@ use Rattle.reverse.specs.Setting.{Setting}
 use Rattle.reverse.specs.declared.sends.Sends.{Sends}
 use Rattle.two_lists.proofs.Counting.{times-permutation}
 use Rattle.hand.specs.Deeds.{Deed}
-use Rattle.hand.specs.Flow.{Flow}
+use Rattle.hand.specs.Flow.{Flow, IsFirst, TookFirst}
 use Rattle.hand.specs.Hands.{Held, DoesSent, StandsForSent, IsAsBefore, is_ours}
 use Rattle.hand.specs.Passing.{held}
 use Rattle.hand.proofs.Going.{stands-kept}
@@ -21,15 +23,62 @@ pub as-first : {S K : Type 0} (members : List (Option S)) (done : List (Deed K))
     next ≡ record flow { queue = next.queue; room = next.room } → IsAsBefore (held members done rows flow) (held members done rows next)
 as-first members done rows flow next p e = record { members = refl; done = refl; rows = refl; queue = p; flow = e }
 
-pub as-reserved : {S K : Type 0} (members : List (Option S)) (done later : List (Deed K)) (rows : List Row) (flow next last : Flow) → later ≡ done → IsPermutation flow.queue next.queue →
-    next ≡ record flow { queue = next.queue; room = next.room } → last ≡ record next { room = last.room } → IsAsBefore (held members done rows flow) (held members later rows last)
-as-reserved members done later rows flow next last d p e k = record {
+pub as-both : {S K : Type 0} (h mid new : Held S K) → IsAsBefore h mid → IsAsBefore mid new → IsAsBefore h new
+as-both h mid new a b = record {
+  members = b.members ∙ a.members;
+  done = b.done ∙ a.done;
+  rows = b.rows ∙ a.rows;
+  queue = IsPermutation-trans h.flow.queue mid.flow.queue new.flow.queue a.queue b.queue;
+  flow = b.flow ∙ (λ j. record (a.flow j) { queue = new.flow.queue; room = new.flow.room });
+}
+
+-- room was made
+pub as-roomy : {S K : Type 0} (members : List (Option S)) (done later : List (Deed K)) (rows : List Row) (flow next : Flow) → later ≡ done →
+    next ≡ record flow { room = next.room } → IsAsBefore (held members done rows flow) (held members later rows next)
+as-roomy members done later rows flow next d e = record {
   members = refl;
   done = d;
   rows = refl;
-  queue = subst (λ z. IsPermutation flow.queue z) (sym (ap (λ z. z.queue) k)) p;
-  flow = k ∙ (λ j. record (e j) { queue = (ap (λ z. z.queue) (sym k)) j; room = last.room });
+  queue = subst (λ z. IsPermutation flow.queue z) (sym (ap (λ z. z.queue) e)) (IsPermutation-refl flow.queue);
+  flow = e ∙ (λ j. record flow { queue = (ap (λ z. z.queue) (sym e)) j; room = next.room });
 }
+
+-- the first message was taken out, and waits again
+pub as-put_back : {S K : Type 0} (members : List (Option S)) (done : List (Deed K)) (rows : List Row) (flow next last : Flow) (m : Message) → TookFirst m flow next →
+    IsPermutation (m ∷ next.queue) last.queue → last ≡ record next { queue = last.queue; room = last.room } → IsAsBefore (held members done rows flow) (held members done rows last)
+as-put_back members done rows flow next last m t p e = record {
+  members = refl;
+  done = refl;
+  rows = refl;
+  queue = IsPermutation-trans flow.queue (m ∷ next.queue) last.queue t.taken p;
+  flow = e ∙ (λ j. record (t.others j) { queue = last.queue; room = last.room });
+}
+
+-- there was none, and there is none
+pub as-empty : {S K : Type 0} (members : List (Option S)) (done : List (Deed K)) (rows : List Row) (flow next : Flow) → flow.queue ≡ [] → next.queue ≡ [] →
+    next ≡ record flow { queue = next.queue; room = next.room } → IsAsBefore (held members done rows flow) (held members done rows next)
+as-empty members done rows flow next none empty e = record {
+  members = refl;
+  done = refl;
+  rows = refl;
+  queue = subst (λ z. IsPermutation flow.queue z) (none ∙ sym empty) (IsPermutation-refl flow.queue);
+  flow = e;
+}
+
+pub took-first : (m : Message) (old new : Flow) → TookFirst m old new → Contains old.queue m × All (λ x. is_before x m ≡ false) old.queue
+took-first m old new t =
+    (Contains-permutation (m ∷ new.queue) old.queue m (IsPermutation-sym old.queue (m ∷ new.queue) t.taken) (0, omega arith, refl), t.first)
+
+pub on-err : {X Y : Type 0} (r : Result X Y) (P : Type 0) → P → OnErr r P
+on-err (Ok x) P p = tt
+on-err (Err e) P p = p
+
+-- the first message, in whatever order the queue is
+pub first-again : (o : Option Message) (old new : List Message) → IsPermutation old new → IfSome o (Contains old) → IfSome o (λ m. All (λ x. is_before x m ≡ false) old) →
+    IfNone o (old ≡ []) → IsFirst o new
+first-again None old new p among first none = nil_from_length new (length_permutation old new p ∙ ap length none)
+first-again (Some m) old new p among first none =
+    (Contains-permutation old new m p among, All-permutation (λ x. is_before x m ≡ false) old new p first)
 
 -- what is not before the first message is not earlier
 pub not-earlier : IsOrder message_order → (limit : ℕ) (m : Message) (xs : List Message) → limit ≤ m.time → All (λ x. is_before x m ≡ false) xs → All (λ x. limit ≤ x.time) xs

@@ -6,7 +6,7 @@ use Rattle.std.proofs.lemmas.List.Elements.{All-push}
 use Rattle.vlink.specs.declared.message.Message.{Message}
 use Rattle.vlink.specs.declared.note.Note.{Note}
 use Rattle.vlink.specs.Letters.{Letter}
-use Rattle.virtual_time.specs.Law.{Rules, Simulation, World, Part, put, received_by, delivered, floor_of, taken, effect, is_enabled, AreDone, done_by, IsAscending, IsNamed, minuses, plus_of, pluses, rows_at, times_in}
+use Rattle.virtual_time.specs.Law.{Rules, Simulation, World, Part, put, received_by, delivered, floor_of, taken, effect, is_enabled, AreDone, done_by, IsAscending, IsIn, minuses, plus_of, pluses, rows_at, times_in}
 use Rattle.virtual_time.specs.declared.step.Step.TheVariants.{Take}
 use Rattle.virtual_time.proofs.Kept.{put_elim, put_elim₂}
 use Rattle.virtual_time.proofs.WellStep.{delivered-well}
@@ -51,6 +51,9 @@ module _ {S K : Type 0} (r : Rules Message S K Note) (V : S → Message → Type
   counted-same : counted new ≡ counted h
   counted-same = λ j. map plus_of (queue j) ++ (map plus_of (messages_of (done j)) ++ extra j)
 
+  there-same : new.flow.queue ++ messages_of new.done ≡ h.flow.queue ++ messages_of h.done
+  there-same = λ j. queue j ++ messages_of (done j)
+
   its : (p : ℕ) (part : Part Message S) (s : S) → r.order.receiver l.message ≡ p → IsMember r V (x.opening p) p part s h → IsMember r V (x.opening p) p (delivered l part) s new
   its p part s e k = record {
     state = k.state;
@@ -93,8 +96,8 @@ module _ {S K : Type 0} (r : Rules Message S K Note) (V : S → Message → Type
         (subst (λ ls. All (λ m. is_ours h.members (r.order.receiver m.message) ≡ true) ls) (sym tray)
         (All-push (λ m. is_ours h.members (r.order.receiver m.message) ≡ true) h.flow.tray l g.tray_home ours));
     tray_in_time = subst (λ ls. All (λ m. r.order.time m.message ≤ x.until) ls) (sym tray) (All-push (λ m. r.order.time m.message ≤ x.until) h.flow.tray l g.tray_in_time soon);
-    home = λ m n. ap (λ z. is_ours z (r.order.receiver m)) members ∙ g.home m (subst (λ z. IsNamed r.order m z) counted-same n);
-    in_time = λ m n. g.in_time m (subst (λ z. IsNamed r.order m z) counted-same n);
+    home = λ m n. ap (λ z. is_ours z (r.order.receiver m)) members ∙ g.home m (subst (λ z. IsIn r.order m z) there-same n);
+    in_time = λ m n. g.in_time m (subst (λ z. IsIn r.order m z) there-same n);
     beside = λ m. record {
       more = λ i. subst (λ qs. 0 < times_in r.order m (qs ++ messages_of new.done)) (sym queue)
           (subst (λ ds. 0 < times_in r.order m (h.flow.queue ++ messages_of ds)) (sym done)

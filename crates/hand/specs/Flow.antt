@@ -1,9 +1,10 @@
 -- What waits for a group and what it sent to others, and how a message that was just sent goes on.
-use Rattle.std.specs.Prelude.{◌≡◌, ℕ, Bool, List, [], ◌∷◌, ◌++◌, pos, IsPermutation}
+use Rattle.std.specs.Prelude.{◌≡◌, ℕ, Bool, false, List, [], ◌∷◌, ◌++◌, Option, Some, None, map, All, Contains, pos, IsPermutation}
 use Rattle.vlink.specs.declared.message.Message.{Message}
 use Rattle.vlink.specs.Order.{message_order}
 use Rattle.vlink.specs.Letters.{Letter}
-use Rattle.virtual_time.specs.Law.{plus_of}
+use Rattle.virtual_time.specs.Law.{Order, plus_of, lowest, times_of}
+use Rattle.reverse.specs.Rules.{is_before}
 use Rattle.antimessages.specs.Counting.{signed_count}
 use Rattle.hand.specs.declared.block.Did.{Did}
 use Rattle.hand.specs.declared.block.Did.TheVariants.{Home, Taken}
@@ -18,6 +19,21 @@ pub record Flow : Type 0 where
   pub words : List Did
   pub keeps : Bool
   pub room : ℕ
+
+-- none of these comes before this message, which is one of them, if it is given; else there is none
+abbrev pub IsFirst : Option Message → List Message → Type 0
+IsFirst None queue = queue ≡ []
+IsFirst (Some m) queue = Contains queue m × All (λ x. is_before x m ≡ false) queue
+
+-- the first message left the queue
+pub record TookFirst (m : Message) (old new : Flow) : Type 0 where
+  pub taken : IsPermutation old.queue (m ∷ new.queue)
+  pub first : All (λ x. is_before x m ≡ false) old.queue
+  pub others : new ≡ record old { queue = new.queue; room = new.room }
+
+-- the least time of the messages of the queue and of the letters in the tray, or this moment
+abbrev pub floor_in : Order Message → ℕ → Flow → ℕ
+floor_in o end flow = lowest (lowest end (map o.time flow.queue)) (times_of o flow.tray)
 
 -- it went to the letters for others
 abbrev pub WentAbroad : Message → Flow → Flow → Type 0

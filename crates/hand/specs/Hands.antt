@@ -1,17 +1,17 @@
 -- What a group holds, when that stands for its processes in a small world of the law of virtual time, and what its calls do there.
-use Rattle.std.specs.Prelude.{◌≡◌, ℕ, ◌<◌, ◌≤◌, Bool, true, false, List, [], ◌++◌, map, length, slice_get, Option, Some, None, All, Contains, IfSome, min, ⊤, ◌⊎◌, ◌≢◌, pos, IsPermutation}
+use Rattle.std.specs.Prelude.{◌≡◌, ℕ, ◌<◌, ◌≤◌, Bool, true, false, List, [], ◌++◌, map, length, slice_get, Option, Some, None, All, IfSome, min, ⊤, IsPermutation}
 use Rattle.vlink.specs.declared.message.Message.{Message}
 use Rattle.vlink.specs.declared.note.Note.{Note}
 use Rattle.vlink.specs.Letters.{Letter, Row}
-use Rattle.vlink.specs.Order.{message_order}
-use Rattle.virtual_time.specs.Law.{Order, Rules, Laws, World, Part, reached, rowed, rows_at, times_in, pluses, minuses, plus_of, IsNamed, received_by, floor_of, IsAscending, IsWell, AreDone, done_by, put, delivered}
+use Rattle.virtual_time.specs.Law.{Order, Rules, Laws, World, Part, reached, rowed, rows_at, times_in, pluses, minuses, plus_of, IsIn, received_by, floor_of, IsAscending, IsWell, AreDone, done_by, put, delivered}
 use Rattle.reverse.specs.Setting.{Setting, simulation_of}
-use Rattle.antimessages.specs.Counting.{HaveSameCounts, signed_count}
+use Rattle.antimessages.specs.Counting.{HaveSameCounts}
 use Rattle.process_queues.specs.Past.{AreValues}
 use Rattle.hand.specs.declared.block.Did.{Did}
 use Rattle.hand.specs.Block.{steps_told}
 use Rattle.hand.specs.Deeds.{Deed, deeds_at, deeds_of, messages_of}
 use Rattle.hand.specs.Flow.{Flow}
+use Rattle.hand.specs.Sealing.{Stays}
 
 pub record Held (S K : Type 0) : Type 0 where
   -- the actors by their numbers; none where the process is elsewhere
@@ -63,8 +63,9 @@ module _ {S K : Type 0} (r : Rules Message S K Note) (is_value : S → Message �
       pub elsewhere : All (λ l. is_ours h.members (r.order.receiver l.message) ≡ false) h.flow.abroad
       pub tray_home : All (λ l. is_ours h.members (r.order.receiver l.message) ≡ true) h.flow.tray
       pub tray_in_time : All (λ l. r.order.time l.message ≤ x.until) h.flow.tray
-      pub home : (m : Message) → IsNamed r.order m (counted h) → is_ours h.members (r.order.receiver m) ≡ true
-      pub in_time : (m : Message) → IsNamed r.order m (counted h) → r.order.time m ≤ x.until
+      -- what waits or is done is for members, and not after the end
+      pub home : (m : Message) → IsIn r.order m (h.flow.queue ++ messages_of h.done) → is_ours h.members (r.order.receiver m) ≡ true
+      pub in_time : (m : Message) → IsIn r.order m (h.flow.queue ++ messages_of h.done) → r.order.time m ≤ x.until
       pub beside : (m : Message) → CountsBeside r.order h m
       pub ascending : IsAscending r.order (messages_of h.done)
       -- the floor of each member is what it has in hand
@@ -114,8 +115,6 @@ pub record CommitsTold {S K : Type 0} (r : Rules Message S K Note) (is_value : S
       AreDone (simulation_of r x) (steps_told did) v × StandsForGroup r is_value x (done_by (simulation_of r x) (steps_told did) v) new
       × ((done_by (simulation_of r x) (steps_told did) v).gvt ≡ v.gvt)
 
--- the oldest done event, if there is one, is not earlier than the moment; or it counts other than once; or some message of the queue does not come after it
+-- the oldest done event, if there is one, stays
 abbrev pub StaysDone : {S K : Type 0} → ℕ → Held S K → Type 0
-StaysDone moment h =
-    IfSome (slice_get (messages_of h.done) 0)
-    (λ m. (moment ≤ m.time) ⊎ ((signed_count message_order m h.flow.extra ≢ pos 0) ⊎ ((x : Message) × Contains h.flow.queue x × (message_order.less m x ≡ false))))
+StaysDone moment h = IfSome (slice_get (messages_of h.done) 0) (Stays moment h.flow)

@@ -1,5 +1,10 @@
+pub mod Arriving
 pub mod Block
 pub mod Deeds
 pub mod Flow
+pub mod Handling
 pub mod Hands
 pub mod Passing
+pub mod Counted
+pub mod Undoing
+pub mod Sealing

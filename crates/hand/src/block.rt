@@ -1,5 +1,5 @@
 //! What a group did, as steps of the law of virtual time.
-ghost use Rattle.std.specs.Prelude.{◌≡◌, ◌+◌, ◌<◌, ◌≤◌, ◌≢◌, [], ◌∷◌, ◌++◌, true, Some, length, slice_get, OnOk};
+ghost use Rattle.std.specs.Prelude.{◌≡◌, ◌+◌, ◌<◌, ◌≤◌, [], ◌∷◌, ◌++◌, true, Some, OnOk};
 
 use std::alloc::{AllocError, Global};
 use std::marker::Model;
@@ -55,6 +55,18 @@ impl Words {
         }
     }
 
+    /// Whether there is room for so many more.
+    #[inline(always)]
+    pub(crate) fn has_room(&self, more: usize) -> bool
+        ensures { result ≡ true → more ≤ self.now.room }
+    {
+        let told = more <= self.told.capacity() - self.told.len();
+        match &self.kept {
+            Some(kept) => told && more <= kept.capacity() - kept.len(),
+            None => told,
+        }
+    }
+
     /// Makes room for so many more: as long as no other call comes between, so many calls of `push_reserved` have it. Where they are not kept it
     /// takes no memory.
     #[inline(always)]
@@ -82,6 +94,13 @@ impl Words {
         if let Some(kept) = &mut self.kept {
             kept.push_reserved(did);
         }
+    }
+
+    /// Whether they are kept to be read.
+    pub fn keeps(&self) -> bool
+        ensures { result ≡ self.now.keeps }
+    {
+        self.kept.is_some()
     }
 
     /// The words, where they are kept.

@@ -1,17 +1,17 @@
 //! The done events of a group.
-ghost use Rattle.std.specs.Prelude.{◌≡◌, ◌+◌, ◌<◌, ◌≤◌, List, [], ◌∷◌, ◌++◌, map, length, take, drop, slice_get, vec_len, vec_capacity, OnOk, OnErr, IfSome, IfNone};
-ghost use Rattle.std.specs.Option.{option_copied};
+ghost use Rattle.std.specs.Prelude.{◌≡◌, List, ◌+◌, ◌<◌, ◌≤◌, [], ◌∷◌, ◌++◌, length, OnOk};
 ghost use Rattle.std.specs.VecDeque.{deque_len, deque_capacity};
 ghost use Rattle.vlink.specs.Order.{message_order};
 ghost use Rattle.virtual_time.specs.Law.{rows_of};
 ghost use Rattle.process_queues.specs.Past.{newest_of};
 ghost use Rattle.antimessages.specs.Counting.{is_after};
 ghost use Rattle.hand.specs.Deeds.{Deed, messages_of};
+ghost use Rattle.hand.specs.Undoing.{HasRoomFor};
 
 use std::alloc::{AllocError, Global};
 use std::collections::VecDeque;
 use std::marker::Model;
-use vlink::{Message, Note, Row, compare, message_order};
+use vlink::{Message, Note, Row, compare, lawful_order, message_order};
 
 /// What is kept of a done event: its message, how many messages it sent, how many rows it gave, and the record by which it is undone.
 #[derive(Clone, Copy)]
@@ -27,9 +27,9 @@ pub(crate) struct Event<K: Copy> {
 /// Clauses see each event with what it sent and its rows, and for how many more events, messages and rows there is room.
 #[derive(Drop)]
 pub(crate) struct Deeds<K: Copy> {
-    events: VecDeque<Event<K>>,
-    sends: VecDeque<Message>,
-    rows: VecDeque<Row>,
+    pub(crate) events: VecDeque<Event<K>>,
+    pub(crate) sends: VecDeque<Message>,
+    pub(crate) rows: VecDeque<Row>,
 }
 
 impl<K: Copy> Model for Deeds<K> {
@@ -87,7 +87,8 @@ impl<K: Copy> Deeds<K> {
         requires events { 1 ≤ self.old.events_room }
         requires sends { (length sends.now ≤ 24) × (length sends.now ≤ self.old.sends_room) }
         requires rows { (length notes.now ≤ 2) × (length notes.now ≤ self.old.rows_room) }
-        ensures { self.new.deeds ≡ self.old.deeds ++ record { message = message.now; kept = kept; sent = sends.now; rows = rows_of message_order message.now notes.now } ∷ [] }
+        ensures deeds { self.new.deeds ≡ self.old.deeds ++ record { message = message.now; kept = kept; sent = sends.now; rows = rows_of message_order message.now notes.now } ∷ [] }
+        ensures left { (ds : List (Deed K)) → HasRoomFor (record { message = message.now; kept = kept; sent = sends.now; rows = rows_of message_order message.now notes.now } ∷ ds) self.old → HasRoomFor ds self.new }
     {
         self.events.push_back_reserved(Event {
             message: *message,
@@ -104,41 +105,24 @@ impl<K: Copy> Deeds<K> {
     pub(crate) fn is_before(&self, message: &Message) -> bool
         ensures { result ≡ is_after message_order (newest_of (messages_of self.now.deeds)) message.now }
     {
-        message_order();
         match self.events.back() {
-            Some(event) => compare(&event.message, message).is_lt(),
+            Some(event) => precedes(&event.message, message),
             None => true,
         }
     }
+}
 
-    /// The message of the oldest event, if there is one.
-    #[inline(always)]
-    pub(crate) fn oldest(&self) -> Option<&Message>
-        ensures { option_copied result ≡ slice_get (messages_of self.now.deeds) 0 }
-    {
-        match self.events.front() {
-            Some(event) => Some(&event.message),
-            None => None,
-        }
+/// Whether the first message comes before the second. Mostly their moments tell.
+#[inline(always)]
+pub(crate) fn precedes(first: &Message, second: &Message) -> bool
+    ensures { result ≡ message_order.less first.now second.now }
+{
+    message_order();
+    lawful_order();
+    if first.time < second.time {
+        return true;
     }
-
-    /// The oldest event is forgotten, if there is one. Its rows go to the end of `sealed`. A refusal changes nothing.
-    #[inline(always)]
-    pub(crate) fn forget_oldest(&mut self, sealed: &mut Vec<Row>) -> Result<(), AllocError>
-        ensures forgotten { OnOk result ((first : Deed K) (rest : List (Deed K)) → self.old.deeds ≡ first ∷ rest →
-            (self.new.deeds ≡ rest) × (sealed.new.items ≡ sealed.old.items ++ first.rows)) }
-        ensures unchanged { OnErr result ((self.new.deeds ≡ self.old.deeds) × (sealed.new.items ≡ sealed.old.items)) }
-    {
-        let Some(event) = self.events.front() else {
-            return Ok(());
-        };
-        let (sent, noted) = (usize::from(event.sent), usize::from(event.noted));
-        sealed.reserve(noted)?;
-        let _event = self.events.pop_front();
-        forget_first(&mut self.sends, sent);
-        move_first(&mut self.rows, noted, sealed);
-        Ok(())
-    }
+    compare(first, second).is_lt()
 }
 
 /// The messages go behind those that were sent. There is room for them.
@@ -146,6 +130,7 @@ impl<K: Copy> Deeds<K> {
 fn send_all(sends: &mut VecDeque<Message>, messages: &[Message])
     requires room { deque_len sends.old + length messages.now ≤ deque_capacity sends.old }
     ensures sends { sends.new.items ≡ sends.old.items ++ messages.now }
+    ensures capacity { deque_capacity sends.new ≡ deque_capacity sends.old }
 {
     for message in messages {
         sends.push_back_reserved(*message);
@@ -156,7 +141,8 @@ fn send_all(sends: &mut VecDeque<Message>, messages: &[Message])
 #[inline(always)]
 fn note_all(rows: &mut VecDeque<Row>, message: &Message, notes: &[Note])
     requires { deque_len rows.old + length notes.now ≤ deque_capacity rows.old }
-    ensures { rows.new.items ≡ rows.old.items ++ rows_of message_order message.now notes.now }
+    ensures rows { rows.new.items ≡ rows.old.items ++ rows_of message_order message.now notes.now }
+    ensures capacity { deque_capacity rows.new ≡ deque_capacity rows.old }
 {
     for note in notes {
         rows.push_back_reserved(Row {
@@ -164,32 +150,5 @@ fn note_all(rows: &mut VecDeque<Row>, message: &Message, notes: &[Note])
             place: message.receiver,
             note: *note,
         });
-    }
-}
-
-/// The first messages that were sent, so many, are forgotten.
-#[inline(always)]
-fn forget_first(sends: &mut VecDeque<Message>, count: usize)
-    requires { count ≤ deque_len sends.old }
-    ensures { sends.new.items ≡ drop count sends.old.items }
-{
-    for forgotten in 0..count {
-        let _message = sends.pop_front();
-    }
-}
-
-/// The first items, so many, go to the end of `taken`, which has room for them. It has a type parameter so that the borrow checker follows it.
-#[inline(always)]
-fn move_first<T: Copy + Drop>(items: &mut VecDeque<T>, count: usize, taken: &mut Vec<T>)
-    requires enough { count ≤ deque_len items.old }
-    requires room { vec_len taken.old + count ≤ vec_capacity taken.old }
-    ensures items { items.new.items ≡ drop count items.old.items }
-    ensures taken { taken.new.items ≡ taken.old.items ++ take count items.old.items }
-{
-    for moved in 0..count {
-        match items.pop_front() {
-            Some(item) => taken.push_reserved(item),
-            None => {}
-        }
     }
 }

@@ -1,23 +1,40 @@
 //! The first message of a group is handled, where it comes after all that the group has done.
-ghost use Rattle.std.specs.Prelude.{◌≡◌, ◌+◌, ◌≤◌, true, false, [], List, Some, All, Contains, length, slice_get};
+ghost use Rattle.std.specs.Prelude.{◌≡◌, ℕ, ◌+◌, ◌<◌, ◌≤◌, true, false, [], List, Some, Ok, OnErr, IfErr, length, slice_get};
 ghost use Rattle.vlink.specs.Order.{message_order};
 ghost use Rattle.vlink.specs.Letters.{Row};
 ghost use Rattle.vlink.specs.Numbering.{greatest_number};
-ghost use Rattle.reverse.specs.Rules.{rules_of, is_before};
+ghost use Rattle.reverse.specs.Rules.{rules_of};
 ghost use Rattle.antimessages.specs.Counting.{is_after};
 ghost use Rattle.process_queues.specs.Past.{newest_of};
 ghost use Rattle.hand.specs.Deeds.{messages_of};
 ghost use Rattle.hand.specs.Hands.{DoesSent};
+ghost use Rattle.hand.specs.Flow.{Flow, TookFirst};
 ghost use Rattle.hand.specs.Passing.{held};
+ghost use Rattle.hand.specs.Undoing.{CameTo};
+ghost use Rattle.hand.specs.declared.fault.HandFault.TheVariants.{Exhausted};
+ghost use Rattle.hand.specs.declared.early.Early.TheVariants.{Ran, Idle, Late};
 
 use crate::block::Did;
 use crate::deeds::Deeds;
+use crate::fault::HandFault;
 use crate::letters::Letters;
-use crate::members::{act, send_all};
+use crate::members::{act, has_numbers, send_all};
 use reverse::{Actor, Outbound, actor_rules};
-use vlink::Message;
+use vlink::{Message, Time};
 
-/// The first message, whose receiver is a member with numbers left, is handled, and what it sends goes on. There is room for all that comes of it.
+/// What became of the first message of a group.
+#[derive(Clone, Copy, Debug, PartialEq, Eq)]
+pub enum Early {
+    /// It was handled.
+    Ran,
+    /// There is none that is earlier than the limit.
+    Idle,
+    /// Some done event does not come before it.
+    Late,
+}
+
+/// The first message, which was taken out of the queue and whose receiver is a member with numbers left, is handled, and what it sends goes on.
+/// There is room for all that comes of it.
 #[inline(always)]
 pub(crate) fn handle_first<R: Actor>(
     members: &mut [Option<R>],
@@ -26,8 +43,6 @@ pub(crate) fn handle_first<R: Actor>(
     out: &mut Outbound,
     message: &Message,
 )
-    requires among { Contains letters.old.queue message.now }
-    requires first { All (λ x. is_before x message.now ≡ false) letters.old.queue }
     requires early { is_after message_order (newest_of (messages_of done.old.deeds)) message.now ≡ true }
     requires able { (s : R) × (slice_get members.old message.now.receiver ≡ Some (Some s)) × (R.plain.counter s + 24 ≤ greatest_number) }
     requires room { 25 ≤ letters.old.room }
@@ -35,14 +50,43 @@ pub(crate) fn handle_first<R: Actor>(
     requires sends { 24 ≤ done.old.sends_room }
     requires rows { 2 ≤ done.old.rows_room }
     ensures len { length members.new ≡ length members.old }
-    ensures did { (rows : List Row) → DoesSent (rules_of R.plain) R.is_value (held members.old done.old.deeds rows letters.old) [] (held members.new done.new.deeds rows letters.new) [] }
+    ensures did { (rows : List Row) (before : Flow) → TookFirst message.now before letters.old →
+        DoesSent (rules_of R.plain) R.is_value (held members.old done.old.deeds rows before) [] (held members.new done.new.deeds rows letters.new) [] }
+    ensures came { ((p : ℕ) → CameTo (rules_of R.plain) R.is_value members.old done.old.deeds p) → (p : ℕ) → CameTo (rules_of R.plain) R.is_value members.new done.new.deeds p }
 {
     actor_rules::<R>();
-    letters.take_first(message);
     let kept = act(members, message, out);
     done.push_reserved(message, kept, out.messages(), out.notes());
     letters.tell(Did::Ran {
         process: message.receiver,
     });
     send_all(members, letters, out.messages());
+}
+
+/// What becomes of the first message of a group: whether it is earlier than the limit, comes after all that the group has done, and its receiver is a
+/// member with numbers left for what one event can send.
+#[inline(always)]
+pub(crate) fn standing<R: Actor>(
+    members: &[Option<R>],
+    done: &Deeds<R::Record>,
+    message: &Message,
+    limit: Time,
+) -> Result<Early, HandFault>
+    ensures early { result ≡ Ok Ran → is_after message_order (newest_of (messages_of done.now.deeds)) message.now ≡ true }
+    ensures able { result ≡ Ok Ran → (s : R) × (slice_get members.now message.now.receiver ≡ Some (Some s)) × (R.plain.counter s + 24 ≤ greatest_number) }
+    ensures idle { result ≡ Ok Idle → limit ≤ message.now.time }
+    ensures late { result ≡ Ok Late → is_after message_order (newest_of (messages_of done.now.deeds)) message.now ≡ false }
+    ensures exhausted { IfErr result (λ fault. fault ≡ Exhausted) }
+    ensures numbers { OnErr result ((s : R) → slice_get members.now message.now.receiver ≡ Some (Some s) → greatest_number < R.plain.counter s + 24) }
+{
+    if message.time >= limit {
+        return Ok(Early::Idle);
+    }
+    if !done.is_before(message) {
+        return Ok(Early::Late);
+    }
+    if !has_numbers(members, message.receiver) {
+        return Err(HandFault::Exhausted);
+    }
+    Ok(Early::Ran)
 }

@@ -1,4 +1,5 @@
 //! Why a group refuses a call.
+use antimessages::OutOfMemory;
 use std::alloc::AllocError;
 use thiserror::Error;
 
@@ -20,6 +21,17 @@ impl From<AllocError> for HandFault {
     ghost from_gives = { λ _ fault. fault ≡ OutOfMemory };
 
     fn from(_: AllocError) -> Self {
+        HandFault::OutOfMemory
+    }
+}
+
+impl From<OutOfMemory> for HandFault {
+    ghost use Rattle.std.specs.Prelude.{◌≡◌};
+    ghost use Rattle.hand.specs.declared.fault.HandFault.TheVariants.{OutOfMemory};
+
+    ghost from_gives = { λ _ fault. fault ≡ OutOfMemory };
+
+    fn from(_: OutOfMemory) -> Self {
         HandFault::OutOfMemory
     }
 }

@@ -1,25 +1,25 @@
 //! A group of processes in one hand.
-ghost use Rattle.std.specs.Prelude.{◌≡◌, ◌≤◌, ◌<◌, ◌+◌, ◌++◌, [], ◌∷◌, true, false, List, Some, All, Contains, Ok, Err, OnOk, OnErr, IfOk, IfErr, IfSome, IfNone, IsPermutation, length, map, slice_get};
+ghost use Rattle.std.specs.Prelude.{◌≡◌, ◌≤◌, ◌<◌, ◌+◌, [], true, false, Some, All, Contains, Ok, Err, OnOk, OnErr, IfOk, IfErr, IfSome, IfNone, IsPermutation, slice_get};
 ghost use Rattle.vlink.specs.declared.message.Message.{Message};
-ghost use Rattle.vlink.specs.declared.note.Note.{Note};
 ghost use Rattle.vlink.specs.Order.{message_order};
 ghost use Rattle.vlink.specs.Numbering.{greatest_number};
-ghost use Rattle.virtual_time.specs.Law.{Laws, World};
+ghost use Rattle.virtual_time.specs.Law.{World};
 ghost use Rattle.reverse.specs.Rules.{rules_of, is_before};
-ghost use Rattle.reverse.specs.Setting.{Setting, simulation_of};
+ghost use Rattle.reverse.specs.Setting.{Setting};
 ghost use Rattle.antimessages.specs.Counting.{is_after};
 ghost use Rattle.process_queues.specs.Past.{newest_of};
 ghost use Rattle.hand.specs.Deeds.{messages_of};
 ghost use Rattle.hand.specs.Hands.{DoesTold, StandsForGroup, CommitsTold, StaysDone, IsAsBefore, is_ours, with_letter};
 ghost use Rattle.hand.specs.declared.fault.HandFault.TheVariants.{OutOfMemory, Exhausted};
-ghost use Rattle.hand.specs.declared.hand.Early.TheVariants.{Idle, Late};
+ghost use Rattle.hand.specs.declared.early.Early.TheVariants.{Idle, Late};
 
-use crate::block::Did;
 use crate::deeds::Deeds;
-use crate::early::handle_first;
+use crate::early::{Early, handle_first, standing};
 use crate::fault::HandFault;
 use crate::letters::Letters;
 use crate::members::has_numbers;
+use crate::next::handle_behind;
+use crate::undoing::Undoing;
 use reverse::{Actor, Outbound, actor_rules};
 use std::alloc::Global;
 use std::marker::Model;
@@ -28,38 +28,34 @@ use vlink::{Letter, Message, Row, Time};
 /// The most letters, and words beside the first, that one event gives.
 const MOST_SENT: usize = 25;
 
-/// What became of the first message of a group.
-#[derive(Clone, Copy, Debug, PartialEq, Eq)]
-pub enum Early {
-    /// It was handled.
-    Ran,
-    /// There is none that is earlier than the limit.
-    Idle,
-    /// Some done event does not come before it.
-    Late,
-}
-
 /// The processes of a group: their actors, one queue of all messages that they have to handle, and one list of their done events.
 ///
 /// Between calls no letter of the group is on its way home, and no letter waits in an outbox.
 #[derive(Drop)]
 pub struct Hand<R: Actor> {
     /// The actors by their numbers; none where the process is elsewhere.
-    members: Vec<Option<R>>,
+    pub(crate) members: Vec<Option<R>>,
     /// The done events in the order of their messages.
-    done: Deeds<R::Record>,
+    pub(crate) done: Deeds<R::Record>,
+    pub(crate) undoing: Undoing<R::Record>,
     /// The rows of committed events.
     rows: Vec<Row>,
-    letters: Letters,
+    pub(crate) letters: Letters,
     out: Outbound,
 }
 
 impl<R: Actor> Model for Hand<R> {
+    ghost use Rattle.std.specs.Prelude.{◌≡◌, ℕ, []};
+    ghost use Rattle.reverse.specs.Rules.{rules_of};
     ghost use Rattle.hand.specs.Hands.{Held};
+    ghost use Rattle.hand.specs.Undoing.{CameTo};
 
     ghost Value = { Held R R.Record };
 
     ghost view = { λ h. record { members = h.members.items; done = h.done.deeds; rows = h.rows.items; flow = h.letters } };
+
+    // the state of each member came from what it has done
+    ghost invariant = { λ h. ((p : ℕ) → CameTo (rules_of R.plain) R.is_value h.members.items h.done.deeds p) × (h.undoing.aside.deeds ≡ []) × (h.undoing.back.items ≡ []) };
 }
 
 impl<R: Actor + Drop> Hand<R> {
@@ -85,6 +81,7 @@ impl<R: Actor + Drop> Hand<R> {
         Ok(Hand {
             members,
             done: Deeds::new(alloc),
+            undoing: Undoing::new(alloc),
             rows: Vec::new(alloc),
             letters: Letters::of_offers(alloc, offers, keeps)?,
             out: Outbound::new(0, Time::default(), 0),
@@ -126,70 +123,102 @@ impl<R: Actor> Hand<R> {
         ensures idle { result ≡ Ok Idle → All (λ m. limit ≤ m.time) self.old.flow.queue }
         ensures late { result ≡ Ok Late → (m : Message) × (is_after message_order (newest_of (messages_of self.old.done)) m ≡ false)
             × Contains self.old.flow.queue m × All (λ x. is_before x m ≡ false) self.old.flow.queue }
+        ensures still { result ≡ Ok Late → IsAsBefore self.old self.new }
+        ensures exhausted { result ≡ Err Exhausted → (m : Message) × Contains self.old.flow.queue m × All (λ x. is_before x m ≡ false) self.old.flow.queue
+            × ((s : R) → slice_get self.old.members m.receiver ≡ Some (Some s) → greatest_number < R.plain.counter s + 24) }
+        ensures unchanged { OnErr result (IsAsBefore self.old self.new) }
+    {
+        actor_rules::<R>();
+        self.letters.reserve(MOST_SENT)?;
+        self.done.reserve()?;
+        let Some(message) = self.letters.pop() else {
+            return Ok(Early::Idle);
+        };
+        let early = standing(&self.members, &self.done, &message, limit);
+        match early {
+            Ok(Early::Ran) => {
+                handle_first(
+                    &mut self.members,
+                    &mut self.done,
+                    &mut self.letters,
+                    &mut self.out,
+                    &message,
+                );
+                Ok(Early::Ran)
+            }
+            _ => {
+                self.letters.wait_again(&message);
+                early
+            }
+        }
+    }
+
+    /// The first message of all members is handled, where it is earlier than the limit, whether other members have done later events or not; or, where it
+    /// is done already, it counts beside. What it sends to members is taken: it joins the queue, or waits in the tray. The answer is whether there was
+    /// one. Letters that wait in the tray are to arrive before.
+    ///
+    /// `Exhausted`: its receiver, if it is a member, has not enough numbers left for what one event can send. `OutOfMemory`: a growth was refused.
+    /// Either leaves all as it was.
+    pub fn run_next(&mut self, limit: Time) -> Result<bool, HandFault>
+        ensures did { DoesTold (rules_of R.plain) R.is_value self.old self.new }
+        ensures idle { result ≡ Ok false → All (λ m. limit ≤ m.time) self.old.flow.queue }
+        ensures unchanged { OnErr result (IsAsBefore self.old self.new) }
+    {
+        match self.run_early(limit)? {
+            Early::Ran => Ok(true),
+            Early::Idle => Ok(false),
+            Early::Late => {
+                self.run_late()?;
+                Ok(true)
+            }
+        }
+    }
+
+    /// The first message of the queue, if there is one, is handled by its receiver, where other members have done later events; or, where it is done
+    /// already, it counts beside. What it sends to members waits in the tray.
+    ///
+    /// `Exhausted`: its receiver, if it is a member, has not enough numbers left for what one event can send. `OutOfMemory`: a growth was refused.
+    /// Either leaves all as it was.
+    pub(crate) fn run_late(&mut self) -> Result<(), HandFault>
+        ensures did { DoesTold (rules_of R.plain) R.is_value self.old self.new }
         ensures exhausted { result ≡ Err Exhausted → (m : Message) × Contains self.old.flow.queue m × All (λ x. is_before x m ≡ false) self.old.flow.queue
             × ((s : R) → slice_get self.old.members m.receiver ≡ Some (Some s) → greatest_number < R.plain.counter s + 24) }
         ensures unchanged { OnErr result (IsAsBefore self.old self.new) }
     {
         actor_rules::<R>();
         let Some(message) = self.letters.first() else {
-            return Ok(Early::Idle);
+            return Ok(());
         };
-        if message.time >= limit {
-            return Ok(Early::Idle);
-        }
-        if !self.done.is_before(&message) {
-            return Ok(Early::Late);
-        }
         if !has_numbers(&self.members, message.receiver) {
             return Err(HandFault::Exhausted);
         }
         self.letters.reserve(MOST_SENT)?;
         self.done.reserve()?;
-        handle_first(
+        self.undoing.aside.reserve_for(&self.done)?;
+        handle_behind(
             &mut self.members,
             &mut self.done,
+            &mut self.undoing.aside,
             &mut self.letters,
             &mut self.out,
             &message,
-        );
-        Ok(Early::Ran)
+        )?;
+        Ok(())
     }
 
     /// The done events that are earlier than the moment, in ns, are committed, the oldest first, up to one that counts other than once, or after which
-    /// the first message of the queue does not come. Their rows are sealed. A refusal stops between two events.
+    /// the first message of the queue does not come. Their rows are sealed. A refusal leaves all as it was.
     pub fn commit(&mut self, moment: Time) -> Result<(), HandFault>
         ensures did { CommitsTold (rules_of R.plain) R.is_value moment self.old self.new }
         ensures left { OnOk result (StaysDone moment self.new) }
         ensures memory { IfErr result (λ fault. fault ≡ OutOfMemory) }
-    {
-        'events: while self.commit_oldest(moment)? {}
-        Ok(())
-    }
-
-    /// The oldest done event is committed, where it can be. The answer is whether it was.
-    #[inline(always)]
-    fn commit_oldest(&mut self, moment: Time) -> Result<bool, HandFault>
-        ensures did { CommitsTold (rules_of R.plain) R.is_value moment self.old self.new }
-        ensures left { result ≡ Ok false → StaysDone moment self.new }
-        ensures fewer { result ≡ Ok true → length self.new.done + 1 ≡ length self.old.done }
-        ensures memory { IfErr result (λ fault. fault ≡ OutOfMemory) }
+        ensures unchanged { OnErr result (IsAsBefore self.old self.new) }
     {
         actor_rules::<R>();
-        let Some(message) = self.done.oldest().copied() else {
-            return Ok(false);
-        };
-        if message.time >= moment {
-            return Ok(false);
-        }
-        if !self.letters.counts_once(&message) {
-            return Ok(false);
-        }
-        self.letters.reserve(1)?;
-        self.done.forget_oldest(&mut self.rows)?;
-        self.letters.tell(Did::Committed {
-            process: message.receiver,
-        });
-        Ok(true)
+        let first = self.letters.first();
+        let count = self.letters.count_early(&self.done, moment, &first);
+        self.letters.seal(&mut self.done, &mut self.rows, count)?;
+        Ok(())
     }
 
     /// The rows of committed events, in the order of their events.

@@ -1,12 +1,10 @@
 //! What waits for a group, and what it sent to others.
-ghost use Rattle.std.specs.Prelude.{◌≡◌, ◌≢◌, ◌+◌, ◌<◌, ◌≤◌, ◌⊎◌, [], ◌∷◌, ◌++◌, true, false, All, Contains, OnOk, OnErr, IfOk, IfSome, IfNone, IsPermutation, pos};
+ghost use Rattle.std.specs.Prelude.{◌≡◌, ◌+◌, ◌<◌, ◌≤◌, ◌⊎◌, [], ◌∷◌, ◌++◌, true, false, All, Contains, OnOk, OnErr, IfOk, IfSome, IfNone, IsPermutation, vec_len, vec_capacity};
+ghost use Rattle.std.specs.VecDeque.{deque_len, deque_capacity};
 ghost use Rattle.vlink.specs.declared.message.Message.{Message};
 ghost use Rattle.vlink.specs.Letters.{Letter};
-ghost use Rattle.vlink.specs.Order.{message_order};
-ghost use Rattle.virtual_time.specs.Law.{times_in};
-ghost use Rattle.antimessages.specs.Counting.{signed_count};
 ghost use Rattle.reverse.specs.Rules.{is_before};
-ghost use Rattle.hand.specs.Flow.{WentAbroad, CameHome, WasTaken};
+ghost use Rattle.hand.specs.Flow.{WentAbroad, CameHome, WasTaken, TookFirst};
 
 use crate::block::{Did, Words};
 use crate::queue::Queue;
@@ -76,15 +74,11 @@ impl Letters {
     /// Makes room for so many letters and words more, wherever they go.
     #[inline(always)]
     pub(crate) fn reserve(&mut self, more: usize) -> Result<(), AllocError>
-        requires few { more ≤ 4096 }
         ensures room { OnOk result (more ≤ self.new.room) }
         ensures same { self.new ≡ record self.old { room = self.new.room } }
     {
         self.queue.reserve(more)?;
-        self.tray.reserve(more)?;
-        self.abroad.reserve(more)?;
-        self.block.reserve(more)?;
-        Ok(())
+        make_room(&mut self.tray, &mut self.abroad, &mut self.block, more)
     }
 
     /// The first message, if there is one.
@@ -100,6 +94,18 @@ impl Letters {
         self.queue.first()
     }
 
+    /// Takes the first message out of the queue, if there is one.
+    #[inline(always)]
+    pub(crate) fn pop(&mut self) -> Option<Message>
+        ensures taken { IfSome result (λ m. TookFirst m self.old self.new) }
+        ensures none { IfNone result (self.old.queue ≡ []) }
+        ensures empty { IfNone result (self.new.queue ≡ []) }
+        ensures others { self.new ≡ record self.old { queue = self.new.queue; room = self.new.room } }
+        ensures room { self.old.room ≤ self.new.room }
+    {
+        self.queue.pop()
+    }
+
     /// The first message, which is this one, is handled: it leaves the queue. There is room to tell of it.
     #[inline(always)]
     pub(crate) fn take_first(&mut self, message: &Message)
@@ -110,6 +116,16 @@ impl Letters {
         ensures others { self.new ≡ record self.old { queue = self.new.queue; room = self.new.room } }
     {
         self.queue.take_first(message);
+    }
+
+    /// A message of the group waits again: it joins the queue, which has room for it.
+    pub(crate) fn wait_again(&mut self, message: &Message)
+        requires { 0 < self.old.room }
+        ensures waits { IsPermutation (message.now ∷ self.old.queue) self.new.queue }
+        ensures others { self.new ≡ record self.old { queue = self.new.queue; room = self.new.room } }
+        ensures room { self.old.room ≤ self.new.room + 1 }
+    {
+        self.queue.push_reserved(message);
     }
 
     /// One word more, for which there is room.
@@ -129,27 +145,6 @@ impl Letters {
     {
         push_back(&mut self.tray, letter)?;
         Ok(())
-    }
-
-    /// Whether the message of a done event counts just once: nothing of it counts beside, and the first message of the queue, if there is one, comes
-    /// after it.
-    #[inline(always)]
-    pub(crate) fn counts_once(&mut self, message: &Message) -> bool
-        ensures same { IsPermutation self.old.queue self.new.queue }
-        ensures others { self.new ≡ record self.old { queue = self.new.queue; room = self.new.room } }
-        ensures zero { result ≡ true → signed_count message_order message.now self.old.extra ≡ pos 0 }
-        ensures none { result ≡ true → times_in message_order message.now self.old.queue ≡ 0 }
-        ensures left { result ≡ false → (signed_count message_order message.now self.new.extra ≢ pos 0) ⊎ ((x : Message) × Contains self.new.queue x × (message_order.less message.now x ≡ false)) }
-    {
-        message_order();
-        lawful_order();
-        let Some(first) = self.queue.first() else {
-            return self.extra.is_zero(message);
-        };
-        if !compare(message, &first).is_lt() {
-            return false;
-        }
-        self.extra.is_zero(message)
     }
 
     /// A message that was just sent goes on: to others; or to a member, whose letter is taken and joins the queue at once, where no letter is to
@@ -179,6 +174,52 @@ impl Letters {
             });
         }
     }
+}
+
+/// Makes room for so many letters and words more. Mostly there is.
+#[inline(always)]
+fn make_room(
+    tray: &mut VecDeque<Letter>,
+    abroad: &mut Vec<Letter>,
+    block: &mut Words,
+    more: usize,
+) -> Result<(), AllocError>
+    ensures tray_room { OnOk result (deque_len tray.new + more ≤ deque_capacity tray.new) }
+    ensures abroad_room { OnOk result (vec_len abroad.new + more ≤ vec_capacity abroad.new) }
+    ensures block_room { OnOk result (more ≤ block.new.room) }
+    ensures tray { tray.new.items ≡ tray.old.items }
+    ensures abroad { abroad.new.items ≡ abroad.old.items }
+    ensures words { block.new.words ≡ block.old.words }
+    ensures keeps { block.new.keeps ≡ block.old.keeps }
+{
+    if more <= tray.capacity() - tray.len()
+        && more <= abroad.capacity() - abroad.len()
+        && block.has_room(more)
+    {
+        return Ok(());
+    }
+    grow(tray, abroad, block, more)
+}
+
+/// Makes room for so many letters and words more, where some of it is missing.
+#[inline(never)]
+fn grow(
+    tray: &mut VecDeque<Letter>,
+    abroad: &mut Vec<Letter>,
+    block: &mut Words,
+    more: usize,
+) -> Result<(), AllocError>
+    ensures tray_room { OnOk result (deque_len tray.new + more ≤ deque_capacity tray.new) }
+    ensures abroad_room { OnOk result (vec_len abroad.new + more ≤ vec_capacity abroad.new) }
+    ensures block_room { OnOk result (more ≤ block.new.room) }
+    ensures tray { tray.new.items ≡ tray.old.items }
+    ensures abroad { abroad.new.items ≡ abroad.old.items }
+    ensures words { block.new.words ≡ block.old.words }
+    ensures keeps { block.new.keeps ≡ block.old.keeps }
+{
+    tray.reserve(more)?;
+    abroad.reserve(more)?;
+    block.reserve(more)
 }
 
 /// Puts the item at the back. It has a type parameter so that the borrow checker follows it.

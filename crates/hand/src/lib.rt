@@ -2,15 +2,25 @@
 //! Each call does steps of the law of virtual time, which join the block.
 #![tactic(auto)]
 
+mod arrive;
+mod arriving;
 mod block;
+mod committing;
 mod deeds;
 mod early;
 mod fault;
 mod hand;
+mod handing;
+mod late;
 mod letters;
 mod members;
+mod newest;
+mod next;
 mod queue;
+mod tray;
+mod undoing;
 
 pub use block::{Did, Words};
+pub use early::Early;
 pub use fault::HandFault;
-pub use hand::{Early, Hand};
+pub use hand::Hand;

@@ -1,7 +1,8 @@
 //! The members of a group, by their numbers.
-ghost use Rattle.std.specs.Prelude.{◌≡◌, ◌+◌, ◌<◌, ◌≤◌, ◌++◌, [], List, Option, Some, true, false, length, slice_get, map, OnOk};
+ghost use Rattle.std.specs.Prelude.{◌≡◌, ℕ, ◌+◌, ◌<◌, ◌≤◌, ◌++◌, [], List, Option, Some, true, false, length, slice_get, map, OnOk};
 ghost use Rattle.std.proofs.Math.ListN.{set};
 ghost use Rattle.vlink.specs.Numbering.{greatest_number};
+ghost use Rattle.reverse.specs.Plain.{CameFrom};
 ghost use Rattle.reverse.specs.Rules.{rules_of};
 ghost use Rattle.hand.specs.Hands.{is_ours};
 ghost use Rattle.hand.specs.Passing.{GoesOn};
@@ -54,6 +55,23 @@ pub(crate) fn act<R: Actor>(
     match &mut members[usize::from(message.receiver)] {
         Some(actor) => actor.handle(message, out),
         None => unreachable!(),
+    }
+}
+
+/// The receiver, if it is of the group, undoes the message by the record that it left.
+pub(crate) fn undo<R: Actor>(members: &mut [Option<R>], message: &Message, kept: R::Record)
+    requires { (s : R) → slice_get members.old message.now.receiver ≡ Some (Some s) → CameFrom R.plain R.is_value s message.now kept }
+    ensures len { length members.new ≡ length members.old }
+    ensures member { (s : R) → slice_get members.old message.now.receiver ≡ Some (Some s) → slice_get members.new message.now.receiver ≡ Some (Some (R.plain.before s message.now kept)) }
+    ensures others { (q : ℕ) → (q ≡ message.now.receiver → ⊥) → slice_get members.new q ≡ slice_get members.old q }
+    ensures ours { (q : ℕ) → is_ours members.new q ≡ is_ours members.old q }
+{
+    let place = usize::from(message.receiver);
+    if place < members.len() {
+        match &mut members[place] {
+            Some(actor) => actor.undo(message, kept),
+            None => {}
+        }
     }
 }
 

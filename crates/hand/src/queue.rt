@@ -8,7 +8,7 @@ ghost use Rattle.reverse.specs.Rules.{is_before};
 
 use std::alloc::{AllocError, Global};
 use std::marker::Model;
-use two_lists::{TwoLists, sort};
+use two_lists::{TwoLists, sort, take_out};
 use vlink::{Message, lawful_order, message_order};
 
 /// The messages that a group has to handle. All offers are known from the start and are sorted once; one that is undone goes to the lists.
@@ -63,10 +63,11 @@ impl Queue {
 
     /// Takes the first message out, if there is one.
     #[inline(always)]
-    fn pop(&mut self) -> Option<Message>
+    pub(crate) fn pop(&mut self) -> Option<Message>
         ensures one { IfSome result (λ m. IsPermutation self.old.messages (m ∷ self.new.messages)) }
         ensures first { IfSome result (λ m. All (λ x. is_before x m ≡ false) self.old.messages) }
         ensures none { IfNone result (self.old.messages ≡ []) }
+        ensures empty { IfNone result (self.new.messages ≡ []) }
         ensures room { self.old.room ≤ self.new.room }
     {
         message_order();
@@ -91,7 +92,6 @@ impl Queue {
     /// Makes room for so many messages more: as long as no other call comes between, so many calls of `push_reserved` have it.
     #[inline(always)]
     pub(crate) fn reserve(&mut self, more: usize) -> Result<(), AllocError>
-        requires few { more ≤ 4096 }
         ensures room { OnOk result (more ≤ self.new.room) }
         ensures same { self.new.messages ≡ self.old.messages }
     {
@@ -107,5 +107,18 @@ impl Queue {
         ensures room { self.old.room ≤ self.new.room + 1 }
     {
         let _taken = self.lists.push(message);
+    }
+
+    /// Takes the message out, once, wherever it is: it is rare. The answer is whether it was there.
+    pub(crate) fn remove(&mut self, message: &Message) -> bool
+        ensures one { result ≡ true → IsPermutation self.old.messages (message.now ∷ self.new.messages) }
+        ensures none { result ≡ false → All (λ x. x ≢ message.now) self.old.messages }
+        ensures unchanged { result ≡ false → self.new.messages ≡ self.old.messages }
+        ensures room { self.old.room ≤ self.new.room }
+    {
+        if self.lists.remove(message) {
+            return true;
+        }
+        take_out(&mut self.offers, message)
     }
 }

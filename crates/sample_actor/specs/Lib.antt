@@ -1,2 +1,4 @@
+pub mod Passing
+pub mod PassingOn
 pub mod Sending
 pub mod Summing

@@ -1,8 +1,9 @@
-//! Scripts for the test actor, a line each: its words, and behind the arrow what they tell (`player.rt` says how). A word for which memory is
+//! Scripts for the test actors, a line each: its words, and behind the arrow what they tell (`player.rt` and `hands.rt` say how). A word for which memory is
 //! refused is done again: each line holds with ample memory, and where any one request for memory is refused. A line with an arrival that is
 //! not done again, `arrive?`, has behind a bar what it tells where that is refused. `tools/refuse_memory.py` refuses each request in turn.
 mod alone;
 mod asking;
+mod hands;
 mod mailing;
 mod player;
 
@@ -66,7 +67,38 @@ A straggler among so many letters that the map grows for it: committing and undo
 +10 arrive run +20 arrive run +30 arrive run post -41 arrive -42 arrive -43 arrive -44 arrive -45 arrive -46 arrive -47 arrive -48 arrive -49 arrive -50 arrive -51 arrive -52 arrive -53 arrive +15 arrive? tray committable:50:9 outbox arrive tray outbox => 0 10 0 20 0 30 0 0 0 0 0 0 0 0 0 0 0 0 0 2 0 1 -35.2 -25.1 none 0 -35.2 -25.1 sum 0 counter 0 | 0 10 0 20 0 30 0 0 0 0 0 0 0 0 0 0 0 0 0 refused 1 3 2 0 -35.2 -25.1 sum 0 counter 0
 A straggler that takes back more messages than the outbox has room for.
 +10 arrive run post +11 arrive run post +12 arrive run post +13 arrive run post +14 arrive run post +15 arrive run post +16 arrive run post +17 arrive run post +18 arrive run post +19 arrive run post +20 arrive run post +21 arrive run post +22 arrive run post +23 arrive run post +24 arrive run post +25 arrive run post +26 arrive run post +27 arrive run post +28 arrive run post +29 arrive run post +30 arrive run post +31 arrive run post +32 arrive run post +33 arrive run post +34 arrive run post +5 arrive? tray committable:50:99 outbox commit:50:99 => 0 10 0 11 0 12 0 13 0 14 0 15 0 16 0 17 0 18 0 19 0 20 0 21 0 22 0 23 0 24 0 25 0 26 0 27 0 28 0 29 0 30 0 31 0 32 0 33 0 34 25 0 0 -39.24 -38.23 -37.22 -36.21 -35.20 -34.19 -33.18 -32.17 -31.16 -30.15 -29.14 -28.13 -27.12 -26.11 -25.10 -24.9 -23.8 -22.7 -21.6 -20.5 -19.4 -18.3 -17.2 -16.1 -15.0 0 sum 0 counter 0 | 0 10 0 11 0 12 0 13 0 14 0 15 0 16 0 17 0 18 0 19 0 20 0 21 0 22 0 23 0 24 0 25 0 26 0 27 0 28 0 29 0 30 0 31 0 32 0 33 0 34 refused 1 25 25 sum 550 counter 25
-+10 arrive run post +11 arrive run post +12 arrive run post +13 arrive run post +14 arrive run post +15 arrive run post +16 arrive run post +17 arrive run post +18 arrive run post +19 arrive run post +20 arrive run post +21 arrive run post +22 arrive run post +23 arrive run post +24 arrive run post +25 arrive run post +26 arrive run post +27 arrive run post +28 arrive run post +29 arrive run post +30 arrive run post +31 arrive run post +32 arrive run post +33 arrive run post +34 arrive run post +5 arrive? tray outbox arrive outbox => 0 10 0 11 0 12 0 13 0 14 0 15 0 16 0 17 0 18 0 19 0 20 0 21 0 22 0 23 0 24 0 25 0 26 0 27 0 28 0 29 0 30 0 31 0 32 0 33 0 34 25 0 -39.24 -38.23 -37.22 -36.21 -35.20 -34.19 -33.18 -32.17 -31.16 -30.15 -29.14 -28.13 -27.12 -26.11 -25.10 -24.9 -23.8 -22.7 -21.6 -20.5 -19.4 -18.3 -17.2 -16.1 -15.0 none -39.24 -38.23 -37.22 -36.21 -35.20 -34.19 -33.18 -32.17 -31.16 -30.15 -29.14 -28.13 -27.12 -26.11 -25.10 -24.9 -23.8 -22.7 -21.6 -20.5 -19.4 -18.3 -17.2 -16.1 -15.0 sum 0 counter 0 | 0 10 0 11 0 12 0 13 0 14 0 15 0 16 0 17 0 18 0 19 0 20 0 21 0 22 0 23 0 24 0 25 0 26 0 27 0 28 0 29 0 30 0 31 0 32 0 33 0 34 refused 1 25 -39.24 -38.23 -37.22 -36.21 -35.20 -34.19 -33.18 -32.17 -31.16 -30.15 -29.14 -28.13 -27.12 -26.11 -25.10 -24.9 -23.8 -22.7 -21.6 -20.5 -19.4 -18.3 -17.2 -16.1 -15.0 sum 0 counter 0";
++10 arrive run post +11 arrive run post +12 arrive run post +13 arrive run post +14 arrive run post +15 arrive run post +16 arrive run post +17 arrive run post +18 arrive run post +19 arrive run post +20 arrive run post +21 arrive run post +22 arrive run post +23 arrive run post +24 arrive run post +25 arrive run post +26 arrive run post +27 arrive run post +28 arrive run post +29 arrive run post +30 arrive run post +31 arrive run post +32 arrive run post +33 arrive run post +34 arrive run post +5 arrive? tray outbox arrive outbox => 0 10 0 11 0 12 0 13 0 14 0 15 0 16 0 17 0 18 0 19 0 20 0 21 0 22 0 23 0 24 0 25 0 26 0 27 0 28 0 29 0 30 0 31 0 32 0 33 0 34 25 0 -39.24 -38.23 -37.22 -36.21 -35.20 -34.19 -33.18 -32.17 -31.16 -30.15 -29.14 -28.13 -27.12 -26.11 -25.10 -24.9 -23.8 -22.7 -21.6 -20.5 -19.4 -18.3 -17.2 -16.1 -15.0 none -39.24 -38.23 -37.22 -36.21 -35.20 -34.19 -33.18 -32.17 -31.16 -30.15 -29.14 -28.13 -27.12 -26.11 -25.10 -24.9 -23.8 -22.7 -21.6 -20.5 -19.4 -18.3 -17.2 -16.1 -15.0 sum 0 counter 0 | 0 10 0 11 0 12 0 13 0 14 0 15 0 16 0 17 0 18 0 19 0 20 0 21 0 22 0 23 0 24 0 25 0 26 0 27 0 28 0 29 0 30 0 31 0 32 0 33 0 34 refused 1 25 -39.24 -38.23 -37.22 -36.21 -35.20 -34.19 -33.18 -32.17 -31.16 -30.15 -29.14 -28.13 -27.12 -26.11 -25.10 -24.9 -23.8 -22.7 -21.6 -20.5 -19.4 -18.3 -17.2 -16.1 -15.0 sum 0 counter 0
+A group does what its processes do one by one, and tells it (`hands.rt` says how).
+hand:3 +10:0 next floor arrive next floor run:10 run:50 run:50 abroad states rows => . none . 10 . A0 . 10:0:9:0 . 10 . idle . ran R0 H0 H2 . ran R0 H0 H2 . . 25.4 0.0 0.0 . .
+hand:1 +9:0 arrive run:50 run:50 run:50 abroad states commit:12 rows next floor => . A0 . ran R0 . idle . idle . +14:4:0:0 +16:1:0:1 . 9.2 . C0 . 9:0:9:0 . none . 1000000000000001 .
+hand:5 +10:0 +11:1 arrive run:90 run:90 +3:2 arrive run:90 next floor states => . . A0 A1 . ran R0 H0 H2 . ran R1 H1 H3 . . A2 . ran R2 T3 T0 . 15:0:0:0 . 8 . 10.2 11.2 3.2 0.0 0.0 .
+A message that comes late is undone by its process alone, and what it sent is taken back.
+hand:3 +10:0 +10:1 +10:2 arrive run:11 run:11 run:11 +4:1 arrive abroad states run:5 run:11 abroad states => . . . A0 A1 A2 . ran R0 H0 H2 . ran R1 H0 H2 . ran R2 H0 H2 . . A1 T2 T0 A2 A0 . . 10.2 0.0 10.2 . ran R1 T1 . ran R1 T0 T2 . +9:4:1:0 . 10.2 14.4 10.2 .
+hand:2 +15:0 arrive run:99 run:99 run:99 +1:0 arrive next states abroad run:99 run:99 states => . A0 . ran R0 H0 . ran R0 H0 . ran R0 H0 . . A0 T0 T0 T0 A0 A0 A0 . 1:0:9:0 . 0.0 0.0 . +22:2:0:1 +27:2:0:3 +32:2:0:5 -32:2:0:5 -27:2:0:3 -22:2:0:1 . ran R0 H1 . ran R1 H1 . 1.2 6.2 .
+A message of a group counts as often as it came, and its antimessage may come first.
+hand:3 +10:0 arrive run:90 -10:0 arrive next states -10:0 arrive +10:0 arrive next +10:0 arrive next => . A0 . ran R0 H0 H2 . . A0 T2 T0 A2 A0 . none . 0.0 0.0 0.0 . . A0 . . A0 . none . . A0 . 10:0:9:0 .
+hand:3 -10:1 arrive next floor +10:1 arrive next +10:1 arrive next run:90 states => . A1 . none . 1000000000000001 . . A1 . none . . A1 . 10:1:9:0 . ran R1 H0 H2 . 0.0 10.2 0.0 .
+hand:2 +10:1 +10:1 +10:1 arrive next run:90 next run:90 run:90 next commit:50 rows -10:1 -10:1 arrive commit:50 rows states => . . . A1 A1 A1 . 10:1:9:0 . ran R1 H0 . 10:1:9:0 . ran . ran . 15:0:1:0 . . . . . A1 A1 . C1 . 10:1:9:0 . 0.0 10.2 .
+hand:2 +10:1 arrive run:90 +10:1 arrive next -10:1 arrive next commit:50 rows => . A1 . ran R1 H0 . . A1 . 15:0:1:0 . . A1 . 15:0:1:0 . C1 . 10:1:9:0 .
+hand:2 -20:0:1:0 +13:1 arrive run:90 floor arrive next run:90 states => . . A0 A1 . ran R1 H0 . 20 . . 20:0:1:1 . ran R0 H0 . 20.2 13.2 .
+hand:2 -15:0:1:0 +10:1 arrive run:90 floor next arrive next +15:0:1:0 arrive next floor => . . A0 A1 . ran R1 T0 . 15 . none . A0 . none . . A0 . 15:0:1:0 . 15 .
+hand:4 +10:0 +20:1 +30:2 +40:3 arrive run:50 run:50 run:50 run:50 +5:3 arrive next states run:6 arrive next states => . . . . A0 A1 A2 A3 . ran R0 H0 H2 . ran R0 H0 H2 . ran R2 H2 . ran R0 H0 H2 . . A3 . 5:3:9:0 . 45.6 0.0 17.2 0.0 . ran R3 T0 T2 . A0 T2 T0 T2 T0 T2 T0 A2 T2 A2 A0 A2 A0 A2 A0 A2 . 10:0:3:0 . 0.0 0.0 0.0 5.2 .
+What is early and counts once is committed, the oldest first.
+hand:3 +10:0 +20:1 arrive run:21 run:21 +15:2 arrive next run:16 states arrive next commit:16 rows states => . . A0 A1 . ran R0 H0 H2 . ran R0 H0 H2 . . A2 . 15:2:9:0 . ran R2 H0 H2 . 25.4 0.0 15.2 . . 17:2:0:1 . C0 C0 C2 . 10:0:9:0 15:0:0:0 15:2:9:0 . 25.4 0.0 15.2 .
+hand:3 +10:0 +12:1 +13:2 arrive commit:11 run:14 commit:11 rows commit:13 run:14 run:14 commit:13 rows run:14 commit:99 rows => . . . A0 A1 A2 . . ran R0 H0 H2 . C0 . 10:0:9:0 . . ran R1 H2 . ran R2 H0 . C1 . 10:0:9:0 12:1:9:0 . idle . C2 . 10:0:9:0 12:1:9:0 13:2:9:0 .
+Letters for others, a group of none, and the end of the run.
+hand:1 +10:0 arrive run:90 abroad -10:0 arrive abroad next states => . A0 . ran R0 H0 . +17:2:0:1 . . A0 T0 A0 . -17:2:0:1 . none . 0.0 .
+hand:0 +10:0 arrive next floor run:90 commit:50 rows abroad states => . . none . 1000000000000001 . idle . . . . .
+hand:1 +999999999999994:0 arrive run:1000000000000000 abroad next floor states => . A0 . ran R0 . +999999999999999:4:0:0 . none . 1000000000000001 . 999999999999994.1 .
+hand:2 +10:0 +11:1 run:90 next floor arrive run:90 run:90 +1:0 +2:1 arrive states next => . . idle . none . 10 . A0 A1 . ran R0 H0 . ran R1 H1 . . . A0 T0 A1 T1 A0 A1 . 0.0 0.0 . 1:0:9:0 .";
+
+// What the words of a script tell: on a group where it opens one, and else on a process.
+fn played(rt: &HostRuntime, script: &str) -> Result<String, Fail> {
+    if script.starts_with("hand:") {
+        return hands::play(rt, script);
+    }
+    play(rt, script)
+}
 
 #[test]
 fn scripts_tell_what_their_lines_say(rt: HostRuntime) -> Result<(), Fail> {
@@ -76,9 +108,10 @@ fn scripts_tell_what_their_lines_say(rt: HostRuntime) -> Result<(), Fail> {
             continue;
         };
         let (done, refused) = told.split_once(" | ").unwrap_or((told, told));
-        let played = play(&rt, script)?;
-        if played.as_str() != refused {
-            assert_eq!(rt; played.as_str(), done, "{script}");
+        let played = played(&rt, script)?;
+        let played = played.trim_end();
+        if played != refused {
+            assert_eq!(rt; played, done, "{script}");
         }
     }
     Ok(())
@@ -88,7 +121,7 @@ fn scripts_tell_what_their_lines_say(rt: HostRuntime) -> Result<(), Fail> {
 #[test]
 fn scripts_of_standard_input_are_played(rt: HostRuntime) -> Result<(), Fail> {
     for line in BufReader::new(rt.alloc(), rt.reader())?.lines(rt.alloc()) {
-        println!(rt; "{}", play(&rt, &line?)?)?;
+        println!(rt; "{}", played(&rt, &line?)?)?;
     }
     Ok(())
 }

@@ -5,5 +5,5 @@ mod bands;
 mod lists;
 mod order;
 
-pub use lists::TwoLists;
+pub use lists::{TwoLists, take_out};
 pub use order::sort;

@@ -7,4 +7,5 @@ abbrev pub invariant-loop-note : goal.invariant-loop-note
 invariant-loop-note l = record {
   noted : l.rows.items ≡ l.initial.rows.items ++ rows_of message_order l.message (take l.note-index l.notes);
   room : deque_len l.rows + length l.notes ≤ deque_capacity l.rows + l.note-index;
+  capacity : deque_capacity l.rows ≡ deque_capacity l.initial.rows;
 }

@@ -1,14 +1,16 @@
-use Rattle.std.proofs.Common.{◌∷◌, [], ◌++◌, Some, set, subst, sym, ap, ◌∙◌}
+use Rattle.std.proofs.Common.{ℕ, ◌∷◌, [], ◌++◌, Some, set, subst, sym, ap, ◌∙◌}
 use Rattle.vlink.specs.Order.{message_order}
 use Rattle.virtual_time.specs.Law.{rows_of}
 use Rattle.reverse.specs.Rules.{rules_of}
 use Rattle.hand.specs.Hands.{DoesSent}
 use Rattle.hand.specs.Passing.{GoesOn, held}
+use Rattle.hand.specs.Undoing.{CameTo}
+use Rattle.hand.proofs.Came.{pushed-came}
 use Rattle.hand.proofs.FirstEvent.{handles}
 use Rattle.hand.proofs.early.handle_first.Goals as goal
 
 pub returns-clause-did : goal.returns-clause-did
-returns-clause-did g c = λ rows.
+returns-clause-did g c = λ rows before took.
     let plain = g.R.Reversible.plain in
     let V = g.R.Reversible.is_value in
     let r = rules_of plain in
@@ -19,11 +21,25 @@ returns-clause-did g c = λ rows.
     let again = c.messages-2.ensures.messages ∙ c.act-kept.ensures.messages s at in
     let notes = c.notes.ensures.notes ∙ c.act-kept.ensures.notes s at in
     let members = c.act-kept.ensures.members s at in
-    let later = c.push_reserved.ensures ∙ (λ j. c.args.done.now.deeds ++ record { message = m; kept = c.act-kept.ensures.saved s at j; sent = sends j; rows = rows_of message_order m (notes j) } ∷ []) in
+    let later = c.push_reserved.ensures.deeds ∙ (λ j. c.args.done.now.deeds ++ record { message = m; kept = c.act-kept.ensures.saved s at j; sent = sends j; rows = rows_of message_order m (notes j) } ∷ []) in
     let gone = subst (λ xs. GoesOn r V (set c.args.members.now m.receiver (Some (plain.after s m))) xs c.tell.new.self xs c.send_all.new.letters []) again
     (subst (λ ms. GoesOn r V ms c.messages-2.result.now c.tell.new.self c.messages-2.result.now c.send_all.new.letters []) members c.send_all.ensures.went) in
-    subst (λ ms. DoesSent r V (held c.args.members.now c.args.done.now.deeds rows c.args.letters.now) [] (held ms c.push_reserved.new.self.deeds rows c.send_all.new.letters) []) (sym members)
+    subst (λ ms. DoesSent r V (held c.args.members.now c.args.done.now.deeds rows before) [] (held ms c.push_reserved.new.self.deeds rows c.send_all.new.letters) []) (sym members)
     (handles plain V c.actor_rules.ensures.order c.actor_rules.ensures.undoes c.args.members.now c.args.done.now.deeds c.push_reserved.new.self.deeds rows
-    c.args.letters.now c.take_first.new.self c.tell.new.self c.send_all.new.letters m s at (c.act-kept.ensures.valid s at) c.requires.first c.requires.early
-    c.take_first.ensures.taken (ap (λ z. z.extra) c.take_first.ensures.others) (ap (λ z. z.tray) c.take_first.ensures.others) (ap (λ z. z.abroad) c.take_first.ensures.others)
-    (ap (λ z. z.words) c.take_first.ensures.others) c.tell.ensures.told later gone)
+    before c.args.letters.now c.tell.new.self c.send_all.new.letters m s at (c.act-kept.ensures.valid s at) took.first c.requires.early
+    took.taken (ap (λ z. z.extra) took.others) (ap (λ z. z.tray) took.others) (ap (λ z. z.abroad) took.others)
+    (ap (λ z. z.words) took.others) c.tell.ensures.told later gone)
+
+pub returns-clause-came : goal.returns-clause-came
+returns-clause-came g c = λ came.
+    let plain = g.R.Reversible.plain in
+    let V = g.R.Reversible.is_value in
+    let m = c.args.message.now in
+    let s = c.requires.able.0 in
+    let at = c.requires.able.1 in
+    let sends = c.messages.ensures.messages ∙ c.act-kept.ensures.messages s at in
+    let notes = c.notes.ensures.notes ∙ c.act-kept.ensures.notes s at in
+    let later = c.push_reserved.ensures.deeds ∙ (λ j. c.args.done.now.deeds ++ record { message = m; kept = c.act-kept.ensures.saved s at j; sent = sends j; rows = rows_of message_order m (notes j) } ∷ []) in
+    subst (λ ms. (p : ℕ) → CameTo (rules_of plain) V ms c.push_reserved.new.self.deeds p) (sym (c.act-kept.ensures.members s at))
+    (subst (λ ds. (p : ℕ) → CameTo (rules_of plain) V (set c.args.members.now m.receiver (Some (plain.after s m))) ds p) (sym later)
+    (pushed-came (rules_of plain) c.actor_rules.ensures.order V c.args.members.now c.args.done.now.deeds m s at (c.act-kept.ensures.valid s at) came))

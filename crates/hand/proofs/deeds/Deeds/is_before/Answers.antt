@@ -14,5 +14,4 @@ returns-in-Some g c =
     let last : event ≡ get_or events (length events - 1) event = search rules in
     let newest : newest_of (messages_of c.args.self.now.deeds) ≡ Some event.message =
     ap (λ z. newest_of (messages_of z.deeds)) (sym c.self.view_is) ∙ newest-is events c.self.inside.sends.items c.self.inside.rows.items event some last in
-    let before : c.is_lt.result ≡ message_order.less event.message c.args.message.now = search rules in
-    subst (λ o. c.is_lt.result ≡ is_after message_order o c.args.message.now) (sym newest) before
+    subst (λ o. c.precedes.result ≡ is_after message_order o c.args.message.now) (sym newest) c.precedes.ensures

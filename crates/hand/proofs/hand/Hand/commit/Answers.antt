@@ -1,15 +1,76 @@
+use Rattle.std.proofs.Common.{ℕ, ◌≡◌, take, drop, IfSome, slice_get, refl, sym, subst}
+use Rattle.std.proofs.lemmas.List.{take-append-drop}
 use Rattle.reverse.specs.Rules.{rules_of}
-use Rattle.hand.proofs.Sealed.{commits-both}
+use Rattle.hand.specs.Hands.{IsAsBefore}
+use Rattle.hand.specs.Undoing.{CameTo}
+use Rattle.hand.specs.Passing.{held}
+use Rattle.hand.specs.Deeds.{messages_of}
+use Rattle.hand.specs.Sealing.{CanSeal, Stays}
+use Rattle.hand.proofs.Still.{as-first, as-both, as-roomy, first-again, on-err}
+use Rattle.hand.proofs.Came.{dropped-came}
+use Rattle.hand.proofs.Forgetting.{of-messages, oldest-then}
+use Rattle.hand.proofs.Sealed.{commits-nothing, commits-both, commits-many}
+use Rattle.hand.proofs.hand.Hand.commit.Given.{Over}
+use Rattle.hand.proofs.hand.Hand.commit.Goals.{After-first-first}
 use Rattle.hand.proofs.hand.Hand.commit.Goals as goal
 
-pub returns-in_err-commit_oldest-clause-did : goal.returns-in_err-commit_oldest-clause-did
-returns-in_err-commit_oldest-clause-did g c =
-    commits-both (rules_of g.R.Reversible.plain) g.R.Reversible.is_value c.args.moment c.args.self.now c.events.self c.commit_oldest.new.self c.events.invariant c.commit_oldest.ensures.did
+pub count_early-count-requires : goal.count_early-count-requires
+count_early-count-requires g c =
+    first-again c.first-first.result c.self.inside.letters.queue c.first-first.new.self.queue c.first-first.ensures.same
+    c.first-first.ensures.among c.first-first.ensures.first c.first-first.ensures.none
 
-pub events-preserved : goal.events-preserved
-events-preserved g c =
-    commits-both (rules_of g.R.Reversible.plain) g.R.Reversible.is_value c.args.moment c.args.self.now c.events.self c.commit_oldest.new.self c.events.invariant c.commit_oldest.ensures.did
+-- after a look at the first message
+looked : (g : Over) (c : After-first-first g) → IsAsBefore c.args.self.now (held c.self.inside.members.items c.self.inside.done.deeds c.self.inside.rows.items c.first-first.new.self)
+looked g c =
+    subst (λ h. IsAsBefore h (held c.self.inside.members.items c.self.inside.done.deeds c.self.inside.rows.items c.first-first.new.self)) c.self.view_is
+    (as-first c.self.inside.members.items c.self.inside.done.deeds c.self.inside.rows.items c.self.inside.letters c.first-first.new.self c.first-first.ensures.same c.first-first.ensures.others)
+
+-- and then room was made
+refused : (g : Over) (c : After-first-first g) (done : _) (rows : _) (flow : _) → done ≡ c.self.inside.done.deeds → rows ≡ c.self.inside.rows.items →
+    flow ≡ record c.first-first.new.self { room = flow.room } → IsAsBefore c.args.self.now (held c.self.inside.members.items done rows flow)
+refused g c done rows flow d r e =
+    subst (λ z. IsAsBefore c.args.self.now (held c.self.inside.members.items done z flow)) (sym r)
+    (as-both c.args.self.now (held c.self.inside.members.items c.self.inside.done.deeds c.self.inside.rows.items c.first-first.new.self)
+    (held c.self.inside.members.items done c.self.inside.rows.items flow) (looked g c)
+    (as-roomy c.self.inside.members.items c.self.inside.done.deeds done c.self.inside.rows.items c.first-first.new.self flow d e))
+
+pub returns-in_err-seal-clause-did : goal.returns-in_err-seal-clause-did
+returns-in_err-seal-clause-did g c =
+    commits-nothing g.R.Reversible.plain g.R.Reversible.is_value c.actor_rules.ensures.order c.actor_rules.ensures.undoes c.args.moment c.args.self.now
+    (held c.self.inside.members.items c.seal.new.done.deeds c.seal.new.sealed.items c.seal.new.self)
+    (refused g (goal.at.returns-in_err-seal-clause-did g c).After-first-first c.seal.new.done.deeds c.seal.new.sealed.items c.seal.new.self
+    c.in_err-seal.ensures.deeds_stay c.in_err-seal.ensures.rows_stay c.in_err-seal.ensures.letters_stay)
+
+pub returns-in_err-seal-clause-unchanged : goal.returns-in_err-seal-clause-unchanged
+returns-in_err-seal-clause-unchanged g c =
+    on-err c.from_residual.result _
+    (refused g (goal.at.returns-in_err-seal-clause-unchanged g c).After-first-first c.seal.new.done.deeds c.seal.new.sealed.items c.seal.new.self
+    c.in_err-seal.ensures.deeds_stay c.in_err-seal.ensures.rows_stay c.in_err-seal.ensures.letters_stay)
 
 pub returns-clause-did : goal.returns-clause-did
 returns-clause-did g c =
-    commits-both (rules_of g.R.Reversible.plain) g.R.Reversible.is_value c.args.moment c.args.self.now c.events.self c.commit_oldest.new.self c.events.invariant c.commit_oldest.ensures.did
+    let r = rules_of g.R.Reversible.plain in
+    let V = g.R.Reversible.is_value in
+    let n = c.count_early-count.result in
+    let deeds = c.self.inside.done.deeds in
+    let mid = held c.self.inside.members.items deeds c.self.inside.rows.items c.first-first.new.self in
+    let new = held c.self.inside.members.items c.seal.new.done.deeds c.seal.new.sealed.items c.seal.new.self in
+    commits-both r V c.args.moment c.args.self.now mid new
+    (commits-nothing g.R.Reversible.plain V c.actor_rules.ensures.order c.actor_rules.ensures.undoes c.args.moment c.args.self.now mid (looked g (goal.at.returns-clause-did g c).After-first-first))
+    (commits-many g.R.Reversible.plain V c.actor_rules.ensures.order c.actor_rules.ensures.undoes c.args.moment (take n deeds) mid new (drop n deeds) refl (sym (take-append-drop n deeds))
+    c.in_ok-seal.ensures.deeds c.in_ok-seal.ensures.rows c.in_ok-seal.ensures.told
+    (of-messages (CanSeal c.args.moment c.first-first.new.self) n deeds c.count_early-count.ensures.early))
+
+pub returns-clause-left : goal.returns-clause-left
+returns-clause-left g c =
+    subst (λ ds. IfSome (slice_get (messages_of ds) 0) (Stays c.args.moment c.seal.new.self)) (sym c.in_ok-seal.ensures.deeds)
+    (subst (λ f. IfSome (slice_get (messages_of (drop c.count_early-count.result c.self.inside.done.deeds)) 0) (Stays c.args.moment f)) (sym c.in_ok-seal.ensures.told)
+    (oldest-then (Stays c.args.moment c.first-first.new.self) c.count_early-count.result c.self.inside.done.deeds c.count_early-count.ensures.left))
+
+pub invariant_of-self-2 : goal.invariant_of-self-2
+invariant_of-self-2 g c = (
+  subst (λ ds. (p : ℕ) → CameTo (rules_of g.R.Reversible.plain) g.R.Reversible.is_value c.self.inside.members.items ds p) (sym c.in_ok-seal.ensures.deeds)
+      (dropped-came (rules_of g.R.Reversible.plain) c.actor_rules.ensures.order g.R.Reversible.is_value c.self.inside.members.items c.count_early-count.result c.self.inside.done.deeds c.self.invariant.0),
+  c.self.invariant.1,
+  c.self.invariant.2,
+)

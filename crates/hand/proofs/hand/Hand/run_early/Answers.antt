@@ -1,90 +1,93 @@
-use Rattle.std.proofs.Common.{◌≡◌, [], List, Some, false, All, Contains, slice_get, subst, sym, ap, ◌∙◌, refl}
-use Rattle.std.proofs.lemmas.List.{with_items_is}
-use Rattle.std.proofs.lemmas.List.Sorted.{Contains-permutation, All-permutation}
+use Rattle.std.proofs.Common.{◌≡◌, List, Some, false, All, Contains, slice_get, subst, sym, ap, ◌∙◌, refl}
 use Rattle.vlink.specs.declared.message.Message.{Message}
-use Rattle.reverse.specs.Rules.{rules_of, is_before}
-use Rattle.hand.specs.Hands.{DoesSent, IsAsBefore}
+use Rattle.vlink.specs.Order.{message_order}
+use Rattle.reverse.specs.Rules.{is_before}
+use Rattle.antimessages.specs.Counting.{is_after}
+use Rattle.process_queues.specs.Past.{newest_of}
+use Rattle.hand.specs.Deeds.{messages_of}
+use Rattle.hand.specs.Hands.{IsAsBefore}
 use Rattle.hand.specs.Passing.{held}
-use Rattle.hand.proofs.Telling.{does-both}
-use Rattle.hand.proofs.Still.{as-first, as-reserved, still}
+use Rattle.hand.proofs.Still.{as-both, as-empty, as-put_back, as-roomy, on-err, still, took-first}
 use Rattle.hand.proofs.hand.Hand.run_early.Given.{Over}
-use Rattle.hand.proofs.hand.Hand.run_early.Goals.{After-first, After-reserve, After-reserve-2}
+use Rattle.hand.proofs.hand.Hand.run_early.Goals.{After-reserve-2, After-wait_again}
 use Rattle.hand.proofs.hand.Hand.run_early.Goals as goal
 
--- after a look at the first message
-looked : (g : Over) (c : After-first g) → DoesSent (rules_of g.R.Reversible.plain) g.R.Reversible.is_value c.args.self.now []
-    (held c.self.inside.members.items c.self.inside.done.deeds c.self.inside.rows.items c.first.new.self) []
-looked g c =
-    still g.R.Reversible.plain g.R.Reversible.is_value c.actor_rules.ensures.order c.actor_rules.ensures.undoes c.args.self.now
-    (held c.self.inside.members.items c.self.inside.done.deeds c.self.inside.rows.items c.first.new.self)
-    (subst (λ h. IsAsBefore h (held c.self.inside.members.items c.self.inside.done.deeds c.self.inside.rows.items c.first.new.self)) c.self.view_is
-    (as-first c.self.inside.members.items c.self.inside.done.deeds c.self.inside.rows.items c.self.inside.letters c.first.new.self c.first.ensures.same c.first.ensures.others))
-
-pub returns-in_default-clause-did : goal.returns-in_default-clause-did
-returns-in_default-clause-did g c = looked g (goal.at.returns-in_default-clause-did g c).After-first
-
-pub returns-then-ge-clause-did : goal.returns-then-ge-clause-did
-returns-then-ge-clause-did g c = looked g (goal.at.returns-then-ge-clause-did g c).After-first
-
-pub returns-then-not-is_before-clause-did : goal.returns-then-not-is_before-clause-did
-returns-then-not-is_before-clause-did g c = looked g (goal.at.returns-then-not-is_before-clause-did g c).After-first
-
-pub returns-then-not-has_numbers-clause-did : goal.returns-then-not-has_numbers-clause-did
-returns-then-not-has_numbers-clause-did g c = looked g (goal.at.returns-then-not-has_numbers-clause-did g c).After-first
-
-pub returns-then-not-has_numbers-clause-exhausted : goal.returns-then-not-has_numbers-clause-exhausted
-returns-then-not-has_numbers-clause-exhausted g c = λ e. (
-  c.in-Some.message,
-  subst (λ h. Contains h.flow.queue c.in-Some.message) c.self.view_is c.in-Some.ensures.among,
-  subst (λ h. All (λ x. is_before x c.in-Some.message ≡ false) h.flow.queue) c.self.view_is c.in-Some.ensures.first,
-  λ s i. c.if-not-has_numbers.ensures.no refl s
-      (subst (λ ms. slice_get ms c.in-Some.message.receiver ≡ Some (Some s)) (sym c.deref.ensures.value)
-      (subst (λ h. slice_get h.members c.in-Some.message.receiver ≡ Some (Some s)) (sym c.self.view_is) i)),
-)
-
 -- after room was made
-roomy : (g : Over) (c : After-reserve g) → c.reserve.new.self ≡ record c.first.new.self { room = c.reserve.new.self.room } →
-    DoesSent (rules_of g.R.Reversible.plain) g.R.Reversible.is_value c.args.self.now [] (held c.self.inside.members.items c.self.inside.done.deeds c.self.inside.rows.items c.reserve.new.self) []
-roomy g c same =
+roomy : (g : Over) (c : After-reserve-2 g) → IsAsBefore c.args.self.now (held c.self.inside.members.items c.reserve-2.new.self.deeds c.self.inside.rows.items c.reserve.new.self)
+roomy g c =
+    subst (λ h. IsAsBefore h (held c.self.inside.members.items c.reserve-2.new.self.deeds c.self.inside.rows.items c.reserve.new.self)) c.self.view_is
+    (as-roomy c.self.inside.members.items c.self.inside.done.deeds c.reserve-2.new.self.deeds c.self.inside.rows.items c.self.inside.letters c.reserve.new.self c.reserve-2.ensures.same c.reserve.ensures.same)
+
+pub returns-in_err-reserve-clause-did : goal.returns-in_err-reserve-clause-did
+returns-in_err-reserve-clause-did g c =
     still g.R.Reversible.plain g.R.Reversible.is_value c.actor_rules.ensures.order c.actor_rules.ensures.undoes c.args.self.now
     (held c.self.inside.members.items c.self.inside.done.deeds c.self.inside.rows.items c.reserve.new.self)
     (subst (λ h. IsAsBefore h (held c.self.inside.members.items c.self.inside.done.deeds c.self.inside.rows.items c.reserve.new.self)) c.self.view_is
-    (as-reserved c.self.inside.members.items c.self.inside.done.deeds c.self.inside.done.deeds c.self.inside.rows.items c.self.inside.letters c.first.new.self c.reserve.new.self refl
-    c.first.ensures.same c.first.ensures.others same))
-
-roomier : (g : Over) (c : After-reserve-2 g) → c.reserve.new.self ≡ record c.first.new.self { room = c.reserve.new.self.room } → c.reserve-2.new.self.deeds ≡ c.self.inside.done.deeds →
-    DoesSent (rules_of g.R.Reversible.plain) g.R.Reversible.is_value c.args.self.now [] (held c.self.inside.members.items c.reserve-2.new.self.deeds c.self.inside.rows.items c.reserve.new.self) []
-roomier g c same deeds =
-    still g.R.Reversible.plain g.R.Reversible.is_value c.actor_rules.ensures.order c.actor_rules.ensures.undoes c.args.self.now
-    (held c.self.inside.members.items c.reserve-2.new.self.deeds c.self.inside.rows.items c.reserve.new.self)
-    (subst (λ h. IsAsBefore h (held c.self.inside.members.items c.reserve-2.new.self.deeds c.self.inside.rows.items c.reserve.new.self)) c.self.view_is
-    (as-reserved c.self.inside.members.items c.self.inside.done.deeds c.reserve-2.new.self.deeds c.self.inside.rows.items c.self.inside.letters c.first.new.self c.reserve.new.self deeds
-    c.first.ensures.same c.first.ensures.others same))
-
-pub returns-in_err-reserve-clause-did : goal.returns-in_err-reserve-clause-did
-returns-in_err-reserve-clause-did g c = roomy g (goal.at.returns-in_err-reserve-clause-did g c).After-reserve c.reserve.ensures.same
+    (as-roomy c.self.inside.members.items c.self.inside.done.deeds c.self.inside.done.deeds c.self.inside.rows.items c.self.inside.letters c.reserve.new.self refl c.reserve.ensures.same))
 
 pub returns-in_err-reserve-2-clause-did : goal.returns-in_err-reserve-2-clause-did
-returns-in_err-reserve-2-clause-did g c = roomier g (goal.at.returns-in_err-reserve-2-clause-did g c).After-reserve-2 c.reserve.ensures.same c.reserve-2.ensures.same
+returns-in_err-reserve-2-clause-did g c =
+    still g.R.Reversible.plain g.R.Reversible.is_value c.actor_rules.ensures.order c.actor_rules.ensures.undoes c.args.self.now
+    (held c.self.inside.members.items c.reserve-2.new.self.deeds c.self.inside.rows.items c.reserve.new.self) (roomy g (goal.at.returns-in_err-reserve-2-clause-did g c).After-reserve-2)
 
-pub handle_first-requires-clause-among : goal.handle_first-requires-clause-among
-handle_first-requires-clause-among g c =
-    subst (λ (xs : List Message). Contains xs c.in-Some.message) (sym (ap (λ z. z.queue) c.reserve.ensures.same))
-    (Contains-permutation c.self.inside.letters.queue c.first.new.self.queue c.in-Some.message c.first.ensures.same c.in-Some.ensures.among)
-
-pub handle_first-requires-clause-first : goal.handle_first-requires-clause-first
-handle_first-requires-clause-first g c =
-    subst (λ (xs : List Message). All (λ x. is_before x c.in-Some.message ≡ false) xs) (sym (ap (λ z. z.queue) c.reserve.ensures.same))
-    (All-permutation (λ (x : Message). is_before x c.in-Some.message ≡ false) c.self.inside.letters.queue c.first.new.self.queue c.first.ensures.same c.in-Some.ensures.first)
-
-pub returns-clause-did : goal.returns-clause-did
-returns-clause-did g c =
-    let r = rules_of g.R.Reversible.plain in
-    let V = g.R.Reversible.is_value in
+pub returns-in_default-clause-did : goal.returns-in_default-clause-did
+returns-in_default-clause-did g c =
+    let members = c.self.inside.members.items in
+    let deeds = c.reserve-2.new.self.deeds in
     let rows = c.self.inside.rows.items in
-    subst (λ ms. DoesSent r V c.args.self.now [] (held ms c.handle_first.new.done.deeds rows c.handle_first.new.letters) [])
-    (sym (with_items_is c.self.inside.members c.handle_first.new.members (c.handle_first.ensures.len ∙ c.deref_mut.ensures.len)))
-    (does-both r V c.args.self.now (held c.self.inside.members.items c.reserve-2.new.self.deeds rows c.reserve.new.self) (held c.handle_first.new.members c.handle_first.new.done.deeds rows c.handle_first.new.letters)
-    [] [] [] (roomier g (goal.at.returns-clause-did g c).After-reserve-2 c.reserve.ensures.same c.reserve-2.ensures.same)
-    (subst (λ ms. DoesSent r V (held ms c.reserve-2.new.self.deeds rows c.reserve.new.self) [] (held c.handle_first.new.members c.handle_first.new.done.deeds rows c.handle_first.new.letters) [])
-    c.deref_mut.ensures.value (c.handle_first.ensures.did rows)))
+    still g.R.Reversible.plain g.R.Reversible.is_value c.actor_rules.ensures.order c.actor_rules.ensures.undoes c.args.self.now (held members deeds rows c.pop.new.self)
+    (as-both c.args.self.now (held members deeds rows c.reserve.new.self) (held members deeds rows c.pop.new.self) (roomy g (goal.at.returns-in_default-clause-did g c).After-reserve-2)
+    (as-empty members deeds rows c.reserve.new.self c.pop.new.self c.in_default.ensures.none c.in_default.ensures.empty c.pop.ensures.others))
+
+-- the first message waits again
+back : (g : Over) (c : After-wait_again g) (before : IsAsBefore c.args.self.now (held c.self.inside.members.items c.reserve-2.new.self.deeds c.self.inside.rows.items c.reserve.new.self)) →
+    IsAsBefore c.args.self.now (held c.self.inside.members.items c.reserve-2.new.self.deeds c.self.inside.rows.items c.wait_again.new.self)
+back g c before =
+    let members = c.self.inside.members.items in
+    let deeds = c.reserve-2.new.self.deeds in
+    let rows = c.self.inside.rows.items in
+    as-both c.args.self.now (held members deeds rows c.reserve.new.self) (held members deeds rows c.wait_again.new.self) before
+    (as-put_back members deeds rows c.reserve.new.self c.pop.new.self c.wait_again.new.self c.in-Some.message c.in-Some.ensures.taken c.wait_again.ensures.waits c.wait_again.ensures.others)
+
+-- it is the first of the queue
+first : (g : Over) (c : After-wait_again g) → Contains c.args.self.now.flow.queue c.in-Some.message × All (λ x. is_before x c.in-Some.message ≡ false) c.args.self.now.flow.queue
+first g c =
+    subst (λ (q : List Message). Contains q c.in-Some.message × All (λ x. is_before x c.in-Some.message ≡ false) q)
+    (ap (λ z. z.queue) c.reserve.ensures.same ∙ ap (λ h. h.flow.queue) c.self.view_is)
+    (took-first c.in-Some.message c.reserve.new.self c.pop.new.self c.in-Some.ensures.taken)
+
+pub returns-in_default-early-clause-did : goal.returns-in_default-early-clause-did
+returns-in_default-early-clause-did g c =
+    let at = goal.at.returns-in_default-early-clause-did g c in
+    still g.R.Reversible.plain g.R.Reversible.is_value c.actor_rules.ensures.order c.actor_rules.ensures.undoes c.args.self.now
+    (held c.self.inside.members.items c.reserve-2.new.self.deeds c.self.inside.rows.items c.wait_again.new.self) (back g at.After-wait_again (roomy g at.After-reserve-2))
+
+pub returns-in_default-early-clause-late : goal.returns-in_default-early-clause-late
+returns-in_default-early-clause-late g c = λ e.
+    let k = first g (goal.at.returns-in_default-early-clause-late g c).After-wait_again in (
+      c.in-Some.message,
+      subst (λ ds. is_after message_order (newest_of (messages_of ds)) c.in-Some.message ≡ false) (c.reserve-2.ensures.same ∙ ap (λ h. h.done) c.self.view_is) (c.standing-early.ensures.late e),
+      k.0,
+      k.1,
+    )
+
+pub returns-in_default-early-clause-exhausted : goal.returns-in_default-early-clause-exhausted
+returns-in_default-early-clause-exhausted g c = λ e.
+    let k = first g (goal.at.returns-in_default-early-clause-exhausted g c).After-wait_again in
+    let n = rw e at c.standing-early.ensures.numbers in (
+      c.in-Some.message,
+      k.0,
+      k.1,
+      λ s i. n s (subst (λ ms. slice_get ms c.in-Some.message.receiver ≡ Some (Some s)) (sym c.deref.ensures.value)
+          (subst (λ h. slice_get h.members c.in-Some.message.receiver ≡ Some (Some s)) (sym c.self.view_is) i)),
+    )
+
+pub returns-in_default-early-clause-unchanged : goal.returns-in_default-early-clause-unchanged
+returns-in_default-early-clause-unchanged g c =
+    let at = goal.at.returns-in_default-early-clause-unchanged g c in
+    on-err c.standing-early.result _ (back g at.After-wait_again (roomy g at.After-reserve-2))
+
+pub returns-in_default-early-clause-still : goal.returns-in_default-early-clause-still
+returns-in_default-early-clause-still g c = λ e.
+    let at = goal.at.returns-in_default-early-clause-still g c in
+    back g at.After-wait_again (roomy g at.After-reserve-2)

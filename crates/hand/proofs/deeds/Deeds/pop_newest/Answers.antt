@@ -1,0 +1,108 @@
+use Rattle.std.proofs.Common.{◌≡◌, ℕ, ◌<◌, ◌≤◌, ◌+◌, ◌-◌, ◌++◌, ◌∷◌, [], length, take, drop, reverse, refl, sym, ap, ◌∙◌, arith, length-append, length-drop, deque_len}
+use Rattle.std.proofs.lemmas.List.{length-take-le, length-reverse}
+use Rattle.hand.specs.Deeds.{Deed, deeds_in, all_sent, all_noted}
+use Rattle.hand.specs.Undoing.{sent_in}
+use Rattle.hand.proofs.NewestDeed.{newest-share, how-much_sent, sent_in-push}
+use Rattle.hand.proofs.Shares.{sent-more, noted-more}
+use Rattle.hand.proofs.deeds.Deeds.pop_newest.Given.{Over}
+use Rattle.hand.proofs.deeds.Deeds.pop_newest.Goals.{After-truncate}
+use Rattle.hand.proofs.deeds.Deeds.pop_newest.Goals as goal
+
+pub take_back-requires-clause-enough : goal.take_back-requires-clause-enough
+take_back-requires-clause-enough g c =
+    let i = c.self.invariant.0 in
+    let a = ap all_sent c.in-Some.ensures.items in
+    let b = sent-more c.pop_back.new.self.items c.in-Some.event in
+    let n = c.from-sent.ensures in
+    omega arith
+
+pub take_back-requires-clause-room : goal.take_back-requires-clause-room
+take_back-requires-clause-room g c =
+    let i = c.self.invariant.0 in
+    let a = ap all_sent c.in-Some.ensures.items in
+    let b = sent-more c.pop_back.new.self.items c.in-Some.event in
+    let n = c.from-sent.ensures in
+    let s = sym (ap (λ z. sent_in z.deeds) c.self.view_is) ∙ how-much_sent c.self.inside.events.items c.self.inside.sends.items c.self.inside.rows.items c.self.invariant.0 in
+    let h = c.requires.room in
+    omega arith
+
+pub overflow_sub-left : goal.overflow_sub-left
+overflow_sub-left g c =
+    let i = c.self.invariant.1 in
+    let a = ap all_noted c.in-Some.ensures.items in
+    let b = noted-more c.pop_back.new.self.items c.in-Some.event in
+    let n = c.from-noted.ensures in
+    let l = c.len.ensures in
+    omega arith
+
+-- what the newest one sent, and noted, is part of what all did
+sent-part : (g : Over) (c : After-truncate g) → c.from-sent.result ≤ length c.self.inside.sends.items
+sent-part g c =
+    let i = c.self.invariant.0 in
+    let a = ap all_sent c.in-Some.ensures.items in
+    let b = sent-more c.pop_back.new.self.items c.in-Some.event in
+    let n = c.from-sent.ensures in
+    omega arith
+
+noted-part : (g : Over) (c : After-truncate g) → c.from-noted.result ≤ length c.self.inside.rows.items
+noted-part g c =
+    let i = c.self.invariant.1 in
+    let a = ap all_noted c.in-Some.ensures.items in
+    let b = noted-more c.pop_back.new.self.items c.in-Some.event in
+    let n = c.from-noted.ensures in
+    omega arith
+
+pub invariant_of-self : goal.invariant_of-self
+invariant_of-self g c =
+    let p = sent-part g (goal.at.invariant_of-self g c).After-truncate in
+    let q = noted-part g (goal.at.invariant_of-self g c).After-truncate in
+    let sends = c.self.inside.sends in
+    let rows = c.self.inside.rows in (
+      (let i = c.self.invariant.0 in let a = ap all_sent c.in-Some.ensures.items in let b = sent-more c.pop_back.new.self.items c.in-Some.event in let n = c.from-sent.ensures in
+          let t = ap length c.take_back.ensures.sends ∙ length-take-le (deque_len sends - c.from-sent.result) sends.items (omega arith) in omega arith),
+      (let i = c.self.invariant.1 in let a = ap all_noted c.in-Some.ensures.items in let b = noted-more c.pop_back.new.self.items c.in-Some.event in let n = c.from-noted.ensures in
+          let l = c.len.ensures in
+          let t = ap length c.truncate.ensures.items ∙ length-take-le (c.len.result - c.from-noted.result) rows.items (omega arith) in omega arith),
+    )
+
+-- the newest event with its shares
+newest : (g : Over) (c : After-truncate g) → Deed g.row.K.Denot
+newest g c = record {
+  message = c.in-Some.event.message;
+  kept = c.in-Some.event.kept;
+  sent = drop (deque_len c.self.inside.sends - c.from-sent.result) c.self.inside.sends.items;
+  rows = drop (c.len.result - c.from-noted.result) c.self.inside.rows.items;
+}
+
+out : (g : Over) (c : After-truncate g) → c.args.self.now.deeds ≡ deeds_in c.pop_back.new.self.items c.take_back.new.sends.items c.truncate.new.self.items ++ newest g c ∷ []
+unfolding newest
+out g c =
+    let inside = c.self.inside in
+    let p = sent-part g c in
+    let q = noted-part g c in
+    let n = c.from-sent.ensures in
+    let m = c.from-noted.ensures in
+    let l = c.len.ensures in
+    sym (ap (λ z. z.deeds) c.self.view_is) ∙ (ap (λ es. deeds_in es inside.sends.items inside.rows.items) c.in-Some.ensures.items ∙
+    (newest-share c.pop_back.new.self.items c.in-Some.event inside.sends.items inside.rows.items (deque_len inside.sends - c.from-sent.result) (c.len.result - c.from-noted.result)
+    (c.self.invariant.0 ∙ ap all_sent c.in-Some.ensures.items) (c.self.invariant.1 ∙ ap all_noted c.in-Some.ensures.items) (omega arith) (omega arith) ∙
+    (λ j. deeds_in c.pop_back.new.self.items (sym c.take_back.ensures.sends j) (sym c.truncate.ensures.items j) ++ newest g c ∷ [])))
+
+pub returns-clause-popped : goal.returns-clause-popped
+unfolding newest
+returns-clause-popped g c =
+    let at = (goal.at.returns-clause-popped g c).After-truncate in
+    (newest g at, out g at, c.take_back.ensures.back, refl, refl)
+
+pub returns-clause-room : goal.returns-clause-room
+unfolding newest
+returns-clause-room g c =
+    let at = (goal.at.returns-clause-room g c).After-truncate in
+    let p = sent-part g at in
+    let left = deeds_in c.pop_back.new.self.items c.take_back.new.sends.items c.truncate.new.self.items in
+    let a = ap sent_in (out g at) ∙ sent_in-push left (newest g at) in
+    let d = length-drop (deque_len c.self.inside.sends - c.from-sent.result) c.self.inside.sends.items in
+    let b = ap length c.take_back.ensures.back ∙ (length-append c.args.back.now.items (reverse (newest g at).sent) ∙ ap (λ n. length c.args.back.now.items + n) (length-reverse (newest g at).sent)) in
+    let k = c.take_back.ensures.capacity in
+    let h = c.requires.room in
+    omega arith

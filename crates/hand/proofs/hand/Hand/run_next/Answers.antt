@@ -1,0 +1,18 @@
+use Rattle.std.proofs.Common.{[], Ok}
+use Rattle.reverse.specs.Rules.{rules_of}
+use Rattle.hand.proofs.Telling.{does-both}
+use Rattle.hand.proofs.Still.{as-both, on-err}
+use Rattle.hand.proofs.hand.Hand.run_next.Goals as goal
+
+pub returns-in_err-run_late-in-Late-clause-did : goal.returns-in_err-run_late-in-Late-clause-did
+returns-in_err-run_late-in-Late-clause-did g c =
+    does-both (rules_of g.R.Reversible.plain) g.R.Reversible.is_value c.args.self.now c.run_early.new.self c.run_late.new.self [] [] [] c.run_early.ensures.did c.run_late.ensures.did
+
+pub returns-in_ok-run_late-in-Late-clause-did : goal.returns-in_ok-run_late-in-Late-clause-did
+returns-in_ok-run_late-in-Late-clause-did g c =
+    does-both (rules_of g.R.Reversible.plain) g.R.Reversible.is_value c.args.self.now c.run_early.new.self c.run_late.new.self [] [] [] c.run_early.ensures.did c.run_late.ensures.did
+
+pub returns-in_err-run_late-in-Late-clause-unchanged : goal.returns-in_err-run_late-in-Late-clause-unchanged
+returns-in_err-run_late-in-Late-clause-unchanged g c =
+    on-err c.from_residual-in_err-run_late-in-Late.result _
+    (as-both c.args.self.now c.run_early.new.self c.run_late.new.self (c.in_ok-run_early.ensures.still (λ j. Ok (c.in-Late.is j))) c.in_err-run_late-in-Late.ensures.unchanged)

@@ -1,0 +1,57 @@
+//! Letters that were taken arrive, one after another.
+ghost use Rattle.std.specs.Prelude.{◌≡◌, ◌+◌, ◌<◌, true, false, Ok, OnOk, OnErr, IfErr, IfSome, length};
+ghost use Rattle.reverse.specs.Rules.{rules_of};
+ghost use Rattle.hand.specs.Hands.{DoesTold, IsAsBefore, IsQuiet};
+ghost use Rattle.hand.specs.Undoing.{sent_in};
+ghost use Rattle.hand.specs.declared.fault.HandFault.TheVariants.{OutOfMemory};
+
+use crate::arrive::arrive;
+use crate::fault::HandFault;
+use crate::hand::Hand;
+use reverse::{Actor, actor_rules};
+
+impl<R: Actor> Hand<R> {
+    /// All letters that were taken arrive, and what is taken back by that within the group arrives too. A refusal stops between two letters.
+    pub fn arrive_all(&mut self) -> Result<(), HandFault>
+        ensures did { DoesTold (rules_of R.plain) R.is_value self.old self.new }
+        ensures quiet { OnOk result (IsQuiet self.new) }
+        ensures memory { IfErr result (λ fault. fault ≡ OutOfMemory) }
+    {
+        'letters: while self.arrive_front()? {}
+        Ok(())
+    }
+
+    /// The front of the tray arrives, if there is one. The answer is whether there was. A refusal leaves all as it was.
+    fn arrive_front(&mut self) -> Result<bool, HandFault>
+        ensures did { DoesTold (rules_of R.plain) R.is_value self.old self.new }
+        ensures quiet { result ≡ Ok false → IsQuiet self.new }
+        ensures fewer { result ≡ Ok true → length self.new.flow.tray + sent_in self.new.done < length self.old.flow.tray + sent_in self.old.done }
+        ensures unchanged { OnErr result (IsAsBefore self.old self.new) }
+        ensures memory { IfErr result (λ fault. fault ≡ OutOfMemory) }
+    {
+        actor_rules::<R>();
+        let Some(letter) = self.letters.front() else {
+            return Ok(false);
+        };
+        let Some(room) = room_for(self.done.len(), self.done.sent()) else {
+            return Err(HandFault::OutOfMemory);
+        };
+        self.letters.reserve(room)?;
+        self.undoing.reserve_for(&self.done)?;
+        arrive(
+            &mut self.members,
+            &mut self.done,
+            &mut self.undoing,
+            &mut self.letters,
+            &letter,
+        )?;
+        Ok(true)
+    }
+}
+
+/// For how many letters and words there has to be room where so many events, which sent so many messages, can be undone: none where no number tells.
+fn room_for(events: usize, sent: usize) -> Option<usize>
+    ensures { IfSome result (λ n. n ≡ events + sent + 2) }
+{
+    events.checked_add(sent)?.checked_add(2)
+}

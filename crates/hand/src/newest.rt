@@ -1,0 +1,165 @@
+//! The newest of the done events of a group: which it is, and how it is taken off, or moved.
+ghost use Rattle.std.specs.Prelude.{◌≡◌, ◌==◌, ◌≢◌, ◌+◌, ◌-◌, ◌<◌, ◌≤◌, List, [], ◌∷◌, ◌++◌, true, false, All, Contains, length, take, drop, reverse, vec_len, vec_capacity, map, OnOk};
+ghost use Rattle.std.specs.Option.{option_copied};
+ghost use Rattle.std.specs.VecDeque.{deque_len, deque_capacity};
+ghost use Rattle.vlink.specs.Order.{message_order};
+ghost use Rattle.vlink.specs.declared.message.Message.{Message};
+ghost use Rattle.virtual_time.specs.Law.{IsAscending};
+ghost use Rattle.process_queues.specs.Past.{newest_of};
+ghost use Rattle.hand.specs.Deeds.{Deed, messages_of};
+ghost use Rattle.hand.specs.Undoing.{HasRoomFor, sent_in};
+
+use crate::deeds::{Deeds, Event};
+use std::alloc::AllocError;
+use std::collections::VecDeque;
+use vlink::{Message, lawful_order};
+
+impl<K: Copy> Deeds<K> {
+    /// The message of the newest event, if there is one.
+    pub(crate) fn newest(&self) -> Option<&Message>
+        ensures { option_copied result ≡ newest_of (messages_of self.now.deeds) }
+    {
+        match self.events.back() {
+            Some(event) => Some(&event.message),
+            None => None,
+        }
+    }
+
+    /// Whether the newest event, if there is one, is of this process.
+    pub(crate) fn newest_is_for(&self, process: u16) -> bool
+        ensures { (front : List (Deed K)) (d : Deed K) → self.now.deeds ≡ front ++ d ∷ [] → result ≡ (d.message.receiver == process) }
+    {
+        match self.newest() {
+            Some(message) => message.receiver == process,
+            None => false,
+        }
+    }
+
+    /// How many events there are.
+    pub(crate) fn len(&self) -> usize
+        ensures { result ≡ length self.now.deeds }
+    {
+        self.events.len()
+    }
+
+    /// How many messages they sent in all.
+    pub(crate) fn sent(&self) -> usize
+        ensures { result ≡ sent_in self.now.deeds }
+    {
+        self.sends.len()
+    }
+
+    /// Whether the message is that of an event. Where it comes after the newest one, none is looked for.
+    pub(crate) fn has(&self, message: &Message) -> bool
+        ensures yes { result ≡ true → Contains (messages_of self.now.deeds) message.now }
+        ensures no { result ≡ false → IsAscending message_order (messages_of self.now.deeds) → All (λ x. x ≢ message.now) (messages_of self.now.deeds) }
+    {
+        lawful_order();
+        !self.is_before(message) && is_among(&self.events, message)
+    }
+
+    /// Makes room for all events of the other list besides.
+    pub(crate) fn reserve_for(&mut self, other: &Deeds<K>) -> Result<(), AllocError>
+        ensures room { OnOk result (HasRoomFor other.now.deeds self.new) }
+        ensures same { self.new.deeds ≡ self.old.deeds }
+    {
+        self.events.reserve(other.events.len())?;
+        self.sends.reserve(other.sends.len())?;
+        self.rows.reserve(other.rows.len())?;
+        Ok(())
+    }
+
+    /// The newest event, which there is, becomes the newest of the other list, which has room for all that are here.
+    pub(crate) fn move_newest(&mut self, other: &mut Deeds<K>)
+        requires some { 0 < length self.old.deeds }
+        requires room { HasRoomFor self.old.deeds other.old }
+        ensures moved { (d : Deed K) × (self.old.deeds ≡ self.new.deeds ++ d ∷ []) × (other.new.deeds ≡ other.old.deeds ++ d ∷ [])
+            × ((ds : List (Deed K)) → HasRoomFor ds self.old → HasRoomFor (d ∷ ds) self.new) }
+        ensures room { HasRoomFor self.new.deeds other.new }
+        ensures back { HasRoomFor other.old.deeds self.old → HasRoomFor other.new.deeds self.new }
+    {
+        let Some(event) = self.events.pop_back() else {
+            unreachable!()
+        };
+        let sent = usize::from(event.sent);
+        let noted = usize::from(event.noted);
+        other.events.push_back_reserved(event);
+        move_last(&mut self.sends, sent, &mut other.sends);
+        move_last(&mut self.rows, noted, &mut other.rows);
+    }
+
+    /// The newest event, which there is, is taken off. What it sent goes to `back`, the last first, which has room for all that was sent.
+    pub(crate) fn pop_newest(&mut self, back: &mut Vec<Message>) -> Event<K>
+        requires some { 0 < length self.old.deeds }
+        requires room { vec_len back.old + sent_in self.old.deeds ≤ vec_capacity back.old }
+        ensures popped { (d : Deed K) × (self.old.deeds ≡ self.new.deeds ++ d ∷ []) × (back.new.items ≡ back.old.items ++ reverse d.sent)
+            × (result.message ≡ d.message) × (result.kept ≡ d.kept) }
+        ensures room { vec_len back.new + sent_in self.new.deeds ≤ vec_capacity back.new }
+        ensures space { (ds : List (Deed K)) → HasRoomFor ds self.old → HasRoomFor ds self.new }
+    {
+        let Some(event) = self.events.pop_back() else {
+            unreachable!()
+        };
+        let sent = usize::from(event.sent);
+        let noted = usize::from(event.noted);
+        take_back(&mut self.sends, sent, back);
+        let left = self.rows.len() - noted;
+        self.rows.truncate(left);
+        event
+    }
+}
+
+/// Whether the message is that of one of these events.
+fn is_among<K: Copy>(events: &VecDeque<Event<K>>, message: &Message) -> bool
+    ensures yes { result ≡ true → Contains (map (λ e. e.message) events.now.items) message.now }
+    ensures no { result ≡ false → All (λ x. x ≢ message.now) (map (λ e. e.message) events.now.items) }
+{
+    for place in 0..events.len() {
+        if is_same(&events[place].message, message) {
+            return true;
+        }
+    }
+    false
+}
+
+/// Whether the two messages are one.
+fn is_same(first: &Message, second: &Message) -> bool
+    ensures yes { result ≡ true → first.now ≡ second.now }
+    ensures no { result ≡ false → first.now ≢ second.now }
+{
+    *first == *second
+}
+
+/// The last items, so many, go to the end of `taken`, which has room for them. It has a type parameter so that the borrow checker follows it.
+fn move_last<T: Copy + Drop>(items: &mut VecDeque<T>, count: usize, taken: &mut VecDeque<T>)
+    requires enough { count ≤ deque_len items.old }
+    requires room { deque_len taken.old + count ≤ deque_capacity taken.old }
+    ensures items { items.new.items ≡ take (deque_len items.old - count) items.old.items }
+    ensures taken { taken.new.items ≡ taken.old.items ++ drop (deque_len items.old - count) items.old.items }
+    ensures items_capacity { deque_capacity items.new ≡ deque_capacity items.old }
+    ensures taken_capacity { deque_capacity taken.new ≡ deque_capacity taken.old }
+{
+    let all = items.len();
+    let first = all - count;
+    for place in first..all {
+        taken.push_back_reserved(items[place]);
+    }
+    items.truncate(first);
+}
+
+/// The last items, so many, go to the end of `back`, the last first, which has room for them. It has a type parameter so that the borrow checker
+/// follows it.
+fn take_back<T: Copy + Drop>(sends: &mut VecDeque<T>, count: usize, back: &mut Vec<T>)
+    requires enough { count ≤ deque_len sends.old }
+    requires room { vec_len back.old + count ≤ vec_capacity back.old }
+    ensures sends { sends.new.items ≡ take (deque_len sends.old - count) sends.old.items }
+    ensures back { back.new.items ≡ back.old.items ++ reverse (drop (deque_len sends.old - count) sends.old.items) }
+    ensures sends_capacity { deque_capacity sends.new ≡ deque_capacity sends.old }
+    ensures capacity { vec_capacity back.new ≡ vec_capacity back.old }
+{
+    let all = sends.len();
+    for taken in 0..count {
+        back.push_reserved(sends[all - 1 - taken]);
+    }
+    sends.truncate(all - count);
+}
