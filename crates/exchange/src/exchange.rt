@@ -1,5 +1,5 @@
 //! What the processes of a run share.
-ghost use Rattle.std.specs.Prelude.{◌≡◌, ◌<◌, slice_get};
+ghost use Rattle.std.specs.Prelude.{◌≡◌, ◌<◌, ◌≤◌, None, slice_get};
 ghost use Rattle.std.specs.Option.{option_map};
 ghost use Rattle.virtual_time.specs.Law.{reach};
 ghost use Rattle.reverse.specs.Rules.{rules_of};
@@ -65,6 +65,7 @@ impl<R: Actor, J: ActorRun<R>> Exchange<R, J> {
     pub fn look(&self, process: u16, place: usize) -> Option<Letter>
         ensures letter { process < J.setting.processes → result
             ≡ slice_get ((reach (simulation_of (rules_of R.plain) J.setting) self.now.entries).mail process) place }
+        ensures none { J.setting.processes ≤ process → result ≡ None }
     {
         self.mail.look(process, place)
     }

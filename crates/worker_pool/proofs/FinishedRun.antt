@@ -192,6 +192,10 @@ module _ (plan : Plan) (start : Option (List ℕ)) (failures : ℕ) (H : HasLawf
     finish-well (Err fault) F = tt
     finish-well (Ok x) F = F.went_well ∙ unfailed (failed-before old taken failed (Ok x) F (λ e. cc))
 
+    finish-kept : (res : Result X TraceFault) → Finishes old res taken failed → IfErr res (λ fault. fault ≢ Out Device → failed ≡ failures)
+    finish-kept (Ok x) F = tt
+    finish-kept (Err fault) F = λ n. F.kept_failures n ∙ unfailed (failed-before old taken failed (Err fault) F (λ e. n (same-fault {X = X} fault (Out Device) e)))
+
     finish-device : (res : Result X TraceFault) → Finishes old res taken failed → IfErr res (λ fault. fault ≡ Out Device → failed ≡ failures + 1)
     finish-device (Ok x) F = tt
     finish-device (Err fault) F = λ e. go (lacks_head old) old.broken refl refl e
@@ -217,3 +221,6 @@ module _ (plan : Plan) (start : Option (List ℕ)) (failures : ℕ) (splits : Sp
 
   pub finished-device : IfErr res (λ fault. fault ≡ Out Device → failed ≡ failures + 1)
   finished-device = from-both lawful T (hlevel props) (λ h t. finish-device plan start failures h splits old t taken failed res F)
+
+  pub finished-kept : IfErr res (λ fault. fault ≢ Out Device → failed ≡ failures)
+  finished-kept = from-both lawful T (hlevel props) (λ h t. finish-kept plan start failures h splits old t taken failed res F)

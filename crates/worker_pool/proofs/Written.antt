@@ -1,11 +1,12 @@
 -- What was written, whatever came first: the fault of a batch, that of a segment, or the end.
-use Rattle.std.proofs.Common.{◌≡◌, ◌≢◌, ℕ, ◌+◌, ◌<◌, ◌==◌, Bool, true, false, cond, List, Option, Some, None, Result, Ok, Err, IsOk, OnOk, IfErr, length, refl, sym, ap, subst, arith, IfSome}
+use Rattle.std.proofs.Common.{◌≡◌, ◌≢◌, ◌⊎◌, inl, inr, ℕ, ◌+◌, ◌<◌, ◌==◌, Bool, true, false, cond, List, Option, Some, None, Result, Ok, Err, IsOk, OnOk, IfErr, length, refl, sym, ap, subst, arith, IfSome}
 use Rattle.std.specs.Prelude.{⊤}
 use Rattle.std.specs.Io.KnownBytes.{append_known}
 use Rattle.std.proofs.lemmas.Grind.{common_steps}
 use Rattle.vlink.specs.Letters.{Row}
 use Rattle.netdesc.specs.Words.{Plan}
 use Rattle.trace_segments.specs.declared.fault.OutFault.{OutFault}
+use Rattle.trace_segments.specs.declared.fault.OutFault.TheVariants as out
 use Rattle.trace_segments.specs.declared.fault.OutFault.TheVariants.{Device}
 use Rattle.trace_segments.specs.declared.segment_fault.SegmentFault.{SegmentFault}
 use Rattle.trace_segments.specs.declared.segment_fault.SegmentFault.TheVariants.{Gap, Double, Stranger, OutOfMemory}
@@ -15,21 +16,57 @@ use Rattle.trace_segments.specs.Words.{Gathering, segment_fault, SegmentRows, Ba
 use Rattle.seqsim.specs.Networks.{AreRowsOf}
 use Rattle.worker_pool.specs.Written.{outcome_of, IsPlaceFault, IsFaultOfTrace, IsWritten}
 
+-- whether a write failed at the end
+failed-or-not : (end : Result ⊤ TraceFault) → (end ≡ Err (Out Device)) ⊎ (end ≢ Err (Out Device))
+failed-or-not (Ok u) = inr (λ e. cc)
+failed-or-not (Err (Out Device)) = inl refl
+failed-or-not (Err (Out out.OutOfMemory)) = inr (λ e. cc)
+failed-or-not (Err (Out out.Layout)) = inr (λ e. cc)
+failed-or-not (Err (Segment why)) = inr (λ e. cc)
+
 module _ (plan : Plan) (start : Option (List ℕ)) (failed : ℕ) (taken : Option (List ℕ)) (failures : ℕ) where
-  pub is-written : (batches : Result ⊤ TraceFault) (segment : Option SegmentFault) (end : Result ⊤ TraceFault) →
-      (batches ≡ Err (Out Device) → failures ≡ failed + 1) → IfErr batches IsFaultOfTrace → IfSome segment IsPlaceFault →
-      ((rows : List Row) → AreRowsOf plan rows → OnOk end (taken ≡ append_known start (trace_text plan rows))) →
-      ((rows : List Row) → AreRowsOf plan rows → IsBeginning start taken (trace_text plan rows)) →
-      IfErr end (λ fault. fault ≡ Out Device → failures ≡ failed + 1) → OnOk end (failures ≡ failed) →
-      IfErr end IsFaultOfTrace → IsWritten plan start failed (outcome_of batches segment end) taken failures
-  is-written (Err fault) segment end device known none whole beginning broken well other =
-      record { whole = tt; beginning = beginning; device = λ e. device (ap Err e); went_well = tt; fault = known }
-  is-written (Ok _) (Some fault) end device known none whole beginning broken well other =
-      record { whole = tt; beginning = beginning; device = λ e. absurd cc; went_well = tt; fault = (λ e. none.0 cc, λ e. none.1 cc) }
-  is-written (Ok _) None (Ok _) device known none whole beginning broken well other =
-      record { whole = whole; beginning = beginning; device = tt; went_well = well; fault = tt }
-  is-written (Ok _) None (Err fault) device known none whole beginning broken well other =
-      record { whole = tt; beginning = beginning; device = broken; went_well = tt; fault = other }
+  -- none failed
+  none-failed : (end : Result ⊤ TraceFault) → end ≢ Err (Out Device) → OnOk end (failures ≡ failed) → IfErr end (λ fault. fault ≢ Out Device → failures ≡ failed) →
+      failures ≡ failed
+  none-failed (Ok u) other well kept = well
+  none-failed (Err fault) other well kept = kept (λ e. other (ap Err e))
+
+  module _ (batches : Result ⊤ TraceFault) (segment : Option SegmentFault) (end : Result ⊤ TraceFault)
+      (beginning : (rows : List Row) → AreRowsOf plan rows → IsBeginning start taken (trace_text plan rows)) where
+    device-written : end ≡ Err (Out Device) → IfErr end (λ fault. fault ≡ Out Device → failures ≡ failed + 1) → IsWritten plan start failed (Err (Out Device)) taken failures
+    device-written is device = record {
+      whole = tt;
+      beginning = beginning;
+      device = λ e. (subst (λ (r : Result ⊤ TraceFault). IfErr r (λ fault. fault ≡ Out Device → failures ≡ failed + 1)) is device) refl;
+      kept = λ other. absurd (other refl);
+      went_well = tt;
+      fault = (λ e. cc, λ e. cc);
+    }
+
+    pub is-written : (told : Result ⊤ TraceFault) → (end ≡ Err (Out Device) → told ≡ Err (Out Device)) → (end ≢ Err (Out Device) → told ≡ outcome_of batches segment end) →
+        (batches ≡ Err (Out Device) → failures ≡ failed + 1) → IfErr batches IsFaultOfTrace → IfSome segment IsPlaceFault →
+        ((rows : List Row) → AreRowsOf plan rows → OnOk end (taken ≡ append_known start (trace_text plan rows))) →
+        IfErr end (λ fault. fault ≡ Out Device → failures ≡ failed + 1) → IfErr end (λ fault. fault ≢ Out Device → failures ≡ failed) →
+        OnOk end (failures ≡ failed) → IfErr end IsFaultOfTrace → IsWritten plan start failed told taken failures
+    is-written told first then device known none whole broken kept well other = elim (failed-or-not end) [
+      | inl is ↦ subst (λ z. IsWritten plan start failed z taken failures) (sym (first is)) (device-written is broken)
+      | inr not ↦ subst (λ z. IsWritten plan start failed z taken failures) (sym (then not))
+          (go batches segment end device known none whole broken kept well other (none-failed end not well kept))
+    ]
+      where
+        go : (batches : Result ⊤ TraceFault) (segment : Option SegmentFault) (end : Result ⊤ TraceFault) →
+            (batches ≡ Err (Out Device) → failures ≡ failed + 1) → IfErr batches IsFaultOfTrace → IfSome segment IsPlaceFault →
+            ((rows : List Row) → AreRowsOf plan rows → OnOk end (taken ≡ append_known start (trace_text plan rows))) →
+            IfErr end (λ fault. fault ≡ Out Device → failures ≡ failed + 1) → IfErr end (λ fault. fault ≢ Out Device → failures ≡ failed) →
+            OnOk end (failures ≡ failed) → IfErr end IsFaultOfTrace → failures ≡ failed → IsWritten plan start failed (outcome_of batches segment end) taken failures
+        go (Err fault) segment end device known none whole broken kept well other same =
+            record { whole = tt; beginning = beginning; device = λ e. device (ap Err e); kept = λ n. same; went_well = tt; fault = known }
+        go (Ok _) (Some fault) end device known none whole broken kept well other same =
+            record { whole = tt; beginning = beginning; device = λ e. absurd cc; kept = λ n. same; went_well = tt; fault = (λ e. none.0 cc, λ e. none.1 cc) }
+        go (Ok _) None (Ok _) device known none whole broken kept well other same =
+            record { whole = whole; beginning = beginning; device = tt; kept = tt; went_well = well; fault = tt }
+        go (Ok _) None (Err fault) device known none whole broken kept well other same =
+            record { whole = tt; beginning = beginning; device = broken; kept = kept; went_well = tt; fault = other }
 
 module _ {X : Type 0} (old : WrittenTrace) (res : Result X TraceFault) (refused : (fault : TraceFault) → end_fault old ≡ Some fault → res ≡ Err fault) where
   -- where the sink had failed before the end, just one write had

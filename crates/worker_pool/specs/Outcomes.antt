@@ -1,5 +1,5 @@
 -- What a run by workers is told, of what each of them ended with.
-use Rattle.std.specs.Prelude.{ℕ, ◌+◌, ◌<◌, ◌≤◌, List, Result, Err, ⊤, IsOk, IsSome, IfErr, OnOk, All, Contains}
+use Rattle.std.specs.Prelude.{◌≡◌, ◌⊎◌, ℕ, ◌+◌, ◌<◌, ◌≤◌, List, Result, Err, Some, ⊤, IsOk, IsSome, IfErr, OnOk, All, Contains, length, slice_get}
 use Rattle.vlink.specs.declared.message.Message.{Message}
 use Rattle.vlink.specs.Order.{message_order}
 use Rattle.vlink.specs.Numbering.{greatest_number}
@@ -8,6 +8,7 @@ use Rattle.virtual_time.specs.declared.step.Step.{Step}
 use Rattle.netdesc.specs.Words.{Plan, process_count}
 use Rattle.nodes.specs.Words.{NodeState}
 use Rattle.journal.specs.declared.fault.PoolFault.{PoolFault}
+use Rattle.journal.specs.declared.fault.PoolFault.TheVariants.{OutOfMemory}
 use Rattle.journal.specs.Faults.{fault_number}
 use Rattle.seqsim.specs.Committed.{after}
 
@@ -20,6 +21,13 @@ pub record IsLeastOf (outcomes : List (Result ⊤ PoolFault)) (told : Result ⊤
   pub one : IfErr told (λ fault. Contains outcomes (Err fault))
   pub least : IfErr told (λ fault. All (HasNoLesser fault) outcomes)
   pub well : OnOk told (All IsOk outcomes)
+
+-- the start came to `start`, and so many threads ended somehow: of all these outcomes the least fault is told, or want of memory, where they
+-- could not be listed
+abbrev pub IsToldOf : Result ⊤ PoolFault → ℕ → Result ⊤ PoolFault → Type 0
+IsToldOf start threads told =
+    (told ≡ Err OutOfMemory)
+    ⊎ ((outcomes : List (Result ⊤ PoolFault)) × (length outcomes ≡ threads + 1) × (slice_get outcomes 0 ≡ Some start) × IsLeastOf outcomes told)
 
 -- a process has a message to handle, and its actor not enough numbers left for all that one event can send
 abbrev pub LacksNumbers : Part Message NodeState → Type 0

@@ -34,7 +34,8 @@ abbrev pub first_of : Option SegmentFault → SegmentFault → Option SegmentFau
 first_of None fault = Some fault
 first_of (Some first) fault = Some first
 
--- how the writing of a trace went: the fault of a batch; where there is none, that of a segment; where there is none either, how the end went
+-- how the writing of a trace went, where no write failed at its end: the fault of a batch; where there is none, that of a segment; where there is
+-- none either, how the end went
 abbrev pub outcome_of : Result ⊤ TraceFault → Option SegmentFault → Result ⊤ TraceFault → Result ⊤ TraceFault
 outcome_of (Err fault) segment end = Err fault
 outcome_of (Ok _) (Some fault) end = Err (Segment fault)
@@ -47,7 +48,8 @@ pub record IsWritten (plan : Plan) (start : Option (List ℕ)) (failed : ℕ) (w
   pub whole : OnOk written ((rows : List Row) → AreRowsOf plan rows → taken ≡ append_known start (trace_text plan rows))
   -- in any case it took a beginning of it
   pub beginning : (rows : List Row) → AreRowsOf plan rows → IsBeginning start taken (trace_text plan rows)
-  -- just one write failed, where the fault says so; none, where it went well
+  -- just one write failed, where the fault says so; none, where it says otherwise, or it went well
   pub device : IfErr written (λ fault. fault ≡ Out Device → failures ≡ failed + 1)
+  pub kept : IfErr written (λ fault. fault ≢ Out Device → failures ≡ failed)
   pub went_well : OnOk written (failures ≡ failed)
   pub fault : IfErr written IsFaultOfTrace

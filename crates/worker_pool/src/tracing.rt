@@ -1,5 +1,5 @@
 //! The run of a network by workers whose trace is written while it goes on.
-ghost use Rattle.std.specs.Prelude.{◌≡◌, ◌+◌, List, length, IfOk, IfErr, IfSome, OnOk};
+ghost use Rattle.std.specs.Prelude.{◌≡◌, ◌≢◌, ◌+◌, List, length, IfOk, IfErr, IfSome, OnOk};
 ghost use Rattle.std.specs.Io.KnownBytes.{append_known};
 ghost use Rattle.vlink.specs.Letters.{Row};
 ghost use Rattle.netdesc.specs.Words.{process_count};
@@ -163,11 +163,12 @@ fn traced_named<
 ///
 /// - `whole`: where the writing went well, the sink took the trace of the rows of the one-thread run, as `trace_tables::write_trace` writes it.
 /// - `beginning`: in any case it took a beginning of that text, and nothing else.
-/// - `device`, `went_well`: how many of its writes failed.
+/// - `device`, `kept`, `went_well`: how many of its writes failed: one, where the fault says so, and else none.
 /// - `fault`: a segment or a batch is missing or comes twice, or the text did not go out. Want of memory for a segment ends the run.
 ///
-/// `written` is the first fault of a batch, and what comes behind it is dropped; where there was none, the first of a segment, `Gap` or `Double`;
-/// where there was none either, the outcome of `TraceWriter::finish`. The run itself goes on after any of them.
+/// `written` tells in any case that a write failed. Else it is the first fault of a batch, and what comes behind it is dropped; where there was
+/// none, the first of a segment, `Gap` or `Double`; where there was none either, the outcome of `TraceWriter::finish`. The run itself goes on
+/// after any of them.
 ///
 /// Its refusals are those of `run`, and the sink is dropped then, with a beginning of the trace in it. `OutOfMemory` comes also for a segment or
 /// a batch, or at the end where a growth was refused while rows were counted; `Torn` also where rows that left came in no batch, as behind a
@@ -190,6 +191,7 @@ pub fn run_traced<S: Sink + Drop + Send, G: Gate + Sync, T: Threads + Wait + Syn
     ensures beginning { IfOk result (λ t. (rows : List Row) → AreRowsOf network.now rows →
         IsBeginning (S.taken sink) (S.taken t.sink) (trace_text network.now rows)) }
     ensures device { IfOk result (λ t. IfErr t.written (λ fault. fault ≡ Out Device → S.failures t.sink ≡ S.failures sink + 1)) }
+    ensures kept { IfOk result (λ t. IfErr t.written (λ fault. fault ≢ Out Device → S.failures t.sink ≡ S.failures sink)) }
     ensures went_well { IfOk result (λ t. OnOk t.written (S.failures t.sink ≡ S.failures sink)) }
     ensures fault { IfOk result (λ t. IfErr t.written IsFaultOfTrace) }
     ensures exhausted { IfErr result (λ fault. fault ≡ Exhausted → UsesUpNumbers network.now) }

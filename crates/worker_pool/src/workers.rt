@@ -1,8 +1,8 @@
 //! Threads that give turns to processes.
-ghost use Rattle.std.specs.Prelude.{◌≡◌, IfErr};
+ghost use Rattle.std.specs.Prelude.{◌≡◌, ◌+◌, IfErr, IfOk, Some, length, slice_get};
 ghost use Rattle.netdesc.specs.Words.{process_count};
 ghost use Rattle.journal.specs.declared.fault.PoolFault.TheVariants.{Spawn};
-ghost use Rattle.worker_pool.specs.Outcomes.{CanWantWorkers};
+ghost use Rattle.worker_pool.specs.Outcomes.{CanWantWorkers, IsToldOf};
 
 use crate::locks::Locks;
 use crate::network_run::NetworkRun;
@@ -18,7 +18,7 @@ use actor_run::Watch;
 use exchange::Gate;
 use journal::PoolFault;
 use netdesc::Network;
-use std::alloc::Global;
+use std::alloc::{AllocError, Global};
 use std::sync::Wait;
 use std::sync::atomic::{AtomicBool, Ordering};
 use std::thread;
@@ -107,6 +107,27 @@ fn show_gvt<J: NetworkRun, T: Wait, W: Watch>(rt: &T, schedule: &Schedule<J>, wa
     }
 }
 
+/// What the start came to, and behind it what each thread ended with, in their order: they are joined, and there are fewer of them than this
+/// many. It is refused for memory alone.
+#[tactic(auto, using(crate::proofs::LeastFault::first_stays))]
+fn outcomes_of<J: NetworkRun, T: Threads + Wait>(
+    rt: &T,
+    alloc: Global,
+    most: usize,
+    start: Result<(), RunFault<J>>,
+    handles: Vec<JoinHandle<Result<(), RunFault<J>>>>,
+) -> Result<Vec<Result<(), RunFault<J>>>, AllocError>
+    ensures count { IfOk result (λ outcomes. length outcomes.items ≡ length handles.items + 1) }
+    ensures first { IfOk result (λ outcomes. slice_get outcomes.items 0 ≡ Some start) }
+{
+    let mut outcomes = Vec::with_capacity(alloc, most)?;
+    add_outcome(&mut outcomes, start)?;
+    for handle in handles {
+        add_outcome(&mut outcomes, handle.join(rt))?;
+    }
+    Ok(outcomes)
+}
+
 /// The threads are joined, of which there are fewer than this many. The answer is the least fault of what they ended with, and of the start.
 fn joined<J: NetworkRun, T: Threads + Wait>(
     rt: &T,
@@ -114,13 +135,10 @@ fn joined<J: NetworkRun, T: Threads + Wait>(
     most: usize,
     start: Result<(), RunFault<J>>,
     handles: Vec<JoinHandle<Result<(), RunFault<J>>>>,
-) -> Result<(), RunFault<J>> {
-    let mut outcomes = Vec::with_capacity(alloc, most)?;
-    add_outcome(&mut outcomes, start)?;
-    for handle in handles {
-        add_outcome(&mut outcomes, handle.join(rt))?;
-    }
-    least_fault(outcomes)
+) -> Result<(), RunFault<J>>
+    ensures { IsToldOf start (length handles.items) result }
+{
+    least_fault(outcomes_of(rt, alloc, most, start, handles)?)
 }
 
 /// Among how many of so many workers the processes are dealt: one for each processor at most.

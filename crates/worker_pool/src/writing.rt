@@ -1,5 +1,5 @@
 //! The trace of a run, as far as it is written, and the writer's thread.
-ghost use Rattle.std.specs.Prelude.{◌≡◌, true, false, Some, Err, OnOk, OnErr, IfErr, IfSome};
+ghost use Rattle.std.specs.Prelude.{◌≡◌, ◌≢◌, true, false, Some, Err, OnOk, OnErr, IfErr, IfSome};
 ghost use Rattle.std.specs.Io.KnownBytes.{append_known};
 ghost use Rattle.std.proofs.Props.{props};
 ghost use Rattle.trace_segments.specs.declared.fault.OutFault.TheVariants.{Device};
@@ -19,7 +19,7 @@ use netdesc::Network;
 use std::alloc::Global;
 use std::marker::PhantomData;
 use std::sync::Wait;
-use trace_tables::{SegmentFault, Sink, TraceFault, TraceWriter, batches_in_order};
+use trace_tables::{OutFault, SegmentFault, Sink, TraceFault, TraceWriter, batches_in_order};
 
 /// The trace of a run, as far as it is written, and the first fault of a batch. By its type the sink took a beginning of the text that the rows
 /// of the one-thread run have.
@@ -70,8 +70,8 @@ impl<'a, J: NetworkRun, K: TraceRun, S: Sink> Writing<'a, J, K, S> {
         }
     }
 
-    /// Ends the trace, and gives the sink back. The outcome is the first fault of a batch; where there was none, that of a segment; where there
-    /// was none either, that of `TraceWriter::finish`.
+    /// Ends the trace, and gives the sink back. The outcome is that of `TraceWriter::finish`, where a write failed; else the first fault of a batch;
+    /// where there was none, that of a segment; where there was none either, that of `TraceWriter::finish` again.
     pub(crate) fn finish(self, gathering: Option<SegmentFault>) -> (Result<(), TraceFault>, S)
         requires { IfSome gathering IsPlaceFault }
         ensures { IsWritten J.plan K.taken K.failures result.0 (S.taken result.1) (S.failures result.1) }
@@ -87,18 +87,21 @@ impl<'a, J: NetworkRun, K: TraceRun, S: Sink> Writing<'a, J, K, S> {
     }
 }
 
-/// How the writing of a trace went: the fault of a batch; where there is none, that of a segment; where there is none either, how the end went.
+/// How the writing of a trace went: a write that failed is told in any case; else the fault of a batch; where there is none, that of a segment;
+/// where there is none either, how the end went.
 fn outcome_of(
     batches: Result<(), TraceFault>,
     gathering: Option<SegmentFault>,
     end: Result<(), TraceFault>,
 ) -> Result<(), TraceFault>
-    ensures { result ≡ outcome_of batches gathering end }
+    ensures device { end ≡ Err (Out Device) → result ≡ Err (Out Device) }
+    ensures other { end ≢ Err (Out Device) → result ≡ outcome_of batches gathering end }
 {
-    match (batches, gathering) {
-        (Err(fault), _) => Err(fault),
-        (Ok(()), Some(fault)) => Err(TraceFault::Segment(fault)),
-        (Ok(()), None) => end,
+    match (batches, gathering, end) {
+        (_, _, Err(TraceFault::Out(OutFault::Device))) => Err(TraceFault::Out(OutFault::Device)),
+        (Err(fault), _, _) => Err(fault),
+        (Ok(()), Some(fault), _) => Err(TraceFault::Segment(fault)),
+        (Ok(()), None, end) => end,
     }
 }
 

@@ -1,6 +1,4 @@
-use Rattle.std.proofs.Common.{sym, subst}
-use Rattle.worker_pool.specs.Written.{IsWritten}
-use Rattle.worker_pool.proofs.FinishedRun.{Finishes, finished-whole, finished-beginning, finished-well, finished-device}
+use Rattle.worker_pool.proofs.FinishedRun.{Finishes, finished-whole, finished-beginning, finished-kept, finished-well, finished-device}
 use Rattle.worker_pool.proofs.Written.{is-written, failed-once, end-told}
 use Rattle.worker_pool.proofs.writing.Writing.finish.Goals as goal
 
@@ -30,10 +28,11 @@ returns g c =
       kept_failures = said.kept_failures;
     } in
     let once = finished-device plan start failed splits old self.lawful self.of_run end taken failures F in
-    subst (λ z. IsWritten plan start failed z taken failures) (sym c.outcome_of.ensures)
-    (is-written plan start failed taken failures self.outcome c.args.gathering end
+    is-written plan start failed taken failures self.outcome c.args.gathering end
+    (finished-beginning plan start failed splits old self.lawful self.of_run end taken failures F)
+    c.outcome_of.result c.outcome_of.ensures.device c.outcome_of.ensures.other
     (λ e. failed-once old end said.refused failures failed once (self.broken e)) self.known c.requires
     (finished-whole plan start failed splits old self.lawful self.of_run end taken failures F)
-    (finished-beginning plan start failed splits old self.lawful self.of_run end taken failures F)
-    once (finished-well plan start failed splits old self.lawful self.of_run end taken failures F)
-    (end-told old end said.refused said.whole said.out))
+    once (finished-kept plan start failed splits old self.lawful self.of_run end taken failures F)
+    (finished-well plan start failed splits old self.lawful self.of_run end taken failures F)
+    (end-told old end said.refused said.whole said.out)
