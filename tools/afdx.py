@@ -1,20 +1,21 @@
 """What the tools share: descriptions with the line of each key, the networks that they describe with paths and loads,
-how offers are drawn, tables and traces.
+how offers are drawn, and tables. Traces are in tools/traces.py.
 
     net = afdx.Network("net.toml")            # Fault where it is none, in one line with the file and the line
     tables = afdx.Tables("tables.csv", net)   # those that the program prints, or merged ones
-    trace = afdx.Trace("trace.csv", tables)
 
 None of this judges a description as the program does: `afdxsim check` does, and tools/explain.py tells all its faults.
 """
 import argparse
 import hashlib
+import itertools
 import json
 import os
 import re
 from collections import Counter, namedtuple
 from fractions import Fraction
 
+import files
 import toml_lines
 from files import Fault, cut, is_same_file, text_of, write_out, write_whole  # noqa: F401: other tools have them from here
 
@@ -73,6 +74,19 @@ def lines_of(path, head, name, text=None):
     if lines.pop():
         raise Fault(path, len(lines) + 1, "the line feed at the end is missing, so the file is not whole")
     return lines
+
+
+def read_lines(path, head, name):
+    """The lines of a file behind its head, without line feeds, one by one as they are asked for."""
+    lines = files.lines_of(path)
+    first = next(lines, "")
+    if first.removesuffix("\n") != head:
+        raise Fault(path, 1, f"the columns are not those of {name}: {head}")
+    for i, line in enumerate(itertools.chain([first], lines), 1):
+        if not line.endswith("\n"):
+            raise Fault(path, i, "the line feed at the end is missing, so the file is not whole")
+        if i > 1:
+            yield line[:-1]
 
 
 def checksum(text):
@@ -447,10 +461,15 @@ def offers(seed, vl, offset_ns, period_ns, jitter_ns, until_ns):
         k += 1
 
 
-# ---- tables and trace ----
+# ---- tables ----
 
 Latency = namedtuple("Latency", "vl where count least greatest total seed line")
 Loss = namedtuple("Loss", "vl where cause count seed line")
+
+
+WHOLE = "(0|[1-9][0-9]{0,39})"
+LATENCY_LINE = re.compile(f"latency,(0|[1-9][0-9]{{0,4}}),([^,]*),,{WHOLE},{WHOLE},{WHOLE},{WHOLE}")
+LOSS_LINE = re.compile("dropped,(0|[1-9][0-9]{0,4}),([^,]*),([a-z_]*),([1-9][0-9]{0,39}),,,")
 
 
 class Tables:
@@ -462,6 +481,8 @@ class Tables:
         self.merged = lines[0] != TABLES_HEAD
         self.latencies, self.losses = {}, {}
         for i, line in enumerate(lines[1:], 2):
+            if not self.merged and self.takes(i, line):
+                continue
             fields = line.split(",")
             if len(fields) != 8 + self.merged:
                 raise Fault(path, i, f"has {len(fields)} fields in place of {8 + self.merged}")
@@ -473,6 +494,25 @@ class Tables:
                         f"the file ends without the latencies of virtual link {vl.id} at {where}, as {net.path} has it"
                     )
                     raise Fault(path, len(lines), text)
+
+    def takes(self, i, line):
+        """Takes a line of one run as the program writes it, and answers whether it did; `add` tells what is wrong with another."""
+        found = LATENCY_LINE.fullmatch(line)
+        if found:
+            vl, where, *numbers = found.groups()
+            count, least, greatest, total = map(int, numbers)
+            key = int(vl), where
+            is_right = count * least <= total <= count * greatest and (count == 0) == (greatest == 0)
+            if is_right and key in self.net.destinations and key not in self.latencies:
+                self.latencies[key] = Latency(*key, count, least, greatest, total, None, i)
+                return True
+        elif found := LOSS_LINE.fullmatch(line):
+            vl, where, cause, count = found.groups()
+            key = int(vl), where, cause
+            if key[0] in self.net.vls and where in self.net.vls[key[0]].places and cause in CAUSES and key not in self.losses:
+                self.losses[key] = Loss(*key, int(count), None, i)
+                return True
+        return False
 
     def add(self, i, table, vl, where, cause, *rest):
         numbers, seed = rest[:4], rest[4]
@@ -518,75 +558,3 @@ class Tables:
         if number not in self.net.vls:
             raise Fault(self.path, i, f"virtual link {number} is not in {self.net.path}")
         return self.net.vls[number]
-
-
-class Trace:
-    """What a trace says of the run whose tables are given: `rows` has its notes in their order as (time, where, vl,
-    what, value), `latencies` those of each virtual link and destination, rising, and `losses` how many frames were lost
-    where and why."""
-
-    def __init__(self, path, tables, text=None):
-        self.path, self.tables, self.net = path, tables, tables.net
-        self.latencies = {key: [] for key in tables.latencies}
-        self.losses = Counter()
-        self.rows = []
-        lines = lines_of(path, [TRACE_HEAD], "a trace", text)
-        known, until, before = {}, self.net.until_ns, 0
-        for i, line in enumerate(lines[1:], 2):
-            time, _, rest = line.partition(",")
-            what, _, value = rest.rpartition(",")
-            if not (NUMBER.fullmatch(time) and NUMBER.fullmatch(value) and len(time) < 20 and len(value) < 20):
-                raise Fault(path, i, "has no whole number of 64 bits at its begin and at its end")
-            moment, number = int(time), int(value)
-            if not before <= moment <= until:
-                text = f"its moment, {moment} ns, is before that of the line above, or after the end of {self.net.path}"
-                raise Fault(path, i, text)
-            before = moment
-            if what not in known:
-                known[what] = self.what(i, what)
-            where, vl, what, found = known[what]
-            self.rows.append((moment, where, vl, what, number))
-            if found is None:
-                if number != self.net.vls[vl].size:
-                    text = f"a frame of virtual link {vl} has {number} bytes, and in {self.net.path} it has {self.net.vls[vl].size}"
-                    raise Fault(path, i, text)
-                self.losses[vl, where, what] += 1
-            else:
-                found.append(number)
-        self.compare(len(lines))
-        for found in self.latencies.values():
-            found.sort()
-
-    def what(self, i, text):
-        """What a line tells of: place, virtual link, delivered or cause; and where it is delivered, its latencies."""
-        fields = text.split(",")
-        if len(fields) != 3:
-            raise Fault(self.path, i, f"has {len(fields) + 2} fields in place of 5")
-        where, vl, what = fields
-        if not NUMBER.fullmatch(vl) or len(vl) > 5 or int(vl) not in self.net.vls:
-            raise Fault(self.path, i, f"virtual link {vl if len(vl) < 20 else cut(vl)} is not in {self.net.path}")
-        if what == "delivered":
-            if (int(vl), where) not in self.latencies:
-                raise Fault(self.path, i, f"{where!r} is no destination of virtual link {vl} in {self.net.path}")
-            return where, int(vl), what, self.latencies[int(vl), where]
-        if what not in CAUSES:
-            raise Fault(self.path, i, f"{what!r} is neither delivered nor a cause of loss")
-        if where not in self.net.vls[int(vl)].places:
-            raise Fault(self.path, i, f"virtual link {vl} does not pass {where!r} in {self.net.path}")
-        return where, int(vl), what, None
-
-    def compare(self, last):
-        """Refuses a trace that is of another run than the tables."""
-        other = f"so it is the trace of another run than {self.tables.path}"
-        for key, row in self.tables.latencies.items():
-            found = self.latencies[key]
-            told = (len(found), min(found, default=0), max(found, default=0), sum(found))
-            if told != row[2:6]:
-                text = f"{told[0]} frames of virtual link {row.vl} came to {row.where} with a sum of {told[3]} ns, "
-                text += f"and line {row.line} of the tables has {row.count} and {row.total}, "
-                raise Fault(self.path, last, text + other)
-        for key in [*self.tables.losses, *self.losses]:
-            row = self.tables.losses.get(key)
-            if self.losses[key] != (row.count if row else 0):
-                text = f"{self.losses[key]} frames of virtual link {key[0]} were lost at {key[1]} as {key[2]}, "
-                raise Fault(self.path, last, text + f"and the tables have {row.count if row else 0}, " + other)

@@ -54,7 +54,9 @@ import tried_runs
 from afdx import CAUSES, GREATEST_SEED, PROGRAM, TABLES_HEAD, whole
 from files import Fault, text_of, write_whole
 from limits import limits_of
+from record import COUNTED_HEAD, GREATEST_HEAD, PERCENTS
 from runs import Failure
+from traces import Trace
 
 EXAMPLES = """
 examples:
@@ -102,8 +104,6 @@ WRITTEN = (
 )
 # What a campaign says of the program where it was these sources by `rt try`.
 NOT_PROVED = "afdxsim, not proved: its sources by rt try"
-GREATEST_HEAD = "vl,where,runs,least_greatest_ns,mean_greatest_ns,greatest_ns,sum_greatest_ns,seed"
-PERCENTS = [50, 95, 99]
 # Of so many outages a line tells what they do.
 MOST_TOLD = 10
 
@@ -192,12 +192,12 @@ def tables_of(net, run, text):
         raise Failure(f"{run.name}: {fault}") from None
 
 
-def trace_of(tables, run, text):
+def trace_of(tables, run, path):
     """The trace that a run wrote."""
     try:
-        return afdx.Trace("what it traced", tables, text)
+        return Trace(path, tables)
     except Fault as fault:
-        raise Failure(f"{run.name}: {fault}") from None
+        raise Failure(f"{run.name}: {Fault('what it traced', fault.line, fault.text)}") from None
 
 
 class OverSeeds:
@@ -244,7 +244,7 @@ class Merged:
             if row.count == 0:
                 continue
             over.add(row.greatest)
-            over.counts.update(trace.latencies[key] if trace else ())
+            over.counts.update(trace.rising(key) if trace else ())
             if mine[0] == 0 or row.greatest > mine[2]:
                 mine[2], mine[4] = row.greatest, seed
             mine[1] = row.least if mine[0] == 0 else min(mine[1], row.least)
@@ -263,8 +263,7 @@ class Merged:
     def greatest_text(self, has_counts):
         """Of the greatest latencies of the runs the least, the mean and the greatest; and the percentiles of all frames,
         where each is counted."""
-        percents = [f",percent_{percent}_ns" for percent in PERCENTS] if has_counts else []
-        lines = [GREATEST_HEAD + "".join(percents)]
+        lines = [COUNTED_HEAD if has_counts else GREATEST_HEAD]
         for vl, where in self.in_order(self.over_seeds):
             over, (_, _, greatest, _, seed) = self.over_seeds[vl, where], self.latencies[vl, where]
             numbers = [over.runs, over.least, over.mean(), greatest, over.total] if over.runs else [0] * 5
@@ -513,7 +512,7 @@ def write_results(words, campaign):
     path, merged, has_counts = os.path.join(words.output, record.MERGED), campaign.merged, words.histograms
     text = merged.text()
     write_whole(path, text)
-    write_whole(os.path.join(words.output, "greatest.csv"), merged.greatest_text(has_counts))
+    write_whole(os.path.join(words.output, record.GREATEST), merged.greatest_text(has_counts))
     if has_counts:
         write_whole(os.path.join(words.output, "histograms.csv"), merged.histograms_text())
     write_record(words, campaign.net, campaign.seeds[: campaign.done], text)

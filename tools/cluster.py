@@ -12,10 +12,11 @@ import os
 import re
 import subprocess
 import sys
+import tempfile
 from collections import deque
 
 from afdx import Fault
-from runs import Failure, Printed, failure_of
+from runs import Failure, failure_of, printed_by
 
 # Debian's packages are for this interpreter.
 DEBIAN = "/usr/bin/python3"
@@ -115,13 +116,14 @@ class Cluster:
                 if not waiting:
                     return
                 run, future = waiting.popleft()
-                yield run, self.printed(run, future)
+                with tempfile.TemporaryDirectory() as folder:
+                    yield run, self.printed(run, future, folder)
         finally:
             self.client.cancel([future for _, future in waiting])
             self.client.close()
 
     @staticmethod
-    def printed(run, future):
+    def printed(run, future, folder):
         from distributed import CancelledError, KilledWorker
 
         try:
@@ -133,4 +135,4 @@ class Cluster:
         printed, said, trace = found
         if status != 0:
             raise Failure(f"{run.name}: {failure_of(status, said)}")
-        return Printed(printed.decode("utf-8", "replace"), trace)
+        return printed_by(printed, trace, folder)

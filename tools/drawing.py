@@ -2,9 +2,7 @@
 from collections import Counter
 
 from page_text import counted, esc, frame_count, percent_of, span, two_places
-
-# Of so many equal parts of a run is told what was lost in each.
-MOMENTS = 100
+from traces import MOMENTS
 
 
 # ---- the network ----

@@ -54,19 +54,19 @@ def outages_text(element, from_ns, until_ns):
 
 
 class Course:
-    """What came of the runs with one element out, or with none: for each virtual link and destination how many frames
-    were delivered, how many are lost end to end, from the least that is known to the most, and the greatest latency."""
+    """What came of the runs with one element out, or with none: for each run what became of the frames of each virtual link at
+    each destination, where that is not as in the run without an outage."""
 
     def __init__(self, element, number):
-        self.element, self.number = element, number
-        self.delivered, self.lost, self.greatest = {}, {}, {}
+        self.element, self.number, self.came = element, number, []
+        # What the outage does, and which limits it breaks, once all its runs are made.
+        self.changes, self.broken = [], []
 
-    def take(self, came):
-        """Takes what became of the frames of one more run."""
-        for key, it in came.items():
-            self.delivered[key] = self.delivered.get(key, 0) + it.count
-            self.lost[key] = self.lost.get(key, exactly(0)) + it.missing
-            self.greatest[key] = max(self.greatest.get(key, 0), it.greatest)
+    def together(self, key, first):
+        """What came of a virtual link at a destination in all runs; `first` is the course without an outage."""
+        came = [it.get(key) or before[key] for it, before in zip(self.came, first.came)]
+        missing = sum((it.missing for it in came), exactly(0))
+        return sum(it.count for it in came), missing, max(it.greatest for it in came)
 
 
 # What an outage does to a virtual link at a destination: the counts and latencies without it and with it.
@@ -148,7 +148,9 @@ class EachOutage:
             try:
                 for seed, run, printed, came in results:
                     course = self.courses[self.done // len(self.seeds)]
-                    course.take(came)
+                    course.came.append(came)
+                    if course.element and len(course.came) == len(self.seeds):
+                        self.compare(course)
                     keep(f"outage-{course.number}-seed-{seed}", run.text, printed.tables)
                     self.done += 1
                     progress.tell(self.done, None)
@@ -162,32 +164,30 @@ class EachOutage:
         # What was not run for all seeds cannot be compared.
         del self.courses[self.done // len(self.seeds) :]
 
-    def changes(self, course):
-        """What an outage makes lost or late, in the order of the tables."""
-        before, found = self.courses[0], []
-        for vl, where in sorted(course.lost, key=lambda it: (it[0], self.net.process[it[1]])):
-            key = vl, where
-            counts = before.delivered[key], course.delivered[key], before.lost[key], course.lost[key]
-            greatest = before.greatest[key], course.greatest[key]
-            change = Change(vl, where, *counts, *greatest, growth_that_counts(*greatest, self.least_later))
-            if more_lost(change).most or greatest[1] > greatest[0]:
-                found.append(change)
-        return found
-
-    def broken(self, course):
-        """The limits that are broken in an outage and not without it."""
-        before = self.courses[0].greatest
-        return [limit for key, limit in self.limits.items() if course.greatest[key] > limit.ns >= before[key]]
+    def compare(self, course):
+        """Notes what an outage makes lost or late, in the order of the tables, and the limits that are broken in it and not
+        without it. The runs themselves are not needed any more."""
+        first, changed = self.courses[0], set().union(*course.came)
+        for key in sorted(changed, key=lambda it: (it[0], self.net.process[it[1]])):
+            before, now = first.together(key, first), course.together(key, first)
+            counts = before[0], now[0], before[1], now[1], before[2], now[2]
+            change = Change(*key, *counts, growth_that_counts(before[2], now[2], self.least_later))
+            if more_lost(change).most or now[2] > before[2]:
+                course.changes.append(change)
+        for key, limit in self.limits.items():
+            if course.together(key, first)[2] > limit.ns >= first.together(key, first)[2]:
+                course.broken.append(limit)
+        course.came = []
 
     def summaries(self):
         """Each outage with what it does, the worst first."""
-        found = [Summary(course, self.changes(course), self.broken(course)) for course in self.courses[1:]]
+        found = [Summary(course, course.changes, course.broken) for course in self.courses[1:]]
         return sorted(found, key=lambda it: (-it.lost().least, -it.lost().most, -it.latest(), it.course.number))
 
     def table(self):
         lines = [TABLE_HEAD]
         for course in self.courses[1:]:
-            for it in self.changes(course):
+            for it in course.changes:
                 numbers = it.delivered_before, it.delivered, *it.lost_before, *it.lost, it.greatest_before, it.greatest
                 lines.append(f"{name_of(course.element)},{it.vl},{it.where},{','.join(map(str, numbers))}")
         return "\n".join(lines) + "\n"
@@ -314,7 +314,8 @@ def page(found, path):
         f'<!DOCTYPE html><html lang="en"><head><meta charset="utf-8"><title>Outages of {html.escape(path)}</title>'
         f"<style>{STYLE}</style></head><body><main><h1>What if a link or a switch is out</h1><p>{html.escape(words)}</p>"
         f'<div class="tiles">{"".join(tiles)}</div><table id="outages"><thead>{row(heads, "th")}</thead><tbody>{body}</tbody>'
-        "</table><footer>A frame is lost end to end where it is delivered by neither network. Of a frame whose copies may "
-        "be lost or under way at the end, both are told: from the least to the most. Later means that the greatest latency "
+        "</table><footer>A frame is lost end to end where it is delivered by neither network. Where it is open how many are, it is "
+        "told from the least to the most: a trace tells neither which port of a switch was full where copies go on by several, "
+        "nor of which frames copies were lost after the last frame that came. Later means that the greatest latency "
         f"grows by more than {later_in_words(found.least_later)}; outages.csv has each. It tells what happened in these runs, and is no bound on what can happen.</footer></main></body></html>\n"
     )

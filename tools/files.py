@@ -13,6 +13,7 @@ import collections
 import contextlib
 import functools
 import os
+import re
 import signal
 import stat
 import sys
@@ -26,11 +27,15 @@ BEHIND_A_SIGNAL = 128
 STANDARD_OUTPUT = "standard output"
 
 
+# A word of a message that is longer is cut.
+LONG = re.compile(r"\S{399,}[^\s,;]")
+
+
 class Fault(Exception):
     """What is wrong with a file, in one line that names the file and, where there is one, the line."""
 
     def __init__(self, path, line, text):
-        path = printable(path)
+        path, text = printable(path), LONG.sub(lambda it: f"{it[0][:60]}.. of {len(it[0]):,} characters", text)
         super().__init__(f"{path} line {line}: {text}" if line else f"{path}: {text}")
         self.path, self.line, self.text = path, line, text
 
@@ -161,6 +166,21 @@ def text_of(path):
         return found.decode("utf-8")
     except UnicodeDecodeError as fault:
         raise Fault(path, found.count(b"\n", 0, fault.start) + 1, "is no UTF-8") from None
+
+
+def lines_of(path):
+    """The lines of a file with their line feeds, one by one: no more of it is in memory."""
+    number = 0
+    try:
+        with open(path, "rb") as file:
+            KNOWN.note(KNOWN.read, path, os.fstat(file.fileno()))
+            for line in file:
+                number += 1
+                yield line.decode("utf-8")
+    except OSError as fault:
+        raise Fault(path, None, f"cannot be read: {fault.strerror}") from None
+    except UnicodeDecodeError:
+        raise Fault(path, number, "is no UTF-8") from None
 
 
 # ---- writing ----

@@ -4,10 +4,13 @@ are under way at the end, or are missing. What was offered is drawn anew; the re
     ends = frames.Ends(tables, [net.seed], trace=trace)     # Fault where they are of other runs
     ends.of[vl, where].missing                              # a Range: what is known of it
 """
+import functools
 import random
+from bisect import bisect_left
 from collections import Counter, deque, namedtuple
 
 import afdx
+import many_seeds
 from afdx import Fault
 from page_text import counted
 
@@ -39,8 +42,9 @@ Sent = namedtuple("Sent", "offered released waiting refused")
 # What became of the frames of a virtual link at one of its destinations: `again` were delivered a second time, since
 # their second copy came later than SkewMax; `under_way` has those that wait in the regulator too; `copies` are the
 # second copies that were dropped; `lost` has for each network the copies that were lost on it. `too_long` is how many are
-# said to be under way at the end for longer than twice the time that any took.
-End = namedtuple("End", "offered delivered again under_way missing copies lost too_long")
+# said to be under way at the end for longer than twice the time that any took. `why` says why it is open how many are missing,
+# or nothing where it is not.
+End = namedtuple("End", "offered delivered again under_way missing copies lost too_long why")
 
 
 def through_regulator(vl, offers, until_ns):
@@ -161,37 +165,41 @@ class Ends:
     def __init__(self, tables, seeds, draws_offsets=False, trace=None, known=None):
         self.tables, self.net, self.trace = tables, tables.net, trace
         # What does not depend on the tables, for those who reckon with the same seeds again.
-        self.known = {} if known is None else known
-        self.losses, self.delivered, self.lost = {}, {}, {}
+        self.known = known
+        self.losses = {}
         for loss in tables.losses.values():
             if loss.cause not in ("queue_full", "duplicate"):
                 self.losses.setdefault(loss.vl, []).append(loss)
-        for time, where, vl, what, value in trace.rows if trace else ():
-            if what == "delivered":
-                self.delivered.setdefault((vl, where), []).append(time - value)
-            elif what not in ("queue_full", "duplicate"):
-                self.lost.setdefault(vl, []).append((time, where, what))
         self.of = {}
-        for vl, runs in self.all_sent(seeds, draws_offsets):
-            self.compare(vl, sum(sent.refused for sent in runs))
+        for vl, sent in self.all_sent(seeds, draws_offsets):
+            self.compare(vl, sent.refused)
             for where in vl.destinations:
-                if (vl.id, where) not in self.known:
-                    self.known[vl.id, where] = Route(self.net, vl, where)
-                journey = Journey(self.known[vl.id, where], self.losses.get(vl.id, ()))
-                self.of[vl.id, where] = self.end(journey, runs)
+                route = self.once((vl.id, where), Route, self.net, vl, where)
+                journey = Journey(route, self.losses.get(vl.id, ()))
+                self.of[vl.id, where] = self.end(journey, sent)
+
+    def once(self, key, make, *given):
+        """What does not depend on the tables: it is made anew where nobody keeps it."""
+        if self.known is None:
+            return make(*given)
+        if key not in self.known:
+            self.known[key] = make(*given)
+        return self.known[key]
 
     def all_sent(self, seeds, draws_offsets):
-        """For each virtual link what its regulator did, run by run."""
-        until = self.net.until_ns
+        """For each virtual link what its regulator did in the runs of all seeds together."""
+        numpy = many_seeds.library(seeds)
         offsets = [drawn_offsets(self.net, seed) if draws_offsets else {} for seed in seeds]
         for vl in self.net.vls.values():
-            if vl.id not in self.known:
-                runs = self.known[vl.id] = []
-                for seed, drawn in zip(seeds, offsets):
-                    offset = drawn.get(vl.id, vl.offset_ns)
-                    offers = afdx.offers(seed, vl.id, offset, vl.period_ns, vl.jitter_ns, until)
-                    runs.append(through_regulator(vl, offers, until))
-            yield vl, self.known[vl.id]
+            own = [drawn.get(vl.id, vl.offset_ns) for drawn in offsets]
+            if numpy:
+                yield vl, many_seeds.sent_of_all(numpy, vl, seeds, own, self.net.until_ns, functools.partial(self.sent, vl))
+            else:
+                yield vl, self.once(vl.id, lambda: many_seeds.together([self.sent(vl, *it) for it in zip(seeds, own)]))
+
+    def sent(self, vl, seed, offset):
+        until = self.net.until_ns
+        return through_regulator(vl, afdx.offers(seed, vl.id, offset, vl.period_ns, vl.jitter_ns, until), until)
 
     def refuse(self, line, text):
         raise Fault(self.tables.path, line, f"{text}; so they are tables of another run than that of {self.net.path}")
@@ -204,20 +212,20 @@ class Ends:
             told = f"{refused} frames of virtual link {vl.id} would be lost as queue_full"
             self.refuse(line, f"{told}, and the tables have {loss.count if loss else 0}")
 
-    def end(self, journey, runs):
+    def end(self, journey, sent):
         """What became of the frames of all runs at one destination: what is known of each count is narrowed by what
         they add up to."""
         key = journey.vl.id, journey.where
         row, copies = self.tables.latencies[key], self.tables.losses.get((*key, "duplicate"))
         copies = copies.count if copies else 0
-        released = sum(len(sent.released) for sent in runs)
+        released = len(sent.releases)
         total, lost = journey.copies_lost()
         # The copies of which nothing is told are under way.
         open_copies = exactly(len(journey.ways) * released - row.count - copies) - total
-        if self.trace and len(runs) == 1:
-            again, under_way, missing = self.by_trace(journey, runs[0].released, row)
+        if self.trace and sent.one is not None:
+            again, under_way, missing = self.by_trace(journey, sent.one, row)
         else:
-            again, under_way, missing = self.by_counts(journey, runs, row)
+            again, under_way, missing = self.by_counts(journey, sent, row)
         under_way = under_way.within(Range(0, open_copies.most))
         if len(journey.ways) == 1:
             # Of one copy each: what was lost, or dropped at the destination, is missing.
@@ -234,51 +242,61 @@ class Ends:
                 row.line, f"{told}, and the tables have {row.count} delivered, {copies} copies and {total.most} lost"
             )
         again = again.within(missing + under_way - exactly(released - row.count))
-        refused, waiting = (exactly(sum(counts)) for counts in zip(*((sent.refused, sent.waiting) for sent in runs)))
-        offered = sum(sent.offered for sent in runs)
-        too_long = 0 if self.trace else max(0, under_way.least - self.may_be_under_way(journey, runs, row))
-        return End(offered, row.count, again, under_way + waiting, missing + refused, copies, lost, too_long)
+        too_long = 0 if self.trace else max(0, under_way.least - self.may_be_under_way(journey, sent, row))
+        why = self.why_open(journey, sent) if missing.least < missing.most else ""
+        under_way, missing = under_way + exactly(sent.waiting), missing + exactly(sent.refused)
+        return End(sent.offered, row.count, again, under_way, missing, copies, lost, too_long, why)
 
-    def may_be_under_way(self, journey, runs, row):
+    def why_open(self, journey, sent):
+        """Why it is not known how many frames are missing, in words."""
+        if sent.one is None:
+            return "merged tables do not tell of which frames the lost copies were"
+        if not self.trace:
+            return "tables do not tell of which frames the lost copies were; --trace tells more"
+        full = [where for where, cause in self.trace.lost_on_the_way(journey.vl.id) if cause == "port_full" and where in journey.forks]
+        if full:
+            return f"at {' and '.join(sorted(full))} copies go on by several ports, and no trace tells which of them was full"
+        return "copies were lost after the last frame that came, and no trace tells of which frames"
+
+    def may_be_under_way(self, journey, sent, row):
         """How many frames were released so late that they may be under way at the end, if none takes longer than twice the
         greatest latency that was seen, or that a frame has alone."""
         longest = 2 * max(row.greatest, *(way.arrival for way in journey.ways.values()))
-        return sum(moment > self.net.until_ns - longest for sent in runs for _, moment in sent.released)
+        return sent.released_after(self.net.until_ns - longest)
 
-    def by_counts(self, journey, runs, row):
+    def by_counts(self, journey, sent, row):
         """What tables alone tell of frames that were delivered again, are under way, and are missing."""
         latest = self.net.until_ns - journey.surely_under_way_ns()
-        sure = sum(sum(moment > latest for _, moment in sent.released) for sent in runs)
+        sure = sent.released_after(latest)
         # A second copy is delivered again only where it comes later than SkewMax.
         may_be_again = len(journey.ways) == 2 and row.greatest > journey.vl.skew_ns
-        released = sum(len(sent.released) for sent in runs)
+        released = len(sent.releases)
         return Range(0, row.count // 2 if may_be_again else 0), Range(sure, released), Range(0, released)
 
     def by_trace(self, journey, released, row):
-        """The same by the moments at which the frames that were delivered had been offered, and those of losses."""
-        left = Counter(self.delivered.get((journey.vl.id, journey.where), ()))
-        came, last = 0, -1
-        for i, (moment, _) in enumerate(released):
-            if left[moment]:
-                left[moment] -= 1
-                came, last = came + 1, i
-        if not left.keys() <= {moment for moment, _ in released}:
+        """The same by what a trace tells: which frames came, by the moments at which they had been offered, and when copies were
+        lost."""
+        came = self.trace.came.get((journey.vl.id, journey.where))
+        found = came.among([moment for moment, _ in released]) if came else (0, -1)
+        if found is None:
             self.refuse(row.line, f"at {row.where} frames of virtual link {row.vl} came that nobody would offer")
+        came, last = found
         rest = [moment for _, moment in released[last + 1 :]]
-        # On each network the latest releases of frames that may have been lost, by the moments of losses.
-        latest = {side: [] for side in journey.ways}
-        for time, where, cause in self.lost.get(journey.vl.id, ()) if rest else ():
+        # On each network how many copies of the rest may have been lost, and when the last of these was released at the latest.
+        lost = {side: (0, -1) for side in journey.ways}
+        for (where, cause), moments in self.trace.lost_on_the_way(journey.vl.id).items() if rest else ():
             for side in journey.sides_of(where, cause):
-                moment = time - journey.ways[side].soonest_loss(where, cause)
-                if moment >= rest[0]:
-                    latest[side].append(moment)
+                soonest = journey.ways[side].soonest_loss(where, cause)
+                count = len(moments) - bisect_left(moments, rest[0] + soonest)
+                if count:
+                    lost[side] = lost[side][0] + count, max(lost[side][1], moments[-1] - soonest)
         # A number more than 127 steps behind the last one delivered is taken for a copy.
-        may_be_lost = [max(found, default=-1) if len(rest) <= 127 else self.net.until_ns for found in latest.values()]
-        sure = sum(moment > min(may_be_lost) for moment in rest)
-        most = min(len(found) for found in latest.values()) if len(rest) <= 127 else len(rest)
+        is_few = len(rest) <= 127
+        may_be_lost = min(latest for _, latest in lost.values()) if is_few else self.net.until_ns
+        sure = sum(moment > may_be_lost for moment in rest)
+        most = min(count for count, _ in lost.values()) if is_few else len(rest)
         before = last + 1 - came
-        again = exactly(row.count - came)
-        return again, Range(sure, len(rest)), Range(before, before + most)
+        return exactly(row.count - came), Range(sure, len(rest)), Range(before, before + most)
 
 
 def hold(tables):

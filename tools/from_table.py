@@ -20,7 +20,7 @@ import afdx
 import explain
 import files
 import workbook
-from afdx import BAGS_MS, KEYS, SECTIONS, Fault
+from afdx import BAGS_MS, KEYS, SECTIONS, Fault, cut
 
 EXAMPLES = """
 examples:
@@ -48,7 +48,7 @@ it has. Columns marked * must be there; lines that begin with # are passed over:
   the run         until_ns, seed
 A node that has no line of its own is an end system. A time may be given in another unit: period_ms,
 jitter_us, until_s. Capital letters, blanks and brackets in the name of a column do not matter: `BAG (ms)` is bag_ms.
-docs/FORMATS.md, section 11, and docs/TOOLS.md, section 2, have more.
+docs/TOOLS.md, sections 2 and 13, has more.
 
 status: 0, also where columns, titles or sheets are passed over, with a line for each on error output; 1 where the tables have a fault: all are told, each with its file and line, and nothing is written; 2 where a
 word is wrong, or a file cannot be read or written.
@@ -133,6 +133,8 @@ SORTS = [
 ]
 NEEDED = {"vl": ["id"], "node": ["name"], "link": ["a", "b"], "outage": ["from", "to", "from_ns", "to_ns"], "top": []}
 WORDS = {"end system": "es", "end_system": "es", "sw": "switch"}
+# So many digits has no number of a table.
+MOST_DIGITS = 30
 UNITS = {"ns": 1, "us": 10**3, "ms": 10**6, "s": 10**9}
 
 
@@ -323,9 +325,9 @@ class Maker:
             return self.time(line, column, text, time[1])
         if column in ("length_m", "payload") or any(it.name == column and it.value_type == "integer" for it in KEYS[section]):
             plain = text.replace("_", "")
-            if re.fullmatch("[0-9]+", plain):
+            if re.fullmatch(f"[0-9]{{1,{MOST_DIGITS}}}", plain):
                 return int(plain)
-            self.add(line, f"{column} is {text!r}, and no whole number")
+            self.add(line, f"{column} is {cut(text)}, and no whole number" + (f" of at most {MOST_DIGITS} digits" if plain.isdigit() else ""))
             return None
         if column == "net":
             return text.upper()
@@ -335,8 +337,8 @@ class Maker:
 
     def time(self, line, column, text, unit):
         plain = text.replace("_", "")
-        if not re.fullmatch(r"[0-9]+(\.[0-9]+)?", plain):
-            self.add(line, f"{column} is {text!r}, and no number")
+        if not re.fullmatch(rf"[0-9]{{1,{MOST_DIGITS}}}(\.[0-9]{{1,{MOST_DIGITS}}})?", plain):
+            self.add(line, f"{column} is {cut(text)}, and no number" + (f" of at most {MOST_DIGITS} digits" if plain.isdigit() else ""))
             return None
         ns = Fraction(plain) * unit
         if ns.denominator != 1:

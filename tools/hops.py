@@ -27,16 +27,15 @@ class Hops:
     def add(self, i, kind, vl, where, *numbers):
         if kind not in KINDS:
             raise Fault(self.path, i, f"{kind!r} is nothing that is measured")
-        for text in [*numbers, *([vl] if vl else [])]:
-            if not afdx.NUMBER.fullmatch(text):
-                raise Fault(self.path, i, f"{text!r} is no whole number")
-        if where not in (self.places(kind, int(vl)) if vl else self.net.mbit):
-            of = f"virtual link {vl}" if vl else "the network"
+        vl = afdx.whole_number(self.path, i, "the virtual link", vl) if vl else None
+        numbers = [afdx.whole_number(self.path, i, name, text) for name, text in zip(HOPS_HEAD.split(",")[3:], numbers)]
+        if where not in (self.net.mbit if vl is None else self.places(kind, vl)):
+            of = "the network" if vl is None else f"virtual link {vl}"
             raise Fault(self.path, i, f"{where!r} is no place of {of} in {self.net.path} where {kind} is measured")
-        key = kind, int(vl) if vl else None, where
+        key = kind, vl, where
         if key in self.of:
             raise Fault(self.path, i, f"says again what line {self.of[key].line} says")
-        found = Measured(*map(int, numbers), i)
+        found = Measured(*numbers, i)
         if not 0 < found.count or not found.count * found.least <= found.total <= found.count * found.greatest:
             raise Fault(self.path, i, f"{found.count} times from {found.least} to {found.greatest} cannot have the sum {found.total}")
         self.of[key] = found

@@ -34,7 +34,7 @@ Architecture: amd64
 Maintainer: {maintainer}
 Installed-Size: {size}
 Depends: python3 (>= 3.11), libc6 (>= {libc})
-Suggests: python3-openpyxl, python3-distributed, bash-completion
+Suggests: python3-openpyxl, python3-distributed, python3-numpy, bash-completion
 Section: science
 Priority: optional
 Description: proved simulator of AFDX networks

@@ -185,7 +185,7 @@ KINDS = {"receiver": Seen, "line": SeenOnLines}
 
 def blocks_of(net, simulation):
     """The blocks of the capture."""
-    yield section_of(os.path.basename(net.path))
+    yield section_of(files.printable(os.path.basename(net.path)))
     number = {}
     for place, (says, mbit) in simulation.interfaces(net).items():
         number[place] = len(number)

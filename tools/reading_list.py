@@ -1,8 +1,8 @@
 #!/usr/bin/env python3
 """Lists the files that say what is promised of `replay` and of `run`: what someone reads who doubts the promises.
 
-    python3 tools/reading_list.py            prints the lists
-    python3 tools/reading_list.py --write    puts them into docs/PROOFS.md, between the two marks there
+    python3 tools/reading_list.py            prints the lists, with what each file of specs/ says of itself
+    python3 tools/reading_list.py --write    puts them into docs/PROOFS.md, by their names, between the two marks there
 
 It begins with the names in the contracts of a few functions (BEGINNINGS), and goes on with the names in what defines these,
 by the `use` lines of each file, until none is new. So a file is in a list because a name of it is needed there, and what
@@ -226,19 +226,34 @@ class Tree:
         said = re.split(r"(?<!\.)\.(?= |$)", " ".join(lines))[0].removeprefix("Definition: ")
         return said[:1].lower() + said[1:] if said[1:2].islower() or said[1:2] == " " else said
 
-    def table(self, files):
-        """A line for each file of specs/, by the order of crates, and one for all files of a crate with types of the code."""
-        rows = ["| Crate | File | What it says |", "|---|---|---|"]
+    def by_crate(self, files):
+        """For each crate, in their order, its files of specs/, and by their names those of src/ with types or the contract."""
         for crate in (it for it in self.order if any(it == crate for crate, _ in files)):
             mine = sorted(path for other, path in files if other == crate)
-            lines = [(f"`{path}`", self.head_of(crate, path)) for path in mine if path.startswith("specs/")]
             types = [f"`{path.removeprefix('src/')}`" for path in mine if path.startswith("src/")]
-            lines += [("`src/`: " + ", ".join(types), "the types that these speak of, or the contract")] if types else []
+            yield crate, [path for path in mine if path.startswith("specs/")], ", ".join(types)
+
+    def named(self, files):
+        """A line for each crate."""
+        rows = ["| Crate | In `specs/` | In `src/` |", "|---|---|---|"]
+        for crate, specs, types in self.by_crate(files):
+            names = ", ".join(f"`{path.removeprefix('specs/').removesuffix('.antt')}`" for path in specs)
+            rows.append(f"| `{crate}` | {names} | {types} |")
+        return "\n".join(rows)
+
+    def told(self, files):
+        """A line for each file of specs/, and one for all files of a crate with types of the code."""
+        rows = ["| Crate | File | What it says |", "|---|---|---|"]
+        for crate, specs, types in self.by_crate(files):
+            lines = [(f"`{path}`", self.head_of(crate, path)) for path in specs]
+            lines += [("`src/`: " + types, "types, or the contract")] if types else []
             rows += [f"| {'' if at else f'`{crate}`'} | {file} | {says} |" for at, (file, says) in enumerate(lines)]
         return "\n".join(rows)
 
-    def lists(self):
-        """What the document has: the two tables, each with a line that counts."""
+    def lists(self, table=None):
+        """What the document has: the two tables, each with a line that counts. In `table` files are told by their names, unless
+        it is told otherwise."""
+        table = table or self.named
         replay, of_replay = self.rests_on(BEGINNINGS["replay"])
         run, of_run = self.rests_on(BEGINNINGS["run"])
         types = {name: sum(path.startswith("src/") for _, path in files) for name, files in (("replay", replay), ("run", run))}
@@ -246,10 +261,10 @@ class Tree:
         return "\n\n".join([
             f"**`replay`** rests on {len(replay)} files: {len(replay) - types['replay']} of definitions and {types['replay']} "
             "with types of the code.",
-            self.table(replay),
+            table(replay),
             f"**`run`** rests on {len(run)} files, {len(run) - types['run']} and {types['run']}. "
             f"{len(run & replay)} of them stand above, and {len(run - replay)} are these:",
-            self.table(run - replay),
+            table(run - replay),
             f"Of those above `run` does not need {len(left_out)}: " + ", ".join(left_out) + ".",
             "Both name definitions of these libraries of the kit, which are not followed here: "
             + ", ".join(f"`{it}`" for it in sorted(of_replay | of_run)) + ".",
@@ -260,10 +275,11 @@ class Tree:
 def main(arguments=None):
     parser = argparse.ArgumentParser(description=__doc__, formatter_class=argparse.RawDescriptionHelpFormatter)
     parser.add_argument("--write", action="store_true", help="puts the lists into docs/PROOFS.md")
-    lists = Tree().lists()
+    tree = Tree()
     if not parser.parse_args(arguments).write:
-        files.say(lists)
+        files.say(tree.lists(tree.told))
         return 0
+    lists = tree.lists()
     with open(DOCUMENT, encoding="utf-8") as file:
         text = file.read()
     before, _, rest = text.partition(MARKS[0])

@@ -4,11 +4,16 @@ import json
 import os
 from collections import namedtuple
 
-from afdx import checksum
+from afdx import checksum, lines_of, whole_number
 from files import Fault, cut, text_of
 
 NAME = "campaign.json"
 MERGED = "merged.csv"
+GREATEST = "greatest.csv"
+GREATEST_HEAD = "vl,where,runs,least_greatest_ns,mean_greatest_ns,greatest_ns,sum_greatest_ns,seed"
+# The percentiles of the frames of all runs, where each latency was counted.
+PERCENTS = [50, 95, 99]
+COUNTED_HEAD = GREATEST_HEAD + "".join(f",percent_{percent}_ns" for percent in PERCENTS)
 
 
 class Record(namedtuple("Record", "description program until_ns first_seed seeds offsets words merged")):
@@ -52,3 +57,29 @@ def beside(tables, text):
         return None
     found = read(path)
     return found if found.merged == checksum(text) else None
+
+
+def percentiles(found, tables):
+    """For each virtual link and destination the percentiles of all frames, or None where nothing came: of merged tables whose
+    campaign has counted each latency. None where it has not."""
+    if found is None or "--histograms" not in found.words:
+        return None
+    path, of = os.path.join(os.path.dirname(tables.path), GREATEST), {}
+    for i, line in enumerate(lines_of(path, [COUNTED_HEAD], "a campaign with --histograms")[1:], 2):
+        fields = dict(zip(COUNTED_HEAD.split(","), line.split(",")))
+        key = whole_number(path, i, "the virtual link", fields["vl"]), fields.get("where")
+        of[key] = percentiles_of(path, i, fields, tables.latencies.get(key))
+    if of.keys() != tables.latencies.keys():
+        raise Fault(path, None, f"is of another campaign than {tables.path}")
+    return of
+
+
+def percentiles_of(path, i, fields, row):
+    """Those of a line, which must be that of a row of the merged tables."""
+    names = ["greatest_ns", *(f"percent_{percent}_ns" for percent in PERCENTS)]
+    found = [whole_number(path, i, name, fields[name]) for name in names if fields.get(name)]
+    if row and not row.count and not any(found):
+        return None
+    if row is None or len(found) < len(names) or found[0] != row.greatest or not row.least <= found[1] <= found[2] <= found[3] <= row.greatest:
+        raise Fault(path, i, "is of another campaign than the merged tables beside it")
+    return found[1:]

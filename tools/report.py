@@ -30,11 +30,13 @@ import frames
 import hops
 import limits
 import record
-from afdx import CAUSES, Network, Tables, Trace
-from drawing import MOMENTS, Drawing, chart_over_time, heat, legend_of_loads
+from afdx import CAUSES, Network, Tables
+from drawing import Drawing, chart_over_time, heat, legend_of_loads
 from files import cut
 from frames import Ends, Journey, Range, Route, Way, ways_of
 from page_text import counted, esc, frame_count, frames_of, hundredths, mean_ns, one_or_range, round_up, span, two_places
+from record import PERCENTS
+from traces import MOMENTS, Trace
 
 EXAMPLES = """
 examples:
@@ -95,21 +97,10 @@ FEW = 10
 ENOUGH_FOR_BARS = 30
 # Of more lines of latencies the page has the histograms of the worst so many.
 MOST_HISTOGRAMS = 20_000
-PERCENTS = [50, 95, 99]
 BARS = 28
 
 
 # ---- what the trace tells ----
-
-
-def over_time(trace):
-    """For each cause how many frames were lost in each hundredth of the run."""
-    found = {cause: [0] * MOMENTS for cause in CAUSES}
-    end = trace.net.until_ns + 1
-    for moment, _, _, what, _ in trace.rows:
-        if what != "delivered":
-            found[what][moment * MOMENTS // end] += 1
-    return found
 
 
 def percentile(rising, percent):
@@ -188,10 +179,13 @@ class EndTable:
         if given.margins or given.bounds:
             yield from self.of_limit(key, vl, row)
         if given.trace:
-            rising = given.trace.latencies[key]
+            rising = given.trace.rising(key)
             for percent in PERCENTS:
                 yield f"p{percent}", percentile(rising, percent) if rising else None
             yield "histogram", histogram(rising) if key in self.drawn else None
+        elif given.percentiles:
+            for percent, value in zip(PERCENTS, given.percentiles[key] or [None] * len(PERCENTS)):
+                yield f"p{percent}", value
 
     def needed_ns(self, vl, row):
         """How long a run must be for ten frames, where this one is too short for them."""
@@ -207,6 +201,7 @@ class EndTable:
         yield from (("offered", end.offered), ("again", one_or_range(end.again)))
         yield from (("under_way", one_or_range(end.under_way)), ("missing", one_or_range(end.missing)))
         yield "missing_tone", BAD if end.missing.least else WARN if end.missing.most else 0
+        yield "why", end.why
         for side in "AB":
             yield "lost" + side, one_or_range(end.lost[side]) if side in end.lost else None
 
@@ -294,6 +289,7 @@ def tile_of_lost(given, ends):
         missing, under_way = missing + end.missing, under_way + end.under_way
     offered = sum(ends["offered"])
     more = f"of {offered:,} offered, counted at each destination; {frames_of(under_way)} under way at the end"
+    more += f"; open at {counted(open_at, 'destination')}, where it says why" if (open_at := sum(map(bool, ends["why"]))) else ""
     look = "bad" if missing.least else "warn" if missing.most or 0 in ends["count"] else "good"
     return tile("lost end to end", frames_of(missing), more, look, "ends")
 
@@ -372,8 +368,9 @@ def part_of_page(name):
 # What a page is made of. `ends` is what became of all frames, where it can be known; `other` has the latencies of the
 # run to compare with and its Ends.
 # `margins` has those of the destinations that have a limit, the least first, and `files` all files that it is made of.
-# `way` has what was measured on the way and its bounds, or is None where there is neither.
-Given = namedtuple("Given", "net tables trace ends margins bounds other way files made_by date")
+# `way` has what was measured on the way and its bounds, or is None where there is neither. `percentiles` has those of all frames
+# of merged tables, where their campaign has counted each latency.
+Given = namedtuple("Given", "net tables trace percentiles ends margins bounds other way files made_by date")
 Other = namedtuple("Other", "tables ends bounds")
 
 
@@ -505,6 +502,8 @@ class Page:
         if any(self.ends["needed"]):
             hint = "how long a run must be to bring ten frames"
             columns.append(column("needed", "ms", "ten frames take", "ms", hint))
+        if any(self.ends["why"]):
+            columns.append(column("why", "words", "why it is open", hint="where missing is told from the least to the most"))
         words = (
             "What the application offered, and what became of it at each destination. A frame is missing where no copy "
             "of it came and none can come any more; copies that were lost while the other one came are told apart."
@@ -632,22 +631,20 @@ class Page:
         return legend(*marks)
 
     def distribution(self):
-        columns = [
-            VL_COLUMN,
-            DESTINATION_COLUMN,
-            column("histogram", "histogram", "histogram"),
-            *(time_column(f"p{it}", f"{it}th", f"{it} % of the frames took no longer") for it in PERCENTS),
-            time_column("greatest", "greatest"),
-            DELIVERED_COLUMN,
-        ]
+        drawn = [column("histogram", "histogram", "histogram")] if self.given.trace else []
+        percents = [time_column(f"p{it}", f"{it}th", f"{it} % of the frames took no longer") for it in PERCENTS]
+        columns = [VL_COLUMN, DESTINATION_COLUMN, *drawn, *percents, time_column("greatest", "greatest"), DELIVERED_COLUMN]
+        title, grid = "Distribution of the latencies", self.grid("percentiles", columns, "greatest")
+        if not drawn:
+            words = "Of the frames of all runs together, as the campaign has counted them: histograms.csv has each latency."
+            return panel("distribution", title, words, grid)
         words = (
             f"From the trace. Each histogram goes from the least latency of its line to the greatest, in {BARS} steps "
             "of the same length; the height of a bar is the share of the frames. Fewer than "
             f"{ENOUGH_FOR_BARS} frames are drawn one by one."
         )
         marks = legend(*((f"p{percent}", f"{percent}th percentile") for percent in PERCENTS))
-        grid = self.grid("percentiles", columns, "greatest")
-        return panel("distribution", "Distribution of the latencies", words, marks, grid)
+        return panel("distribution", title, words, marks, grid)
 
     def losses(self):
         lost = [row for rows in self.lost.values() for row in rows]
@@ -681,7 +678,7 @@ class Page:
         return self.grid("lost", columns, "count", rows)
 
     def over_time(self):
-        lost = over_time(self.given.trace)
+        lost = self.given.trace.over_time
         parts = [(cause, lost[cause], COLOURS[cause]) for cause in LOSSES if any(lost[cause])]
         step = span(Fraction(self.net.until_ns, MOMENTS).__ceil__())
         words = f"From the trace: frames and copies in each hundredth of the run, {step}, by cause."
@@ -840,7 +837,7 @@ class Page:
         panels += [self.worst_case()] if given.bounds else []
         panels += [self.on_the_way()] if given.way else []
         panels += [self.against()] if given.other else []
-        panels += [self.distribution()] if given.trace else []
+        panels += [self.distribution()] if given.trace or given.percentiles else []
         panels += [self.losses()] + ([self.over_time()] if given.trace else []) + [self.second_copies()]
         panels = [it for it in panels if it]
         titles = [re.match(r'<section id="(.*?)"><h2>(.*?)</h2>', it).groups() for it in panels]
@@ -994,8 +991,10 @@ def given_by(words):
     made_of += [words.against, words.against_net, words.against_bounds]
     made_by = words.made_by or (f"{found.program}, as their campaign says" if found else None)
     margins = {it.limit[:2]: it for it in margins}
+    percentiles = record.percentiles(found, tables) if tables.merged else None
+    made_of += [os.path.join(os.path.dirname(tables.path), record.GREATEST)] if percentiles else []
     ends, made_of = ends_of(words, tables, found, trace), list(filter(None, made_of))
-    return Given(net, tables, trace, ends, margins, bounds, other, way, made_of, made_by, words.date)
+    return Given(net, tables, trace, percentiles, ends, margins, bounds, other, way, made_of, made_by, words.date)
 
 
 def tell_above(given):

@@ -1,5 +1,6 @@
 """Runs of the program, several side by side on this machine. tools/cluster.py makes them on several machines."""
 import concurrent.futures
+import contextlib
 import os
 import re
 import subprocess
@@ -13,7 +14,8 @@ Run = namedtuple("Run", "name text")
 # A line of the program that tells how far a run is.
 FAR = re.compile(rb"afdxsim: (\d+ of \d+ ms.*)\n")
 
-# What a run printed: its tables and, where it was asked for, its trace, as texts.
+# What a run printed: the text of its tables and, where it was asked for, the path of its trace, a file that is there until the
+# next run is asked for: who needs it longer puts it elsewhere.
 Printed = namedtuple("Printed", "tables trace")
 
 
@@ -49,7 +51,10 @@ class Here:
                     if not waiting:
                         return
                     run, future = waiting.popleft()
-                    yield run, future.result()
+                    printed = future.result()
+                    yield run, printed
+                    if printed.trace:
+                        drop(printed.trace)
             except (Failure, OSError, RuntimeError) as failure:
                 raise Failure(f"{run.name}: {failure}") from None
             finally:
@@ -88,7 +93,7 @@ class Here:
         os.unlink(path)
         if started.returncode != 0:
             raise Failure(failure_of(started.returncode, said))
-        return Printed(printed.decode("utf-8", "replace"), taken_from(traced) if self.is_traced else None)
+        return Printed(printed.decode("utf-8", "replace"), traced if self.is_traced else None)
 
     def heard(self, run, started):
         """What a run printed and said; of how far it is, one is told who hears."""
@@ -128,9 +133,17 @@ class Here:
                     started.kill()
 
 
-def taken_from(path):
-    """The text of a file, which is gone then."""
-    with open(path, encoding="utf-8", errors="replace", newline="") as file:
-        text = file.read()
-    os.unlink(path)
-    return text
+def drop(path):
+    """Removes a file, if nobody has put it elsewhere."""
+    with contextlib.suppress(FileNotFoundError):
+        os.unlink(path)
+
+
+def printed_by(tables, trace, folder):
+    """What a run printed whose tables and trace are given as bytes and a text: the trace is put into a file of the folder."""
+    path = None
+    if trace is not None:
+        path = os.path.join(folder, "trace.csv")
+        with open(path, "w", encoding="utf-8", newline="") as out:
+            out.write(trace)
+    return Printed(tables.decode("utf-8", "replace"), path)

@@ -41,7 +41,7 @@ def setting(text):
     if key is None:
         known = [key.name for key in afdx.KEYS[section] if key.value_type != "paths"]
         raise argparse.ArgumentTypeError(f"{name} is no key of {explain.A_ROW[section]} that can be set{explain.meant(name, known)}")
-    if section != "node" and not afdx.NUMBER.fullmatch(who):
+    if section != "node" and not (afdx.NUMBER.fullmatch(who) and len(who) < 20):
         raise argparse.ArgumentTypeError(f"{who!r} is no number of {explain.A_ROW[section]}")
     values = texts.split(",")
     if key.value_type == "integer":

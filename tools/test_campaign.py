@@ -5,6 +5,7 @@ import io
 import json
 import os
 import pty
+import re
 import signal
 import subprocess
 import sys
@@ -457,6 +458,53 @@ class WithAStandIn(Here):
         self.assertEqual((run.returncode, run.stderr), (0, ""))
         for word in ("--seeds", "--jobs", "--offsets", "--limits", "examples:", "status:", "merged.csv"):
             self.assertIn(word, run.stdout)
+
+
+class ThePage(Here):
+    """The page of a campaign by its folder."""
+
+    def page(self, net):
+        page, said = os.path.join(self.folder, "page.html"), io.StringIO()
+        with contextlib.redirect_stderr(said):
+            status = report.main([net, self.output, "-o", page])
+        return status, said.getvalue(), page
+
+    def test_percentiles_of_histograms(self):
+        """Those of all frames of all runs, by the nearest rank, from the notes of the plain simulator."""
+        self.stand_in()
+        self.assertEqual(self.call(COCKPIT, "--seeds", "3", "--first", "7", "--histograms")[0], 0)
+        status, said, page = self.page(COCKPIT)
+        self.assertEqual((status, said), (0, ""))
+        ends = json.loads(re.search('<script type="application/json" id="data">(.*?)</script>', read(page))[1])["ends"]
+        values = {}
+        for seed in range(7, 10):
+            for vl, where, what, value in rows_of(COCKPIT, seed)[0]:
+                if what == "delivered":
+                    values.setdefault((vl, where), []).append(value)
+        rank = lambda found, percent: sorted(found)[-(-len(found) * percent // 100) - 1]
+        wanted = [[rank(values[key], percent) for percent in (50, 95, 99)] for key in zip(ends["vl"], ends["where"])]
+        self.assertEqual([list(it) for it in zip(ends["p50"], ends["p95"], ends["p99"])], wanted)
+        self.assertIn("Distribution of the latencies", read(page))
+        self.assertIn("greatest.csv", read(page))
+        # One that is not of these tables is refused.
+        path = os.path.join(self.output, "greatest.csv")
+        good = read(path)
+        row = good.splitlines()[1]
+        for text, told in (
+            (good.replace(row, row.replace(f",{wanted[0][0]},", ",1,", 1)), " line 2: is of another campaign than the merged tables beside it"),
+            (good.replace(row + "\n", ""), f": is of another campaign than {self.merged}"),
+            ("x\n", " line 1: the columns are not those of a campaign with --histograms: " + good.splitlines()[0]),
+        ):
+            with open(path, "w") as out:
+                out.write(text)
+            self.assertEqual(self.page(COCKPIT)[:2], (2, f"report.py: {path}{told}\n"))
+
+    def test_without_histograms(self):
+        self.stand_in()
+        self.assertEqual(self.call(N1, "--seeds", "2")[0], 0)
+        status, _, page = self.page(N1)
+        self.assertEqual(status, 0)
+        self.assertNotIn("Distribution of the latencies", read(page))
 
 
 if __name__ == "__main__":

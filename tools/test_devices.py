@@ -2,6 +2,7 @@
 crates/afdxsim/out/afdxsim, where `rt ci` leaves it, and a C compiler for the few lines of C that cut each write."""
 import os
 import re
+import shutil
 import subprocess
 import sys
 import tempfile
@@ -20,6 +21,15 @@ extern long syscall(long, ...);
 long write(int file, const void *bytes, unsigned long count) { return syscall(1, (long) file, bytes, count ? 1l : 0l); }
 
 long __write(int file, const void *bytes, unsigned long count) { return write(file, bytes, count); }
+"""
+
+# Two file systems in memory, in which the first file has the same number: a run reads the one and writes the other. 77 is told where
+# there cannot be such.
+TWO_DEVICES = """
+mount -t tmpfs none one && mount -t tmpfs none other || exit 77
+cp n1.toml one && : > other/trace.csv || exit 77
+[ "$(stat -c %i one/n1.toml)" = "$(stat -c %i other/trace.csv)" ] || exit 77
+"$0" seq one/n1.toml --trace other/trace.csv && cat other/trace.csv
 """
 
 # The words, a row each, then the status and what is told on error output; where the status is 0, the tables are on standard
@@ -132,6 +142,16 @@ class Devices(unittest.TestCase):
     def test_it_is_the_same_where_each_write_takes_one_byte(self):
         library = refuse_memory.library_in(self.folder, CUTS)
         self.are_told(os.environ | {"LD_PRELOAD": library})
+
+    @unittest.skipUnless(shutil.which("unshare"), "there is no unshare")
+    def test_files_with_one_number_on_two_devices_are_two(self):
+        for name in ("one", "other"):
+            os.mkdir(self.path(name))
+        words = ["unshare", "--map-root-user", "--mount", "sh", "-c", TWO_DEVICES, PROGRAM]
+        run = subprocess.run(words, cwd=self.folder, capture_output=True, text=True, timeout=60)
+        if run.returncode == 77 or run.stderr.startswith("unshare: "):
+            self.skipTest("no file system can be made here")
+        self.assertEqual((run.returncode, run.stdout, run.stderr), (0, TABLES + TRACE, ""))
 
     def test_standard_output_that_takes_nothing_is_told(self):
         for row, words, status, line in rows_of(NO_OUTPUT):

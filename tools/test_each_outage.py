@@ -225,6 +225,24 @@ class EachOutage(Here):
             with self.assertRaises(ValueError):
                 each_outage.least_later(word)
 
+    def test_later_on_the_page(self):
+        """Three outages make frames of virtual link 3 later by 400 ns, of 33,480."""
+        self.stand_in()
+        for words, late, told in (
+            ([], "3", "1 percent"), (["--later", "399"], "3", "399 ns"), (["--later", "400"], "0", "400 ns"),
+            (["--later", "1.1%"], "3", "1.1 percent"), (["--later", "2%"], "0", "2 percent"),
+        ):
+            with self.subTest(words):
+                status, out, _ = self.call(FAILING, "--each-outage", "--first", "1", *words)
+                self.assertEqual(status, 0)
+                page = Rows(read(os.path.join(self.output, "outages.html")))
+                text = "".join(page.all)
+                self.assertIn(f"{late}outages that make frames later", text)
+                self.assertIn(f"grows by more than {told};", text)
+                self.assertEqual(out.count(", 1 later"), int(late))
+                # The table has each that grows, whatever counts.
+                self.assertEqual(read(os.path.join(self.output, "outages.csv")).count(",33480,33880"), 3)
+
     def test_ranges(self):
         """Where it is known only from the least to the most how many are lost, so are the frames more."""
         three, five = Range(1, 3), each_outage.Range(2, 5)

@@ -23,6 +23,7 @@ HERE = os.path.dirname(os.path.abspath(__file__))
 sys.path.insert(0, HERE)
 
 import afdx  # noqa: E402
+import drawn  # noqa: E402
 import explain  # noqa: E402
 import toml_lines  # noqa: E402
 from row_files import changed, rows  # noqa: E402
@@ -174,9 +175,10 @@ class WithTheProgram(unittest.TestCase):
             for one in texts if name == "n1" else draw.sample(texts, 15):
                 self.assertEqual(told_by_explain(one), program.tells(one), one)
 
-    def test_mutated_texts(self):
-        _, differ = hold_mutated(150, 62)
-        self.assertEqual(differ, [])
+    @drawn.given(150)
+    def test_mutated_texts(self, draw):
+        text = mutated(draw.choice(list(examples().values())), draw)
+        self.assertEqual(told_by_explain(text), Program().tells(text), text)
 
 
 class Rows(unittest.TestCase):
@@ -193,21 +195,17 @@ class Reader(unittest.TestCase):
     """toml_lines.py. Which texts it refuses is held against the program; what they say, against Python's reader, which
     reads TOML 1.0."""
 
-    def test_what_texts_say(self):
-        draw, texts = random.Random(5), list(examples().values())
-        compared = 0
-        for _ in range(400):
-            text = mutated(draw.choice(texts), draw)
-            try:
-                wanted = tomllib.loads(text)
-            except (tomllib.TOMLDecodeError, ValueError):
-                continue
-            try:
-                self.assertEqual(repr_of(toml_lines.read(text)), repr_of(wanted), text)
-            except toml_lines.BadToml as fault:
-                self.assertRegex(str(fault), "64 signed bits|greater than any number", text)
-            compared += 1
-        self.assertGreater(compared, 200)
+    @drawn.given(400)
+    def test_what_texts_say(self, draw):
+        text = mutated(draw.choice(list(examples().values())), draw)
+        try:
+            wanted = tomllib.loads(text)
+        except (tomllib.TOMLDecodeError, ValueError):
+            return
+        try:
+            self.assertEqual(repr_of(toml_lines.read(text)), repr_of(wanted), text)
+        except toml_lines.BadToml as fault:
+            self.assertRegex(str(fault), "64 signed bits|greater than any number", text)
 
     def test_toml_1_1(self):
         """What TOML 1.1 has and TOML 1.0 has not."""

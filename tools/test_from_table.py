@@ -196,6 +196,8 @@ class OfTables(Here):
             (good.replace("8,100", "10,100"), ["line 12: virtual link 1, bag_ms is 10, and must be 1, 2, 4, 8, 16, 32, 64 or 128. The next below 10 is 8"]),
             (good.replace("8,100", "8,2000"), ["line 12: virtual link 1, smax is 2000, and must be a whole number from 64 to 1518", "line 12: virtual link 1, size is 2000, and must be a whole number from 64 to 1518"]),
             (good.replace("8,100", "8,many"), ["line 12: smax is 'many', and no whole number"]),
+            (good.replace("8,100", "8," + "1" * 5000), [f"line 12: smax is '{'1' * 30}'.. of 5,000 characters, and no whole number of at most 30 digits"]),
+            (good.replace("8,100", "1" * 5000 + ",100"), [f"line 12: bag_ms is '{'1' * 30}'.. of 5,000 characters, and no whole number of at most 30 digits"]),
             (good.replace("8,100", "8,"), ["line 12: has neither smax nor size nor payload"]),
             (good.replace("8,100", ",100"), ["line 12: has neither bag_ms nor period_ns"]),
             (good.replace("bag_ms", "bag_msec"), ["note: table0.csv line 11: the column bag_msec is passed over; bag_ms?", "line 12: has neither bag_ms nor period_ns"]),

@@ -57,7 +57,7 @@ class Files(unittest.TestCase):
             (text[:-1], "line 9: the line feed at the end is missing, so the file is not whole"),
             (text + delay, "line 10: says again what line 5 says"),
             (text.replace(delay, delay.replace("delay", "delays")), "line 5: 'delays' is nothing that is measured"),
-            (text.replace(delay, delay.replace(",1,5760", ",1,-5760")), "line 5: '-5760' is no whole number"),
+            (text.replace(delay, delay.replace(",1,5760", ",1,-5760")), "line 5: least is '-5760', and no whole number"),
             (text.replace(delay, delay.replace("ES1>SW1", "ES2>SW1")), f"line 5: 'ES2>SW1' is no place of virtual link 1 in {tables.net.path} where delay is measured"),
             (text.replace(delay, delay.replace("5760\n", "5761\n")), "line 5: 1 times from 5760 to 5760 cannot have the sum 5761"),
             (text.replace(delay, "delay,1,ES1\n"), "line 5: has 3 fields in place of 7"),

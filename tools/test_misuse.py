@@ -135,6 +135,9 @@ ROWS = [
     ("campaign net.toml --set vl.1.depth=1,2 -o LINKED", 2, "LINKED/merged.csv: " + READ.format("net.toml")),
     ("campaign net.toml --aim 1 -o LINKED", 2, "LINKED/merged.csv: " + READ.format("net.toml")),
     ("campaign net.toml --aim 2 -o DIR", 2, "net.toml line 30: --aim 2: there is no such virtual link"),
+    ("report net.toml tables.csv --hops huge_hops.csv -o new.html", 2, "huge_hops.csv line 2: count has 5,000 digits, and may have 100"),
+    ("report net.toml tables.csv --hops huge_vl.csv -o new.html", 2, "huge_vl.csv line 2: the virtual link has 5,000 digits, and may have 100"),
+    ("bounds long.toml -o new.csv", 2, "long.toml line 20: link 1 a names " + "x" * 60 + ".. of 5,000 characters, which is no node"),
     ("from_table broken.xlsx -o new.toml", 2, "broken.xlsx: is no workbook that can be read: BadZipFile: File is not a zip file"),
 ]
 
@@ -186,6 +189,9 @@ class Rows(unittest.TestCase):
         huge = "1" * 5000
         texts["huge.csv"] = head + f"latency,1,ES2,,{huge},1,1,1\n"
         texts["huge_trace.csv"] = f"time_ns,where,vl,what,value\n{huge},ES2,1,delivered,1\n"
+        hops = "kind,vl,where,count,least,greatest,sum\ndelay,{},ES1>SW1,{},1,1,1\n"
+        texts |= {"huge_hops.csv": hops.format(1, huge), "huge_vl.csv": hops.format(huge, 1)}
+        texts["long.toml"] = net.replace('a = "ES1"', f'a = "{"x" * 5000}"')
         texts["huge_limits.csv"] = f"1,ES2,{huge}\n"
         texts["empty_limits.csv"] = "# none\n"
         texts["huge.toml"] = f"until_ns = {huge}\nseed = 1\n"
@@ -311,7 +317,9 @@ class Ends(Rows):
         before = tree_of(self.folder)
         for words in (
             "report pipe tables.csv -o page.html", "report net.toml pipe -o page.html", "bounds pipe -o bounds.csv", "explain pipe",
-            "from_table pipe -o net.csv", "second_opinion pipe --trace trace.csv", "make_journal pipe",
+            "from_table pipe -o net.csv", "second_opinion pipe --trace trace.csv", "make_journal pipe", "long_form net.toml pipe -o long.json",
+            "pcap net.toml pipe -o net.pcapng", "report net.toml tables.csv --trace pipe -o page.html",
+            "campaign net.toml --each-outage --limits pipe -o DIR --program ./afdxsim",
             "campaign pipe --seeds 3 -o DIR --program afdxsim",
         ):
             for number, status, said in (
@@ -360,13 +368,16 @@ class Ends(Rows):
         with open(self.path("large"), "w") as out:
             out.truncate(600_000_000)
         little = lambda: resource.setrlimit(resource.RLIMIT_AS, (400_000_000, 400_000_000))
-        for words in ("report large tables.csv -o page.html", "bounds large", "explain large", "from_table large"):
+        for words in ("report large tables.csv -o page.html", "bounds large", "explain large", "from_table large", "report net.toml tables.csv --trace large -o page.html"):
             run = self.started(*words.split(), preexec_fn=little)
             self.assertEqual((*run.communicate(timeout=60), run.returncode), ("", f"{words.split()[0]}.py: out of memory\n", 2))
 
     def test_a_closed_pipe(self):
         """What comes behind `head` is told in one line."""
-        for words in ("bounds net.toml", "explain net.toml", "second_opinion net.toml", "make_journal net.toml", "from_table --back net.toml"):
+        for words in (
+            "bounds net.toml", "explain net.toml", "second_opinion net.toml", "make_journal net.toml", "from_table --back net.toml",
+            "long_form net.toml tables.csv", "report net.toml tables.csv --limits limits.csv -o /dev/null", "bounds net.toml --limits limits.csv",
+        ):
             read, write = os.pipe()
             os.close(read)
             tool, *rest = words.split()
@@ -376,6 +387,16 @@ class Ends(Rows):
             os.close(write)
             said = f"{tool}.py: standard output: cannot be written: Broken pipe\n"
             self.assertEqual((run.returncode, run.stderr.decode()), (2, said))
+
+
+    def test_a_campaign_whose_output_is_closed(self):
+        """What its runs brought is kept."""
+        for words, name in (("--seeds 2", "merged.csv"), ("--each-outage", "outages.csv"), ("--set vl.1.depth=1,2", "sweep.csv"), ("--aim 1", "aim.csv")):
+            with self.subTest(words):
+                found = self.call(f"campaign net.toml {words} -o NEW >> /dev/full")
+                self.assertEqual(found, (2, "", "campaign.py: standard output: cannot be written: No space left on device\n"))
+                self.assertTrue(os.path.getsize(self.path(f"NEW/{name}")) > 20)
+                shutil.rmtree(self.path("NEW"))
 
 
 class Writer(unittest.TestCase):

@@ -202,6 +202,13 @@ class Words(Here):
                 self.assertEqual(self.call(path, self.trace, "-o", self.output), (2, "", f"pcap.py: {self.trace} {said}\n"))
                 self.assertEqual(os.listdir(self.folder), ["trace.csv"])
 
+    def test_a_name_that_is_no_utf_8(self):
+        path = os.path.join(self.folder, os.fsdecode(b"net\xff.toml"))
+        shutil.copy(self.traced("n1"), path)
+        self.assertEqual(self.call(path, self.trace, "-o", self.output), (0, "", ""))
+        with open(self.output, "rb") as file:
+            self.assertIn(b"a run of net\\xff.toml", file.read())
+
     def test_files(self):
         path = self.traced("n1")
         none = os.path.join(self.folder, "none")

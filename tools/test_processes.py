@@ -225,11 +225,12 @@ def drawn(random):
 
 
 def written():
-    """The scripts of src/tests.rt, but those with words for the player alone, and what they tell where no memory is refused."""
+    """The scripts of src/tests.rt, but those with words for the player alone and those of groups (`test_hands.py`), and what they tell where no
+    memory is refused."""
     with open(os.path.join(os.path.dirname(PLAYER), "..", "src", "tests.rt"), encoding="utf-8") as file:
         text = file.read().split('const SCRIPTS: &str = "')[1].split('";')[0]
     for script, _, told in (line.partition(" => ") for line in text.splitlines()):
-        if told and not script.startswith(("alone", "back")):
+        if told and not script.startswith(("alone", "back", "hand")):
             yield script.replace("arrive?", "arrive"), told.split(" | ")[0]
 
 

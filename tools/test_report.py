@@ -22,6 +22,7 @@ sys.path.insert(0, HERE)
 
 import afdx  # noqa: E402
 import campaign  # noqa: E402
+import drawn  # noqa: E402
 import report  # noqa: E402
 from drawing import Drawing  # noqa: E402
 from frames import Ends, drawn_offsets  # noqa: E402
@@ -132,10 +133,9 @@ def trial(path):
     return large_network(path, *words, outages=OUTAGE.format("A1", "A2", 50_000_000, 150_000_000))
 
 
-def drawn_network(seed):
+def drawn_network(draw):
     """The text of a small network in which much goes wrong: outages, small ports, slow lines, too many offers, short
     skews, sub-virtual links."""
-    draw = random.Random(seed)
     nodes = [f'{{ name = "E{i}", kind = "es", port_bytes = {draw.choice([1518, 4000])} }}' for i in range(5)]
     links = []
     for side in draw.choice(["A", "AB", "AB"]):
@@ -144,7 +144,7 @@ def drawn_network(seed):
             nodes.append(f'{{ name = "{side}{i}", kind = "switch", port_bytes = {draw.choice([1518, 9000])}, {net} }}')
         links += [(f"{side}1", f"{side}2")] + [(f"E{i}", f"{side}{i % 2 + 1}") for i in range(5)]
     sides = sorted({name[0] for pair in links for name in pair} - {"E"})
-    text = [f"until_ns = {draw.choice([2, 5, 9]) * 10**6}", f"seed = {seed}", "node = [", ",\n".join(nodes), "]"]
+    text = [f"until_ns = {draw.choice([2, 5, 9]) * 10**6}", f"seed = {draw.randrange(1000)}", "node = [", ",\n".join(nodes), "]"]
     for a, b in links:
         mbit, propagation = draw.choice([10, 100, 100]), draw.choice([50, 100, 20_000])
         text.append(f'[[link]]\na = "{a}"\nb = "{b}"\nmbit = {mbit}\npropagation_ns = {propagation}')
@@ -301,14 +301,14 @@ class Browser:
                 late = fault
         raise late
 
-    def open(self, path, script, address=""):
-        """The page as the browser has it once it is loaded, at an address of it, and a script has run, with the
-        processor seconds it took."""
+    def open(self, path, script, address="", wide=800):
+        """The page as the browser has it once it is loaded, at an address of it, in a window that is so wide, and a script has
+        run, with the processor seconds it took."""
         tried = os.path.join(self.folder, "tried.html")
         with open(tried, "w", encoding="utf-8") as out:
             out.write(read(path) + f'<script>addEventListener("load", () => {{{script}}})</script>')
         before = resource.getrusage(resource.RUSAGE_CHILDREN)
-        run = self.run("--dump-dom", "file://" + tried + address)
+        run = self.run(f"--window-size={wide},600", "--dump-dom", "file://" + tried + address)
         after = resource.getrusage(resource.RUSAGE_CHILDREN)
         page = Page(run.stdout.decode("utf-8"))
         page.seconds = after.ru_utime - before.ru_utime + after.ru_stime - before.ru_stime
@@ -531,6 +531,15 @@ class InTheBrowser(unittest.TestCase):
         page = self.browser.open(self.page, UNFOLD)
         self.assertEqual(len(page.rows("latencies")), count)
         self.compare_large(page, found, tables, rows, run.ends(net))
+        self.each_row_is_printed(count)
+
+    def each_row_is_printed(self, count):
+        """All latencies are printed where they are asked for, and that comes to an end: on a hundred sheets and more."""
+        before = resource.getrusage(resource.RUSAGE_CHILDREN)
+        sheets = self.browser.printed(self.page, 'document.querySelector("#grid-latencies .all").click();')
+        after = resource.getrusage(resource.RUSAGE_CHILDREN)
+        self.assertGreater(len(sheets), count / 40)
+        self.assertLess(after.ru_utime - before.ru_utime + after.ru_stime - before.ru_stime, 60)
 
     def compare_large(self, page, net, tables, rows, ends):
         """A run of 20 ms brings nothing to many destinations, and that is not told as good."""
@@ -853,6 +862,31 @@ class InTheBrowser(unittest.TestCase):
         self.assertLess(max(strokes[1:]), strokes[0])
         self.assertGreater(len(whole), len(short))
 
+    def test_marks_of_an_axis_do_not_touch_each_other(self):
+        """From 1 us to 10^15 ns, in windows and in print; at each step of which one is written there is one."""
+        path, tables = example("cockpit")
+        limits = os.path.join(self.folder, "limits.csv")
+        script = """
+            if (%s)
+              for (const sheet of document.styleSheets) for (const rule of [...sheet.cssRules].filter(it => it.media))
+                rule.media.mediaText = /print/.test(rule.media.mediaText) ? "all" : "not all";
+            const shown = [...document.querySelectorAll("#latencies .axis i")].filter(it => it.getClientRects().length);
+            const boxes = shown.map(it => it.getBoundingClientRect());
+            const told = document.documentElement.dataset;
+            told.marks = shown.map(it => it.textContent).join();
+            told.touch = boxes.slice(1).filter((box, i) => box.left < boxes[i].right + 2).length;
+            told.out = boxes.filter(it => it.right > shown[0].parentElement.getBoundingClientRect().right + 1).length;
+        """
+        for ns in (10**6, 10**9, 10**12, 10**15):
+            with open(limits, "w", encoding="ascii") as out:
+                out.write(f"101,DU_R,{ns}\n")
+            self.made(path, tables, "--limits", limits)
+            for wide, prints in ((1600, False), (1000, False), (500, False), (1047, True)):
+                with self.subTest(ns=ns, wide=wide, prints=prints):
+                    words = self.browser.open(self.page, script % str(prints).lower(), wide=wide).words
+                    self.assertGreaterEqual(len(words["data-marks"].split(",")), 2)
+                    self.assertEqual((words["data-touch"], words["data-out"]), ("0", "0"), words["data-marks"])
+
     def test_names_are_escaped(self):
         name = "<img src=x onerror=document.title=1>&'\""
         net = os.path.join(self.folder, "<b>net&.toml")
@@ -911,34 +945,38 @@ class WithoutABrowser(unittest.TestCase):
             [two_places(Fraction(it)) for it in ("0.005", "0.0049", "128.54")], ["0.01", "0.00", "128.54"]
         )
 
-    def test_ends_of_drawn_networks(self):
-        """What is said of each destination holds of the frames that a run followed; with the trace little is open."""
-        open_counts, cases = {True: 0, False: 0}, Counter()
+    def hold_ends(self, text, cases):
+        """Holds what is said of each destination of a network against the frames that a run followed."""
+        net = report.Network(self.file("net.toml", text))
+        _, tables, trace, run = simulated(tomllib.loads(text), self.folder)
+        tables, followed = report.Tables(tables, net), run.ends(net)
+        for trace in (None, report.Trace(trace, tables)):
+            found = Ends(tables, [net.seed], trace=trace).of
+            for key, (offered, under_way, missing, lost) in followed.items():
+                end = found[key]
+                self.assertEqual(end.offered, offered)
+                again = sum(max(0, run.came[(*key, moment)] - 1) for moment, _ in run.released.get(key[0], []))
+                told = [(end.missing, missing), (end.under_way, under_way), (end.again, again)]
+                told += [(end.lost[side], count) for side, count in lost.items()]
+                for (least, most), count in told:
+                    self.assertLessEqual(least, count)
+                    self.assertLessEqual(count, most)
+                self.assertEqual(bool(end.why), end.missing.least < end.missing.most)
+                cases["open with a trace" if trace else "open"] += bool(end.why)
+                cases["all"] += 1
+                cases.update(name for name, count in (("missing", missing), ("under way", under_way), ("again", again)) if count)
+
+    @drawn.given(60)
+    def test_ends_of_drawn_networks(self, draw):
+        """Whatever goes wrong in a network."""
+        self.hold_ends(drawn_network(draw), Counter())
+
+    def test_little_is_open_with_a_trace(self):
+        cases = Counter()
         for seed in range(60):
-            text = drawn_network(seed)
-            net = report.Network(self.file("net.toml", text))
-            _, tables, trace, run = simulated(tomllib.loads(text), self.folder)
-            tables = report.Tables(tables, net)
-            for trace in (None, report.Trace(trace, tables)):
-                found = Ends(tables, [seed], trace=trace).of
-                for key, (offered, under_way, missing, lost) in run.ends(net).items():
-                    with self.subTest(seed=seed, key=key, trace=bool(trace)):
-                        end = found[key]
-                        self.assertEqual(end.offered, offered)
-                        told = [(end.missing, missing), (end.under_way, under_way)]
-                        told += [(end.lost[side], count) for side, count in lost.items()]
-                        for (least, most), count in told:
-                            self.assertLessEqual(least, count)
-                            self.assertLessEqual(count, most)
-                        again = sum(max(0, run.came[(*key, moment)] - 1) for moment, _ in run.released.get(key[0], []))
-                        self.assertLessEqual(end.again.least, again)
-                        self.assertLessEqual(again, end.again.most)
-                        open_counts[bool(trace)] += end.missing.least < end.missing.most
-                        cases["all"] += 1
-                        cases.update(name for name, count in (("missing", missing), ("under way", under_way)) if count)
-                        cases["again"] += again > 0
-        self.assertLess(open_counts[True], open_counts[False])
-        self.assertLess(open_counts[True], cases["all"] / 10)
+            self.hold_ends(drawn_network(random.Random(seed)), cases)
+        self.assertLess(cases["open with a trace"], cases["open"])
+        self.assertLess(cases["open with a trace"], cases["all"] / 10)
         self.assertGreater(min(cases.values()), 10)
 
     def test_ends_of_merged_tables(self):

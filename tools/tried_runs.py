@@ -1,7 +1,9 @@
 """Runs of a campaign by the program of these sources without a proof: `rt try` builds it once, and runs it for each."""
+import tempfile
+
 import by_rt
 from program import NoProgram
-from runs import Failure, Printed, failure_of
+from runs import Failure, failure_of, printed_by
 
 
 class Tried:
@@ -25,5 +27,5 @@ class Tried:
                 raise Failure(f"{run.name}: `rt try` gave no answer: it passes on at most 1 MiB; `afdx build` builds the proved program")
             if status != 0:
                 raise Failure(f"{run.name}: {failure_of(status, said)}")
-            trace = said.decode("utf-8", "replace") if self.is_traced else None
-            yield run, Printed(printed.decode("utf-8", "replace"), trace)
+            with tempfile.TemporaryDirectory() as folder:
+                yield run, printed_by(printed, said.decode("utf-8", "replace") if self.is_traced else None, folder)

@@ -82,6 +82,7 @@ const LOOKS = {
   vl: {number: true, show: value => toVl(value)},
   line: {show: value => toLine(value)},
   text: {show: esc},
+  words: {show: esc, more: "wrap"},
   text_number: {number: true, show: String},
   count: {number: true, show: whole},
   range_of_counts: {number: true, show: counts},
@@ -245,9 +246,14 @@ class Grid {
   }
 }
 
+// Of the marks of an axis so many are written that they do not touch each other where the column is narrowest.
+const MOST_MARKS = {screen: 4, print: 2};
 const axis = () => {
-  const ticks = Array.from({length: data.high - data.low + 1}, (_, i) =>
-    `<i style="left:${(100 * i / (data.high - data.low)).toFixed(2)}%">${span(10 ** (data.low + i))}</i>`);
+  const count = data.high - data.low;
+  const looks = i => [...Object.keys(MOST_MARKS).filter(look => i % Math.ceil(count / MOST_MARKS[look]) === 0),
+    ...(i > 0.85 * count ? ["end"] : [])].join(" ");
+  const ticks = Array.from({length: count + 1}, (_, i) =>
+    `<i class="${looks(i)}" style="left:${(100 * i / count).toFixed(2)}%">${span(10 ** (data.low + i))}</i>`);
   return `<span class="axis">${ticks.join("")}</span>`;
 };
 
