@@ -1,5 +1,5 @@
 //! What is asked of a run beside its trace: its tables, and its steps where they are wanted. No row is listed for it.
-ghost use Rattle.std.specs.Prelude.{◌≡◌, ◌⊎◌, List, length, IfOk, IfErr};
+ghost use Rattle.std.specs.Prelude.{◌≡◌, ◌⊎◌, List, length, Err, IfOk, IfErr, IfSome, IfNone};
 ghost use Rattle.vlink.specs.Letters.{Row};
 ghost use Rattle.netdesc.specs.Words.{process_count};
 ghost use Rattle.journal.specs.declared.fault.PoolFault.TheVariants.{OutOfMemory, Exhausted, Spawn, Torn};
@@ -34,6 +34,7 @@ pub struct Summary {
 
 impl<J: NetworkRun> Unlocked<J> {
     /// The tables of an ended run, of which so much is counted, and its steps where they are asked for. `Torn`: rows have left that nobody counted.
+    /// Where a growth was refused while rows were counted, that is told first.
     pub(crate) fn summary(
         &self,
         alloc: Global,
@@ -47,11 +48,15 @@ impl<J: NetworkRun> Unlocked<J> {
         ensures tables { IfOk result (λ s. (rows : List Row) × AreRowsOf J.plan rows × (s.tables ≡ tables_of J.plan rows)) }
         ensures each { IfOk result (λ s. (rows : List Row) → AreRowsOf J.plan rows → s.tables ≡ tables_of J.plan rows) }
         ensures journal { IfOk result (λ s. IsJournalAsked J.plan with_steps s.journal.items) }
+        ensures refused { IfSome counted (λ c. IfNone c.tables (result ≡ Err OutOfMemory)) }
         ensures faults { IfErr result (λ fault. (fault ≡ OutOfMemory) ⊎ (fault ≡ Torn)) }
     {
         let Some(counted) = counted else {
             return Err(PoolFault::Torn);
         };
+        if counted.tables.is_none() {
+            return Err(PoolFault::OutOfMemory);
+        }
         if !self.have_gone_by(counted.own.as_slice(), counted.end) {
             return Err(PoolFault::Torn);
         }
