@@ -89,10 +89,11 @@ greatest latency in ns that it may have. Lines that are empty or begin with # ar
 
 status:
   0  each run was made and merged, and no limit is broken
-  1  a limit is broken, or with --aim a bound; or a run failed. The first one that fails is named with its message and ends the campaign. The
-     runs of all seeds before it are in DIR/merged.csv
+  1  a limit is broken, or with --aim a bound; or a run failed. The first one that fails is named with its message and ends
+     the campaign. The runs of all seeds before it are in DIR/merged.csv
   2  a word is wrong, a file cannot be read or written, or it is not what it has to be: one line on error output names
-     the file and the line, and nothing is written
+     the file and the line. What was merged before a disk was full or memory refused is kept
+  130, 143  interrupted, or ended by SIGTERM: what was made before is merged and kept
 """
 
 # The names of the files that it writes.
@@ -324,7 +325,7 @@ def words_of(arguments=None):
     )
     add("--json", action="store_true", help="writes the tables of DIR in long form too: DIR/merged.json, sweep.json, ..")
     jobs = len(os.sched_getaffinity(0)) if hasattr(os, "sched_getaffinity") else os.cpu_count() or 1
-    add("--jobs", type=whole(1, 1024), default=jobs, metavar="N", help=f"runs side by side (default here: {jobs})")
+    add("--jobs", type=whole(1, 1024), default=jobs, metavar="N", help=f"runs side by side, and as many processes that read them (default here: {jobs})")
     add("--offsets", action="store_true", help="draw the offset of each virtual link within its period, for each run")
     add("--limits", metavar="FILE", help="limits of latencies, lines VL,NAME,NS")
     add("--histograms", action="store_true", help="count each latency: DIR/histograms.csv, percentiles in DIR/greatest.csv")
