@@ -239,14 +239,15 @@ class Campaign:
         return (runs.Run(f"seed {seed}", self.net.with_seed(seed, self.draws_offsets)) for seed in self.seeds)
 
     def take(self, told):
-        """Takes what a run says, and answers its seed."""
-        seed = self.seeds[self.done]
-        self.merged.add(seed, told)
-        for key, greatest in zip(self.merged.latencies, told.greatest) if self.limits else ():
-            if key in self.limits and greatest > self.limits[key].ns:
-                self.broken[key] = self.broken.get(key, 0) + 1
-        self.done += 1
-        return seed
+        """Takes what a run says, whole whatever signal comes, and answers its seed."""
+        with files.signals_held():
+            seed = self.seeds[self.done]
+            self.merged.add(seed, told)
+            for key, greatest in zip(self.merged.latencies, told.greatest) if self.limits else ():
+                if key in self.limits and greatest > self.limits[key].ns:
+                    self.broken[key] = self.broken.get(key, 0) + 1
+            self.done += 1
+            return seed
 
     def run(self, maker, keep, jobs):
         """Has the runs made and takes what they say, seed by seed. The first one in this order that fails ends it. `keep` is
@@ -264,7 +265,8 @@ class Campaign:
                 self.status, self.failure = 1, str(failure)
             except files.ENDS as ended:
                 self.status, said = files.why(ended)
-                self.failure = f"{said}, before the run of the seed {self.seeds[self.done]} was merged"
+                rest = self.seeds[self.done :]
+                self.failure = f"{said}, before the run of the seed {rest[0]} was merged" if rest else f"{said}, behind the last run"
             finally:
                 progress.end()
 

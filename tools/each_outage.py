@@ -152,7 +152,7 @@ class EachOutage:
                 self.status, self.failure = 1, str(failure)
             except files.ENDS as ended:
                 self.status, said = files.why(ended)
-                self.failure = f"{said}, before run {self.done + 1} of {self.count()} was taken"
+                self.failure = f"{said}, after {self.done} of {self.count()} runs"
             finally:
                 progress.end()
         # What was not run for all seeds cannot be compared.
