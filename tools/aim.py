@@ -6,13 +6,15 @@ aimed one; those of several lines come to their ends together. Ports are taken i
 the frame at one port says when it comes to the next. Then some offsets are moved here and there, and what makes the
 frame later is kept. Other offsets may make it later still: what is found is reached, and no bound.
 """
-import contextlib
 import random
 from collections import namedtuple
+from itertools import repeat
 
 import afdx
 import bounds
 import files
+import one_run
+import reckoning
 import runs
 import second_opinion
 from files import Fault
@@ -180,8 +182,8 @@ class AimedRuns:
     """The runs of a campaign that aims at virtual links, and what came of them: one for each of their destinations, each
     network and each seed, beside that of the description with this seed."""
 
-    def __init__(self, net, vls, seeds, tables_of, moves=MOVES):
-        self.net, self.seeds, self.tables_of = net, seeds, tables_of
+    def __init__(self, net, vls, seeds, moves=MOVES):
+        self.net, self.seeds = net, seeds
         self.bounds = bounds.Bounds(net)
         self.courses = []
         for vl in vls:
@@ -214,20 +216,20 @@ class AimedRuns:
                     raise Fault(self.net.path, self.net.description.line("top", None, "until_ns"), text)
                 yield runs.Run(f"aimed at {aim.name()}, seed {seed}", self.net.with_offsets(seed, offsets))
 
-    def run(self, maker, keep, progress):
-        """Has all runs made, and takes what they print. The first one that fails ends it."""
+    def run(self, maker, keep, progress, jobs):
+        """Has all runs made, and takes what they say. The first one that fails ends it."""
         progress.listen(maker)
-        plain = None
-        with contextlib.closing(maker.results(self.runs())) as results:
+        plain, keys = None, one_run.keys_of(self.net)
+        reader, jobs = one_run.Reader([self.net]), min(jobs, self.count())
+        with reckoning.beside(reader, maker, self.runs(), repeat(0), jobs) as results:
             try:
-                for seed, course in self.plan():
-                    run, printed = next(results)
-                    tables = self.tables_of(self.net, run, printed.tables)
+                for (seed, course), (_, run, printed, told) in zip(self.plan(), results):
+                    greatest = dict(zip(keys, told.greatest))
                     if course is None:
-                        plain, name = tables, f"seed-{seed}"
+                        plain, name = greatest, f"seed-{seed}"
                     else:
                         name = f"aimed-{1 + self.courses.index(course)}-seed-{seed}"
-                        self.lines.append(self.line(seed, *course, plain, tables))
+                        self.lines.append(self.line(seed, *course, plain, greatest))
                     keep(name, run.text, printed.tables)
                     self.done += 1
                     progress.tell(self.done, None)
@@ -241,12 +243,12 @@ class AimedRuns:
             finally:
                 progress.end()
 
-    def line(self, seed, aim, frame, plain, tables):
-        """What a line of the table has."""
+    def line(self, seed, aim, frame, plain, aimed):
+        """What a line of the table has, by the greatest latencies of two runs."""
         key = aim.vl.id, aim.where
         bound, _ = self.bounds.latencies[key]
         way = self.bounds.by_network[key][aim.side].longest
-        reached = [plain.latencies[key].greatest, tables.latencies[key].greatest, frame]
+        reached = [plain[key], aimed[key], frame]
         return Line(*key, aim.side, seed, *reached, way, bound, self.bounds.links[aim.vl.id].wait)
 
     def above(self):

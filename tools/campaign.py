@@ -26,7 +26,6 @@ With --dask the runs are made by the workers of a Dask cluster, on several machi
 With a file of limits, each run is held against them, and the status is 1 where a run breaks one.
 """
 import argparse
-import contextlib
 import os
 import random
 import re
@@ -35,9 +34,7 @@ import sys
 import tempfile
 import threading
 import time
-from collections import Counter
-from fractions import Fraction
-from math import floor
+from itertools import repeat
 
 import afdx
 import aim
@@ -47,16 +44,17 @@ import each_outage
 import explain
 import files
 import long_form
+import one_run
+import reckoning
 import record
 import runs
 import sweep
 import tried_runs
-from afdx import CAUSES, GREATEST_SEED, PROGRAM, TABLES_HEAD, whole
+from afdx import GREATEST_SEED, PROGRAM, whole
 from files import Fault, text_of, write_whole
 from limits import limits_of
-from record import COUNTED_HEAD, GREATEST_HEAD, PERCENTS
+from merged import Merged
 from runs import Failure
-from traces import Trace
 
 EXAMPLES = """
 examples:
@@ -91,10 +89,11 @@ greatest latency in ns that it may have. Lines that are empty or begin with # ar
 
 status:
   0  each run was made and merged, and no limit is broken
-  1  a limit is broken, or with --aim a bound; or a run failed. The first one that fails is named with its message and ends the campaign. The
-     runs of all seeds before it are in DIR/merged.csv
+  1  a limit is broken, or with --aim a bound; or a run failed. The first one that fails is named with its message and ends
+     the campaign. The runs of all seeds before it are in DIR/merged.csv
   2  a word is wrong, a file cannot be read or written, or it is not what it has to be: one line on error output names
-     the file and the line, and nothing is written
+     the file and the line. What was merged before a disk was full or memory refused is kept
+  130, 143  interrupted, or ended by SIGTERM: what was made before is merged and kept
 """
 
 # The names of the files that it writes.
@@ -178,134 +177,6 @@ class Changed(Network):
         self.write(self.description.tree)
 
 
-# ---- tables ----
-
-
-def tables_of(net, run, text):
-    """The tables that a run printed."""
-    lines = text.split("\n")
-    if lines.pop() or not lines or lines[0] != TABLES_HEAD:
-        raise Failure(f"{run.name}: what it printed are no whole tables")
-    try:
-        return afdx.Tables("what it printed", net, text)
-    except Fault as fault:
-        raise Failure(f"{run.name}: {fault}") from None
-
-
-def trace_of(tables, run, path):
-    """The trace that a run wrote."""
-    try:
-        return Trace(path, tables)
-    except Fault as fault:
-        raise Failure(f"{run.name}: {Fault('what it traced', fault.line, fault.text)}") from None
-
-
-class OverSeeds:
-    """What a virtual link at a destination had in the runs together: of those in which a frame was delivered, how many
-    they were, and the least and the sum of their greatest latencies; and how often there was each latency."""
-
-    def __init__(self):
-        self.runs, self.least, self.total, self.counts = 0, 0, 0, Counter()
-
-    def add(self, greatest):
-        self.least = greatest if self.runs == 0 else min(self.least, greatest)
-        self.runs, self.total = self.runs + 1, self.total + greatest
-
-    def mean(self):
-        """The mean of the greatest latencies, to the nearest ns."""
-        return floor(Fraction(self.total, self.runs) + Fraction(1, 2))
-
-    def percentiles(self):
-        """For each of PERCENTS the least latency that so many percent of the frames do not exceed."""
-        ranks, found, passed = [-(-self.counts.total() * percent // 100) for percent in PERCENTS], [], 0
-        for latency in sorted(self.counts):
-            passed += self.counts[latency]
-            while len(found) < len(ranks) and ranks[len(found)] <= passed:
-                found.append(latency)
-        return found
-
-
-class Merged:
-    """The tables of several runs together."""
-
-    def __init__(self, net):
-        self.net = net
-        # For each virtual link and destination: count, least, greatest, sum, and the seed of the greatest.
-        self.latencies = {}
-        self.over_seeds = {}
-        # For each virtual link, place and cause: count, the greatest count of one run, and its seed.
-        self.losses = {}
-
-    def add(self, seed, tables, trace=None):
-        """Adds the tables of the run of a later seed, and its latencies one by one where there is a trace."""
-        for key, row in tables.latencies.items():
-            mine = self.latencies.setdefault(key, [0, 0, 0, 0, None])
-            over = self.over_seeds.setdefault(key, OverSeeds())
-            if row.count == 0:
-                continue
-            over.add(row.greatest)
-            over.counts.update(trace.rising(key) if trace else ())
-            if mine[0] == 0 or row.greatest > mine[2]:
-                mine[2], mine[4] = row.greatest, seed
-            mine[1] = row.least if mine[0] == 0 else min(mine[1], row.least)
-            mine[0] += row.count
-            mine[3] += row.total
-        for key, row in tables.losses.items():
-            mine = self.losses.setdefault(key, [0, 0, None])
-            mine[0] += row.count
-            if row.count > mine[1]:
-                mine[1], mine[2] = row.count, seed
-
-    def in_order(self, found):
-        """Virtual links and destinations in the order of the tables."""
-        return sorted(found, key=lambda it: (it[0], self.net.process[it[1]]))
-
-    def greatest_text(self, has_counts):
-        """Of the greatest latencies of the runs the least, the mean and the greatest; and the percentiles of all frames,
-        where each is counted."""
-        lines = [COUNTED_HEAD if has_counts else GREATEST_HEAD]
-        for vl, where in self.in_order(self.over_seeds):
-            over, (_, _, greatest, _, seed) = self.over_seeds[vl, where], self.latencies[vl, where]
-            numbers = [over.runs, over.least, over.mean(), greatest, over.total] if over.runs else [0] * 5
-            numbers += [] if seed is None else [seed]
-            numbers += [""] * (len(GREATEST_HEAD.split(",")) - 2 - len(numbers))
-            numbers += (over.percentiles() or [""] * len(PERCENTS)) if has_counts else []
-            lines.append(f"{vl},{where},{','.join(map(str, numbers))}")
-        return "\n".join(lines) + "\n"
-
-    def histograms_text(self):
-        """How often there was each latency."""
-        lines = ["vl,where,latency_ns,count"]
-        for vl, where in self.in_order(self.over_seeds):
-            counts = self.over_seeds[vl, where].counts
-            lines += (f"{vl},{where},{latency},{counts[latency]}" for latency in sorted(counts))
-        return "\n".join(lines) + "\n"
-
-    def text(self):
-        """The tables in the order in which the program prints tables, with the seed as the last column."""
-        process = self.net.process
-        lines = [TABLES_HEAD + ",seed"]
-        for vl, where in self.in_order(self.latencies):
-            *numbers, seed = self.latencies[vl, where]
-            lines.append(f"latency,{vl},{where},,{','.join(map(str, numbers))},{'' if seed is None else seed}")
-        for vl, where, cause in sorted(self.losses, key=lambda it: (it[0], process[it[1]], CAUSES.index(it[2]))):
-            count, _, seed = self.losses[vl, where, cause]
-            lines.append(f"dropped,{vl},{where},{cause},{count},,,,{seed}")
-        return "\n".join(lines) + "\n"
-
-    def long_rows(self):
-        """The merged tables and the greatest latencies of the runs in the long form."""
-        tables = afdx.Tables("merged tables", self.net, self.text())
-        yield from long_form.rows_of_tables(tables.latencies.values(), tables.losses.values())
-        measures = ["runs", "least_greatest_ns", "mean_greatest_ns", "sum_greatest_ns"]
-        yield from long_form.rows_of_csv("greatest", self.greatest_text(False), measures)
-
-    def worst(self):
-        """The greatest latency of all as (ns, virtual link, destination, seed), or None where nothing was delivered."""
-        rows = [(row[2], vl, where, row[4]) for (vl, where), row in self.latencies.items() if row[0]]
-        return max(rows, key=lambda row: row[0], default=None)
-
-
 # ---- what came of the runs ----
 
 
@@ -367,34 +238,35 @@ class Campaign:
         """The runs that are to be made."""
         return (runs.Run(f"seed {seed}", self.net.with_seed(seed, self.draws_offsets)) for seed in self.seeds)
 
-    def take(self, run, printed):
-        """Takes what a run printed, and answers its seed."""
-        seed = self.seeds[self.done]
-        tables = tables_of(self.net, run, printed.tables)
-        trace = trace_of(tables, run, printed.trace) if printed.trace is not None else None
-        for key, limit in self.limits.items():
-            if tables.latencies[key].greatest > limit.ns:
-                self.broken[key] = self.broken.get(key, 0) + 1
-        self.merged.add(seed, tables, trace)
-        self.done += 1
-        return seed
+    def take(self, told):
+        """Takes what a run says, whole whatever signal comes, and answers its seed."""
+        with files.signals_held():
+            seed = self.seeds[self.done]
+            self.merged.add(seed, told)
+            for key, greatest in zip(self.merged.latencies, told.greatest) if self.limits else ():
+                if key in self.limits and greatest > self.limits[key].ns:
+                    self.broken[key] = self.broken.get(key, 0) + 1
+            self.done += 1
+            return seed
 
-    def run(self, maker, keep):
-        """Has the runs made and takes what they print, seed by seed. The first one in this order that fails ends it. `keep`
-        is told the beginning of the name of each one's files, and its texts."""
+    def run(self, maker, keep, jobs):
+        """Has the runs made and takes what they say, seed by seed. The first one in this order that fails ends it. `keep` is
+        told the beginning of the name of each one's files, and its texts."""
         progress = Progress(len(self.seeds))
         progress.listen(maker)
-        with contextlib.closing(maker.results(self.runs())) as results:
+        reader, jobs = one_run.Reader([self.net]), min(jobs, len(self.seeds))
+        with reckoning.beside(reader, maker, self.runs(), repeat(0), jobs) as results:
             try:
-                for run, printed in results:
-                    seed = self.take(run, printed)
+                for _, run, printed, told in results:
+                    seed = self.take(told)
                     keep(f"seed-{seed}", run.text, printed.tables)
                     progress.tell(self.done, self.merged.worst() if progress.shown else None)
             except Failure as failure:
                 self.status, self.failure = 1, str(failure)
             except files.ENDS as ended:
                 self.status, said = files.why(ended)
-                self.failure = f"{said}, before the run of the seed {self.seeds[self.done]} was merged"
+                rest = self.seeds[self.done :]
+                self.failure = f"{said}, before the run of the seed {rest[0]} was merged" if rest else f"{said}, behind the last run"
             finally:
                 progress.end()
 
@@ -455,7 +327,7 @@ def words_of(arguments=None):
     )
     add("--json", action="store_true", help="writes the tables of DIR in long form too: DIR/merged.json, sweep.json, ..")
     jobs = len(os.sched_getaffinity(0)) if hasattr(os, "sched_getaffinity") else os.cpu_count() or 1
-    add("--jobs", type=whole(1, 1024), default=jobs, metavar="N", help=f"runs side by side (default here: {jobs})")
+    add("--jobs", type=whole(1, 1024), default=jobs, metavar="N", help=f"runs side by side, and as many processes that read them (default here: {jobs})")
     add("--offsets", action="store_true", help="draw the offset of each virtual link within its period, for each run")
     add("--limits", metavar="FILE", help="limits of latencies, lines VL,NAME,NS")
     add("--histograms", action="store_true", help="count each latency: DIR/histograms.csv, percentiles in DIR/greatest.csv")
@@ -538,7 +410,7 @@ def over_seeds(words, net, limits, seeds):
     """Runs all seeds, and answers the status."""
     begin, path = time.monotonic(), None
     campaign = Campaign(net, limits, seeds, words.offsets)
-    campaign.run(maker_of(words, words.histograms), keeper(words))
+    campaign.run(maker_of(words, words.histograms), keeper(words), words.jobs)
     if campaign.done:
         path = write_results(words, campaign)
         write_json(words, "merged.json", campaign.merged.long_rows)
@@ -554,7 +426,7 @@ def over_settings(words, net, limits, seeds):
         for it in sweep.combinations_of(net.description, words.set)
     ]
     found = sweep.Sweep(words.set, courses)
-    found.run(maker_of(words, False), keeper(words), Progress(found.count()))
+    found.run(maker_of(words, False), keeper(words), Progress(found.count()), words.jobs)
     if found.failure:
         files.tell("campaign.py", found.failure)
     whole = found.whole()
@@ -585,10 +457,10 @@ def over_aims(words, net, _, seeds):
         if vl not in net.vls:
             known = explain.meant(str(vl), map(str, net.vls))
             raise Fault(words.net, net.description.line("vl"), f"--aim {vl}: there is no such virtual link{known}")
-    found = aim.AimedRuns(net, list(dict.fromkeys(words.aim)), seeds, tables_of)
+    found = aim.AimedRuns(net, list(dict.fromkeys(words.aim)), seeds)
     if not found.courses:
         raise Fault(words.net, None, "no frame of the aimed virtual links arrives: size is above smax")
-    found.run(maker_of(words, False), keeper(words), Progress(found.count()))
+    found.run(maker_of(words, False), keeper(words), Progress(found.count()), words.jobs)
     if found.failure:
         files.tell("campaign.py", found.failure)
     if not found.lines:
@@ -616,7 +488,7 @@ def over_outages(words, net, limits, seeds):
     """Runs all seeds with each link and each switch out in turn, and answers the status."""
     begin = time.monotonic()
     found = each_outage.EachOutage(net, limits, seeds, words.offsets, words.each_outage, words.later)
-    found.run(maker_of(words, True), keeper(words), Progress(found.count()), (tables_of, trace_of), words.jobs)
+    found.run(maker_of(words, True), keeper(words), Progress(found.count()), words.jobs)
     if found.failure:
         files.tell("campaign.py", found.failure)
     if not found.courses:

@@ -23,7 +23,7 @@ OF_PROGRAM = {
     "seq": OfProgram(1, "NET [--trace FILE] [--progress]", "simulate it on one thread; tables as CSV"),
     "run": OfProgram(
         1, "NET [--workers N] [--turn N] [--window NS] [--journal FILE] [--trace FILE] [--progress]",
-        "the same by Time Warp on several threads",
+        "the tables of seq, by Time Warp on several threads",
     ),
     "replay": OfProgram(2, "NET STEPS", "do the steps of a journal"),
 }
@@ -51,6 +51,14 @@ OWN = {
 VALUED = ("--trace", "--journal", "--workers", "--turn", "--window")
 WRITES = ("--trace", "--journal")
 
+# What is said of `run` alone.
+OF_RUN = (
+    "run is for those who want to see Time Warp at work. On a machine that does other things besides, run with four workers was\n"
+    "measured to take 20 times as long as seq, as its workers wait for each other: where tables are all that is wanted, use seq."
+)
+# What is said of the tools that have the program run.
+OF_CHOICE = "--by WHAT (proved or try; default: proved, else try) or --program PATH names the program that makes the runs."
+
 HELP = """usage: afdx [--help] [--version] COMMAND ..
 
 One command for all that is done with a network: each line is a command, and `afdx COMMAND --help` tells its words.
@@ -64,8 +72,7 @@ which program runs is told on error output, once. It is
   with --by second-opinion the plain simulator in Python, for seq and page; with --by proved and --by try just that one;
   with --program PATH the program that you name
 
-run is for those who want to see Time Warp at work. On a machine that does other things besides, run with four workers was
-measured to take 20 times as long as seq, as its workers wait for each other: where tables are all that is wanted, use seq.
+{of_run}
 
 examples:
   afdx page net.toml -o net.html
@@ -99,7 +106,7 @@ def is_there(tool):
 
 def help_text(is_clone=program.is_clone()):
     lines = [f"  {name:<12}{says}" for name, (_, says) in commands(is_clone).items()]
-    return HELP.format(commands="\n".join(lines))
+    return HELP.format(commands="\n".join(lines), of_run=OF_RUN)
 
 
 def version_text():
@@ -195,12 +202,7 @@ def by_program(name, words):
     words, by = taken_out(words, "--by")
     words, path = taken_out(words, "--program")
     if asks_for_help(words):
-        with contextlib.suppress(NoProgram):
-            found = program.given(path) if path else program.proved()
-            return subprocess.run([found.path, name, *words]).returncode
-        it = OF_PROGRAM[name]
-        files.say(f"usage: afdx {name} {it.usage}\n\n{it.says}\n\ndocs/FORMATS.md, section 9, has all of it.")
-        return 0
+        return help_of_program(name, words, path)
     it = chosen(by, path)
     if it.how in ("proved", "given"):
         tell(it.says)
@@ -231,6 +233,20 @@ def by_program(name, words):
     return status
 
 
+def help_of_program(name, words, path):
+    """Tells the words of a command of the program, by the program where one is here, and answers the status."""
+    it, status = OF_PROGRAM[name], 0
+    try:
+        found = program.given(path) if path else program.proved()
+        status = subprocess.run([found.path, name, *words]).returncode
+    except NoProgram:
+        usage = f"usage: afdx {name} {it.usage} [--by WHAT] [--program PATH]"
+        files.say(f"{usage}\n\n{it.says}\n\ndocs/FORMATS.md, section 9, has all of it.")
+    if name == "run":
+        files.say("\n" + OF_RUN)
+    return status
+
+
 def write(stream, found):
     stream.flush()
     stream.buffer.write(found)
@@ -255,6 +271,9 @@ def by_tool(name, words):
     tool = OF_TOOLS[name]
     if not is_there(tool):
         raise Mistake(f"there is no tools/{tool.file}")
+    if asks_for_help(words):
+        own = " ".join(filter(None, (tool.file, tool.option)))
+        files.say(f"`afdx {name}` is tools/{own}, which has these words." + (f"\n{OF_CHOICE}" if name in RUN_IT else "") + "\n")
     asks = asks_for_help(words) or not words
     # At the end, since the option may have a value.
     words = words + [tool.option] * bool(tool.option and not any(word.startswith(tool.option) for word in words))
@@ -424,7 +443,8 @@ def options_of(name):
     if name in OF_TOOLS:
         words = tool_command(OF_TOOLS[name].file, "--help")
         said = subprocess.run(words, capture_output=True, text=True, stdin=subprocess.DEVNULL).stdout
-        return sorted(set(re.findall(r"(?<![\w-])--[a-z][a-z-]*[a-z]", said)))
+        found = set(re.findall(r"(?<![\w-])--[a-z][a-z-]*[a-z]", said))
+        return sorted((found - {"--by-try"}) | {"--by"} if name in RUN_IT else found)
     more = {"page": ["--by", "--limits", "--no-bounds", "--output", "--program"], "build": ["--jobs"], "package": ["--output"]}
     return [*more.get(name, []), "--help"]
 
@@ -459,6 +479,9 @@ def completion_text(is_clone=program.is_clone()):
 
 
 def completion(arguments):
+    if asks_for_help(arguments):
+        files.say("usage: afdx completion bash\n\nPrints what completes words in bash: source <(afdx completion bash)")
+        return 0
     if arguments != ["bash"]:
         raise Mistake("completion is for bash: afdx completion bash")
     files.write_out(completion_text())

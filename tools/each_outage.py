@@ -1,10 +1,8 @@
 """What if a link or a switch is out: tools/campaign.py --each-outage. Each is out in turn, and what is lost end to end and
 what becomes late is told beside the same runs without it, as a table and as a page."""
-import contextlib
 import html
 import itertools
 import re
-import tempfile
 from collections import namedtuple
 from fractions import Fraction
 
@@ -13,6 +11,7 @@ import files
 import reckoning
 import runs
 from frames import Range, exactly
+from outage_frames import OfOutages
 from runs import Failure
 
 TABLE_HEAD = (
@@ -134,17 +133,12 @@ class EachOutage:
                     text += outages_text(course.element, self.from_ns, self.net.until_ns)
                 yield runs.Run(name, text)
 
-    def run(self, maker, keep, progress, readers, jobs):
+    def run(self, maker, keep, progress, jobs):
         """Has the runs made, and reckons on so many of them side by side what became of their frames. `keep` is told the
-        beginning of the name of each one's files, and its texts; `readers` are what reads the tables and the trace of a
-        run."""
+        beginning of the name of each one's files, and its texts."""
         progress.listen(maker)
-        with contextlib.ExitStack() as stack:
-            folder = stack.enter_context(tempfile.TemporaryDirectory())
-            made = stack.enter_context(contextlib.closing(maker.results(self.runs())))
-            runs = ((seed, *it) for seed, it in zip(itertools.cycle(self.seeds), made))
-            reckoner = reckoning.Reckoner(self.net, self.draws_offsets, readers, folder)
-            results = stack.enter_context(contextlib.closing(reckoning.results(reckoner, runs, jobs)))
+        reckoner, jobs = OfOutages(self.net, self.draws_offsets), min(jobs, self.count())
+        with reckoning.beside(reckoner, maker, self.runs(), itertools.cycle(self.seeds), jobs) as results:
             try:
                 for seed, run, printed, came in results:
                     course = self.courses[self.done // len(self.seeds)]
@@ -158,7 +152,7 @@ class EachOutage:
                 self.status, self.failure = 1, str(failure)
             except files.ENDS as ended:
                 self.status, said = files.why(ended)
-                self.failure = f"{said}, before run {self.done + 1} of {self.count()} was taken"
+                self.failure = f"{said}, after {self.done} of {self.count()} runs"
             finally:
                 progress.end()
         # What was not run for all seeds cannot be compared.

@@ -50,8 +50,10 @@ A node that has no line of its own is an end system. A time may be given in anot
 jitter_us, until_s. Capital letters, blanks and brackets in the name of a column do not matter: `BAG (ms)` is bag_ms.
 docs/TOOLS.md, sections 2 and 13, has more.
 
-status: 0, also where columns, titles or sheets are passed over, with a line for each on error output; 1 where the tables have a fault: all are told, each with its file and line, and nothing is written; 2 where a
-word is wrong, or a file cannot be read or written.
+status:
+  0  the description is written, also where columns, titles or sheets are passed over, with a line for each on error output
+  1  the tables have a fault: all are told, each with its file and line, and nothing is written
+  2  a word is wrong, or a file cannot be read or written
 """
 
 # The bytes of a frame beside the payload of UDP: Ethernet header 14, IP 20, UDP 8, sequence number 1, check sequence 4.

@@ -1,207 +1,38 @@
-"""What became of the frames of each run of a campaign over outages, reckoned beside the runs in processes of their own."""
+"""Processes beside the runs of a campaign: each reads what a run printed, from files, and answers what the campaign needs of it. So
+the campaign itself reads neither tables nor traces, and puts answers together in the order of the runs."""
 import collections
 import concurrent.futures
-import copy
+import contextlib
 import gc
 import multiprocessing
 import os
+import pickle
 import shutil
 import signal
-from bisect import bisect_left
+import tempfile
 
-from frames import Ends, drawn_offsets
+import files
 from runs import Failure, Printed
 
-# Of one destination in one run: how many frames were delivered, how many are missing, and the greatest latency.
-Came = collections.namedtuple("Came", "count missing greatest")
-
-
-def told_of(vl, tables, trace):
-    """All that what became of the frames of a virtual link follows from: which frames came, what was lost when and where."""
-    came = []
-    for where in vl.destinations:
-        copies, found = tables.losses.get((vl.id, where, "duplicate")), trace.came.get((vl.id, where))
-        came.append((tables.latencies[vl.id, where].count, copies and copies.count, found and found.frames()))
-    return came, {key: (it.count, it.moments) for key, it in trace.lost[vl.id].items()}
-
-
-# ---- which virtual links two runs tell of in other words ----
-
-# Of so many bytes of a trace at once the lines are compared.
-BLOCK = 2**22
-
-
-def moment_of(line):
-    return int(line[: line.index(b",")])
-
-
-class Lines:
-    """The lines of a trace, a part at a time."""
-
-    def __init__(self, file):
-        self.file, self.lines = file, []
-
-    def until(self, moment):
-        """The next lines that are before a moment, or all."""
-        while moment is None or not self.lines or moment_of(self.lines[-1]) < moment:
-            more = self.file.readlines(BLOCK)
-            if not more:
-                break
-            self.lines += more
-        end = len(self.lines) if moment is None else bisect_left(self.lines, moment, key=moment_of)
-        found, self.lines = self.lines[:end], self.lines[end:]
-        return found
-
-    def next_moment(self):
-        """A moment some lines ahead, or None at the end."""
-        self.lines += self.file.readlines(BLOCK)
-        return moment_of(self.lines[-1]) if self.file.peek(1) else None
-
-
-def lines_of_one(ones, others):
-    """The lines that one of two lists has oftener than the other."""
-    one, other = set(ones), set(others)
-    if len(one) == len(ones) and len(other) == len(others):
-        return one ^ other
-    return {line for line, _ in collections.Counter(ones).items() ^ collections.Counter(others).items()}
-
-
-def vls_of(lines, field):
-    return {line.split(b",", field + 1)[field] for line in lines}
-
-
-def differing(one, other):
-    """The virtual links, as the bytes of their numbers, of which two runs tell something else: each is the paths of its tables
-    and its trace. None where lines are not as they should be."""
-    with open(one.tables, "rb") as before, open(other.tables, "rb") as now:
-        tables = lines_of_one(before.readlines(), now.readlines())
-    with open(one.trace, "rb") as before, open(other.trace, "rb") as now:
-        heads = before.readline(), now.readline()
-        before, now = Lines(before), Lines(now)
-        try:
-            found, moment = vls_of(tables, 1), 0
-            while moment is not None:
-                moment = before.next_moment()
-                found |= vls_of(lines_of_one(before.until(moment), now.until(moment)), 2)
-        except (IndexError, ValueError):
-            return None
-    return found if heads[0] == heads[1] else None
-
-
-def lines_of_vls(path, vls, field):
-    """The lines of a file of these virtual links alone, behind its head."""
-    with open(path, "rb") as file:
-        head = file.readline()
-        yield head
-        for line in file:
-            if line.split(b",", field + 1)[field] in vls:
-                yield line
-
-
-# ---- what became of the frames ----
-
-
-class First:
-    """The run of a seed without an outage. Of another run with this seed that alone is reckoned anew which tells something else."""
-
-    def __init__(self, net, seed, draws_offsets, kept):
-        drawn = drawn_offsets(net, seed) if draws_offsets else {}
-        self.net, self.seed, self.kept, self.drawn = copy.copy(net), seed, kept, {}
-        self.net.vls = {vl.id: vl._replace(offset_ns=drawn.get(vl.id, vl.offset_ns)) for vl in net.vls.values()}
-        self.told, self.came = {}, None
-
-    def net_of(self, vls):
-        """The network with these virtual links alone."""
-        net = copy.copy(self.net)
-        net.vls = {number: self.net.vls[number] for number in vls}
-        return net
-
-    def changed(self, kept):
-        """The virtual links of which a run tells something else, and files of that; None where it has to be read whole."""
-        found = differing(self.kept, kept)
-        if found is None or not all(len(it) < 6 and it.isdigit() and int(it) in self.net.vls for it in found):
-            return None
-        part = Printed(kept.tables + ".part", kept.trace + ".part")
-        for path, field, to in ((kept.tables, 1, part.tables), (kept.trace, 2, part.trace)):
-            with open(to, "wb") as out:
-                out.writelines(lines_of_vls(path, found, field))
-        return sorted(map(int, found)), part
-
-    def came_of(self, tables, trace):
-        """What became of the frames of a run, by virtual link and destination, where that is not as in the first one, which is
-        this run itself when it is asked for the first time."""
-        told = {vl.id: told_of(vl, tables, trace) for vl in tables.net.vls.values()}
-        part = copy.copy(tables)
-        part.net = self.net_of(number for number in told if told[number] != self.told.get(number))
-        ends = Ends(part, [self.seed], trace=trace, known=self.drawn).of
-        if self.came is None:
-            self.told, self.came = told, {}
-        found = {}
-        for key, row in tables.latencies.items():
-            missing = ends[key].missing if key in ends else self.came[key].missing
-            came = Came(row.count, missing, row.greatest)
-            if came != self.came.get(key):
-                found[key] = came
-        self.came = self.came or found
-        return found
+# An interrupt waits so many s at the most for what is being reckoned on the runs that were made before it.
+PATIENCE = 10
 
 
 class Reckoner:
-    """What a process that reckons has: it is there before the process begins, which so has a copy of it."""
+    """What a process that reckons has. It is made before the processes begin, each of which has a copy of it."""
 
-    def __init__(self, net, draws_offsets, readers, folder):
-        self.net, self.draws_offsets, self.folder = net, draws_offsets, folder
-        self.tables_of, self.trace_of = readers
-        self.first = {}
+    def asked(self, key, run, kept):
+        """What a process is given of a run and of the files that are kept of it."""
+        return key, run, kept
 
-    def path(self, name):
-        return os.path.join(self.folder, name)
-
-    def keep(self, name, printed):
-        """Keeps what a run printed for the process that reckons on it: whoever made the run keeps its trace no longer."""
-        kept = Printed(self.path(name + ".tables.csv"), self.path(name + ".trace.csv"))
-        with open(kept.tables, "w", encoding="utf-8", newline="") as out:
-            out.write(printed.tables)
-        shutil.move(printed.trace, kept.trace)
-        return kept
-
-    def read(self, net, run, kept):
-        """The tables and the trace of a run."""
-        with open(kept.tables, encoding="utf-8", newline="") as file:
-            tables = self.tables_of(net, run, file.read())
-        return tables, self.trace_of(tables, run, kept.trace)
-
-    def came(self, seed, first, run=None, kept=None):
-        """What became of the frames of a run where that is not as in the first one of its seed, which is a run and where it is
-        kept too; of the first one itself all."""
-        if seed not in self.first:
-            self.first[seed] = First(self.net, seed, self.draws_offsets, first[1])
-            self.first[seed].came_of(*self.read(self.first[seed].net, *first))
-        if run is None:
-            return self.first[seed].came
-        try:
-            return self.first[seed].came_of(*self.read_changed(self.first[seed], run, kept))
-        finally:
-            for path in kept:
-                os.unlink(path)
-
-    def read_changed(self, first, run, kept):
-        """The tables and the trace of a run, as far as they are other than those of the first one of its seed."""
-        changed = first.changed(kept)
-        if changed:
-            vls, part = changed
-            try:
-                return self.read(first.net_of(vls), run, part)
-            except Failure:
-                # Where it is wrong is told by its own lines.
-                pass
-            finally:
-                for path in part:
-                    os.unlink(path)
-        return self.read(first.net, run, kept)
+    def answer(self, *asked):
+        """What a process answers to that."""
+        raise NotImplementedError
 
 
-# That of this process.
+# ---- in a process ----
+
+# Its own reckoner.
 OWN = None
 
 
@@ -214,47 +45,108 @@ def begin(reckoner):
     for number in (signal.SIGINT, signal.SIGHUP):
         signal.signal(number, signal.SIG_IGN)
     signal.signal(signal.SIGTERM, signal.SIG_DFL)
+    signal.pthread_sigmask(signal.SIG_UNBLOCK, files.SIGNALS)
 
 
-def came(*given):
-    return OWN.came(*given)
+def answer(path, *asked):
+    """Leaves in a file what is answered. Little goes through the pipe of the pool: where a process is ended amid a long message, who
+    reads it would wait for the rest for ever."""
+    with open(path, "wb") as out:
+        pickle.dump(OWN.answer(*asked), out, pickle.HIGHEST_PROTOCOL)
 
 
-def results(reckoner, runs, jobs):
-    """Yields of each run, given as (seed, run, printed) in order, that again with what became of its frames where that is not
-    as in the first run of the seed; so many processes reckon side by side. What ends the runs is raised once those before it
-    are told."""
-    forks = multiprocessing.get_context("fork")
+# ---- in the campaign ----
+
+# A run that a process is asked about: what is told again with the answer, the file of that, and what tells that it is there.
+Asked = collections.namedtuple("Asked", "key run printed path future")
+
+
+@contextlib.contextmanager
+def beside(reckoner, maker, runs, keys, jobs):
+    """The results of runs that a maker makes, each with its key. At the end all processes and files are gone, whatever ended it."""
+    with tempfile.TemporaryDirectory() as folder, contextlib.closing(maker.results(runs)) as made:
+        keyed = ((key, *it) for key, it in zip(keys, made))
+        with contextlib.closing(results(reckoner, keyed, jobs, folder)) as found:
+            yield found
+
+
+def results(reckoner, runs, jobs, folder):
+    """Yields of each run, given as (key, run, printed) in order, that again with what is answered to it; so many processes reckon
+    side by side, by files of a folder. What ends the runs is raised once those before it are told."""
+    forks, numbered = multiprocessing.get_context("fork"), enumerate(runs)
     waiting, ended = collections.deque(), None
     with concurrent.futures.ProcessPoolExecutor(jobs, forks, begin, (reckoner,)) as pool:
-        # The processes begin before the threads that make the runs.
-        pool.submit(int).result()
         try:
-            first = {}
-            try:
-                for number, (seed, run, printed) in enumerate(runs):
-                    # Its description is long, and not needed there.
-                    given = run._replace(text=None), reckoner.keep(str(number), printed)
-                    known = first.setdefault(seed, given)
-                    future = pool.submit(came, seed, known, *(() if known is given else given))
-                    waiting.append((seed, run, printed, future))
-                    while len(waiting) > 2 * jobs:
-                        yield told(waiting.popleft())
-            except Exception as fault:
-                ended = fault
-            while waiting:
-                yield told(waiting.popleft())
-            if ended:
+            # With the first call all processes begin, before the threads that make the runs.
+            with files.signals_held():
+                future_of(pool, int)
+            while ended is None:
+                try:
+                    number, made = next(numbered)
+                    waiting.append(ask(pool, reckoner, os.path.join(folder, str(number)), *made))
+                except BaseException as fault:
+                    ended = fault
+                while waiting and (len(waiting) > 2 * jobs or waiting[0].future.done()):
+                    yield told(waiting)
+            if isinstance(ended, KeyboardInterrupt):
+                concurrent.futures.wait([it.future for it in waiting], PATIENCE)
+            while waiting and (isinstance(ended, Exception) or waiting[0].future.done()):
+                yield told(waiting)
+            if not isinstance(ended, StopIteration):
                 raise ended
         finally:
-            for *_, future in waiting:
-                future.cancel()
             if waiting:
-                # What they reckon on nobody hears any more.
-                for process in multiprocessing.active_children():
-                    process.terminate()
+                end(waiting)
 
 
-def told(entry):
-    seed, run, printed, future = entry
-    return seed, run, printed, future.result()
+def ask(pool, reckoner, path, key, run, printed):
+    """Asks a process about a run, whose files get this name and more behind it."""
+    # Its description is long, and not needed there.
+    asked = reckoner.asked(key, run._replace(text=None), keep(path, printed))
+    return Asked(key, run, printed, path + ".answer", future_of(pool, answer, path + ".answer", *asked))
+
+
+def keep(path, printed):
+    """Keeps what a run printed for the process that reckons on it: whoever made the run keeps its trace no longer."""
+    kept = Printed(path + ".tables.csv", path + ".trace.csv" if printed.trace else None)
+    with open(kept.tables, "w", encoding="utf-8", newline="") as out:
+        out.write(printed.tables)
+    if printed.trace:
+        shutil.move(printed.trace, kept.trace)
+    return kept
+
+
+def drop(kept):
+    """Removes what was kept of a run."""
+    for path in filter(None, kept):
+        os.unlink(path)
+
+
+def future_of(pool, *call):
+    """What a process of the pool will answer to a call."""
+    try:
+        return pool.submit(*call)
+    except RuntimeError as fault:
+        raise Failure(f"no process can reckon: {fault}") from None
+
+
+def told(waiting):
+    """The first of those that wait, with its answer. Until that is there it is among those that the end of all ends."""
+    key, run, printed, path, future = waiting[0]
+    try:
+        future.result()
+    except concurrent.futures.BrokenExecutor:
+        raise Failure(f"{run.name}: the process that reckons on it was ended") from None
+    with open(path, "rb") as file:
+        found = pickle.load(file)
+    os.unlink(path)
+    waiting.popleft()
+    return key, run, printed, found
+
+
+def end(waiting):
+    """Ends what is still reckoned on: nobody hears it any more."""
+    for it in waiting:
+        it.future.cancel()
+    for process in multiprocessing.active_children():
+        process.terminate()

@@ -16,6 +16,8 @@ from math import floor
 import afdx
 import explain
 import files
+import one_run
+import reckoning
 from each_outage import STYLE, plain, row, tile
 from files import Fault
 from page_text import esc, span
@@ -116,26 +118,26 @@ class Sweep:
             for run in campaign.runs():
                 yield Run(f"{combination.name}, {run.name}", run.text)
 
-    def run(self, maker, keep, progress):
-        """Has all runs made, and takes what they print. The first one that fails ends it."""
+    def run(self, maker, keep, progress, jobs):
+        """Has all runs made, and takes what they say. The first one that fails ends it."""
         progress.listen(maker)
-        results = maker.results(self.runs())
-        try:
-            for combination, campaign in self.courses:
-                for _ in campaign.seeds:
-                    run, printed = next(results)
-                    seed = campaign.take(run, printed)
+        reader, jobs = one_run.Reader([campaign.net for _, campaign in self.courses]), min(jobs, self.count())
+        numbers = (number for number, (_, campaign) in enumerate(self.courses) for _ in campaign.seeds)
+        with reckoning.beside(reader, maker, self.runs(), numbers, jobs) as results:
+            try:
+                for number, run, printed, told in results:
+                    combination, campaign = self.courses[number]
+                    seed = campaign.take(told)
                     keep(f"set-{combination.number}-seed-{seed}", run.text, printed.tables)
                     self.done += 1
                     progress.tell(self.done, None)
-        except Failure as failure:
-            self.status, self.failure = 1, str(failure)
-        except files.ENDS as ended:
-            self.status, said = files.why(ended)
-            self.failure = f"{said}, after {self.done} of {self.count()} runs"
-        finally:
-            results.close()
-            progress.end()
+            except Failure as failure:
+                self.status, self.failure = 1, str(failure)
+            except files.ENDS as ended:
+                self.status, said = files.why(ended)
+                self.failure = f"{said}, after {self.done} of {self.count()} runs"
+            finally:
+                progress.end()
 
     def whole(self):
         """The courses of which all runs were made."""
@@ -145,7 +147,7 @@ class Sweep:
         """For each whole course, virtual link and destination what a line of the table has."""
         for combination, campaign in self.whole():
             merged = campaign.merged
-            for vl, where in merged.in_order(merged.latencies):
+            for vl, where in merged.latencies:
                 count, _, greatest, _, seed = merged.latencies[vl, where]
                 over = merged.over_seeds[vl, where]
                 spread = [over.least, over.mean()] if over.runs else [0, 0]

@@ -13,6 +13,7 @@ import tempfile
 import time
 import tomllib
 import unittest
+from unittest import mock
 
 HERE = os.path.dirname(os.path.abspath(__file__))
 sys.path.insert(0, HERE)
@@ -20,6 +21,7 @@ sys.path.insert(0, HERE)
 import afdx  # noqa: E402
 import campaign  # noqa: E402
 import report  # noqa: E402
+from merged import Merged  # noqa: E402
 from second_opinion import CAUSES, Simulation  # noqa: E402
 
 COCKPIT, SATURATED, FAILING, N1 = (
@@ -304,6 +306,24 @@ class WithAStandIn(Here):
         self.assertEqual(os.listdir(kept), [])
         self.assertIn("2 runs merged, seeds 42 to 43, in", out)
         self.assertIn("latency,1,ES2,,2,27720,27720,55440,42\n", read(self.merged))
+
+    def test_a_run_is_merged_whole_or_not_at_all(self):
+        """Also where a signal comes meanwhile, and it is the last one."""
+        self.stand_in()
+        add, latency = Merged.add, "latency,1,ES2,,{0},27720,27720,{1},42\n"
+        for last, said in (42, "before the run of the seed 43 was merged"), (43, "behind the last run"):
+
+            def interrupted(own, seed, told):
+                if seed == last:
+                    os.kill(os.getpid(), signal.SIGTERM)
+                add(own, seed, told)
+
+            with self.subTest(last), mock.patch.object(Merged, "add", interrupted):
+                status, out, told = self.call(N1, "--seeds", "2")
+                self.assertEqual((status, told), (143, f"campaign.py: ended by SIGTERM, {said}\n"))
+                count = last - 41
+                self.assertIn(f"{count} run{'s' if count > 1 else ''} merged", out)
+                self.assertIn(latency.format(count, count * 27720), read(self.merged))
 
     def test_greatest_latencies_over_seeds_and_percentiles(self):
         """From the notes of the plain simulator: of each run's greatest latency the least, the mean and the greatest; and

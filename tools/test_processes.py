@@ -192,7 +192,8 @@ def read_letter(word):
 
 
 def drawn(random):
-    """A script: letters for one of four moments from one of two senders, three times of four plus letters; calls; and looks."""
+    """A script: letters for one of four moments from one of two senders, three times of four plus letters; calls; and looks.
+    One process of the player plays all of them, where hypothesis would begin one for each example; so they are drawn here."""
 
     def moment():
         return random.choice((10, 20, 30, 40))

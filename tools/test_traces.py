@@ -1,22 +1,18 @@
 """Tests of traces, which are read line by line, and of what is reckoned on the runs of a campaign over outages."""
-import multiprocessing
 import os
 import random
-import signal
 import subprocess
 import sys
 import tempfile
-import time
 import unittest
 
 HERE = os.path.dirname(os.path.abspath(__file__))
 sys.path.insert(0, HERE)
 
 import afdx  # noqa: E402
-import reckoning  # noqa: E402
+import outage_frames  # noqa: E402
 import traces  # noqa: E402
-from files import Interrupted  # noqa: E402
-from runs import Printed, Run  # noqa: E402
+from runs import Printed  # noqa: E402
 
 # Four virtual links from one end system to another over two networks, with a frame each ms and no jitter.
 NODES = """until_ns = {until}
@@ -124,31 +120,6 @@ class WhichFramesCame(unittest.TestCase):
         self.assertEqual(list(found.latencies), [5, 2**32 - 1, 2**32, 10**15])
 
 
-class Slow:
-    """A reckoner that takes a minute for each run."""
-
-    def keep(self, name, printed):
-        return printed
-
-    def came(self, *_):
-        time.sleep(60)
-
-
-class Ends(unittest.TestCase):
-    def test_a_signal_ends_what_is_being_reckoned(self):
-        def runs():
-            for number in range(3):
-                yield number, Run(f"seed {number}", ""), Printed("", None)
-            time.sleep(0.3)
-            raise Interrupted(signal.SIGTERM)
-
-        begin = time.monotonic()
-        with self.assertRaises(Interrupted):
-            list(reckoning.results(Slow(), runs(), 2))
-        self.assertLess(time.monotonic() - begin, 30)
-        self.assertEqual(multiprocessing.active_children(), [])
-
-
 class WhatTwoRunsTell(unittest.TestCase):
     """Of which virtual links two runs tell something else is found by blocks of their traces."""
 
@@ -171,16 +142,16 @@ class WhatTwoRunsTell(unittest.TestCase):
                 wanted = {str(vl).encode() for vl in range(5) if of_vl(rows, vl) != of_vl(other, vl)}
                 tables = [["a,1,x", "a,2,y"], ["a,1,x", "a,2,z"]] if draw.random() < 0.3 else [["a,1,x"], ["a,1,x"]]
                 wanted |= {b"2"} if tables[0] != tables[1] else set()
-                before = reckoning.BLOCK
+                before = outage_frames.BLOCK
                 try:
-                    reckoning.BLOCK = draw.choice([1, 30, 200, before])
-                    self.assertEqual(reckoning.differing(kept("one", tables[0], lines[0]), kept("two", tables[1], lines[1])), wanted)
+                    outage_frames.BLOCK = draw.choice([1, 30, 200, before])
+                    self.assertEqual(outage_frames.differing(kept("one", tables[0], lines[0]), kept("two", tables[1], lines[1])), wanted)
                 finally:
-                    reckoning.BLOCK = before
+                    outage_frames.BLOCK = before
             # What is no line of a trace makes that all is read.
             good = kept("one", ["a,1,x"], ["5,E,1,delivered,7"])
             for tables, rows in ((["a"], []), (["a,1,x"], ["5"])):
-                self.assertIsNone(reckoning.differing(good, kept("two", tables, rows)), rows)
+                self.assertIsNone(outage_frames.differing(good, kept("two", tables, rows)), rows)
 
 
 if __name__ == "__main__":
