@@ -89,7 +89,7 @@ def help_of(*words):
     """What a command says of its words, the same on every machine."""
     env = os.environ | {"COLUMNS": "80", "LC_ALL": "C.UTF-8"}
     run = subprocess.run(words, stdin=subprocess.DEVNULL, capture_output=True, text=True, env=env)
-    return re.sub(r"\(default here:\s+\d+\)", "(default: as many as processors)", run.stdout)
+    return re.sub(r"\(default\s+here:\s+\d+\)", "(default: as many as processors)", run.stdout)
 
 
 def manuals(path, begin, version, root=ROOT):
