@@ -65,9 +65,6 @@ module _ {S F O E : Type 0} (outside : Outside S F O E) {taken : F → Option (L
     pub begins : (n : ℕ) → IsBeginning (taken empty) (taken file) text → failures file ≡ failures empty + n → BeginsFile outside n path IsText old new
     begins n took failed = (file, front took, count n failed, given ∙ ap (λ host. outside.closed host path file) opened)
 
-    pub begins_some : IsBeginning (taken empty) (taken file) text → (n : ℕ) × BeginsFile outside n path IsText old new
-    begins_some took = (outside.unwritten file, (file, front took, refl, given ∙ ap (λ host. outside.closed host path file) opened))
-
     begins_none : file ≡ empty → BeginsFile outside 0 path IsText old new
     begins_none same = begins 0 (none_taken text (taken empty) (taken file) (ap taken same)) (let a = ap failures same in omega arith)
 
@@ -94,21 +91,23 @@ module _ {S F O E : Type 0} (outside : Outside S F O E) {taken : F → Option (L
     is : IsTraceText plan (trace_text plan rows)
     is = (rows, are, refl)
 
-    lacks_part : (fault : Fault) → (fault ≡ OutOfMemory) ⊎ (fault ≡ Layout) ⊎ (fault ≡ Torn) → LacksTrace outside path.now plan old new fault
-    lacks_part fault kind = inr (
-      kind,
-      made,
-      begins_some path.now (IsTraceText plan) old begun new empty file (trace_text plan rows) opened none fresh is given took,
-    )
+    -- no write of it failed
+    part : failures file ≡ failures empty → BeginsFile outside 0 path.now (IsTraceText plan) old new
+    part same =
+        begins path.now (IsTraceText plan) old begun new empty file (trace_text plan rows) opened none fresh is given 0 took (let a = same in omega arith)
 
-    pub lacks_trace : (why : TraceFault) → (why ≡ Out out.Device → failures file ≡ failures empty + 1) → LacksTrace outside path.now plan old new (fault_of_trace path why)
-    lacks_trace (Segment segment.Gap) failed = lacks_part Torn (inr (inr refl))
-    lacks_trace (Segment segment.Double) failed = lacks_part Torn (inr (inr refl))
-    lacks_trace (Segment segment.Stranger) failed = lacks_part Torn (inr (inr refl))
-    lacks_trace (Segment segment.OutOfMemory) failed = lacks_part OutOfMemory (inl refl)
-    lacks_trace (Out out.OutOfMemory) failed = lacks_part OutOfMemory (inl refl)
-    lacks_trace (Out out.Layout) failed = lacks_part Layout (inr (inl refl))
-    lacks_trace (Out out.Device) failed = inl (
+    torn : failures file ≡ failures empty → LacksTrace outside path.now plan old new Torn
+    torn same = inr (refl, made, part same)
+
+    pub lacks_trace : (why : TraceFault) → (why ≡ Out out.Device → failures file ≡ failures empty + 1) → (why ≢ Out out.Device → failures file ≡ failures empty) →
+        LacksTrace outside path.now plan old new (fault_of_trace path why)
+    lacks_trace (Segment segment.Gap) failed kept = torn (kept (λ e. cc))
+    lacks_trace (Segment segment.Double) failed kept = torn (kept (λ e. cc))
+    lacks_trace (Segment segment.Stranger) failed kept = torn (kept (λ e. cc))
+    lacks_trace (Segment segment.OutOfMemory) failed kept = inl (made, inr (part (kept (λ e. cc))))
+    lacks_trace (Out out.OutOfMemory) failed kept = inl (made, inr (part (kept (λ e. cc))))
+    lacks_trace (Out out.Layout) failed kept = inl (refl, made, part (kept (λ e. cc)))
+    lacks_trace (Out out.Device) failed kept = inl (
       refl,
       inr (made, begins path.now (IsTraceText plan) old begun new empty file (trace_text plan rows) opened none fresh is given 1 took (failed refl)),
     )

@@ -99,13 +99,12 @@ module _ {S F O E : Type 0} (outside : Outside S F O E) where
   LacksFile has_rows path IsText old new Spawn = ⊥
   LacksFile has_rows path IsText old new Torn = ⊥
 
-  -- why the file with this path lacks the trace of a run by workers: that; or a part of the trace was not there to be written, as memory was
-  -- refused for it, its rows were not laid out, or it is missing or comes twice, and the file has a beginning of the trace
+  -- why the file with this path lacks the trace of a run by workers: that; or a part of the trace is missing or comes twice, and the file has a
+  -- beginning of the trace, and no write of it failed
   abbrev pub LacksTrace : List ℕ → Plan → S → S → Fault → Type 0
   LacksTrace path plan old new fault =
       LacksFile true path (IsTraceText plan) old new fault
-      ⊎ (((fault ≡ OutOfMemory) ⊎ (fault ≡ Layout) ⊎ (fault ≡ Torn)) × outside.makes old path true ×
-      ((failed : ℕ) × BeginsFile failed path (IsTraceText plan) old new))
+      ⊎ ((fault ≡ Torn) × outside.makes old path true × BeginsFile 0 path (IsTraceText plan) old new)
 
   -- why a one-thread run of the network was not shown, and what is left: the run was given up, and there is no file; or the trace is not whole;
   -- or it is, as far as it is asked for, and the tables are not on standard output

@@ -1,5 +1,5 @@
 //! A run by workers: its tables, and what else is asked for.
-ghost use Rattle.std.specs.Prelude.{◌≡◌, ◌+◌, List, IfErr, IfOk, OnOk};
+ghost use Rattle.std.specs.Prelude.{◌≡◌, ◌≢◌, ◌+◌, List, IfErr, IfOk, OnOk};
 ghost use Rattle.vlink.specs.Letters.{Row};
 ghost use Rattle.netdesc.specs.Words.{process_count};
 ghost use Rattle.trace_segments.specs.declared.fault.OutFault.TheVariants.{Device};
@@ -88,6 +88,7 @@ pub fn traced<F: Sink + Drop + Send, E: Sink, T: Threads + Wait + Clock + Sync>(
     ensures beginning { IfOk result (λ found. (rows : List Row) → AreRowsOf network.now rows →
         IsBeginning (F.taken file) (F.taken found.sink) (trace_text network.now rows)) }
     ensures device { IfOk result (λ found. IfErr found.written (λ why. why ≡ Out Device → F.failures found.sink ≡ F.failures file + 1)) }
+    ensures kept { IfOk result (λ found. IfErr found.written (λ why. why ≢ Out Device → F.failures found.sink ≡ F.failures file)) }
     ensures fault { IfErr result (IsFaultOfPool network.now Unit) }
     ensures heard { HearsAsked E.taken E.failures asked.is_asked network.now.until errors.old errors.new }
 {

@@ -100,4 +100,5 @@ returns-in-Err-clause-fault g c =
     c.in-Ok.ensures.empty c.in-Ok.ensures.fresh rows.1 c.close.ensures
     (makes_there outside law c.args.is_asked c.args.host.now path (outside.errors new) true c.in-Ok.ensures.made)
     (c.in_ok-outcome-in-Ok.ensures.beginning rows.0 rows.1) c.in-Err.why
-    (at_err _ found.written c.in-Err.why is c.in_ok-outcome-in-Ok.ensures.device)))
+    (at_err _ found.written c.in-Err.why is c.in_ok-outcome-in-Ok.ensures.device)
+    (at_err _ found.written c.in-Err.why is c.in_ok-outcome-in-Ok.ensures.kept)))
