@@ -4,7 +4,6 @@ use Rattle.std.proofs.lemmas.List.{nil_from_length}
 use Rattle.std.proofs.lemmas.List.Sorted.{IsPermutation-refl, IsPermutation-sym, IsPermutation-trans, length_permutation, Contains-permutation, All-permutation}
 use Rattle.std.proofs.lemmas.List.Elements.{All-weaker}
 use Rattle.vlink.specs.declared.message.Message.{Message}
-use Rattle.vlink.specs.Letters.{Row}
 use Rattle.vlink.specs.Order.{message_order}
 use Rattle.virtual_time.specs.Law.{IsOrder, World, received_by}
 use Rattle.virtual_time.proofs.Order.{not_less-time}
@@ -17,9 +16,11 @@ use Rattle.hand.specs.Deeds.{Deed}
 use Rattle.hand.specs.Flow.{Flow, IsFirst, TookFirst}
 use Rattle.hand.specs.Hands.{Held, DoesSent, StandsForSent, IsAsBefore, is_ours}
 use Rattle.hand.specs.Passing.{held}
+use Rattle.hand.specs.Rows.{Sealed}
 use Rattle.hand.proofs.Going.{stands-kept}
+use Rattle.hand.proofs.Telling.{of_members-none}
 
-pub as-first : {S K : Type 0} (members : List (Option S)) (done : List (Deed K)) (rows : List Row) (flow next : Flow) → IsPermutation flow.queue next.queue →
+pub as-first : {S K : Type 0} (members : List (Option S)) (done : List (Deed K)) (rows : Sealed) (flow next : Flow) → IsPermutation flow.queue next.queue →
     next ≡ record flow { queue = next.queue; room = next.room } → IsAsBefore (held members done rows flow) (held members done rows next)
 as-first members done rows flow next p e = record { members = refl; done = refl; rows = refl; queue = p; flow = e }
 
@@ -33,7 +34,7 @@ as-both h mid new a b = record {
 }
 
 -- room was made
-pub as-roomy : {S K : Type 0} (members : List (Option S)) (done later : List (Deed K)) (rows : List Row) (flow next : Flow) → later ≡ done →
+pub as-roomy : {S K : Type 0} (members : List (Option S)) (done later : List (Deed K)) (rows : Sealed) (flow next : Flow) → later ≡ done →
     next ≡ record flow { room = next.room } → IsAsBefore (held members done rows flow) (held members later rows next)
 as-roomy members done later rows flow next d e = record {
   members = refl;
@@ -44,7 +45,7 @@ as-roomy members done later rows flow next d e = record {
 }
 
 -- the first message was taken out, and waits again
-pub as-put_back : {S K : Type 0} (members : List (Option S)) (done : List (Deed K)) (rows : List Row) (flow next last : Flow) (m : Message) → TookFirst m flow next →
+pub as-put_back : {S K : Type 0} (members : List (Option S)) (done : List (Deed K)) (rows : Sealed) (flow next last : Flow) (m : Message) → TookFirst m flow next →
     IsPermutation (m ∷ next.queue) last.queue → last ≡ record next { queue = last.queue; room = last.room } → IsAsBefore (held members done rows flow) (held members done rows last)
 as-put_back members done rows flow next last m t p e = record {
   members = refl;
@@ -55,7 +56,7 @@ as-put_back members done rows flow next last m t p e = record {
 }
 
 -- there was none, and there is none
-pub as-empty : {S K : Type 0} (members : List (Option S)) (done : List (Deed K)) (rows : List Row) (flow next : Flow) → flow.queue ≡ [] → next.queue ≡ [] →
+pub as-empty : {S K : Type 0} (members : List (Option S)) (done : List (Deed K)) (rows : Sealed) (flow next : Flow) → flow.queue ≡ [] → next.queue ≡ [] →
     next ≡ record flow { queue = next.queue; room = next.room } → IsAsBefore (held members done rows flow) (held members done rows next)
 as-empty members done rows flow next none empty e = record {
   members = refl;
@@ -88,7 +89,7 @@ module _ {S K : Type 0} (plain : Plain S Message Sends K) (V : S → Message →
     (law : (s : S) (e : Message) → plain.before (plain.after s e) e (plain.saves s e) ≡ s) where
   pub stands-still : (h new : Held S K) → IsAsBefore h new → (x : Setting S) (v : World Message S) → StandsForSent (rules_of plain) V x v h [] → StandsForSent (rules_of plain) V x v new []
   stands-still h new a x v g =
-      stands-kept (rules_of plain) O V law x v h new [] [] a.members a.done a.rows (λ y. times-permutation message_order y h.flow.queue new.flow.queue a.queue)
+      stands-kept (rules_of plain) O V law x v h new [] [] a.members a.done (ap (λ z. z.all) a.rows) (λ y. times-permutation message_order y h.flow.queue new.flow.queue a.queue)
       (ap (λ z. z.extra) a.flow) (ap (λ z. z.tray) a.flow) (λ q. ap (λ z. received_by message_order q (z.abroad ++ [])) (sym a.flow))
       (subst (λ z. All (λ l. is_ours h.members (message_order.receiver l.message) ≡ false) z.abroad) (sym a.flow) g.elsewhere) g
 
@@ -96,5 +97,6 @@ module _ {S K : Type 0} (plain : Plain S Message Sends K) (V : S → Message →
   still h new a = record {
     did = [];
     block = ap (λ z. z.words) a.flow ∙ sym (append-nil h.flow.words);
-    stands = λ x L v g. (tt, stands-still h new a x v g);
+    keeps = ap (λ z. z.keeps) a.flow;
+    stands = λ x L v g. (tt, stands-still h new a x v g, of_members-none h.members new.members a.members);
   }

@@ -17,4 +17,5 @@ returns-then-has-clause-did g c = λ rows.
       tray = ap (λ z. z.tray) c.in_ok-count_again.ensures.others;
       abroad = ap (λ z. z.abroad) c.in_ok-count_again.ensures.others;
       words = ap (λ z. z.words) c.in_ok-count_again.ensures.others;
+      keeps = ap (λ z. z.keeps) c.in_ok-count_again.ensures.others;
     })

@@ -13,39 +13,39 @@ use Rattle.hand.proofs.hand.Hand.run_early.Goals.{After-reserve-2, After-wait_ag
 use Rattle.hand.proofs.hand.Hand.run_early.Goals as goal
 
 -- after room was made
-roomy : (g : Over) (c : After-reserve-2 g) → IsAsBefore c.args.self.now (held c.self.inside.members.items c.reserve-2.new.self.deeds c.self.inside.rows.items c.reserve.new.self)
+roomy : (g : Over) (c : After-reserve-2 g) → IsAsBefore c.args.self.now (held c.self.inside.members.items c.reserve-2.new.self.deeds c.self.inside.rows c.reserve.new.self)
 roomy g c =
-    subst (λ h. IsAsBefore h (held c.self.inside.members.items c.reserve-2.new.self.deeds c.self.inside.rows.items c.reserve.new.self)) c.self.view_is
-    (as-roomy c.self.inside.members.items c.self.inside.done.deeds c.reserve-2.new.self.deeds c.self.inside.rows.items c.self.inside.letters c.reserve.new.self c.reserve-2.ensures.same c.reserve.ensures.same)
+    subst (λ h. IsAsBefore h (held c.self.inside.members.items c.reserve-2.new.self.deeds c.self.inside.rows c.reserve.new.self)) c.self.view_is
+    (as-roomy c.self.inside.members.items c.self.inside.done.deeds c.reserve-2.new.self.deeds c.self.inside.rows c.self.inside.letters c.reserve.new.self c.reserve-2.ensures.same c.reserve.ensures.same)
 
 pub returns-in_err-reserve-clause-did : goal.returns-in_err-reserve-clause-did
 returns-in_err-reserve-clause-did g c =
     still g.R.Reversible.plain g.R.Reversible.is_value c.actor_rules.ensures.order c.actor_rules.ensures.undoes c.args.self.now
-    (held c.self.inside.members.items c.self.inside.done.deeds c.self.inside.rows.items c.reserve.new.self)
-    (subst (λ h. IsAsBefore h (held c.self.inside.members.items c.self.inside.done.deeds c.self.inside.rows.items c.reserve.new.self)) c.self.view_is
-    (as-roomy c.self.inside.members.items c.self.inside.done.deeds c.self.inside.done.deeds c.self.inside.rows.items c.self.inside.letters c.reserve.new.self refl c.reserve.ensures.same))
+    (held c.self.inside.members.items c.self.inside.done.deeds c.self.inside.rows c.reserve.new.self)
+    (subst (λ h. IsAsBefore h (held c.self.inside.members.items c.self.inside.done.deeds c.self.inside.rows c.reserve.new.self)) c.self.view_is
+    (as-roomy c.self.inside.members.items c.self.inside.done.deeds c.self.inside.done.deeds c.self.inside.rows c.self.inside.letters c.reserve.new.self refl c.reserve.ensures.same))
 
 pub returns-in_err-reserve-2-clause-did : goal.returns-in_err-reserve-2-clause-did
 returns-in_err-reserve-2-clause-did g c =
     still g.R.Reversible.plain g.R.Reversible.is_value c.actor_rules.ensures.order c.actor_rules.ensures.undoes c.args.self.now
-    (held c.self.inside.members.items c.reserve-2.new.self.deeds c.self.inside.rows.items c.reserve.new.self) (roomy g (goal.at.returns-in_err-reserve-2-clause-did g c).After-reserve-2)
+    (held c.self.inside.members.items c.reserve-2.new.self.deeds c.self.inside.rows c.reserve.new.self) (roomy g (goal.at.returns-in_err-reserve-2-clause-did g c).After-reserve-2)
 
 pub returns-in_default-clause-did : goal.returns-in_default-clause-did
 returns-in_default-clause-did g c =
     let members = c.self.inside.members.items in
     let deeds = c.reserve-2.new.self.deeds in
-    let rows = c.self.inside.rows.items in
+    let rows = c.self.inside.rows in
     still g.R.Reversible.plain g.R.Reversible.is_value c.actor_rules.ensures.order c.actor_rules.ensures.undoes c.args.self.now (held members deeds rows c.pop.new.self)
     (as-both c.args.self.now (held members deeds rows c.reserve.new.self) (held members deeds rows c.pop.new.self) (roomy g (goal.at.returns-in_default-clause-did g c).After-reserve-2)
     (as-empty members deeds rows c.reserve.new.self c.pop.new.self c.in_default.ensures.none c.in_default.ensures.empty c.pop.ensures.others))
 
 -- the first message waits again
-back : (g : Over) (c : After-wait_again g) (before : IsAsBefore c.args.self.now (held c.self.inside.members.items c.reserve-2.new.self.deeds c.self.inside.rows.items c.reserve.new.self)) →
-    IsAsBefore c.args.self.now (held c.self.inside.members.items c.reserve-2.new.self.deeds c.self.inside.rows.items c.wait_again.new.self)
+back : (g : Over) (c : After-wait_again g) (before : IsAsBefore c.args.self.now (held c.self.inside.members.items c.reserve-2.new.self.deeds c.self.inside.rows c.reserve.new.self)) →
+    IsAsBefore c.args.self.now (held c.self.inside.members.items c.reserve-2.new.self.deeds c.self.inside.rows c.wait_again.new.self)
 back g c before =
     let members = c.self.inside.members.items in
     let deeds = c.reserve-2.new.self.deeds in
-    let rows = c.self.inside.rows.items in
+    let rows = c.self.inside.rows in
     as-both c.args.self.now (held members deeds rows c.reserve.new.self) (held members deeds rows c.wait_again.new.self) before
     (as-put_back members deeds rows c.reserve.new.self c.pop.new.self c.wait_again.new.self c.in-Some.message c.in-Some.ensures.taken c.wait_again.ensures.waits c.wait_again.ensures.others)
 
@@ -60,7 +60,7 @@ pub returns-in_default-early-clause-did : goal.returns-in_default-early-clause-d
 returns-in_default-early-clause-did g c =
     let at = goal.at.returns-in_default-early-clause-did g c in
     still g.R.Reversible.plain g.R.Reversible.is_value c.actor_rules.ensures.order c.actor_rules.ensures.undoes c.args.self.now
-    (held c.self.inside.members.items c.reserve-2.new.self.deeds c.self.inside.rows.items c.wait_again.new.self) (back g at.After-wait_again (roomy g at.After-reserve-2))
+    (held c.self.inside.members.items c.reserve-2.new.self.deeds c.self.inside.rows c.wait_again.new.self) (back g at.After-wait_again (roomy g at.After-reserve-2))
 
 pub returns-in_default-early-clause-late : goal.returns-in_default-early-clause-late
 returns-in_default-early-clause-late g c = λ e.

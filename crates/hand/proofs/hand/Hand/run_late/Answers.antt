@@ -14,12 +14,12 @@ use Rattle.hand.proofs.hand.Hand.run_late.Goals as goal
 
 -- after a look at the first message
 looked : (g : Over) (c : After-first g) → DoesSent (rules_of g.R.Reversible.plain) g.R.Reversible.is_value c.args.self.now []
-    (held c.self.inside.members.items c.self.inside.done.deeds c.self.inside.rows.items c.first.new.self) []
+    (held c.self.inside.members.items c.self.inside.done.deeds c.self.inside.rows c.first.new.self) []
 looked g c =
     still g.R.Reversible.plain g.R.Reversible.is_value c.actor_rules.ensures.order c.actor_rules.ensures.undoes c.args.self.now
-    (held c.self.inside.members.items c.self.inside.done.deeds c.self.inside.rows.items c.first.new.self)
-    (subst (λ h. IsAsBefore h (held c.self.inside.members.items c.self.inside.done.deeds c.self.inside.rows.items c.first.new.self)) c.self.view_is
-    (as-first c.self.inside.members.items c.self.inside.done.deeds c.self.inside.rows.items c.self.inside.letters c.first.new.self c.first.ensures.same c.first.ensures.others))
+    (held c.self.inside.members.items c.self.inside.done.deeds c.self.inside.rows c.first.new.self)
+    (subst (λ h. IsAsBefore h (held c.self.inside.members.items c.self.inside.done.deeds c.self.inside.rows c.first.new.self)) c.self.view_is
+    (as-first c.self.inside.members.items c.self.inside.done.deeds c.self.inside.rows c.self.inside.letters c.first.new.self c.first.ensures.same c.first.ensures.others))
 
 pub returns-in_default-clause-did : goal.returns-in_default-clause-did
 returns-in_default-clause-did g c = looked g (goal.at.returns-in_default-clause-did g c).After-first
@@ -39,27 +39,27 @@ returns-then-not-has_numbers-clause-exhausted g c = λ e. (
 
 -- after room was made
 as-it-was : (g : Over) (c : After-reserve g) (later : _) → later ≡ c.self.inside.done.deeds → c.reserve.new.self ≡ record c.first.new.self { room = c.reserve.new.self.room } →
-    IsAsBefore c.args.self.now (held c.self.inside.members.items later c.self.inside.rows.items c.reserve.new.self)
+    IsAsBefore c.args.self.now (held c.self.inside.members.items later c.self.inside.rows c.reserve.new.self)
 as-it-was g c later deeds same =
     let members = c.self.inside.members.items in
     let done = c.self.inside.done.deeds in
-    let rows = c.self.inside.rows.items in
+    let rows = c.self.inside.rows in
     as-both c.args.self.now (held members done rows c.first.new.self) (held members later rows c.reserve.new.self)
     (subst (λ h. IsAsBefore h (held members done rows c.first.new.self)) c.self.view_is
     (as-first members done rows c.self.inside.letters c.first.new.self c.first.ensures.same c.first.ensures.others))
     (as-roomy members done later rows c.first.new.self c.reserve.new.self deeds same)
 
 roomy : (g : Over) (c : After-reserve g) → c.reserve.new.self ≡ record c.first.new.self { room = c.reserve.new.self.room } →
-    DoesSent (rules_of g.R.Reversible.plain) g.R.Reversible.is_value c.args.self.now [] (held c.self.inside.members.items c.self.inside.done.deeds c.self.inside.rows.items c.reserve.new.self) []
+    DoesSent (rules_of g.R.Reversible.plain) g.R.Reversible.is_value c.args.self.now [] (held c.self.inside.members.items c.self.inside.done.deeds c.self.inside.rows c.reserve.new.self) []
 roomy g c same =
     still g.R.Reversible.plain g.R.Reversible.is_value c.actor_rules.ensures.order c.actor_rules.ensures.undoes c.args.self.now
-    (held c.self.inside.members.items c.self.inside.done.deeds c.self.inside.rows.items c.reserve.new.self) (as-it-was g c c.self.inside.done.deeds refl same)
+    (held c.self.inside.members.items c.self.inside.done.deeds c.self.inside.rows c.reserve.new.self) (as-it-was g c c.self.inside.done.deeds refl same)
 
 roomier : (g : Over) (c : After-reserve-2 g) (b : After-reserve g) → c.reserve-2.new.self.deeds ≡ b.self.inside.done.deeds → b.reserve.new.self ≡ record b.first.new.self { room = b.reserve.new.self.room } →
-    DoesSent (rules_of g.R.Reversible.plain) g.R.Reversible.is_value b.args.self.now [] (held b.self.inside.members.items c.reserve-2.new.self.deeds b.self.inside.rows.items b.reserve.new.self) []
+    DoesSent (rules_of g.R.Reversible.plain) g.R.Reversible.is_value b.args.self.now [] (held b.self.inside.members.items c.reserve-2.new.self.deeds b.self.inside.rows b.reserve.new.self) []
 roomier g c b deeds same =
     still g.R.Reversible.plain g.R.Reversible.is_value b.actor_rules.ensures.order b.actor_rules.ensures.undoes b.args.self.now
-    (held b.self.inside.members.items c.reserve-2.new.self.deeds b.self.inside.rows.items b.reserve.new.self) (as-it-was g b c.reserve-2.new.self.deeds deeds same)
+    (held b.self.inside.members.items c.reserve-2.new.self.deeds b.self.inside.rows b.reserve.new.self) (as-it-was g b c.reserve-2.new.self.deeds deeds same)
 
 pub returns-in_err-reserve-clause-did : goal.returns-in_err-reserve-clause-did
 returns-in_err-reserve-clause-did g c = roomy g (goal.at.returns-in_err-reserve-clause-did g c).After-reserve c.reserve.ensures.same
@@ -84,7 +84,7 @@ pub returns-in_err-handle_behind-clause-did : goal.returns-in_err-handle_behind-
 returns-in_err-handle_behind-clause-did g c =
     let r = rules_of g.R.Reversible.plain in
     let V = g.R.Reversible.is_value in
-    let rows = c.self.inside.rows.items in
+    let rows = c.self.inside.rows in
     let bad = c.in_err-handle_behind.ensures in
     subst (λ ms. DoesSent r V c.args.self.now [] (held ms c.handle_behind.new.done.deeds rows c.handle_behind.new.letters) [])
     (sym (with_items_is c.self.inside.members c.handle_behind.new.members (c.handle_behind.ensures.len ∙ c.deref_mut.ensures.len) ∙ (bad.members ∙ c.deref_mut.ensures.value)))
@@ -96,7 +96,7 @@ pub returns-clause-did : goal.returns-clause-did
 returns-clause-did g c =
     let r = rules_of g.R.Reversible.plain in
     let V = g.R.Reversible.is_value in
-    let rows = c.self.inside.rows.items in
+    let rows = c.self.inside.rows in
     subst (λ ms. DoesSent r V c.args.self.now [] (held ms c.handle_behind.new.done.deeds rows c.handle_behind.new.letters) [])
     (sym (with_items_is c.self.inside.members c.handle_behind.new.members (c.handle_behind.ensures.len ∙ c.deref_mut.ensures.len)))
     (does-both r V c.args.self.now (held c.self.inside.members.items c.reserve-2.new.self.deeds rows c.reserve.new.self) (held c.handle_behind.new.members c.handle_behind.new.done.deeds rows c.handle_behind.new.letters)
