@@ -1,18 +1,18 @@
 -- Where nothing changed but the order of the queue, the group stands for what it stood for.
-use Rattle.std.proofs.Common.{◌≡◌, ℕ, ◌≤◌, false, Option, Some, None, IfSome, IfNone, List, [], ◌∷◌, ◌++◌, length, All, Contains, IsPermutation, Result, Ok, Err, OnErr, refl, sym, ap, ◌∙◌, subst, append-nil, arith}
+use Rattle.std.proofs.Common.{◌≡◌, ◌≢◌, ℕ, ◌≤◌, false, Option, Some, None, IfSome, IfNone, List, [], ◌∷◌, ◌++◌, length, All, Contains, IsPermutation, Result, Ok, Err, OnErr, slice_get, refl, sym, ap, ◌∙◌, subst, append-nil, arith}
 use Rattle.std.proofs.lemmas.List.{nil_from_length}
 use Rattle.std.proofs.lemmas.List.Sorted.{IsPermutation-refl, IsPermutation-sym, IsPermutation-trans, length_permutation, Contains-permutation, All-permutation}
 use Rattle.std.proofs.lemmas.List.Elements.{All-weaker}
 use Rattle.vlink.specs.declared.message.Message.{Message}
 use Rattle.vlink.specs.Order.{message_order}
-use Rattle.virtual_time.specs.Law.{IsOrder, World, received_by}
+use Rattle.virtual_time.specs.Law.{IsOrder, IsAscending, World, received_by}
 use Rattle.virtual_time.proofs.Order.{not_less-time}
 use Rattle.reverse.specs.Plain.{Plain}
 use Rattle.reverse.specs.Rules.{rules_of, is_before}
 use Rattle.reverse.specs.Setting.{Setting}
 use Rattle.reverse.specs.declared.sends.Sends.{Sends}
 use Rattle.two_lists.proofs.Counting.{times-permutation}
-use Rattle.hand.specs.Deeds.{Deed}
+use Rattle.hand.specs.Deeds.{Deed, messages_of}
 use Rattle.hand.specs.Flow.{Flow, IsFirst, TookFirst}
 use Rattle.hand.specs.Hands.{Held, DoesSent, StandsForSent, IsAsBefore, is_ours}
 use Rattle.hand.specs.Passing.{held}
@@ -69,6 +69,21 @@ as-empty members done rows flow next none empty e = record {
 pub took-first : (m : Message) (old new : Flow) → TookFirst m old new → Contains old.queue m × All (λ x. is_before x m ≡ false) old.queue
 took-first m old new t =
     (Contains-permutation (m ∷ new.queue) old.queue m (IsPermutation-sym old.queue (m ∷ new.queue) t.taken) (0, omega arith, refl), t.first)
+
+-- the first message is not done and its receiver has no numbers left: so it was before, where only the order of the queue and the room changed
+pub exhausted-again : {S K : Type 0} (h mid : Held S K) (P : S → Type 0) → IsAsBefore h mid →
+    ((m : Message) × Contains mid.flow.queue m × All (λ x. is_before x m ≡ false) mid.flow.queue
+    × (IsAscending message_order (messages_of mid.done) → All (λ x. x ≢ m) (messages_of mid.done)) × ((s : S) → slice_get mid.members m.receiver ≡ Some (Some s) → P s)) →
+    (m : Message) × Contains h.flow.queue m × All (λ x. is_before x m ≡ false) h.flow.queue
+    × (IsAscending message_order (messages_of h.done) → All (λ x. x ≢ m) (messages_of h.done)) × ((s : S) → slice_get h.members m.receiver ≡ Some (Some s) → P s)
+exhausted-again h mid P a e =
+    let back = IsPermutation-sym h.flow.queue mid.flow.queue a.queue in (
+      e.0,
+      Contains-permutation mid.flow.queue h.flow.queue e.0 back e.1,
+      All-permutation (λ x. is_before x e.0 ≡ false) mid.flow.queue h.flow.queue back e.2,
+      subst (λ ds. IsAscending message_order (messages_of ds) → All (λ x. x ≢ e.0) (messages_of ds)) a.done e.3,
+      subst (λ ms. (s : _) → slice_get ms e.0.receiver ≡ Some (Some s) → P s) a.members e.4,
+    )
 
 pub on-err : {X Y : Type 0} (r : Result X Y) (P : Type 0) → P → OnErr r P
 on-err (Ok x) P p = tt

@@ -77,6 +77,7 @@ pub(crate) fn standing<R: Actor>(
     ensures idle { result ≡ Ok Idle → limit ≤ message.now.time }
     ensures late { result ≡ Ok Late → is_after message_order (newest_of (messages_of done.now.deeds)) message.now ≡ false }
     ensures exhausted { IfErr result (λ fault. fault ≡ Exhausted) }
+    ensures after { OnErr result (is_after message_order (newest_of (messages_of done.now.deeds)) message.now ≡ true) }
     ensures numbers { OnErr result ((s : R) → slice_get members.now message.now.receiver ≡ Some (Some s) → greatest_number < R.plain.counter s + 24) }
 {
     if message.time >= limit {

@@ -1,9 +1,9 @@
 //! A group of processes in one hand.
-ghost use Rattle.std.specs.Prelude.{◌≡◌, ◌≤◌, ◌<◌, ◌+◌, ℕ, List, [], ◌++◌, true, false, Some, All, Contains, Ok, Err, OnOk, OnErr, IfOk, IfErr, IfSome, IfNone, IsPermutation, drop, slice_get, take};
+ghost use Rattle.std.specs.Prelude.{◌≡◌, ◌≢◌, ◌≤◌, ◌<◌, ◌+◌, ℕ, List, [], ◌++◌, true, false, Some, All, Contains, Ok, Err, OnOk, OnErr, IfOk, IfErr, IfSome, IfNone, IsPermutation, drop, slice_get, take};
 ghost use Rattle.vlink.specs.declared.message.Message.{Message};
 ghost use Rattle.vlink.specs.Order.{message_order};
 ghost use Rattle.vlink.specs.Numbering.{greatest_number};
-ghost use Rattle.virtual_time.specs.Law.{World};
+ghost use Rattle.virtual_time.specs.Law.{World, IsAscending};
 ghost use Rattle.reverse.specs.Rules.{rules_of, is_before};
 ghost use Rattle.reverse.specs.Setting.{Setting};
 ghost use Rattle.antimessages.specs.Counting.{is_after};
@@ -17,9 +17,9 @@ ghost use Rattle.hand.specs.declared.early.Early.TheVariants.{Idle, Late};
 use crate::deeds::Deeds;
 use crate::early::{Early, handle_first, standing};
 use crate::fault::HandFault;
+use crate::late::handle_late;
 use crate::letters::Letters;
 use crate::members::has_numbers;
-use crate::next::handle_behind;
 use crate::rows::Rows;
 use crate::undoing::Undoing;
 use reverse::{Actor, Outbound, actor_rules};
@@ -39,6 +39,7 @@ pub struct Hand<R: Actor> {
     pub(crate) members: Vec<Option<R>>,
     /// The done events in the order of their messages.
     pub(crate) done: Deeds<R::Record>,
+    /// What a rollback needs; empty between calls.
     pub(crate) undoing: Undoing<R::Record>,
     /// The rows of committed events.
     pub(crate) rows: Rows,
@@ -115,6 +116,7 @@ impl<R: Actor> Hand<R> {
             × Contains self.old.flow.queue m × All (λ x. is_before x m ≡ false) self.old.flow.queue }
         ensures still { result ≡ Ok Late → IsAsBefore self.old self.new }
         ensures exhausted { result ≡ Err Exhausted → (m : Message) × Contains self.old.flow.queue m × All (λ x. is_before x m ≡ false) self.old.flow.queue
+            × (IsAscending message_order (messages_of self.old.done) → All (λ x. x ≢ m) (messages_of self.old.done))
             × ((s : R) → slice_get self.old.members m.receiver ≡ Some (Some s) → greatest_number < R.plain.counter s + 24) }
         ensures unchanged { OnErr result (IsAsBefore self.old self.new) }
     {
@@ -147,11 +149,14 @@ impl<R: Actor> Hand<R> {
     /// is done already, it counts beside. What it sends to members is taken: it joins the queue, or waits in the tray. The answer is whether there was
     /// one. Letters that wait in the tray are to arrive before.
     ///
-    /// `Exhausted`: its receiver, if it is a member, has not enough numbers left for what one event can send. `OutOfMemory`: a growth was refused.
-    /// Either leaves all as it was.
+    /// `Exhausted`: it is not done, and its receiver, if it is a member, has not enough numbers left for what one event can send. `OutOfMemory`: a
+    /// growth was refused. Either leaves all as it was.
     pub fn run_next(&mut self, limit: Time) -> Result<bool, HandFault>
         ensures did { DoesTold (rules_of R.plain) R.is_value self.old self.new }
         ensures idle { result ≡ Ok false → All (λ m. limit ≤ m.time) self.old.flow.queue }
+        ensures exhausted { result ≡ Err Exhausted → (m : Message) × Contains self.old.flow.queue m × All (λ x. is_before x m ≡ false) self.old.flow.queue
+            × (IsAscending message_order (messages_of self.old.done) → All (λ x. x ≢ m) (messages_of self.old.done))
+            × ((s : R) → slice_get self.old.members m.receiver ≡ Some (Some s) → greatest_number < R.plain.counter s + 24) }
         ensures unchanged { OnErr result (IsAsBefore self.old self.new) }
     {
         match self.run_early(limit)? {
@@ -167,11 +172,12 @@ impl<R: Actor> Hand<R> {
     /// The first message of the queue, if there is one, is handled by its receiver, where other members have done later events; or, where it is done
     /// already, it counts beside. What it sends to members waits in the tray.
     ///
-    /// `Exhausted`: its receiver, if it is a member, has not enough numbers left for what one event can send. `OutOfMemory`: a growth was refused.
-    /// Either leaves all as it was.
+    /// `Exhausted`: it is not done, and its receiver, if it is a member, has not enough numbers left for what one event can send. `OutOfMemory`: a
+    /// growth was refused. Either leaves all as it was.
     pub(crate) fn run_late(&mut self) -> Result<(), HandFault>
         ensures did { DoesTold (rules_of R.plain) R.is_value self.old self.new }
         ensures exhausted { result ≡ Err Exhausted → (m : Message) × Contains self.old.flow.queue m × All (λ x. is_before x m ≡ false) self.old.flow.queue
+            × (IsAscending message_order (messages_of self.old.done) → All (λ x. x ≢ m) (messages_of self.old.done))
             × ((s : R) → slice_get self.old.members m.receiver ≡ Some (Some s) → greatest_number < R.plain.counter s + 24) }
         ensures unchanged { OnErr result (IsAsBefore self.old self.new) }
     {
@@ -179,20 +185,24 @@ impl<R: Actor> Hand<R> {
         let Some(message) = self.letters.first() else {
             return Ok(());
         };
+        if self.done.has(&message) {
+            self.letters.count_again(&message)?;
+            return Ok(());
+        }
         if !has_numbers(&self.members, message.receiver) {
             return Err(HandFault::Exhausted);
         }
         self.letters.reserve(MOST_SENT)?;
         self.done.reserve()?;
         self.undoing.aside.reserve_for(&self.done)?;
-        handle_behind(
+        handle_late(
             &mut self.members,
             &mut self.done,
             &mut self.undoing.aside,
             &mut self.letters,
             &mut self.out,
             &message,
-        )?;
+        );
         Ok(())
     }
 

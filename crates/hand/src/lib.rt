@@ -1,5 +1,8 @@
-//! A group of processes in one hand: one queue of messages for all of them, one list of done events, and the letters that they sent to others.
-//! Each call does steps of the law of virtual time, which join the block.
+//! A hand is what one worker holds of a network: a group of processes, with one queue of messages for all of them, from which their events are done in
+//! message order, one list of done events, by which those that come too early are undone, and the letters that they sent to others. So an event costs
+//! little more than in a run of one thread, and only letters between groups pass from worker to worker.
+//!
+//! Each call does steps of the law of virtual time, which join the block as words.
 #![tactic(auto)]
 
 mod arrive;

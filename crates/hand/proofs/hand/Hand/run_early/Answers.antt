@@ -1,12 +1,14 @@
-use Rattle.std.proofs.Common.{◌≡◌, List, Some, false, All, Contains, slice_get, subst, sym, ap, ◌∙◌, refl}
+use Rattle.std.proofs.Common.{◌≡◌, ◌≢◌, List, Some, false, All, Contains, slice_get, subst, sym, ap, ◌∙◌, refl}
 use Rattle.vlink.specs.declared.message.Message.{Message}
 use Rattle.vlink.specs.Order.{message_order}
+use Rattle.virtual_time.specs.Law.{IsAscending}
 use Rattle.reverse.specs.Rules.{is_before}
 use Rattle.antimessages.specs.Counting.{is_after}
 use Rattle.process_queues.specs.Past.{newest_of}
 use Rattle.hand.specs.Deeds.{messages_of}
 use Rattle.hand.specs.Hands.{IsAsBefore}
 use Rattle.hand.specs.Passing.{held}
+use Rattle.hand.proofs.NewestDeed.{after-none}
 use Rattle.hand.proofs.Still.{as-both, as-empty, as-put_back, as-roomy, on-err, still, took-first}
 use Rattle.hand.proofs.hand.Hand.run_early.Given.{Over}
 use Rattle.hand.proofs.hand.Hand.run_early.Goals.{After-reserve-2, After-wait_again}
@@ -78,6 +80,8 @@ returns-in_default-early-clause-exhausted g c = λ e.
       c.in-Some.message,
       k.0,
       k.1,
+      subst (λ ds. IsAscending message_order (messages_of ds) → All (λ x. x ≢ c.in-Some.message) (messages_of ds)) (c.reserve-2.ensures.same ∙ ap (λ h. h.done) c.self.view_is)
+          (λ up. after-none c.actor_rules.ensures.order c.in-Some.message (messages_of c.reserve-2.new.self.deeds) up (rw e at c.standing-early.ensures.after)),
       λ s i. n s (subst (λ ms. slice_get ms c.in-Some.message.receiver ≡ Some (Some s)) (sym c.deref.ensures.value)
           (subst (λ h. slice_get h.members c.in-Some.message.receiver ≡ Some (Some s)) (sym c.self.view_is) i)),
     )
