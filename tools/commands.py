@@ -472,7 +472,7 @@ complete -o filenames -F _afdx afdx ./afdx
 
 
 def completion_text(is_clone=program.is_clone()):
-    """What bash is to read, so that it completes words."""
+    """What bash is to read, so that it completes words. It is made of the texts of help: `shtab` and `argcomplete` want one parser of all words."""
     names = commands(is_clone)
     cases = "\n".join(f"    {name}) options=\"{' '.join(options_of(name))}\" ;;" for name in names)
     return COMPLETION.format(names=" ".join(names), cases=cases)

@@ -1,4 +1,4 @@
-"""What each crate takes of the processors while `rt ci` runs: seconds of the processes that prove it, by what they do."""
+"""What each crate takes of the processors while `rt ci` runs, which tells no times: seconds of the processes that prove it, by what they do."""
 import os
 import threading
 import time
