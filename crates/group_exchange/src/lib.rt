@@ -1,0 +1,28 @@
+//! The exchange of letters between groups of processes, each group in one hand, and the journal of what they did, over lent values: no thread and
+//! no lock. A group (`Group`) collects letters, works alone and posts; the `GroupExchange` has letters on their way, floors, GVT and the journal.
+#![tactic(auto)]
+
+mod boxes;
+mod carrying;
+mod exchange;
+mod fits;
+mod gate;
+mod group;
+mod listing;
+mod mark;
+mod pairs;
+mod publishing;
+mod run_of;
+mod steps;
+mod told;
+
+pub use boxes::Boxes;
+pub use exchange::GroupExchange;
+pub use gate::Gate;
+pub use group::Group;
+pub use mark::{Mark, Standing};
+pub use pairs::Pairs;
+pub use publishing::publish;
+pub use run_of::GroupRun;
+pub use steps::Steps;
+pub use told::Told;
