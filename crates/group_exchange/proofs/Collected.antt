@@ -20,30 +20,11 @@ use Rattle.group_exchange.proofs.Alike.{stands-alike}
 use Rattle.group_exchange.proofs.Marks.{marks-set}
 use Rattle.group_exchange.proofs.Taken.{TakesAll, takes-all, with-alike, with-floor, with-mail, with-others, with_letters}
 use Rattle.group_exchange.proofs.SafeNow.{safe-now}
+use Rattle.group_exchange.proofs.Holding.{holds-empty}
 
 -- a process of a group is a process
 pub of-process : {processes groups : ℕ} {owners : List ℕ} → AreGrouped processes groups owners → (g p : ℕ) → is_of owners g p ≡ true → p < processes
 of-process {owners = owners} k g p e = let a = of-within owners g p e in let b = k.each in omega arith
-
--- a group without a block, in the world that the journal reaches
-pub holds-empty : {S K : Type 0} {r : Rules Message S K Note} {number end : S → ℕ} {is_placed : S → Type 0} {x : Setting S} {owners : List ℕ} {V : S → Message → Type 0} {groups g seen : ℕ} {last : List Step} →
-    IsLaidOut r number end is_placed x → AreGrouped x.processes groups owners → g < groups → (h : Held S K) → ((p : ℕ) → is_ours h.members p ≡ is_of owners g p) → h.flow.words ≡ [] →
-    StandsForGroup r V x (in_hand (simulation_of r x) seen (world_after (simulation_of r x) last)) h →
-    IsSafeGroup (simulation_of r x) (is_of owners g) seen (in_hand (simulation_of r x) seen (world_after (simulation_of r x) last)) →
-    Holds r number end is_placed x owners V groups g seen last h
-holds-empty {r = r} {x = x} {owners = owners} {V = V} {g = g} {seen = seen} {last = last} laid grouped within h ours none stands safe =
-    let f = simulation_of r x in
-    let v = in_hand f seen (world_after f last) in
-    record {
-      laid = laid;
-      grouped = grouped;
-      number_is = within;
-      ours = ours;
-      by = subst (λ ds. AreBy (is_of owners g) (steps_told ds)) (sym none) tt;
-      enabled = subst (λ ds. AreDone f (steps_told ds) v) (sym none) tt;
-      stands = subst (λ ds. StandsForGroup r V x (done_by f (steps_told ds) v) h) (sym none) stands;
-      safe = subst (λ ds. IsSafeGroup f (is_of owners g) seen (done_by f (steps_told ds) v)) (sym none) safe;
-    }
 
 module _ {S K : Type 0} {r : Rules Message S K Note} {number end : S → ℕ} {is_placed : S → Type 0} {x : Setting S} {owners : List ℕ} {groups : ℕ} {steps : List Step} {mail : Boxes} {floors : Floors}
     {gvt : ℕ} {standings : List Standing} (k : IsRecorded r number end is_placed x owners groups steps mail floors gvt standings) (g : ℕ) (within : g < groups)

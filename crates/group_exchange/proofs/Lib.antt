@@ -1,6 +1,9 @@
 pub mod Owners
 pub mod Alike
 pub mod Marks
+pub mod Holding
 pub mod Taken
 pub mod SafeNow
 pub mod Collected
+pub mod InTime
+pub mod Posted
