@@ -1,2 +1,8 @@
+mod Alike
+mod Collected
 mod Lists
+mod Marks
+mod Owners
+mod SafeNow
+mod Taken
 mod Words
