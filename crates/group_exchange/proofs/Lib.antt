@@ -1,8 +1,11 @@
-mod Alike
-mod Collected
-mod Lists
-mod Marks
-mod Owners
-mod SafeNow
-mod Taken
-mod Words
+pub mod Owners
+pub mod Alike
+pub mod Marks
+pub mod Holding
+pub mod Taken
+pub mod SafeNow
+pub mod Collected
+pub mod InTime
+pub mod Posted
+pub mod Lists
+pub mod Words
