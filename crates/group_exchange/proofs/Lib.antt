@@ -7,3 +7,6 @@ pub mod SafeNow
 pub mod Collected
 pub mod InTime
 pub mod Posted
+pub mod Least
+pub mod Published
+pub mod Worked
