@@ -7,5 +7,9 @@ pub mod SafeNow
 pub mod Collected
 pub mod InTime
 pub mod Posted
+pub mod Least
+pub mod Published
+pub mod Worked
 pub mod Lists
 pub mod Words
+pub mod Halves
