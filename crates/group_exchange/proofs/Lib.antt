@@ -13,3 +13,5 @@ pub mod Worked
 pub mod Lists
 pub mod Words
 pub mod Halves
+pub mod Trays
+pub mod Again

@@ -1,10 +1,10 @@
 -- Boxes of letters, one of them changed; and the letters that go to a group.
-use Rattle.std.proofs.Common.{◌≡◌, ◌≢◌, ℕ, zero, suc, ◌+◌, ◌-◌, ◌<◌, ◌≤◌, ◌==◌, ◌⊎◌, inl, inr, Bool, true, false, cond, min, List, [], ◌∷◌, ◌++◌, map, flat_map, filter, set, get_or, length, take, drop, slice_get, slice_index, All, Option, Some, None, refl, sym, ap, ◌∙◌, subst, arith, append_assoc, append-nil, eq-eqb, ne_eqb}
+use Rattle.std.proofs.Common.{◌≡◌, ◌≢◌, ℕ, zero, suc, ◌+◌, ◌-◌, ◌<◌, ◌≤◌, ◌==◌, ◌⊎◌, inl, inr, Bool, true, false, cond, min, List, [], ◌∷◌, ◌++◌, map, flat_map, filter, set, get_or, length, take, drop, slice_get, slice_index, All, IfSome, Option, Some, None, option_map, refl, sym, ap, ◌∙◌, subst, arith, append_assoc, append-nil, eq-eqb, ne_eqb}
 use Rattle.std.proofs.lemmas.Bool.{cases_eq}
 use Rattle.std.proofs.lemmas.Grind.{flat_map-append}
 use Rattle.std.proofs.lemmas.List.{take_more, length-map, map-append}
 use Rattle.std.proofs.lemmas.List.Elements.{filter-append}
-use Rattle.std.proofs.lemmas.Option.{slice_get-get_or}
+use Rattle.std.proofs.lemmas.Option.{slice_get-get_or, get_or_from_slice_get}
 use Rattle.vlink.specs.Letters.{Letter}
 use Rattle.vlink.specs.Order.{message_order}
 use Rattle.virtual_time.specs.Law.{lowest, times_of}
@@ -143,3 +143,29 @@ owner-of owners n p q i all h a b =
 -- an element of a list all of whose elements have a property
 pub one-of : {X : Type 0} (P : X → Type 0) (xs : List X) → All P xs → (i : ℕ) (x : X) → i < length xs → x ≡ get_or xs i x → P x
 one-of P xs all i x h e = subst P (sym e) (all i x h)
+
+-- the least of the first numbers and of the one behind them
+pub lowest-more : (d : ℕ) (xs : List ℕ) (i x : ℕ) → i < length xs → slice_get xs i ≡ Some x → lowest d (take (i + 1) xs) ≡ min x (lowest d (take i xs))
+lowest-more d xs i x h e =
+    ap (lowest d) (take_more xs i x h ∙ ap (λ z. take i xs ++ z ∷ []) (get_or_from_slice_get xs i x x e)) ∙ lowest-append d (take i xs) (x ∷ [])
+
+-- an element that there is has the property of all
+pub some-of : {X : Type 0} (P : X → Type 0) (xs : List X) → All P xs → (i : ℕ) (o : Option X) → o ≡ slice_get xs i → IfSome o P
+some-of P [] all i o e = subst (λ z. IfSome z P) (sym e) tt
+some-of P (x ∷ xs) all zero o e = subst (λ z. IfSome z P) (sym e) (all 0 x (omega arith))
+some-of P (x ∷ xs) all (suc i) o e = some-of P xs (λ k d h. all (suc k) d (omega arith)) i o e
+
+-- a floor that fell to the least of the first letters falls to the one behind them
+pub floor-more : (ls : List Letter) (i : ℕ) (l : Letter) → i < length ls → l ≡ get_or ls i l → (first now new : Option ℕ) →
+    now ≡ option_map (λ d. lowest d (times_of message_order (take i ls))) first → new ≡ option_map (min l.message.time) now →
+    new ≡ option_map (λ d. lowest d (times_of message_order (take (i + 1) ls))) first
+floor-more ls i l h e None now new a b = b ∙ ap (option_map (min l.message.time)) a
+floor-more ls i l h e (Some d) now new a b = b ∙ (ap (option_map (min l.message.time)) a ∙ ap (λ z. Some z) (sym (times-more d ls i l h e)))
+
+-- no letter lowers a floor
+pub none-falls : (o : Option ℕ) (ls : List Letter) → ls ≡ [] → o ≡ option_map (λ d. lowest d (times_of message_order ls)) o
+none-falls o ls e = go o ∙ ap (λ zs. option_map (λ d. lowest d (times_of message_order zs)) o) (sym e)
+  where
+    go : (o : Option ℕ) → o ≡ option_map (λ d. lowest d (times_of message_order [])) o
+    go None = refl
+    go (Some d) = refl

@@ -54,6 +54,11 @@ module _ {S K : Type 0} (f : Simulation Message S K Note) (owners : List ℕ) wh
     pub group : k ≡ record h { held = k.held; last = y.steps; seen = (world_after f x.steps).gvt }
     pub held : TookLetters letters h.held k.held
 
+  -- these letters are all that wait for the group
+  pub record AreWaiting (x : Ledger) (h : GroupState S K) (letters : List Letter) : Type 0 where
+    pub home : All (λ l. is_of owners h.number (f.rules.order.receiver l.message) ≡ true) letters
+    pub whole : (p : ℕ) → is_of owners h.number p ≡ true → (world_after f x.steps).mail p ≡ received_by f.rules.order p letters
+
   -- the steps of the block as they are in the journal: each Take is behind the letters that wait there
   abbrev pub block_in : Ledger → GroupState S K → List Step
   block_in x h = map (behind (waiting_in f (world_after f x.steps))) (block_of h)
@@ -94,6 +99,11 @@ module _ {S K : Type 0} (f : Simulation Message S K Note) (owners : List ℕ) wh
     pub ends : in_group f k ≡ done_by f (steps_told did) (in_group f h)
     pub others : k ≡ record h { held = k.held }
 
+  -- some words joined the block
+  pub record Goes (h k : GroupState S K) : Type 0 where
+    pub did : List Did
+    pub went : Went did h k
+
   -- a message that is earlier than the limit waits at no process of the group
   abbrev pub IsIdleBefore : ℕ → GroupState S K → Type 0
   IsIdleBefore limit k = All (λ m. limit ≤ f.rules.order.time m) k.held.flow.queue
@@ -111,6 +121,10 @@ module _ {S K : Type 0} (f : Simulation Message S K Note) (owners : List ℕ) wh
   -- its actor has not enough numbers left for all that one event can send, and a message to handle
   abbrev pub WantsNumbers : Part Message S → Type 0
   WantsNumbers part = IsSome (next_of f.rules.order part) × (greatest_number < f.rules.counter part.state + 24)
+
+  -- a process of the group has a message to handle, and too few numbers left
+  abbrev pub IsShort : GroupState S K → Type 0
+  IsShort k = (p : ℕ) × (is_of owners k.number p ≡ true) × WantsNumbers ((in_group f k).parts p)
 
   -- a refusal leaves what was done before it. That numbers are wanting is told only where they are
   pub record WorksSome (h k : GroupState S K) (fault : PoolFault) : Type 0 where

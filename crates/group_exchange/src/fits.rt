@@ -24,7 +24,7 @@ impl<R: Actor, J: GroupRun<R>> GroupExchange<R, J> {
         ensures enabled { AreDone (simulation_of (rules_of R.plain) J.setting) (block_of group.now)
             (in_hand (simulation_of (rules_of R.plain) J.setting) group.now.seen (world_after (simulation_of (rules_of R.plain) J.setting) self.now.steps)) }
         ensures parts { (p : ℕ) → is_of J.owners group.now.number p ≡ true →
-            (world_after (simulation_of (rules_of R.plain) J.setting) (self.now.steps ++ block_in (simulation_of (rules_of R.plain) J.setting) self.now group.now)).parts p
+            (world_after (simulation_of (rules_of R.plain) J.setting) (self.now.steps ++ block_in (simulation_of (rules_of R.plain) J.setting) J.owners self.now group.now)).parts p
             ≡ (in_group (simulation_of (rules_of R.plain) J.setting) group.now).parts p }
     {
         self.join(group);
@@ -39,6 +39,11 @@ impl<R: Actor, J: GroupRun<R>> GroupExchange<R, J> {
         ensures seen { group.now.seen ≤ (world_after (simulation_of (rules_of R.plain) J.setting) self.now.steps).gvt }
         ensures stands { AreAsIn (is_of J.owners group.now.number) (world_after (simulation_of (rules_of R.plain) J.setting) group.now.last)
             (world_after (simulation_of (rules_of R.plain) J.setting) self.now.steps) }
+        ensures enabled { AreDone (simulation_of (rules_of R.plain) J.setting) (block_of group.now)
+            (in_hand (simulation_of (rules_of R.plain) J.setting) group.now.seen (world_after (simulation_of (rules_of R.plain) J.setting) self.now.steps)) }
+        ensures parts { (p : ℕ) → is_of J.owners group.now.number p ≡ true →
+            (world_after (simulation_of (rules_of R.plain) J.setting) (self.now.steps ++ block_in (simulation_of (rules_of R.plain) J.setting) J.owners self.now group.now)).parts p
+            ≡ (in_group (simulation_of (rules_of R.plain) J.setting) group.now).parts p }
     {
         let _limit = self.limit;
         let half = &self.marks[usize::from(group.number)];

@@ -4,6 +4,7 @@
 
 mod boxes;
 mod carrying;
+mod collecting;
 mod exchange;
 mod fits;
 mod gate;
@@ -11,18 +12,23 @@ mod group;
 mod listing;
 mod mark;
 mod pairs;
+mod posting;
 mod publishing;
 mod run_of;
 mod steps;
 mod told;
+mod working;
 
 pub use boxes::Boxes;
+pub use collecting::collect;
 pub use exchange::GroupExchange;
 pub use gate::Gate;
 pub use group::Group;
 pub use mark::{Mark, Standing};
 pub use pairs::Pairs;
+pub use posting::post;
 pub use publishing::publish;
 pub use run_of::GroupRun;
 pub use steps::Steps;
 pub use told::Told;
+pub use working::work;

@@ -1,5 +1,6 @@
 //! What an exchange and a group in hand both say of the group.
 ghost use Rattle.std.specs.Prelude.{◌≡◌, ◌<◌, map, set, length, slice_index};
+ghost use Rattle.group_exchange.specs.Views.{last_in};
 
 use crate::steps::Steps;
 use halves::{LeftHalf, RightHalf, tell};
@@ -43,4 +44,17 @@ pub(crate) fn tell_both(
 {
     let own = &mut marks[usize::from(group)];
     tell(own, half, mark);
+}
+
+/// The standing of a group that collects or posts when the journal has these steps, and that has seen GVT at this moment, in ns.
+pub(crate) fn standing_now(journal: &Steps, seen: Time) -> Standing
+    ensures last { last_in result ≡ journal.now.steps }
+    ensures steps { result.steps ≡ length journal.now.steps }
+    ensures seen { result.seen ≡ seen }
+{
+    Standing {
+        last: Snapshot::of(journal),
+        steps: journal.len(),
+        seen,
+    }
 }

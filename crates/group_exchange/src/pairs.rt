@@ -28,7 +28,6 @@ impl Model for Pairs {
     ghost view = { λ p. map (λ b. b.name) p.lefts.items };
 
     ghost invariant = { λ p. (map (λ s. s.name) p.rights.items ≡ map (λ b. b.name) p.lefts.items)
-        × (map (λ s. s.value) p.rights.items ≡ map (λ b. b.value) p.lefts.items)
         × All IsUnplaced (map (λ b. b.value) p.lefts.items) };
 }
 

@@ -8,7 +8,7 @@ pub letters-requires : goal.letters-requires
 letters-requires c = c.in-Some.ensures.within
 
 pub count_for-requires : goal.count_for-requires
-count_for-requires c = rw c.letters.ensures (c.requires c.in-Some.owner [] c.in-Some.ensures.within)
+count_for-requires c = record { few = rw c.letters.ensures (c.requires c.in-Some.owner [] c.in-Some.ensures.within) }
 
 pub returns-in-Some : goal.returns-in-Some
 returns-in-Some c =
