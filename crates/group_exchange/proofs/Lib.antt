@@ -13,3 +13,6 @@ pub mod Worked
 pub mod Lists
 pub mod Words
 pub mod Halves
+pub mod Below
+pub mod Told
+pub mod Opened

@@ -10,13 +10,9 @@ use Rattle.virtual_time.proofs.Journal.{takes}
 use Rattle.virtual_time.proofs.Kept.{put_elim, put_elim₂}
 use Rattle.hand.specs.Hands.{with_letter}
 use Rattle.hand.proofs.Going.{received-first, received-skip}
+use Rattle.group_exchange.specs.Views.{with_letters}
 use Rattle.group_exchange.specs.Keeps.{AreAsIn, IsLeastFloor}
 use Rattle.group_exchange.specs.Effects.{takes_of}
-
--- these letters were taken from the mail of the run, one after another
-abbrev pub with_letters : {S : Type 0} → Order Message → List Letter → World Message S → World Message S
-with_letters o [] v = v
-with_letters o (l ∷ ls) v = with_letters o ls (with_letter o l v)
 
 -- one floor of a group falls
 one-floor : (ours : ℕ → Bool) (end d t q : ℕ) (floors : ℕ → ℕ) → ours q ≡ true → IsLeastFloor ours end floors d → IsLeastFloor ours end (put q (min t (floors q)) floors) (min t d)

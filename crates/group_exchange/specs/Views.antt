@@ -1,12 +1,12 @@
 -- What contracts see of an exchange of groups and of a group, and the worlds that they tell of.
-use Rattle.std.specs.Prelude.{◌≡◌, ℕ, ◌==◌, Bool, false, List, [], map, filter, length, slice_get, get_or, Option, Some, None}
+use Rattle.std.specs.Prelude.{◌≡◌, ℕ, List, [], ◌∷◌, map, length, get_or}
 use Rattle.vlink.specs.declared.message.Message.{Message}
 use Rattle.vlink.specs.declared.note.Note.{Note}
 use Rattle.vlink.specs.Letters.{Letter}
-use Rattle.virtual_time.specs.Law.{Simulation, World, start, run, done_by, in_hand}
+use Rattle.virtual_time.specs.Law.{Order, Simulation, World, start, run, done_by, in_hand}
 use Rattle.virtual_time.specs.declared.step.Step.{Step}
 use Rattle.hand.specs.Block.{steps_told}
-use Rattle.hand.specs.Hands.{Held}
+use Rattle.hand.specs.Hands.{Held, with_letter}
 pub use Rattle.group_exchange.specs.Boxing.{Boxes, HasRoom, box_of, for_group, is_number, is_of}
 use Rattle.group_exchange.specs.declared.mark.Mark.{Mark}
 use Rattle.group_exchange.specs.declared.mark.Standing.{Standing}
@@ -52,6 +52,11 @@ mark_of marks g = get_or marks g blank
 -- the mark of a group in hand
 abbrev pub mark_at : {S K : Type 0} → GroupState S K → Mark
 mark_at g = record { steps = length g.last; seen = g.seen }
+
+-- these letters were taken from the mail of the run, one after another
+abbrev pub with_letters : {S : Type 0} → Order Message → List Letter → World Message S → World Message S
+with_letters o [] v = v
+with_letters o (l ∷ ls) v = with_letters o ls (with_letter o l v)
 
 -- the steps that a group did since its last post
 abbrev pub block_of : {S K : Type 0} → GroupState S K → List Step
