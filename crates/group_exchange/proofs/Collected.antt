@@ -4,21 +4,21 @@ use Rattle.std.proofs.lemmas.Bool.{cases_eq}
 use Rattle.std.proofs.lemmas.List.Elements.{All-nil, All-weaker}
 use Rattle.vlink.specs.declared.message.Message.{Message}
 use Rattle.vlink.specs.declared.note.Note.{Note}
-use Rattle.virtual_time.specs.Law.{Rules, Laws, World, AreBy, AreDone, IsSafeGroup, done_by, in_hand, lowest, received_by, start, times_of}
+use Rattle.virtual_time.specs.Law.{Rules, Laws, World, done_by, in_hand, lowest, received_by, start, times_of}
 use Rattle.virtual_time.specs.declared.step.Step.{Step}
 use Rattle.virtual_time.proofs.Journal.{run-then}
-use Rattle.reverse.specs.Setting.{Setting, simulation_of, IsLaidOut}
+use Rattle.reverse.specs.Setting.{Setting, simulation_of}
 use Rattle.gvt.specs.Horizon.{Floors}
 use Rattle.hand.specs.Block.{steps_told}
 use Rattle.hand.specs.Hands.{Held, StandsForGroup, is_ours}
 use Rattle.group_exchange.specs.declared.mark.Standing.{Standing}
-use Rattle.group_exchange.specs.Views.{Boxes, box_of, is_of, last_in, world_after}
+use Rattle.group_exchange.specs.Views.{Boxes, box_of, is_of, last_in, with_letters, world_after}
 use Rattle.group_exchange.specs.Keeps.{AreAsIn, AreGrouped, Holds, IsLeastFloor, IsMarked, IsRecorded}
 use Rattle.group_exchange.specs.Effects.{takes_of}
 use Rattle.group_exchange.proofs.Owners.{of-other, of-within}
 use Rattle.group_exchange.proofs.Alike.{stands-alike}
 use Rattle.group_exchange.proofs.Marks.{marks-set}
-use Rattle.group_exchange.proofs.Taken.{TakesAll, takes-all, with-alike, with-floor, with-mail, with-others, with_letters}
+use Rattle.group_exchange.proofs.Taken.{TakesAll, takes-all, with-alike, with-floor, with-mail, with-others}
 use Rattle.group_exchange.proofs.SafeNow.{safe-now}
 use Rattle.group_exchange.proofs.Holding.{holds-empty}
 

@@ -1,5 +1,5 @@
 -- Each letter on its way goes to a process, and is not after the end. This is of the law of virtual time alone.
-use Rattle.std.proofs.Common.{◌≡◌, ℕ, ◌<◌, ◌≤◌, inl, inr, Bool, true, false, cond, nat_lt, ◌&&◌, List, [], ◌∷◌, ◌++◌, map, reverse, remove, Option, Some, None, refl, sym, subst, arith, slice_get, ltb-true}
+use Rattle.std.proofs.Common.{◌≡◌, ℕ, ◌<◌, ◌≤◌, inl, inr, Bool, true, false, cond, nat_lt, ◌&&◌, List, [], ◌∷◌, ◌++◌, map, reverse, remove, Option, Some, None, refl, arith, slice_get, ltb-true}
 use Rattle.std.proofs.lemmas.Bool.{and_parts}
 use Rattle.virtual_time.specs.Law.{Simulation, Laws, World, Part, IsIn, IsNamed, before, from_on, minus_of, plus_of, received_by, reached, sent, rolled_back, tallied, is_toggled, arrived, arrive, handled, next_of, run_one, can_commit, oldest_committed, commit_oldest, start, taken, with_part, is_early, is_enabled, effect, step, run}
 use Rattle.virtual_time.specs.declared.letter.Letter.{Letter}

@@ -1,15 +1,15 @@
 -- The least of the floors of all groups and of the times of all letters on their way is the least of those of all processes.
-use Rattle.std.proofs.Common.{◌≡◌, ℕ, zero, suc, ◌+◌, ◌<◌, ◌≤◌, inl, inr, Bool, true, All, List, [], ◌∷◌, ◌++◌, length, flat_map, get_or, slice_get, Some, refl, sym, ap, ◌∙◌, subst, arith}
+use Rattle.std.proofs.Common.{◌≡◌, ℕ, zero, suc, ◌+◌, ◌<◌, ◌≤◌, inl, inr, true, All, List, [], ◌∷◌, ◌++◌, length, flat_map, get_or, slice_get, Some, refl, sym, ◌∙◌, subst, arith}
 use Rattle.std.proofs.lemmas.List.Elements.{All-head, All-tail}
 use Rattle.std.proofs.lemmas.Option.{slice_get-get_or}
 use Rattle.vlink.specs.declared.message.Message.{Message}
 use Rattle.vlink.specs.declared.note.Note.{Note}
 use Rattle.vlink.specs.Letters.{Letter}
-use Rattle.virtual_time.specs.Law.{Rules, Order, IsOrder, Simulation, Laws, World, IsNamed, gvt_over, lowest, received_by, run, start, times_of}
+use Rattle.virtual_time.specs.Law.{Rules, Order, IsOrder, Simulation, Laws, World, IsNamed, gvt_over, lowest, received_by, start, times_of}
 use Rattle.virtual_time.specs.declared.step.Step.{Step}
 use Rattle.virtual_time.specs.declared.step.Step.TheVariants.{Gvt}
 use Rattle.virtual_time.proofs.Journal.{publishes, run-then}
-use Rattle.virtual_time.proofs.Kept.{IsKept, start-kept}
+use Rattle.virtual_time.proofs.Kept.{start-kept}
 use Rattle.virtual_time.proofs.KeptRun.{run-kept}
 use Rattle.virtual_time.proofs.Letters.{named-append, named-cons, minuses-append, pluses-append, received-here, received-mine}
 use Rattle.virtual_time.proofs.Lowest.{lowest-letter, lowest-letters, lowest-top}

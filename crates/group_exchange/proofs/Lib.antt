@@ -13,5 +13,8 @@ pub mod Worked
 pub mod Lists
 pub mod Words
 pub mod Halves
+pub mod Below
+pub mod Told
+pub mod Opened
 pub mod Trays
 pub mod Again

@@ -1,5 +1,5 @@
 -- A group posts: its block goes to the journal, and its letters to others on their way.
-use Rattle.std.proofs.Common.{◌≡◌, ℕ, suc, ◌+◌, ◌<◌, ◌≤◌, inl, inr, Bool, true, false, All, cond, List, [], ◌∷◌, ◌++◌, map, length, slice_get, Option, Some, refl, sym, ap, ◌∙◌, subst, arith, append-nil, set}
+use Rattle.std.proofs.Common.{◌≡◌, ℕ, suc, ◌+◌, ◌<◌, ◌≤◌, inl, inr, Bool, true, false, All, cond, List, [], ◌∷◌, ◌++◌, map, length, slice_get, Some, refl, sym, ap, ◌∙◌, subst, arith, append-nil, set}
 use Rattle.std.proofs.lemmas.Bool.{both_ways, cases_eq}
 use Rattle.std.proofs.lemmas.List.Elements.{All-append, All-cons, All-filter, All-get_or, All-nil, All-weaker, filter_passes}
 use Rattle.std.proofs.lemmas.Option.{get_or_from_slice_get, slice_get_within}
@@ -22,10 +22,10 @@ use Rattle.group_exchange.specs.declared.mark.Standing.{Standing}
 use Rattle.group_exchange.specs.Views.{Boxes, box_of, for_group, is_of, last_in, world_after}
 use Rattle.group_exchange.specs.Keeps.{AreAsIn, AreGrouped, Holds, IsLeastFloor, IsMarked, IsRecorded}
 use Rattle.group_exchange.proofs.Owners.{of-other, owner-is, received-group}
-use Rattle.group_exchange.proofs.Alike.{IsSame, are-done-same, done-same, in-hand-same, stands-alike}
+use Rattle.group_exchange.proofs.Alike.{are-done-same, done-same, in-hand-same, stands-alike}
 use Rattle.group_exchange.proofs.Marks.{marks-set}
 use Rattle.group_exchange.proofs.Holding.{holds-empty}
-use Rattle.group_exchange.proofs.InTime.{IsLawful, letters-lawful}
+use Rattle.group_exchange.proofs.InTime.{letters-lawful}
 
 -- the same letters wait for the processes of the block
 pub behind-same : (ours : ℕ → Bool) (a b : ℕ → ℕ) → ((p : ℕ) → ours p ≡ true → a p ≡ b p) → (xs : List Step) → AreBy ours xs → map (behind a) xs ≡ map (behind b) xs

@@ -10,7 +10,7 @@ use Rattle.virtual_time.proofs.Journal.{takes}
 use Rattle.virtual_time.proofs.Kept.{put_elim, put_elim₂}
 use Rattle.hand.specs.Hands.{with_letter}
 use Rattle.hand.proofs.Going.{received-first, received-skip}
-pub use Rattle.group_exchange.specs.Views.{with_letters}
+use Rattle.group_exchange.specs.Views.{with_letters}
 use Rattle.group_exchange.specs.Keeps.{AreAsIn, IsLeastFloor}
 use Rattle.group_exchange.specs.Effects.{takes_of}
 

@@ -1,5 +1,5 @@
 -- What contracts see of an exchange of groups and of a group, and the worlds that they tell of.
-use Rattle.std.specs.Prelude.{◌≡◌, ℕ, ◌==◌, Bool, false, List, [], ◌∷◌, map, filter, length, slice_get, get_or, Option, Some, None}
+use Rattle.std.specs.Prelude.{◌≡◌, ℕ, List, [], ◌∷◌, map, length, get_or}
 use Rattle.vlink.specs.declared.message.Message.{Message}
 use Rattle.vlink.specs.declared.note.Note.{Note}
 use Rattle.vlink.specs.Letters.{Letter}
@@ -53,14 +53,14 @@ mark_of marks g = get_or marks g blank
 abbrev pub mark_at : {S K : Type 0} → GroupState S K → Mark
 mark_at g = record { steps = length g.last; seen = g.seen }
 
--- the steps that a group did since its last post
-abbrev pub block_of : {S K : Type 0} → GroupState S K → List Step
-block_of g = steps_told g.held.flow.words
-
 -- these letters were taken from the mail of the run, one after another
 abbrev pub with_letters : {S : Type 0} → Order Message → List Letter → World Message S → World Message S
 with_letters o [] v = v
 with_letters o (l ∷ ls) v = with_letters o ls (with_letter o l v)
+
+-- the steps that a group did since its last post
+abbrev pub block_of : {S K : Type 0} → GroupState S K → List Step
+block_of g = steps_told g.held.flow.words
 
 module _ {S K : Type 0} (f : Simulation Message S K Note) where
   -- the world that these steps reach
