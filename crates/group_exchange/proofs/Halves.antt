@@ -1,6 +1,6 @@
 -- The halves of marks, in lists; and that both halves of a group's mark tell one thing.
-use Rattle.std.proofs.Common.{◌≡◌, ℕ, zero, suc, ◌<◌, ◌≤◌, true, ◌++◌, List, [], ◌∷◌, map, set, length, slice_get, get_or, Some, refl, sym, ap, ◌∙◌, subst, arith}
-use Rattle.std.proofs.lemmas.List.{map-set, length-map}
+use Rattle.std.proofs.Common.{◌≡◌, ℕ, zero, suc, ◌+◌, ◌<◌, ◌≤◌, true, ◌++◌, List, [], ◌∷◌, All, map, set, drop, remove, replicate, length, slice_get, slice_index, get_or, length-drop, drop-cons, Some, refl, sym, ap, ◌∙◌, subst, arith}
+use Rattle.std.proofs.lemmas.List.{map-set, length-map, get_or-map, drop-map}
 use Rattle.std.proofs.Math.Seq.{map-set_same}
 use Rattle.vlink.specs.declared.message.Message.{Message}
 use Rattle.vlink.specs.declared.note.Note.{Note}
@@ -9,10 +9,11 @@ use Rattle.virtual_time.specs.declared.step.Step.{Step}
 use Rattle.reverse.specs.Setting.{Setting, simulation_of}
 use Rattle.gvt.specs.Horizon.{Floors}
 use Rattle.halves.specs.declared.LeftHalf.{LeftHalf}
+use Rattle.halves.specs.declared.RightHalf.{RightHalf}
 use Rattle.hand.specs.Block.{steps_told}
 use Rattle.hand.specs.Hands.{Held}
 use Rattle.group_exchange.specs.declared.mark.Standing.{Standing}
-use Rattle.group_exchange.specs.Views.{Boxes, is_of, last_in, mark_of, marks_in, world_after}
+use Rattle.group_exchange.specs.Views.{Boxes, IsUnplaced, blank, is_of, last_in, mark_in, mark_of, marks_in, world_after}
 use Rattle.group_exchange.specs.Keeps.{AreAsIn, Holds, IsMarked, IsRecorded}
 use Rattle.group_exchange.proofs.Alike.{are-done-same, in-hand-same}
 use Rattle.group_exchange.proofs.Posted.{posted}
@@ -77,3 +78,50 @@ pub recorded-as : {S K : Type 0} {r : Rules Message S K Note} {number end : S �
     IsRecorded r number end is_placed x owners groups steps' mail floors gvt standings
 recorded-as {r = r} {number = number} {end = end} {is_placed = is_placed} {x = x} {owners = owners} {groups = groups} {mail = mail} {floors = floors} {gvt = gvt} {standings = standings} k steps' e =
     subst (λ ss. IsRecorded r number end is_placed x owners groups ss mail floors gvt standings) (sym e) k
+
+-- the marks that are left when those before place i have gone
+module _ (names : List ℕ) (marks : List (RightHalf Standing)) (i : ℕ) (left : map (λ s. s.name) marks ≡ drop i names) (within : i < length names) where
+  pub some-left : 0 < length marks
+  some-left = omega (arith, length-map marks (λ (z : RightHalf Standing). z.name), ap length left, length-drop i names)
+
+  pub first-name : (s : RightHalf Standing) → s ≡ get_or marks 0 s → s.name ≡ slice_index names i
+  first-name s at =
+      ap (λ z. z.name) at ∙ (sym (get_or-map (λ (z : RightHalf Standing). z.name) marks 0 s 0 some-left) ∙
+      (ap (λ ns. get_or ns 0 0) left ∙ ap (λ ns. get_or ns 0 0) (drop-cons names i 0 within)))
+
+  pub names-left : (rest : List (RightHalf Standing)) → rest ≡ remove marks 0 → map (λ s. s.name) rest ≡ drop (i + 1) names
+  names-left rest gone =
+      ap (map (λ (z : RightHalf Standing). z.name)) gone ∙ (sym (drop-map (λ (z : RightHalf Standing). z.name) 1 marks) ∙
+      (ap (drop 1) left ∙ (ap (drop 1) (drop-cons names i 0 within) ∙ ap (λ n. drop n names) (let e : suc i ≡ i + 1 = omega arith in e))))
+
+-- one standing more that tells of nothing
+pub blanks-set : (standings : List Standing) (i : ℕ) (s : Standing) → All IsUnplaced standings → IsUnplaced s → All IsUnplaced (set standings i s)
+blanks-set [] i s all u k d h = absurd (omega arith)
+blanks-set (z ∷ zs) zero s all u zero d h = u
+blanks-set (z ∷ zs) zero s all u (suc k) d h = all (suc k) d (omega arith)
+blanks-set (z ∷ zs) (suc i) s all u zero d h = all 0 d (omega arith)
+blanks-set (z ∷ zs) (suc i) s all u (suc k) d h = blanks-set zs i s (λ j e v. all (suc j) e (omega arith)) u k d (omega arith)
+
+-- none of them has a step yet
+pub marks-blank : (standings : List Standing) (n : ℕ) → length standings ≡ n → All IsUnplaced standings → marks_in standings ≡ replicate n blank
+marks-blank [] zero e all = refl
+marks-blank [] (suc n) e all = absurd (omega arith)
+marks-blank (z ∷ zs) zero e all = absurd (omega arith)
+marks-blank (z ∷ zs) (suc n) e all =
+    let u = all 0 z (omega arith) in
+    let first : mark_in z ≡ blank = (let a = u.1 in let b = u.2 in λ i. record { steps = a i; seen = b i }) in
+    let rest = marks-blank zs n (omega arith) (λ k d h. all (suc k) d (omega arith)) in
+    λ i. first i ∷ rest i
+
+-- each standing tells of nothing
+pub each-blank : (standings : List Standing) → All IsUnplaced standings → (g : ℕ) (s : Standing) → slice_get standings g ≡ Some s → IsUnplaced s
+each-blank [] all g s e = absurd (let k : ⊥ = cc in k)
+each-blank (z ∷ zs) all zero s e = let k : z ≡ s = cc in subst IsUnplaced k (all 0 z (omega arith))
+each-blank (z ∷ zs) all (suc g) s e = each-blank zs (λ k d h. all (suc k) d (omega arith)) g s e
+
+-- where a group stands, as both halves of its mark tell it
+pub marked-by : {S K : Type 0} {r : Rules Message S K Note} {number end : S → ℕ} {is_placed : S → Type 0} {x : Setting S} {owners : List ℕ} {groups : ℕ} {steps : List Step} {mail : Boxes} {floors : Floors}
+    {gvt : ℕ} {standings : List Standing} → IsRecorded r number end is_placed x owners groups steps mail floors gvt standings → (g : ℕ) (s : Standing) →
+    AreAsIn (is_of owners g) (world_after (simulation_of r x) (last_in s)) (world_after (simulation_of r x) steps) → s.steps ≡ length (last_in s) → s.seen ≤ (world_after (simulation_of r x) steps).gvt →
+    IsMarked r number end is_placed x owners steps gvt g s
+marked-by k g s a place low = record { same = a; place = place; seen_low = let e = k.gvt_is in omega arith }

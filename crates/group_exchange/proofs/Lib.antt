@@ -18,3 +18,8 @@ pub mod Told
 pub mod Opened
 pub mod Trays
 pub mod Again
+pub mod Going
+pub mod Waiting
+pub mod Parting
+pub mod Ends
+pub mod Gathers

@@ -7,7 +7,8 @@ use Rattle.std.proofs.lemmas.List.Elements.{filter-append}
 use Rattle.std.proofs.lemmas.Option.{slice_get-get_or, get_or_from_slice_get}
 use Rattle.vlink.specs.Letters.{Letter}
 use Rattle.vlink.specs.Order.{message_order}
-use Rattle.virtual_time.specs.Law.{lowest, times_of}
+use Rattle.vlink.specs.declared.message.Message.{Message}
+use Rattle.virtual_time.specs.Law.{Order, lowest, times_of}
 use Rattle.group_exchange.specs.Boxing.{is_of, is_number, for_group, box_of, HasRoom}
 
 module _ {X : Type 0} (f : X → List Letter) where
@@ -163,9 +164,9 @@ floor-more ls i l h e None now new a b = b ∙ ap (option_map (min l.message.tim
 floor-more ls i l h e (Some d) now new a b = b ∙ (ap (option_map (min l.message.time)) a ∙ ap (λ z. Some z) (sym (times-more d ls i l h e)))
 
 -- no letter lowers a floor
-pub none-falls : (o : Option ℕ) (ls : List Letter) → ls ≡ [] → o ≡ option_map (λ d. lowest d (times_of message_order ls)) o
-none-falls o ls e = go o ∙ ap (λ zs. option_map (λ d. lowest d (times_of message_order zs)) o) (sym e)
+pub none-falls : (o : Order Message) (d : Option ℕ) (ls : List Letter) → ls ≡ [] → d ≡ option_map (λ d. lowest d (times_of o ls)) d
+none-falls o d ls e = go d ∙ ap (λ zs. option_map (λ d. lowest d (times_of o zs)) d) (sym e)
   where
-    go : (o : Option ℕ) → o ≡ option_map (λ d. lowest d (times_of message_order [])) o
+    go : (d : Option ℕ) → d ≡ option_map (λ d. lowest d (times_of o [])) d
     go None = refl
-    go (Some d) = refl
+    go (Some n) = refl

@@ -1,8 +1,12 @@
 -- The steps for which words stand.
-use Rattle.std.proofs.Common.{◌≡◌, ℕ, zero, suc, ◌+◌, ◌<◌, ◌≤◌, List, [], ◌∷◌, ◌++◌, map, get_or, length, take, drop, refl, sym, ap, ◌∙◌, arith, append_assoc, append-nil, length-append}
+use Rattle.std.proofs.Common.{◌≡◌, ℕ, zero, suc, ◌+◌, ◌<◌, ◌≤◌, List, [], ◌∷◌, ◌++◌, map, flat_map, get_or, length, take, drop, refl, sym, ap, ◌∙◌, arith, append_assoc, append-nil, length-append}
 use Rattle.std.proofs.lemmas.List.{take_more, take-append-drop, length-map}
 use Rattle.virtual_time.specs.Law.{behind}
 use Rattle.virtual_time.specs.declared.step.Step.{Step}
+use Rattle.std.proofs.lemmas.Grind.{flat_map-append}
+use Rattle.std.specs.declared.snapshot.Snapshot.{Snapshot}
+use Rattle.group_exchange.specs.declared.entry.Entry.{Entry}
+use Rattle.group_exchange.specs.Telling.{steps_by}
 use Rattle.hand.specs.declared.block.Did.{Did}
 use Rattle.hand.specs.Block.{steps_of_word, steps_told}
 
@@ -33,3 +37,9 @@ pub word-at : (ws : List Did) (k : ℕ) (d : Did) → k < length ws → get_or w
 word-at [] k d h = absurd (omega arith)
 word-at (w ∷ ws) zero d h = refl
 word-at (w ∷ ws) (suc k) d h = word-at ws k d (omega arith)
+
+-- the journal is told one thing more
+pub told-longer : (told : List (Snapshot Entry)) (e : Snapshot Entry) (xs : List Step) → steps_by e.value ≡ xs →
+    flat_map (λ t. steps_by t.value) (told ++ e ∷ []) ≡ flat_map (λ t. steps_by t.value) told ++ xs
+told-longer told e xs h =
+    flat_map-append (λ (t : Snapshot Entry). steps_by t.value) told (e ∷ []) ∙ ap (λ z. flat_map (λ t. steps_by t.value) told ++ z) (append-nil (steps_by e.value) ∙ h)

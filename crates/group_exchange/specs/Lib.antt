@@ -5,3 +5,4 @@ pub mod Listing
 pub mod Views
 pub mod Keeps
 pub mod Effects
+pub mod Opening

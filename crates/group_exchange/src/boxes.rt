@@ -5,7 +5,7 @@ ghost use Rattle.vlink.specs.Order.{message_order};
 ghost use Rattle.group_exchange.specs.Boxing.{HasRoom, box_of, for_group};
 ghost use Rattle.group_exchange.specs.Telling.{AreShort, waiting_for};
 
-use crate::carrying::{are_short, count_for, least_time, make_room, push_all, put_all};
+use crate::carrying::{are_short, count_for, least_time, make_room, owner_of, push_all, put_all};
 use antimessages::OutOfMemory;
 use std::alloc::Global;
 use std::marker::Model;
@@ -70,7 +70,7 @@ impl Boxes {
         ensures is { result ≡ slice_get self.now.owners process }
         ensures within { IfSome result (λ group. group < length self.now.boxes) }
     {
-        self.owners.get(usize::from(process)).copied()
+        owner_of(&self.owners, process)
     }
 
     /// The letters for a group, the oldest first.

@@ -8,6 +8,13 @@ ghost use Rattle.group_exchange.specs.Telling.{AreShort};
 use std::alloc::AllocError;
 use vlink::{Letter, Message, Sign, Time, earlier};
 
+/// The group of this process. None: there is no such process.
+pub(crate) fn owner_of(owners: &[u16], process: u16) -> Option<u16>
+    ensures { result ≡ slice_get owners.now process }
+{
+    owners.get(usize::from(process)).copied()
+}
+
 /// Makes room for so many letters more in each box.
 pub(crate) fn make_room(boxes: &mut Vec<Vec<Letter>>, more: usize) -> Result<(), AllocError>
     ensures items { map (λ x. x.items) boxes.new.items ≡ map (λ x. x.items) boxes.old.items }

@@ -1,5 +1,5 @@
 //! A group takes the letters that are on their way to it.
-ghost use Rattle.std.specs.Prelude.{◌≡◌, ◌≢◌, ◌<◌, ◌≤◌, ◌+◌, ◌⊎◌, ℕ, [], ◌∷◌, ◌++◌, set, length, slice_get, All, IfOk, OnErr, IfErr, Err, true};
+ghost use Rattle.std.specs.Prelude.{List, ◌≡◌, ◌≢◌, ◌<◌, ◌≤◌, ◌+◌, ◌⊎◌, ℕ, [], ◌∷◌, ◌++◌, set, length, slice_get, All, IfOk, OnErr, IfErr, Err, true};
 ghost use Rattle.std.specs.Option.{option_map};
 ghost use Rattle.vlink.specs.declared.message.Message.{Message};
 ghost use Rattle.vlink.specs.Letters.{Letter};

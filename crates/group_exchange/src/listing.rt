@@ -1,12 +1,12 @@
 //! The steps for which letters that are taken, and words of a group, stand.
-ghost use Rattle.std.specs.Prelude.{◌≡◌, ◌+◌, ◌<◌, ◌≤◌, ◌^◌, ◌∷◌, [], ◌++◌, ℕ, map, length, vec_len, vec_capacity};
+ghost use Rattle.std.specs.Prelude.{true, ◌≡◌, ◌+◌, ◌<◌, ◌≤◌, ◌^◌, ◌∷◌, [], ◌++◌, ℕ, map, length, vec_len, vec_capacity};
 ghost use Rattle.virtual_time.specs.Law.{behind};
 ghost use Rattle.virtual_time.specs.declared.step.Step.TheVariants.{Take};
 ghost use Rattle.hand.specs.Block.{steps_of_word, steps_told};
 ghost use Rattle.group_exchange.specs.Telling.{AreShort, waiting_for};
 
 use crate::boxes::Boxes;
-use hand::Did;
+use hand::{Did, Words};
 use vlink::{Letter, Step};
 
 /// Each letter was taken, the first of the mail of its receiver. There is room for these steps.
@@ -22,8 +22,18 @@ pub(crate) fn list_takes(steps: &mut Vec<Step>, letters: &[Letter])
     }
 }
 
+/// The steps for which the words of a block stand, which are kept, each Take behind the letters that are on their way. There is room for them.
+pub(crate) fn list_block(steps: &mut Vec<Step>, words: &Words, boxes: &Boxes)
+    requires keeps { words.now.keeps ≡ true }
+    requires room { vec_len steps.old + length (steps_told words.now.words) ≤ vec_capacity steps.old }
+    requires short { AreShort boxes.now.boxes }
+    ensures { steps.new.items ≡ steps.old.items ++ map (behind (waiting_for boxes.now)) (steps_told words.now.words) }
+{
+    list_words(steps, words.list(), boxes);
+}
+
 /// The steps for which these words stand, each Take behind the letters that are on their way. There is room for them.
-pub(crate) fn list_words(steps: &mut Vec<Step>, words: &[Did], boxes: &Boxes)
+fn list_words(steps: &mut Vec<Step>, words: &[Did], boxes: &Boxes)
     requires room { vec_len steps.old + length (steps_told words.now) ≤ vec_capacity steps.old }
     requires short { AreShort boxes.now.boxes }
     ensures { steps.new.items ≡ steps.old.items ++ map (behind (waiting_for boxes.now)) (steps_told words.now) }

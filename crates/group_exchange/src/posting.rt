@@ -3,13 +3,16 @@ ghost use Rattle.std.specs.Prelude.{◌≡◌, ◌<◌, ◌+◌, ◌⊎◌, leng
 ghost use Rattle.reverse.specs.Rules.{rules_of};
 ghost use Rattle.reverse.specs.Setting.{simulation_of};
 ghost use Rattle.journal.specs.declared.fault.PoolFault.TheVariants.{OutOfMemory, JournalFull, Torn};
+ghost use Rattle.group_exchange.specs.Telling.{AreShort};
 ghost use Rattle.group_exchange.specs.Views.{block_of};
 ghost use Rattle.group_exchange.specs.Effects.{IsGroupAsBefore, Posts};
 
+use crate::boxes::Boxes;
 use crate::exchange::GroupExchange;
 use crate::group::Group;
 use crate::mark::{standing_now, tell_both};
 use crate::run_of::GroupRun;
+use crate::steps::Steps;
 use hand::hand_laws;
 use journal::PoolFault;
 use reverse::{Actor, actor_laws};
@@ -23,7 +26,7 @@ pub fn post<R: Actor, J: GroupRun<R>>(
     group: &mut Group<R, J>,
     exchange: &mut GroupExchange<R, J>,
 ) -> Result<(), PoolFault>
-    ensures ok { OnOk result (Posts (simulation_of (rules_of R.plain) J.setting) exchange.old group.old exchange.new group.new) }
+    ensures ok { OnOk result (Posts (simulation_of (rules_of R.plain) J.setting) J.owners exchange.old group.old exchange.new group.new) }
     ensures unchanged { OnErr result ((exchange.new ≡ exchange.old) × IsGroupAsBefore group.old group.new) }
     ensures full { result ≡ Err JournalFull → (0 < length (block_of group.old)) × (exchange.old.limit < length exchange.old.steps + length (block_of group.old)) }
     ensures limited { exchange.old.limit < length exchange.old.steps + length (block_of group.old) → 0 < length (block_of group.old) → result ≡ Err JournalFull }
@@ -42,7 +45,7 @@ pub fn post<R: Actor, J: GroupRun<R>>(
     if group.hand.count_done().is_err() {
         return Err(PoolFault::OutOfMemory);
     }
-    if exchange.journal.are_kept() && !exchange.boxes.are_short() {
+    if !can_list(&exchange.journal, &exchange.boxes) {
         return Err(PoolFault::OutOfMemory);
     }
     exchange.boxes.reserve(group.hand.abroad().len())?;
@@ -63,4 +66,14 @@ pub fn post<R: Actor, J: GroupRun<R>>(
         &group.standing,
     );
     Ok(())
+}
+
+/// Whether the steps can name the places of all letters that are on their way: a journal that is not kept need not.
+fn can_list(journal: &Steps, boxes: &Boxes) -> bool
+    ensures { result ≡ true → journal.now.keeps ≡ true → AreShort boxes.now.boxes }
+{
+    if journal.are_kept() {
+        return boxes.are_short();
+    }
+    true
 }

@@ -8,8 +8,8 @@ ghost use Rattle.group_exchange.specs.Boxing.{box_of};
 ghost use Rattle.group_exchange.specs.Telling.{AreShort, waiting_for};
 
 use crate::boxes::Boxes;
-use crate::listing::{list_takes, list_words};
-use crate::told::Told;
+use crate::entry::Entry;
+use crate::listing::{list_block, list_takes};
 use hand::Words;
 use journal::{PoolFault, Table};
 use std::alloc::Global;
@@ -28,7 +28,7 @@ pub(crate) struct Kept {
 /// they are kept, once more as they are.
 #[derive(Drop)]
 pub struct Steps {
-    told: Vec<Snapshot<Told>>,
+    told: Vec<Snapshot<Entry>>,
     /// How many steps there are.
     count: u64,
     kept: Option<Kept>,
@@ -120,7 +120,7 @@ impl Steps {
         let letters = boxes.letters(group);
         self.count += letters.len() as u64;
         self.told
-            .push_reserved(Snapshot::of(&Told::Taken(group, Snapshot::of(boxes))));
+            .push_reserved(Snapshot::of(&Entry::Taken(group, Snapshot::of(boxes))));
         if let Some(kept) = &mut self.kept {
             list_takes(&mut kept.steps, letters);
         }
@@ -128,7 +128,6 @@ impl Steps {
 
     /// A group did what these words tell, so many steps, each Take behind the letters that are on their way. There is room for these steps, and for
     /// one at the least.
-    #[tactic(auto, using(crate::proofs::Words::length_behind))]
     pub fn tell(&mut self, words: &Words, boxes: &Boxes, count: u64)
         requires count { count ≡ length (steps_told words.now.words) }
         requires kept { self.old.keeps ≡ true → words.now.keeps ≡ true }
@@ -141,9 +140,9 @@ impl Steps {
     {
         self.count += count;
         self.told
-            .push_reserved(Snapshot::of(&Told::Did(Snapshot::of(words), Snapshot::of(boxes))));
+            .push_reserved(Snapshot::of(&Entry::Did(Snapshot::of(words), Snapshot::of(boxes))));
         if let Some(kept) = &mut self.kept {
-            list_words(&mut kept.steps, words.list(), boxes);
+            list_block(&mut kept.steps, words, boxes);
         }
     }
 
@@ -155,7 +154,7 @@ impl Steps {
         ensures keeps { self.new.keeps ≡ self.old.keeps }
     {
         self.count += 1;
-        self.told.push_reserved(Snapshot::of(&Told::Set));
+        self.told.push_reserved(Snapshot::of(&Entry::Set));
         if let Some(kept) = &mut self.kept {
             kept.steps.push_reserved(Step::Gvt);
         }

@@ -1,5 +1,5 @@
 //! What a group does alone.
-ghost use Rattle.std.specs.Prelude.{◌≡◌, ◌<◌, ◌≤◌, ◌+◌, ◌⊎◌, ℕ, min, true, false, [], OnOk, IfOk, OnErr, IfErr, IfSome, IfNone, Ok, Err, All, IsPermutation};
+ghost use Rattle.std.specs.Prelude.{◌≡◌, ◌<◌, ◌≤◌, ◌+◌, ◌⊎◌, ℕ, min, true, false, [], OnOk, IfOk, OnErr, IfErr, Ok, Err, All, IsPermutation};
 ghost use Rattle.reverse.specs.Rules.{rules_of};
 ghost use Rattle.reverse.specs.Setting.{simulation_of};
 ghost use Rattle.journal.specs.declared.fault.PoolFault.TheVariants.{OutOfMemory, Exhausted};
@@ -11,10 +11,10 @@ ghost use Rattle.group_exchange.specs.Effects.{Goes, IsGroupAsBefore, IsIdleBefo
 use crate::gate::Gate;
 use crate::group::Group;
 use crate::run_of::GroupRun;
-use hand::HandFault;
+use hand::{HandFault, hand_laws};
 use journal::PoolFault;
 use reverse::{Actor, actor_laws};
-use vlink::{Time, lawful_order};
+use vlink::Time;
 
 /// All letters of the tray arrive; then messages that are earlier than the GVT seen and `window`, in ns, are handled, `turn` at most, as long
 /// as there are any; then all done events below the GVT seen are committed. Each step joins the block. The answer is how many messages were handled. The
@@ -52,7 +52,7 @@ impl<R: Actor, J: GroupRun<R>> Group<R, J> {
     fn run_early<G: Gate>(&mut self, turn: u32, limit: Time, gate: &G) -> Result<u64, PoolFault>
         ensures goes { Goes (simulation_of (rules_of R.plain) J.setting) J.owners self.old self.new }
         ensures within { IfOk result (λ count. count ≤ turn) }
-        ensures idle { IfOk result (λ count. (count ≡ turn) ⊎ IsIdleBefore (simulation_of (rules_of R.plain) J.setting) limit self.new) }
+        ensures idle { IfOk result (λ count. (count ≡ turn) ⊎ IsIdleBefore (simulation_of (rules_of R.plain) J.setting) J.owners limit self.new) }
         ensures arrived { OnOk result (self.new.held.flow.tray ≡ []) }
         ensures short { result ≡ Err Exhausted → IsShort (simulation_of (rules_of R.plain) J.setting) J.owners self.new }
         ensures faults { IfErr result (λ fault. (fault ≡ OutOfMemory) ⊎ (fault ≡ Exhausted)) }
@@ -83,18 +83,20 @@ impl<R: Actor, J: GroupRun<R>> Group<R, J> {
     /// The first message is handled, if there is one that is earlier than the limit. The answer is whether there was.
     fn run_next<G: Gate>(&mut self, limit: Time, gate: &G) -> Result<bool, PoolFault>
         ensures goes { Goes (simulation_of (rules_of R.plain) J.setting) J.owners self.old self.new }
-        ensures idle { result ≡ Ok false → IsIdleBefore (simulation_of (rules_of R.plain) J.setting) limit self.new }
+        ensures idle { result ≡ Ok false → IsIdleBefore (simulation_of (rules_of R.plain) J.setting) J.owners limit self.new }
         ensures tray { result ≡ Ok false → self.new.held.flow.tray ≡ self.old.held.flow.tray }
         ensures short { result ≡ Err Exhausted → IsShort (simulation_of (rules_of R.plain) J.setting) J.owners self.new }
         ensures faults { IfErr result (λ fault. (fault ≡ OutOfMemory) ⊎ (fault ≡ Exhausted)) }
     {
         self.count_done()?;
-        let Some(process) = self.next_before(limit) else {
+        if self.is_idle(limit) {
             return Ok(false);
-        };
+        }
+        let process = self.next_process();
         let run = self.handled(process);
         gate.before(process, run);
-        self.handle(limit)?;
+        self.count_done()?;
+        self.run_first(limit)?;
         gate.after(process, run);
         self.count_run(process, run);
         Ok(true)
@@ -114,25 +116,34 @@ impl<R: Actor, J: GroupRun<R>> Group<R, J> {
         }
     }
 
-    /// The process that handles the first message, if there is one that is earlier than the limit.
-    fn next_before(&mut self, limit: Time) -> Option<u16>
+    /// Whether no message is earlier than the limit.
+    fn is_idle(&mut self, limit: Time) -> bool
         ensures stood { IsGroupAsBefore self.old self.new }
-        ensures waits { FirstWaits message_order self.old.held → FirstWaits message_order self.new.held }
-        ensures idle { IfNone result (IsIdleBefore (simulation_of (rules_of R.plain) J.setting) limit self.new) }
+        ensures idle { result ≡ true → IsIdleBefore (simulation_of (rules_of R.plain) J.setting) J.owners limit self.new }
     {
-        actor_laws::<R>();
-        lawful_order();
-        let Some(message) = self.hand.next() else {
-            return None;
+        hand_laws::<R>();
+        let Some(time) = self.hand.next_time() else {
+            return true;
         };
-        if limit <= message.time {
-            return None;
+        if limit <= time {
+            return true;
         }
-        Some(message.receiver)
+        false
     }
 
-    /// The first message is handled, which is earlier than the limit and not done.
-    fn handle(&mut self, limit: Time) -> Result<(), PoolFault>
+    /// The process that handles the first message; 0 where there is none.
+    fn next_process(&mut self) -> u16
+        ensures { IsGroupAsBefore self.old self.new }
+    {
+        hand_laws::<R>();
+        match self.hand.next() {
+            Some(message) => message.receiver,
+            None => 0,
+        }
+    }
+
+    /// The first message is handled, where it is earlier than the limit. It is not done.
+    fn run_first(&mut self, limit: Time) -> Result<(), PoolFault>
         requires { FirstWaits message_order self.old.held }
         ensures goes { Goes (simulation_of (rules_of R.plain) J.setting) J.owners self.old self.new }
         ensures short { result ≡ Err Exhausted → IsShort (simulation_of (rules_of R.plain) J.setting) J.owners self.new }
@@ -152,6 +163,7 @@ impl<R: Actor, J: GroupRun<R>> Group<R, J> {
         ensures goes { Goes (simulation_of (rules_of R.plain) J.setting) J.owners self.old self.new }
         ensures below { OnOk result (All (λ m. self.old.seen ≤ m.time) (messages_of self.new.held.done)) }
         ensures queue { IsPermutation self.old.held.flow.queue self.new.held.flow.queue }
+        ensures in_time { All (λ m. m.time ≤ J.setting.until) self.new.held.flow.queue }
         ensures tray { self.new.held.flow.tray ≡ self.old.held.flow.tray }
         ensures memory { IfErr result (λ fault. fault ≡ OutOfMemory) }
     {

@@ -21,7 +21,7 @@ pub deliver_reserved-requires : goal.deliver_reserved-requires
 deliver_reserved-requires g c =
     let inv = c.loop-letter.invariant in
     record {
-      ours = ap (λ ms. is_ours ms c.letter-item.result.message.receiver) (tray-members _ _ _ inv.told) ∙
+      ours = ap (λ ms. is_ours ms c.letter-item.result.message.receiver) (tray-members c.args.hand.now c.loop-letter.hand (take c.loop-letter.letter-index c.args.letters.now) inv.told) ∙
           one-of (λ (l : Letter). is_ours c.args.hand.now.members l.message.receiver ≡ true) c.args.letters.now c.requires.ours c.loop-letter.letter-index c.letter-item.result c.loop-letter-test.true c.letter-item.is;
       room = let a = inv.room in let b = c.loop-letter-test.true in omega arith;
     }
@@ -44,7 +44,7 @@ loop-letter-preserved g c =
     }
 
 pub returns-clause-told : goal.returns-clause-told
-returns-clause-told g c = tray-all c.args.hand.now c.loop-letter.hand _ _ c.loop-letter.invariant.told (take_all c.loop-letter.letter-index c.args.letters.now c.loop-letter-test.false)
+returns-clause-told g c = tray-all c.args.hand.now c.loop-letter.hand (take c.loop-letter.letter-index c.args.letters.now) c.args.letters.now c.loop-letter.invariant.told (take_all c.loop-letter.letter-index c.args.letters.now c.loop-letter-test.false)
 
 pub returns-clause-stands : goal.returns-clause-stands
 returns-clause-stands g c = λ x v all s.

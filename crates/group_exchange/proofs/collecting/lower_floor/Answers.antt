@@ -1,11 +1,11 @@
-use Rattle.std.proofs.Common.{◌≡◌, ◌<◌, length, slice_get, option_map, refl, ap, ◌∙◌, take_all}
+use Rattle.std.proofs.Common.{◌≡◌, ◌<◌, length, slice_get, option_map, [], refl, ap, ◌∙◌, take_all}
 use Rattle.virtual_time.specs.Law.{lowest, times_of}
 use Rattle.vlink.specs.Order.{message_order}
 use Rattle.group_exchange.proofs.Lists.{floor-more, none-falls}
 use Rattle.group_exchange.proofs.collecting.lower_floor.Goals as goal
 
 pub loop-letter-init : goal.loop-letter-init
-loop-letter-init c = record { floor = none-falls _ _ refl; others = λ q n. refl; groups = refl; until = refl }
+loop-letter-init c = record { floor = none-falls message_order _ [] refl; others = λ q n. refl; groups = refl; until = refl }
 
 pub loop-letter-preserved : goal.loop-letter-preserved
 loop-letter-preserved c =

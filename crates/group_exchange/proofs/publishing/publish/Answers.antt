@@ -1,4 +1,4 @@
-use Rattle.std.proofs.Common.{◌≡◌, ◌+◌, ◌==◌, List, [], ◌∷◌, ◌++◌, map, flat_map, length, subst, refl, sym, ap, ◌∙◌, arith, eq-eqb, eqb-true}
+use Rattle.std.proofs.Common.{◌≡◌, ◌+◌, ◌==◌, List, [], ◌∷◌, ◌++◌, map, flat_map, length, subst, refl, sym, ap, ◌∙◌, arith, eq-eqb, eqb-true, length-append}
 use Rattle.std.proofs.lemmas.Bool.{false≢true}
 use Rattle.vlink.specs.Order.{message_order}
 use Rattle.virtual_time.specs.Law.{gvt_over, lowest, times_of}
@@ -38,7 +38,17 @@ invariant_of-exchange g c = (
 )
 
 pub invariant_of-exchange-2 : goal.invariant_of-exchange-2
-invariant_of-exchange-2 g c = ?
+invariant_of-exchange-2 g c =
+    let k = c.exchange.invariant.3 in
+    let gvt = found g (goal.at.invariant_of-exchange-2 g c).After-earliest-gvt in
+    let longer = c.set_gvt.ensures.steps ∙ ap (λ (ss : List Step). ss ++ Gvt ∷ []) c.reserve.ensures.steps in (
+      omega (arith, ap length longer, length-append c.exchange.inside.journal.steps (Gvt ∷ []), c.if-len-exchange.false, c.len.ensures),
+      c.exchange.invariant.1,
+      c.exchange.invariant.2,
+      kept-published k (c.actor_laws.ensures g.J.GroupRun.setting k.laid) c.earliest-gvt.result gvt c.set_gvt.new.self.steps longer,
+      c.exchange.invariant.4,
+      c.set_gvt.ensures.keeps ∙ (c.reserve.ensures.keeps ∙ c.exchange.invariant.5),
+    )
 
 pub returns-then-eq-clause-ok : goal.returns-then-eq-clause-ok
 returns-then-eq-clause-ok g c =
@@ -62,3 +72,10 @@ returns-then-eq-clause-limited g c =
     let gvt = found g (goal.at.returns-then-eq-clause-limited g c).After-earliest-gvt in
     let same = eqb-true _ _ (sym c.eq.ensures ∙ c.if-eq.true) in
     rw (sym c.exchange.view_is) (λ back over. absurd (back (sym gvt ∙ (same ∙ k.gvt_is))))
+
+pub returns-then-len-exchange-clause-full : goal.returns-then-len-exchange-clause-full
+returns-then-len-exchange-clause-full g c =
+    let k = c.exchange.invariant.3 in
+    let gvt = found g (goal.at.returns-then-len-exchange-clause-full g c).After-earliest-gvt in
+    let other = sym c.eq.ensures ∙ c.if-eq.false in
+    rw (sym c.exchange.view_is) (λ full. ((λ same. false≢true (sym other ∙ eq-eqb _ _ (gvt ∙ (same ∙ sym k.gvt_is)))), omega (arith, c.if-len-exchange.true, c.len.ensures)))

@@ -5,7 +5,7 @@ use std::snapshot::Snapshot;
 
 /// What the journal is told at one go. It stands for steps of the law of virtual time.
 #[derive(Drop)]
-pub enum Told {
+pub enum Entry {
     /// All letters for the group of this number were taken, where these letters were on their way.
     Taken(u16, Snapshot<Boxes>),
     /// A group did what these words tell, where these letters were on their way.
