@@ -18,3 +18,6 @@ pub mod Told
 pub mod Opened
 pub mod Trays
 pub mod Again
+pub mod RowOrder
+pub mod RowsWhole
+pub mod RowsKept
