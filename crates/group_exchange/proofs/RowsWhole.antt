@@ -1,5 +1,5 @@
 -- The rows of a group before a moment that it has seen, and before which no event is done, are those of the one-thread run.
-use Rattle.std.proofs.Common.{◌≡◌, ℕ, zero, suc, ◌<◌, ◌≤◌, ◌==◌, Bool, true, false, cond, All, List, [], ◌∷◌, filter, drop, take, slice_get, refl, sym, ap, ◌∙◌, arith, eqb-true}
+use Rattle.std.proofs.Common.{◌≡◌, ℕ, zero, suc, ◌<◌, ◌≤◌, ◌==◌, Bool, true, false, cond, All, List, [], ◌∷◌, filter, length, drop, take, slice_get, refl, sym, ap, ◌∙◌, arith, eqb-true}
 use Rattle.std.specs.List.Sorted.{IsNonDecreasingBy}
 use Rattle.std.proofs.lemmas.Bool.{both_ways}
 use Rattle.std.proofs.lemmas.Grind.{common_steps}
@@ -33,7 +33,7 @@ filter-swap p q (x ∷ xs) = go (p x) (q x) refl refl (filter-swap p q xs)
 
 module _ (owners : List ℕ) (g p : ℕ) where
   -- no row is of a process of another group
-  rows-none : (rows : List Row) → All (λ row. is_of owners g row.place ≡ true) rows → is_of owners g p ≡ false → rows_at p rows ≡ []
+  pub rows-none : (rows : List Row) → All (λ row. is_of owners g row.place ≡ true) rows → is_of owners g p ≡ false → rows_at p rows ≡ []
   rows-none [] a n = refl
   rows-none (x ∷ xs) a n = go (x.place == p) refl (rows-none xs (All-tail (λ row. is_of owners g row.place ≡ true) x xs a) n)
     where
@@ -105,3 +105,12 @@ module _ {S K : Type 0} (r : Rules Message S K Note) (V : S → Message → Type
       passes-left (λ row. is_within r from to row.message) h.rows.left h.rows.all
       (All-weaker (λ row. r.order.time row.message < gone) (λ row. is_within r from to row.message ≡ false)
       (λ row e. let a : r.order.time row.message < from = omega arith in grind (arith, common_steps)) (take h.rows.left h.rows.all) k.gone_early)
+
+-- none has left
+pub rows-there : {S K : Type 0} {r : Rules Message S K Note} {owners : List ℕ} {g seen gone : ℕ} {h : Held S K} → KeepsRows r owners g seen gone h → gone ≡ 0 → drop h.rows.left h.rows.all ≡ h.rows.all
+rows-there {h = h} k none = go h.rows.left h.rows.all k.left_within (λ i d lt. let a = k.gone_early i d lt in omega arith)
+  where
+    go : (n : ℕ) (rows : List Row) → n ≤ length rows → All (λ row. ⊥) (take n rows) → drop n rows ≡ rows
+    go zero rows le a = refl
+    go (suc n) [] le a = refl
+    go (suc n) (y ∷ ys) le a = absurd (a 0 y (omega arith))
