@@ -17,7 +17,7 @@ from refuse_memory import program_of  # noqa: E402
 PLAYER = program_of("sample_actor", "sample_actor_tests")
 END = 10**15
 RECEIVERS = 5
-STEPS = "RHTAC"
+STEPS = {"R": 2, "H": 2, "T": 1, "A": 2, "C": 1}
 
 
 class Process:
@@ -121,6 +121,15 @@ class Group:
         elif call == "floor":
             floor = int(answer[0])
             assert floor == self.floor() or (floor < self.floor() and self.counts_again(floor)), "the floor"
+        elif call == "exact":
+            assert int(answer[0]) == self.floor(), "the floor, exact"
+        elif call == "before":
+            moments = [event[0][0] for process in self.processes.values() for event in process.done]
+            early = any(moment < numbers[0] for moment in moments)
+            assert answer == ["yes" if early else "no", str(min(moments)) if moments else "none"], "what is done before"
+        elif call == "gone":
+            while self.committed and self.committed[0][0] < numbers[0]:
+                self.committed.pop(0)
         elif call == "abroad":
             abroad = [(read_message(letter[1:]), 1 if letter[0] == "+" else -1) for letter in answer]
             for number, box in self.mail.items():
@@ -142,13 +151,14 @@ class Group:
             message, sign = read_message(word[1:]), 1 if word[0] == "+" else -1
             if message[1] in self.processes:
                 self.processes[message[1]].tray.append((message, sign))
-        steps = [token for token in told if token[0] in STEPS]
+        steps = [token for token in told[:-1] if token[0] in STEPS]
+        assert told[-1] == f"={sum(STEPS[token[0]] for token in steps)}", "the number of steps"
         for step in steps:
             self.step(step)
         for number in self.processes:
             assert not self.mail[number], "a letter home was not taken"
         call, *numbers = word.split(":")
-        self.look(call, [int(number) for number in numbers], [token for token in told if token[0] not in STEPS])
+        self.look(call, [int(number) for number in numbers], [token for token in told[:-1] if token[0] not in STEPS])
 
 
 def follow(script, told):
@@ -183,7 +193,9 @@ def drawn(source, kind):
         else:
             gvt += source.randrange(6) if kind else 0
             words += ["arrive", f"commit:{gvt if kind else source.randrange(60)}"]
-        words.append(source.choice(("next", "floor", "abroad", "rows", "states", "next")))
+        words.append(source.choice(("next", "floor", "exact", "abroad", "rows", "states", f"before:{source.randrange(60)}")))
+        if source.randrange(20) == 0:
+            words.append(f"gone:{gvt if kind else source.randrange(60)}")
     return " ".join([f"hand:{members}", *words, "arrive", "floor", "abroad", "rows", "states"])
 
 

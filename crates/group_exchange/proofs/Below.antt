@@ -6,7 +6,7 @@ use Rattle.std.proofs.lemmas.List.Elements.{All-cons, All-nil}
 use Rattle.vlink.specs.declared.message.Message.{Message}
 use Rattle.vlink.specs.Order.{message_order}
 use Rattle.vlink.specs.Numbering.{greatest_number}
-use Rattle.virtual_time.specs.Law.{IsOrder, World, IsAscending, IsIn, IsSafeGroup, least, minuses, pluses, times_in}
+use Rattle.virtual_time.specs.Law.{IsOrder, World, IsAscending, IsIn, IsSafeGroup, least, minuses, pluses, reached, times_in}
 use Rattle.virtual_time.proofs.Ascending.{ascending-once}
 use Rattle.virtual_time.proofs.Least.{least-from}
 use Rattle.virtual_time.proofs.Letters.{received-mine}
@@ -18,12 +18,12 @@ use Rattle.reverse.specs.Setting.{Setting, simulation_of}
 use Rattle.reverse.specs.declared.sends.Sends.{Sends}
 use Rattle.reverse.proofs.Members.{in-all}
 use Rattle.antimessages.specs.Counting.{signed_count}
-use Rattle.hand.specs.Deeds.{messages_of}
+use Rattle.hand.specs.Deeds.{deeds_at, deeds_of, messages_of}
 use Rattle.hand.specs.Hands.{FirstWaits, Held, IsMember, StandsForGroup, StaysDone, counted, is_ours}
 use Rattle.hand.specs.Sealing.{Stays}
 use Rattle.hand.proofs.Among.{contains-in}
 use Rattle.hand.proofs.Going.{held-is}
-use Rattle.hand.proofs.Member.{all-minuses, all-pluses, done-times, next-here, present-here}
+use Rattle.hand.proofs.Member.{all-minuses, all-pluses, done-times, messages-of, next-here, present-here}
 use Rattle.group_exchange.specs.Effects.{WantsNumbers}
 
 -- what holds of each message in a list
@@ -112,6 +112,14 @@ module _ {S K : Type 0} (plain : Plain S Message Sends K) (O : IsOrder message_o
               | inl k ↦ subst (λ (z : Message). g ≤ z.time) (sym k) first
               | inr j ↦ (let a = less-time message_order O m y (up.0 y j) in omega arith)
             ])
+
+  -- where the group has no done event, no process of it has
+  pub none-done : h.done ≡ [] → (p : ℕ) → is_ours h.members p ≡ true → (v.parts p).done ≡ []
+  none-done none p t =
+      let m = held-is (slice_get h.members p) t in
+      let e : [] ≡ deeds_of (rules_of plain) (reached (rules_of plain) (x.opening p) (v.parts p).committed) (v.parts p).done =
+      ap (deeds_at message_order p) (sym none) ∙ (stands.members p m.0 m.1).done in
+      sym (ap messages_of e ∙ messages-of (rules_of plain) O V (reached (rules_of plain) (x.opening p) (v.parts p).committed) (v.parts p).done)
 
   -- the first message of the queue, where it is not done, is what its receiver handles next
   pub wants : FirstWaits message_order h → (m : Message) → Contains h.flow.queue m → All (λ y. is_before y m ≡ false) h.flow.queue →

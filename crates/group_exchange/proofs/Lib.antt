@@ -23,3 +23,6 @@ pub mod Waiting
 pub mod Parting
 pub mod Ends
 pub mod Gathers
+pub mod RowOrder
+pub mod RowsWhole
+pub mod RowsKept

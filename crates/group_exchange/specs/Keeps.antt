@@ -1,5 +1,5 @@
 -- What an exchange of groups and a group keep, between all calls.
-use Rattle.std.specs.Prelude.{◌≡◌, ℕ, suc, ◌<◌, ◌≤◌, ◌⊎◌, Bool, true, List, length, slice_get, slice_index, Some, All}
+use Rattle.std.specs.Prelude.{◌≡◌, ℕ, suc, ◌<◌, ◌≤◌, ◌⊎◌, Bool, true, List, length, slice_get, slice_index, take, Some, All}
 use Rattle.vlink.specs.declared.message.Message.{Message}
 use Rattle.vlink.specs.declared.note.Note.{Note}
 use Rattle.virtual_time.specs.Law.{Rules, World, AreBy, AreDone, IsSafeGroup, in_hand, done_by, received_by}
@@ -8,8 +8,10 @@ use Rattle.reverse.specs.Setting.{Setting, simulation_of, IsLaidOut}
 use Rattle.gvt.specs.Horizon.{Floors}
 use Rattle.halves.specs.declared.RightHalf.{RightHalf}
 use Rattle.hand.specs.Block.{steps_told}
+use Rattle.hand.specs.Deeds.{messages_of}
 use Rattle.hand.specs.Hands.{Held, StandsForGroup, is_ours}
 use Rattle.group_exchange.specs.declared.mark.Standing.{Standing}
+use Rattle.group_exchange.specs.Rows.{AreInOrder}
 use Rattle.group_exchange.specs.Views.{Boxes, box_of, is_of, last_in, world_after}
 
 -- each process has a group of so many
@@ -31,6 +33,19 @@ pub record AreAsIn {S : Type 0} (ours : ℕ → Bool) (v w : World Message S) : 
 pub record Tells (names : List ℕ) (g : ℕ) (mark : RightHalf Standing) (m : Standing) : Type 0 where
   pub name : mark.name ≡ slice_index names g
   pub value : mark.value ≡ m
+
+-- the rows of committed events of a group: they are of its processes, in the order of their messages, and of moments before one that the group has
+-- seen and before which no event is done; and those that have left are of moments before `gone`
+pub record KeepsRows {S K : Type 0} (r : Rules Message S K Note) (owners : List ℕ) (g seen gone : ℕ) (h : Held S K) : Type 0 where
+  pub at_receivers : All (λ row. row.place ≡ r.order.receiver row.message) h.rows.all
+  pub home : All (λ row. is_of owners g row.place ≡ true) h.rows.all
+  pub ordered : AreInOrder r.order h.rows.all
+  pub sealed : ℕ
+  pub sealed_seen : sealed ≤ seen
+  pub early : All (λ row. r.order.time row.message < sealed) h.rows.all
+  pub done_late : All (λ m. sealed ≤ r.order.time m) (messages_of h.done)
+  pub left_within : h.rows.left ≤ length h.rows.all
+  pub gone_early : All (λ row. r.order.time row.message < gone) (take h.rows.left h.rows.all)
 
 module _ {S K : Type 0} (r : Rules Message S K Note) (number end : S → ℕ) (is_placed : S → Type 0) (x : Setting S) (owners : List ℕ) where
   -- a group stands at steps of the journal since which no step changed its processes, and saw a GVT that is not later than this one

@@ -2,6 +2,7 @@
 pub mod Boxing
 pub mod Telling
 pub mod Listing
+pub mod Rows
 pub mod Views
 pub mod Keeps
 pub mod Effects

@@ -49,7 +49,7 @@ module _ {S K : Type 0} (r : Rules Message S K Note) (O : IsOrder r.order) (V : 
         received-signed r O V (r.order.receiver l.message) (l ∷ counted old) (counted new) (adds r O V l rest late old new a b).counts y);
     tray = refl;
     outbox = refl;
-    rows = ap (λ z. rows_at (r.order.receiver l.message) z) a.rows ∙ k.rows;
+    rows = ap (λ z. rows_at (r.order.receiver l.message) z.all) a.rows ∙ k.rows;
     well = emptied-well r (λ z. ⊤) opening (after r O V opening part s old new l rest late a b k)
         (subst (IsWell r (λ z. ⊤) opening) (arrives-so r O V opening part s old new l rest late a b k up) (arrive-well r O (λ z. ⊤) (λ z y i. law z y) opening part k.well).well);
   }
@@ -69,7 +69,7 @@ module _ {S K : Type 0} (r : Rules Message S K Note) (O : IsOrder r.order) (V : 
         received-signed r O V q (l ∷ counted old) (counted new) (adds r O V l rest late old new a b).counts y);
     tray = k.tray ∙ (ap (received_by r.order q) a.tray ∙ received-skip r.order q l rest (λ e. n (sym e)));
     outbox = k.outbox;
-    rows = ap (λ z. rows_at q z) a.rows ∙ k.rows;
+    rows = ap (λ z. rows_at q z.all) a.rows ∙ k.rows;
     well = k.well;
   }
 
@@ -83,7 +83,7 @@ module _ {S K : Type 0} (r : Rules Message S K Note) (O : IsOrder r.order) (V : 
     times : All (λ z. r.order.time z.message ≤ x.until) (l ∷ rest)
     times = subst (λ ls. All (λ z. r.order.time z.message ≤ x.until) ls) a.tray g.tray_in_time
 
-    ours : is_ours old.members (r.order.receiver l.message) ≡ true
+    pub ours : is_ours old.members (r.order.receiver l.message) ≡ true
     ours = All-head (λ z. is_ours old.members (r.order.receiver z.message) ≡ true) l rest homes
 
     pub at : (s : S) × (slice_get old.members (r.order.receiver l.message) ≡ Some (Some s))

@@ -53,7 +53,7 @@ module _ {S K : Type 0} (r : Rules Message S K Note) (O : IsOrder r.order) (V : 
         (received-same r O V p (plus_of m ∷ counted h) (counted new) new-pluses new-minuses) x;
     tray = k.tray ∙ ap (received_by r.order p) (sym tray);
     outbox = k.outbox;
-    rows = subst (λ z. rows_at p z ≡ rowed r opening part.committed) (sym rows) k.rows;
+    rows = subst (λ z. rows_at p z.all ≡ rowed r opening part.committed) (sym rows) k.rows;
     well = k.well;
   }
 
@@ -71,7 +71,7 @@ module _ {S K : Type 0} (r : Rules Message S K Note) (O : IsOrder r.order) (V : 
         (received-same r O V p (plus_of m ∷ counted h) (counted new) new-pluses new-minuses) x;
     tray = sym empty ∙ (k.tray ∙ ap (received_by r.order p) (sym tray));
     outbox = k.outbox;
-    rows = subst (λ z. rows_at p z ≡ rowed r opening part.committed) (sym rows) k.rows;
+    rows = subst (λ z. rows_at p z.all ≡ rowed r opening part.committed) (sym rows) k.rows;
     well = subst (IsWell r (λ z. ⊤) opening)
         (arrives-plain r O opening (plus_of m) (delivered (plus_of m) part) (ap (λ z. z ++ plus_of m ∷ []) empty) before)
         (arrive-well r O (λ z. ⊤) (λ z x g. law z x) opening (delivered (plus_of m) part) (delivered-well r (λ z. ⊤) opening (plus_of m) part k.well)).well;

@@ -1,9 +1,9 @@
 -- A message of the queue is done already: it counts beside, and the group stands for what it stood for.
-use Rattle.std.proofs.Common.{◌≡◌, ◌+◌, ◌<◌, ◌≤◌, inl, inr, true, false, Option, List, [], ◌∷◌, ◌++◌, All, sym, ap, ◌∙◌, subst, arith, append-nil}
+use Rattle.std.proofs.Common.{◌≡◌, ◌+◌, ◌<◌, ◌≤◌, inl, inr, true, false, Option, List, [], ◌∷◌, ◌++◌, All, refl, sym, ap, ◌∙◌, subst, arith, append-nil}
 use Rattle.std.proofs.lemmas.Int.{ints}
 use Rattle.vlink.specs.declared.message.Message.{Message}
 use Rattle.vlink.specs.declared.note.Note.{Note}
-use Rattle.vlink.specs.Letters.{Letter, Row}
+use Rattle.vlink.specs.Letters.{Letter}
 use Rattle.virtual_time.specs.Law.{Rules, IsOrder, World, times_in, one_if, same, plus_of, received_by}
 use Rattle.virtual_time.proofs.Order.{same_cases}
 use Rattle.virtual_time.proofs.Lists.{times-append}
@@ -14,11 +14,13 @@ use Rattle.hand.specs.Deeds.{Deed, messages_of}
 use Rattle.hand.specs.Flow.{Flow}
 use Rattle.hand.specs.Hands.{CountsBeside, DoesSent, StandsForSent, counted, is_ours}
 use Rattle.hand.specs.Passing.{held}
+use Rattle.hand.specs.Rows.{Sealed}
 use Rattle.hand.specs.Handling.{CountsAgain}
 use Rattle.hand.proofs.Member.{all-pluses, all-minuses}
 use Rattle.hand.proofs.ArrivalCounts.{received-signed}
+use Rattle.hand.proofs.Telling.{of_members-none}
 
-module _ {S K : Type 0} (r : Rules Message S K Note) (O : IsOrder r.order) (V : S → Message → Type 0) (members : List (Option S)) (done : List (Deed K)) (rows : List Row)
+module _ {S K : Type 0} (r : Rules Message S K Note) (O : IsOrder r.order) (V : S → Message → Type 0) (members : List (Option S)) (done : List (Deed K)) (rows : Sealed)
     (m : Message) (old new : Flow) (a : CountsAgain r.order m done old new) where
   one-less : (y : Message) → times_in r.order y (old.queue ++ messages_of done) ≡ one_if (same r.order y m) + times_in r.order y (new.queue ++ messages_of done)
   one-less y =
@@ -44,7 +46,7 @@ module _ {S K : Type 0} (r : Rules Message S K Note) (O : IsOrder r.order) (V : 
     less = λ i. let t = one-less y in let e = a.extra y in let j = b.less (omega (arith, ints)) in omega arith;
   }
 
-  stands-again : (x : Setting S) (v : World Message S) (sent : List Letter) → StandsForSent r V x v (held members done rows old) sent → StandsForSent r V x v (held members done rows new) sent
+  pub stands-again : (x : Setting S) (v : World Message S) (sent : List Letter) → StandsForSent r V x v (held members done rows old) sent → StandsForSent r V x v (held members done rows new) sent
   stands-again x v sent g = record {
     count = g.count;
     members = λ p s e. let k = g.members p s e in record {
@@ -72,5 +74,6 @@ module _ {S K : Type 0} (r : Rules Message S K Note) (O : IsOrder r.order) (V : 
   counts-again = record {
     did = [];
     block = a.words ∙ sym (append-nil old.words);
-    stands = λ x L v g. (tt, stands-again x v [] g);
+    keeps = a.keeps;
+    stands = λ x L v g. (tt, stands-again x v [] g, of_members-none members members refl);
   }

@@ -1,9 +1,8 @@
 -- The first message of a group is handled, and what it sends goes on.
 use Rattle.std.proofs.Common.{◌≡◌, ℕ, ◌+◌, ◌<◌, ◌≤◌, ◌⊎◌, inl, inr, true, false, Option, List, [], ◌∷◌, ◌++◌, map, length, Some, All, IsPermutation, refl, sym, ap, ◌∙◌, subst, append_assoc, slice_get, set, get_or-set_same, get_or-set_other, length-set}
 use Rattle.std.proofs.lemmas.Option.{slice_get-get_or, slice_get_within, slice_get_past}
-use Rattle.std.proofs.lemmas.Bool.{cases_lt}
+use Rattle.std.proofs.lemmas.Bool.{cases_eq, cases_lt}
 use Rattle.vlink.specs.declared.message.Message.{Message}
-use Rattle.vlink.specs.Letters.{Row}
 use Rattle.vlink.specs.Order.{message_order}
 use Rattle.virtual_time.specs.Law.{IsOrder, Laws, World, IsAscending, IsIn, IsReached, times_in, one_if, same, plus_of, AreDone, done_by}
 use Rattle.virtual_time.proofs.Ascending.{ascending-push}
@@ -22,9 +21,10 @@ use Rattle.hand.specs.declared.block.Did.TheVariants.{Ran}
 use Rattle.hand.specs.Block.{steps_told}
 use Rattle.hand.specs.Deeds.{Deed, deed_of, deeds_at, messages_of}
 use Rattle.hand.specs.Flow.{Flow}
-use Rattle.hand.specs.Hands.{DoesSent, StandsForSent}
+use Rattle.hand.specs.Hands.{AreOfMembers, DoesSent, StandsForSent, is_held, is_ours}
 use Rattle.hand.specs.Passing.{GoesOn, held}
-use Rattle.hand.proofs.Telling.{done-append, are_done-append}
+use Rattle.hand.specs.Rows.{Sealed}
+use Rattle.hand.proofs.Telling.{done-append, are_done-append, by-same}
 use Rattle.hand.proofs.Running.{messages-push, mine-push, kept-push}
 use Rattle.hand.proofs.Handled.{ran, ran-steps}
 
@@ -43,12 +43,22 @@ set-there xs p q x n = go (cases_lt q (length xs))
         (ap (λ z. Some z) (get_or-set_other xs p q x x n) ∙ sym (slice_get-get_or xs q x l))
     go (inr l) = slice_get_past (set xs p x) q (subst (λ n. n ≤ q) (sym (length-set xs p x)) l) ∙ sym (slice_get_past xs q l)
 
+-- a member in another state is a member
+pub set-ours : {S : Type 0} (members : List (Option S)) (p : ℕ) (s t : S) → slice_get members p ≡ Some (Some s) → (q : ℕ) → is_ours (set members p (Some t)) q ≡ is_ours members q
+set-ours members p s t e q = go (cases_eq q p)
+  where
+    go : (q ≡ p) ⊎ (q ≡ p → ⊥) → is_ours (set members p (Some t)) q ≡ is_ours members q
+    go (inl k) =
+        ap (λ z. is_held (slice_get (set members p (Some t)) z)) k ∙ (ap is_held (set-here members p (Some t) (Some s) e) ∙
+        (sym (ap is_held e) ∙ ap (λ z. is_held (slice_get members z)) (sym k)))
+    go (inr n) = ap is_held (set-there members p q (Some t) n)
+
 module _ {S K : Type 0} (plain : Plain S Message Sends K) (V : S → Message → Type 0) (O : IsOrder message_order)
     (law : (s : S) (e : Message) → plain.before (plain.after s e) e (plain.saves s e) ≡ s)
-    (members : List (Option S)) (done later : List (Deed K)) (rows : List Row) (old popped told new : Flow) (m : Message) (s : S)
+    (members : List (Option S)) (done later : List (Deed K)) (rows : Sealed) (old popped told new : Flow) (m : Message) (s : S)
     (at : slice_get members m.receiver ≡ Some (Some s)) (value : V s m)
     (first : All (λ y. message_order.less y m ≡ false) old.queue) (early : is_after message_order (newest_of (messages_of done)) m ≡ true)
-    (queue : IsPermutation old.queue (m ∷ popped.queue)) (extra : popped.extra ≡ old.extra) (tray : popped.tray ≡ old.tray) (abroad : popped.abroad ≡ old.abroad) (words : popped.words ≡ old.words)
+    (queue : IsPermutation old.queue (m ∷ popped.queue)) (extra : popped.extra ≡ old.extra) (tray : popped.tray ≡ old.tray) (abroad : popped.abroad ≡ old.abroad) (words : popped.words ≡ old.words) (keeps : popped.keeps ≡ old.keeps)
     (ran-word : told ≡ record popped { words = popped.words ++ Ran m.receiver ∷ []; room = told.room })
     (deed : later ≡ done ++ deed_of (rules_of plain) s m ∷ [])
     (gone : GoesOn (rules_of plain) V (set members m.receiver (Some (plain.after s m))) ((rules_of plain).sends s m) told ((rules_of plain).sends s m) new []) where
@@ -58,15 +68,26 @@ module _ {S K : Type 0} (plain : Plain S Message Sends K) (V : S → Message →
   pub handles : DoesSent (rules_of plain) V (held members done rows old) [] (held (set members m.receiver (Some (plain.after s m))) later rows new) []
   handles = record {
     did = Ran m.receiver ∷ gone.did;
+    keeps = gone.keeps ∙ (ap (λ z. z.keeps) ran-word ∙ keeps);
     block = gone.words ∙ (ap (λ z. z.words ++ gone.did) ran-word ∙ (append_assoc popped.words (Ran m.receiver ∷ []) gone.did ∙ ap (λ z. z ++ Ran m.receiver ∷ gone.did) words));
     stands = λ x L v g.
         let one = running x L v g in
         let two = gone.stands later rows x L (done_by (simulation_of (rules_of plain) x) (steps_told (Ran m.receiver ∷ [])) v) (soon x L v g) (before x L v g) one.1 in (
           are_done-append (simulation_of (rules_of plain) x) (steps_told (Ran m.receiver ∷ [])) (steps_told gone.did) v one.0 two.0,
           subst (λ w. StandsForSent (rules_of plain) V x w (held members' later rows new) []) (sym (done-append (simulation_of (rules_of plain) x) (steps_told (Ran m.receiver ∷ [])) (steps_told gone.did) v)) two.1,
+          of-members,
         );
   }
     where
+      here : is_ours members m.receiver ≡ true
+      here = ap is_held at
+
+      of-members : AreOfMembers members (set members m.receiver (Some (plain.after s m))) (Ran m.receiver ∷ gone.did)
+      of-members = record {
+        by = (here, (here, by-same (is_ours members) (is_ours (set members m.receiver (Some (plain.after s m)))) (set-ours members m.receiver s (plain.after s m) at) (steps_told gone.did) gone.by));
+        same = set-ours members m.receiver s (plain.after s m) at;
+      }
+
       before-done : (x : Setting S) → (v : World Message S) → StandsForSent (rules_of plain) V x v (held members done rows old) [] →
           (y : Message) → IsIn message_order y (messages_of done) → message_order.less y m ≡ true
       before-done x v g y i = after-all (rules_of plain) O (messages_of done) m g.ascending early y i

@@ -8,7 +8,8 @@ use Rattle.vlink.specs.declared.message.Message.{Message}
 use Rattle.vlink.specs.declared.note.Note.{Note}
 use Rattle.vlink.specs.Letters.{Letter}
 use Rattle.vlink.specs.Order.{message_order}
-use Rattle.virtual_time.specs.Law.{Rules, Order, IsOrder, World, IsIn, IsNamed, times_in, lowest, times_of, received_by, floor_of, unhandled}
+use Rattle.virtual_time.specs.Law.{Rules, Order, IsOrder, World, IsIn, IsNamed, times_in, lowest, times_of, received_by, floor_of, least, unhandled}
+use Rattle.virtual_time.proofs.Least.{least-none, least-some}
 use Rattle.virtual_time.proofs.Letters.{received-mine, received-here, named-head}
 use Rattle.virtual_time.proofs.Lists.{times-append, in-head}
 use Rattle.virtual_time.proofs.Lowest.{lowest-top, lowest-letter, lowest-letters, lowest-message, lowest-messages}
@@ -19,7 +20,7 @@ use Rattle.reverse.specs.Setting.{Setting}
 use Rattle.reverse.proofs.Members.{in-all}
 use Rattle.hand.specs.Deeds.{messages_of}
 use Rattle.hand.specs.Flow.{floor_in}
-use Rattle.hand.specs.Hands.{Held, IsMember, StandsForSent, is_ours}
+use Rattle.hand.specs.Hands.{FirstWaits, Held, IsMember, StandsForSent, is_ours}
 use Rattle.hand.proofs.Going.{held-is}
 use Rattle.hand.proofs.Passed.{at-in}
 use Rattle.hand.proofs.Member.{present-here, present-there, done-times, is-for}
@@ -167,12 +168,21 @@ module _ {S K : Type 0} (r : Rules Message S K Note) (O : IsOrder r.order) (V : 
       let s = g.settled p t in
       (p, t, omega arith)
 
-  pub floor-reached : ((m : Message) → IsIn r.order m h.flow.queue → times_in r.order m (messages_of h.done) ≡ 0) → (waits ≡ suc x.until) ⊎ HasFloor
+  pub floor-reached : FirstWaits r.order h → (waits ≡ suc x.until) ⊎ HasFloor
   floor-reached none = go (some-letter r.order O (λ l. is_ours h.members (r.order.receiver l.message) ≡ true) soonest h.flow.tray g.tray_home)
     where
       queued : (soonest ≡ suc x.until) ⊎ ((m : Message) × IsIn r.order m h.flow.queue × (r.order.time m ≡ soonest)) → waits ≡ soonest → (waits ≡ suc x.until) ⊎ HasFloor
       queued (inl e) k = inl (k ∙ e)
-      queued (inr q) k = inr (of-message q.0 q.1 (none q.0 q.1) (q.2 ∙ sym k))
+      queued (inr q) k = go (least r.order h.flow.queue) refl
+        where
+          go : (o : Option Message) → least r.order h.flow.queue ≡ o → (waits ≡ suc x.until) ⊎ HasFloor
+          go None e = absurd (let a = ap (times_in r.order q.0) (least-none r.order O h.flow.queue e) in let b = q.1 in omega arith)
+          go (Some m) e =
+              let l = least-some r.order O h.flow.queue m e in
+              let a = not_less-time r.order O q.0 m (l.lowest q.0 q.1) in
+              let b = lowest-message r.order O (suc x.until) h.flow.queue m l.inside in
+              let c : r.order.time q.0 ≡ soonest = q.2 in
+              inr (of-message m l.inside (subst (λ o. IfSome o (λ y. times_in r.order y (messages_of h.done) ≡ 0)) e none) (omega arith))
 
       go : (waits ≡ soonest) ⊎ ((l : Letter) × (is_ours h.members (r.order.receiver l.message) ≡ true) × IsNamed r.order l.message h.flow.tray × (r.order.time l.message ≡ waits)) →
           (waits ≡ suc x.until) ⊎ HasFloor

@@ -19,7 +19,7 @@ use Rattle.hand.specs.Hands.{Held, DoesSent, StandsForSent}
 use Rattle.hand.specs.Arriving.{FrontArrived, WentOn, taken_back, sent_by}
 use Rattle.hand.proofs.LateDeeds.{sent-deeds}
 use Rattle.hand.proofs.Arrival.{halves}
-use Rattle.hand.proofs.Arrives.{front-steps, front-stands, mine, at, within, ours-same}
+use Rattle.hand.proofs.Arrives.{front-steps, front-stands, mine, at, within, ours, ours-same}
 use Rattle.hand.proofs.WordTold.{word-told}
 
 module _ {S K : Type 0} (plain : Plain S Message Sends K) (V : S → Message → Type 0) (O : IsOrder message_order)
@@ -51,6 +51,7 @@ module _ {S K : Type 0} (plain : Plain S Message Sends K) (V : S → Message →
   front-told went arrived = word-told plain V O law (Arrived l.message.receiver) rest (taken_back late) old new went (λ x L v g. record {
     steps = front-steps r O V law l rest late old new (arrived g.ascending) x v g;
     stands = front-stands r O V law l rest late old new (arrived g.ascending) x v g;
+    by = let here = ours r O V law l rest late old new (arrived g.ascending) x v g in (here, (here, tt));
     same = ours-same r O V law l rest late old new (arrived g.ascending) x v g;
     soon = in-time (arrived g.ascending) x L v g;
   })

@@ -5,7 +5,7 @@ use Rattle.std.proofs.lemmas.List.Filters.{length-filter_both}
 use Rattle.std.proofs.lemmas.List.Elements.{Contains-append_right, Contains-get_or}
 use Rattle.std.proofs.lemmas.List.Sorted.{IsPermutation-refl, IsPermutation-trans, IsPermutation-cons}
 use Rattle.vlink.specs.declared.message.Message.{Message}
-use Rattle.vlink.specs.Letters.{Letter, Row}
+use Rattle.vlink.specs.Letters.{Letter}
 use Rattle.vlink.specs.Order.{message_order}
 use Rattle.virtual_time.specs.declared.letter.Sign.TheVariants.{Plus, Minus}
 use Rattle.virtual_time.specs.Law.{Rules, IsOrder, IsAscending, IsIn, times_in, minus_of}
@@ -23,6 +23,7 @@ use Rattle.hand.specs.Deeds.{Deed, deeds_at, messages_of}
 use Rattle.hand.specs.Flow.{Flow}
 use Rattle.hand.specs.Hands.{Held, is_ours}
 use Rattle.hand.specs.Passing.{held}
+use Rattle.hand.specs.Rows.{Sealed}
 use Rattle.hand.specs.Counted.{CountedBeside, FoundWaiting, FrontCounts}
 use Rattle.hand.specs.Undoing.{Retreat, RolledBack, Settled, sent_in}
 use Rattle.hand.proofs.Among.{none-among}
@@ -39,7 +40,7 @@ in-contains O m (x ∷ xs) i = elim (in-cons message_order O m x xs i) [
 ]
 
 module _ {S K : Type 0} (plain : Plain S Message Sends K) (V : S → Message → Type 0) (O : IsOrder message_order) (l : Letter) (rest : List Letter) (is_done : Bool)
-    (members members' : List (Option S)) (done done' : List (Deed K)) (rows : List Row) (old counted told settled new : Flow) (back : List Message)
+    (members members' : List (Option S)) (done done' : List (Deed K)) (rows : Sealed) (old counted told settled new : Flow) (back : List Message)
     (tray : old.tray ≡ l ∷ rest) (yes : is_done ≡ true → IsIn message_order l.message (messages_of done))
     (no : is_done ≡ false → IsAscending message_order (messages_of done) → times_in message_order l.message (messages_of done) ≡ 0)
     (only : counted ≡ record old { queue = counted.queue; extra = counted.extra; room = counted.room })
@@ -64,6 +65,7 @@ module _ {S K : Type 0} (plain : Plain S Message Sends K) (V : S → Message →
       tray = gone.tray ∙ (λ j. (ap (λ z. z.tray) others ∙ left) j ++ home-same j);
       abroad = gone.abroad ∙ (λ j. (ap (λ z. z.abroad) others ∙ (ap (λ z. z.abroad) taken ∙ ap (λ z. z.abroad) only)) j ++ abroad-same j);
       words = gone.words ∙ (λ j. (ap (λ z. z.words) others ∙ (word ∙ ap (λ z. z.words ++ Arrived l.message.receiver ∷ []) only)) j ++ words_taken (home-same j));
+      keeps = gone.keeps ∙ (ap (λ z. z.keeps) others ∙ (ap (λ z. z.keeps) taken ∙ ap (λ z. z.keeps) only));
     }
 
   extra-is : new.extra ≡ counted.extra

@@ -90,7 +90,7 @@ module _ {S K : Type 0} (r : Rules Message S K Note) (O : IsOrder r.order) (V : 
 
   module _ (law : (s : S) (e : Message) → r.undo (r.after s e) e (r.kept s e) ≡ s) (x : Setting S) where
     -- the same messages wait, in whatever order and with whatever room, and other letters are for others
-    pub stands-kept : (v : World Message S) (h new : Held S K) (sent left : List Letter) → new.members ≡ h.members → new.done ≡ h.done → new.rows ≡ h.rows →
+    pub stands-kept : (v : World Message S) (h new : Held S K) (sent left : List Letter) → new.members ≡ h.members → new.done ≡ h.done → new.rows.all ≡ h.rows.all →
         ((y : Message) → times_in r.order y new.flow.queue ≡ times_in r.order y h.flow.queue) → new.flow.extra ≡ h.flow.extra → new.flow.tray ≡ h.flow.tray →
         ((q : ℕ) → received_by r.order q (h.flow.abroad ++ sent) ≡ received_by r.order q (new.flow.abroad ++ left)) →
         All (λ l. is_ours h.members (r.order.receiver l.message) ≡ false) new.flow.abroad →

@@ -14,7 +14,7 @@ pub cleared : {S K : Type 0} (r : Rules Message S K Note) (O : IsOrder r.order) 
     StandsForSent r V x v h [] → StandsForSent r V x (in_hand (simulation_of r x) v.gvt v) new []
 cleared r O V law x v h new members done rows queue extra tray abroad g =
     let t : StandsForSent r V x v new h.flow.abroad =
-    stands-kept r O V law x v h new [] h.flow.abroad members done rows queue extra tray
+    stands-kept r O V law x v h new [] h.flow.abroad members done (ap (λ z. z.all) rows) queue extra tray
     (λ q. ap (received_by r.order q) (append-nil h.flow.abroad) ∙ ap (λ ls. received_by r.order q (ls ++ h.flow.abroad)) (sym abroad))
     (subst (λ ls. All (λ l. is_ours h.members (r.order.receiver l.message) ≡ false) ls) (sym abroad) (All-nil (λ l. is_ours h.members (r.order.receiver l.message) ≡ false))) g in
     record {

@@ -4,7 +4,6 @@ use Rattle.std.proofs.lemmas.Bool.{cases_eq}
 use Rattle.std.proofs.lemmas.List.{reverse-append, reverse-reverse}
 use Rattle.std.proofs.lemmas.List.Elements.{All-nil, All-cons, All-head, All-tail}
 use Rattle.vlink.specs.declared.message.Message.{Message}
-use Rattle.vlink.specs.Letters.{Row}
 use Rattle.vlink.specs.Order.{message_order}
 use Rattle.virtual_time.specs.Law.{Order, IsOrder, IsAscending, times_in, plus_of}
 use Rattle.reverse.specs.Plain.{Plain}
@@ -19,9 +18,10 @@ use Rattle.hand.specs.Flow.{Flow}
 use Rattle.hand.specs.Handling.{SetAside}
 use Rattle.hand.specs.Hands.{DoesSent, is_held, is_ours}
 use Rattle.hand.specs.Passing.{held}
+use Rattle.hand.specs.Rows.{Sealed}
 use Rattle.hand.specs.Undoing.{CameTo}
 use Rattle.hand.proofs.Came.{handled-came}
-use Rattle.hand.proofs.FirstEvent.{set-here, set-there}
+use Rattle.hand.proofs.FirstEvent.{set-here, set-there, set-ours}
 use Rattle.hand.proofs.LateTold.{late-told}
 use Rattle.hand.proofs.Parted.{between-mine, between-kept}
 use Rattle.hand.proofs.WentOn.{to_members-same, to_others-same}
@@ -57,19 +57,9 @@ module _ {K : Type 0} (o : Order Message) (m : Message) where
       ap (λ b. cond b (d ∷ deeds_at o (o.receiver m) ds) (deeds_at o (o.receiver m) ds)) (All-head (λ y. (o.receiver y == o.receiver m) ≡ false) d.message (messages_of ds) a) ∙
       none-of ds (All-tail (λ y. (o.receiver y == o.receiver m) ≡ false) d.message (messages_of ds) a)
 
--- a member in another state is a member
-pub set-ours : {S : Type 0} (members : List (Option S)) (p : ℕ) (s t : S) → slice_get members p ≡ Some (Some s) → (q : ℕ) → is_ours (set members p (Some t)) q ≡ is_ours members q
-set-ours members p s t e q = go (cases_eq q p)
-  where
-    go : (q ≡ p) ⊎ (q ≡ p → ⊥) → is_ours (set members p (Some t)) q ≡ is_ours members q
-    go (inl k) =
-        ap (λ z. is_held (slice_get (set members p (Some t)) z)) k ∙ (ap is_held (set-here members p (Some t) (Some s) e) ∙
-        (sym (ap is_held e) ∙ ap (λ z. is_held (slice_get members z)) (sym k)))
-    go (inr n) = ap is_held (set-there members p q (Some t) n)
-
 module _ {S K : Type 0} (plain : Plain S Message Sends K) (V : S → Message → Type 0) (O : IsOrder message_order)
     (law : (s : S) (e : Message) → plain.before (plain.after s e) e (plain.saves s e) ≡ s)
-    (members : List (Option S)) (done front aside later : List (Deed K)) (rows : List Row) (old popped told new : Flow) (m : Message) (s : S)
+    (members : List (Option S)) (done front aside later : List (Deed K)) (rows : Sealed) (old popped told new : Flow) (m : Message) (s : S)
     (at : slice_get members m.receiver ≡ Some (Some s)) (value : V s m) (set_aside : SetAside message_order m done front aside)
     (early : is_after message_order (newest_of (messages_of front)) m ≡ true) (back : later ≡ (front ++ deed_of (rules_of plain) s m ∷ []) ++ reverse aside) where
   abbrev members' : List (Option S)
@@ -104,6 +94,7 @@ module _ {S K : Type 0} (plain : Plain S Message Sends K) (V : S → Message →
         tray = went.tray ∙ (λ j. tray-was j ++ home-same j);
         abroad = went.abroad ∙ (λ j. abroad-was j ++ others-same j);
         words = went.words ∙ (λ j. words-were j ++ words_taken (home-same j));
+        keeps = went.keeps ∙ (ap (λ z. z.keeps) tells ∙ ap (λ z. z.keeps) took);
       })
       (λ up. record {
         first = first;

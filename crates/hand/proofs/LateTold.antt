@@ -17,7 +17,7 @@ use Rattle.reverse.proofs.Members.{in-all}
 use Rattle.two_lists.proofs.Counting.{times-permutation}
 use Rattle.hand.specs.declared.block.Did.TheVariants.{Ran}
 use Rattle.hand.specs.Deeds.{Deed, deed_of, deeds_at, messages_of}
-use Rattle.hand.specs.Hands.{Held, DoesSent, StandsForSent}
+use Rattle.hand.specs.Hands.{Held, DoesSent, StandsForSent, is_held, is_ours}
 use Rattle.hand.specs.Arriving.{WentOn}
 use Rattle.hand.specs.Handling.{FirstHandled}
 use Rattle.hand.proofs.LateDeeds.{messages-append}
@@ -104,6 +104,7 @@ module _ {S K : Type 0} (plain : Plain S Message Sends K) (V : S → Message →
     tells x L v g = record {
       steps = ran-steps r O V law x v old told m s (deed_of r s m) a.before a.state a.others a.count refl a.value waits (handled x v g) (kept x v g) (ascending x v g) a.rows a.extra refl refl first (none x v g) g;
       stands = ran r O V law x v old told m s (deed_of r s m) a.before a.state a.others a.count refl a.value waits (handled x v g) (kept x v g) (ascending x v g) a.rows a.extra refl refl first (none x v g) g;
+      by = let here : is_ours old.members m.receiver ≡ true = ap is_held a.before in (here, (here, tt));
       same = ours-same r O V law x v old told m s (deed_of r s m) a.before a.state a.others a.count refl a.value waits (handled x v g) (kept x v g) (ascending x v g) a.rows a.extra refl refl first (none x v g) g;
       soon = in-time x L v g;
     }

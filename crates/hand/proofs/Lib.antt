@@ -1,6 +1,7 @@
 pub mod Shares
 pub mod Offers
 pub mod Telling
+pub mod Steps
 pub mod Member
 pub mod Running
 pub mod Coming
@@ -35,4 +36,8 @@ pub mod Came
 pub mod LateEvent
 pub mod Rooms
 pub mod Floors
+pub mod FrontWaits
+pub mod Leaving
+pub mod OldestDeed
+pub mod Opens
 pub mod Handed

@@ -17,11 +17,13 @@ module _ {S : Type 0} (members : List (Option S)) where
     tray = ap (λ z. z.tray) (home refl) ∙ ap (λ c. old.tray ++ cond c (l ∷ []) []) e;
     abroad = ap (λ z. z.abroad) (home refl) ∙ (sym (append-nil old.abroad) ∙ ap (λ c. old.abroad ++ cond (not c) (l ∷ []) []) e);
     words = ap (λ z. z.words) (home refl) ∙ ap (λ c. old.words ++ words_taken (cond c (l ∷ []) [])) e;
+    keeps = ap (λ z. z.keeps) (home refl);
   }
   one-went l old new false e abroad home = record {
     tray = ap (λ z. z.tray) (abroad refl) ∙ (sym (append-nil old.tray) ∙ ap (λ c. old.tray ++ cond c (l ∷ []) []) e);
     abroad = ap (λ z. z.abroad) (abroad refl) ∙ ap (λ c. old.abroad ++ cond (not c) (l ∷ []) []) e;
     words = ap (λ z. z.words) (abroad refl) ∙ (sym (append-nil old.words) ∙ ap (λ c. old.words ++ words_taken (cond c (l ∷ []) [])) e);
+    keeps = ap (λ z. z.keeps) (abroad refl);
   }
 
   -- the k-th of these messages, as a letter of either sign

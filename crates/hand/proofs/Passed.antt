@@ -15,7 +15,7 @@ use Rattle.hand.specs.Block.{steps_told}
 use Rattle.hand.specs.Flow.{Flow, WentAbroad, CameHome, WasTaken}
 use Rattle.hand.specs.Hands.{StandsForSent, is_ours}
 use Rattle.hand.specs.Passing.{GoesOn, held}
-use Rattle.hand.proofs.Telling.{done-append, are_done-append, told-append}
+use Rattle.hand.proofs.Telling.{done-append, are_done-append, by-both, told-append}
 use Rattle.hand.proofs.Going.{stands-kept, came-steps, came-home}
 use Rattle.hand.proofs.Taking.{taken-steps, was-taken}
 
@@ -25,6 +25,8 @@ module _ {S K : Type 0} (plain : Plain S Message Sends K) (V : S → Message →
   none-gone old sent = record {
     did = [];
     words = sym (append-nil old.words);
+    keeps = refl;
+    by = tt;
     stands = λ done rows x L v soon before g. (tt, g);
   }
 
@@ -33,6 +35,8 @@ module _ {S K : Type 0} (plain : Plain S Message Sends K) (V : S → Message →
   both-gone old mid new sent between left a b = record {
     did = a.did ++ b.did;
     words = b.words ∙ (ap (λ z. z ++ b.did) a.words ∙ append_assoc old.words a.did b.did);
+    keeps = b.keeps ∙ a.keeps;
+    by = by-both (is_ours members) a.did b.did a.by b.by;
     stands = λ done rows x L v soon before g.
         let f = simulation_of (rules_of plain) x in
         let one = a.stands done rows x L v soon before g in
@@ -48,6 +52,8 @@ module _ {S K : Type 0} (plain : Plain S Message Sends K) (V : S → Message →
     gone-abroad o e = record {
       did = [];
       words = ap (λ z. z.words) e ∙ sym (append-nil mid.words);
+      keeps = ap (λ z. z.keeps) e;
+      by = tt;
       stands = λ done rows x L v soon before g. (
         tt,
         stands-kept (rules_of plain) O V law x v (held members done rows mid) (held members done rows new) (map plus_of (m ∷ rest)) (map plus_of rest) refl refl refl
@@ -63,6 +69,8 @@ module _ {S K : Type 0} (plain : Plain S Message Sends K) (V : S → Message →
     gone-home o c = record {
       did = Home m.receiver ∷ [];
       words = c.words;
+      keeps = c.keeps;
+      by = (o, (o, tt));
       stands = λ done rows x L v soon before g. (
         came-steps (rules_of plain) O V law x L v (held members done rows mid) (held members done rows new) m (map plus_of rest) refl refl refl c.extra c.tray c.abroad
             (λ y. times-permutation message_order y (m ∷ mid.queue) new.queue c.queue) c.none_before c.not_beside o (λ y i. before m y inside i) (soon m inside) g,
@@ -75,6 +83,8 @@ module _ {S K : Type 0} (plain : Plain S Message Sends K) (V : S → Message →
     gone-taken o e = record {
       did = Taken m.receiver ∷ [];
       words = ap (λ z. z.words) e;
+      keeps = ap (λ z. z.keeps) e;
+      by = (o, tt);
       stands = λ done rows x L v soon before g. (
         taken-steps (rules_of plain) V x v (held members done rows mid) (held members done rows new) (plus_of m) refl refl refl (ap (λ z. z.queue) e) (ap (λ z. z.extra) e)
             (ap (λ z. z.tray) e) o (soon m inside) (ap (λ z. z.abroad) e) (map plus_of rest) g,

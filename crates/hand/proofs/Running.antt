@@ -122,7 +122,7 @@ module _ {S K : Type 0} (r : Rules Message S K Note) (O : IsOrder r.order) (V : 
       counts = λ x. k.counts x ∙ received-same p (counted h) (counted new) new-pluses new-minuses x;
       tray = k.tray ∙ ap (received_by r.order p) (sym tray);
       outbox = k.outbox;
-      rows = subst (λ z. rows_at p z ≡ rowed r opening part.committed) (sym rows) k.rows;
+      rows = subst (λ z. rows_at p z.all ≡ rowed r opening part.committed) (sym rows) k.rows;
       well = k.well;
     }
 
@@ -138,7 +138,7 @@ module _ {S K : Type 0} (r : Rules Message S K Note) (O : IsOrder r.order) (V : 
       counts = λ x. k.counts x ∙ received-same (r.order.receiver m) (counted h) (counted new) new-pluses new-minuses x;
       tray = k.tray ∙ ap (received_by r.order (r.order.receiver m)) (sym tray);
       outbox = refl;
-      rows = subst (λ z. rows_at (r.order.receiver m) z ≡ rowed r opening part.committed) (sym rows) k.rows;
+      rows = subst (λ z. rows_at (r.order.receiver m) z.all ≡ rowed r opening part.committed) (sym rows) k.rows;
       well = emptied-well r (λ z. ⊤) opening (handled r part (Some m))
           (subst (IsWell r (λ z. ⊤) opening) (ap (handled r part) next) (run-well r O (λ z. ⊤) (λ z x g. law z x) opening part k.well tt).well);
     }

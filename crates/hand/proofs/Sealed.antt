@@ -19,10 +19,10 @@ use Rattle.hand.specs.declared.block.Did.TheVariants.{Committed}
 use Rattle.hand.specs.Block.{steps_told}
 use Rattle.hand.specs.Deeds.{Deed}
 use Rattle.hand.specs.Flow.{IsFirst}
-use Rattle.hand.specs.Hands.{Held, CommitsTold, StandsForSent, IsAsBefore}
+use Rattle.hand.specs.Hands.{Held, CommitsTold, StandsForSent, IsAsBefore, is_ours}
 use Rattle.hand.specs.Sealing.{CanSeal, rows_in, words_of}
-use Rattle.hand.proofs.Telling.{done-append, are_done-append, told-append}
-use Rattle.hand.proofs.Sealing.{sealed-steps, sealed}
+use Rattle.hand.proofs.Telling.{done-append, are_done-append, of_members-none, of_members-both, told-append}
+use Rattle.hand.proofs.Sealing.{is-ours, sealed-steps, sealed}
 use Rattle.hand.proofs.Still.{stands-still}
 
 -- what comes before the first of the queue is not in it
@@ -51,6 +51,7 @@ module _ {S K : Type 0} (r : Rules Message S K Note) (V : S → Message → Type
   commits-both moment h mid new a b = record {
     did = a.did ++ b.did;
     block = b.block ∙ (ap (λ z. z ++ b.did) a.block ∙ append_assoc h.flow.words a.did b.did);
+    keeps = b.keeps ∙ a.keeps;
     stands = λ x L v l g.
         let f = simulation_of r x in
         let one = a.stands x L v l g in
@@ -59,6 +60,7 @@ module _ {S K : Type 0} (r : Rules Message S K Note) (V : S → Message → Type
           subst (λ xs. AreDone f xs v) (sym (told-append a.did b.did)) (are_done-append f (steps_told a.did) (steps_told b.did) v one.0 two.0),
           subst (λ w. StandsForSent r V x w new []) (sym same) two.1,
           ap (λ w. w.gvt) same ∙ (two.2 ∙ one.2),
+          of_members-both h.members mid.members new.members a.did b.did one.3 two.3,
         );
   }
 
@@ -68,33 +70,39 @@ module _ {S K : Type 0} (plain : Plain S Message Sends K) (V : S → Message →
   commits-nothing h new a = record {
     did = [];
     block = ap (λ z. z.words) a.flow ∙ sym (append-nil h.flow.words);
-    stands = λ x L v l g. (tt, stands-still plain V O law h new a x v g, refl);
+    keeps = ap (λ z. z.keeps) a.flow;
+    stands = λ x L v l g. (tt, stands-still plain V O law h new a x v g, refl, of_members-none h.members new.members a.members);
   }
 
-  pub commits-oldest : (h new : Held S K) (d : Deed K) (rest : List (Deed K)) → new.members ≡ h.members → h.done ≡ d ∷ rest → new.done ≡ rest → new.rows ≡ h.rows ++ d.rows →
+  pub commits-oldest : (h new : Held S K) (d : Deed K) (rest : List (Deed K)) → new.members ≡ h.members → h.done ≡ d ∷ rest → new.done ≡ rest → new.rows.all ≡ h.rows.all ++ d.rows →
       new.flow.queue ≡ h.flow.queue → new.flow.extra ≡ h.flow.extra → new.flow.tray ≡ h.flow.tray → new.flow.abroad ≡ h.flow.abroad →
-      new.flow.words ≡ h.flow.words ++ Committed d.message.receiver ∷ [] →
+      new.flow.words ≡ h.flow.words ++ Committed d.message.receiver ∷ [] → new.flow.keeps ≡ h.flow.keeps →
       times_in message_order d.message h.flow.queue ≡ 0 → signed_count message_order d.message h.flow.extra ≡ pos 0 → d.message.time < moment →
       CommitsTold (rules_of plain) V moment h new
-  commits-oldest h new d rest members done left rows queue extra tray abroad words none zero early = record {
+  commits-oldest h new d rest members done left rows queue extra tray abroad words keeps none zero early = record {
     did = Committed d.message.receiver ∷ [];
     block = words;
+    keeps = keeps;
     stands = λ x L v l g.
         let soon : d.message.time < v.gvt = omega arith in (
           sealed-steps (rules_of plain) O V law x v h new d rest members done left rows queue extra tray abroad none zero soon g,
           sealed (rules_of plain) O V law x v h new d rest members done left rows queue extra tray abroad none zero soon g,
           commit-gvt (simulation_of (rules_of plain) x) d.message.receiver v,
+          record {
+            by = (is-ours (rules_of plain) O V law x v h new d rest members done left rows queue extra tray abroad none zero soon g, tt);
+            same = λ p. ap (λ ms. is_ours ms p) members;
+          },
         );
   }
 
   -- the events at the front of the list, one after another
-  pub commits-many : (ds : List (Deed K)) (h new : Held S K) (rest : List (Deed K)) → new.members ≡ h.members → h.done ≡ ds ++ rest → new.done ≡ rest → new.rows ≡ h.rows ++ rows_in ds →
+  pub commits-many : (ds : List (Deed K)) (h new : Held S K) (rest : List (Deed K)) → new.members ≡ h.members → h.done ≡ ds ++ rest → new.done ≡ rest → new.rows ≡ record h.rows { all = h.rows.all ++ rows_in ds } →
       new.flow ≡ record h.flow { words = h.flow.words ++ words_of ds; room = new.flow.room } → All (λ d. CanSeal moment h.flow d.message) ds →
       CommitsTold (rules_of plain) V moment h new
   commits-many [] h new rest members done left rows flow can = commits-nothing h new (record {
     members = members;
     done = left ∙ sym done;
-    rows = rows ∙ append-nil h.rows;
+    rows = rows ∙ (λ j. record h.rows { all = append-nil h.rows.all j });
     queue = subst (λ z. IsPermutation h.flow.queue z) (sym (ap (λ z. z.queue) flow)) (IsPermutation-refl h.flow.queue);
     flow = flow ∙ (λ j. record h.flow { queue = (ap (λ z. z.queue) (sym flow)) j; words = append-nil h.flow.words j; room = new.flow.room });
   })
@@ -103,12 +111,12 @@ module _ {S K : Type 0} (plain : Plain S Message Sends K) (V : S → Message →
       let mid : Held S K = record {
         members = h.members;
         done = ds ++ rest;
-        rows = h.rows ++ d.rows;
+        rows = record h.rows { all = h.rows.all ++ d.rows };
         flow = record h.flow { words = h.flow.words ++ Committed d.message.receiver ∷ [] };
       } in
       commits-both (rules_of plain) V moment h mid new
-      (commits-oldest h mid d (ds ++ rest) refl done refl refl refl refl refl refl refl one.none one.zero one.early)
-      (commits-many ds mid new rest members refl left (rows ∙ sym (append_assoc h.rows d.rows (rows_in ds)))
+      (commits-oldest h mid d (ds ++ rest) refl done refl refl refl refl refl refl refl refl one.none one.zero one.early)
+      (commits-many ds mid new rest members refl left (rows ∙ (λ j. record h.rows { all = sym (append_assoc h.rows.all d.rows (rows_in ds)) j }))
       (flow ∙ (λ j. record h.flow { words = sym (append_assoc h.flow.words (Committed d.message.receiver ∷ []) (words_of ds)) j; room = new.flow.room }))
       (All-weaker (λ (d : Deed K). CanSeal moment h.flow d.message) (λ (d : Deed K). CanSeal moment mid.flow d.message)
       (λ d c. record { early = c.early; zero = c.zero; none = c.none }) ds (All-tail (λ (d : Deed K). CanSeal moment h.flow d.message) d ds can)))

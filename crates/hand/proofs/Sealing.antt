@@ -55,7 +55,7 @@ module _ {S K : Type 0} (r : Rules Message S K Note) (O : IsOrder r.order) (V : 
       rows-others p m ks n
 
   module _ (law : (s : S) (e : Message) → r.undo (r.after s e) e (r.kept s e) ≡ s) (x : Setting S) (v : World Message S) (h new : Held S K) (d : Deed K) (rest : List (Deed K))
-      (members : new.members ≡ h.members) (done : h.done ≡ d ∷ rest) (left : new.done ≡ rest) (rows : new.rows ≡ h.rows ++ d.rows) (queue : new.flow.queue ≡ h.flow.queue)
+      (members : new.members ≡ h.members) (done : h.done ≡ d ∷ rest) (left : new.done ≡ rest) (rows : new.rows.all ≡ h.rows.all ++ d.rows) (queue : new.flow.queue ≡ h.flow.queue)
       (extra : new.flow.extra ≡ h.flow.extra) (tray : new.flow.tray ≡ h.flow.tray) (abroad : new.flow.abroad ≡ h.flow.abroad)
       (none : times_in r.order d.message h.flow.queue ≡ 0) (zero : signed_count r.order d.message h.flow.extra ≡ pos 0) (early : r.order.time d.message < v.gvt)
       (g : StandsForSent r V x v h []) where
@@ -75,11 +75,11 @@ module _ {S K : Type 0} (r : Rules Message S K Note) (O : IsOrder r.order) (V : 
         let c = done-first in
         omega arith
 
-    ours : is_ours h.members (r.order.receiver d.message) ≡ true
-    ours = g.home d.message is-there
+    pub is-ours : is_ours h.members (r.order.receiver d.message) ≡ true
+    is-ours = g.home d.message is-there
 
     at : (s : S) × (slice_get h.members (r.order.receiver d.message) ≡ Some (Some s))
-    at = held-is (slice_get h.members (r.order.receiver d.message)) ours
+    at = held-is (slice_get h.members (r.order.receiver d.message)) is-ours
 
     its : IsMember r V (x.opening (r.order.receiver d.message)) (r.order.receiver d.message) (v.parts (r.order.receiver d.message)) at.0 h
     its = g.members (r.order.receiver d.message) at.0 at.1
@@ -150,7 +150,7 @@ module _ {S K : Type 0} (r : Rules Message S K Note) (O : IsOrder r.order) (V : 
       counts = counts;
       tray = its.tray ∙ ap (received_by r.order (r.order.receiver d.message)) (sym tray);
       outbox = its.outbox;
-      rows = ap (rows_at (r.order.receiver d.message)) rows ∙ (filter-append _ h.rows d.rows ∙
+      rows = ap (rows_at (r.order.receiver d.message)) rows ∙ (filter-append _ h.rows.all d.rows ∙
           (ap (λ z. z ++ rows_at (r.order.receiver d.message) d.rows) its.rows ∙
           (ap (λ z. rowed r (x.opening (r.order.receiver d.message)) (v.parts (r.order.receiver d.message)).committed ++ rows_at (r.order.receiver d.message) z) (ap (λ z. z.rows) first.2) ∙
           (ap (λ z. rowed r (x.opening (r.order.receiver d.message)) (v.parts (r.order.receiver d.message)).committed ++ z)
@@ -185,10 +185,10 @@ module _ {S K : Type 0} (r : Rules Message S K Note) (O : IsOrder r.order) (V : 
           ap (signed_count r.order y) (received-skip r.order q (plus_of d.message) (counted new) n));
       tray = k.tray ∙ ap (received_by r.order q) (sym tray);
       outbox = k.outbox;
-      rows = ap (rows_at q) rows ∙ (filter-append _ h.rows d.rows ∙
-          (ap (λ z. rows_at q h.rows ++ rows_at q z) (ap (λ z. z.rows) first.2) ∙
-          (ap (λ z. rows_at q h.rows ++ z) (rows-others q d.message (r.notes (reached r (x.opening (r.order.receiver d.message)) (v.parts (r.order.receiver d.message)).committed) d.message) n) ∙
-          (append-nil (rows_at q h.rows) ∙ k.rows))));
+      rows = ap (rows_at q) rows ∙ (filter-append _ h.rows.all d.rows ∙
+          (ap (λ z. rows_at q h.rows.all ++ rows_at q z) (ap (λ z. z.rows) first.2) ∙
+          (ap (λ z. rows_at q h.rows.all ++ z) (rows-others q d.message (r.notes (reached r (x.opening (r.order.receiver d.message)) (v.parts (r.order.receiver d.message)).committed) d.message) n) ∙
+          (append-nil (rows_at q h.rows.all) ∙ k.rows))));
       well = k.well;
     }
 

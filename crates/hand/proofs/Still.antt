@@ -1,25 +1,26 @@
 -- Where nothing changed but the order of the queue, the group stands for what it stood for.
-use Rattle.std.proofs.Common.{◌≡◌, ℕ, ◌≤◌, false, Option, Some, None, IfSome, IfNone, List, [], ◌∷◌, ◌++◌, length, All, Contains, IsPermutation, Result, Ok, Err, OnErr, refl, sym, ap, ◌∙◌, subst, append-nil, arith}
+use Rattle.std.proofs.Common.{◌≡◌, ◌≢◌, ℕ, ◌≤◌, false, Option, Some, None, IfSome, IfNone, List, [], ◌∷◌, ◌++◌, length, All, Contains, IsPermutation, Result, Ok, Err, OnErr, slice_get, refl, sym, ap, ◌∙◌, subst, append-nil, arith}
 use Rattle.std.proofs.lemmas.List.{nil_from_length}
 use Rattle.std.proofs.lemmas.List.Sorted.{IsPermutation-refl, IsPermutation-sym, IsPermutation-trans, length_permutation, Contains-permutation, All-permutation}
 use Rattle.std.proofs.lemmas.List.Elements.{All-weaker}
 use Rattle.vlink.specs.declared.message.Message.{Message}
-use Rattle.vlink.specs.Letters.{Row}
 use Rattle.vlink.specs.Order.{message_order}
-use Rattle.virtual_time.specs.Law.{IsOrder, World, received_by}
+use Rattle.virtual_time.specs.Law.{IsOrder, IsAscending, World, received_by}
 use Rattle.virtual_time.proofs.Order.{not_less-time}
 use Rattle.reverse.specs.Plain.{Plain}
 use Rattle.reverse.specs.Rules.{rules_of, is_before}
 use Rattle.reverse.specs.Setting.{Setting}
 use Rattle.reverse.specs.declared.sends.Sends.{Sends}
 use Rattle.two_lists.proofs.Counting.{times-permutation}
-use Rattle.hand.specs.Deeds.{Deed}
+use Rattle.hand.specs.Deeds.{Deed, messages_of}
 use Rattle.hand.specs.Flow.{Flow, IsFirst, TookFirst}
 use Rattle.hand.specs.Hands.{Held, DoesSent, StandsForSent, IsAsBefore, is_ours}
 use Rattle.hand.specs.Passing.{held}
+use Rattle.hand.specs.Rows.{Sealed}
 use Rattle.hand.proofs.Going.{stands-kept}
+use Rattle.hand.proofs.Telling.{of_members-none}
 
-pub as-first : {S K : Type 0} (members : List (Option S)) (done : List (Deed K)) (rows : List Row) (flow next : Flow) → IsPermutation flow.queue next.queue →
+pub as-first : {S K : Type 0} (members : List (Option S)) (done : List (Deed K)) (rows : Sealed) (flow next : Flow) → IsPermutation flow.queue next.queue →
     next ≡ record flow { queue = next.queue; room = next.room } → IsAsBefore (held members done rows flow) (held members done rows next)
 as-first members done rows flow next p e = record { members = refl; done = refl; rows = refl; queue = p; flow = e }
 
@@ -33,7 +34,7 @@ as-both h mid new a b = record {
 }
 
 -- room was made
-pub as-roomy : {S K : Type 0} (members : List (Option S)) (done later : List (Deed K)) (rows : List Row) (flow next : Flow) → later ≡ done →
+pub as-roomy : {S K : Type 0} (members : List (Option S)) (done later : List (Deed K)) (rows : Sealed) (flow next : Flow) → later ≡ done →
     next ≡ record flow { room = next.room } → IsAsBefore (held members done rows flow) (held members later rows next)
 as-roomy members done later rows flow next d e = record {
   members = refl;
@@ -44,7 +45,7 @@ as-roomy members done later rows flow next d e = record {
 }
 
 -- the first message was taken out, and waits again
-pub as-put_back : {S K : Type 0} (members : List (Option S)) (done : List (Deed K)) (rows : List Row) (flow next last : Flow) (m : Message) → TookFirst m flow next →
+pub as-put_back : {S K : Type 0} (members : List (Option S)) (done : List (Deed K)) (rows : Sealed) (flow next last : Flow) (m : Message) → TookFirst m flow next →
     IsPermutation (m ∷ next.queue) last.queue → last ≡ record next { queue = last.queue; room = last.room } → IsAsBefore (held members done rows flow) (held members done rows last)
 as-put_back members done rows flow next last m t p e = record {
   members = refl;
@@ -55,7 +56,7 @@ as-put_back members done rows flow next last m t p e = record {
 }
 
 -- there was none, and there is none
-pub as-empty : {S K : Type 0} (members : List (Option S)) (done : List (Deed K)) (rows : List Row) (flow next : Flow) → flow.queue ≡ [] → next.queue ≡ [] →
+pub as-empty : {S K : Type 0} (members : List (Option S)) (done : List (Deed K)) (rows : Sealed) (flow next : Flow) → flow.queue ≡ [] → next.queue ≡ [] →
     next ≡ record flow { queue = next.queue; room = next.room } → IsAsBefore (held members done rows flow) (held members done rows next)
 as-empty members done rows flow next none empty e = record {
   members = refl;
@@ -68,6 +69,21 @@ as-empty members done rows flow next none empty e = record {
 pub took-first : (m : Message) (old new : Flow) → TookFirst m old new → Contains old.queue m × All (λ x. is_before x m ≡ false) old.queue
 took-first m old new t =
     (Contains-permutation (m ∷ new.queue) old.queue m (IsPermutation-sym old.queue (m ∷ new.queue) t.taken) (0, omega arith, refl), t.first)
+
+-- the first message is not done and its receiver has no numbers left: so it was before, where only the order of the queue and the room changed
+pub exhausted-again : {S K : Type 0} (h mid : Held S K) (P : S → Type 0) → IsAsBefore h mid →
+    ((m : Message) × Contains mid.flow.queue m × All (λ x. is_before x m ≡ false) mid.flow.queue
+    × (IsAscending message_order (messages_of mid.done) → All (λ x. x ≢ m) (messages_of mid.done)) × ((s : S) → slice_get mid.members m.receiver ≡ Some (Some s) → P s)) →
+    (m : Message) × Contains h.flow.queue m × All (λ x. is_before x m ≡ false) h.flow.queue
+    × (IsAscending message_order (messages_of h.done) → All (λ x. x ≢ m) (messages_of h.done)) × ((s : S) → slice_get h.members m.receiver ≡ Some (Some s) → P s)
+exhausted-again h mid P a e =
+    let back = IsPermutation-sym h.flow.queue mid.flow.queue a.queue in (
+      e.0,
+      Contains-permutation mid.flow.queue h.flow.queue e.0 back e.1,
+      All-permutation (λ x. is_before x e.0 ≡ false) mid.flow.queue h.flow.queue back e.2,
+      subst (λ ds. IsAscending message_order (messages_of ds) → All (λ x. x ≢ e.0) (messages_of ds)) a.done e.3,
+      subst (λ ms. (s : _) → slice_get ms e.0.receiver ≡ Some (Some s) → P s) a.members e.4,
+    )
 
 pub on-err : {X Y : Type 0} (r : Result X Y) (P : Type 0) → P → OnErr r P
 on-err (Ok x) P p = tt
@@ -88,7 +104,7 @@ module _ {S K : Type 0} (plain : Plain S Message Sends K) (V : S → Message →
     (law : (s : S) (e : Message) → plain.before (plain.after s e) e (plain.saves s e) ≡ s) where
   pub stands-still : (h new : Held S K) → IsAsBefore h new → (x : Setting S) (v : World Message S) → StandsForSent (rules_of plain) V x v h [] → StandsForSent (rules_of plain) V x v new []
   stands-still h new a x v g =
-      stands-kept (rules_of plain) O V law x v h new [] [] a.members a.done a.rows (λ y. times-permutation message_order y h.flow.queue new.flow.queue a.queue)
+      stands-kept (rules_of plain) O V law x v h new [] [] a.members a.done (ap (λ z. z.all) a.rows) (λ y. times-permutation message_order y h.flow.queue new.flow.queue a.queue)
       (ap (λ z. z.extra) a.flow) (ap (λ z. z.tray) a.flow) (λ q. ap (λ z. received_by message_order q (z.abroad ++ [])) (sym a.flow))
       (subst (λ z. All (λ l. is_ours h.members (message_order.receiver l.message) ≡ false) z.abroad) (sym a.flow) g.elsewhere) g
 
@@ -96,5 +112,6 @@ module _ {S K : Type 0} (plain : Plain S Message Sends K) (V : S → Message →
   still h new a = record {
     did = [];
     block = ap (λ z. z.words) a.flow ∙ sym (append-nil h.flow.words);
-    stands = λ x L v g. (tt, stands-still h new a x v g);
+    keeps = ap (λ z. z.keeps) a.flow;
+    stands = λ x L v g. (tt, stands-still h new a x v g, of_members-none h.members new.members a.members);
   }

@@ -63,7 +63,7 @@ module _ {S K : Type 0} (r : Rules Message S K Note) (V : S → Message → Type
     tray = ap (λ z. z ++ l ∷ []) k.tray ∙ (ap (λ z. received_by r.order p h.flow.tray ++ z) (sym (received-first r.order p l [] e)) ∙
         (sym (received-append r.order p h.flow.tray (l ∷ [])) ∙ ap (received_by r.order p) (sym tray)));
     outbox = k.outbox;
-    rows = ap (λ z. rows_at p z) rows ∙ k.rows;
+    rows = ap (λ z. rows_at p z.all) rows ∙ k.rows;
     well = delivered-well r (λ z. ⊤) (x.opening p) l part k.well;
   }
 
@@ -76,7 +76,7 @@ module _ {S K : Type 0} (r : Rules Message S K Note) (V : S → Message → Type
     tray = k.tray ∙ (sym (append-nil (received_by r.order p h.flow.tray)) ∙ (ap (λ z. received_by r.order p h.flow.tray ++ z) (sym (received-skip r.order p l [] n)) ∙
         (sym (received-append r.order p h.flow.tray (l ∷ [])) ∙ ap (received_by r.order p) (sym tray))));
     outbox = k.outbox;
-    rows = ap (λ z. rows_at p z) rows ∙ k.rows;
+    rows = ap (λ z. rows_at p z.all) rows ∙ k.rows;
     well = k.well;
   }
 

@@ -3,9 +3,9 @@ use Rattle.std.proofs.Common.{◌≡◌, ℕ, ◌≤◌, Bool, true, false, not,
 use Rattle.std.proofs.lemmas.List.{map-append}
 use Rattle.std.proofs.lemmas.List.Elements.{All-push, filter-append}
 use Rattle.vlink.specs.declared.message.Message.{Message}
-use Rattle.vlink.specs.Letters.{Letter, Row}
+use Rattle.vlink.specs.Letters.{Letter}
 use Rattle.vlink.specs.Order.{message_order}
-use Rattle.virtual_time.specs.Law.{IsOrder, World, IsNamed, AreDone, done_by, received_by}
+use Rattle.virtual_time.specs.Law.{IsOrder, World, IsNamed, AreBy, AreDone, done_by, received_by}
 use Rattle.virtual_time.proofs.Letters.{named-head}
 use Rattle.reverse.specs.Plain.{Plain}
 use Rattle.reverse.specs.Rules.{rules_of}
@@ -17,6 +17,7 @@ use Rattle.hand.specs.Deeds.{Deed}
 use Rattle.hand.specs.Flow.{Flow}
 use Rattle.hand.specs.Hands.{StandsForSent, is_ours}
 use Rattle.hand.specs.Passing.{held}
+use Rattle.hand.specs.Rows.{Sealed}
 use Rattle.hand.specs.Arriving.{WentOn, to_members, to_others, words_taken}
 use Rattle.hand.proofs.Telling.{are_done-append}
 use Rattle.hand.proofs.Going.{stands-kept}
@@ -31,9 +32,19 @@ pub to_others-same : {S : Type 0} (xs ys : List (Option S)) → ((q : ℕ) → i
 to_others-same xs ys e [] = refl
 to_others-same xs ys e (l ∷ ls) = λ j. cond (not (e l.message.receiver j)) (l ∷ to_others-same xs ys e ls j) (to_others-same xs ys e ls j)
 
+-- letters to members are taken by members
+pub taken-by : {S : Type 0} (members : List (Option S)) (ls : List Letter) → AreBy (is_ours members) (steps_told (words_taken (to_members members ls)))
+taken-by members [] = tt
+taken-by members (l ∷ ls) = go (taken-by members ls) (is_ours members l.message.receiver) refl
+  where
+    go : AreBy (is_ours members) (steps_told (words_taken (to_members members ls))) → (b : Bool) → is_ours members l.message.receiver ≡ b →
+        AreBy (is_ours members) (steps_told (words_taken (cond b (l ∷ to_members members ls) (to_members members ls))))
+    go rest true e = (e, rest)
+    go rest false e = rest
+
 -- no letter, and one after another
-pub went-none : {S : Type 0} (members : List (Option S)) (old new : Flow) → new.tray ≡ old.tray → new.abroad ≡ old.abroad → new.words ≡ old.words → WentOn members [] old new
-went-none members old new t a w = record { tray = t ∙ sym (append-nil old.tray); abroad = a ∙ sym (append-nil old.abroad); words = w ∙ sym (append-nil old.words) }
+pub went-none : {S : Type 0} (members : List (Option S)) (old new : Flow) → new.tray ≡ old.tray → new.abroad ≡ old.abroad → new.words ≡ old.words → new.keeps ≡ old.keeps → WentOn members [] old new
+went-none members old new t a w k = record { tray = t ∙ sym (append-nil old.tray); abroad = a ∙ sym (append-nil old.abroad); words = w ∙ sym (append-nil old.words); keeps = k }
 
 pub went-both : {S : Type 0} (members : List (Option S)) (xs ys : List Letter) (old mid new : Flow) → WentOn members xs old mid → WentOn members ys mid new → WentOn members (xs ++ ys) old new
 went-both members xs ys old mid new a b = record {
@@ -44,10 +55,11 @@ went-both members xs ys old mid new a b = record {
   words = b.words ∙ (ap (λ z. z ++ words_taken (to_members members ys)) a.words ∙ (append_assoc old.words (words_taken (to_members members xs)) (words_taken (to_members members ys)) ∙
       ap (λ z. old.words ++ z) (sym (ap (λ z. words_taken z) (filter-append (λ l. is_ours members l.message.receiver) xs ys) ∙
       map-append (λ l. Taken l.message.receiver) (to_members members xs) (to_members members ys)))));
+  keeps = b.keeps ∙ a.keeps;
 }
 
 module _ {S K : Type 0} (plain : Plain S Message Sends K) (V : S → Message → Type 0) (O : IsOrder message_order)
-    (law : (s : S) (e : Message) → plain.before (plain.after s e) e (plain.saves s e) ≡ s) (members : List (Option S)) (done : List (Deed K)) (rows : List Row) (x : Setting S) where
+    (law : (s : S) (e : Message) → plain.before (plain.after s e) e (plain.saves s e) ≡ s) (members : List (Option S)) (done : List (Deed K)) (rows : Sealed) (x : Setting S) where
   -- what the group has after a letter went on
   abbrev taken_to : Letter → Flow → Flow
   taken_to l flow = record flow { tray = flow.tray ++ l ∷ []; words = flow.words ++ Taken l.message.receiver ∷ [] }

@@ -3,7 +3,7 @@ use Rattle.std.proofs.Common.{◌≡◌, ℕ, ◌≤◌, false, List, [], ◌∷
 use Rattle.vlink.specs.declared.message.Message.{Message}
 use Rattle.vlink.specs.Letters.{Letter}
 use Rattle.vlink.specs.Order.{message_order}
-use Rattle.virtual_time.specs.Law.{IsOrder, Laws, World, IsNamed, AreDone, done_by, received_by}
+use Rattle.virtual_time.specs.Law.{IsOrder, Laws, World, IsNamed, AreBy, AreDone, done_by, received_by}
 use Rattle.reverse.specs.Plain.{Plain}
 use Rattle.reverse.specs.Rules.{rules_of}
 use Rattle.reverse.specs.Setting.{Setting, simulation_of}
@@ -13,9 +13,9 @@ use Rattle.hand.specs.Block.{steps_told}
 use Rattle.hand.specs.Hands.{Held, DoesSent, StandsForSent, is_ours}
 use Rattle.hand.specs.Passing.{held}
 use Rattle.hand.specs.Arriving.{WentOn, to_members, to_others, words_taken}
-use Rattle.hand.proofs.Telling.{are_done-append, done-append, told-append}
+use Rattle.hand.proofs.Telling.{are_done-append, by-both, done-append, told-append}
 use Rattle.hand.proofs.Going.{stands-kept}
-use Rattle.hand.proofs.WentOn.{to_members-same, to_others-same, all-went, Goes}
+use Rattle.hand.proofs.WentOn.{to_members-same, to_others-same, taken-by, all-went, Goes}
 
 module _ {S K : Type 0} (plain : Plain S Message Sends K) (V : S → Message → Type 0) (O : IsOrder message_order)
     (law : (s : S) (e : Message) → plain.before (plain.after s e) e (plain.saves s e) ≡ s) (word : Did) (tray sent : List Letter) (old new : Held S K) where
@@ -23,10 +23,12 @@ module _ {S K : Type 0} (plain : Plain S Message Sends K) (V : S → Message →
   abbrev pub between : Held S K
   between = held new.members new.done new.rows (record new.flow { tray = tray; abroad = old.flow.abroad; words = old.flow.words ++ word ∷ [] })
 
-  -- the steps of the word can be done, the group stands for what they make of it, the members are the same, and nothing that was posted is after the end
+  -- the steps of the word can be done and are of a member, the group stands for what they make of it, the members are the same, and nothing that was
+  -- posted is after the end
   pub record IsTold (x : Setting S) (v : World Message S) : Type 0 where
     pub steps : AreDone (simulation_of (rules_of plain) x) (steps_told (word ∷ [])) v
     pub stands : StandsForSent (rules_of plain) V x (done_by (simulation_of (rules_of plain) x) (steps_told (word ∷ [])) v) between sent
+    pub by : AreBy (is_ours old.members) (steps_told (word ∷ []))
     pub same : (q : ℕ) → is_ours new.members q ≡ is_ours old.members q
     pub soon : (m : Message) → IsNamed message_order m sent → m.time ≤ x.until
 
@@ -65,6 +67,7 @@ module _ {S K : Type 0} (plain : Plain S Message Sends K) (V : S → Message →
         DoesSent (rules_of plain) V old [] new []
     word-told tells = record {
       did = word ∷ words_taken (to_members old.members sent);
+      keeps = went.keeps;
       block = went.words ∙ append_assoc old.flow.words (word ∷ []) (words_taken (to_members old.members sent));
       stands = λ x L v g.
           let f = simulation_of (rules_of plain) x in
@@ -73,5 +76,6 @@ module _ {S K : Type 0} (plain : Plain S Message Sends K) (V : S → Message →
             subst (λ zs. AreDone f zs v) (sym (told-append (word ∷ []) ws)) (are_done-append f (steps_told (word ∷ [])) (steps_told ws) v t.steps (went-steps x v t)),
             subst (λ z. StandsForSent (rules_of plain) V x z new [])
                 (sym (ap (λ zs. done_by f zs v) (told-append (word ∷ []) ws) ∙ done-append f (steps_told (word ∷ [])) (steps_told ws) v)) (went-stands x v t),
+            record { by = by-both (is_ours old.members) (word ∷ []) ws t.by (taken-by old.members sent); same = t.same },
           );
     }

@@ -1,5 +1,5 @@
 //! The done events of a group.
-ghost use Rattle.std.specs.Prelude.{◌≡◌, List, ◌+◌, ◌<◌, ◌≤◌, [], ◌∷◌, ◌++◌, length, OnOk};
+ghost use Rattle.std.specs.Prelude.{◌≡◌, true, List, ◌+◌, ◌<◌, ◌≤◌, [], ◌∷◌, ◌++◌, length, OnOk};
 ghost use Rattle.std.specs.VecDeque.{deque_len, deque_capacity};
 ghost use Rattle.vlink.specs.Order.{message_order};
 ghost use Rattle.virtual_time.specs.Law.{rows_of};
@@ -61,9 +61,35 @@ impl<K: Copy> Deeds<K> {
         }
     }
 
-    /// Makes room for one event more, whatever it sends and notes.
+    /// Makes room for one event more, whatever it sends and notes. Mostly there is.
     #[inline(always)]
     pub(crate) fn reserve(&mut self) -> Result<(), AllocError>
+        ensures events { OnOk result (1 ≤ self.new.events_room) }
+        ensures sends { OnOk result (24 ≤ self.new.sends_room) }
+        ensures rows { OnOk result (2 ≤ self.new.rows_room) }
+        ensures same { self.new.deeds ≡ self.old.deeds }
+    {
+        if self.has_room() {
+            return Ok(());
+        }
+        self.grow()
+    }
+
+    /// Whether there is room for one event more, whatever it sends and notes.
+    #[inline(always)]
+    fn has_room(&self) -> bool
+        ensures events { result ≡ true → 1 ≤ self.now.events_room }
+        ensures sends { result ≡ true → 24 ≤ self.now.sends_room }
+        ensures rows { result ≡ true → 2 ≤ self.now.rows_room }
+    {
+        1 <= self.events.capacity() - self.events.len()
+            && 24 <= self.sends.capacity() - self.sends.len()
+            && 2 <= self.rows.capacity() - self.rows.len()
+    }
+
+    /// Makes room for one event more, whatever it sends and notes, where some of it is missing.
+    #[inline(never)]
+    fn grow(&mut self) -> Result<(), AllocError>
         ensures events { OnOk result (1 ≤ self.new.events_room) }
         ensures sends { OnOk result (24 ≤ self.new.sends_room) }
         ensures rows { OnOk result (2 ≤ self.new.rows_room) }

@@ -1,29 +1,31 @@
 //! A group of processes in one hand.
-ghost use Rattle.std.specs.Prelude.{◌≡◌, ◌≤◌, ◌<◌, ◌+◌, [], true, false, Some, All, Contains, Ok, Err, OnOk, OnErr, IfOk, IfErr, IfSome, IfNone, IsPermutation, slice_get};
+ghost use Rattle.std.specs.Prelude.{◌≡◌, ◌≢◌, ◌≤◌, ◌<◌, ◌+◌, ℕ, List, [], ◌++◌, true, false, Some, All, Contains, Ok, Err, OnOk, OnErr, IfOk, IfErr, IfSome, IfNone, IsPermutation, drop, slice_get, take};
 ghost use Rattle.vlink.specs.declared.message.Message.{Message};
 ghost use Rattle.vlink.specs.Order.{message_order};
 ghost use Rattle.vlink.specs.Numbering.{greatest_number};
-ghost use Rattle.virtual_time.specs.Law.{World};
+ghost use Rattle.virtual_time.specs.Law.{World, IsAscending};
 ghost use Rattle.reverse.specs.Rules.{rules_of, is_before};
 ghost use Rattle.reverse.specs.Setting.{Setting};
 ghost use Rattle.antimessages.specs.Counting.{is_after};
 ghost use Rattle.process_queues.specs.Past.{newest_of};
-ghost use Rattle.hand.specs.Deeds.{messages_of};
-ghost use Rattle.hand.specs.Hands.{DoesTold, StandsForGroup, CommitsTold, StaysDone, IsAsBefore, is_ours, with_letter};
+ghost use Rattle.hand.specs.Deeds.{Deed, messages_of};
+ghost use Rattle.hand.specs.Hands.{DoesTold, StandsForGroup, CommitsTold, StaysDone, IsAsBefore};
+ghost use Rattle.hand.specs.Sealing.{rows_in};
 ghost use Rattle.hand.specs.declared.fault.HandFault.TheVariants.{OutOfMemory, Exhausted};
 ghost use Rattle.hand.specs.declared.early.Early.TheVariants.{Idle, Late};
 
 use crate::deeds::Deeds;
 use crate::early::{Early, handle_first, standing};
 use crate::fault::HandFault;
+use crate::late::handle_late;
 use crate::letters::Letters;
 use crate::members::has_numbers;
-use crate::next::handle_behind;
+use crate::rows::Rows;
 use crate::undoing::Undoing;
 use reverse::{Actor, Outbound, actor_rules};
 use std::alloc::Global;
 use std::marker::Model;
-use vlink::{Letter, Message, Row, Time};
+use vlink::{Message, Row, Time};
 
 /// The most letters, and words beside the first, that one event gives.
 const MOST_SENT: usize = 25;
@@ -37,9 +39,10 @@ pub struct Hand<R: Actor> {
     pub(crate) members: Vec<Option<R>>,
     /// The done events in the order of their messages.
     pub(crate) done: Deeds<R::Record>,
+    /// What a rollback needs; empty between calls.
     pub(crate) undoing: Undoing<R::Record>,
     /// The rows of committed events.
-    rows: Vec<Row>,
+    pub(crate) rows: Rows,
     pub(crate) letters: Letters,
     out: Outbound,
 }
@@ -52,7 +55,7 @@ impl<R: Actor> Model for Hand<R> {
 
     ghost Value = { Held R R.Record };
 
-    ghost view = { λ h. record { members = h.members.items; done = h.done.deeds; rows = h.rows.items; flow = h.letters } };
+    ghost view = { λ h. record { members = h.members.items; done = h.done.deeds; rows = h.rows; flow = h.letters } };
 
     // the state of each member came from what it has done
     ghost invariant = { λ h. ((p : ℕ) → CameTo (rules_of R.plain) R.is_value h.members.items h.done.deeds p) × (h.undoing.aside.deeds ≡ []) × (h.undoing.back.items ≡ []) };
@@ -70,7 +73,7 @@ impl<R: Actor + Drop> Hand<R> {
         ensures members { IfOk result (λ hand. hand.members ≡ members.items) }
         ensures queue { IfOk result (λ hand. IsPermutation offers.items hand.flow.queue) }
         ensures done { IfOk result (λ hand. hand.done ≡ []) }
-        ensures rows { IfOk result (λ hand. hand.rows ≡ []) }
+        ensures rows { IfOk result (λ hand. hand.rows ≡ record { all = []; left = 0 }) }
         ensures extra { IfOk result (λ hand. hand.flow.extra ≡ []) }
         ensures tray { IfOk result (λ hand. hand.flow.tray ≡ []) }
         ensures abroad { IfOk result (λ hand. hand.flow.abroad ≡ []) }
@@ -82,7 +85,7 @@ impl<R: Actor + Drop> Hand<R> {
             members,
             done: Deeds::new(alloc),
             undoing: Undoing::new(alloc),
-            rows: Vec::new(alloc),
+            rows: Rows::new(alloc),
             letters: Letters::of_offers(alloc, offers, keeps)?,
             out: Outbound::new(0, Time::default(), 0),
         })
@@ -90,18 +93,6 @@ impl<R: Actor + Drop> Hand<R> {
 }
 
 impl<R: Actor> Hand<R> {
-    /// A letter to a member, which was taken from the mail of the run, comes to the back of the tray. A refusal leaves all as it was.
-    pub fn deliver(&mut self, letter: Letter) -> Result<(), HandFault>
-        requires { is_ours self.old.members letter.message.receiver ≡ true }
-        ensures delivered { OnOk result ((x : Setting R) (v : World Message R) → letter.message.time ≤ x.until →
-            StandsForGroup (rules_of R.plain) R.is_value x v self.old → StandsForGroup (rules_of R.plain) R.is_value x (with_letter message_order letter v) self.new) }
-        ensures unchanged { OnErr result (IsAsBefore self.old self.new) }
-        ensures memory { IfErr result (λ fault. fault ≡ OutOfMemory) }
-    {
-        self.letters.deliver(&letter)?;
-        Ok(())
-    }
-
     /// The first message of the queue, if there is one: the least of all that the members have to handle, where none of them rolled back.
     pub fn next(&mut self) -> Option<Message>
         ensures same { IsAsBefore self.old self.new }
@@ -125,6 +116,7 @@ impl<R: Actor> Hand<R> {
             × Contains self.old.flow.queue m × All (λ x. is_before x m ≡ false) self.old.flow.queue }
         ensures still { result ≡ Ok Late → IsAsBefore self.old self.new }
         ensures exhausted { result ≡ Err Exhausted → (m : Message) × Contains self.old.flow.queue m × All (λ x. is_before x m ≡ false) self.old.flow.queue
+            × (IsAscending message_order (messages_of self.old.done) → All (λ x. x ≢ m) (messages_of self.old.done))
             × ((s : R) → slice_get self.old.members m.receiver ≡ Some (Some s) → greatest_number < R.plain.counter s + 24) }
         ensures unchanged { OnErr result (IsAsBefore self.old self.new) }
     {
@@ -157,11 +149,14 @@ impl<R: Actor> Hand<R> {
     /// is done already, it counts beside. What it sends to members is taken: it joins the queue, or waits in the tray. The answer is whether there was
     /// one. Letters that wait in the tray are to arrive before.
     ///
-    /// `Exhausted`: its receiver, if it is a member, has not enough numbers left for what one event can send. `OutOfMemory`: a growth was refused.
-    /// Either leaves all as it was.
+    /// `Exhausted`: it is not done, and its receiver, if it is a member, has not enough numbers left for what one event can send. `OutOfMemory`: a
+    /// growth was refused. Either leaves all as it was.
     pub fn run_next(&mut self, limit: Time) -> Result<bool, HandFault>
         ensures did { DoesTold (rules_of R.plain) R.is_value self.old self.new }
         ensures idle { result ≡ Ok false → All (λ m. limit ≤ m.time) self.old.flow.queue }
+        ensures exhausted { result ≡ Err Exhausted → (m : Message) × Contains self.old.flow.queue m × All (λ x. is_before x m ≡ false) self.old.flow.queue
+            × (IsAscending message_order (messages_of self.old.done) → All (λ x. x ≢ m) (messages_of self.old.done))
+            × ((s : R) → slice_get self.old.members m.receiver ≡ Some (Some s) → greatest_number < R.plain.counter s + 24) }
         ensures unchanged { OnErr result (IsAsBefore self.old self.new) }
     {
         match self.run_early(limit)? {
@@ -177,11 +172,12 @@ impl<R: Actor> Hand<R> {
     /// The first message of the queue, if there is one, is handled by its receiver, where other members have done later events; or, where it is done
     /// already, it counts beside. What it sends to members waits in the tray.
     ///
-    /// `Exhausted`: its receiver, if it is a member, has not enough numbers left for what one event can send. `OutOfMemory`: a growth was refused.
-    /// Either leaves all as it was.
+    /// `Exhausted`: it is not done, and its receiver, if it is a member, has not enough numbers left for what one event can send. `OutOfMemory`: a
+    /// growth was refused. Either leaves all as it was.
     pub(crate) fn run_late(&mut self) -> Result<(), HandFault>
         ensures did { DoesTold (rules_of R.plain) R.is_value self.old self.new }
         ensures exhausted { result ≡ Err Exhausted → (m : Message) × Contains self.old.flow.queue m × All (λ x. is_before x m ≡ false) self.old.flow.queue
+            × (IsAscending message_order (messages_of self.old.done) → All (λ x. x ≢ m) (messages_of self.old.done))
             × ((s : R) → slice_get self.old.members m.receiver ≡ Some (Some s) → greatest_number < R.plain.counter s + 24) }
         ensures unchanged { OnErr result (IsAsBefore self.old self.new) }
     {
@@ -189,20 +185,24 @@ impl<R: Actor> Hand<R> {
         let Some(message) = self.letters.first() else {
             return Ok(());
         };
+        if self.done.has(&message) {
+            self.letters.count_again(&message)?;
+            return Ok(());
+        }
         if !has_numbers(&self.members, message.receiver) {
             return Err(HandFault::Exhausted);
         }
         self.letters.reserve(MOST_SENT)?;
         self.done.reserve()?;
         self.undoing.aside.reserve_for(&self.done)?;
-        handle_behind(
+        handle_late(
             &mut self.members,
             &mut self.done,
             &mut self.undoing.aside,
             &mut self.letters,
             &mut self.out,
             &message,
-        )?;
+        );
         Ok(())
     }
 
@@ -210,6 +210,8 @@ impl<R: Actor> Hand<R> {
     /// the first message of the queue does not come. Their rows are sealed. A refusal leaves all as it was.
     pub fn commit(&mut self, moment: Time) -> Result<(), HandFault>
         ensures did { CommitsTold (rules_of R.plain) R.is_value moment self.old self.new }
+        ensures sealed { OnOk result ((ds : List (Deed R.Record)) × (self.old.done ≡ ds ++ self.new.done)
+            × (self.new.rows ≡ record self.old.rows { all = self.old.rows.all ++ rows_in ds }) × All (λ m. m.time < moment) (messages_of ds)) }
         ensures left { OnOk result (StaysDone moment self.new) }
         ensures memory { IfErr result (λ fault. fault ≡ OutOfMemory) }
         ensures unchanged { OnErr result (IsAsBefore self.old self.new) }
@@ -221,10 +223,24 @@ impl<R: Actor> Hand<R> {
         Ok(())
     }
 
-    /// The rows of committed events, in the order of their events.
+    /// The rows of committed events but those that have left, in the order of their events.
     pub fn rows(&self) -> &[Row]
-        ensures { result.now ≡ self.now.rows }
+        ensures { result.now ≡ drop self.now.rows.left self.now.rows.all }
     {
-        &self.rows
+        self.rows.there()
+    }
+
+    /// The oldest rows that have not left do so, while they are earlier than the moment, in ns. A refusal leaves all as it was.
+    pub fn let_rows_go(&mut self, moment: Time) -> Result<(), HandFault>
+        ensures rows { self.new ≡ record self.old { rows = record self.old.rows { left = self.new.rows.left } } }
+        ensures gone { (count : ℕ) × (self.new.rows.left ≡ self.old.rows.left + count)
+            × All (λ row. row.message.time < moment) (take count (drop self.old.rows.left self.old.rows.all)) }
+        ensures late { OnOk result (IfSome (slice_get (drop self.new.rows.left self.new.rows.all) 0) (λ row. moment ≤ row.message.time)) }
+        ensures stands { (x : Setting R) (v : World Message R) → StandsForGroup (rules_of R.plain) R.is_value x v self.old → StandsForGroup (rules_of R.plain) R.is_value x v self.new }
+        ensures memory { IfErr result (λ fault. fault ≡ OutOfMemory) }
+    {
+        actor_rules::<R>();
+        self.rows.let_go(moment)?;
+        Ok(())
     }
 }

@@ -1,5 +1,8 @@
-//! A group of processes in one hand: one queue of messages for all of them, one list of done events, and the letters that they sent to others.
-//! Each call does steps of the law of virtual time, which join the block.
+//! A hand is what one worker holds of a network: a group of processes, with one queue of messages for all of them, from which their events are done in
+//! message order, one list of done events, by which those that come too early are undone, and the letters that they sent to others. So an event costs
+//! little more than in a run of one thread, and only letters between groups pass from worker to worker.
+//!
+//! Each call does steps of the law of virtual time, which join the block as words.
 #![tactic(auto)]
 
 mod arrive;
@@ -7,16 +10,21 @@ mod arriving;
 mod block;
 mod committing;
 mod deeds;
+mod delivering;
 mod early;
 mod fault;
+mod front;
 mod hand;
 mod handing;
 mod late;
+mod laws;
 mod letters;
 mod members;
 mod newest;
 mod next;
+mod oldest;
 mod queue;
+mod rows;
 mod tray;
 mod undoing;
 
@@ -24,3 +32,4 @@ pub use block::{Did, Words};
 pub use early::Early;
 pub use fault::HandFault;
 pub use hand::Hand;
+pub use laws::hand_laws;

@@ -2,9 +2,11 @@
 //!
 //! `hand:3` opens a group of processes 0 to 2 of five. `+10:1` and `-10:1:7:4` deliver a letter for the moment 10 to process 1: its sign, and behind
 //! further colons its sender, 9 where none is named, and its number, 0 where none is named. `arrive`, `run:50` and `commit:20` are the calls
-//! `arrive_all`, `run_next` and `commit`, and `next`, `floor`, `abroad`, `rows` and `states` tell what can be seen. Behind its answer each word tells
-//! its block, up to a full stop: a letter for what was done, and the process. `R`: a message was handled; `H` and `T`: what was sent home arrived at
-//! once, or waits; `A`: the front of the tray arrived; `C`: an event was committed.
+//! `arrive_all`, `run_next` and `commit`; `exact` is `count_done`, and tells the floor; `gone:20` lets rows go that are earlier than 20; `before:20`
+//! tells whether some event is done before 20, and the oldest moment of one; and `next`, `floor`, `abroad`, `rows` and `states` tell what can be seen.
+//! Behind its answer each word tells its block, up to a full stop: a letter for what was done, and the process, and in the end for how many steps that
+//! stands. `R`: a message was handled; `H` and `T`: what was sent home arrived at once, or waits; `A`: the front of the tray arrived; `C`: an event was
+//! committed.
 use super::player::{moment, number, parted};
 use crate::Passing;
 use hand::{Did, Hand, HandFault};
@@ -77,6 +79,9 @@ fn act(alloc: Global, stage: &mut Stage, word: &str) -> Result<(), HandFault> {
         "arrive" => stage.hand.arrive_all()?,
         "commit" => stage.hand.commit(moment(number(rest)))?,
         "run" => tell_run(stage, moment(number(rest)))?,
+        "exact" => tell_exact(stage)?,
+        "gone" => stage.hand.let_rows_go(moment(number(rest)))?,
+        "before" => tell_before(stage, moment(number(rest)))?,
         "next" => tell_next(stage)?,
         "floor" => tell_floor(stage)?,
         "abroad" => tell_abroad(stage)?,
@@ -110,7 +115,7 @@ fn tell_block(alloc: Global, stage: &mut Stage) -> Result<(), HandFault> {
             tell_did(&mut stage.told, *did)?;
         }
     }
-    Ok(stage.told.push_str(". ")?)
+    Ok(write!(stage.told, "={} . ", block.steps())?)
 }
 
 fn tell_did(told: &mut String, did: Did) -> Result<(), HandFault> {
@@ -130,6 +135,25 @@ fn tell_next(stage: &mut Stage) -> Result<(), HandFault> {
         Some(message) => tell_message(&mut stage.told, &message),
         None => Ok(stage.told.push_str("none ")?),
     }
+}
+
+// The floor, once what is done already counts beside.
+fn tell_exact(stage: &mut Stage) -> Result<(), HandFault> {
+    stage.hand.count_done()?;
+    tell_floor(stage)
+}
+
+// Whether some event is done before the moment, and the oldest moment of one.
+fn tell_before(stage: &mut Stage, limit: Time) -> Result<(), HandFault> {
+    let done = stage.hand.is_done_before(limit);
+    stage.told.push_str(if done { "yes " } else { "no " })?;
+    if stage.hand.all_committed() {
+        return Ok(stage.told.push_str("none ")?);
+    }
+    if let Some(oldest) = stage.hand.oldest() {
+        write!(stage.told, "{} ", oldest.ns())?;
+    }
+    Ok(())
 }
 
 fn tell_floor(stage: &mut Stage) -> Result<(), HandFault> {

@@ -43,7 +43,7 @@ returns-clause-did g c = λ rows.
 pub returns-clause-fewer : goal.returns-clause-fewer
 returns-clause-fewer g c =
     tray-fewer g.R.Reversible.plain g.R.Reversible.is_value c.actor_rules.ensures.order c.args.letter.now c.requires.front.0 c.has.result
-    c.args.members.now c.settle.new.members c.args.done.now.deeds c.settle.new.done.deeds [] c.args.letters.now c.count.new.self c.take_front.new.self c.settle.new.letters c.take_back_all.new.letters
+    c.args.members.now c.settle.new.members c.args.done.now.deeds c.settle.new.done.deeds (record { all = []; left = 0 }) c.args.letters.now c.count.new.self c.take_front.new.self c.settle.new.letters c.take_back_all.new.letters
     c.settle.new.undoing.back.items c.requires.front.1 (λ e. contains-in c.actor_rules.ensures.order _ _ (c.has.ensures.yes e)) (λ e up. none-among c.actor_rules.ensures.order _ _ (c.has.ensures.no e up))
     c.count.ensures.others (c.take_front.ensures.tray c.requires.front.0 (ap (λ z. z.tray) c.count.ensures.others ∙ c.requires.front.1)) c.take_front.ensures.words c.take_front.ensures.others
     c.settle.ensures.others c.take_back_all.ensures.went c.take_back_all.ensures.queue c.take_back_all.ensures.extra c.in_ok-way.way c.settle.ensures.settled

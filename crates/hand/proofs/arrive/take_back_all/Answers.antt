@@ -10,7 +10,7 @@ use Rattle.hand.proofs.arrive.take_back_all.Goals as goal
 
 pub loop-place-init : goal.loop-place-init
 loop-place-init g c = record {
-  went = went-none c.args.members.now c.args.letters.now c.args.letters.now refl refl refl;
+  went = went-none c.args.members.now c.args.letters.now c.args.letters.now refl refl refl refl;
   queue = refl;
   extra = refl;
   room = omega (arith, c.requires);

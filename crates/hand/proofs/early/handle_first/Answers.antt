@@ -28,7 +28,7 @@ returns-clause-did g c = λ rows before took.
     (handles plain V c.actor_rules.ensures.order c.actor_rules.ensures.undoes c.args.members.now c.args.done.now.deeds c.push_reserved.new.self.deeds rows
     before c.args.letters.now c.tell.new.self c.send_all.new.letters m s at (c.act-kept.ensures.valid s at) took.first c.requires.early
     took.taken (ap (λ z. z.extra) took.others) (ap (λ z. z.tray) took.others) (ap (λ z. z.abroad) took.others)
-    (ap (λ z. z.words) took.others) c.tell.ensures.told later gone)
+    (ap (λ z. z.words) took.others) (ap (λ z. z.keeps) took.others) c.tell.ensures.told later gone)
 
 pub returns-clause-came : goal.returns-clause-came
 returns-clause-came g c = λ came.

@@ -97,7 +97,7 @@ returns-clause-came g c =
     let s = c.requires.able.0 in
     let at = c.requires.able.1 in
     subst (λ ms. (p : ℕ) → CameTo (rules_of plain) V ms c.bring_back-2.new.done.deeds p) (sym (c.act-kept.ensures.members s at))
-    (late-came plain V c.actor_rules.ensures.order c.actor_rules.ensures.undoes c.args.members.now c.args.done.now.deeds c.set_aside.new.done.deeds c.set_aside.new.aside.deeds c.bring_back-2.new.done.deeds []
+    (late-came plain V c.actor_rules.ensures.order c.actor_rules.ensures.undoes c.args.members.now c.args.done.now.deeds c.set_aside.new.done.deeds c.set_aside.new.aside.deeds c.bring_back-2.new.done.deeds (record { all = []; left = 0 })
     c.args.letters.now c.take_first.new.self c.tell.new.self c.send_later.new.letters m s at (c.act-kept.ensures.valid s at) c.set_aside.ensures.aside (search rules)
     (now-done g (goal.at.returns-clause-came g c).After-bring_back-2) c.requires.came)
 

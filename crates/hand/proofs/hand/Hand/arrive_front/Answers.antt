@@ -4,7 +4,7 @@ use Rattle.reverse.specs.Rules.{rules_of}
 use Rattle.hand.specs.Flow.{Flow}
 use Rattle.hand.specs.Hands.{DoesSent, IsAsBefore}
 use Rattle.hand.specs.Passing.{held}
-use Rattle.hand.proofs.Telling.{does-both}
+use Rattle.hand.proofs.Telling.{does-nothing, does-both}
 use Rattle.hand.proofs.Still.{as-roomy, still}
 use Rattle.hand.proofs.hand.Hand.arrive_front.Given.{Over}
 use Rattle.hand.proofs.hand.Hand.arrive_front.Goals.{After-reserve}
@@ -12,12 +12,15 @@ use Rattle.hand.proofs.hand.Hand.arrive_front.Goals as goal
 
 -- after room was made
 roomy : (g : Over) (c : After-reserve g) → DoesSent (rules_of g.R.Reversible.plain) g.R.Reversible.is_value c.args.self.now []
-    (held c.self.inside.members.items c.self.inside.done.deeds c.self.inside.rows.items c.reserve.new.self) []
+    (held c.self.inside.members.items c.self.inside.done.deeds c.self.inside.rows c.reserve.new.self) []
 roomy g c =
     still g.R.Reversible.plain g.R.Reversible.is_value c.actor_rules.ensures.order c.actor_rules.ensures.undoes c.args.self.now
-    (held c.self.inside.members.items c.self.inside.done.deeds c.self.inside.rows.items c.reserve.new.self)
-    (subst (λ h. IsAsBefore h (held c.self.inside.members.items c.self.inside.done.deeds c.self.inside.rows.items c.reserve.new.self)) c.self.view_is
-    (as-roomy c.self.inside.members.items c.self.inside.done.deeds c.self.inside.done.deeds c.self.inside.rows.items c.self.inside.letters c.reserve.new.self refl c.reserve.ensures.same))
+    (held c.self.inside.members.items c.self.inside.done.deeds c.self.inside.rows c.reserve.new.self)
+    (subst (λ h. IsAsBefore h (held c.self.inside.members.items c.self.inside.done.deeds c.self.inside.rows c.reserve.new.self)) c.self.view_is
+    (as-roomy c.self.inside.members.items c.self.inside.done.deeds c.self.inside.done.deeds c.self.inside.rows c.self.inside.letters c.reserve.new.self refl c.reserve.ensures.same))
+
+pub returns-in_default-room_for-clause-did : goal.returns-in_default-room_for-clause-did
+returns-in_default-room_for-clause-did g c = does-nothing (rules_of g.R.Reversible.plain) g.R.Reversible.is_value c.args.self.now []
 
 pub returns-in_err-reserve-clause-did : goal.returns-in_err-reserve-clause-did
 returns-in_err-reserve-clause-did g c = roomy g (goal.at.returns-in_err-reserve-clause-did g c).After-reserve
@@ -29,7 +32,7 @@ pub returns-in_err-arrive-clause-did : goal.returns-in_err-arrive-clause-did
 returns-in_err-arrive-clause-did g c =
     let r = rules_of g.R.Reversible.plain in
     let V = g.R.Reversible.is_value in
-    let rows = c.self.inside.rows.items in
+    let rows = c.self.inside.rows in
     subst (λ ms. DoesSent r V c.args.self.now [] (held ms c.arrive.new.done.deeds rows c.arrive.new.letters) [])
     (sym (with_items_is c.self.inside.members c.arrive.new.members (c.arrive.ensures.len ∙ c.deref_mut.ensures.len) ∙ (c.in_err-arrive.ensures.members ∙ c.deref_mut.ensures.value)))
     (still g.R.Reversible.plain V c.actor_rules.ensures.order c.actor_rules.ensures.undoes c.args.self.now
@@ -42,7 +45,7 @@ pub returns-clause-did : goal.returns-clause-did
 returns-clause-did g c =
     let r = rules_of g.R.Reversible.plain in
     let V = g.R.Reversible.is_value in
-    let rows = c.self.inside.rows.items in
+    let rows = c.self.inside.rows in
     subst (λ ms. DoesSent r V c.args.self.now [] (held ms c.arrive.new.done.deeds rows c.arrive.new.letters) [])
     (sym (with_items_is c.self.inside.members c.arrive.new.members (c.arrive.ensures.len ∙ c.deref_mut.ensures.len)))
     (does-both r V c.args.self.now (held c.self.inside.members.items c.self.inside.done.deeds rows c.reserve.new.self)

@@ -1,11 +1,12 @@
-use Rattle.std.proofs.Common.{ℕ, ◌≡◌, take, drop, IfSome, slice_get, refl, sym, subst}
-use Rattle.std.proofs.lemmas.List.{take-append-drop}
+use Rattle.std.proofs.Common.{ℕ, ◌≡◌, ◌<◌, ◌++◌, All, take, drop, IfSome, slice_get, refl, sym, ap, ◌∙◌, subst}
+use Rattle.std.proofs.lemmas.List.{take-append-drop, take-map}
+use Rattle.std.proofs.lemmas.List.Elements.{All-weaker}
 use Rattle.reverse.specs.Rules.{rules_of}
 use Rattle.hand.specs.Hands.{IsAsBefore}
 use Rattle.hand.specs.Undoing.{CameTo}
 use Rattle.hand.specs.Passing.{held}
 use Rattle.hand.specs.Deeds.{messages_of}
-use Rattle.hand.specs.Sealing.{CanSeal, Stays}
+use Rattle.hand.specs.Sealing.{CanSeal, Stays, rows_in}
 use Rattle.hand.proofs.Still.{as-first, as-both, as-roomy, first-again, on-err}
 use Rattle.hand.proofs.Came.{dropped-came}
 use Rattle.hand.proofs.Forgetting.{of-messages, oldest-then}
@@ -20,31 +21,31 @@ count_early-count-requires g c =
     c.first-first.ensures.among c.first-first.ensures.first c.first-first.ensures.none
 
 -- after a look at the first message
-looked : (g : Over) (c : After-first-first g) → IsAsBefore c.args.self.now (held c.self.inside.members.items c.self.inside.done.deeds c.self.inside.rows.items c.first-first.new.self)
+looked : (g : Over) (c : After-first-first g) → IsAsBefore c.args.self.now (held c.self.inside.members.items c.self.inside.done.deeds c.self.inside.rows c.first-first.new.self)
 looked g c =
-    subst (λ h. IsAsBefore h (held c.self.inside.members.items c.self.inside.done.deeds c.self.inside.rows.items c.first-first.new.self)) c.self.view_is
-    (as-first c.self.inside.members.items c.self.inside.done.deeds c.self.inside.rows.items c.self.inside.letters c.first-first.new.self c.first-first.ensures.same c.first-first.ensures.others)
+    subst (λ h. IsAsBefore h (held c.self.inside.members.items c.self.inside.done.deeds c.self.inside.rows c.first-first.new.self)) c.self.view_is
+    (as-first c.self.inside.members.items c.self.inside.done.deeds c.self.inside.rows c.self.inside.letters c.first-first.new.self c.first-first.ensures.same c.first-first.ensures.others)
 
 -- and then room was made
-refused : (g : Over) (c : After-first-first g) (done : _) (rows : _) (flow : _) → done ≡ c.self.inside.done.deeds → rows ≡ c.self.inside.rows.items →
+refused : (g : Over) (c : After-first-first g) (done : _) (rows : _) (flow : _) → done ≡ c.self.inside.done.deeds → rows ≡ c.self.inside.rows →
     flow ≡ record c.first-first.new.self { room = flow.room } → IsAsBefore c.args.self.now (held c.self.inside.members.items done rows flow)
 refused g c done rows flow d r e =
     subst (λ z. IsAsBefore c.args.self.now (held c.self.inside.members.items done z flow)) (sym r)
-    (as-both c.args.self.now (held c.self.inside.members.items c.self.inside.done.deeds c.self.inside.rows.items c.first-first.new.self)
-    (held c.self.inside.members.items done c.self.inside.rows.items flow) (looked g c)
-    (as-roomy c.self.inside.members.items c.self.inside.done.deeds done c.self.inside.rows.items c.first-first.new.self flow d e))
+    (as-both c.args.self.now (held c.self.inside.members.items c.self.inside.done.deeds c.self.inside.rows c.first-first.new.self)
+    (held c.self.inside.members.items done c.self.inside.rows flow) (looked g c)
+    (as-roomy c.self.inside.members.items c.self.inside.done.deeds done c.self.inside.rows c.first-first.new.self flow d e))
 
 pub returns-in_err-seal-clause-did : goal.returns-in_err-seal-clause-did
 returns-in_err-seal-clause-did g c =
     commits-nothing g.R.Reversible.plain g.R.Reversible.is_value c.actor_rules.ensures.order c.actor_rules.ensures.undoes c.args.moment c.args.self.now
-    (held c.self.inside.members.items c.seal.new.done.deeds c.seal.new.sealed.items c.seal.new.self)
-    (refused g (goal.at.returns-in_err-seal-clause-did g c).After-first-first c.seal.new.done.deeds c.seal.new.sealed.items c.seal.new.self
+    (held c.self.inside.members.items c.seal.new.done.deeds c.seal.new.sealed c.seal.new.self)
+    (refused g (goal.at.returns-in_err-seal-clause-did g c).After-first-first c.seal.new.done.deeds c.seal.new.sealed c.seal.new.self
     c.in_err-seal.ensures.deeds_stay c.in_err-seal.ensures.rows_stay c.in_err-seal.ensures.letters_stay)
 
 pub returns-in_err-seal-clause-unchanged : goal.returns-in_err-seal-clause-unchanged
 returns-in_err-seal-clause-unchanged g c =
     on-err c.from_residual.result _
-    (refused g (goal.at.returns-in_err-seal-clause-unchanged g c).After-first-first c.seal.new.done.deeds c.seal.new.sealed.items c.seal.new.self
+    (refused g (goal.at.returns-in_err-seal-clause-unchanged g c).After-first-first c.seal.new.done.deeds c.seal.new.sealed c.seal.new.self
     c.in_err-seal.ensures.deeds_stay c.in_err-seal.ensures.rows_stay c.in_err-seal.ensures.letters_stay)
 
 pub returns-clause-did : goal.returns-clause-did
@@ -53,8 +54,8 @@ returns-clause-did g c =
     let V = g.R.Reversible.is_value in
     let n = c.count_early-count.result in
     let deeds = c.self.inside.done.deeds in
-    let mid = held c.self.inside.members.items deeds c.self.inside.rows.items c.first-first.new.self in
-    let new = held c.self.inside.members.items c.seal.new.done.deeds c.seal.new.sealed.items c.seal.new.self in
+    let mid = held c.self.inside.members.items deeds c.self.inside.rows c.first-first.new.self in
+    let new = held c.self.inside.members.items c.seal.new.done.deeds c.seal.new.sealed c.seal.new.self in
     commits-both r V c.args.moment c.args.self.now mid new
     (commits-nothing g.R.Reversible.plain V c.actor_rules.ensures.order c.actor_rules.ensures.undoes c.args.moment c.args.self.now mid (looked g (goal.at.returns-clause-did g c).After-first-first))
     (commits-many g.R.Reversible.plain V c.actor_rules.ensures.order c.actor_rules.ensures.undoes c.args.moment (take n deeds) mid new (drop n deeds) refl (sym (take-append-drop n deeds))
@@ -74,3 +75,15 @@ invariant_of-self-2 g c = (
   c.self.invariant.1,
   c.self.invariant.2,
 )
+
+pub returns-clause-sealed : goal.returns-clause-sealed
+returns-clause-sealed g c =
+    let n = c.count_early-count.result in
+    let deeds = c.self.inside.done.deeds in
+    let early : All (λ m. m.time < c.args.moment) (take n (messages_of deeds)) =
+    All-weaker (CanSeal c.args.moment c.first-first.new.self) (λ m. m.time < c.args.moment) (λ m k. k.early) (take n (messages_of deeds)) c.count_early-count.ensures.early in (
+      take n deeds,
+      ap (λ h. h.done) (sym c.self.view_is) ∙ (sym (take-append-drop n deeds) ∙ ap (λ ds. take n deeds ++ ds) (sym c.in_ok-seal.ensures.deeds)),
+      c.in_ok-seal.ensures.rows ∙ ap (λ h. record h.rows { all = h.rows.all ++ rows_in (take n deeds) }) c.self.view_is,
+      subst (λ ms. All (λ m. m.time < c.args.moment) ms) (take-map (λ d. d.message) n deeds) early,
+    )

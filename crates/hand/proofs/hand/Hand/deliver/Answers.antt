@@ -1,21 +1,18 @@
-use Rattle.std.proofs.Common.{◌≡◌, ◌++◌, [], true, false, All, subst, sym, ap, ◌∙◌, refl}
-use Rattle.vlink.specs.Order.{message_order}
-use Rattle.virtual_time.specs.Law.{received_by}
-use Rattle.reverse.specs.Rules.{rules_of}
-use Rattle.hand.specs.Hands.{StandsForGroup, is_ours}
-use Rattle.hand.specs.Passing.{held}
-use Rattle.hand.proofs.Taking.{stands-taken}
+use Rattle.std.proofs.Common.{◌≡◌, true, sym, ap, ◌∙◌, subst}
+use Rattle.hand.specs.Hands.{is_ours}
+use Rattle.hand.proofs.Still.{stands-still}
 use Rattle.hand.proofs.hand.Hand.deliver.Goals as goal
 
+pub deliver_reserved-requires-clause-ours : goal.deliver_reserved-requires-clause-ours
+deliver_reserved-requires-clause-ours g c = ap (λ ms. is_ours ms c.args.letter.message.receiver) c.reserve_letters.ensures.same.members ∙ c.requires
+
 pub returns-clause-delivered : goal.returns-clause-delivered
-returns-clause-delivered g c = λ x v soon stands.
-    let r = rules_of g.R.Reversible.plain in
-    let V = g.R.Reversible.is_value in
-    let e = c.in_ok-deliver.ensures.delivered in
-    let old = held c.self.inside.members.items c.self.inside.done.deeds c.self.inside.rows.items c.self.inside.letters in
-    let new = held c.self.inside.members.items c.self.inside.done.deeds c.self.inside.rows.items c.deliver.new.self in
-    let s = subst (StandsForGroup r V x v) (sym c.self.view_is) stands in
-    stands-taken r V x v old new c.args.letter refl refl refl (ap (λ z. z.queue) e) (ap (λ z. z.extra) e) (ap (λ z. z.tray) e)
-    (subst (λ h. is_ours h.members c.args.letter.message.receiver ≡ true) (sym c.self.view_is) c.requires) soon [] [] v.mail
-    (λ q. s.mail q ∙ ap (λ z. received_by message_order q (z.abroad ++ [])) (sym e))
-    (subst (λ z. All (λ m. is_ours c.self.inside.members.items m.message.receiver ≡ false) z.abroad) (sym e) s.elsewhere) s
+returns-clause-delivered g c = λ x v soon s.
+    c.deliver_reserved.ensures.delivered x v soon
+    (stands-still g.R.Reversible.plain g.R.Reversible.is_value c.actor_rules.ensures.order c.actor_rules.ensures.undoes c.args.self.now c.reserve_letters.new.self c.reserve_letters.ensures.same x v s)
+
+pub returns-clause-members : goal.returns-clause-members
+returns-clause-members g c = ap (λ h. h.members) c.deliver_reserved.ensures.told ∙ c.reserve_letters.ensures.same.members
+
+pub returns-clause-words : goal.returns-clause-words
+returns-clause-words g c = ap (λ h. h.flow.words) c.deliver_reserved.ensures.told ∙ ap (λ f. f.words) c.reserve_letters.ensures.same.flow

@@ -1,11 +1,16 @@
-use Rattle.std.proofs.Common.{ℕ, ◌≡◌, [], List, Some, false, All, Contains, slice_get, subst, sym, ap, ◌∙◌, refl}
+use Rattle.std.proofs.Common.{ℕ, ◌≡◌, ◌≢◌, [], List, Some, false, All, Contains, slice_get, subst, sym, ap, ◌∙◌, refl, rules}
 use Rattle.std.proofs.lemmas.List.{with_items_is}
 use Rattle.std.proofs.lemmas.List.Sorted.{Contains-permutation, All-permutation}
 use Rattle.vlink.specs.declared.message.Message.{Message}
+use Rattle.vlink.specs.Order.{message_order}
+use Rattle.virtual_time.specs.Law.{IsAscending}
 use Rattle.reverse.specs.Rules.{rules_of, is_before}
+use Rattle.hand.specs.Deeds.{messages_of}
 use Rattle.hand.specs.Hands.{DoesSent, IsAsBefore}
 use Rattle.hand.specs.Passing.{held}
 use Rattle.hand.specs.Undoing.{CameTo}
+use Rattle.hand.proofs.Among.{contains-in}
+use Rattle.hand.proofs.CountsAgain.{counts-again}
 use Rattle.hand.proofs.Telling.{does-both}
 use Rattle.hand.proofs.Still.{as-both, as-first, as-roomy, still}
 use Rattle.hand.proofs.hand.Hand.run_late.Given.{Over}
@@ -14,15 +19,48 @@ use Rattle.hand.proofs.hand.Hand.run_late.Goals as goal
 
 -- after a look at the first message
 looked : (g : Over) (c : After-first g) → DoesSent (rules_of g.R.Reversible.plain) g.R.Reversible.is_value c.args.self.now []
-    (held c.self.inside.members.items c.self.inside.done.deeds c.self.inside.rows.items c.first.new.self) []
+    (held c.self.inside.members.items c.self.inside.done.deeds c.self.inside.rows c.first.new.self) []
 looked g c =
     still g.R.Reversible.plain g.R.Reversible.is_value c.actor_rules.ensures.order c.actor_rules.ensures.undoes c.args.self.now
-    (held c.self.inside.members.items c.self.inside.done.deeds c.self.inside.rows.items c.first.new.self)
-    (subst (λ h. IsAsBefore h (held c.self.inside.members.items c.self.inside.done.deeds c.self.inside.rows.items c.first.new.self)) c.self.view_is
-    (as-first c.self.inside.members.items c.self.inside.done.deeds c.self.inside.rows.items c.self.inside.letters c.first.new.self c.first.ensures.same c.first.ensures.others))
+    (held c.self.inside.members.items c.self.inside.done.deeds c.self.inside.rows c.first.new.self)
+    (subst (λ h. IsAsBefore h (held c.self.inside.members.items c.self.inside.done.deeds c.self.inside.rows c.first.new.self)) c.self.view_is
+    (as-first c.self.inside.members.items c.self.inside.done.deeds c.self.inside.rows c.self.inside.letters c.first.new.self c.first.ensures.same c.first.ensures.others))
 
 pub returns-in_default-clause-did : goal.returns-in_default-clause-did
 returns-in_default-clause-did g c = looked g (goal.at.returns-in_default-clause-did g c).After-first
+
+pub count_again-requires-clause-among : goal.count_again-requires-clause-among
+count_again-requires-clause-among g c =
+    Contains-permutation c.self.inside.letters.queue c.first.new.self.queue c.in-Some.message c.first.ensures.same c.in-Some.ensures.among
+
+pub count_again-requires-clause-first : goal.count_again-requires-clause-first
+count_again-requires-clause-first g c =
+    All-permutation (λ (x : Message). is_before x c.in-Some.message ≡ false) c.self.inside.letters.queue c.first.new.self.queue c.first.ensures.same c.in-Some.ensures.first
+
+pub returns-in_err-count_again-clause-did : goal.returns-in_err-count_again-clause-did
+returns-in_err-count_again-clause-did g c =
+    subst (λ ls. DoesSent (rules_of g.R.Reversible.plain) g.R.Reversible.is_value c.args.self.now [] (held c.self.inside.members.items c.self.inside.done.deeds c.self.inside.rows ls) [])
+    (sym c.in_err-count_again.ensures.unchanged) (looked g (goal.at.returns-in_err-count_again-clause-did g c).After-first)
+
+pub returns-then-has-clause-did : goal.returns-then-has-clause-did
+returns-then-has-clause-did g c =
+    let r = rules_of g.R.Reversible.plain in
+    let V = g.R.Reversible.is_value in
+    let O = c.actor_rules.ensures.order in
+    let members = c.self.inside.members.items in
+    let done = c.self.inside.done.deeds in
+    let rows = c.self.inside.rows in
+    does-both r V c.args.self.now (held members done rows c.first.new.self) (held members done rows c.count_again.new.self) [] [] []
+    (looked g (goal.at.returns-then-has-clause-did g c).After-first)
+    (counts-again r O V members done rows c.in-Some.message c.first.new.self c.count_again.new.self (record {
+      is_done = contains-in O (messages_of done) c.in-Some.message (c.if-has.ensures.yes refl);
+      queue = c.in_ok-count_again.ensures.queue;
+      extra = c.in_ok-count_again.ensures.extra;
+      tray = ap (λ z. z.tray) c.in_ok-count_again.ensures.others;
+      abroad = ap (λ z. z.abroad) c.in_ok-count_again.ensures.others;
+      words = ap (λ z. z.words) c.in_ok-count_again.ensures.others;
+      keeps = ap (λ z. z.keeps) c.in_ok-count_again.ensures.others;
+    }))
 
 pub returns-then-not-has_numbers-clause-did : goal.returns-then-not-has_numbers-clause-did
 returns-then-not-has_numbers-clause-did g c = looked g (goal.at.returns-then-not-has_numbers-clause-did g c).After-first
@@ -32,6 +70,7 @@ returns-then-not-has_numbers-clause-exhausted g c = λ e. (
   c.in-Some.message,
   subst (λ h. Contains h.flow.queue c.in-Some.message) c.self.view_is c.in-Some.ensures.among,
   subst (λ h. All (λ x. is_before x c.in-Some.message ≡ false) h.flow.queue) c.self.view_is c.in-Some.ensures.first,
+  subst (λ ds. IsAscending message_order (messages_of ds) → All (λ x. x ≢ c.in-Some.message) (messages_of ds)) (ap (λ h. h.done) c.self.view_is) (c.has.ensures.no (search rules)),
   λ s i. c.if-not-has_numbers.ensures.no refl s
       (subst (λ ms. slice_get ms c.in-Some.message.receiver ≡ Some (Some s)) (sym c.deref.ensures.value)
       (subst (λ h. slice_get h.members c.in-Some.message.receiver ≡ Some (Some s)) (sym c.self.view_is) i)),
@@ -39,27 +78,27 @@ returns-then-not-has_numbers-clause-exhausted g c = λ e. (
 
 -- after room was made
 as-it-was : (g : Over) (c : After-reserve g) (later : _) → later ≡ c.self.inside.done.deeds → c.reserve.new.self ≡ record c.first.new.self { room = c.reserve.new.self.room } →
-    IsAsBefore c.args.self.now (held c.self.inside.members.items later c.self.inside.rows.items c.reserve.new.self)
+    IsAsBefore c.args.self.now (held c.self.inside.members.items later c.self.inside.rows c.reserve.new.self)
 as-it-was g c later deeds same =
     let members = c.self.inside.members.items in
     let done = c.self.inside.done.deeds in
-    let rows = c.self.inside.rows.items in
+    let rows = c.self.inside.rows in
     as-both c.args.self.now (held members done rows c.first.new.self) (held members later rows c.reserve.new.self)
     (subst (λ h. IsAsBefore h (held members done rows c.first.new.self)) c.self.view_is
     (as-first members done rows c.self.inside.letters c.first.new.self c.first.ensures.same c.first.ensures.others))
     (as-roomy members done later rows c.first.new.self c.reserve.new.self deeds same)
 
 roomy : (g : Over) (c : After-reserve g) → c.reserve.new.self ≡ record c.first.new.self { room = c.reserve.new.self.room } →
-    DoesSent (rules_of g.R.Reversible.plain) g.R.Reversible.is_value c.args.self.now [] (held c.self.inside.members.items c.self.inside.done.deeds c.self.inside.rows.items c.reserve.new.self) []
+    DoesSent (rules_of g.R.Reversible.plain) g.R.Reversible.is_value c.args.self.now [] (held c.self.inside.members.items c.self.inside.done.deeds c.self.inside.rows c.reserve.new.self) []
 roomy g c same =
     still g.R.Reversible.plain g.R.Reversible.is_value c.actor_rules.ensures.order c.actor_rules.ensures.undoes c.args.self.now
-    (held c.self.inside.members.items c.self.inside.done.deeds c.self.inside.rows.items c.reserve.new.self) (as-it-was g c c.self.inside.done.deeds refl same)
+    (held c.self.inside.members.items c.self.inside.done.deeds c.self.inside.rows c.reserve.new.self) (as-it-was g c c.self.inside.done.deeds refl same)
 
 roomier : (g : Over) (c : After-reserve-2 g) (b : After-reserve g) → c.reserve-2.new.self.deeds ≡ b.self.inside.done.deeds → b.reserve.new.self ≡ record b.first.new.self { room = b.reserve.new.self.room } →
-    DoesSent (rules_of g.R.Reversible.plain) g.R.Reversible.is_value b.args.self.now [] (held b.self.inside.members.items c.reserve-2.new.self.deeds b.self.inside.rows.items b.reserve.new.self) []
+    DoesSent (rules_of g.R.Reversible.plain) g.R.Reversible.is_value b.args.self.now [] (held b.self.inside.members.items c.reserve-2.new.self.deeds b.self.inside.rows b.reserve.new.self) []
 roomier g c b deeds same =
     still g.R.Reversible.plain g.R.Reversible.is_value b.actor_rules.ensures.order b.actor_rules.ensures.undoes b.args.self.now
-    (held b.self.inside.members.items c.reserve-2.new.self.deeds b.self.inside.rows.items b.reserve.new.self) (as-it-was g b c.reserve-2.new.self.deeds deeds same)
+    (held b.self.inside.members.items c.reserve-2.new.self.deeds b.self.inside.rows b.reserve.new.self) (as-it-was g b c.reserve-2.new.self.deeds deeds same)
 
 pub returns-in_err-reserve-clause-did : goal.returns-in_err-reserve-clause-did
 returns-in_err-reserve-clause-did g c = roomy g (goal.at.returns-in_err-reserve-clause-did g c).After-reserve c.reserve.ensures.same
@@ -70,44 +109,32 @@ returns-in_err-reserve-2-clause-did g c = roomier g (goal.at.returns-in_err-rese
 pub returns-in_err-reserve_for-clause-did : goal.returns-in_err-reserve_for-clause-did
 returns-in_err-reserve_for-clause-did g c = roomier g (goal.at.returns-in_err-reserve_for-clause-did g c).After-reserve-2 (goal.at.returns-in_err-reserve_for-clause-did g c).After-reserve c.reserve-2.ensures.same c.reserve.ensures.same
 
-pub handle_behind-requires-clause-among : goal.handle_behind-requires-clause-among
-handle_behind-requires-clause-among g c =
+pub handle_late-requires-clause-among : goal.handle_late-requires-clause-among
+handle_late-requires-clause-among g c =
     subst (λ (xs : List Message). Contains xs c.in-Some.message) (sym (ap (λ z. z.queue) c.reserve.ensures.same))
     (Contains-permutation c.self.inside.letters.queue c.first.new.self.queue c.in-Some.message c.first.ensures.same c.in-Some.ensures.among)
 
-pub handle_behind-requires-clause-first : goal.handle_behind-requires-clause-first
-handle_behind-requires-clause-first g c =
+pub handle_late-requires-clause-first : goal.handle_late-requires-clause-first
+handle_late-requires-clause-first g c =
     subst (λ (xs : List Message). All (λ x. is_before x c.in-Some.message ≡ false) xs) (sym (ap (λ z. z.queue) c.reserve.ensures.same))
     (All-permutation (λ (x : Message). is_before x c.in-Some.message ≡ false) c.self.inside.letters.queue c.first.new.self.queue c.first.ensures.same c.in-Some.ensures.first)
-
-pub returns-in_err-handle_behind-clause-did : goal.returns-in_err-handle_behind-clause-did
-returns-in_err-handle_behind-clause-did g c =
-    let r = rules_of g.R.Reversible.plain in
-    let V = g.R.Reversible.is_value in
-    let rows = c.self.inside.rows.items in
-    let bad = c.in_err-handle_behind.ensures in
-    subst (λ ms. DoesSent r V c.args.self.now [] (held ms c.handle_behind.new.done.deeds rows c.handle_behind.new.letters) [])
-    (sym (with_items_is c.self.inside.members c.handle_behind.new.members (c.handle_behind.ensures.len ∙ c.deref_mut.ensures.len) ∙ (bad.members ∙ c.deref_mut.ensures.value)))
-    (subst (λ ds. DoesSent r V c.args.self.now [] (held c.self.inside.members.items ds rows c.handle_behind.new.letters) []) (sym bad.done)
-    (subst (λ ls. DoesSent r V c.args.self.now [] (held c.self.inside.members.items c.reserve-2.new.self.deeds rows ls) []) (sym bad.letters)
-    (roomier g (goal.at.returns-in_err-handle_behind-clause-did g c).After-reserve-2 (goal.at.returns-in_err-handle_behind-clause-did g c).After-reserve c.reserve-2.ensures.same c.reserve.ensures.same)))
 
 pub returns-clause-did : goal.returns-clause-did
 returns-clause-did g c =
     let r = rules_of g.R.Reversible.plain in
     let V = g.R.Reversible.is_value in
-    let rows = c.self.inside.rows.items in
-    subst (λ ms. DoesSent r V c.args.self.now [] (held ms c.handle_behind.new.done.deeds rows c.handle_behind.new.letters) [])
-    (sym (with_items_is c.self.inside.members c.handle_behind.new.members (c.handle_behind.ensures.len ∙ c.deref_mut.ensures.len)))
-    (does-both r V c.args.self.now (held c.self.inside.members.items c.reserve-2.new.self.deeds rows c.reserve.new.self) (held c.handle_behind.new.members c.handle_behind.new.done.deeds rows c.handle_behind.new.letters)
+    let rows = c.self.inside.rows in
+    subst (λ ms. DoesSent r V c.args.self.now [] (held ms c.handle_late.new.done.deeds rows c.handle_late.new.letters) [])
+    (sym (with_items_is c.self.inside.members c.handle_late.new.members (c.handle_late.ensures.len ∙ c.deref_mut.ensures.len)))
+    (does-both r V c.args.self.now (held c.self.inside.members.items c.reserve-2.new.self.deeds rows c.reserve.new.self) (held c.handle_late.new.members c.handle_late.new.done.deeds rows c.handle_late.new.letters)
     [] [] [] (roomier g (goal.at.returns-clause-did g c).After-reserve-2 (goal.at.returns-clause-did g c).After-reserve c.reserve-2.ensures.same c.reserve.ensures.same)
-    (subst (λ ms. DoesSent r V (held ms c.reserve-2.new.self.deeds rows c.reserve.new.self) [] (held c.handle_behind.new.members c.handle_behind.new.done.deeds rows c.handle_behind.new.letters) [])
-    c.deref_mut.ensures.value (c.in_ok-handle_behind.ensures.did rows)))
+    (subst (λ ms. DoesSent r V (held ms c.reserve-2.new.self.deeds rows c.reserve.new.self) [] (held c.handle_late.new.members c.handle_late.new.done.deeds rows c.handle_late.new.letters) [])
+    c.deref_mut.ensures.value (c.handle_late.ensures.did rows)))
 
 pub invariant_of-self-2 : goal.invariant_of-self-2
 invariant_of-self-2 g c = (
-  subst (λ ms. (p : ℕ) → CameTo (rules_of g.R.Reversible.plain) g.R.Reversible.is_value ms c.handle_behind.new.done.deeds p)
-      (sym (with_items_is c.self.inside.members c.handle_behind.new.members (c.handle_behind.ensures.len ∙ c.deref_mut.ensures.len))) c.handle_behind.ensures.came,
-  c.handle_behind.ensures.empty,
+  subst (λ ms. (p : ℕ) → CameTo (rules_of g.R.Reversible.plain) g.R.Reversible.is_value ms c.handle_late.new.done.deeds p)
+      (sym (with_items_is c.self.inside.members c.handle_late.new.members (c.handle_late.ensures.len ∙ c.deref_mut.ensures.len))) c.handle_late.ensures.came,
+  c.handle_late.ensures.empty,
   c.self.invariant.2,
 )

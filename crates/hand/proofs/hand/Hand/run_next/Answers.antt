@@ -1,7 +1,8 @@
-use Rattle.std.proofs.Common.{[], Ok}
+use Rattle.std.proofs.Common.{[], Ok, ◌+◌, ◌<◌, rules}
+use Rattle.vlink.specs.Numbering.{greatest_number}
 use Rattle.reverse.specs.Rules.{rules_of}
 use Rattle.hand.proofs.Telling.{does-both}
-use Rattle.hand.proofs.Still.{as-both, on-err}
+use Rattle.hand.proofs.Still.{as-both, exhausted-again, on-err}
 use Rattle.hand.proofs.hand.Hand.run_next.Goals as goal
 
 pub returns-in_err-run_late-in-Late-clause-did : goal.returns-in_err-run_late-in-Late-clause-did
@@ -16,3 +17,8 @@ pub returns-in_err-run_late-in-Late-clause-unchanged : goal.returns-in_err-run_l
 returns-in_err-run_late-in-Late-clause-unchanged g c =
     on-err c.from_residual-in_err-run_late-in-Late.result _
     (as-both c.args.self.now c.run_early.new.self c.run_late.new.self (c.in_ok-run_early.ensures.still (λ j. Ok (c.in-Late.is j))) c.in_err-run_late-in-Late.ensures.unchanged)
+
+pub returns-in_err-run_late-in-Late-clause-exhausted : goal.returns-in_err-run_late-in-Late-clause-exhausted
+returns-in_err-run_late-in-Late-clause-exhausted g c = λ e.
+    exhausted-again c.args.self.now c.run_early.new.self (λ s. greatest_number < g.R.Reversible.plain.counter s + 24)
+    (c.in_ok-run_early.ensures.still (λ j. Ok (c.in-Late.is j))) (c.run_late.ensures.exhausted (search rules))

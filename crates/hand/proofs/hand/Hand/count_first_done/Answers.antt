@@ -1,0 +1,107 @@
+use Rattle.std.proofs.Common.{◌≡◌, ◌∷◌, [], ◌+◌, ◌<◌, List, All, Contains, IsPermutation, length, false, sym, ap, ◌∙◌, subst, refl, arith}
+use Rattle.std.proofs.lemmas.List.Sorted.{Contains-permutation, All-permutation, length_permutation}
+use Rattle.vlink.specs.declared.message.Message.{Message}
+use Rattle.vlink.specs.Order.{message_order}
+use Rattle.reverse.specs.Rules.{rules_of, is_before}
+use Rattle.virtual_time.specs.Law.{plus_of}
+use Rattle.antimessages.specs.Counting.{HaveSameCounts}
+use Rattle.hand.specs.Deeds.{messages_of}
+use Rattle.hand.specs.Flow.{Flow}
+use Rattle.hand.specs.Hands.{IsAsBefore}
+use Rattle.hand.specs.Passing.{held}
+use Rattle.hand.proofs.Among.{contains-in}
+use Rattle.hand.proofs.FrontWaits.{CountedBeside, counted-again, counted-as, counted-both, first-least, front-waits, nothing-left, nothing-waits}
+use Rattle.hand.proofs.Still.{as-first}
+use Rattle.hand.proofs.hand.Hand.count_first_done.Given.{Over}
+use Rattle.hand.proofs.hand.Hand.count_first_done.Goals.{After-first}
+use Rattle.hand.proofs.hand.Hand.count_first_done.Goals as goal
+
+-- after a look at the first message
+looked : (g : Over) (c : After-first g) → CountedBeside (rules_of g.R.Reversible.plain) g.R.Reversible.is_value c.args.self.now
+    (held c.self.inside.members.items c.self.inside.done.deeds c.self.inside.rows c.first.new.self)
+looked g c =
+    counted-as g.R.Reversible.plain g.R.Reversible.is_value c.actor_rules.ensures.order c.actor_rules.ensures.undoes c.args.self.now
+    (held c.self.inside.members.items c.self.inside.done.deeds c.self.inside.rows c.first.new.self)
+    (subst (λ h. IsAsBefore h (held c.self.inside.members.items c.self.inside.done.deeds c.self.inside.rows c.first.new.self)) c.self.view_is
+    (as-first c.self.inside.members.items c.self.inside.done.deeds c.self.inside.rows c.self.inside.letters c.first.new.self c.first.ensures.same c.first.ensures.others))
+
+pub returns-in_default-clause-stands : goal.returns-in_default-clause-stands
+returns-in_default-clause-stands g c = (looked g (goal.at.returns-in_default-clause-stands g c).After-first).stands
+
+pub returns-in_default-clause-others : goal.returns-in_default-clause-others
+returns-in_default-clause-others g c = (looked g (goal.at.returns-in_default-clause-others g c).After-first).others
+
+pub returns-in_default-clause-waits : goal.returns-in_default-clause-waits
+returns-in_default-clause-waits g c = λ e up.
+    nothing-waits (held c.self.inside.members.items c.self.inside.done.deeds c.self.inside.rows c.first.new.self)
+    (nothing-left c.self.inside.letters.queue c.first.new.self.queue c.first.ensures.same c.in_default.ensures.none)
+
+pub returns-then-not-has-clause-stands : goal.returns-then-not-has-clause-stands
+returns-then-not-has-clause-stands g c = (looked g (goal.at.returns-then-not-has-clause-stands g c).After-first).stands
+
+pub returns-then-not-has-clause-others : goal.returns-then-not-has-clause-others
+returns-then-not-has-clause-others g c = (looked g (goal.at.returns-then-not-has-clause-others g c).After-first).others
+
+pub returns-then-not-has-clause-waits : goal.returns-then-not-has-clause-waits
+returns-then-not-has-clause-waits g c = λ e up.
+    front-waits c.actor_rules.ensures.order (held c.self.inside.members.items c.self.inside.done.deeds c.self.inside.rows c.first.new.self) c.in-Some.message
+    (first-least c.actor_rules.ensures.order c.in-Some.message c.self.inside.letters.queue c.first.new.self.queue c.first.ensures.same c.in-Some.ensures.among c.in-Some.ensures.first)
+    (c.if-not-has.ensures.no refl up)
+
+pub count_again-requires-clause-among : goal.count_again-requires-clause-among
+count_again-requires-clause-among g c =
+    Contains-permutation c.self.inside.letters.queue c.first.new.self.queue c.in-Some.message c.first.ensures.same c.in-Some.ensures.among
+
+pub count_again-requires-clause-first : goal.count_again-requires-clause-first
+count_again-requires-clause-first g c =
+    All-permutation (λ (x : Message). is_before x c.in-Some.message ≡ false) c.self.inside.letters.queue c.first.new.self.queue c.first.ensures.same c.in-Some.ensures.first
+
+-- nothing was counted
+refused : (g : Over) (c : After-first g) (now : Flow) → now ≡ c.first.new.self → CountedBeside (rules_of g.R.Reversible.plain) g.R.Reversible.is_value c.args.self.now
+    (held c.self.inside.members.items c.self.inside.done.deeds c.self.inside.rows now)
+refused g c now e =
+    subst (λ z. CountedBeside (rules_of g.R.Reversible.plain) g.R.Reversible.is_value c.args.self.now (held c.self.inside.members.items c.self.inside.done.deeds c.self.inside.rows z)) (sym e)
+    (looked g c)
+
+pub returns-in_err-count_again-clause-stands : goal.returns-in_err-count_again-clause-stands
+returns-in_err-count_again-clause-stands g c =
+    (refused g (goal.at.returns-in_err-count_again-clause-stands g c).After-first c.count_again.new.self c.in_err-count_again.ensures.unchanged).stands
+
+pub returns-in_err-count_again-clause-others : goal.returns-in_err-count_again-clause-others
+returns-in_err-count_again-clause-others g c =
+    (refused g (goal.at.returns-in_err-count_again-clause-others g c).After-first c.count_again.new.self c.in_err-count_again.ensures.unchanged).others
+
+-- it counts beside
+counted : (g : Over) (c : After-first g) (m : Message) (now : Flow) → Contains (messages_of c.self.inside.done.deeds) m → IsPermutation c.first.new.self.queue (m ∷ now.queue) →
+    HaveSameCounts message_order now.extra (plus_of m ∷ c.first.new.self.extra) → now ≡ record c.first.new.self { queue = now.queue; extra = now.extra; room = now.room } →
+    CountedBeside (rules_of g.R.Reversible.plain) g.R.Reversible.is_value c.args.self.now (held c.self.inside.members.items c.self.inside.done.deeds c.self.inside.rows now)
+counted g c m now there queue extra others =
+    counted-both (rules_of g.R.Reversible.plain) g.R.Reversible.is_value c.args.self.now
+    (held c.self.inside.members.items c.self.inside.done.deeds c.self.inside.rows c.first.new.self) (held c.self.inside.members.items c.self.inside.done.deeds c.self.inside.rows now) (looked g c)
+    (counted-again (rules_of g.R.Reversible.plain) g.R.Reversible.is_value c.actor_rules.ensures.order c.self.inside.members.items c.self.inside.done.deeds c.self.inside.rows m c.first.new.self now
+    (record {
+      is_done = contains-in c.actor_rules.ensures.order (messages_of c.self.inside.done.deeds) m there;
+      queue = queue;
+      extra = extra;
+      tray = ap (λ z. z.tray) others;
+      abroad = ap (λ z. z.abroad) others;
+      words = ap (λ z. z.words) others;
+      keeps = ap (λ z. z.keeps) others;
+    }) others)
+
+pub returns-clause-stands : goal.returns-clause-stands
+returns-clause-stands g c =
+    (counted g (goal.at.returns-clause-stands g c).After-first c.in-Some.message c.count_again.new.self (c.if-not-has.ensures.yes refl)
+    c.in_ok-count_again.ensures.queue c.in_ok-count_again.ensures.extra c.in_ok-count_again.ensures.others).stands
+
+pub returns-clause-others : goal.returns-clause-others
+returns-clause-others g c =
+    (counted g (goal.at.returns-clause-others g c).After-first c.in-Some.message c.count_again.new.self (c.if-not-has.ensures.yes refl)
+    c.in_ok-count_again.ensures.queue c.in_ok-count_again.ensures.extra c.in_ok-count_again.ensures.others).others
+
+pub returns-clause-fewer : goal.returns-clause-fewer
+returns-clause-fewer g c = λ e.
+    let a = length_permutation c.first.new.self.queue (c.in-Some.message ∷ c.count_again.new.self.queue) c.in_ok-count_again.ensures.queue in
+    let b = length_permutation c.self.inside.letters.queue c.first.new.self.queue c.first.ensures.same in
+    let d = ap (λ h. length h.flow.queue) c.self.view_is in
+    omega arith
