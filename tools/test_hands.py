@@ -73,7 +73,7 @@ class Group:
     def __init__(self, members):
         self.processes = {number: Process(number) for number in range(members)}
         self.mail = {number: deque() for number in range(RECEIVERS)}
-        self.committed = []
+        self.committed, self.steps = [], 0
 
     def post(self, process):
         for letter in process.outbox:
@@ -127,6 +127,8 @@ class Group:
             moments = [event[0][0] for process in self.processes.values() for event in process.done]
             early = any(moment < numbers[0] for moment in moments)
             assert answer == ["yes" if early else "no", str(min(moments)) if moments else "none"], "what is done before"
+        elif call == "steps":
+            assert int(answer[0]) == self.steps, "the number of steps"
         elif call == "gone":
             while self.committed and self.committed[0][0] < numbers[0]:
                 self.committed.pop(0)
@@ -151,14 +153,14 @@ class Group:
             message, sign = read_message(word[1:]), 1 if word[0] == "+" else -1
             if message[1] in self.processes:
                 self.processes[message[1]].tray.append((message, sign))
-        steps = [token for token in told[:-1] if token[0] in STEPS]
-        assert told[-1] == f"={sum(STEPS[token[0]] for token in steps)}", "the number of steps"
+        steps = [token for token in told if token[0] in STEPS]
+        self.steps += sum(STEPS[token[0]] for token in steps)
         for step in steps:
             self.step(step)
         for number in self.processes:
             assert not self.mail[number], "a letter home was not taken"
         call, *numbers = word.split(":")
-        self.look(call, [int(number) for number in numbers], [token for token in told[:-1] if token[0] not in STEPS])
+        self.look(call, [int(number) for number in numbers], [token for token in told if token[0] not in STEPS])
 
 
 def follow(script, told):
@@ -193,7 +195,7 @@ def drawn(source, kind):
         else:
             gvt += source.randrange(6) if kind else 0
             words += ["arrive", f"commit:{gvt if kind else source.randrange(60)}"]
-        words.append(source.choice(("next", "floor", "exact", "abroad", "rows", "states", f"before:{source.randrange(60)}")))
+        words.append(source.choice(("next", "floor", "exact", "abroad", "rows", "states", "steps", f"before:{source.randrange(60)}")))
         if source.randrange(20) == 0:
             words.append(f"gone:{gvt if kind else source.randrange(60)}")
     return " ".join([f"hand:{members}", *words, "arrive", "floor", "abroad", "rows", "states"])

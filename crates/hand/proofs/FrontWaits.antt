@@ -1,5 +1,5 @@
 -- Messages at the front of the queue that are done already count beside, until the first one waits.
-use Rattle.std.proofs.Common.{◌≡◌, ◌≢◌, false, Option, Some, IfSome, List, [], ◌∷◌, length, All, Contains, IsPermutation, refl, sym, ap, ◌∙◌, subst}
+use Rattle.std.proofs.Common.{◌≡◌, ◌≢◌, false, Option, Some, IfSome, List, [], length, All, Contains, IsPermutation, refl, sym, ap, ◌∙◌, subst}
 use Rattle.std.proofs.lemmas.List.{nil_from_length}
 use Rattle.std.proofs.lemmas.List.Sorted.{Contains-permutation, All-permutation, length_permutation}
 use Rattle.vlink.specs.declared.message.Message.{Message}

@@ -1,5 +1,5 @@
 -- The front of the tray arrived, as code has it: how it counts, what its receiver undid, and what was taken back.
-use Rattle.std.proofs.Common.{◌≡◌, ◌≢◌, ℕ, ◌+◌, ◌<◌, ◌≤◌, ◌⊎◌, inl, inr, Bool, true, false, not, Option, List, [], ◌∷◌, ◌++◌, All, Contains, length, map, reverse, pos, ◌<ℤ◌, ◌≤ℤ◌, IsPermutation, refl, sym, ap, ◌∙◌, subst, arith, length-append}
+use Rattle.std.proofs.Common.{◌≡◌, ◌≢◌, ℕ, ◌+◌, ◌<◌, ◌⊎◌, inl, inr, Bool, true, false, not, Option, List, [], ◌∷◌, ◌++◌, All, Contains, length, map, reverse, pos, ◌≤ℤ◌, IsPermutation, refl, sym, ap, ◌∙◌, subst, arith, length-append}
 use Rattle.std.proofs.lemmas.List.{length-map}
 use Rattle.std.proofs.lemmas.List.Filters.{length-filter_both}
 use Rattle.std.proofs.lemmas.List.Elements.{Contains-append_right, Contains-get_or}
@@ -8,7 +8,7 @@ use Rattle.vlink.specs.declared.message.Message.{Message}
 use Rattle.vlink.specs.Letters.{Letter}
 use Rattle.vlink.specs.Order.{message_order}
 use Rattle.virtual_time.specs.declared.letter.Sign.TheVariants.{Plus, Minus}
-use Rattle.virtual_time.specs.Law.{Rules, IsOrder, IsAscending, IsIn, times_in, minus_of}
+use Rattle.virtual_time.specs.Law.{IsOrder, IsAscending, IsIn, times_in, minus_of}
 use Rattle.virtual_time.proofs.Lists.{in-cons, times-append}
 use Rattle.reverse.specs.Plain.{Plain}
 use Rattle.reverse.specs.Rules.{rules_of}
@@ -21,7 +21,7 @@ use Rattle.hand.specs.declared.tray.Way.TheVariants.{Beside, Joins, Leaves, Undo
 use Rattle.hand.specs.Arriving.{FrontArrived, WentOn, CountsMore, JoinsQueue, LeavesQueue, IsUndone, sent_by, taken_back, to_members, to_others, words_taken}
 use Rattle.hand.specs.Deeds.{Deed, deeds_at, messages_of}
 use Rattle.hand.specs.Flow.{Flow}
-use Rattle.hand.specs.Hands.{Held, is_ours}
+use Rattle.hand.specs.Hands.{is_ours}
 use Rattle.hand.specs.Passing.{held}
 use Rattle.hand.specs.Rows.{Sealed}
 use Rattle.hand.specs.Counted.{CountedBeside, FoundWaiting, FrontCounts}

@@ -1,6 +1,5 @@
 -- An event that is handled late: newer ones of other members are set aside, and come back behind it.
-use Rattle.std.proofs.Common.{◌≡◌, ℕ, ◌==◌, ◌⊎◌, inl, inr, true, false, cond, Option, List, [], ◌∷◌, ◌++◌, map, reverse, Some, All, IsPermutation, refl, sym, ap, ◌∙◌, subst, append_assoc, append-nil, slice_get, set, length-set}
-use Rattle.std.proofs.lemmas.Bool.{cases_eq}
+use Rattle.std.proofs.Common.{◌≡◌, ℕ, ◌==◌, true, false, cond, Option, List, [], ◌∷◌, ◌++◌, map, reverse, Some, All, IsPermutation, refl, sym, ap, ◌∙◌, subst, append_assoc, append-nil, slice_get, set, length-set}
 use Rattle.std.proofs.lemmas.List.{reverse-append, reverse-reverse}
 use Rattle.std.proofs.lemmas.List.Elements.{All-nil, All-cons, All-head, All-tail}
 use Rattle.vlink.specs.declared.message.Message.{Message}
@@ -16,7 +15,7 @@ use Rattle.hand.specs.Arriving.{WentOn, to_members, to_others, words_taken}
 use Rattle.hand.specs.Deeds.{Deed, deed_of, deeds_at, messages_of}
 use Rattle.hand.specs.Flow.{Flow}
 use Rattle.hand.specs.Handling.{SetAside}
-use Rattle.hand.specs.Hands.{DoesSent, is_held, is_ours}
+use Rattle.hand.specs.Hands.{DoesSent}
 use Rattle.hand.specs.Passing.{held}
 use Rattle.hand.specs.Rows.{Sealed}
 use Rattle.hand.specs.Undoing.{CameTo}

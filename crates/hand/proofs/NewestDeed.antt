@@ -1,5 +1,5 @@
 -- The newest of the done events, with its share of what was sent and of the rows.
-use Rattle.std.proofs.Common.{add-one, suc, zero, true, false, ◌≡◌, ◌≢◌, ℕ, ◌+◌, ◌-◌, ◌<◌, ◌≤◌, take, drop, List, [], ◌∷◌, ◌++◌, length, map, Option, Some, None, Bor, option_copied, All, Contains, slice_get, get_or, refl, sym, ap, ◌∙◌, subst, arith, length-drop, length-append}
+use Rattle.std.proofs.Common.{add-one, suc, zero, true, ◌≡◌, ◌≢◌, ℕ, ◌+◌, ◌<◌, take, drop, List, [], ◌∷◌, ◌++◌, length, map, Option, Some, None, Bor, option_copied, All, get_or, refl, sym, ap, ◌∙◌, subst, arith, length-drop}
 use Rattle.std.proofs.lemmas.Bool.{both_ways}
 use Rattle.std.proofs.lemmas.List.Elements.{All-nil, All-cons, All-head, All-tail}
 use Rattle.std.proofs.lemmas.List.{take-append-drop, length-take-le}
@@ -13,7 +13,7 @@ use Rattle.antimessages.specs.Counting.{is_after}
 use Rattle.process_queues.specs.Past.{newest_of}
 use Rattle.process_queues.proofs.Newest.{newest-more, after-all}
 use Rattle.hand.specs.declared.deeds.Event.{Event}
-use Rattle.hand.specs.Deeds.{Deed, deeds_in, all_sent, all_noted, messages_of}
+use Rattle.hand.specs.Deeds.{Deed, deeds_in, all_sent, all_noted}
 use Rattle.hand.specs.Undoing.{sent_in, noted_in}
 use Rattle.hand.proofs.Shares.{deeds-more, sent-more, noted-more}
 

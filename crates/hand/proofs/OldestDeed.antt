@@ -1,11 +1,11 @@
 -- The oldest done event, and which are earlier than a moment.
-use Rattle.std.proofs.Common.{◌≡◌, ℕ, ◌+◌, ◌<◌, ◌≤◌, inl, inr, nat_lt, true, false, Option, Some, None, List, [], ◌∷◌, All, Contains, IfNone, IfSome, slice_get, option_map, refl, sym, ap, ◌∙◌, subst, arith}
+use Rattle.std.proofs.Common.{◌≡◌, ℕ, ◌<◌, ◌≤◌, inl, inr, nat_lt, true, Option, Some, List, [], ◌∷◌, All, Contains, IfSome, slice_get, option_map, refl, sym, subst, arith}
 use Rattle.std.proofs.lemmas.Bool.{le-ltb}
 use Rattle.std.proofs.lemmas.List.Elements.{All-nil, All-cons}
 use Rattle.vlink.specs.declared.message.Message.{Message}
 use Rattle.vlink.specs.declared.note.Note.{Note}
 use Rattle.vlink.specs.Order.{message_order}
-use Rattle.virtual_time.specs.Law.{Rules, IsOrder, World, IsAscending, IsIn, earlier, times_in}
+use Rattle.virtual_time.specs.Law.{Rules, IsOrder, World, IsAscending, IsIn, earlier}
 use Rattle.virtual_time.proofs.Lists.{filter-none, in-cons, in-head}
 use Rattle.virtual_time.proofs.Order.{less-time}
 use Rattle.reverse.specs.Setting.{Setting}

@@ -1,17 +1,16 @@
 -- A group that has done nothing stands for members that have done nothing.
-use Rattle.std.proofs.Common.{◌≡◌, ℕ, suc, ◌+◌, ◌<◌, ◌≤◌, true, false, List, [], ◌∷◌, ◌++◌, All, Some, length, map, slice_get, refl, sym, ap, ◌∙◌, subst, arith}
+use Rattle.std.proofs.Common.{◌≡◌, suc, ◌≤◌, true, false, [], ◌++◌, All, map, refl, sym, ap, ◌∙◌, subst, arith}
 use Rattle.std.specs.Bool.{⊤}
 use Rattle.std.proofs.lemmas.List.Elements.{All-nil}
 use Rattle.vlink.specs.declared.message.Message.{Message}
 use Rattle.vlink.specs.declared.note.Note.{Note}
 use Rattle.vlink.specs.Letters.{Letter}
-use Rattle.virtual_time.specs.Law.{Rules, IsOrder, World, Part, IsAscending, IsIn, floor_of, opened, plus_of, pluses, minuses, received_by, rows_at, times_in, unhandled, IsWell}
+use Rattle.virtual_time.specs.Law.{Rules, IsOrder, World, IsAscending, IsIn, floor_of, opened, plus_of, pluses, minuses, received_by, rows_at, times_in, unhandled}
 use Rattle.virtual_time.proofs.WellStep.{opened-well}
 use Rattle.reverse.specs.Setting.{Setting}
 use Rattle.antimessages.specs.Counting.{signed_count}
 use Rattle.hand.specs.Deeds.{deeds_at, messages_of}
 use Rattle.hand.specs.Hands.{Held, HasDoneNothing, IsMember, IsOpened, StandsForGroup, counted, is_held, is_ours}
-use Rattle.hand.proofs.Going.{held-is}
 
 module _ {S K : Type 0} (r : Rules Message S K Note) (O : IsOrder r.order) (V : S → Message → Type 0) (x : Setting S) (v : World Message S) (h : Held S K) (n : HasDoneNothing h) where
   nothing-counted : counted h ≡ []

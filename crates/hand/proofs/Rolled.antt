@@ -1,17 +1,16 @@
 -- What is left where a member rolled back.
-use Rattle.std.proofs.Common.{◌≡◌, ℕ, ◌+◌, ◌<◌, ◌==◌, ◌⊎◌, inl, inr, Bool, true, false, not, cond, Option, List, [], ◌∷◌, ◌++◌, Some, length, reverse, slice_get, IsPermutation, refl, sym, ap, ◌∙◌, subst, arith, append-nil, length-append, eq-eqb}
+use Rattle.std.proofs.Common.{◌≡◌, ℕ, ◌+◌, ◌==◌, ◌⊎◌, inl, inr, Bool, true, false, not, cond, List, [], ◌∷◌, ◌++◌, Some, length, reverse, slice_get, refl, sym, ap, ◌∙◌, subst, arith, append-nil, length-append, eq-eqb}
 use Rattle.std.proofs.lemmas.Bool.{both_ways, cases_eq}
 use Rattle.std.proofs.lemmas.List.{reverse-reverse, length-reverse}
 use Rattle.vlink.specs.declared.message.Message.{Message}
 use Rattle.vlink.specs.declared.note.Note.{Note}
 use Rattle.virtual_time.specs.Law.{Rules, IsOrder, IsAscending, IsIn}
-use Rattle.virtual_time.proofs.Lists.{in-append, in-filter_from, times-append}
+use Rattle.virtual_time.proofs.Lists.{in-append, in-filter_from}
 use Rattle.virtual_time.proofs.Ascending.{ascending-left}
 use Rattle.process_queues.proofs.Newest.{after-all}
-use Rattle.two_lists.proofs.Counting.{times-permutation}
 use Rattle.hand.specs.Arriving.{sent_by}
 use Rattle.hand.specs.Deeds.{Deed, deeds_at, messages_of}
-use Rattle.hand.specs.Undoing.{Retreat, RollsBack, RolledBack, CameTo, CameBy, Settled, others_at, sent_in}
+use Rattle.hand.specs.Undoing.{Retreat, RolledBack, CameTo, CameBy, Settled, others_at, sent_in}
 use Rattle.hand.specs.declared.tray.Way.{Way}
 use Rattle.hand.specs.declared.tray.Way.TheVariants.{Beside, Joins, Leaves, Undoes}
 use Rattle.hand.proofs.LateDeeds.{messages-append}

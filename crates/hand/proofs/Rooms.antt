@@ -1,5 +1,5 @@
 -- How much done events sent and noted, of two lists put together; and room for them, in whatever order.
-use Rattle.std.proofs.Common.{◌≡◌, ◌+◌, ◌≤◌, List, [], ◌∷◌, ◌++◌, length, arith, length-append}
+use Rattle.std.proofs.Common.{◌≡◌, ◌+◌, List, [], ◌∷◌, ◌++◌, arith, length-append}
 use Rattle.hand.specs.Deeds.{Deed, Done}
 use Rattle.hand.specs.Undoing.{HasRoomFor, sent_in, noted_in}
 

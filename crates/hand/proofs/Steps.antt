@@ -1,5 +1,5 @@
 -- For how many steps words stand.
-use Rattle.std.proofs.Common.{◌≡◌, ℕ, ◌+◌, ◌*◌, ◌≤◌, List, [], ◌∷◌, ◌++◌, length, refl, sym, ap, ◌∙◌, arith, length-append, append-nil}
+use Rattle.std.proofs.Common.{◌≡◌, ℕ, ◌+◌, ◌≤◌, List, [], ◌∷◌, ◌++◌, length, ap, ◌∙◌, arith, length-append, append-nil}
 use Rattle.hand.specs.declared.block.Did.{Did}
 use Rattle.hand.specs.declared.block.Did.TheVariants.{Ran, Home, Taken, Arrived, Committed}
 use Rattle.hand.specs.Block.{steps_of_word, steps_told}

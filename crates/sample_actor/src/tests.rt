@@ -79,6 +79,7 @@ A message of a group counts as often as it came, and its antimessage may come fi
 hand:3 +10:0 arrive run:90 -10:0 arrive next states -10:0 arrive +10:0 arrive next +10:0 arrive next => . A0 . ran R0 H0 H2 . . A0 T2 T0 A2 A0 . none . 0.0 0.0 0.0 . . A0 . . A0 . none . . A0 . 10:0:9:0 .
 hand:3 -10:1 arrive next floor +10:1 arrive next +10:1 arrive next run:90 states => . A1 . none . 1000000000000001 . . A1 . none . . A1 . 10:1:9:0 . ran R1 H0 H2 . 0.0 10.2 0.0 .
 hand:2 +10:1 +10:1 +10:1 arrive next run:90 next run:90 run:90 next commit:50 rows -10:1 -10:1 arrive commit:50 rows states => . . . A1 A1 A1 . 10:1:9:0 . ran R1 H0 . 10:1:9:0 . ran . ran . 15:0:1:0 . . . . . A1 A1 . C1 . 10:1:9:0 . 0.0 10.2 .
+hand:2 +10:1 +10:1 arrive run:90 floor exact next steps => . . A1 A1 . ran R1 H0 . 10 . 15 . 15:0:1:0 . 8 .
 hand:2 +10:1 arrive run:90 +10:1 arrive next -10:1 arrive next commit:50 rows => . A1 . ran R1 H0 . . A1 . 15:0:1:0 . . A1 . 15:0:1:0 . C1 . 10:1:9:0 .
 hand:2 -20:0:1:0 +13:1 arrive run:90 floor arrive next run:90 states => . . A0 A1 . ran R1 H0 . 20 . . 20:0:1:1 . ran R0 H0 . 20.2 13.2 .
 hand:2 -15:0:1:0 +10:1 arrive run:90 floor next arrive next +15:0:1:0 arrive next floor => . . A0 A1 . ran R1 T0 . 15 . none . A0 . none . . A0 . 15:0:1:0 . 15 .
@@ -86,6 +87,7 @@ hand:4 +10:0 +20:1 +30:2 +40:3 arrive run:50 run:50 run:50 run:50 +5:3 arrive ne
 What is early and counts once is committed, the oldest first.
 hand:3 +10:0 +20:1 arrive run:21 run:21 +15:2 arrive next run:16 states arrive next commit:16 rows states => . . A0 A1 . ran R0 H0 H2 . ran R0 H0 H2 . . A2 . 15:2:9:0 . ran R2 H0 H2 . 25.4 0.0 15.2 . . 17:2:0:1 . C0 C0 C2 . 10:0:9:0 15:0:0:0 15:2:9:0 . 25.4 0.0 15.2 .
 hand:3 +10:0 +12:1 +13:2 arrive commit:11 run:14 commit:11 rows commit:13 run:14 run:14 commit:13 rows run:14 commit:99 rows => . . . A0 A1 A2 . . ran R0 H0 H2 . C0 . 10:0:9:0 . . ran R1 H2 . ran R2 H0 . C1 . 10:0:9:0 12:1:9:0 . idle . C2 . 10:0:9:0 12:1:9:0 13:2:9:0 .
+hand:3 +10:0 +12:1 +13:2 arrive run:14 run:14 run:14 before:13 before:10 commit:99 rows gone:12 rows before:99 gone:99 rows => . . . A0 A1 A2 . ran R0 H0 H2 . ran R1 H2 . ran R2 H0 . yes 10 . no 10 . C0 C1 C2 . 10:0:9:0 12:1:9:0 13:2:9:0 . . 12:1:9:0 13:2:9:0 . no none . . .
 Letters for others, a group of none, and the end of the run.
 hand:1 +10:0 arrive run:90 abroad -10:0 arrive abroad next states => . A0 . ran R0 H0 . +17:2:0:1 . . A0 T0 A0 . -17:2:0:1 . none . 0.0 .
 hand:0 +10:0 arrive next floor run:90 commit:50 rows abroad states => . . none . 1000000000000001 . idle . . . . .

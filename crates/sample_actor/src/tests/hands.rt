@@ -3,10 +3,10 @@
 //! `hand:3` opens a group of processes 0 to 2 of five. `+10:1` and `-10:1:7:4` deliver a letter for the moment 10 to process 1: its sign, and behind
 //! further colons its sender, 9 where none is named, and its number, 0 where none is named. `arrive`, `run:50` and `commit:20` are the calls
 //! `arrive_all`, `run_next` and `commit`; `exact` is `count_done`, and tells the floor; `gone:20` lets rows go that are earlier than 20; `before:20`
-//! tells whether some event is done before 20, and the oldest moment of one; and `next`, `floor`, `abroad`, `rows` and `states` tell what can be seen.
-//! Behind its answer each word tells its block, up to a full stop: a letter for what was done, and the process, and in the end for how many steps that
-//! stands. `R`: a message was handled; `H` and `T`: what was sent home arrived at once, or waits; `A`: the front of the tray arrived; `C`: an event was
-//! committed.
+//! tells whether some event is done before 20, and the oldest moment of one; `steps` tells for how many steps all blocks so far stood; and `next`,
+//! `floor`, `abroad`, `rows` and `states` tell what can be seen. Behind its answer each word tells its block, up to a full stop: a letter for what was
+//! done, and the process. `R`: a message was handled; `H` and `T`: what was sent home arrived at once, or waits; `A`: the front of the tray arrived;
+//! `C`: an event was committed.
 use super::player::{moment, number, parted};
 use crate::Passing;
 use hand::{Did, Hand, HandFault};
@@ -22,6 +22,8 @@ const PROCESSES: u64 = 5;
 struct Stage {
     hand: Hand<Passing>,
     told: String,
+    // For how many steps all blocks so far stood.
+    steps: u64,
 }
 
 // What the words of the script tell, one after another.
@@ -55,7 +57,11 @@ fn opened(alloc: Global, count: u64) -> Result<Stage, HandFault> {
         }
     }
     let hand = Hand::new(alloc, members, Vec::new(alloc), true)?;
-    Ok(Stage { hand, told })
+    Ok(Stage {
+        hand,
+        told,
+        steps: 0,
+    })
 }
 
 // Does what one word says. Where that was refused memory, it is done again: a refused call stopped between two words of its block.
@@ -82,6 +88,7 @@ fn act(alloc: Global, stage: &mut Stage, word: &str) -> Result<(), HandFault> {
         "exact" => tell_exact(stage)?,
         "gone" => stage.hand.let_rows_go(moment(number(rest)))?,
         "before" => tell_before(stage, moment(number(rest)))?,
+        "steps" => write!(stage.told, "{} ", stage.steps)?,
         "next" => tell_next(stage)?,
         "floor" => tell_floor(stage)?,
         "abroad" => tell_abroad(stage)?,
@@ -115,7 +122,8 @@ fn tell_block(alloc: Global, stage: &mut Stage) -> Result<(), HandFault> {
             tell_did(&mut stage.told, *did)?;
         }
     }
-    Ok(write!(stage.told, "={} . ", block.steps())?)
+    stage.steps = stage.steps.saturating_add(block.steps());
+    Ok(stage.told.push_str(". ")?)
 }
 
 fn tell_did(told: &mut String, did: Did) -> Result<(), HandFault> {

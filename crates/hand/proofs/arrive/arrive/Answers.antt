@@ -1,8 +1,6 @@
-use Rattle.std.proofs.Common.{◌≡◌, ◌+◌, ◌≤◌, [], length, true, false, refl, sym, ap, ◌∙◌, subst, arith}
-use Rattle.vlink.specs.Letters.{Letter, Row}
+use Rattle.std.proofs.Common.{[], refl, ap, ◌∙◌, arith}
 use Rattle.reverse.specs.Rules.{rules_of}
 use Rattle.hand.specs.Passing.{held}
-use Rattle.hand.specs.Undoing.{sent_in}
 use Rattle.hand.proofs.Among.{contains-in, none-among}
 use Rattle.hand.proofs.Fronted.{Fronted, fronted, tray-fewer}
 use Rattle.hand.proofs.FrontTold.{front-told}

@@ -1,4 +1,4 @@
-use Rattle.std.proofs.Common.{◌≡◌, ◌≤◌, ◌<◌, List, length, map, refl, sym, ap, ◌∙◌, subst, arith, true, false, Bool, cond}
+use Rattle.std.proofs.Common.{◌≤◌, ◌<◌, List, length, map, refl, ◌∙◌, subst, arith}
 use Rattle.std.proofs.lemmas.List.{take_all}
 use Rattle.vlink.specs.declared.message.Message.{Message}
 use Rattle.virtual_time.specs.Law.{minus_of}

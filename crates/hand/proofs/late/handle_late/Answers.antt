@@ -1,8 +1,6 @@
-use Rattle.std.proofs.Common.{◌≡◌, ℕ, ◌+◌, ◌<◌, ◌≤◌, ◌∷◌, [], ◌++◌, List, Some, length, map, reverse, set, subst, sym, ap, ◌∙◌, arith, rules}
+use Rattle.std.proofs.Common.{◌≡◌, ℕ, ◌∷◌, [], ◌++◌, Some, length, map, reverse, set, subst, sym, ap, ◌∙◌, arith, rules}
 use Rattle.std.proofs.lemmas.List.{length-map}
 use Rattle.std.proofs.lemmas.Option.{slice_get_within}
-use Rattle.vlink.specs.declared.message.Message.{Message}
-use Rattle.vlink.specs.Letters.{Row}
 use Rattle.vlink.specs.Order.{message_order}
 use Rattle.virtual_time.specs.Law.{rows_of, plus_of}
 use Rattle.reverse.specs.Rules.{rules_of}

@@ -1,4 +1,4 @@
-use Rattle.std.proofs.Common.{◌≡◌, ◌≢◌, ◌<◌, ◌≤◌, All, length, map, subst, sym, ap, ◌∙◌, arith, refl}
+use Rattle.std.proofs.Common.{◌≢◌, ◌<◌, ◌≤◌, All, length, map, subst, arith, refl}
 use Rattle.std.proofs.lemmas.List.{take_all, length-map}
 use Rattle.hand.proofs.NewestDeed.{none-more}
 use Rattle.hand.proofs.newest.is_among.Goals as goal

@@ -1,4 +1,4 @@
-use Rattle.std.proofs.Common.{◌≡◌, ◌≢◌, All, map, take}
+use Rattle.std.proofs.Common.{◌≢◌, All, map, take}
 use Rattle.hand.proofs.newest.is_among.Given as goal
 
 abbrev pub invariant-loop-place : goal.invariant-loop-place

@@ -1,4 +1,4 @@
-use Rattle.std.proofs.Common.{◌≡◌, length, refl, sym, ap, ◌∙◌, subst, arith}
+use Rattle.std.proofs.Common.{refl, sym, ◌∙◌, arith}
 use Rattle.reverse.specs.Rules.{rules_of}
 use Rattle.hand.proofs.Retreating.{rolls-none, room-none, some-late}
 use Rattle.hand.proofs.undoing.set_back.Goals as goal

@@ -1,11 +1,7 @@
-use Rattle.std.proofs.Common.{◌≡◌, ℕ, ◌==◌, ◌++◌, ◌∷◌, [], true, false, List, Some, length, slice_get, IsPermutation, refl, sym, ap, ◌∙◌, subst, arith, length-append}
+use Rattle.std.proofs.Common.{◌≡◌, ◌==◌, ◌∷◌, [], Some, length, slice_get, IsPermutation, sym, ap, ◌∙◌, subst, arith, length-append}
 use Rattle.std.proofs.lemmas.Bool.{eqb-true, eq-eqb, both_ways}
-use Rattle.vlink.specs.declared.message.Message.{Message}
-use Rattle.vlink.specs.Order.{message_order}
 use Rattle.reverse.specs.Rules.{rules_of}
-use Rattle.hand.specs.Deeds.{Deed, deeds_at}
-use Rattle.hand.specs.Hands.{is_ours}
-use Rattle.hand.specs.Undoing.{CameTo, sent_in}
+use Rattle.hand.specs.Undoing.{sent_in}
 use Rattle.hand.proofs.NewestDeed.{sent_in-push}
 use Rattle.hand.proofs.Origin.{came-from, undone-came, aside-came}
 use Rattle.hand.proofs.Retreating.{rolls-undone, rolls-aside, newest-late, room-fewer}

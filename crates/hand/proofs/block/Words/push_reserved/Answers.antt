@@ -1,6 +1,6 @@
-use Rattle.std.proofs.Common.{◌≡◌, ◌+◌, ◌≤◌, ◌++◌, ◌∷◌, [], IfSome, length, map, subst, sym, ap, ◌∙◌, arith}
+use Rattle.std.proofs.Common.{◌≡◌, ◌+◌, ◌++◌, ◌∷◌, [], IfSome, length, map, subst, sym, ap, ◌∙◌, arith}
 use Rattle.std.proofs.lemmas.List.{length-map, length-append, map-append}
-use Rattle.hand.specs.Block.{steps_of_word, steps_told}
+use Rattle.hand.specs.Block.{steps_told}
 use Rattle.hand.proofs.Steps.{long-few, steps-push}
 use Rattle.hand.proofs.block.Words.push_reserved.Goals.{After-push_reserved, in-Some, in_default}
 use Rattle.hand.proofs.block.Words.push_reserved.Goals as goal

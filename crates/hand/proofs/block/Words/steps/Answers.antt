@@ -1,4 +1,4 @@
-use Rattle.std.proofs.Common.{◌≡◌, ◌+◌, ◌≤◌, length, map, arith}
+use Rattle.std.proofs.Common.{length, map, arith}
 use Rattle.std.proofs.lemmas.List.{length-map}
 use Rattle.hand.proofs.Steps.{long-few}
 use Rattle.hand.proofs.block.Words.steps.Goals as goal

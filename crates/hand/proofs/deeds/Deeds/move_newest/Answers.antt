@@ -1,8 +1,8 @@
-use Rattle.std.proofs.Common.{◌≡◌, ℕ, ◌<◌, ◌≤◌, ◌+◌, ◌-◌, ◌++◌, ◌∷◌, [], length, take, drop, sym, ap, ◌∙◌, arith, length-append, length-drop, deque_len, deque_capacity}
+use Rattle.std.proofs.Common.{◌≡◌, ◌≤◌, ◌-◌, ◌++◌, ◌∷◌, [], length, drop, sym, ap, ◌∙◌, arith, length-append, length-drop, deque_len}
 use Rattle.std.proofs.lemmas.List.{length-take-le}
 use Rattle.hand.specs.Deeds.{Deed, deeds_in, all_sent, all_noted}
 use Rattle.hand.specs.Undoing.{sent_in, noted_in}
-use Rattle.hand.proofs.NewestDeed.{newest-share, how-many, how-much_sent, how-much_noted, sent_in-push, noted_in-push}
+use Rattle.hand.proofs.NewestDeed.{newest-share, how-much_sent, how-much_noted, sent_in-push, noted_in-push}
 use Rattle.hand.proofs.Shares.{deeds-more, sent-more, noted-more}
 use Rattle.hand.proofs.deeds.Deeds.move_newest.Given.{Over}
 use Rattle.hand.proofs.deeds.Deeds.move_newest.Goals.{After-push_back_reserved, After-move_last-2}

@@ -1,4 +1,4 @@
-use Rattle.std.proofs.Common.{◌≡◌, ◌<◌, ◌-◌, Some, length, get_or, sym, ap, ◌∙◌, rules}
+use Rattle.std.proofs.Common.{◌≡◌, ◌<◌, ◌-◌, length, get_or, sym, ap, ◌∙◌, rules}
 use Rattle.process_queues.specs.Past.{newest_of}
 use Rattle.hand.specs.Deeds.{messages_of}
 use Rattle.hand.proofs.Shares.{newest-is}

@@ -1,4 +1,4 @@
-use Rattle.std.proofs.Common.{◌≡◌, ◌==◌, ◌++◌, ◌∷◌, [], Some, sym, ap, ◌∙◌}
+use Rattle.std.proofs.Common.{◌≡◌, ◌==◌, ◌∷◌, [], Some, ap, ◌∙◌}
 use Rattle.process_queues.specs.Past.{newest_of}
 use Rattle.hand.specs.Deeds.{messages_of}
 use Rattle.hand.proofs.LateDeeds.{messages-append}

@@ -1,4 +1,4 @@
-use Rattle.std.proofs.Common.{◌≡◌, ℕ, ◌<◌, ◌≤◌, ◌+◌, ◌-◌, ◌++◌, ◌∷◌, [], length, take, drop, reverse, refl, sym, ap, ◌∙◌, arith, length-append, length-drop, deque_len}
+use Rattle.std.proofs.Common.{◌≡◌, ◌≤◌, ◌+◌, ◌-◌, ◌++◌, ◌∷◌, [], length, drop, reverse, refl, sym, ap, ◌∙◌, arith, length-append, length-drop, deque_len}
 use Rattle.std.proofs.lemmas.List.{length-take-le, length-reverse}
 use Rattle.hand.specs.Deeds.{Deed, deeds_in, all_sent, all_noted}
 use Rattle.hand.specs.Undoing.{sent_in}

@@ -1,4 +1,4 @@
-use Rattle.std.proofs.Common.{[], refl}
+use Rattle.std.proofs.Common.{[]}
 use Rattle.reverse.specs.Rules.{rules_of}
 use Rattle.hand.proofs.Telling.{does-nothing, does-both}
 use Rattle.hand.proofs.hand.Hand.arrive_all.Goals as goal

@@ -1,4 +1,4 @@
-use Rattle.std.proofs.Common.{◌≡◌, true, sym, ap, ◌∙◌, subst}
+use Rattle.std.proofs.Common.{ap, ◌∙◌}
 use Rattle.hand.specs.Hands.{is_ours}
 use Rattle.hand.proofs.Still.{stands-still}
 use Rattle.hand.proofs.hand.Hand.deliver.Goals as goal

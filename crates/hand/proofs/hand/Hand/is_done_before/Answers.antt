@@ -1,6 +1,4 @@
-use Rattle.std.proofs.Common.{◌≡◌, ℕ, ◌≤◌, All, slice_get, option_map, sym, ap, ◌∙◌}
-use Rattle.vlink.specs.Order.{message_order}
-use Rattle.virtual_time.specs.Law.{IsAscending}
+use Rattle.std.proofs.Common.{◌≡◌, slice_get, option_map, sym, ap, ◌∙◌}
 use Rattle.reverse.specs.Rules.{rules_of}
 use Rattle.hand.specs.Deeds.{messages_of}
 use Rattle.hand.proofs.OldestDeed.{first-early, first-late, from-first, none-of}

@@ -1,5 +1,4 @@
-use Rattle.std.proofs.Common.{◌≡◌, ◌<◌, ◌∷◌, List, length, get_or, drop, subst, ap, rules}
-use Rattle.std.proofs.Math.Seq.{drop-cons}
+use Rattle.std.proofs.Common.{◌≡◌, ◌<◌, ◌∷◌, List, length, get_or, subst, ap, rules}
 use Rattle.vlink.specs.Letters.{Letter}
 use Rattle.hand.proofs.Retreating.{first-rest}
 use Rattle.hand.proofs.letters.Letters.front.Goals as goal

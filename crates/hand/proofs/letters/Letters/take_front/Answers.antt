@@ -1,4 +1,4 @@
-use Rattle.std.proofs.Common.{◌≡◌, ◌<◌, ◌∷◌, length, ap, ◌∙◌, arith, deque_len}
+use Rattle.std.proofs.Common.{◌<◌, length, ap, ◌∙◌, arith, deque_len}
 use Rattle.hand.proofs.Retreating.{rest-left}
 use Rattle.hand.proofs.letters.Letters.take_front.Goals as goal
 

@@ -1,4 +1,4 @@
-use Rattle.std.proofs.Common.{◌≢◌, ◌∷◌, ◌++◌, List, All, IsPermutation, refl, subst, ap}
+use Rattle.std.proofs.Common.{◌∷◌, ◌++◌, List, IsPermutation, refl, subst, ap}
 use Rattle.vlink.specs.declared.message.Message.{Message}
 use Rattle.two_lists.proofs.NearAndFar.{out-of-first, out-of-last}
 use Rattle.hand.proofs.queue.Queue.remove.Goals as goal
