@@ -125,7 +125,9 @@ impl<R: Actor, J: GroupRun<R>> Group<R, J> {
         let Some(time) = self.hand.next_time() else {
             return true;
         };
-        if limit <= time {
+        let from = limit.ns();
+        let first = time.ns();
+        if from <= first {
             return true;
         }
         false

@@ -32,7 +32,7 @@ returns-clause-below g c =
       | in-Ok w ↦ rw (sym c.self.view_is) (subst (λ z. OnOk z (All (λ (m : Message). c.self.inside.standing.seen ≤ m.time) (messages_of c.commit.new.self.done))) (sym w.result-is)
           (all-late g.R.Reversible.plain L.order g.R.Reversible.is_value g.J.GroupRun.setting _ c.commit.new.self t.holds.stands (is_of g.J.GroupRun.owners c.self.inside.number) t.holds.ours
           c.self.inside.standing.seen t.holds.safe w.in-Ok.ensures.left))
-      | in-Err w ↦ subst (λ z. OnOk z _) (sym w.result-is) tt
+      | in-Err w ↦ subst (λ z. OnOk z (All (λ (m : Message). c.args.self.now.seen ≤ m.time) (messages_of c.commit.new.self.done))) (sym w.result-is) tt
     ]
 
 pub returns-clause-in_time : goal.returns-clause-in_time

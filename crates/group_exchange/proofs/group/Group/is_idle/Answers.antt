@@ -19,8 +19,8 @@ invariant_of-self g c =
       c.self.invariant.4,
     )
 
-pub invariant_of-self-then-le : goal.invariant_of-self-then-le
-invariant_of-self-then-le g c =
+pub invariant_of-self-then-from-first : goal.invariant_of-self-then-from-first
+invariant_of-self-then-from-first g c =
     let a = c.next_time.ensures.same in
     (
       holds-again c.self.invariant.0 c.next_time.new.self a.members (ap (λ (z : Flow). z.words) a.flow)
@@ -43,6 +43,6 @@ invariant_of-self-2 g c =
       c.self.invariant.4,
     )
 
-pub returns-then-le-clause-idle : goal.returns-then-le-clause-idle
-returns-then-le-clause-idle g c = λ e. All-permutation (λ (m : Message). c.args.limit ≤ m.time) c.self.inside.hand.flow.queue c.next_time.new.self.flow.queue c.next_time.ensures.same.queue
-    (λ k d h. let a = c.in-Some.ensures.least k d h in let b = c.if-le.true in let b2 = c.le.ensures in omega arith)
+pub returns-then-from-first-clause-idle : goal.returns-then-from-first-clause-idle
+returns-then-from-first-clause-idle g c = λ e. All-permutation (λ (m : Message). c.args.limit ≤ m.time) c.self.inside.hand.flow.queue c.next_time.new.self.flow.queue c.next_time.ensures.same.queue
+    (λ k d h. let a = c.in-Some.ensures.least k d h in omega (arith, a, c.if-from-first.true, c.ns-from.ensures.value, c.ns-first.ensures.value))
