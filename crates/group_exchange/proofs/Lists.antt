@@ -82,18 +82,18 @@ module _ (owners : List ℕ) (l : Letter) (i : ℕ) (owned : slice_get owners l.
       box_of (map f (set xs i new)) g ≡ box_of first g ++ for_group message_order owners g after
   box-put f first xs old new before after h at put more g so =
       let all : for_group message_order owners g after ≡ for_group message_order owners g before ++ cond (i == g) (l ∷ []) [] =
-          ap (for_group message_order owners g) more ∙ for-more g before in
+      ap (for_group message_order owners g) more ∙ for-more g before in
       elim (cases_eq g i) [
-      | inl a ↦
-          let here : box_of (map f (set xs i new)) g ≡ f new = ap (box_of (map f (set xs i new))) a ∙ box-here f xs i new h in
-          let was : f old ≡ box_of first g ++ for_group message_order owners g before = sym (box-at f xs i old h at) ∙ (ap (box_of (map f xs)) (sym a) ∙ so) in
-          let goes : for_group message_order owners g after ≡ for_group message_order owners g before ++ l ∷ [] =
-              all ∙ ap (λ b. for_group message_order owners g before ++ cond b (l ∷ []) []) (eq-eqb i g (sym a)) in
-          here ∙ (put ∙ (ap (λ z. z ++ l ∷ []) was ∙ (append_assoc (box_of first g) _ _ ∙ ap (λ z. box_of first g ++ z) (sym goes))))
-      | inr n ↦
-          let stays : for_group message_order owners g after ≡ for_group message_order owners g before =
-              all ∙ (ap (λ b. for_group message_order owners g before ++ cond b (l ∷ []) []) (ne_eqb i g (λ e. n (sym e))) ∙ append-nil _) in
-          box-other f xs i g new n ∙ (so ∙ ap (λ z. box_of first g ++ z) (sym stays))
+        | inl a ↦
+            let here : box_of (map f (set xs i new)) g ≡ f new = ap (box_of (map f (set xs i new))) a ∙ box-here f xs i new h in
+            let was : f old ≡ box_of first g ++ for_group message_order owners g before = sym (box-at f xs i old h at) ∙ (ap (box_of (map f xs)) (sym a) ∙ so) in
+            let goes : for_group message_order owners g after ≡ for_group message_order owners g before ++ l ∷ [] =
+            all ∙ ap (λ b. for_group message_order owners g before ++ cond b (l ∷ []) []) (eq-eqb i g (sym a)) in
+            here ∙ (put ∙ (ap (λ z. z ++ l ∷ []) was ∙ (append_assoc (box_of first g) _ _ ∙ ap (λ z. box_of first g ++ z) (sym goes))))
+        | inr n ↦
+            let stays : for_group message_order owners g after ≡ for_group message_order owners g before =
+            all ∙ (ap (λ b. for_group message_order owners g before ++ cond b (l ∷ []) []) (ne_eqb i g (λ e. n (sym e))) ∙ append-nil _) in
+            box-other f xs i g new n ∙ (so ∙ ap (λ z. box_of first g ++ z) (sym stays))
       ]
 
 -- the least of two lists: that of the second, begun with that of the first
@@ -122,10 +122,10 @@ pub boxes-more : {X : Type 0} (f : X → List Letter) (d : ℕ) (xs : List X) (i
     ≡ lowest (lowest d (times_of message_order (flat_map (λ box. box) (map f (take i xs))))) (times_of message_order (f x))
 boxes-more f d xs i x h e =
     let taken : map f (take (i + 1) xs) ≡ map f (take i xs) ++ f x ∷ [] =
-        ap (map f) (take_more xs i x h ∙ ap (λ z. take i xs ++ z ∷ []) (sym e)) ∙ map-append f (take i xs) (x ∷ []) in
+    ap (map f) (take_more xs i x h ∙ ap (λ z. take i xs ++ z ∷ []) (sym e)) ∙ map-append f (take i xs) (x ∷ []) in
     let all : flat_map (λ (box : List Letter). box) (map f (take (i + 1) xs)) ≡ flat_map (λ (box : List Letter). box) (map f (take i xs)) ++ f x =
-        ap (flat_map (λ (box : List Letter). box)) taken ∙ (flat_map-append (λ (box : List Letter). box) (map f (take i xs)) (f x ∷ []) ∙
-        ap (λ z. flat_map (λ (box : List Letter). box) (map f (take i xs)) ++ z) (append-nil (f x))) in
+    ap (flat_map (λ (box : List Letter). box)) taken ∙ (flat_map-append (λ (box : List Letter). box) (map f (take i xs)) (f x ∷ []) ∙
+    ap (λ z. flat_map (λ (box : List Letter). box) (map f (take i xs)) ++ z) (append-nil (f x))) in
     ap (λ z. lowest d (times_of message_order z)) all ∙ times-append d (flat_map (λ box. box) (map f (take i xs))) (f x)
 
 -- an element of a list of values

@@ -18,7 +18,9 @@ use vlink::{Time, earlier};
 ///
 /// Any refusal leaves the exchange as it was. `JournalFull`: exactly where the steps would pass the limit, which is looked at before any
 /// growth. `Torn`: the journal is kept, and another one has written the step's place in the table, which is seen behind all growths.
-pub fn publish<R: Actor, J: GroupRun<R>>(exchange: &mut GroupExchange<R, J>) -> Result<Time, PoolFault>
+pub fn publish<R: Actor, J: GroupRun<R>>(
+    exchange: &mut GroupExchange<R, J>,
+) -> Result<Time, PoolFault>
     ensures ok { IfOk result (λ gvt. Publishes (simulation_of (rules_of R.plain) J.setting) J.owners exchange.old exchange.new gvt) }
     ensures unchanged { OnErr result (exchange.new ≡ exchange.old) }
     ensures full { result ≡ Err JournalFull → IsHeldBack (simulation_of (rules_of R.plain) J.setting) J.owners exchange.old × (exchange.old.limit ≤ length exchange.old.steps) }
@@ -26,7 +28,9 @@ pub fn publish<R: Actor, J: GroupRun<R>>(exchange: &mut GroupExchange<R, J>) -> 
     ensures faults { IfErr result (λ fault. (fault ≡ OutOfMemory) ⊎ ((fault ≡ JournalFull) ⊎ ((fault ≡ Torn) × (J.keeps ≡ true)))) }
 {
     actor_laws::<R>();
-    let gvt = exchange.boxes.earliest(earliest_floor(&exchange.floors, exchange.end));
+    let gvt = exchange
+        .boxes
+        .earliest(earliest_floor(&exchange.floors, exchange.end));
     if gvt == exchange.gvt {
         return Ok(gvt);
     }

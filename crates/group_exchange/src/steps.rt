@@ -139,8 +139,10 @@ impl Steps {
         ensures keeps { self.new.keeps ≡ self.old.keeps }
     {
         self.count += count;
-        self.told
-            .push_reserved(Snapshot::of(&Entry::Did(Snapshot::of(words), Snapshot::of(boxes))));
+        self.told.push_reserved(Snapshot::of(&Entry::Did(
+            Snapshot::of(words),
+            Snapshot::of(boxes),
+        )));
         if let Some(kept) = &mut self.kept {
             list_block(&mut kept.steps, words, boxes);
         }

@@ -215,8 +215,6 @@ impl<R: Actor> Hand<R> {
         ensures left { OnOk result (StaysDone moment self.new) }
         ensures memory { IfErr result (λ fault. fault ≡ OutOfMemory) }
         ensures unchanged { OnErr result (IsAsBefore self.old self.new) }
-        ensures flow { self.new.flow ≡ record self.old.flow { queue = self.new.flow.queue; words = self.new.flow.words; room = self.new.flow.room } }
-        ensures queue { IsPermutation self.old.flow.queue self.new.flow.queue }
     {
         actor_rules::<R>();
         let first = self.letters.first();

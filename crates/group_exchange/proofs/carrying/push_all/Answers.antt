@@ -18,7 +18,7 @@ loop-message-preserved c =
     let k = c.loop-message.message-index in
     let ms = c.args.messages.now in
     let own = owner-of c.args.owners.now (length c.args.boxes.now.items) m.receiver c.from.result at c.requires.each
-        (one-of (λ (n : Message). n.receiver < length c.args.owners.now) ms c.requires.receivers k m c.loop-message-test.true c.message-item.is) c.from.ensures c.from-in-loop-message.ensures in
+    (one-of (λ (n : Message). n.receiver < length c.args.owners.now) ms c.requires.receivers k m c.loop-message-test.true c.message-item.is) c.from.ensures c.from-in-loop-message.ensures in
     record {
       count = length-set boxes at new ∙ inv.count;
       put = λ g h. box-put c.args.owners.now (plus_of m) at own.0 (λ x. x.items) (map (λ x. x.items) c.args.boxes.now.items) boxes old new

@@ -18,7 +18,7 @@ push_reserved-requires c =
     let inv = c.loop-letter.invariant in
     let within = (owner (goal.at.push_reserved-requires c).After-index_mut).1 in
     let room = room-at (λ x. vec_capacity x - vec_len x) c.loop-letter.boxes.items c.from-in-loop-letter.result c.index_mut.result.now
-        (length c.args.letters.now - c.loop-letter.letter-index) (omega (arith, within, inv.count)) c.index_mut.ensures.value inv.room in
+    (length c.args.letters.now - c.loop-letter.letter-index) (omega (arith, within, inv.count)) c.index_mut.ensures.value inv.room in
     omega (arith, room, c.loop-letter-test.true)
 
 pub loop-letter-preserved : goal.loop-letter-preserved

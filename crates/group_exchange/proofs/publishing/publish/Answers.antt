@@ -63,8 +63,11 @@ returns-clause-ok g c =
     let f = simulation_of (rules_of g.R.Reversible.plain) g.J.GroupRun.setting in
     let gvt = found g (goal.at.returns-clause-ok g c).After-earliest-gvt in
     let longer = c.set_gvt.ensures.steps ∙ ap (λ (ss : List Step). ss ++ Gvt ∷ []) c.reserve.ensures.steps in
-    rw (sym c.exchange.view_is) (gvt, publishes-more f g.J.GroupRun.owners _ _ _ (ap (λ z. c.earliest-gvt.result == z) (sym k.gvt_is) ∙ (sym c.eq.ensures ∙ c.if-eq.false))
-    (λ i. record { steps = longer i; marks = marks_in (map (λ (b : LeftHalf Standing). b.value) c.exchange.inside.marks.items); limit = c.exchange.inside.limit }))
+    rw (sym c.exchange.view_is) (
+      gvt,
+      publishes-more f g.J.GroupRun.owners _ _ _ (ap (λ z. c.earliest-gvt.result == z) (sym k.gvt_is) ∙ (sym c.eq.ensures ∙ c.if-eq.false))
+          (λ i. record { steps = longer i; marks = marks_in (map (λ (b : LeftHalf Standing). b.value) c.exchange.inside.marks.items); limit = c.exchange.inside.limit }),
+    )
 
 pub returns-then-eq-clause-limited : goal.returns-then-eq-clause-limited
 returns-then-eq-clause-limited g c =
