@@ -1,0 +1,26 @@
+//! The exchange of letters between groups of processes, each group in one hand, and the journal of what they did, over lent values: no thread and
+//! no lock. A group (`Group`) collects letters, works alone and posts; the `GroupExchange` has letters on their way, floors, GVT and the journal.
+#![tactic(auto)]
+
+mod boxes;
+mod carrying;
+mod entry;
+mod exchange;
+mod fits;
+mod group;
+mod listing;
+mod mark;
+mod pairs;
+mod publishing;
+mod run_of;
+mod steps;
+
+pub use boxes::Boxes;
+pub use entry::Entry;
+pub use exchange::GroupExchange;
+pub use group::Group;
+pub use mark::{Mark, Standing};
+pub use pairs::Pairs;
+pub use publishing::publish;
+pub use run_of::GroupRun;
+pub use steps::Steps;
