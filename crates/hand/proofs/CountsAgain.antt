@@ -75,5 +75,6 @@ module _ {S K : Type 0} (r : Rules Message S K Note) (O : IsOrder r.order) (V : 
     did = [];
     block = a.words ∙ sym (append-nil old.words);
     keeps = a.keeps;
+    rows = refl;
     stands = λ x L v g. (tt, stands-again x v [] g, of_members-none members members refl);
   }

@@ -69,6 +69,7 @@ module _ {S K : Type 0} (plain : Plain S Message Sends K) (V : S → Message →
   handles = record {
     did = Ran m.receiver ∷ gone.did;
     keeps = gone.keeps ∙ (ap (λ z. z.keeps) ran-word ∙ keeps);
+    rows = refl;
     block = gone.words ∙ (ap (λ z. z.words ++ gone.did) ran-word ∙ (append_assoc popped.words (Ran m.receiver ∷ []) gone.did ∙ ap (λ z. z ++ Ran m.receiver ∷ gone.did) words));
     stands = λ x L v g.
         let one = running x L v g in

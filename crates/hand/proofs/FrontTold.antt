@@ -46,9 +46,9 @@ module _ {S K : Type 0} (plain : Plain S Message Sends K) (V : S → Message →
       (reached r base ds) is_reached (messages_of late) m (subst (IsIn message_order m) sends j)
 
   -- where the done events ascend, the letter arrived
-  pub front-told : WentOn old.members (taken_back late) (record old.flow { tray = rest; words = old.flow.words ++ Arrived l.message.receiver ∷ [] }) new.flow →
+  pub front-told : WentOn old.members (taken_back late) (record old.flow { tray = rest; words = old.flow.words ++ Arrived l.message.receiver ∷ [] }) new.flow → new.rows ≡ old.rows →
       (IsAscending message_order (messages_of old.done) → FrontArrived (rules_of plain) l rest late old new) → DoesSent (rules_of plain) V old [] new []
-  front-told went arrived = word-told plain V O law (Arrived l.message.receiver) rest (taken_back late) old new went (λ x L v g. record {
+  front-told went rows arrived = word-told plain V O law (Arrived l.message.receiver) rest (taken_back late) old new went rows (λ x L v g. record {
     steps = front-steps r O V law l rest late old new (arrived g.ascending) x v g;
     stands = front-stands r O V law l rest late old new (arrived g.ascending) x v g;
     by = let here = ours r O V law l rest late old new (arrived g.ascending) x v g in (here, (here, tt));

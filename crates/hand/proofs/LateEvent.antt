@@ -94,7 +94,7 @@ module _ {S K : Type 0} (plain : Plain S Message Sends K) (V : S → Message →
         abroad = went.abroad ∙ (λ j. abroad-was j ++ others-same j);
         words = went.words ∙ (λ j. words-were j ++ words_taken (home-same j));
         keeps = went.keeps ∙ (ap (λ z. z.keeps) tells ∙ ap (λ z. z.keeps) took);
-      })
+      }) refl
       (λ up. record {
         first = first;
         not_done = not_done up;

@@ -110,6 +110,6 @@ module _ {S K : Type 0} (plain : Plain S Message Sends K) (V : S → Message →
     }
 
   -- where the done events ascend, the message was handled
-  pub late-told : WentOn old.members (map plus_of ((rules_of plain).sends s m)) (record old.flow { words = old.flow.words ++ Ran m.receiver ∷ [] }) new.flow →
+  pub late-told : WentOn old.members (map plus_of ((rules_of plain).sends s m)) (record old.flow { words = old.flow.words ++ Ran m.receiver ∷ [] }) new.flow → new.rows ≡ old.rows →
       (IsAscending message_order (messages_of old.done) → FirstHandled (rules_of plain) V m s old new) → DoesSent (rules_of plain) V old [] new []
-  late-told went handles = word-told plain V O law (Ran m.receiver) old.flow.tray (map plus_of (r.sends s m)) old new went (λ x L v g. tells (handles g.ascending) x L v g)
+  late-told went rows handles = word-told plain V O law (Ran m.receiver) old.flow.tray (map plus_of (r.sends s m)) old new went rows (λ x L v g. tells (handles g.ascending) x L v g)

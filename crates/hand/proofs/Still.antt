@@ -12,6 +12,7 @@ use Rattle.reverse.specs.Rules.{rules_of, is_before}
 use Rattle.reverse.specs.Setting.{Setting}
 use Rattle.reverse.specs.declared.sends.Sends.{Sends}
 use Rattle.two_lists.proofs.Counting.{times-permutation}
+use Rattle.hand.specs.declared.block.Did.{Did}
 use Rattle.hand.specs.Deeds.{Deed, messages_of}
 use Rattle.hand.specs.Flow.{Flow, IsFirst, TookFirst}
 use Rattle.hand.specs.Hands.{Held, DoesSent, StandsForSent, IsAsBefore, is_ours}
@@ -43,6 +44,14 @@ as-roomy members done later rows flow next d e = record {
   queue = subst (λ z. IsPermutation flow.queue z) (sym (ap (λ z. z.queue) e)) (IsPermutation-refl flow.queue);
   flow = e ∙ (λ j. record flow { queue = (ap (λ z. z.queue) (sym e)) j; room = next.room });
 }
+
+-- the first message was looked at, and then words joined the block
+pub told-after : (old mid new : Flow) (ws : List Did) → mid ≡ record old { queue = mid.queue; room = mid.room } → new ≡ record mid { words = ws; room = new.room } →
+    new ≡ record old { queue = new.queue; words = new.words; room = new.room }
+told-after old mid new ws a b = b ∙ (λ j. record (a j) { queue = (ap (λ z. z.queue) (sym b)) j; words = (ap (λ z. z.words) (sym b)) j; room = new.room })
+
+pub waits-after : (old mid new : Flow) (ws : List Did) → IsPermutation old.queue mid.queue → new ≡ record mid { words = ws; room = new.room } → IsPermutation old.queue new.queue
+waits-after old mid new ws p b = subst (λ (z : List Message). IsPermutation old.queue z) (sym (ap (λ z. z.queue) b)) p
 
 -- the first message was taken out, and waits again
 pub as-put_back : {S K : Type 0} (members : List (Option S)) (done : List (Deed K)) (rows : Sealed) (flow next last : Flow) (m : Message) → TookFirst m flow next →
@@ -113,5 +122,6 @@ module _ {S K : Type 0} (plain : Plain S Message Sends K) (V : S → Message →
     did = [];
     block = ap (λ z. z.words) a.flow ∙ sym (append-nil h.flow.words);
     keeps = ap (λ z. z.keeps) a.flow;
+    rows = a.rows;
     stands = λ x L v g. (tt, stands-still h new a x v g, of_members-none h.members new.members a.members);
   }

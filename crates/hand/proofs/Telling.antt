@@ -58,6 +58,7 @@ module _ {S K : Type 0} (r : Rules Message S K Note) (V : S → Message → Type
     did = [];
     block = sym (append-nil h.flow.words);
     keeps = refl;
+    rows = refl;
     stands = λ x L v g. (tt, g, of_members-none h.members h.members refl);
   }
 
@@ -66,6 +67,7 @@ module _ {S K : Type 0} (r : Rules Message S K Note) (V : S → Message → Type
     did = a.did ++ b.did;
     block = b.block ∙ (ap (λ z. z ++ b.did) a.block ∙ append_assoc h.flow.words a.did b.did);
     keeps = b.keeps ∙ a.keeps;
+    rows = b.rows ∙ a.rows;
     stands = λ x L v g.
         let f = simulation_of r x in
         let one = a.stands x L v g in

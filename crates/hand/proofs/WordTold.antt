@@ -63,11 +63,12 @@ module _ {S K : Type 0} (plain : Plain S Message Sends K) (V : S → Message →
           (λ q. ap (λ z. received_by message_order q (z ++ [])) (sym abroad-is))
           (subst (λ ls. All (λ z. is_ours new.members (message_order.receiver z.message) ≡ false) ls) (sym abroad-is) goes.stands.elsewhere) goes.stands)
 
-    pub word-told : ((x : Setting S) → Laws (simulation_of (rules_of plain) x) → (v : World Message S) → StandsForSent (rules_of plain) V x v old [] → IsTold x v) →
+    pub word-told : new.rows ≡ old.rows → ((x : Setting S) → Laws (simulation_of (rules_of plain) x) → (v : World Message S) → StandsForSent (rules_of plain) V x v old [] → IsTold x v) →
         DoesSent (rules_of plain) V old [] new []
-    word-told tells = record {
+    word-told rows tells = record {
       did = word ∷ words_taken (to_members old.members sent);
       keeps = went.keeps;
+      rows = rows;
       block = went.words ∙ append_assoc old.flow.words (word ∷ []) (words_taken (to_members old.members sent));
       stands = λ x L v g.
           let f = simulation_of (rules_of plain) x in

@@ -87,6 +87,7 @@ module _ {S K : Type 0} (r : Rules Message S K Note) (is_value : S → Message �
     pub did : List Did
     pub block : new.flow.words ≡ old.flow.words ++ did
     pub keeps : new.flow.keeps ≡ old.flow.keeps
+    pub rows : new.rows ≡ old.rows
     pub stands : (x : Setting S) → Laws (simulation_of r x) → (v : World Message S) → StandsForSent x v old sent →
         AreDone (simulation_of r x) (steps_told did) v × StandsForSent x (done_by (simulation_of r x) (steps_told did) v) new left
         × AreOfMembers old.members new.members did

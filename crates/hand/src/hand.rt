@@ -1,5 +1,5 @@
 //! A group of processes in one hand.
-ghost use Rattle.std.specs.Prelude.{◌≡◌, ◌≢◌, ◌≤◌, ◌<◌, ◌+◌, ℕ, List, [], ◌++◌, true, false, Some, All, Contains, Ok, Err, OnOk, OnErr, IfOk, IfErr, IfSome, IfNone, IsPermutation, drop, slice_get, take};
+ghost use Rattle.std.specs.Prelude.{◌≡◌, ◌≢◌, ◌≤◌, ◌<◌, ◌+◌, ℕ, List, [], ◌++◌, true, false, Some, All, Contains, Ok, Err, OnOk, OnErr, IfOk, IfErr, IfSome, IfNone, IsPermutation, drop, length, slice_get, take};
 ghost use Rattle.vlink.specs.declared.message.Message.{Message};
 ghost use Rattle.vlink.specs.Order.{message_order};
 ghost use Rattle.vlink.specs.Numbering.{greatest_number};
@@ -213,6 +213,8 @@ impl<R: Actor> Hand<R> {
         ensures sealed { OnOk result ((ds : List (Deed R.Record)) × (self.old.done ≡ ds ++ self.new.done)
             × (self.new.rows ≡ record self.old.rows { all = self.old.rows.all ++ rows_in ds }) × All (λ m. m.time < moment) (messages_of ds)) }
         ensures left { OnOk result (StaysDone moment self.new) }
+        ensures queue { IsPermutation self.old.flow.queue self.new.flow.queue }
+        ensures flow { self.new.flow ≡ record self.old.flow { queue = self.new.flow.queue; words = self.new.flow.words; room = self.new.flow.room } }
         ensures memory { IfErr result (λ fault. fault ≡ OutOfMemory) }
         ensures unchanged { OnErr result (IsAsBefore self.old self.new) }
     {
@@ -234,6 +236,7 @@ impl<R: Actor> Hand<R> {
     pub fn let_rows_go(&mut self, moment: Time) -> Result<(), HandFault>
         ensures rows { self.new ≡ record self.old { rows = record self.old.rows { left = self.new.rows.left } } }
         ensures gone { (count : ℕ) × (self.new.rows.left ≡ self.old.rows.left + count)
+            × (count ≤ length (drop self.old.rows.left self.old.rows.all))
             × All (λ row. row.message.time < moment) (take count (drop self.old.rows.left self.old.rows.all)) }
         ensures late { OnOk result (IfSome (slice_get (drop self.new.rows.left self.new.rows.all) 0) (λ row. moment ≤ row.message.time)) }
         ensures stands { (x : Setting R) (v : World Message R) → StandsForGroup (rules_of R.plain) R.is_value x v self.old → StandsForGroup (rules_of R.plain) R.is_value x v self.new }

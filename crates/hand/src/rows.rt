@@ -44,7 +44,8 @@ impl Rows {
     /// The oldest that are there leave, while they are earlier than the moment. A refusal leaves all as it was.
     pub(crate) fn let_go(&mut self, moment: Time) -> Result<(), AllocError>
         ensures all { self.new.all ≡ self.old.all }
-        ensures gone { (count : ℕ) × (self.new.left ≡ self.old.left + count) × All (λ row. row.message.time < moment) (take count (drop self.old.left self.old.all)) }
+        ensures gone { (count : ℕ) × (self.new.left ≡ self.old.left + count) × (count ≤ length (drop self.old.left self.old.all))
+            × All (λ row. row.message.time < moment) (take count (drop self.old.left self.old.all)) }
         ensures late { OnOk result (IfSome (slice_get (drop self.new.left self.new.all) 0) (λ row. moment ≤ row.message.time)) }
         ensures unchanged { OnErr result (self.new ≡ self.old) }
     {

@@ -36,7 +36,7 @@ pub returns-clause-did : goal.returns-clause-did
 returns-clause-did g c = λ rows.
     let f = arrived g (goal.at.returns-clause-did g c).After-take_back_all rows in
     front-told g.R.Reversible.plain g.R.Reversible.is_value c.actor_rules.ensures.order c.actor_rules.ensures.undoes c.args.letter.now c.requires.front.0 f.late
-    (held c.args.members.now c.args.done.now.deeds rows c.args.letters.now) (held c.settle.new.members c.settle.new.done.deeds rows c.take_back_all.new.letters) f.went f.arrived
+    (held c.args.members.now c.args.done.now.deeds rows c.args.letters.now) (held c.settle.new.members c.settle.new.done.deeds rows c.take_back_all.new.letters) f.went refl f.arrived
 
 pub returns-clause-fewer : goal.returns-clause-fewer
 returns-clause-fewer g c =

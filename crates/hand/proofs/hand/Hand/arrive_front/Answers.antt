@@ -19,6 +19,9 @@ roomy g c =
     (subst (λ h. IsAsBefore h (held c.self.inside.members.items c.self.inside.done.deeds c.self.inside.rows c.reserve.new.self)) c.self.view_is
     (as-roomy c.self.inside.members.items c.self.inside.done.deeds c.self.inside.done.deeds c.self.inside.rows c.self.inside.letters c.reserve.new.self refl c.reserve.ensures.same))
 
+pub returns-in_default-clause-did : goal.returns-in_default-clause-did
+returns-in_default-clause-did g c = does-nothing (rules_of g.R.Reversible.plain) g.R.Reversible.is_value c.args.self.now []
+
 pub returns-in_default-room_for-clause-did : goal.returns-in_default-room_for-clause-did
 returns-in_default-room_for-clause-did g c = does-nothing (rules_of g.R.Reversible.plain) g.R.Reversible.is_value c.args.self.now []
 

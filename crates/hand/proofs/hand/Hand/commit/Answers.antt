@@ -1,13 +1,15 @@
-use Rattle.std.proofs.Common.{ℕ, ◌≡◌, ◌<◌, ◌++◌, All, take, drop, IfSome, slice_get, refl, sym, ap, ◌∙◌, subst}
+use Rattle.std.proofs.Common.{ℕ, ◌≡◌, ◌<◌, ◌++◌, All, IsPermutation, List, take, drop, IfSome, slice_get, refl, sym, ap, ◌∙◌, subst}
 use Rattle.std.proofs.lemmas.List.{take-append-drop, take-map}
 use Rattle.std.proofs.lemmas.List.Elements.{All-weaker}
 use Rattle.reverse.specs.Rules.{rules_of}
+use Rattle.hand.specs.declared.block.Did.{Did}
+use Rattle.hand.specs.Flow.{Flow}
 use Rattle.hand.specs.Hands.{IsAsBefore}
 use Rattle.hand.specs.Undoing.{CameTo}
 use Rattle.hand.specs.Passing.{held}
 use Rattle.hand.specs.Deeds.{messages_of}
 use Rattle.hand.specs.Sealing.{CanSeal, Stays, rows_in}
-use Rattle.hand.proofs.Still.{as-first, as-both, as-roomy, first-again, on-err}
+use Rattle.hand.proofs.Still.{as-first, as-both, as-roomy, first-again, on-err, told-after, waits-after}
 use Rattle.hand.proofs.Came.{dropped-came}
 use Rattle.hand.proofs.Forgetting.{of-messages, oldest-then}
 use Rattle.hand.proofs.Sealed.{commits-nothing, commits-both, commits-many}
@@ -87,3 +89,28 @@ returns-clause-sealed g c =
       c.in_ok-seal.ensures.rows ∙ ap (λ h. record h.rows { all = h.rows.all ++ rows_in (take n deeds) }) c.self.view_is,
       subst (λ ms. All (λ m. m.time < c.args.moment) ms) (take-map (λ d. d.message) n deeds) early,
     )
+
+-- what became of the letters, whatever joined the block
+changed : (g : Over) (c : After-first-first g) (now : Flow) (ws : List Did) → now ≡ record c.first-first.new.self { words = ws; room = now.room } →
+    now ≡ record c.args.self.now.flow { queue = now.queue; words = now.words; room = now.room }
+changed g c now ws e =
+    told-after c.self.inside.letters c.first-first.new.self now ws c.first-first.ensures.others e ∙
+    (λ j. record (c.self.view_is j).flow { queue = now.queue; words = now.words; room = now.room })
+
+waiting : (g : Over) (c : After-first-first g) (now : Flow) (ws : List Did) → now ≡ record c.first-first.new.self { words = ws; room = now.room } → IsPermutation c.args.self.now.flow.queue now.queue
+waiting g c now ws e =
+    subst (λ h. IsPermutation h.flow.queue now.queue) c.self.view_is (waits-after c.self.inside.letters c.first-first.new.self now ws c.first-first.ensures.same e)
+
+pub returns-in_err-seal-clause-queue : goal.returns-in_err-seal-clause-queue
+returns-in_err-seal-clause-queue g c =
+    waiting g (goal.at.returns-in_err-seal-clause-queue g c).After-first-first c.seal.new.self c.first-first.new.self.words c.in_err-seal.ensures.letters_stay
+
+pub returns-in_err-seal-clause-flow : goal.returns-in_err-seal-clause-flow
+returns-in_err-seal-clause-flow g c =
+    changed g (goal.at.returns-in_err-seal-clause-flow g c).After-first-first c.seal.new.self c.first-first.new.self.words c.in_err-seal.ensures.letters_stay
+
+pub returns-clause-queue : goal.returns-clause-queue
+returns-clause-queue g c = waiting g (goal.at.returns-clause-queue g c).After-first-first c.seal.new.self _ c.in_ok-seal.ensures.told
+
+pub returns-clause-flow : goal.returns-clause-flow
+returns-clause-flow g c = changed g (goal.at.returns-clause-flow g c).After-first-first c.seal.new.self _ c.in_ok-seal.ensures.told

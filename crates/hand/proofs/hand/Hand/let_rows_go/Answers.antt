@@ -1,4 +1,4 @@
-use Rattle.std.proofs.Common.{◌≡◌, ℕ, ◌+◌, ◌<◌, [], All, drop, take, refl, subst, sym, ap, ◌∙◌}
+use Rattle.std.proofs.Common.{◌≡◌, ℕ, ◌+◌, ◌<◌, ◌≤◌, [], All, drop, length, take, refl, subst, sym, ap, ◌∙◌}
 use Rattle.vlink.specs.Letters.{Row}
 use Rattle.reverse.specs.Rules.{rules_of}
 use Rattle.reverse.specs.Setting.{Setting}
@@ -20,9 +20,11 @@ kept g c =
     (λ j. record (c.self.view_is j) { rows = record (c.self.view_is j).rows { left = c.let_go.new.self.left } })
 
 gone : (g : Over) (c : After-let_go g) → (count : ℕ) × (c.let_go.new.self.left ≡ c.args.self.now.rows.left + count)
+    × (count ≤ length (drop c.args.self.now.rows.left c.args.self.now.rows.all))
     × All (λ (row : Row). row.message.time < c.args.moment) (take count (drop c.args.self.now.rows.left c.args.self.now.rows.all))
 gone g c =
-    subst (λ (r : Sealed). (count : ℕ) × (c.let_go.new.self.left ≡ r.left + count) × All (λ (row : Row). row.message.time < c.args.moment) (take count (drop r.left r.all)))
+    subst (λ (r : Sealed). (count : ℕ) × (c.let_go.new.self.left ≡ r.left + count) × (count ≤ length (drop r.left r.all))
+    × All (λ (row : Row). row.message.time < c.args.moment) (take count (drop r.left r.all)))
     (ap (λ h. h.rows) c.self.view_is) c.let_go.ensures.gone
 
 stands : (g : Over) (c : After-let_go g) (x : Setting _) (v : World Message _) → StandsForGroup (rules_of g.R.Reversible.plain) g.R.Reversible.is_value x v c.args.self.now →

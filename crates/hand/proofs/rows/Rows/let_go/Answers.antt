@@ -13,6 +13,7 @@ pub returns-in_err-reserve-clause-gone : goal.returns-in_err-reserve-clause-gone
 returns-in_err-reserve-clause-gone c = (
   0,
   (let a = ap length c.reserve.ensures.items in let b = ap (λ r. r.left) c.self.view_is in omega arith),
+  omega arith,
   All-nil (λ (row : Row). row.message.time < c.args.moment),
 )
 
@@ -28,6 +29,9 @@ returns-clause-gone c = (
   (let a = more-left (λ s. s.value) c.self.inside.left.items c.move_first.new.left.items c.self.inside.there.items c.count_before-count.result (more (goal.at.returns-clause-gone c).After-move_first)
       (let w = c.count_before-count.ensures.within in let v = ap length c.deref.ensures.value in omega arith) in
       let b = ap (λ r. r.left) c.self.view_is in omega arith),
+  subst (λ xs. c.count_before-count.result ≤ length xs)
+      (c.deref.ensures.value ∙ (sym (still-there (λ s. s.value) c.self.inside.left.items c.self.inside.there.items) ∙ ap (λ r. drop r.left r.all) c.self.view_is))
+      c.count_before-count.ensures.within,
   subst (λ xs. All (λ (row : Row). row.message.time < c.args.moment) (take c.count_before-count.result xs))
       (c.deref.ensures.value ∙ (sym (still-there (λ s. s.value) c.self.inside.left.items c.self.inside.there.items) ∙ ap (λ r. drop r.left r.all) c.self.view_is))
       c.count_before-count.ensures.early,
