@@ -1,5 +1,5 @@
 -- What a status of 0 tells: an order was done, and where its trace and its journal are.
-use Rattle.std.proofs.Common.{◌≡◌, ◌∙◌, ◌⊎◌, inl, inr, ℕ, List, [], Option, Some, None, IfSome, arith, refl, sym, subst, option_map, string_bytes}
+use Rattle.std.proofs.Common.{◌≡◌, ◌∙◌, inl, inr, ℕ, List, Option, Some, None, IfSome, arith, refl, sym, subst, option_map, string_bytes}
 use Rattle.clap.specs.Words.{Text}
 use Rattle.command_line.specs.declared.orders.Order.{Order}
 use Rattle.command_line.specs.declared.orders.Order.TheVariants as ordered

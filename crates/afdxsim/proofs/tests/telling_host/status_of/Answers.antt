@@ -1,4 +1,4 @@
-use Rattle.std.proofs.Common.{◌≡◌, ◌∙◌, option_map, ap, subst}
+use Rattle.std.proofs.Common.{◌∙◌, option_map, ap, subst}
 use Rattle.std.proofs.lemmas.Option.{IfSome_then}
 use Rattle.netdesc.specs.Words.{Describes}
 use Rattle.afdxsim.specs.Naming.{journal_of, trace_of}
