@@ -7,3 +7,4 @@ pub mod Lacking
 pub mod Streams
 pub mod Holding
 pub mod Heard
+pub mod Doing

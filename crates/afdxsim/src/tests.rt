@@ -1,6 +1,6 @@
 //! Rows of what the program does not show: calls on an exchange of a network, runs in which processes wait for each other, what a replay
-//! leaves, segments of a trace, tables of another network, and progress by a clock of the test. Those of whole runs of the program stand in
-//! tools/rows. A row is a line of text.
+//! leaves, segments of a trace, tables of another network, progress by a clock of the test, and a host that tells what its files hold. Those of
+//! whole runs of the program stand in tools/rows. A row is a line of text.
 mod changes;
 mod exchanges;
 mod meetings;
@@ -9,6 +9,7 @@ mod page;
 mod segments;
 mod stage;
 mod tables;
+mod telling_host;
 mod watching;
 mod worlds;
 
