@@ -6,9 +6,13 @@ use Rattle.netdesc.specs.Words.{Plan}
 use Rattle.trace_segments.specs.Words.{rows_before}
 use Rattle.seqsim.specs.Networks.{AreRowsOf}
 
--- of each process a moment: its own, where one is listed, and else the end of what is counted of all
+-- of each group a moment: its own, where one is listed, and else the end of what is counted of all
 abbrev pub moment_of : List ℕ → ℕ → ℕ → ℕ
-moment_of own end p = get_or own p end
+moment_of own end g = get_or own g end
+
+-- the moment of a process: that of its group
+abbrev pub moment_at : List ℕ → List ℕ → ℕ → ℕ → ℕ
+moment_at owners own end p = moment_of own end (get_or owners p 0)
 
 -- at each process the rows are those that the one-thread run of the network has of it before its moment
 pub record AreCountedBefore (plan : Plan) (moment : ℕ → ℕ) (counted : List Row) : Type 0 where

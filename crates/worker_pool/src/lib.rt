@@ -5,9 +5,11 @@
 mod counted;
 mod desk;
 mod ending;
+mod group_opening;
+mod group_segments;
+mod grouping;
 mod lawful_rows;
 mod leaving;
-mod locks;
 mod network_run;
 mod opening;
 mod outcomes;

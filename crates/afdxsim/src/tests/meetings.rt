@@ -101,6 +101,10 @@ impl Meeting {
 }
 
 impl Gate for Meeting {
+    fn hears(&self) -> bool {
+        true
+    }
+
     fn before(&self, process: u16, run: u64) {
         self.check_number(process, run);
         let Some(place) = self.places.get(usize::from(process)) else {

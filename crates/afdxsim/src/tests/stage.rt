@@ -46,6 +46,10 @@ impl CountingGate {
 }
 
 impl Gate for CountingGate {
+    fn hears(&self) -> bool {
+        true
+    }
+
     fn before(&self, _process: u16, run: u64) {
         if run == self.before.get() {
             self.before.set(run.saturating_add(1));
