@@ -43,6 +43,7 @@ pub record WentOn {S : Type 0} (members : List (Option S)) (sent : List Letter) 
   pub tray : new.tray ≡ old.tray ++ to_members members sent
   pub abroad : new.abroad ≡ old.abroad ++ to_others members sent
   pub words : new.words ≡ old.words ++ words_taken (to_members members sent)
+  pub keeps : new.keeps ≡ old.keeps
 
 module _ {S K : Type 0} (o : Order Message) (l : Letter) (late : List (Deed K)) (old new : Held S K) where
   -- those that were undone do not come before the message, and those that its receiver has still done do

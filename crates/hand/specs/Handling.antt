@@ -48,3 +48,4 @@ pub record CountsAgain {K : Type 0} (o : Order Message) (m : Message) (done : Li
   pub tray : new.tray ≡ old.tray
   pub abroad : new.abroad ≡ old.abroad
   pub words : new.words ≡ old.words
+  pub keeps : new.keeps ≡ old.keeps

@@ -1,9 +1,9 @@
 -- What a group holds, when that stands for its processes in a small world of the law of virtual time, and what its calls do there.
-use Rattle.std.specs.Prelude.{◌≡◌, ℕ, ◌<◌, ◌≤◌, Bool, true, false, List, [], ◌++◌, map, length, slice_get, Option, Some, None, All, IfSome, min, ⊤, IsPermutation}
+use Rattle.std.specs.Prelude.{◌≡◌, ℕ, suc, ◌<◌, ◌≤◌, Bool, true, false, List, [], ◌++◌, map, length, slice_get, Option, Some, None, All, IfSome, min, ⊤, IsPermutation}
 use Rattle.vlink.specs.declared.message.Message.{Message}
 use Rattle.vlink.specs.declared.note.Note.{Note}
-use Rattle.vlink.specs.Letters.{Letter, Row}
-use Rattle.virtual_time.specs.Law.{Order, Rules, Laws, World, Part, reached, rowed, rows_at, times_in, pluses, minuses, plus_of, IsIn, received_by, floor_of, IsAscending, IsWell, AreDone, done_by, put, delivered}
+use Rattle.vlink.specs.Letters.{Letter}
+use Rattle.virtual_time.specs.Law.{Order, Rules, Laws, World, Part, opened, reached, rowed, rows_at, least, times_in, pluses, minuses, plus_of, IsIn, received_by, floor_of, IsAscending, IsWell, AreBy, AreDone, done_by, put, delivered}
 use Rattle.reverse.specs.Setting.{Setting, simulation_of}
 use Rattle.antimessages.specs.Counting.{HaveSameCounts}
 use Rattle.process_queues.specs.Past.{AreValues}
@@ -11,6 +11,7 @@ use Rattle.hand.specs.declared.block.Did.{Did}
 use Rattle.hand.specs.Block.{steps_told}
 use Rattle.hand.specs.Deeds.{Deed, deeds_at, deeds_of, messages_of}
 use Rattle.hand.specs.Flow.{Flow}
+use Rattle.hand.specs.Rows.{Sealed}
 use Rattle.hand.specs.Sealing.{Stays}
 
 pub record Held (S K : Type 0) : Type 0 where
@@ -19,7 +20,7 @@ pub record Held (S K : Type 0) : Type 0 where
   -- the done events of all members, in the order of their messages
   pub done : List (Deed K)
   -- the rows of committed events
-  pub rows : List Row
+  pub rows : Sealed
   -- what is present and not done, what counts beside, the letters, and what was done
   pub flow : Flow
 
@@ -31,6 +32,11 @@ is_held None = false
 
 abbrev pub is_ours : {S : Type 0} → List (Option S) → ℕ → Bool
 is_ours members p = is_held (slice_get members p)
+
+-- these words are all of members, which stay members
+pub record AreOfMembers {S : Type 0} (old new : List (Option S)) (did : List Did) : Type 0 where
+  pub by : AreBy (is_ours old) (steps_told did)
+  pub same : (p : ℕ) → is_ours new p ≡ is_ours old p
 
 -- all letters that count: one for each message of the queue and each done event, and what counts beside
 abbrev pub counted : {S K : Type 0} → Held S K → List Letter
@@ -51,7 +57,7 @@ module _ {S K : Type 0} (r : Rules Message S K Note) (is_value : S → Message �
     pub counts : HaveSameCounts r.order part.tally (received_by r.order p (counted h))
     pub tray : part.tray ≡ received_by r.order p h.flow.tray
     pub outbox : part.outbox ≡ []
-    pub rows : rows_at p h.rows ≡ rowed r opening part.committed
+    pub rows : rows_at p h.rows.all ≡ rowed r opening part.committed
     pub well : IsWell r (λ s. ⊤) opening part
 
   module _ (x : Setting S) where
@@ -75,12 +81,15 @@ module _ {S K : Type 0} (r : Rules Message S K Note) (is_value : S → Message �
     abbrev pub StandsForGroup : World Message S → Held S K → Type 0
     StandsForGroup v h = StandsForSent v h []
 
-  -- whatever group this stood for, the steps that joined the block could be done there, and it stands for what they make of it
+  -- whatever group this stood for, the steps that joined the block could be done there, it stands for what they make of it, and they are all of
+  -- members, which stay members
   pub record DoesSent (old : Held S K) (sent : List Letter) (new : Held S K) (left : List Letter) : Type 0 where
     pub did : List Did
     pub block : new.flow.words ≡ old.flow.words ++ did
+    pub keeps : new.flow.keeps ≡ old.flow.keeps
     pub stands : (x : Setting S) → Laws (simulation_of r x) → (v : World Message S) → StandsForSent x v old sent →
         AreDone (simulation_of r x) (steps_told did) v × StandsForSent x (done_by (simulation_of r x) (steps_told did) v) new left
+        × AreOfMembers old.members new.members did
 
   abbrev pub DoesTold : Held S K → Held S K → Type 0
   DoesTold old new = DoesSent old [] new []
@@ -99,6 +108,28 @@ with_letter o l v =
 abbrev pub IsQuiet : {S K : Type 0} → Held S K → Type 0
 IsQuiet h = h.flow.tray ≡ []
 
+-- the first message of the queue, if there is one, is not done
+abbrev pub FirstWaits : {S K : Type 0} → Order Message → Held S K → Type 0
+FirstWaits o h = IfSome (least o h.flow.queue) (λ m. times_in o m (messages_of h.done) ≡ 0)
+
+-- a group that has done nothing, and for which nothing waits
+pub record HasDoneNothing {S K : Type 0} (h : Held S K) : Type 0 where
+  pub done : h.done ≡ []
+  pub rows : h.rows.all ≡ []
+  pub queue : h.flow.queue ≡ []
+  pub extra : h.flow.extra ≡ []
+  pub tray : h.flow.tray ≡ []
+  pub abroad : h.flow.abroad ≡ []
+
+-- its members are in their opening states, here and in the small world, where they have done nothing, their floors are the moment after the end, and
+-- no letter is on its way
+pub record IsOpened {S K : Type 0} (x : Setting S) (v : World Message S) (h : Held S K) : Type 0 where
+  pub count : length h.members ≡ x.processes
+  pub state : (p : ℕ) (s : S) → slice_get h.members p ≡ Some (Some s) → s ≡ x.opening p
+  pub part : (p : ℕ) → is_ours h.members p ≡ true → v.parts p ≡ opened (x.opening p)
+  pub floor : (p : ℕ) → is_ours h.members p ≡ true → v.floors p ≡ suc x.until
+  pub mail : (q : ℕ) → v.mail q ≡ []
+
 -- nothing changed but the order of the queue, and for how much more there is room
 pub record IsAsBefore {S K : Type 0} (old new : Held S K) : Type 0 where
   pub members : new.members ≡ old.members
@@ -111,9 +142,10 @@ pub record IsAsBefore {S K : Type 0} (old new : Held S K) : Type 0 where
 pub record CommitsTold {S K : Type 0} (r : Rules Message S K Note) (is_value : S → Message → Type 0) (moment : ℕ) (old new : Held S K) : Type 0 where
   pub did : List Did
   pub block : new.flow.words ≡ old.flow.words ++ did
+  pub keeps : new.flow.keeps ≡ old.flow.keeps
   pub stands : (x : Setting S) → Laws (simulation_of r x) → (v : World Message S) → moment ≤ v.gvt → StandsForGroup r is_value x v old →
       AreDone (simulation_of r x) (steps_told did) v × StandsForGroup r is_value x (done_by (simulation_of r x) (steps_told did) v) new
-      × ((done_by (simulation_of r x) (steps_told did) v).gvt ≡ v.gvt)
+      × ((done_by (simulation_of r x) (steps_told did) v).gvt ≡ v.gvt) × AreOfMembers old.members new.members did
 
 -- the oldest done event, if there is one, stays
 abbrev pub StaysDone : {S K : Type 0} → ℕ → Held S K → Type 0

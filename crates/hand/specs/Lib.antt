@@ -5,6 +5,7 @@ pub mod Flow
 pub mod Handling
 pub mod Hands
 pub mod Passing
+pub mod Rows
 pub mod Counted
 pub mod Undoing
 pub mod Sealing

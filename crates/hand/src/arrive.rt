@@ -1,12 +1,13 @@
 //! The front of the tray arrives, whether it comes late or not.
 ghost use Rattle.std.specs.Prelude.{◌≡◌, ℕ, ◌+◌, ◌<◌, ◌≤◌, ◌++◌, [], ◌∷◌, List, OnOk, OnErr, length, map, vec_len, vec_capacity};
 ghost use Rattle.vlink.specs.declared.message.Message.{Message};
-ghost use Rattle.vlink.specs.Letters.{Letter, Row};
+ghost use Rattle.vlink.specs.Letters.{Letter};
 ghost use Rattle.virtual_time.specs.Law.{minus_of};
 ghost use Rattle.reverse.specs.Rules.{rules_of};
 ghost use Rattle.hand.specs.Arriving.{WentOn};
 ghost use Rattle.hand.specs.Hands.{DoesSent};
 ghost use Rattle.hand.specs.Passing.{held};
+ghost use Rattle.hand.specs.Rows.{Sealed};
 ghost use Rattle.hand.specs.Undoing.{CameTo, HasRoomFor, Settled, sent_in};
 
 use crate::deeds::Deeds;
@@ -35,7 +36,7 @@ pub(crate) fn arrive<R: Actor>(
     requires space { HasRoomFor done.old.deeds undoing.old.aside }
     requires sends { vec_len undoing.old.back + sent_in done.old.deeds ≤ vec_capacity undoing.old.back }
     ensures len { length members.new ≡ length members.old }
-    ensures did { OnOk result ((rows : List Row) → DoesSent (rules_of R.plain) R.is_value (held members.old done.old.deeds rows letters.old) [] (held members.new done.new.deeds rows letters.new) []) }
+    ensures did { OnOk result ((rows : Sealed) → DoesSent (rules_of R.plain) R.is_value (held members.old done.old.deeds rows letters.old) [] (held members.new done.new.deeds rows letters.new) []) }
     ensures came { (p : ℕ) → CameTo (rules_of R.plain) R.is_value members.new done.new.deeds p }
     ensures fewer { OnOk result (length letters.new.tray + sent_in done.new.deeds < length letters.old.tray + sent_in done.old.deeds) }
     ensures empty { undoing.new.aside.deeds ≡ [] }

@@ -17,7 +17,11 @@ impl<R: Actor> Hand<R> {
         ensures quiet { OnOk result (IsQuiet self.new) }
         ensures memory { IfErr result (λ fault. fault ≡ OutOfMemory) }
     {
+        if !self.arrive_front()? {
+            return Ok(());
+        }
         'letters: while self.arrive_front()? {}
+        self.letters.queue.settle();
         Ok(())
     }
 

@@ -1,5 +1,6 @@
 //! What a group did, as steps of the law of virtual time.
-ghost use Rattle.std.specs.Prelude.{◌≡◌, ◌+◌, ◌<◌, ◌≤◌, [], ◌∷◌, ◌++◌, true, Some, OnOk};
+ghost use Rattle.std.specs.Prelude.{◌≡◌, ◌+◌, ◌<◌, ◌≤◌, [], ◌∷◌, ◌++◌, true, Some, OnOk, length};
+ghost use Rattle.hand.specs.Block.{steps_of_word, steps_told};
 
 use std::alloc::{AllocError, Global};
 use std::marker::Model;
@@ -25,12 +26,14 @@ pub enum Did {
 #[derive(Drop)]
 pub struct Words {
     told: Vec<Snapshot<Did>>,
+    /// How many of them stand for two steps; the others stand for one.
+    long: usize,
     kept: Option<Vec<Did>>,
 }
 
 impl Model for Words {
-    ghost use Rattle.std.specs.Prelude.{◌≡◌, ◌-◌, map, is_some, option_map, vec_len, vec_capacity, IfSome};
-    ghost use Rattle.hand.specs.Block.{Block, room_of};
+    ghost use Rattle.std.specs.Prelude.{◌≡◌, ◌+◌, ◌-◌, length, map, is_some, option_map, vec_len, vec_capacity, IfSome};
+    ghost use Rattle.hand.specs.Block.{Block, room_of, steps_told};
 
     ghost Value = { Block };
 
@@ -40,7 +43,8 @@ impl Model for Words {
       room = room_of (vec_capacity b.told - vec_len b.told) (option_map (λ k. vec_capacity k - vec_len k) b.kept);
     } };
 
-    ghost invariant = { λ b. IfSome b.kept (λ k. k.items ≡ map (λ s. s.value) b.told.items) };
+    ghost invariant = { λ b. (IfSome b.kept (λ k. k.items ≡ map (λ s. s.value) b.told.items))
+        × (length (steps_told (map (λ s. s.value) b.told.items)) ≡ length b.told.items + b.long) };
 }
 
 impl Words {
@@ -51,6 +55,7 @@ impl Words {
     {
         Words {
             told: Vec::new(alloc),
+            long: 0,
             kept: if keeps { Some(Vec::new(alloc)) } else { None },
         }
     }
@@ -90,10 +95,18 @@ impl Words {
         ensures keeps { self.new.keeps ≡ self.old.keeps }
         ensures room { self.old.room ≤ self.new.room + 1 }
     {
+        self.long += more_steps(&did);
         self.told.push_reserved(Snapshot::of(&did));
         if let Some(kept) = &mut self.kept {
             kept.push_reserved(did);
         }
+    }
+
+    /// How many steps they stand for.
+    pub fn steps(&self) -> u64
+        ensures { result ≡ length (steps_told self.now.words) }
+    {
+        (self.told.len() + self.long) as u64
     }
 
     /// Whether they are kept to be read.
@@ -112,5 +125,17 @@ impl Words {
             Some(kept) => kept.as_slice(),
             None => unreachable!(),
         }
+    }
+}
+
+/// How many steps a word stands for beside the first: one or none.
+#[inline(always)]
+fn more_steps(did: &Did) -> usize
+    ensures few { result ≤ 1 }
+    ensures steps { length (steps_of_word did.now) ≡ 1 + result }
+{
+    match did {
+        Did::Ran { .. } | Did::Home { .. } | Did::Arrived { .. } => 1,
+        Did::Taken { .. } | Did::Committed { .. } => 0,
     }
 }

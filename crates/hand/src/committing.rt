@@ -11,6 +11,7 @@ ghost use Rattle.hand.specs.Sealing.{CanSeal, Stays, rows_in, words_of};
 use crate::block::{Did, Words};
 use crate::deeds::{Deeds, precedes};
 use crate::letters::Letters;
+use crate::rows::Rows;
 use std::alloc::AllocError;
 use std::collections::VecDeque;
 use vlink::{Message, Row, Time, lawful_order};
@@ -57,20 +58,20 @@ impl Letters {
     pub(crate) fn seal<K: Copy>(
         &mut self,
         done: &mut Deeds<K>,
-        sealed: &mut Vec<Row>,
+        sealed: &mut Rows,
         count: usize,
     ) -> Result<(), AllocError>
         requires { count ≤ length done.old.deeds }
         ensures deeds { OnOk result (done.new.deeds ≡ drop count done.old.deeds) }
-        ensures rows { OnOk result (sealed.new.items ≡ sealed.old.items ++ rows_in (take count done.old.deeds)) }
+        ensures rows { OnOk result (sealed.new ≡ record sealed.old { all = sealed.old.all ++ rows_in (take count done.old.deeds) }) }
         ensures told { OnOk result (self.new ≡ record self.old { words = self.old.words ++ words_of (take count done.old.deeds); room = self.new.room }) }
         ensures deeds_stay { OnErr result (done.new.deeds ≡ done.old.deeds) }
-        ensures rows_stay { OnErr result (sealed.new.items ≡ sealed.old.items) }
+        ensures rows_stay { OnErr result (sealed.new ≡ sealed.old) }
         ensures letters_stay { OnErr result (self.new ≡ record self.old { room = self.new.room }) }
     {
         self.block.reserve(count)?;
-        sealed.reserve(done.rows.len())?;
-        forget_early(done, &mut self.block, sealed, count);
+        sealed.there.reserve(done.rows.len())?;
+        forget_early(done, &mut self.block, &mut sealed.there, count);
         Ok(())
     }
 }

@@ -1,7 +1,6 @@
 //! The first message of a group is handled, where it comes after all that the group has done.
 ghost use Rattle.std.specs.Prelude.{◌≡◌, ℕ, ◌+◌, ◌<◌, ◌≤◌, true, false, [], List, Some, Ok, OnErr, IfErr, length, slice_get};
 ghost use Rattle.vlink.specs.Order.{message_order};
-ghost use Rattle.vlink.specs.Letters.{Row};
 ghost use Rattle.vlink.specs.Numbering.{greatest_number};
 ghost use Rattle.reverse.specs.Rules.{rules_of};
 ghost use Rattle.antimessages.specs.Counting.{is_after};
@@ -10,6 +9,7 @@ ghost use Rattle.hand.specs.Deeds.{messages_of};
 ghost use Rattle.hand.specs.Hands.{DoesSent};
 ghost use Rattle.hand.specs.Flow.{Flow, TookFirst};
 ghost use Rattle.hand.specs.Passing.{held};
+ghost use Rattle.hand.specs.Rows.{Sealed};
 ghost use Rattle.hand.specs.Undoing.{CameTo};
 ghost use Rattle.hand.specs.declared.fault.HandFault.TheVariants.{Exhausted};
 ghost use Rattle.hand.specs.declared.early.Early.TheVariants.{Ran, Idle, Late};
@@ -50,7 +50,7 @@ pub(crate) fn handle_first<R: Actor>(
     requires sends { 24 ≤ done.old.sends_room }
     requires rows { 2 ≤ done.old.rows_room }
     ensures len { length members.new ≡ length members.old }
-    ensures did { (rows : List Row) (before : Flow) → TookFirst message.now before letters.old →
+    ensures did { (rows : Sealed) (before : Flow) → TookFirst message.now before letters.old →
         DoesSent (rules_of R.plain) R.is_value (held members.old done.old.deeds rows before) [] (held members.new done.new.deeds rows letters.new) [] }
     ensures came { ((p : ℕ) → CameTo (rules_of R.plain) R.is_value members.old done.old.deeds p) → (p : ℕ) → CameTo (rules_of R.plain) R.is_value members.new done.new.deeds p }
 {

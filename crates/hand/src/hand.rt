@@ -1,5 +1,5 @@
 //! A group of processes in one hand.
-ghost use Rattle.std.specs.Prelude.{◌≡◌, ◌≤◌, ◌<◌, ◌+◌, [], true, false, Some, All, Contains, Ok, Err, OnOk, OnErr, IfOk, IfErr, IfSome, IfNone, IsPermutation, slice_get};
+ghost use Rattle.std.specs.Prelude.{◌≡◌, ◌≤◌, ◌<◌, ◌+◌, ℕ, List, [], ◌++◌, true, false, Some, All, Contains, Ok, Err, OnOk, OnErr, IfOk, IfErr, IfSome, IfNone, IsPermutation, drop, slice_get, take};
 ghost use Rattle.vlink.specs.declared.message.Message.{Message};
 ghost use Rattle.vlink.specs.Order.{message_order};
 ghost use Rattle.vlink.specs.Numbering.{greatest_number};
@@ -8,8 +8,9 @@ ghost use Rattle.reverse.specs.Rules.{rules_of, is_before};
 ghost use Rattle.reverse.specs.Setting.{Setting};
 ghost use Rattle.antimessages.specs.Counting.{is_after};
 ghost use Rattle.process_queues.specs.Past.{newest_of};
-ghost use Rattle.hand.specs.Deeds.{messages_of};
-ghost use Rattle.hand.specs.Hands.{DoesTold, StandsForGroup, CommitsTold, StaysDone, IsAsBefore, is_ours, with_letter};
+ghost use Rattle.hand.specs.Deeds.{Deed, messages_of};
+ghost use Rattle.hand.specs.Hands.{DoesTold, StandsForGroup, CommitsTold, StaysDone, IsAsBefore};
+ghost use Rattle.hand.specs.Sealing.{rows_in};
 ghost use Rattle.hand.specs.declared.fault.HandFault.TheVariants.{OutOfMemory, Exhausted};
 ghost use Rattle.hand.specs.declared.early.Early.TheVariants.{Idle, Late};
 
@@ -19,11 +20,12 @@ use crate::fault::HandFault;
 use crate::letters::Letters;
 use crate::members::has_numbers;
 use crate::next::handle_behind;
+use crate::rows::Rows;
 use crate::undoing::Undoing;
 use reverse::{Actor, Outbound, actor_rules};
 use std::alloc::Global;
 use std::marker::Model;
-use vlink::{Letter, Message, Row, Time};
+use vlink::{Message, Row, Time};
 
 /// The most letters, and words beside the first, that one event gives.
 const MOST_SENT: usize = 25;
@@ -39,7 +41,7 @@ pub struct Hand<R: Actor> {
     pub(crate) done: Deeds<R::Record>,
     pub(crate) undoing: Undoing<R::Record>,
     /// The rows of committed events.
-    rows: Vec<Row>,
+    pub(crate) rows: Rows,
     pub(crate) letters: Letters,
     out: Outbound,
 }
@@ -52,7 +54,7 @@ impl<R: Actor> Model for Hand<R> {
 
     ghost Value = { Held R R.Record };
 
-    ghost view = { λ h. record { members = h.members.items; done = h.done.deeds; rows = h.rows.items; flow = h.letters } };
+    ghost view = { λ h. record { members = h.members.items; done = h.done.deeds; rows = h.rows; flow = h.letters } };
 
     // the state of each member came from what it has done
     ghost invariant = { λ h. ((p : ℕ) → CameTo (rules_of R.plain) R.is_value h.members.items h.done.deeds p) × (h.undoing.aside.deeds ≡ []) × (h.undoing.back.items ≡ []) };
@@ -70,7 +72,7 @@ impl<R: Actor + Drop> Hand<R> {
         ensures members { IfOk result (λ hand. hand.members ≡ members.items) }
         ensures queue { IfOk result (λ hand. IsPermutation offers.items hand.flow.queue) }
         ensures done { IfOk result (λ hand. hand.done ≡ []) }
-        ensures rows { IfOk result (λ hand. hand.rows ≡ []) }
+        ensures rows { IfOk result (λ hand. hand.rows ≡ record { all = []; left = 0 }) }
         ensures extra { IfOk result (λ hand. hand.flow.extra ≡ []) }
         ensures tray { IfOk result (λ hand. hand.flow.tray ≡ []) }
         ensures abroad { IfOk result (λ hand. hand.flow.abroad ≡ []) }
@@ -82,7 +84,7 @@ impl<R: Actor + Drop> Hand<R> {
             members,
             done: Deeds::new(alloc),
             undoing: Undoing::new(alloc),
-            rows: Vec::new(alloc),
+            rows: Rows::new(alloc),
             letters: Letters::of_offers(alloc, offers, keeps)?,
             out: Outbound::new(0, Time::default(), 0),
         })
@@ -90,18 +92,6 @@ impl<R: Actor + Drop> Hand<R> {
 }
 
 impl<R: Actor> Hand<R> {
-    /// A letter to a member, which was taken from the mail of the run, comes to the back of the tray. A refusal leaves all as it was.
-    pub fn deliver(&mut self, letter: Letter) -> Result<(), HandFault>
-        requires { is_ours self.old.members letter.message.receiver ≡ true }
-        ensures delivered { OnOk result ((x : Setting R) (v : World Message R) → letter.message.time ≤ x.until →
-            StandsForGroup (rules_of R.plain) R.is_value x v self.old → StandsForGroup (rules_of R.plain) R.is_value x (with_letter message_order letter v) self.new) }
-        ensures unchanged { OnErr result (IsAsBefore self.old self.new) }
-        ensures memory { IfErr result (λ fault. fault ≡ OutOfMemory) }
-    {
-        self.letters.deliver(&letter)?;
-        Ok(())
-    }
-
     /// The first message of the queue, if there is one: the least of all that the members have to handle, where none of them rolled back.
     pub fn next(&mut self) -> Option<Message>
         ensures same { IsAsBefore self.old self.new }
@@ -210,6 +200,8 @@ impl<R: Actor> Hand<R> {
     /// the first message of the queue does not come. Their rows are sealed. A refusal leaves all as it was.
     pub fn commit(&mut self, moment: Time) -> Result<(), HandFault>
         ensures did { CommitsTold (rules_of R.plain) R.is_value moment self.old self.new }
+        ensures sealed { OnOk result ((ds : List (Deed R.Record)) × (self.old.done ≡ ds ++ self.new.done)
+            × (self.new.rows ≡ record self.old.rows { all = self.old.rows.all ++ rows_in ds }) × All (λ m. m.time < moment) (messages_of ds)) }
         ensures left { OnOk result (StaysDone moment self.new) }
         ensures memory { IfErr result (λ fault. fault ≡ OutOfMemory) }
         ensures unchanged { OnErr result (IsAsBefore self.old self.new) }
@@ -221,10 +213,24 @@ impl<R: Actor> Hand<R> {
         Ok(())
     }
 
-    /// The rows of committed events, in the order of their events.
+    /// The rows of committed events but those that have left, in the order of their events.
     pub fn rows(&self) -> &[Row]
-        ensures { result.now ≡ self.now.rows }
+        ensures { result.now ≡ drop self.now.rows.left self.now.rows.all }
     {
-        &self.rows
+        self.rows.there()
+    }
+
+    /// The oldest rows that have not left do so, while they are earlier than the moment, in ns. A refusal leaves all as it was.
+    pub fn let_rows_go(&mut self, moment: Time) -> Result<(), HandFault>
+        ensures rows { self.new ≡ record self.old { rows = record self.old.rows { left = self.new.rows.left } } }
+        ensures gone { (count : ℕ) × (self.new.rows.left ≡ self.old.rows.left + count)
+            × All (λ row. row.message.time < moment) (take count (drop self.old.rows.left self.old.rows.all)) }
+        ensures late { OnOk result (IfSome (slice_get (drop self.new.rows.left self.new.rows.all) 0) (λ row. moment ≤ row.message.time)) }
+        ensures stands { (x : Setting R) (v : World Message R) → StandsForGroup (rules_of R.plain) R.is_value x v self.old → StandsForGroup (rules_of R.plain) R.is_value x v self.new }
+        ensures memory { IfErr result (λ fault. fault ≡ OutOfMemory) }
+    {
+        actor_rules::<R>();
+        self.rows.let_go(moment)?;
+        Ok(())
     }
 }

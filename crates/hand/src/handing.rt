@@ -2,12 +2,11 @@
 ghost use Rattle.std.specs.Prelude.{◌≡◌, ◌⊎◌, ◌≤◌, ℕ, suc, min, [], true, Some, All, Contains, IfSome, IfNone, IsPermutation};
 ghost use Rattle.vlink.specs.declared.message.Message.{Message};
 ghost use Rattle.vlink.specs.Order.{message_order};
-ghost use Rattle.virtual_time.specs.Law.{World, IsIn, in_hand, lowest, received_by, times_in, times_of};
+ghost use Rattle.virtual_time.specs.Law.{World, in_hand, lowest, received_by, times_of};
 ghost use Rattle.reverse.specs.Rules.{rules_of};
 ghost use Rattle.reverse.specs.Setting.{Setting, simulation_of};
-ghost use Rattle.hand.specs.Deeds.{messages_of};
 ghost use Rattle.hand.specs.Flow.{floor_in};
-ghost use Rattle.hand.specs.Hands.{IsAsBefore, StandsForGroup, is_ours};
+ghost use Rattle.hand.specs.Hands.{FirstWaits, IsAsBefore, StandsForGroup, is_ours};
 
 use crate::block::Words;
 use crate::hand::Hand;
@@ -72,15 +71,15 @@ impl<R: Actor> Hand<R> {
     }
 
     /// The floor of the group, which is the least floor of its members: the least of the first message's time, of the times of the letters in the
-    /// tray, and of `end`, the moment after the end of the run, in ns.
+    /// tray, and of `end`, the moment after the end of the run, in ns. It is exact where `count_done` was called before.
     pub fn floor(&mut self, end: Time) -> Time
         ensures same { IsAsBefore self.old self.new }
         ensures least { result ≡ floor_in message_order end self.old.flow }
         ensures bound { (x : Setting R) (v : World Message R) → end ≡ suc x.until → StandsForGroup (rules_of R.plain) R.is_value x v self.old →
             (p : ℕ) → is_ours self.old.members p ≡ true → result ≤ v.floors p }
-        // no message of the queue is done: then there is no lower bound that is higher
+        // the first message of the queue, if there is one, is not done: then there is no lower bound that is higher
         ensures reached { (x : Setting R) (v : World Message R) → end ≡ suc x.until → StandsForGroup (rules_of R.plain) R.is_value x v self.old →
-            ((m : Message) → IsIn message_order m self.old.flow.queue → times_in message_order m (messages_of self.old.done) ≡ 0) →
+            FirstWaits message_order self.old →
             (result ≡ end) ⊎ ((p : ℕ) × (is_ours self.old.members p ≡ true) × (v.floors p ≡ result)) }
     {
         actor_rules::<R>();

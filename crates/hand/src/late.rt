@@ -1,7 +1,6 @@
 //! The first message of the queue is handled where other members have done later events, which stay done.
 ghost use Rattle.std.specs.Prelude.{◌≡◌, ◌≢◌, ℕ, ◌+◌, ◌<◌, ◌≤◌, ◌++◌, [], ◌∷◌, true, false, All, Contains, List, Option, Some, length, map, slice_get};
 ghost use Rattle.vlink.specs.declared.message.Message.{Message};
-ghost use Rattle.vlink.specs.Letters.{Row};
 ghost use Rattle.vlink.specs.Numbering.{greatest_number};
 ghost use Rattle.vlink.specs.Order.{message_order};
 ghost use Rattle.virtual_time.specs.Law.{IsAscending, plus_of};
@@ -12,6 +11,7 @@ ghost use Rattle.hand.specs.Flow.{WasTaken, WentAbroad};
 ghost use Rattle.hand.specs.Handling.{SetAside};
 ghost use Rattle.hand.specs.Hands.{DoesSent};
 ghost use Rattle.hand.specs.Passing.{held};
+ghost use Rattle.hand.specs.Rows.{Sealed};
 ghost use Rattle.hand.specs.Undoing.{CameTo, HasRoomFor};
 
 use crate::block::Did;
@@ -105,7 +105,7 @@ pub(crate) fn handle_late<R: Actor>(
     requires sends { 24 ≤ done.old.sends_room }
     requires rows { 2 ≤ done.old.rows_room }
     ensures len { length members.new ≡ length members.old }
-    ensures did { (rows : List Row) → DoesSent (rules_of R.plain) R.is_value (held members.old done.old.deeds rows letters.old) [] (held members.new done.new.deeds rows letters.new) [] }
+    ensures did { (rows : Sealed) → DoesSent (rules_of R.plain) R.is_value (held members.old done.old.deeds rows letters.old) [] (held members.new done.new.deeds rows letters.new) [] }
     ensures came { (p : ℕ) → CameTo (rules_of R.plain) R.is_value members.new done.new.deeds p }
     ensures empty { aside.new.deeds ≡ [] }
 {

@@ -138,15 +138,6 @@ impl Letters {
         self.block.push_reserved(did);
     }
 
-    /// A letter comes to the back of the tray.
-    pub(crate) fn deliver(&mut self, letter: &Letter) -> Result<(), AllocError>
-        ensures delivered { OnOk result (self.new ≡ record self.old { tray = self.old.tray ++ letter.now ∷ []; room = self.new.room }) }
-        ensures unchanged { OnErr result (self.new ≡ record self.old { room = self.new.room }) }
-    {
-        push_back(&mut self.tray, letter)?;
-        Ok(())
-    }
-
     /// A message that was just sent goes on: to others; or to a member, whose letter is taken and joins the queue at once, where no letter is to
     /// arrive before it and nothing of it counts beside, and else goes to the tray.
     #[inline(always)]
@@ -220,14 +211,4 @@ fn grow(
     tray.reserve(more)?;
     abroad.reserve(more)?;
     block.reserve(more)
-}
-
-/// Puts the item at the back. It has a type parameter so that the borrow checker follows it.
-fn push_back<T: Copy + Drop>(items: &mut VecDeque<T>, item: &T) -> Result<(), AllocError>
-    ensures pushed { OnOk result (items.new.items ≡ items.old.items ++ item.now ∷ []) }
-    ensures unchanged { OnErr result (items.new.items ≡ items.old.items) }
-{
-    items.reserve(1)?;
-    items.push_back_reserved(*item);
-    Ok(())
 }

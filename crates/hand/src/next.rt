@@ -1,7 +1,6 @@
 //! The first message of the queue, where some done event does not come before it: it is handled late, or it is done already and counts beside.
 ghost use Rattle.std.specs.Prelude.{◌≡◌, ℕ, ◌+◌, ◌<◌, ◌≤◌, ◌++◌, [], ◌∷◌, true, false, All, Contains, List, Option, Some, OnOk, OnErr, IsPermutation, length, slice_get};
 ghost use Rattle.vlink.specs.declared.message.Message.{Message};
-ghost use Rattle.vlink.specs.Letters.{Row};
 ghost use Rattle.vlink.specs.Numbering.{greatest_number};
 ghost use Rattle.vlink.specs.Order.{message_order};
 ghost use Rattle.virtual_time.specs.Law.{plus_of};
@@ -9,6 +8,7 @@ ghost use Rattle.reverse.specs.Rules.{rules_of, is_before};
 ghost use Rattle.antimessages.specs.Counting.{HaveSameCounts};
 ghost use Rattle.hand.specs.Hands.{DoesSent};
 ghost use Rattle.hand.specs.Passing.{held};
+ghost use Rattle.hand.specs.Rows.{Sealed};
 ghost use Rattle.hand.specs.Undoing.{CameTo, HasRoomFor};
 
 use crate::deeds::Deeds;
@@ -59,7 +59,7 @@ pub(crate) fn handle_behind<R: Actor>(
     requires sends { 24 ≤ done.old.sends_room }
     requires rows { 2 ≤ done.old.rows_room }
     ensures len { length members.new ≡ length members.old }
-    ensures did { OnOk result ((rows : List Row) → DoesSent (rules_of R.plain) R.is_value (held members.old done.old.deeds rows letters.old) [] (held members.new done.new.deeds rows letters.new) []) }
+    ensures did { OnOk result ((rows : Sealed) → DoesSent (rules_of R.plain) R.is_value (held members.old done.old.deeds rows letters.old) [] (held members.new done.new.deeds rows letters.new) []) }
     ensures came { (p : ℕ) → CameTo (rules_of R.plain) R.is_value members.new done.new.deeds p }
     ensures empty { aside.new.deeds ≡ [] }
     ensures members { OnErr result (members.new ≡ members.old) }

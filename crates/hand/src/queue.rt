@@ -11,6 +11,9 @@ use std::marker::Model;
 use two_lists::{TwoLists, sort, take_out};
 use vlink::{Message, lawful_order, message_order};
 
+/// So many messages that wait in no order are put in order.
+const MANY: usize = 1024;
+
 /// The messages that a group has to handle. All offers are known from the start and are sorted once; one that is undone goes to the lists.
 ///
 /// Clauses see it as the list of all, in no particular order, in which a message can be several times, and for how many more there is room.
@@ -87,6 +90,17 @@ impl Queue {
     {
         lawful_order();
         let _first = self.pop();
+    }
+
+    /// Where many messages wait in no order, and no offers are left, they are put in order once, as offers are.
+    pub(crate) fn settle(&mut self)
+        ensures { IsPermutation self.old.messages self.new.messages }
+    {
+        if self.offers.is_empty() && self.lists.far_len() >= MANY {
+            let mut far = self.lists.take_far();
+            sort(&mut far);
+            self.offers = far;
+        }
     }
 
     /// Makes room for so many messages more: as long as no other call comes between, so many calls of `push_reserved` have it.

@@ -82,7 +82,7 @@ impl Entries {
         let place = self.told.len() as u64;
         if let Some(kept) = &mut self.kept {
             kept.entries.reserve(1)?;
-            if !kept.table.write(place) {
+            if !kept.table.write(place, 1) {
                 return Err(PoolFault::Torn);
             }
         }

@@ -25,9 +25,10 @@ impl Table {
         })
     }
 
-    /// Writes the place `at`, from 0, behind the places that this journal wrote. `false`: another one has written there before. It takes no memory.
-    pub(crate) fn write(&self, at: u64) -> bool {
-        let next = at.saturating_add(1);
+    /// Writes so many places from the place `at` on, from 0, behind the places that this journal wrote. `false`: another one has written there
+    /// before. It takes no memory.
+    pub fn write(&self, at: u64, count: u64) -> bool {
+        let next = at.saturating_add(count);
         self.written
             .compare_exchange(at, next, Ordering::SeqCst, Ordering::SeqCst)
             .is_ok()

@@ -1,0 +1,79 @@
+-- The halves of marks, in lists; and that both halves of a group's mark tell one thing.
+use Rattle.std.proofs.Common.{◌≡◌, ℕ, zero, suc, ◌<◌, ◌≤◌, true, ◌++◌, List, [], ◌∷◌, map, set, length, slice_get, get_or, Some, refl, sym, ap, ◌∙◌, subst, arith}
+use Rattle.std.proofs.lemmas.List.{map-set, length-map}
+use Rattle.std.proofs.Math.Seq.{map-set_same}
+use Rattle.vlink.specs.declared.message.Message.{Message}
+use Rattle.vlink.specs.declared.note.Note.{Note}
+use Rattle.virtual_time.specs.Law.{Rules, AreDone, done_by, in_hand, behind, waiting_in}
+use Rattle.virtual_time.specs.declared.step.Step.{Step}
+use Rattle.reverse.specs.Setting.{Setting, simulation_of}
+use Rattle.gvt.specs.Horizon.{Floors}
+use Rattle.halves.specs.declared.LeftHalf.{LeftHalf}
+use Rattle.hand.specs.Block.{steps_told}
+use Rattle.hand.specs.Hands.{Held}
+use Rattle.group_exchange.specs.declared.mark.Standing.{Standing}
+use Rattle.group_exchange.specs.Views.{Boxes, is_of, last_in, mark_of, marks_in, world_after}
+use Rattle.group_exchange.specs.Keeps.{AreAsIn, Holds, IsMarked, IsRecorded}
+use Rattle.group_exchange.proofs.Alike.{are-done-same, in-hand-same}
+use Rattle.group_exchange.proofs.Posted.{posted}
+
+module _ (marks : List (LeftHalf Standing)) (n g : ℕ) (is : n ≡ g) where
+  -- another mark is there, of the same name
+  pub names-set : (b c : LeftHalf Standing) → b ≡ get_or marks n b → c.name ≡ b.name → map (λ b. b.name) (set marks n c) ≡ map (λ b. b.name) marks
+  names-set b c at same = map-set_same (λ (z : LeftHalf Standing). z.name) marks n c b (same ∙ ap (λ z. z.name) at)
+
+  pub values-set : (c : LeftHalf Standing) (m : Standing) → c.value ≡ m → map (λ b. b.value) (set marks n c) ≡ set (map (λ b. b.value) marks) g m
+  values-set c m tells = map-set (λ (z : LeftHalf Standing). z.value) marks n c ∙ (λ i. set (map (λ b. b.value) marks) (is i) (tells i))
+
+value-there : (marks : List (LeftHalf Standing)) (g : ℕ) (b : LeftHalf Standing) → g < length marks → b ≡ get_or marks g b → slice_get (map (λ b. b.value) marks) g ≡ Some b.value
+value-there [] g b h e = absurd (omega arith)
+value-there (m ∷ ms) zero b h e = ap (λ (z : LeftHalf Standing). Some z.value) (sym e)
+value-there (m ∷ ms) (suc g) b h e = value-there ms g b (omega arith) e
+
+-- the half at place g tells where group g stands
+pub half-told : (marks : List (LeftHalf Standing)) (n g : ℕ) → n ≡ g → (b : LeftHalf Standing) (s : Standing) → g < length marks → b ≡ get_or marks n b → b.value ≡ s →
+    slice_get (map (λ b. b.value) marks) g ≡ Some s
+half-told marks n g is b s within at tells =
+    value-there marks g b within (at ∙ ap (λ i. get_or marks i b) is) ∙ ap (λ z. Some z) tells
+
+-- the mark of a group that stands there
+pub mark-told : (standings : List Standing) (g : ℕ) (s : Standing) → slice_get standings g ≡ Some s → s.steps ≡ length (last_in s) →
+    mark_of (marks_in standings) g ≡ record { steps = length (last_in s); seen = s.seen }
+mark-told [] g s e p = absurd (let k : ⊥ = cc in k)
+mark-told (z ∷ zs) zero s e p =
+    let k : z ≡ s = cc in
+    let a : z.steps ≡ length (last_in s) = ap (λ (y : Standing). y.steps) k ∙ p in
+    let b : z.seen ≡ s.seen = ap (λ (y : Standing). y.seen) k in
+    λ i. record { steps = a i; seen = b i }
+mark-told (z ∷ zs) (suc g) s e p = mark-told zs g s e p
+
+module _ {S K : Type 0} {r : Rules Message S K Note} {number end : S → ℕ} {is_placed : S → Type 0} {x : Setting S} {owners : List ℕ} {groups : ℕ} {steps : List Step} {mail : Boxes} {floors : Floors}
+    {gvt : ℕ} {standings : List Standing} (k : IsRecorded r number end is_placed x owners groups steps mail floors gvt standings) (g : ℕ) (s : Standing)
+    (told : slice_get standings g ≡ Some s) where
+  -- where it stands
+  pub it-stands : IsMarked r number end is_placed x owners steps gvt g s
+  it-stands = k.marked.each g s told
+
+  pub seen-low : s.seen ≤ (world_after (simulation_of r x) steps).gvt
+  seen-low = let a = it-stands.seen_low in let b = k.gvt_is in omega arith
+
+  module _ {V : S → Message → Type 0} {h : Held S K} (old : Holds r number end is_placed x owners V groups g s.seen (last_in s) h) where
+    -- its block can be done where the journal is now
+    pub enabled-now : AreDone (simulation_of r x) (steps_told h.flow.words) (in_hand (simulation_of r x) s.seen (world_after (simulation_of r x) steps))
+    enabled-now =
+        let f = simulation_of r x in
+        are-done-same f (is_of owners g) (steps_told h.flow.words) (in_hand f s.seen (world_after f (last_in s))) (in_hand f s.seen (world_after f steps))
+        (in-hand-same f (is_of owners g) s.seen (world_after f (last_in s)) (world_after f steps) it-stands.same) old.by old.enabled
+
+    -- the journal and then its block make of its processes what it has in hand
+    pub parts-now : (p : ℕ) → is_of owners g p ≡ true →
+        (world_after (simulation_of r x) (steps ++ map (behind (waiting_in (simulation_of r x) (world_after (simulation_of r x) steps))) (steps_told h.flow.words))).parts p
+        ≡ (done_by (simulation_of r x) (steps_told h.flow.words) (in_hand (simulation_of r x) s.seen (world_after (simulation_of r x) (last_in s)))).parts p
+    parts-now p o = (posted k g it-stands old _ refl).parts p o
+
+-- the same steps, as they are seen elsewhere
+pub recorded-as : {S K : Type 0} {r : Rules Message S K Note} {number end : S → ℕ} {is_placed : S → Type 0} {x : Setting S} {owners : List ℕ} {groups : ℕ} {steps : List Step} {mail : Boxes} {floors : Floors}
+    {gvt : ℕ} {standings : List Standing} → IsRecorded r number end is_placed x owners groups steps mail floors gvt standings → (steps' : List Step) → steps' ≡ steps →
+    IsRecorded r number end is_placed x owners groups steps' mail floors gvt standings
+recorded-as {r = r} {number = number} {end = end} {is_placed = is_placed} {x = x} {owners = owners} {groups = groups} {mail = mail} {floors = floors} {gvt = gvt} {standings = standings} k steps' e =
+    subst (λ ss. IsRecorded r number end is_placed x owners groups ss mail floors gvt standings) (sym e) k

@@ -1,0 +1,17 @@
+pub mod Owners
+pub mod Alike
+pub mod Marks
+pub mod Holding
+pub mod Taken
+pub mod SafeNow
+pub mod Collected
+pub mod InTime
+pub mod Posted
+pub mod Least
+pub mod Published
+pub mod Worked
+pub mod Lists
+pub mod Words
+pub mod Halves
+pub mod Trays
+pub mod Again

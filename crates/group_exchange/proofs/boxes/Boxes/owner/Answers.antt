@@ -1,0 +1,10 @@
+use Rattle.std.proofs.Common.{◌<◌, length, map, ap, sym, ◌∙◌, subst, IfSome}
+use Rattle.std.proofs.lemmas.List.{length-map}
+use Rattle.group_exchange.proofs.Lists.{some-of}
+use Rattle.group_exchange.proofs.boxes.Boxes.owner.Goals as goal
+
+pub returns-clause-within : goal.returns-clause-within
+returns-clause-within c =
+    let count = sym (length-map c.self.inside.boxes.items (λ x. x.items)) ∙ ap (λ v. length v.boxes) c.self.view_is in
+    subst (λ n. IfSome c.copied.result (λ group. group < n)) count
+    (some-of (λ owner. owner < length c.self.inside.boxes.items) c.self.inside.owners.items c.self.invariant c.args.process c.copied.result ?)

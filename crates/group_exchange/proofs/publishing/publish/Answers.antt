@@ -1,0 +1,64 @@
+use Rattle.std.proofs.Common.{◌≡◌, ◌+◌, ◌==◌, List, [], ◌∷◌, ◌++◌, map, flat_map, length, subst, refl, sym, ap, ◌∙◌, arith, eq-eqb, eqb-true}
+use Rattle.std.proofs.lemmas.Bool.{false≢true}
+use Rattle.vlink.specs.Order.{message_order}
+use Rattle.virtual_time.specs.Law.{gvt_over, lowest, times_of}
+use Rattle.virtual_time.specs.declared.step.Step.{Step}
+use Rattle.virtual_time.specs.declared.step.Step.TheVariants.{Gvt}
+use Rattle.reverse.specs.Rules.{rules_of}
+use Rattle.reverse.specs.Setting.{simulation_of}
+use Rattle.halves.specs.declared.LeftHalf.{LeftHalf}
+use Rattle.group_exchange.specs.declared.mark.Standing.{Standing}
+use Rattle.group_exchange.specs.Views.{marks_in, world_after}
+use Rattle.group_exchange.specs.Keeps.{IsRecorded}
+use Rattle.group_exchange.proofs.Halves.{recorded-as}
+use Rattle.group_exchange.proofs.Least.{gvt-told}
+use Rattle.group_exchange.proofs.Published.{kept-published, publishes-more, publishes-none}
+use Rattle.group_exchange.proofs.publishing.publish.Given.{Over}
+use Rattle.group_exchange.proofs.publishing.publish.Goals.{After-earliest-gvt}
+use Rattle.group_exchange.proofs.publishing.publish.Goals as goal
+
+-- what was found is what the step Gvt sets
+found : (g : Over) (c : After-earliest-gvt g) → c.earliest-gvt.result ≡ gvt_over (simulation_of (rules_of g.R.Reversible.plain) g.J.GroupRun.setting) g.J.GroupRun.setting.processes
+    (world_after (simulation_of (rules_of g.R.Reversible.plain) g.J.GroupRun.setting) c.exchange.inside.journal.steps)
+found g c =
+    let k = c.exchange.invariant.3 in
+    let end : c.exchange.inside.end ≡ c.exchange.inside.floors.until + 1 = omega (arith, c.exchange.invariant.2, k.until) in
+    gvt-told k (c.actor_laws.ensures g.J.GroupRun.setting k.laid) c.earliest-gvt.result
+    (c.earliest-gvt.ensures ∙ ap (λ d. lowest d (times_of message_order (flat_map (λ box. box) c.exchange.inside.boxes.boxes)))
+    (c.earliest_floor.ensures ∙ ap (λ d. lowest d c.exchange.inside.floors.floors) end))
+
+pub invariant_of-exchange : goal.invariant_of-exchange
+invariant_of-exchange g c = (
+  (let a = ap length c.reserve.ensures.steps in let b = c.exchange.invariant.0 in omega arith),
+  c.exchange.invariant.1,
+  c.exchange.invariant.2,
+  recorded-as c.exchange.invariant.3 c.reserve.new.self.steps c.reserve.ensures.steps,
+  c.exchange.invariant.4,
+  c.reserve.ensures.keeps ∙ c.exchange.invariant.5,
+)
+
+pub invariant_of-exchange-2 : goal.invariant_of-exchange-2
+invariant_of-exchange-2 g c = ?
+
+pub returns-then-eq-clause-ok : goal.returns-then-eq-clause-ok
+returns-then-eq-clause-ok g c =
+    let k = c.exchange.invariant.3 in
+    let f = simulation_of (rules_of g.R.Reversible.plain) g.J.GroupRun.setting in
+    let gvt = found g (goal.at.returns-then-eq-clause-ok g c).After-earliest-gvt in
+    rw (sym c.exchange.view_is) (gvt, publishes-none f g.J.GroupRun.owners _ _ _ (ap (λ z. c.earliest-gvt.result == z) (sym k.gvt_is) ∙ (sym c.eq.ensures ∙ c.if-eq.true)) refl)
+
+pub returns-clause-ok : goal.returns-clause-ok
+returns-clause-ok g c =
+    let k = c.exchange.invariant.3 in
+    let f = simulation_of (rules_of g.R.Reversible.plain) g.J.GroupRun.setting in
+    let gvt = found g (goal.at.returns-clause-ok g c).After-earliest-gvt in
+    let longer = c.set_gvt.ensures.steps ∙ ap (λ (ss : List Step). ss ++ Gvt ∷ []) c.reserve.ensures.steps in
+    rw (sym c.exchange.view_is) (gvt, publishes-more f g.J.GroupRun.owners _ _ _ (ap (λ z. c.earliest-gvt.result == z) (sym k.gvt_is) ∙ (sym c.eq.ensures ∙ c.if-eq.false))
+    (λ i. record { steps = longer i; marks = marks_in (map (λ (b : LeftHalf Standing). b.value) c.exchange.inside.marks.items); limit = c.exchange.inside.limit }))
+
+pub returns-then-eq-clause-limited : goal.returns-then-eq-clause-limited
+returns-then-eq-clause-limited g c =
+    let k = c.exchange.invariant.3 in
+    let gvt = found g (goal.at.returns-then-eq-clause-limited g c).After-earliest-gvt in
+    let same = eqb-true _ _ (sym c.eq.ensures ∙ c.if-eq.true) in
+    rw (sym c.exchange.view_is) (λ back over. absurd (back (sym gvt ∙ (same ∙ k.gvt_is))))

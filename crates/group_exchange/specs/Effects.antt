@@ -1,0 +1,134 @@
+-- What each call does to an exchange of groups and to a group.
+use Rattle.std.specs.Prelude.{◌≡◌, ◌≢◌, ℕ, ◌+◌, ◌<◌, ◌≤◌, ◌==◌, ◌⊎◌, Bool, true, false, List, [], ◌∷◌, ◌++◌, map, length, set, All, IsSome, IsPermutation}
+use Rattle.vlink.specs.declared.message.Message.{Message}
+use Rattle.vlink.specs.declared.note.Note.{Note}
+use Rattle.vlink.specs.Numbering.{greatest_number}
+use Rattle.vlink.specs.Letters.{Letter}
+use Rattle.virtual_time.specs.Law.{Order, Simulation, Part, next_of, received_by, gvt_over, AreBy, AreDone, behind, done_by, waiting_in}
+use Rattle.virtual_time.specs.declared.step.Step.{Step}
+use Rattle.virtual_time.specs.declared.step.Step.TheVariants.{Take, Gvt}
+use Rattle.journal.specs.declared.fault.PoolFault.{PoolFault}
+use Rattle.journal.specs.declared.fault.PoolFault.TheVariants.{OutOfMemory, Exhausted}
+use Rattle.hand.specs.declared.block.Did.{Did}
+use Rattle.hand.specs.Block.{steps_told}
+use Rattle.hand.specs.Deeds.{messages_of}
+use Rattle.hand.specs.Hands.{Held}
+use Rattle.group_exchange.specs.Views.{Ledger, GroupState, is_of, mark_at, block_of, world_after, in_group}
+
+-- each letter is taken by its receiver, the first of its mail
+abbrev pub takes_of : Order Message → List Letter → List Step
+takes_of o ls = map (λ l. Take (o.receiver l.message) 0) ls
+
+-- these letters came to the back of the tray
+pub record TookLetters {S K : Type 0} (letters : List Letter) (old new : Held S K) : Type 0 where
+  pub members : new.members ≡ old.members
+  pub done : new.done ≡ old.done
+  pub rows : new.rows ≡ old.rows
+  pub queue : IsPermutation old.flow.queue new.flow.queue
+  pub flow : new.flow ≡ record old.flow { queue = new.flow.queue; tray = old.flow.tray ++ letters; room = new.flow.room }
+
+-- its letters to others and its block left; messages that are done already may count beside in place of waiting
+pub record LeftBlock {S K : Type 0} (old new : Held S K) : Type 0 where
+  pub members : new.members ≡ old.members
+  pub done : new.done ≡ old.done
+  pub rows : new.rows ≡ old.rows
+  pub flow : new.flow ≡ record old.flow { queue = new.flow.queue; extra = new.flow.extra; abroad = []; words = []; room = new.flow.room }
+
+-- nothing changed but that messages that are done already may count beside in place of waiting, the order of the queue, and for how much more there is
+-- room
+pub record IsGroupAsBefore {S K : Type 0} (old new : GroupState S K) : Type 0 where
+  pub members : new.held.members ≡ old.held.members
+  pub done : new.held.done ≡ old.held.done
+  pub rows : new.held.rows ≡ old.held.rows
+  pub flow : new.held.flow ≡ record old.held.flow { queue = new.held.flow.queue; extra = new.held.flow.extra; room = new.held.flow.room }
+  pub others : new ≡ record old { held = new.held }
+
+module _ {S K : Type 0} (f : Simulation Message S K Note) (owners : List ℕ) where
+  -- all letters that wait for processes of the group were taken, so many; both marks note the steps of the journal then, and the GVT of the exchange
+  pub record Collects (x : Ledger) (h : GroupState S K) (y : Ledger) (k : GroupState S K) (count : ℕ) : Type 0 where
+    pub letters : List Letter
+    pub count_is : count ≡ length letters
+    pub home : All (λ l. is_of owners h.number (f.rules.order.receiver l.message) ≡ true) letters
+    pub whole : (p : ℕ) → is_of owners h.number p ≡ true → (world_after f x.steps).mail p ≡ received_by f.rules.order p letters
+    pub exchange : y ≡ record { steps = x.steps ++ takes_of f.rules.order letters; marks = set x.marks h.number (mark_at k); limit = x.limit }
+    pub group : k ≡ record h { held = k.held; last = y.steps; seen = (world_after f x.steps).gvt }
+    pub held : TookLetters letters h.held k.held
+
+  -- these letters are all that wait for the group
+  pub record AreWaiting (x : Ledger) (h : GroupState S K) (letters : List Letter) : Type 0 where
+    pub home : All (λ l. is_of owners h.number (f.rules.order.receiver l.message) ≡ true) letters
+    pub whole : (p : ℕ) → is_of owners h.number p ≡ true → (world_after f x.steps).mail p ≡ received_by f.rules.order p letters
+
+  -- the steps of the block as they are in the journal: each Take is behind the letters that wait there
+  abbrev pub block_in : Ledger → GroupState S K → List Step
+  block_in x h = map (behind (waiting_in f (world_after f x.steps))) (block_of h)
+
+  -- the block went to the journal, and the letters to others on their way
+  pub record PostsBlock (x : Ledger) (h : GroupState S K) (y : Ledger) (k : GroupState S K) : Type 0 where
+    pub exchange : y ≡ record { steps = x.steps ++ block_in x h; marks = set x.marks h.number (mark_at k); limit = x.limit }
+    pub group : k ≡ record h { held = k.held; last = y.steps }
+    pub held : LeftBlock h.held k.held
+
+  -- an empty block changes nothing
+  abbrev pub posts : List Did → Ledger → GroupState S K → Ledger → GroupState S K → Type 0
+  posts [] x h y k = (y ≡ x) × IsGroupAsBefore h k
+  posts (d ∷ ds) x h y k = PostsBlock x h y k
+
+  abbrev pub Posts : Ledger → GroupState S K → Ledger → GroupState S K → Type 0
+  Posts x h y k = posts h.held.flow.words x h y k
+
+  -- GVT is set; where it is the one of before there is no step
+  abbrev pub publishes : Bool → Ledger → Ledger → Type 0
+  publishes true x y = y ≡ x
+  publishes false x y = y ≡ record { steps = x.steps ++ Gvt ∷ []; marks = x.marks; limit = x.limit }
+
+  -- GVT is not what floors and letters on their way tell
+  abbrev pub IsHeldBack : Ledger → Type 0
+  IsHeldBack x = gvt_over f f.processes (world_after f x.steps) ≢ (world_after f x.steps).gvt
+
+  abbrev pub Publishes : Ledger → Ledger → ℕ → Type 0
+  Publishes x y t =
+      (t ≡ gvt_over f f.processes (world_after f x.steps))
+      × publishes (t == (world_after f x.steps).gvt) x y
+
+  -- the group did these words, which joined the block: each of their steps could be done, and is one of its own processes
+  pub record Went (did : List Did) (h k : GroupState S K) : Type 0 where
+    pub words : k.held.flow.words ≡ h.held.flow.words ++ did
+    pub by : AreBy (is_of owners h.number) (steps_told did)
+    pub enabled : AreDone f (steps_told did) (in_group f h)
+    pub ends : in_group f k ≡ done_by f (steps_told did) (in_group f h)
+    pub others : k ≡ record h { held = k.held }
+
+  -- some words joined the block
+  pub record Goes (h k : GroupState S K) : Type 0 where
+    pub did : List Did
+    pub went : Went did h k
+
+  -- a message that is earlier than the limit waits at no process of the group
+  abbrev pub IsIdleBefore : ℕ → GroupState S K → Type 0
+  IsIdleBefore limit k = All (λ m. limit ≤ f.rules.order.time m) k.held.flow.queue
+
+  -- all letters of the tray arrive; then messages are handled that are earlier than the GVT seen and the window, `most` at most, as long as there are
+  -- any; then all done events below the GVT seen are committed
+  pub record Works (most window : ℕ) (h k : GroupState S K) (count : ℕ) : Type 0 where
+    pub did : List Did
+    pub went : Went did h k
+    pub within : count ≤ most
+    pub idle : (count ≡ most) ⊎ IsIdleBefore (h.seen + window) k
+    pub arrived : k.held.flow.tray ≡ []
+    pub committed_below : All (λ m. h.seen ≤ f.rules.order.time m) (messages_of k.held.done)
+
+  -- its actor has not enough numbers left for all that one event can send, and a message to handle
+  abbrev pub WantsNumbers : Part Message S → Type 0
+  WantsNumbers part = IsSome (next_of f.rules.order part) × (greatest_number < f.rules.counter part.state + 24)
+
+  -- a process of the group has a message to handle, and too few numbers left
+  abbrev pub IsShort : GroupState S K → Type 0
+  IsShort k = (p : ℕ) × (is_of owners k.number p ≡ true) × WantsNumbers ((in_group f k).parts p)
+
+  -- a refusal leaves what was done before it. That numbers are wanting is told only where they are
+  pub record WorksSome (h k : GroupState S K) (fault : PoolFault) : Type 0 where
+    pub did : List Did
+    pub went : Went did h k
+    pub numbers : fault ≡ Exhausted → (p : ℕ) × (is_of owners h.number p ≡ true) × WantsNumbers ((in_group f k).parts p)
+    pub faults : (fault ≡ OutOfMemory) ⊎ (fault ≡ Exhausted)

@@ -1,0 +1,3 @@
+//! What is told of each message that is handled.
+
+pub use exchange::Gate;

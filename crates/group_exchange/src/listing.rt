@@ -1,0 +1,71 @@
+//! The steps for which letters that are taken, and words of a group, stand.
+ghost use Rattle.std.specs.Prelude.{◌≡◌, ◌+◌, ◌<◌, ◌≤◌, ◌^◌, ◌∷◌, [], ◌++◌, ℕ, map, length, vec_len, vec_capacity};
+ghost use Rattle.virtual_time.specs.Law.{behind};
+ghost use Rattle.virtual_time.specs.declared.step.Step.TheVariants.{Take};
+ghost use Rattle.hand.specs.Block.{steps_of_word, steps_told};
+ghost use Rattle.group_exchange.specs.Telling.{AreShort, waiting_for};
+
+use crate::boxes::Boxes;
+use hand::Did;
+use vlink::{Letter, Step};
+
+/// Each letter was taken, the first of the mail of its receiver. There is room for these steps.
+pub(crate) fn list_takes(steps: &mut Vec<Step>, letters: &[Letter])
+    requires room { vec_len steps.old + length letters.now ≤ vec_capacity steps.old }
+    ensures { steps.new.items ≡ steps.old.items ++ map (λ l. Take l.message.receiver 0) letters.now }
+{
+    for letter in letters {
+        steps.push_reserved(Step::Take {
+            process: u32::from(letter.message.receiver),
+            place: 0,
+        });
+    }
+}
+
+/// The steps for which these words stand, each Take behind the letters that are on their way. There is room for them.
+pub(crate) fn list_words(steps: &mut Vec<Step>, words: &[Did], boxes: &Boxes)
+    requires room { vec_len steps.old + length (steps_told words.now) ≤ vec_capacity steps.old }
+    requires short { AreShort boxes.now.boxes }
+    ensures { steps.new.items ≡ steps.old.items ++ map (behind (waiting_for boxes.now)) (steps_told words.now) }
+{
+    for did in words {
+        list_word(steps, *did, boxes);
+    }
+}
+
+/// The steps for which this word stands.
+fn list_word(steps: &mut Vec<Step>, did: Did, boxes: &Boxes)
+    requires room { vec_len steps.old + length (steps_of_word did) ≤ vec_capacity steps.old }
+    requires short { AreShort boxes.now.boxes }
+    ensures items { steps.new.items ≡ steps.old.items ++ map (behind (waiting_for boxes.now)) (steps_of_word did) }
+    ensures len { vec_len steps.new ≡ vec_len steps.old + length (steps_of_word did) }
+    ensures capacity { vec_capacity steps.new ≡ vec_capacity steps.old }
+{
+    match did {
+        Did::Ran { process } => {
+            let process = u32::from(process);
+            steps.push_reserved(Step::Run { process });
+            steps.push_reserved(Step::Post { process });
+        }
+        Did::Home { process } => {
+            let place = boxes.waiting(process);
+            let process = u32::from(process);
+            steps.push_reserved(Step::Take { process, place });
+            steps.push_reserved(Step::Arrive { process });
+        }
+        Did::Taken { process } => {
+            let place = boxes.waiting(process);
+            let process = u32::from(process);
+            steps.push_reserved(Step::Take { process, place });
+        }
+        Did::Arrived { process } => {
+            let process = u32::from(process);
+            steps.push_reserved(Step::Arrive { process });
+            steps.push_reserved(Step::Post { process });
+        }
+        Did::Committed { process } => {
+            let process = u32::from(process);
+            steps.push_reserved(Step::Commit { process });
+        }
+    }
+}

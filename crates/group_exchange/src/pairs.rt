@@ -1,0 +1,69 @@
+//! Two halves of a mark for each group of a run.
+ghost use Rattle.std.specs.Prelude.{◌≡◌, ◌+◌, length, OnOk, IfOk, IfErr};
+ghost use Rattle.journal.specs.declared.fault.PoolFault.TheVariants.{OutOfMemory};
+ghost use Rattle.group_exchange.specs.Views.{IsUnplaced};
+
+use crate::mark::Standing;
+use crate::steps::Steps;
+use halves::{LeftHalf, RightHalf, pair};
+use journal::PoolFault;
+use std::alloc::Global;
+use std::marker::Model;
+use std::snapshot::Snapshot;
+use vlink::Time;
+
+/// The two halves of marks, in order, before an exchange and its groups have them. They have no bytes. A clause sees their names.
+#[derive(Drop)]
+pub struct Pairs {
+    pub(crate) lefts: Vec<LeftHalf<Standing>>,
+    pub(crate) rights: Vec<RightHalf<Standing>>,
+}
+
+impl Model for Pairs {
+    ghost use Rattle.std.specs.Prelude.{◌≡◌, ℕ, List, map, All};
+    ghost use Rattle.group_exchange.specs.Views.{IsUnplaced};
+
+    ghost Value = { List ℕ };
+
+    ghost view = { λ p. map (λ b. b.name) p.lefts.items };
+
+    ghost invariant = { λ p. (map (λ s. s.name) p.rights.items ≡ map (λ b. b.name) p.lefts.items)
+        × All IsUnplaced (map (λ b. b.value) p.lefts.items) };
+}
+
+impl Pairs {
+    /// So many of them, of new names. They tell of no step yet. It is refused for memory alone.
+    pub fn new(alloc: Global, count: usize) -> Result<Pairs, PoolFault>
+        ensures count { IfOk result (λ pairs. length pairs ≡ count) }
+        ensures memory { IfErr result (λ fault. fault ≡ OutOfMemory) }
+    {
+        let none = Steps::new(alloc, None);
+        let blank = Standing {
+            last: Snapshot::of(&none),
+            steps: 0,
+            seen: Time::default(),
+        };
+        let mut pairs = Pairs {
+            lefts: Vec::with_capacity(alloc, count)?,
+            rights: Vec::with_capacity(alloc, count)?,
+        };
+        for made in 0..count {
+            pairs.add(&blank)?;
+        }
+        Ok(pairs)
+    }
+
+    /// One more, which tells of no step.
+    fn add(&mut self, mark: &Standing) -> Result<(), PoolFault>
+        requires { IsUnplaced mark.now }
+        ensures more { OnOk result (length self.new ≡ length self.old + 1) }
+        ensures memory { IfErr result (λ fault. fault ≡ OutOfMemory) }
+    {
+        self.lefts.reserve(1)?;
+        self.rights.reserve(1)?;
+        let (left, right) = pair(mark);
+        self.lefts.push_reserved(left);
+        self.rights.push_reserved(right);
+        Ok(())
+    }
+}

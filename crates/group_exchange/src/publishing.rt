@@ -1,0 +1,55 @@
+//! GVT is set.
+ghost use Rattle.std.specs.Prelude.{◌≡◌, ◌<◌, ◌≤◌, ◌⊎◌, ℕ, length, IfOk, IfErr, OnErr, Err, true};
+ghost use Rattle.virtual_time.specs.Law.{lowest};
+ghost use Rattle.reverse.specs.Rules.{rules_of};
+ghost use Rattle.reverse.specs.Setting.{simulation_of};
+ghost use Rattle.journal.specs.declared.fault.PoolFault.TheVariants.{OutOfMemory, JournalFull, Torn};
+ghost use Rattle.group_exchange.specs.Effects.{Publishes, IsHeldBack};
+
+use crate::exchange::GroupExchange;
+use crate::run_of::GroupRun;
+use gvt::Floors;
+use journal::PoolFault;
+use reverse::{Actor, actor_laws};
+use vlink::{Time, earlier};
+
+/// Sets GVT to the least of all floors and of the times of all letters on their way, with a step in the journal; where that is the GVT of before, there
+/// is no step. The answer is GVT, in ns.
+///
+/// Any refusal leaves the exchange as it was. `JournalFull`: exactly where the steps would pass the limit, which is looked at before any
+/// growth. `Torn`: the journal is kept, and another one has written the step's place in the table, which is seen behind all growths.
+pub fn publish<R: Actor, J: GroupRun<R>>(exchange: &mut GroupExchange<R, J>) -> Result<Time, PoolFault>
+    ensures ok { IfOk result (λ gvt. Publishes (simulation_of (rules_of R.plain) J.setting) J.owners exchange.old exchange.new gvt) }
+    ensures unchanged { OnErr result (exchange.new ≡ exchange.old) }
+    ensures full { result ≡ Err JournalFull → IsHeldBack (simulation_of (rules_of R.plain) J.setting) J.owners exchange.old × (exchange.old.limit ≤ length exchange.old.steps) }
+    ensures limited { IsHeldBack (simulation_of (rules_of R.plain) J.setting) J.owners exchange.old → exchange.old.limit ≤ length exchange.old.steps → result ≡ Err JournalFull }
+    ensures faults { IfErr result (λ fault. (fault ≡ OutOfMemory) ⊎ ((fault ≡ JournalFull) ⊎ ((fault ≡ Torn) × (J.keeps ≡ true)))) }
+{
+    actor_laws::<R>();
+    let gvt = exchange.boxes.earliest(earliest_floor(&exchange.floors, exchange.end));
+    if gvt == exchange.gvt {
+        return Ok(gvt);
+    }
+    if exchange.journal.len() >= exchange.limit {
+        return Err(PoolFault::JournalFull);
+    }
+    if let Err(fault) = exchange.journal.reserve(1) {
+        return Err(fault);
+    }
+    exchange.journal.set_gvt();
+    exchange.gvt = gvt;
+    Ok(gvt)
+}
+
+/// The least of all floors, or the moment where that is earlier.
+fn earliest_floor(floors: &Floors, moment: Time) -> Time
+    ensures { result ≡ lowest moment floors.now.floors }
+{
+    let mut earliest = moment;
+    for group in 0..floors.processes() {
+        if let Some(floor) = floors.floor(group) {
+            earliest = earlier(floor, earliest);
+        }
+    }
+    earliest
+}

@@ -1,0 +1,174 @@
+//! The journal of a run by groups: steps of the law of virtual time.
+ghost use Rattle.std.specs.Prelude.{◌≡◌, ◌+◌, ◌<◌, ◌≤◌, ◌⊎◌, ◌^◌, [], ◌∷◌, ◌++◌, true, map, is_some, length, OnOk, IfErr};
+ghost use Rattle.virtual_time.specs.Law.{behind};
+ghost use Rattle.virtual_time.specs.declared.step.Step.TheVariants.{Take, Gvt};
+ghost use Rattle.journal.specs.declared.fault.PoolFault.TheVariants.{OutOfMemory, Torn};
+ghost use Rattle.hand.specs.Block.{steps_told};
+ghost use Rattle.group_exchange.specs.Boxing.{box_of};
+ghost use Rattle.group_exchange.specs.Telling.{AreShort, waiting_for};
+
+use crate::boxes::Boxes;
+use crate::listing::{list_takes, list_words};
+use crate::told::Told;
+use hand::Words;
+use journal::{PoolFault, Table};
+use std::alloc::Global;
+use std::marker::Model;
+use std::snapshot::Snapshot;
+use vlink::Step;
+
+/// The steps that are kept, and the table whose places they have.
+#[derive(Drop)]
+pub(crate) struct Kept {
+    pub(crate) steps: Vec<Step>,
+    pub(crate) table: Table,
+}
+
+/// The steps of a journal, in order. They are there as what it was told, in snapshots, which have no bytes and are read in proofs alone; and, where
+/// they are kept, once more as they are.
+#[derive(Drop)]
+pub struct Steps {
+    told: Vec<Snapshot<Told>>,
+    /// How many steps there are.
+    count: u64,
+    kept: Option<Kept>,
+}
+
+impl Model for Steps {
+    ghost use Rattle.std.specs.Prelude.{◌≡◌, ◌-◌, flat_map, is_some, length, option_map, vec_len, vec_capacity, IfSome};
+    ghost use Rattle.group_exchange.specs.Listing.{StepList, room_of};
+
+    ghost Value = { StepList };
+
+    ghost use Rattle.group_exchange.specs.Telling.{steps_by};
+
+    ghost view = { λ s. record {
+      steps = flat_map (λ t. steps_by t.value) s.told.items;
+      keeps = is_some s.kept;
+      room = room_of (vec_capacity s.told - vec_len s.told) (option_map (λ k. vec_capacity k.steps - vec_len k.steps) s.kept);
+    } };
+
+    ghost invariant = { λ s. (s.count ≡ length (flat_map (λ t. steps_by t.value) s.told.items))
+        × IfSome s.kept (λ k. k.steps.items ≡ flat_map (λ t. steps_by t.value) s.told.items) };
+}
+
+impl Steps {
+    /// No step. Those that come are kept where there is a table, and have its places.
+    pub fn new(alloc: Global, table: Option<Table>) -> Self
+        ensures steps { result.steps ≡ [] }
+        ensures keeps { result.keeps ≡ is_some table }
+    {
+        let told = Vec::new(alloc);
+        match table {
+            Some(table) => Steps {
+                told,
+                count: 0,
+                kept: Some(Kept {
+                    steps: Vec::new(alloc),
+                    table,
+                }),
+            },
+            None => Steps {
+                told,
+                count: 0,
+                kept: None,
+            },
+        }
+    }
+
+    /// How many there are.
+    pub fn len(&self) -> u64
+        ensures { result ≡ length self.now.steps }
+    {
+        self.count
+    }
+
+    /// Whether they are kept, to be read.
+    pub fn are_kept(&self) -> bool
+        ensures { result ≡ self.now.keeps }
+    {
+        self.kept.is_some()
+    }
+
+    /// Makes room for so many more, and then writes their places in the table. Where they are not kept it takes no memory and nothing is
+    /// written. `Torn`: another journal has written there before, which is looked at behind the growths.
+    pub fn reserve(&mut self, more: usize) -> Result<(), PoolFault>
+        ensures room { OnOk result (more ≤ self.new.room) }
+        ensures steps { self.new.steps ≡ self.old.steps }
+        ensures keeps { self.new.keeps ≡ self.old.keeps }
+        ensures faults { IfErr result (λ fault. (fault ≡ OutOfMemory) ⊎ ((fault ≡ Torn) × (self.old.keeps ≡ true))) }
+    {
+        self.told.reserve(more)?;
+        if let Some(kept) = &mut self.kept {
+            kept.steps.reserve(more)?;
+            if !kept.table.write(self.count, more as u64) {
+                return Err(PoolFault::Torn);
+            }
+        }
+        Ok(())
+    }
+
+    /// All letters for a group were taken, each the first of the mail of its receiver. There is room for these steps, and for one at the least.
+    pub fn take_all(&mut self, boxes: &Boxes, group: u16)
+        requires within { group < length boxes.now.boxes }
+        requires some { 0 < self.old.room }
+        requires room { length (box_of boxes.now.boxes group) ≤ self.old.room }
+        requires few { length self.old.steps + length (box_of boxes.now.boxes group) < 2 ^ 63 }
+        ensures steps { self.new.steps ≡ self.old.steps ++ map (λ l. Take l.message.receiver 0) (box_of boxes.now.boxes group) }
+        ensures keeps { self.new.keeps ≡ self.old.keeps }
+    {
+        let letters = boxes.letters(group);
+        self.count += letters.len() as u64;
+        self.told
+            .push_reserved(Snapshot::of(&Told::Taken(group, Snapshot::of(boxes))));
+        if let Some(kept) = &mut self.kept {
+            list_takes(&mut kept.steps, letters);
+        }
+    }
+
+    /// A group did what these words tell, so many steps, each Take behind the letters that are on their way. There is room for these steps, and for
+    /// one at the least.
+    #[tactic(auto, using(crate::proofs::Words::length_behind))]
+    pub fn tell(&mut self, words: &Words, boxes: &Boxes, count: u64)
+        requires count { count ≡ length (steps_told words.now.words) }
+        requires kept { self.old.keeps ≡ true → words.now.keeps ≡ true }
+        requires short { self.old.keeps ≡ true → AreShort boxes.now.boxes }
+        requires some { 0 < self.old.room }
+        requires room { count ≤ self.old.room }
+        requires few { length self.old.steps + count < 2 ^ 63 }
+        ensures steps { self.new.steps ≡ self.old.steps ++ map (behind (waiting_for boxes.now)) (steps_told words.now.words) }
+        ensures keeps { self.new.keeps ≡ self.old.keeps }
+    {
+        self.count += count;
+        self.told
+            .push_reserved(Snapshot::of(&Told::Did(Snapshot::of(words), Snapshot::of(boxes))));
+        if let Some(kept) = &mut self.kept {
+            list_words(&mut kept.steps, words.list(), boxes);
+        }
+    }
+
+    /// GVT was set. There is room for this step.
+    pub fn set_gvt(&mut self)
+        requires room { 0 < self.old.room }
+        requires few { length self.old.steps < 2 ^ 63 }
+        ensures steps { self.new.steps ≡ self.old.steps ++ Gvt ∷ [] }
+        ensures keeps { self.new.keeps ≡ self.old.keeps }
+    {
+        self.count += 1;
+        self.told.push_reserved(Snapshot::of(&Told::Set));
+        if let Some(kept) = &mut self.kept {
+            kept.steps.push_reserved(Step::Gvt);
+        }
+    }
+
+    /// The steps, where they are kept.
+    pub fn list(&self) -> &[Step]
+        requires { self.now.keeps ≡ true }
+        ensures { result.now ≡ self.now.steps }
+    {
+        match &self.kept {
+            Some(kept) => kept.steps.as_slice(),
+            None => unreachable!(),
+        }
+    }
+}
