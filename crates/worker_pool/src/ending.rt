@@ -84,6 +84,8 @@ impl<J: NetworkRun> Unlocked<J> {
         ensures no_spawn { IfErr result (λ fault. fault ≢ Spawn) }
     {
         for group in self.groups.iter_mut() {
+            // What a worker left is posted, so that the group sees GVT.
+            self.exchange.give_block(group)?;
             self.exchange.take_letters(group)?;
             if let Err(fault) = work(group, u32::from(pace.turn), pace.window_ns, gate) {
                 return Err(self.exchange.fault_of(group, fault));
