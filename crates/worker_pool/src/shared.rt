@@ -89,12 +89,12 @@ impl<J: NetworkRun> Shared<J> {
         }
     }
 
-    /// A worker had a section. In one of `SECTIONS_PER_GVT` GVT is set: then it is the answer, in ns.
-    pub(crate) fn passed(&mut self) -> Result<Option<Time>, RunFault<J>>
+    /// A worker has a section. In one of `SECTIONS_PER_GVT`, and where it waits for it, GVT is set: then it is the answer, in ns.
+    pub(crate) fn passed(&mut self, waits: bool) -> Result<Option<Time>, RunFault<J>>
         ensures no_spawn { IfErr result (λ fault. fault ≢ Spawn) }
     {
         self.sections = self.sections.wrapping_add(1);
-        if self.sections % SECTIONS_PER_GVT != 0 {
+        if !waits && self.sections % SECTIONS_PER_GVT != 0 {
             return Ok(None);
         }
         let gvt = self.set_gvt()?;

@@ -136,19 +136,21 @@ impl<'s, J: NetworkRun, G: Gate, T: Wait> Worker<'s, J, G, T> {
             || (gvt_ns > seen_ns && seat.next_ns < limit_ns)
     }
 
-    /// In one section of the exchange what the group did goes to the journal, its letters go to the other groups, and its own come to it. Then the other
-    /// groups are told.
+    /// In one section of the exchange what the group did goes to the journal, its letters go to the other groups, and its own come to it; and now and
+    /// then, or where its next event is beyond the window, GVT is set in between. Then the other groups are told.
     fn meet(&mut self, seat: &mut Seat<J>) -> Result<(), RunFault<J>> {
         let number = seat.group.number();
+        let seen_ns = seat.group.seen().ns();
+        let waits = seat.next_ns >= seen_ns.saturating_add(self.pace.window_ns);
         let mut exchange = locked_soon(self.rt, self.exchange);
         let shared = &mut exchange.value;
         list_letters(&mut self.letters_ns, &shared.inner, &seat.group);
         shared.give_block(&mut seat.group)?;
-        shared.take_letters(&mut seat.group)?;
-        self.moments.taken(number);
-        if let Some(gvt) = shared.passed()? {
+        if let Some(gvt) = shared.passed(waits)? {
             let _is_new = self.moments.set_gvt(gvt.ns());
         }
+        shared.take_letters(&mut seat.group)?;
+        self.moments.taken(number);
         drop(exchange);
         seat.unposted = 0;
         self.call_all();
@@ -161,8 +163,10 @@ impl<'s, J: NetworkRun, G: Gate, T: Wait> Worker<'s, J, G, T> {
         let number = seat.group.number();
         let turn = u32::from(self.pace.turn);
         let mut handled = 0;
-        for piece in 0..turn {
-            let most = PIECE.min(turn - handled.min(turn));
+        // Nobody asks how far the only group is.
+        let piece = if self.moments.groups() == 1 { turn } else { PIECE };
+        for given in 0..turn {
+            let most = piece.min(turn - handled.min(turn));
             let limit_ns = self.moments.limit_ns();
             let count = self.work_to(&mut seat.group, most, limit_ns)?;
             handled = handled.saturating_add(count);
