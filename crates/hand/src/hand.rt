@@ -1,5 +1,5 @@
 //! A group of processes in one hand.
-ghost use Rattle.std.specs.Prelude.{◌≡◌, ◌≢◌, ◌≤◌, ◌<◌, ◌+◌, ℕ, List, [], ◌++◌, true, false, Some, All, Contains, Ok, Err, OnOk, OnErr, IfOk, IfErr, IfSome, IfNone, IsPermutation, drop, slice_get, take};
+ghost use Rattle.std.specs.Prelude.{◌≡◌, ◌≢◌, ◌≤◌, ◌<◌, ◌+◌, ℕ, List, [], ◌++◌, true, false, Some, All, Contains, Ok, Err, OnOk, OnErr, IfOk, IfErr, IfSome, IfNone, IsPermutation, drop, length, slice_get, take};
 ghost use Rattle.vlink.specs.declared.message.Message.{Message};
 ghost use Rattle.vlink.specs.Order.{message_order};
 ghost use Rattle.vlink.specs.Numbering.{greatest_number};
@@ -225,7 +225,8 @@ impl<R: Actor> Hand<R> {
 
     /// The rows of committed events but those that have left, in the order of their events.
     pub fn rows(&self) -> &[Row]
-        ensures { result.now ≡ drop self.now.rows.left self.now.rows.all }
+        ensures rows { result.now ≡ drop self.now.rows.left self.now.rows.all }
+        ensures within { self.now.rows.left ≤ length self.now.rows.all }
     {
         self.rows.there()
     }

@@ -36,7 +36,8 @@ impl Rows {
 
     /// Those that have not left.
     pub(crate) fn there(&self) -> &[Row]
-        ensures { result.now ≡ drop self.now.left self.now.all }
+        ensures rows { result.now ≡ drop self.now.left self.now.all }
+        ensures within { self.now.left ≤ length self.now.all }
     {
         &self.there
     }
