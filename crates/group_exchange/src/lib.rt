@@ -15,6 +15,7 @@ mod pairs;
 mod posting;
 mod publishing;
 mod run_of;
+mod sealed;
 mod steps;
 mod told;
 mod working;
