@@ -1,5 +1,5 @@
 -- For which steps all that stands which a journal is told.
-use Rattle.std.specs.Prelude.{◌≡◌, ◌<◌, ◌^◌, ℕ, List, [], ◌∷◌, map, flat_map, length, slice_get, Option, Some, None, All}
+use Rattle.std.specs.Prelude.{◌<◌, ◌^◌, ℕ, List, [], ◌∷◌, map, length, slice_get, Option, Some, None, All}
 use Rattle.vlink.specs.Letters.{Letter}
 use Rattle.vlink.specs.Order.{message_order}
 use Rattle.virtual_time.specs.Law.{behind, received_by}

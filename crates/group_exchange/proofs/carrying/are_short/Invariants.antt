@@ -1,4 +1,4 @@
-use Rattle.std.proofs.Common.{◌≡◌, ◌<◌, ◌^◌, ℕ, List, map, get_or, length, take}
+use Rattle.std.proofs.Common.{◌<◌, ◌^◌, ℕ, List, map, get_or, length}
 use Rattle.vlink.specs.Letters.{Letter}
 use Rattle.group_exchange.proofs.carrying.are_short.Given as goal
 

@@ -1,4 +1,4 @@
-use Rattle.std.proofs.Common.{map, flat_map, take, ap, sym, ◌∙◌, arith}
+use Rattle.std.proofs.Common.{map, flat_map, take, ap, sym, ◌∙◌}
 use Rattle.virtual_time.specs.Law.{lowest, times_of}
 use Rattle.vlink.specs.Order.{message_order}
 use Rattle.group_exchange.proofs.Lists.{boxes-more}

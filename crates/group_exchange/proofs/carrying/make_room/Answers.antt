@@ -1,4 +1,4 @@
-use Rattle.std.proofs.Common.{ap, sym, ◌∙◌, ◌-◌, arith, length-set, vec_len, vec_capacity}
+use Rattle.std.proofs.Common.{◌∙◌, ◌-◌, arith, length-set, vec_len, vec_capacity}
 use Rattle.group_exchange.proofs.Lists.{box-same, room-more}
 use Rattle.group_exchange.proofs.carrying.make_room.Goals as goal
 

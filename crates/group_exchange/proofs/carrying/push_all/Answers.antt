@@ -1,4 +1,4 @@
-use Rattle.std.proofs.Common.{◌≡◌, ◌<◌, ◌+◌, ◌++◌, [], ◌∷◌, Some, length, map, take, slice_get, ap, sym, ◌∙◌, arith, length-set, take_all}
+use Rattle.std.proofs.Common.{◌<◌, ◌+◌, ◌++◌, [], ◌∷◌, length, map, take, ap, sym, ◌∙◌, arith, length-set, take_all}
 use Rattle.std.proofs.lemmas.List.{take_more, map-append}
 use Rattle.vlink.specs.declared.message.Message.{Message}
 use Rattle.vlink.specs.Order.{message_order}

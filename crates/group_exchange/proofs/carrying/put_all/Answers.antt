@@ -1,4 +1,4 @@
-use Rattle.std.proofs.Common.{◌≡◌, ◌<◌, ◌+◌, ◌++◌, ◌-◌, [], ◌∷◌, Some, length, map, take, slice_get, refl, ap, sym, ◌∙◌, append-nil, arith, length-set, take_all, vec_len, vec_capacity}
+use Rattle.std.proofs.Common.{◌≡◌, ◌<◌, ◌+◌, ◌++◌, ◌-◌, [], ◌∷◌, Some, length, map, take, slice_get, ap, sym, ◌∙◌, arith, length-set, take_all, vec_len, vec_capacity}
 use Rattle.std.proofs.lemmas.List.{take_more}
 use Rattle.vlink.specs.Order.{message_order}
 use Rattle.group_exchange.specs.Boxing.{box_of, for_group}

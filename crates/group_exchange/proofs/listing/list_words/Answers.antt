@@ -1,8 +1,7 @@
-use Rattle.std.proofs.Common.{◌≡◌, ◌+◌, ◌++◌, length, map, take, get_or, slice_index_or, ap, sym, ◌∙◌, refl, arith, append_assoc, append-nil, length-append, take_all}
+use Rattle.std.proofs.Common.{◌+◌, ◌++◌, length, map, take, slice_index_or, ap, sym, ◌∙◌, arith, append_assoc, length-append, take_all}
 use Rattle.std.proofs.lemmas.List.{map-append}
 use Rattle.virtual_time.specs.Law.{behind}
 use Rattle.hand.specs.Block.{steps_of_word, steps_told}
-use Rattle.hand.specs.declared.block.Did.{Did}
 use Rattle.hand.specs.declared.block.Did.TheVariants.{Ran}
 use Rattle.group_exchange.specs.Telling.{waiting_for}
 use Rattle.group_exchange.proofs.Words.{told-more, told-few, word-at}

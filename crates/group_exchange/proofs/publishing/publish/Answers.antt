@@ -1,4 +1,4 @@
-use Rattle.std.proofs.Common.{◌≡◌, ◌+◌, ◌==◌, List, [], ◌∷◌, ◌++◌, map, flat_map, length, subst, refl, sym, ap, ◌∙◌, arith, eq-eqb, eqb-true, length-append}
+use Rattle.std.proofs.Common.{◌≡◌, ◌+◌, ◌==◌, List, [], ◌∷◌, ◌++◌, map, flat_map, length, refl, sym, ap, ◌∙◌, arith, eq-eqb, eqb-true, length-append}
 use Rattle.std.proofs.lemmas.Bool.{false≢true}
 use Rattle.vlink.specs.Order.{message_order}
 use Rattle.virtual_time.specs.Law.{gvt_over, lowest, times_of}
@@ -9,7 +9,6 @@ use Rattle.reverse.specs.Setting.{simulation_of}
 use Rattle.halves.specs.declared.LeftHalf.{LeftHalf}
 use Rattle.group_exchange.specs.declared.mark.Standing.{Standing}
 use Rattle.group_exchange.specs.Views.{marks_in, world_after}
-use Rattle.group_exchange.specs.Keeps.{IsRecorded}
 use Rattle.group_exchange.proofs.Halves.{recorded-as}
 use Rattle.group_exchange.proofs.Least.{gvt-told}
 use Rattle.group_exchange.proofs.Published.{kept-published, publishes-more, publishes-none}

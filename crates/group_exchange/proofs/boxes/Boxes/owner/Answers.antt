@@ -1,4 +1,4 @@
-use Rattle.std.proofs.Common.{◌<◌, length, slice_get, map, ap, sym, ◌∙◌, subst, IfSome}
+use Rattle.std.proofs.Common.{◌<◌, length, slice_get, ap, sym, ◌∙◌, subst, IfSome}
 use Rattle.std.proofs.lemmas.List.{length-map}
 use Rattle.group_exchange.proofs.Lists.{some-of}
 use Rattle.group_exchange.proofs.boxes.Boxes.owner.Goals as goal

@@ -1,4 +1,4 @@
-use Rattle.std.proofs.Common.{Some, None, length, ap, sym, ◌∙◌, subst, ◌<◌, ◌^◌, []}
+use Rattle.std.proofs.Common.{length, ap, sym, ◌∙◌, []}
 use Rattle.virtual_time.specs.Law.{received_by}
 use Rattle.vlink.specs.Order.{message_order}
 use Rattle.group_exchange.specs.Telling.{box_at}

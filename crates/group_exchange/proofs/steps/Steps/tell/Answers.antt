@@ -1,4 +1,4 @@
-use Rattle.std.proofs.Common.{◌≡◌, ◌+◌, List, [], ◌∷◌, ◌++◌, map, flat_map, length, IfSome, sym, ap, ◌∙◌, subst, arith, length-append}
+use Rattle.std.proofs.Common.{◌≡◌, ◌+◌, ◌++◌, map, flat_map, length, IfSome, sym, ap, ◌∙◌, subst, arith, length-append}
 use Rattle.virtual_time.specs.Law.{behind}
 use Rattle.hand.specs.Block.{steps_told}
 use Rattle.group_exchange.specs.declared.steps.Steps.TheInside.{Inside}
