@@ -94,14 +94,17 @@ impl Moments {
         }
     }
 
-    /// The group took the letters that waited for it. Its caller has the lock of the exchange.
-    pub(crate) fn taken(&self, group: u16) {
-        if let Some(moment) = self.moments.get(usize::from(group)) {
-            let letter_ns = moment.value.letter_ns.swap(u64::MAX, Ordering::SeqCst);
-            if letter_ns < moment.value.next_ns.load(Ordering::SeqCst) {
-                moment.value.next_ns.store(letter_ns, Ordering::SeqCst);
-            }
+    /// The group took the letters that waited for it. The answer is the least moment of those that were told of, in ns. Its caller has the lock of the
+    /// exchange.
+    pub(crate) fn taken(&self, group: u16) -> u64 {
+        let Some(moment) = self.moments.get(usize::from(group)) else {
+            return u64::MAX;
+        };
+        let letter_ns = moment.value.letter_ns.swap(u64::MAX, Ordering::SeqCst);
+        if letter_ns < moment.value.next_ns.load(Ordering::SeqCst) {
+            moment.value.next_ns.store(letter_ns, Ordering::SeqCst);
         }
+        letter_ns
     }
 
     /// A letter of this moment, in ns, waits for the group.

@@ -150,7 +150,8 @@ impl<'s, J: NetworkRun, G: Gate, T: Wait> Worker<'s, J, G, T> {
             let _is_new = self.moments.set_gvt(gvt.ns());
         }
         shared.take_letters(&mut seat.group)?;
-        self.moments.taken(number);
+        // A letter in the tray is to be worked on no later than an event of its moment.
+        seat.next_ns = seat.next_ns.min(self.moments.taken(number));
         drop(exchange);
         seat.unposted = 0;
         self.call_all();
