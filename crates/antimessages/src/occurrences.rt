@@ -177,6 +177,7 @@ pub(crate) fn take_last(signs: &mut BTreeMap<Occurrence, Sign>, message: &Messag
 }
 
 /// Whether all letters that count are of messages that come after this one.
+#[inline(always)]
 pub(crate) fn begins_after(signs: &BTreeMap<Occurrence, Sign>, message: &Message) -> bool
     requires { AreTallied signs.now.entries }
     ensures { IsTrue result → signed_count message_order message.now (letters_of signs.now.entries) ≡ pos 0 }

@@ -76,6 +76,7 @@ impl Tally {
     }
 
     /// Whether the signed count of a message is 0. Where the message comes before all others that are tallied, none is looked for.
+    #[inline(always)]
     pub fn is_zero(&self, message: &Message) -> bool
         ensures { IsTrue result ↔ (signed_count message_order message.now self.now ≡ pos 0) }
     {

@@ -26,6 +26,7 @@ pub mod FrontCases
 pub mod WordTold
 pub mod FrontTold
 pub mod LateTold
+pub mod NotLater
 pub mod CountsAgain
 pub mod Origin
 pub mod Retreating

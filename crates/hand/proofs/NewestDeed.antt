@@ -11,7 +11,7 @@ use Rattle.virtual_time.specs.Law.{Rules, IsOrder, IsIn, IsAscending}
 use Rattle.virtual_time.proofs.Lists.{in-head}
 use Rattle.antimessages.specs.Counting.{is_after}
 use Rattle.process_queues.specs.Past.{newest_of}
-use Rattle.process_queues.proofs.Newest.{newest-more, after-all}
+use Rattle.process_queues.proofs.Newest.{newest-more, newest-in, after-all}
 use Rattle.hand.specs.declared.deeds.Event.{Event}
 use Rattle.hand.specs.Deeds.{Deed, deeds_in, all_sent, all_noted}
 use Rattle.hand.specs.Undoing.{sent_in, noted_in}
@@ -96,6 +96,11 @@ no-newest o d a b = let k : None ≡ Some d = sym (ap option_copied b) ∙ a in 
 -- rules of nothing but the order
 ordered : Rules Message ℕ ℕ Note
 ordered = record { order = message_order; after = λ s m. s; sends = λ s m. []; notes = λ s m. []; counter = λ s. 0; kept = λ s m. 0; undo = λ s m k. s }
+
+-- the newest is in the list
+pub newest-among : IsOrder message_order → (xs : List Message) (y : Message) → newest_of xs ≡ Some y → IsIn message_order y xs
+unfolding ordered
+newest-among O xs y e = newest-in ordered O xs y e
 
 -- what comes after the newest of an ascending list is not in it
 pub after-none : IsOrder message_order → (m : Message) (xs : List Message) → IsAscending message_order xs → is_after message_order (newest_of xs) m ≡ true → All (λ x. x ≢ m) xs

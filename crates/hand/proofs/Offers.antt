@@ -1,8 +1,8 @@
 -- The offers beside the lists: the last of them is first.
-use Rattle.std.proofs.Common.{◌≡◌, ◌<◌, ◌-◌, ◌++◌, ℕ, List, ◌∷◌, [], Bool, true, false, Option, Some, None, length, slice_get, IfSome, IfNone, IsPermutation, MatchOption, subst, sym, refl, arith, Bor, Contains, option_to_list, option_copied, IsSortedBy}
+use Rattle.std.proofs.Common.{◌≡◌, ◌<◌, ◌-◌, ◌++◌, ℕ, List, ◌∷◌, [], Bool, true, false, Option, Some, None, length, slice_get, IfSome, IfNone, IsPermutation, MatchOption, subst, sym, refl, ap, ◌∙◌, append-nil, arith, Bor, Contains, option_to_list, option_copied, IsSortedBy}
 use Rattle.std.specs.Cmp.{IsTotalOrder}
 use Rattle.std.proofs.lemmas.List.Elements.{All-append, All-contains, Contains-append_right}
-use Rattle.std.proofs.lemmas.List.Sorted.{IsPermutation-to_front, IsPermutation-sym, Contains-permutation}
+use Rattle.std.proofs.lemmas.List.Sorted.{IsPermutation-append_right, IsPermutation-to_front, IsPermutation-sym, IsPermutation-trans, Contains-permutation}
 use Rattle.std.proofs.lemmas.Option.{get_or_from_slice_get, slice_get_within, slice_get-get_or}
 use Rattle.vlink.specs.declared.message.Message.{Message}
 use Rattle.vlink.specs.Order.{message_cmp, message_order}
@@ -62,3 +62,9 @@ first-out O old new m (Some z) there first p q none =
     let inside : Contains old z = Contains-permutation (z ∷ new) old z (IsPermutation-sym old (z ∷ new) p) (0, omega arith, refl) in
     let same : z ≡ m = O.total z m (All-contains (λ x. is_before x m ≡ false) old z first inside) (All-contains (λ x. is_before x z ≡ false) old m q there) in
     subst (λ (w : Message). IsPermutation old (w ∷ new)) same p
+
+-- all that was in no order lies beside now, in order
+pub put-beside : (lists now far put offers : List Message) → offers ≡ [] → IsPermutation lists (now ++ far) → IsPermutation far put → IsPermutation (lists ++ offers) (now ++ put)
+put-beside lists now far put offers none p q =
+    subst (λ (zs : List Message). IsPermutation zs (now ++ put)) (sym (ap (λ z. lists ++ z) none ∙ append-nil lists))
+    (IsPermutation-trans lists (now ++ far) (now ++ put) p (IsPermutation-append_right now far put q))

@@ -1,8 +1,8 @@
 -- Where nothing changed but the order of the queue, the group stands for what it stood for.
-use Rattle.std.proofs.Common.{◌≡◌, ◌≢◌, ℕ, ◌≤◌, false, Option, Some, None, IfSome, IfNone, List, [], ◌∷◌, ◌++◌, length, All, Contains, IsPermutation, Result, Ok, Err, OnErr, slice_get, refl, sym, ap, ◌∙◌, subst, append-nil, arith}
+use Rattle.std.proofs.Common.{◌≡◌, ◌≢◌, ℕ, ◌+◌, ◌<◌, ◌≤◌, inl, inr, false, Option, Some, None, IfSome, IfNone, List, [], ◌∷◌, ◌++◌, length, All, Contains, IsPermutation, Result, Ok, Err, OnErr, slice_get, refl, sym, ap, ◌∙◌, subst, append-nil, arith}
 use Rattle.std.proofs.lemmas.List.{nil_from_length}
 use Rattle.std.proofs.lemmas.List.Sorted.{IsPermutation-refl, IsPermutation-sym, IsPermutation-trans, length_permutation, Contains-permutation, All-permutation}
-use Rattle.std.proofs.lemmas.List.Elements.{All-weaker}
+use Rattle.std.proofs.lemmas.List.Elements.{All-contains, All-weaker}
 use Rattle.vlink.specs.declared.message.Message.{Message}
 use Rattle.vlink.specs.Order.{message_order}
 use Rattle.virtual_time.specs.Law.{IsOrder, IsAscending, World, received_by}
@@ -15,6 +15,7 @@ use Rattle.two_lists.proofs.Counting.{times-permutation}
 use Rattle.hand.specs.declared.block.Did.{Did}
 use Rattle.hand.specs.Deeds.{Deed, messages_of}
 use Rattle.hand.specs.Flow.{Flow, IsFirst, TookFirst}
+use Rattle.hand.specs.Handling.{IsHandled}
 use Rattle.hand.specs.Hands.{Held, DoesSent, StandsForSent, IsAsBefore, is_ours}
 use Rattle.hand.specs.Passing.{held}
 use Rattle.hand.specs.Rows.{Sealed}
@@ -108,6 +109,24 @@ first-again (Some m) old new p among first none =
 -- what is not before the first message is not earlier
 pub not-earlier : IsOrder message_order → (limit : ℕ) (m : Message) (xs : List Message) → limit ≤ m.time → All (λ x. is_before x m ≡ false) xs → All (λ x. limit ≤ x.time) xs
 not-earlier O limit m xs l a = All-weaker (λ x. is_before x m ≡ false) (λ x. limit ≤ x.time) (λ x e. let k = not_less-time message_order O x m e in omega arith) xs a
+
+-- the first message was handled, where only the order of the queue and the room had changed before; some message is earlier than the limit, so the first is
+pub handled-soon : {S K : Type 0} → IsOrder message_order → (limit : ℕ) (h mid new : Held S K) → IsAsBefore h mid → ((y : Message) × Contains h.flow.queue y × (y.time < limit)) →
+    ((m : Message) × Contains mid.flow.queue m × All (λ x. is_before x m ≡ false) mid.flow.queue × IsHandled m mid new) →
+    (m : Message) × Contains h.flow.queue m × (m.time < limit) × IsHandled m h new
+handled-soon O limit h mid new a soon r =
+    let m = r.0 in
+    let y = soon.0 in
+    let there = Contains-permutation h.flow.queue mid.flow.queue y a.queue soon.1 in
+    let e = not_less-time message_order O y m (All-contains (λ x. is_before x m ≡ false) mid.flow.queue y r.2 there) in (
+      m,
+      Contains-permutation mid.flow.queue h.flow.queue m (IsPermutation-sym h.flow.queue mid.flow.queue a.queue) r.1,
+      (let l = soon.2 in omega arith),
+      elim r.3 [
+        | inl n ↦ inl (n ∙ ap (λ z. length z + 1) a.done)
+        | inr p ↦ inr (IsPermutation-trans h.flow.queue mid.flow.queue (m ∷ new.flow.queue) a.queue p)
+      ],
+    )
 
 module _ {S K : Type 0} (plain : Plain S Message Sends K) (V : S → Message → Type 0) (O : IsOrder message_order)
     (law : (s : S) (e : Message) → plain.before (plain.after s e) e (plain.saves s e) ≡ s) where

@@ -1,5 +1,5 @@
 -- The first message of the queue, where members may have done later events than it: it is handled, or counts beside.
-use Rattle.std.specs.Prelude.{◌≡◌, ℕ, ◌==◌, true, false, List, ◌∷◌, ◌++◌, length, reverse, slice_get, Some, All, IsPermutation}
+use Rattle.std.specs.Prelude.{◌≡◌, ℕ, ◌+◌, ◌==◌, ◌⊎◌, true, false, List, ◌∷◌, ◌++◌, length, reverse, slice_get, Some, All, IsPermutation}
 use Rattle.vlink.specs.declared.message.Message.{Message}
 use Rattle.vlink.specs.declared.note.Note.{Note}
 use Rattle.virtual_time.specs.Law.{Order, Rules, IsIn, times_in, plus_of}
@@ -39,6 +39,21 @@ pub record SetAside {K : Type 0} (o : Order Message) (m : Message) (done front a
   pub late : All (λ y. o.less y m ≡ false) (messages_of behind)
   pub others : All (λ y. (o.receiver y == o.receiver m) ≡ false) (messages_of behind)
   pub is_aside : aside ≡ reverse behind
+
+-- the newest event comes before m, or is of its receiver
+abbrev pub StopsAt : {K : Type 0} → Order Message → Message → List (Deed K) → Type 0
+StopsAt o m front = (y : Message) → newest_of (messages_of front) ≡ Some y → o.less y m ≡ false → o.receiver y ≡ o.receiver m
+
+-- the receiver of m has done a message that does not come before it
+pub record HasLater {K : Type 0} (o : Order Message) (m : Message) (done : List (Deed K)) : Type 0 where
+  pub later : Message
+  pub is_done : IsIn o later (messages_of done)
+  pub of_receiver : o.receiver later ≡ o.receiver m
+  pub not_before : o.less later m ≡ false
+
+-- one event more is done; or this message, which was done already, left the queue
+abbrev pub IsHandled : {S K : Type 0} → Message → Held S K → Held S K → Type 0
+IsHandled m old new = (length new.done ≡ length old.done + 1) ⊎ IsPermutation old.flow.queue (m ∷ new.flow.queue)
 
 -- a message of the queue is done already: it leaves the queue and counts beside
 pub record CountsAgain {K : Type 0} (o : Order Message) (m : Message) (done : List (Deed K)) (old new : Flow) : Type 0 where

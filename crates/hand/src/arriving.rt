@@ -1,5 +1,5 @@
 //! Letters that were taken arrive, one after another.
-ghost use Rattle.std.specs.Prelude.{◌≡◌, ◌+◌, ◌<◌, true, false, Ok, OnOk, OnErr, IfErr, IfSome, length};
+ghost use Rattle.std.specs.Prelude.{◌≡◌, ◌+◌, ◌<◌, true, false, Ok, OnOk, OnErr, IfErr, IfSome, IsPermutation, length};
 ghost use Rattle.reverse.specs.Rules.{rules_of};
 ghost use Rattle.hand.specs.Hands.{DoesTold, IsAsBefore, IsQuiet};
 ghost use Rattle.hand.specs.Undoing.{sent_in};
@@ -8,17 +8,49 @@ ghost use Rattle.hand.specs.declared.fault.HandFault.TheVariants.{OutOfMemory};
 use crate::arrive::arrive;
 use crate::fault::HandFault;
 use crate::hand::Hand;
+use crate::letters::Letters;
 use reverse::{Actor, actor_rules};
 
 impl<R: Actor> Hand<R> {
+    /// Whether no letter waits to arrive.
+    #[inline(always)]
+    fn is_quiet(&self) -> bool
+        ensures { result ≡ true → IsQuiet self.now }
+    {
+        self.letters.tray.is_empty()
+    }
+
     /// All letters that were taken arrive, and what is taken back by that within the group arrives too. A refusal stops between two letters.
+    #[inline(always)]
     pub fn arrive_all(&mut self) -> Result<(), HandFault>
+        ensures did { DoesTold (rules_of R.plain) R.is_value self.old self.new }
+        ensures quiet { OnOk result (IsQuiet self.new) }
+        ensures memory { IfErr result (λ fault. fault ≡ OutOfMemory) }
+    {
+        actor_rules::<R>();
+        if self.is_quiet() {
+            return Ok(());
+        }
+        self.arrive_each()?;
+        self.sort_many();
+        Ok(())
+    }
+
+    /// Does what `arrive_all` does, and leaves the queue as it comes.
+    fn arrive_each(&mut self) -> Result<(), HandFault>
         ensures did { DoesTold (rules_of R.plain) R.is_value self.old self.new }
         ensures quiet { OnOk result (IsQuiet self.new) }
         ensures memory { IfErr result (λ fault. fault ≡ OutOfMemory) }
     {
         'letters: while self.arrive_front()? {}
         Ok(())
+    }
+
+    /// Where many messages wait in no order, they are put in order.
+    fn sort_many(&mut self)
+        ensures { IsAsBefore self.old self.new }
+    {
+        self.letters.sort_many();
     }
 
     /// The front of the tray arrives, if there is one. The answer is whether there was. A refusal leaves all as it was.
@@ -46,6 +78,16 @@ impl<R: Actor> Hand<R> {
             &letter,
         )?;
         Ok(true)
+    }
+}
+
+impl Letters {
+    /// Where many messages wait in no order, they are put in order.
+    fn sort_many(&mut self)
+        ensures queue { IsPermutation self.old.queue self.new.queue }
+        ensures others { self.new ≡ record self.old { queue = self.new.queue; room = self.new.room } }
+    {
+        self.queue.sort_many();
     }
 }
 

@@ -1,11 +1,11 @@
 //! The first message of a group is handled, where it comes after all that the group has done.
-ghost use Rattle.std.specs.Prelude.{◌≡◌, ℕ, ◌+◌, ◌<◌, ◌≤◌, true, false, [], List, Some, Ok, OnErr, IfErr, length, slice_get};
+ghost use Rattle.std.specs.Prelude.{◌≡◌, ℕ, ◌+◌, ◌<◌, ◌≤◌, ◌++◌, ◌∷◌, true, false, [], List, Some, Ok, OnErr, IfErr, length, slice_get};
 ghost use Rattle.vlink.specs.Order.{message_order};
 ghost use Rattle.vlink.specs.Numbering.{greatest_number};
 ghost use Rattle.reverse.specs.Rules.{rules_of};
 ghost use Rattle.antimessages.specs.Counting.{is_after};
 ghost use Rattle.process_queues.specs.Past.{newest_of};
-ghost use Rattle.hand.specs.Deeds.{messages_of};
+ghost use Rattle.hand.specs.Deeds.{Deed, messages_of};
 ghost use Rattle.hand.specs.Hands.{DoesSent};
 ghost use Rattle.hand.specs.Flow.{Flow, TookFirst};
 ghost use Rattle.hand.specs.Passing.{held};
@@ -52,6 +52,7 @@ pub(crate) fn handle_first<R: Actor>(
     ensures len { length members.new ≡ length members.old }
     ensures did { (rows : Sealed) (before : Flow) → TookFirst message.now before letters.old →
         DoesSent (rules_of R.plain) R.is_value (held members.old done.old.deeds rows before) [] (held members.new done.new.deeds rows letters.new) [] }
+    ensures done { (d : Deed R.Record) × (done.new.deeds ≡ done.old.deeds ++ d ∷ []) × (d.message ≡ message.now) }
     ensures came { ((p : ℕ) → CameTo (rules_of R.plain) R.is_value members.old done.old.deeds p) → (p : ℕ) → CameTo (rules_of R.plain) R.is_value members.new done.new.deeds p }
 {
     actor_rules::<R>();
@@ -75,6 +76,8 @@ pub(crate) fn standing<R: Actor>(
     ensures early { result ≡ Ok Ran → is_after message_order (newest_of (messages_of done.now.deeds)) message.now ≡ true }
     ensures able { result ≡ Ok Ran → (s : R) × (slice_get members.now message.now.receiver ≡ Some (Some s)) × (R.plain.counter s + 24 ≤ greatest_number) }
     ensures idle { result ≡ Ok Idle → limit ≤ message.now.time }
+    ensures soon { result ≡ Ok Ran → message.now.time < limit }
+    ensures late_soon { result ≡ Ok Late → message.now.time < limit }
     ensures late { result ≡ Ok Late → is_after message_order (newest_of (messages_of done.now.deeds)) message.now ≡ false }
     ensures exhausted { IfErr result (λ fault. fault ≡ Exhausted) }
     ensures after { OnErr result (is_after message_order (newest_of (messages_of done.now.deeds)) message.now ≡ true) }

@@ -1,5 +1,5 @@
 //! The first message of the queue is handled where other members have done later events, which stay done.
-ghost use Rattle.std.specs.Prelude.{◌≡◌, ◌≢◌, ℕ, ◌+◌, ◌<◌, ◌≤◌, ◌++◌, [], ◌∷◌, true, false, All, Contains, List, Option, Some, length, map, slice_get};
+ghost use Rattle.std.specs.Prelude.{◌≡◌, ◌≢◌, ℕ, ◌⊎◌, ◌+◌, ◌<◌, ◌≤◌, ◌++◌, [], ◌∷◌, true, false, All, Contains, List, Option, Some, length, map, slice_get};
 ghost use Rattle.vlink.specs.declared.message.Message.{Message};
 ghost use Rattle.vlink.specs.Numbering.{greatest_number};
 ghost use Rattle.vlink.specs.Order.{message_order};
@@ -8,7 +8,7 @@ ghost use Rattle.reverse.specs.Rules.{rules_of, is_before};
 ghost use Rattle.hand.specs.Arriving.{WentOn};
 ghost use Rattle.hand.specs.Deeds.{Deed, messages_of};
 ghost use Rattle.hand.specs.Flow.{WasTaken, WentAbroad};
-ghost use Rattle.hand.specs.Handling.{SetAside};
+ghost use Rattle.hand.specs.Handling.{HasLater, SetAside, StopsAt};
 ghost use Rattle.hand.specs.Hands.{DoesSent};
 ghost use Rattle.hand.specs.Passing.{held};
 ghost use Rattle.hand.specs.Rows.{Sealed};
@@ -65,6 +65,7 @@ fn set_newest_aside<K: Copy>(done: &mut Deeds<K>, aside: &mut Deeds<K>, message:
     ensures space { HasRoomFor done.new.deeds aside.new }
     ensures again { (more : List (Deed K)) → HasRoomFor (more ++ aside.old.deeds) done.old → HasRoomFor (more ++ aside.new.deeds) done.new }
     ensures fewer { result ≡ true → length done.new.deeds + 1 ≡ length done.old.deeds }
+    ensures stops { result ≡ false → StopsAt message_order message.now done.new.deeds }
 {
     if done.is_before(message) || done.newest_is_for(message.receiver) {
         return false;
@@ -79,6 +80,7 @@ fn set_aside<K: Copy>(done: &mut Deeds<K>, aside: &mut Deeds<K>, message: &Messa
     requires space { HasRoomFor done.old.deeds aside.old }
     ensures aside { SetAside message_order message.now done.old.deeds done.new.deeds aside.new.deeds }
     ensures again { (more : List (Deed K)) → HasRoomFor more done.old → HasRoomFor (more ++ aside.new.deeds) done.new }
+    ensures stops { StopsAt message_order message.now done.new.deeds }
 {
     'events: while set_newest_aside(done, aside, message) {}
 }
@@ -108,6 +110,7 @@ pub(crate) fn handle_late<R: Actor>(
     ensures did { (rows : Sealed) → DoesSent (rules_of R.plain) R.is_value (held members.old done.old.deeds rows letters.old) [] (held members.new done.new.deeds rows letters.new) [] }
     ensures came { (p : ℕ) → CameTo (rules_of R.plain) R.is_value members.new done.new.deeds p }
     ensures empty { aside.new.deeds ≡ [] }
+    ensures handled { (length done.new.deeds ≡ length done.old.deeds + 1) ⊎ HasLater message_order message.now done.old.deeds }
 {
     actor_rules::<R>();
     set_aside(done, aside, message);

@@ -1,6 +1,6 @@
 //! A hand is what one worker holds of a network: a group of processes, with one queue of messages for all of them, from which their events are done in
-//! message order, one list of done events, by which those that come too early are undone, and the letters that they sent to others. So an event costs
-//! little more than in a run of one thread, and only letters between groups pass from worker to worker.
+//! message order, one list of done events, by which those that come too early are undone, and the letters that they sent to others. So only letters
+//! between groups pass from worker to worker.
 //!
 //! Each call does steps of the law of virtual time, which join the block as words.
 #![tactic(auto)]
@@ -25,6 +25,7 @@ mod next;
 mod oldest;
 mod queue;
 mod rows;
+mod run;
 mod tray;
 mod undoing;
 

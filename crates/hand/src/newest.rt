@@ -1,5 +1,5 @@
 //! The newest of the done events of a group: which it is, and how it is taken off, or moved.
-ghost use Rattle.std.specs.Prelude.{◌≡◌, ◌==◌, ◌≢◌, ◌+◌, ◌-◌, ◌<◌, ◌≤◌, List, [], ◌∷◌, ◌++◌, true, false, All, Contains, length, take, drop, reverse, vec_len, vec_capacity, map, OnOk};
+ghost use Rattle.std.specs.Prelude.{◌≡◌, ◌==◌, ◌≢◌, ◌+◌, ◌-◌, ◌<◌, ◌≤◌, List, [], ◌∷◌, ◌++◌, true, false, Some, All, Contains, length, take, drop, reverse, vec_len, vec_capacity, map, OnOk};
 ghost use Rattle.std.specs.Option.{option_copied};
 ghost use Rattle.std.specs.VecDeque.{deque_len, deque_capacity};
 ghost use Rattle.vlink.specs.Order.{message_order};
@@ -27,7 +27,8 @@ impl<K: Copy> Deeds<K> {
 
     /// Whether the newest event, if there is one, is of this process.
     pub(crate) fn newest_is_for(&self, process: u16) -> bool
-        ensures { (front : List (Deed K)) (d : Deed K) → self.now.deeds ≡ front ++ d ∷ [] → result ≡ (d.message.receiver == process) }
+        ensures last { (front : List (Deed K)) (d : Deed K) → self.now.deeds ≡ front ++ d ∷ [] → result ≡ (d.message.receiver == process) }
+        ensures newest { (m : Message) → newest_of (messages_of self.now.deeds) ≡ Some m → result ≡ (m.receiver == process) }
     {
         match self.newest() {
             Some(message) => message.receiver == process,

@@ -11,6 +11,9 @@ use std::marker::Model;
 use two_lists::{TwoLists, sort, take_out};
 use vlink::{Message, lawful_order, message_order};
 
+/// So many messages that wait in no order are put in order at one go.
+const MANY: usize = 1024;
+
 /// The messages that a group has to handle. All offers are known from the start and are sorted once; one that is undone goes to the lists.
 ///
 /// Clauses see it as the list of all, in no particular order, in which a message can be several times, and for how many more there is room.
@@ -89,6 +92,19 @@ impl Queue {
         let _first = self.pop();
     }
 
+    /// Where many messages wait in no order, and no offers are left, they are put in order at one go, and lie beside as offers do.
+    pub(crate) fn sort_many(&mut self)
+        ensures { IsPermutation self.old.messages self.new.messages }
+    {
+        if !self.offers.is_empty() {
+            return;
+        }
+        let Some(far) = self.lists.take_far(MANY) else {
+            return;
+        };
+        self.offers = sorted(far);
+    }
+
     /// Makes room for so many messages more: as long as no other call comes between, so many calls of `push_reserved` have it.
     #[inline(always)]
     pub(crate) fn reserve(&mut self, more: usize) -> Result<(), AllocError>
@@ -121,4 +137,14 @@ impl Queue {
         }
         take_out(&mut self.offers, message)
     }
+}
+
+/// The messages in their order, the first of them at the end.
+fn sorted(messages: Vec<Message>) -> Vec<Message>
+    ensures falling { IsSortedBy (λ x y. is_before y x) result.items }
+    ensures same { IsPermutation messages.items result.items }
+{
+    let mut messages = messages;
+    sort(&mut messages);
+    messages
 }

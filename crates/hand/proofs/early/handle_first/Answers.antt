@@ -1,4 +1,4 @@
-use Rattle.std.proofs.Common.{ℕ, ◌∷◌, [], ◌++◌, Some, set, subst, sym, ap, ◌∙◌}
+use Rattle.std.proofs.Common.{ℕ, ◌∷◌, [], ◌++◌, Some, set, refl, subst, sym, ap, ◌∙◌}
 use Rattle.vlink.specs.Order.{message_order}
 use Rattle.virtual_time.specs.Law.{rows_of}
 use Rattle.reverse.specs.Rules.{rules_of}
@@ -43,3 +43,10 @@ returns-clause-came g c = λ came.
     subst (λ ms. (p : ℕ) → CameTo (rules_of plain) V ms c.push_reserved.new.self.deeds p) (sym (c.act-kept.ensures.members s at))
     (subst (λ ds. (p : ℕ) → CameTo (rules_of plain) V (set c.args.members.now m.receiver (Some (plain.after s m))) ds p) (sym later)
     (pushed-came (rules_of plain) c.actor_rules.ensures.order V c.args.members.now c.args.done.now.deeds m s at (c.act-kept.ensures.valid s at) came))
+
+pub returns-clause-done : goal.returns-clause-done
+returns-clause-done g c = (
+  record { message = c.args.message.now; kept = c.act-kept.result; sent = c.messages.result.now; rows = rows_of message_order c.args.message.now c.notes.result.now },
+  c.push_reserved.ensures.deeds,
+  refl,
+)

@@ -1,4 +1,4 @@
-use Rattle.std.proofs.Common.{◌≡◌, ℕ, ◌∷◌, [], ◌++◌, Some, length, map, reverse, set, subst, sym, ap, ◌∙◌, arith, rules}
+use Rattle.std.proofs.Common.{◌≡◌, ℕ, ◌∷◌, [], ◌++◌, Some, inl, inr, length, map, reverse, set, subst, sym, ap, ◌∙◌, arith, rules}
 use Rattle.std.proofs.lemmas.List.{length-map}
 use Rattle.std.proofs.lemmas.Option.{slice_get_within}
 use Rattle.vlink.specs.Order.{message_order}
@@ -11,6 +11,7 @@ use Rattle.hand.specs.Passing.{held}
 use Rattle.hand.specs.Undoing.{CameTo, HasRoomFor}
 use Rattle.hand.proofs.Among.{none-among}
 use Rattle.hand.proofs.LateEvent.{set-back, late-came, late-handles}
+use Rattle.hand.proofs.NotLater.{has-later, one-more}
 use Rattle.hand.proofs.Telling.{does-nothing}
 use Rattle.hand.proofs.late.handle_late.Given.{Over}
 use Rattle.hand.proofs.late.handle_late.Goals.{After-notes, After-bring_back-2}
@@ -117,3 +118,14 @@ returns-clause-did g c = λ rows.
     c.args.letters.now c.take_first.new.self c.tell.new.self c.send_later.new.letters m s at (c.act-kept.ensures.valid s at) c.set_aside.ensures.aside (search rules)
     (now-done g (goal.at.returns-clause-did g c).After-bring_back-2) c.requires.first (λ up. none-among O (messages_of c.args.done.now.deeds) m (c.requires.not_done up))
     c.take_first.ensures.taken c.take_first.ensures.others c.tell.ensures.told went c.send_later.ensures.queue c.send_later.ensures.extra)
+
+pub returns-then-not-is_before-clause-handled : goal.returns-then-not-is_before-clause-handled
+returns-then-not-is_before-clause-handled g c =
+    inr (has-later c.actor_rules.ensures.order c.args.message.now c.args.done.now.deeds c.set_aside.new.done.deeds c.set_aside.new.aside.deeds c.set_aside.ensures.aside
+    c.set_aside.ensures.stops (search rules))
+
+pub returns-clause-handled : goal.returns-clause-handled
+returns-clause-handled g c =
+    inl (one-more c.actor_rules.ensures.order c.args.message.now c.args.done.now.deeds c.set_aside.new.done.deeds c.set_aside.new.aside.deeds c.set_aside.ensures.aside
+    c.bring_back-2.new.done.deeds (deed_of (rules_of g.R.Reversible.plain) c.requires.able.0 c.args.message.now)
+    (now-done g (goal.at.returns-clause-handled g c).After-bring_back-2))

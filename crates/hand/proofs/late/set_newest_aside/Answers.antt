@@ -1,4 +1,4 @@
-use Rattle.std.proofs.Common.{◌≡◌, ◌<◌, true, false, List, [], ◌∷◌, ◌++◌, length, subst, refl, sym, ap, ◌∙◌, arith, rules}
+use Rattle.std.proofs.Common.{◌≡◌, ◌<◌, true, false, List, [], ◌∷◌, ◌++◌, length, subst, refl, sym, ap, ◌∙◌, arith, eqb-true, rules}
 use Rattle.std.proofs.lemmas.Bool.{both_ways}
 use Rattle.vlink.specs.declared.message.Message.{Message}
 use Rattle.vlink.specs.Order.{message_order}
@@ -11,6 +11,7 @@ use Rattle.hand.proofs.LateDeeds.{messages-append}
 use Rattle.hand.proofs.LateEvent.{aside-more}
 use Rattle.hand.proofs.NewestDeed.{newest-last}
 use Rattle.hand.proofs.Rooms.{room-behind}
+use Rattle.hand.proofs.late.set_newest_aside.Goals.{then-is_before-via-then-is_before, then-is_before-via-else-is_before+then-newest_is_for}
 use Rattle.hand.proofs.late.set_newest_aside.Goals as goal
 
 some-newest : {K : Type 0} (ds : List (Deed K)) (m : Message) → is_after message_order (newest_of (messages_of ds)) m ≡ false → 0 < length ds
@@ -40,3 +41,10 @@ returns-clause-again g c = λ more h.
     let now = c.move_newest.ensures.moved.2 in
     let aside = c.args.aside.now.deeds in
     subst (λ z. HasRoomFor (more ++ z) c.move_newest.new.self) (sym now) (room-behind more aside d c.move_newest.new.self (c.move_newest.ensures.moved.3 (more ++ aside) h))
+
+pub returns-then-is_before-clause-stops : goal.returns-then-is_before-clause-stops
+returns-then-is_before-clause-stops g c = λ _ y e h. elim c.then-is_before.branch [
+  | then-is_before-via-then-is_before w ↦ absurd (both_ways (message_order.less y c.args.message.now) h
+      (sym (ap (λ z. is_after message_order z c.args.message.now) e) ∙ sym w.if-is_before.ensures))
+  | then-is_before-via-else-is_before+then-newest_is_for w ↦ eqb-true _ _ (sym (w.if-newest_is_for.ensures.newest y e))
+]

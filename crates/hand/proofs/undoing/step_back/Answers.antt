@@ -13,7 +13,7 @@ use Rattle.hand.proofs.undoing.step_back.Goals as goal
 mine : (g : Over) (c : After-pop_newest-event g) → c.pop_newest-event.ensures.popped.0.message.receiver ≡ c.args.message.now.receiver
 mine g c =
     let d = c.pop_newest-event.ensures.popped in
-    eqb-true d.0.message.receiver c.args.message.now.receiver (sym (c.if-newest_is_for.ensures c.pop_newest-event.new.self.deeds d.0 d.1))
+    eqb-true d.0.message.receiver c.args.message.now.receiver (sym (c.if-newest_is_for.ensures.last c.pop_newest-event.new.self.deeds d.0 d.1))
 
 pub undo-requires : goal.undo-requires
 undo-requires g c = λ s e.
@@ -65,7 +65,7 @@ returns-then-newest_is_for-clause-again g c = λ h. c.pop_newest-event.ensures.s
 another : (g : Over) (c : After-move_newest g) → c.move_newest.ensures.moved.0.message.receiver ≡ c.args.message.now.receiver → ⊥
 another g c e =
     let d = c.move_newest.ensures.moved in
-    both_ways (d.0.message.receiver == c.args.message.now.receiver) (sym (c.if-newest_is_for.ensures c.move_newest.new.self.deeds d.0 d.1))
+    both_ways (d.0.message.receiver == c.args.message.now.receiver) (sym (c.if-newest_is_for.ensures.last c.move_newest.new.self.deeds d.0 d.1))
     (eq-eqb d.0.message.receiver c.args.message.now.receiver e)
 
 pub returns-else-newest_is_for-clause-came : goal.returns-else-newest_is_for-clause-came

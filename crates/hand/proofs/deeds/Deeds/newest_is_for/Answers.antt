@@ -5,14 +5,20 @@ use Rattle.hand.proofs.LateDeeds.{messages-append}
 use Rattle.hand.proofs.NewestDeed.{newest-last, same-newest, no-newest}
 use Rattle.hand.proofs.deeds.Deeds.newest_is_for.Goals as goal
 
-pub returns-in-Some : goal.returns-in-Some
-returns-in-Some g c = λ front d e.
+pub returns-in-Some-clause-last : goal.returns-in-Some-clause-last
+returns-in-Some-clause-last g c = λ front d e.
     let newest : newest_of (messages_of c.args.self.now.deeds) ≡ Some d.message =
     ap (λ z. newest_of (messages_of z)) e ∙ (ap newest_of (messages-append front (d ∷ [])) ∙ newest-last (messages_of front) d.message) in
     ap (λ z. z.receiver == c.args.process) (same-newest c.newest.result c.in-Some.message d.message (c.newest.ensures ∙ newest) c.in-Some.is)
 
-pub returns-in-None : goal.returns-in-None
-returns-in-None g c = λ front d e.
+pub returns-in-None-clause-last : goal.returns-in-None-clause-last
+returns-in-None-clause-last g c = λ front d e.
     let newest : newest_of (messages_of c.args.self.now.deeds) ≡ Some d.message =
     ap (λ z. newest_of (messages_of z)) e ∙ (ap newest_of (messages-append front (d ∷ [])) ∙ newest-last (messages_of front) d.message) in
     absurd (no-newest c.newest.result d.message (c.newest.ensures ∙ newest) c.in-None.is)
+
+pub returns-in-Some-clause-newest : goal.returns-in-Some-clause-newest
+returns-in-Some-clause-newest g c = λ m e. ap (λ z. z.receiver == c.args.process) (same-newest c.newest.result c.in-Some.message m (c.newest.ensures ∙ e) c.in-Some.is)
+
+pub returns-in-None-clause-newest : goal.returns-in-None-clause-newest
+returns-in-None-clause-newest g c = λ m e. absurd (no-newest c.newest.result m (c.newest.ensures ∙ e) c.in-None.is)

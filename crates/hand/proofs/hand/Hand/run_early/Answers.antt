@@ -1,4 +1,4 @@
-use Rattle.std.proofs.Common.{◌≡◌, ◌≢◌, List, Some, false, All, Contains, slice_get, subst, sym, ap, ◌∙◌, refl}
+use Rattle.std.proofs.Common.{◌≡◌, ◌≢◌, ◌<◌, List, [], ◌∷◌, ◌++◌, Some, false, All, Contains, slice_get, subst, sym, ap, ◌∙◌, refl, rules}
 use Rattle.vlink.specs.declared.message.Message.{Message}
 use Rattle.vlink.specs.Order.{message_order}
 use Rattle.virtual_time.specs.Law.{IsAscending}
@@ -11,7 +11,7 @@ use Rattle.hand.specs.Passing.{held}
 use Rattle.hand.proofs.NewestDeed.{after-none}
 use Rattle.hand.proofs.Still.{as-both, as-empty, as-put_back, as-roomy, on-err, still, took-first}
 use Rattle.hand.proofs.hand.Hand.run_early.Given.{Over}
-use Rattle.hand.proofs.hand.Hand.run_early.Goals.{After-reserve-2, After-wait_again}
+use Rattle.hand.proofs.hand.Hand.run_early.Goals.{After-reserve-2, After-wait_again, In-Some}
 use Rattle.hand.proofs.hand.Hand.run_early.Goals as goal
 
 -- after room was made
@@ -52,7 +52,7 @@ back g c before =
     (as-put_back members deeds rows c.reserve.new.self c.pop.new.self c.wait_again.new.self c.in-Some.message c.in-Some.ensures.taken c.wait_again.ensures.waits c.wait_again.ensures.others)
 
 -- it is the first of the queue
-first : (g : Over) (c : After-wait_again g) → Contains c.args.self.now.flow.queue c.in-Some.message × All (λ x. is_before x c.in-Some.message ≡ false) c.args.self.now.flow.queue
+first : (g : Over) (c : In-Some g) → Contains c.args.self.now.flow.queue c.in-Some.message × All (λ x. is_before x c.in-Some.message ≡ false) c.args.self.now.flow.queue
 first g c =
     subst (λ (q : List Message). Contains q c.in-Some.message × All (λ x. is_before x c.in-Some.message ≡ false) q)
     (ap (λ z. z.queue) c.reserve.ensures.same ∙ ap (λ h. h.flow.queue) c.self.view_is)
@@ -66,7 +66,7 @@ returns-in_default-early-clause-did g c =
 
 pub returns-in_default-early-clause-late : goal.returns-in_default-early-clause-late
 returns-in_default-early-clause-late g c = λ e.
-    let k = first g (goal.at.returns-in_default-early-clause-late g c).After-wait_again in (
+    let k = first g (goal.at.returns-in_default-early-clause-late g c).In-Some in (
       c.in-Some.message,
       subst (λ ds. is_after message_order (newest_of (messages_of ds)) c.in-Some.message ≡ false) (c.reserve-2.ensures.same ∙ ap (λ h. h.done) c.self.view_is) (c.standing-early.ensures.late e),
       k.0,
@@ -75,7 +75,7 @@ returns-in_default-early-clause-late g c = λ e.
 
 pub returns-in_default-early-clause-exhausted : goal.returns-in_default-early-clause-exhausted
 returns-in_default-early-clause-exhausted g c = λ e.
-    let k = first g (goal.at.returns-in_default-early-clause-exhausted g c).After-wait_again in
+    let k = first g (goal.at.returns-in_default-early-clause-exhausted g c).In-Some in
     let n = rw e at c.standing-early.ensures.numbers in (
       c.in-Some.message,
       k.0,
@@ -95,3 +95,29 @@ pub returns-in_default-early-clause-still : goal.returns-in_default-early-clause
 returns-in_default-early-clause-still g c = λ e.
     let at = goal.at.returns-in_default-early-clause-still g c in
     back g at.After-wait_again (roomy g at.After-reserve-2)
+
+pub returns-in_default-clause-idle_still : goal.returns-in_default-clause-idle_still
+returns-in_default-clause-idle_still g c = λ _.
+    let members = c.self.inside.members.items in
+    let deeds = c.reserve-2.new.self.deeds in
+    let rows = c.self.inside.rows in
+    as-both c.args.self.now (held members deeds rows c.reserve.new.self) (held members deeds rows c.pop.new.self) (roomy g (goal.at.returns-in_default-clause-idle_still g c).After-reserve-2)
+    (as-empty members deeds rows c.reserve.new.self c.pop.new.self c.in_default.ensures.none c.in_default.ensures.empty c.pop.ensures.others)
+
+pub returns-in_default-early-clause-idle_still : goal.returns-in_default-early-clause-idle_still
+returns-in_default-early-clause-idle_still g c = λ e.
+    let at = goal.at.returns-in_default-early-clause-idle_still g c in
+    back g at.After-wait_again (roomy g at.After-reserve-2)
+
+pub returns-in_default-early-clause-soon : goal.returns-in_default-early-clause-soon
+returns-in_default-early-clause-soon g c = λ e.
+    let k = first g (goal.at.returns-in_default-early-clause-soon g c).In-Some in
+    (c.in-Some.message, k.0, c.standing-early.ensures.late_soon e)
+
+pub returns-in-Ok-Ran-clause-ran : goal.returns-in-Ok-Ran-clause-ran
+returns-in-Ok-Ran-clause-ran g c = λ _.
+    let q = c.args.self.now.flow.queue in
+    let k = first g (goal.at.returns-in-Ok-Ran-clause-ran g c).In-Some in
+    let d = c.handle_first.ensures.done in
+    let w = subst (λ (m : Message). Contains q m × All (λ x. is_before x m ≡ false) q × (m.time < c.args.limit)) (sym d.2) (k.0, k.1, c.standing-early.ensures.soon (search rules)) in
+    (d.0, d.1 ∙ ap (λ z. z ++ d.0 ∷ []) (c.reserve-2.ensures.same ∙ ap (λ h. h.done) c.self.view_is), w.0, w.1, w.2)

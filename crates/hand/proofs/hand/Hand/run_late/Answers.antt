@@ -1,20 +1,22 @@
-use Rattle.std.proofs.Common.{ℕ, ◌≡◌, ◌≢◌, [], List, Some, false, All, Contains, slice_get, subst, sym, ap, ◌∙◌, refl, rules}
+use Rattle.std.proofs.Common.{ℕ, ◌≡◌, ◌≢◌, ◌+◌, [], ◌∷◌, List, Some, inl, inr, false, All, Contains, IsPermutation, length, slice_get, subst, sym, ap, ◌∙◌, refl, rules}
 use Rattle.std.proofs.lemmas.List.{with_items_is}
-use Rattle.std.proofs.lemmas.List.Sorted.{Contains-permutation, All-permutation}
+use Rattle.std.proofs.lemmas.List.Sorted.{Contains-permutation, IsPermutation-trans, All-permutation}
 use Rattle.vlink.specs.declared.message.Message.{Message}
 use Rattle.vlink.specs.Order.{message_order}
 use Rattle.virtual_time.specs.Law.{IsAscending}
 use Rattle.reverse.specs.Rules.{rules_of, is_before}
 use Rattle.hand.specs.Deeds.{messages_of}
+use Rattle.hand.specs.Handling.{HasLater}
 use Rattle.hand.specs.Hands.{DoesSent, IsAsBefore}
 use Rattle.hand.specs.Passing.{held}
 use Rattle.hand.specs.Undoing.{CameTo}
 use Rattle.hand.proofs.Among.{contains-in}
 use Rattle.hand.proofs.CountsAgain.{counts-again}
+use Rattle.hand.proofs.NotLater.{not-later}
 use Rattle.hand.proofs.Telling.{does-both}
 use Rattle.hand.proofs.Still.{as-both, as-first, as-roomy, still}
 use Rattle.hand.proofs.hand.Hand.run_late.Given.{Over}
-use Rattle.hand.proofs.hand.Hand.run_late.Goals.{After-first, After-reserve, After-reserve-2}
+use Rattle.hand.proofs.hand.Hand.run_late.Goals.{After-first, After-reserve, After-reserve-2, In-Some}
 use Rattle.hand.proofs.hand.Hand.run_late.Goals as goal
 
 -- after a look at the first message
@@ -25,9 +27,6 @@ looked g c =
     (held c.self.inside.members.items c.self.inside.done.deeds c.self.inside.rows c.first.new.self)
     (subst (λ h. IsAsBefore h (held c.self.inside.members.items c.self.inside.done.deeds c.self.inside.rows c.first.new.self)) c.self.view_is
     (as-first c.self.inside.members.items c.self.inside.done.deeds c.self.inside.rows c.self.inside.letters c.first.new.self c.first.ensures.same c.first.ensures.others))
-
-pub returns-in_default-clause-did : goal.returns-in_default-clause-did
-returns-in_default-clause-did g c = looked g (goal.at.returns-in_default-clause-did g c).After-first
 
 pub count_again-requires-clause-among : goal.count_again-requires-clause-among
 count_again-requires-clause-among g c =
@@ -138,3 +137,38 @@ invariant_of-self-2 g c = (
   c.handle_late.ensures.empty,
   c.self.invariant.2,
 )
+
+-- the first of the queue, as it was
+first : (g : Over) (c : In-Some g) → Contains c.args.self.now.flow.queue c.in-Some.message × All (λ x. is_before x c.in-Some.message ≡ false) c.args.self.now.flow.queue
+first g c =
+    subst (λ (q : List Message). Contains q c.in-Some.message × All (λ x. is_before x c.in-Some.message ≡ false) q) (ap (λ h. h.flow.queue) c.self.view_is)
+    (c.in-Some.ensures.among, c.in-Some.ensures.first)
+
+pub returns-then-has-clause-ran : goal.returns-then-has-clause-ran
+returns-then-has-clause-ran g c = λ x v s.
+    let k = first g (goal.at.returns-then-has-clause-ran g c).In-Some in (
+      c.in-Some.message,
+      k.0,
+      k.1,
+      inr (subst (λ (q : List Message). IsPermutation q (c.in-Some.message ∷ c.count_again.new.self.queue)) (ap (λ h. h.flow.queue) c.self.view_is)
+          (IsPermutation-trans c.self.inside.letters.queue c.first.new.self.queue (c.in-Some.message ∷ c.count_again.new.self.queue) c.first.ensures.same c.in_ok-count_again.ensures.queue)),
+    )
+
+pub returns-clause-ran : goal.returns-clause-ran
+returns-clause-ran g c = λ x v stands.
+    let m = c.in-Some.message in
+    let k = first g (goal.at.returns-clause-ran g c).In-Some in
+    let same = c.reserve-2.ensures.same ∙ ap (λ h. h.done) c.self.view_is in
+    let able : (s : g.row.R.Denot) × (slice_get c.args.self.now.members m.receiver ≡ Some (Some s)) =
+    let a = c.if-not-has_numbers.ensures.yes refl in
+    (a.0, subst (λ ms. slice_get ms m.receiver ≡ Some (Some a.0)) (c.deref.ensures.value ∙ ap (λ h. h.members) c.self.view_is) a.1) in
+    let not_done = subst (λ ds. IsAscending message_order (messages_of ds) → All (λ y. y ≢ m) (messages_of ds)) (ap (λ h. h.done) c.self.view_is) (c.if-has.ensures.no refl) in (
+      m,
+      k.0,
+      k.1,
+      elim c.handle_late.ensures.handled [
+        | inl e ↦ inl (e ∙ ap (λ z. length z + 1) same)
+        | inr l ↦ absurd (not-later g.R.Reversible.plain g.R.Reversible.is_value c.actor_rules.ensures.order x v c.args.self.now m able.0 stands able.1 k.0 not_done
+            (subst (HasLater message_order m) same l))
+      ],
+    )

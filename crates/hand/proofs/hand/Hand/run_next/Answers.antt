@@ -1,8 +1,9 @@
 use Rattle.std.proofs.Common.{[], Ok, ◌+◌, ◌<◌, rules}
+use Rattle.std.proofs.lemmas.List.Sorted.{Contains-permutation}
 use Rattle.vlink.specs.Numbering.{greatest_number}
 use Rattle.reverse.specs.Rules.{rules_of}
 use Rattle.hand.proofs.Telling.{does-both}
-use Rattle.hand.proofs.Still.{as-both, exhausted-again, on-err}
+use Rattle.hand.proofs.Still.{as-both, exhausted-again, handled-soon, on-err, stands-still}
 use Rattle.hand.proofs.hand.Hand.run_next.Goals as goal
 
 pub returns-in_err-run_late-in-Late-clause-did : goal.returns-in_err-run_late-in-Late-clause-did
@@ -22,3 +23,19 @@ pub returns-in_err-run_late-in-Late-clause-exhausted : goal.returns-in_err-run_l
 returns-in_err-run_late-in-Late-clause-exhausted g c = λ e.
     exhausted-again c.args.self.now c.run_early.new.self (λ s. greatest_number < g.R.Reversible.plain.counter s + 24)
     (c.in_ok-run_early.ensures.still (λ j. Ok (c.in-Late.is j))) (c.run_late.ensures.exhausted (search rules))
+
+pub run_late-requires : goal.run_late-requires
+run_late-requires g c =
+    let k = c.in_ok-run_early.ensures.soon (λ j. Ok (c.in-Late.is j)) in
+    (k.0, Contains-permutation c.args.self.now.flow.queue c.run_early.new.self.flow.queue k.0 (c.in_ok-run_early.ensures.still (λ j. Ok (c.in-Late.is j))).queue k.1)
+
+pub returns-in_ok-run_late-in-Late-clause-ran : goal.returns-in_ok-run_late-in-Late-clause-ran
+returns-in_ok-run_late-in-Late-clause-ran g c = λ _ x v stands.
+    let plain = g.R.Reversible.plain in
+    let V = g.R.Reversible.is_value in
+    let O = c.actor_rules.ensures.order in
+    let old = c.args.self.now in
+    let mid = c.run_early.new.self in
+    let still = c.in_ok-run_early.ensures.still (λ j. Ok (c.in-Late.is j)) in
+    handled-soon O c.args.limit old mid c.run_late.new.self still (c.in_ok-run_early.ensures.soon (λ j. Ok (c.in-Late.is j)))
+    (c.in_ok-run_late-in-Late.ensures.ran x v (stands-still plain V O c.actor_rules.ensures.undoes old mid still x v stands))
