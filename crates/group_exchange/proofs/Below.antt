@@ -1,14 +1,14 @@
 -- Where no done event can be committed any more, none is earlier than the GVT that the group saw; and which process wants numbers.
-use Rattle.std.proofs.Common.{◌≡◌, ℕ, ◌+◌, ◌<◌, ◌≤◌, inl, inr, Bool, true, false, All, Contains, IfSome, List, [], ◌∷◌, ◌++◌, Some, is_some, pos, slice_get, refl, sym, ap, ◌∙◌, subst, arith}
+use Rattle.std.proofs.Common.{◌≡◌, ◌≢◌, ℕ, ◌+◌, ◌<◌, ◌≤◌, inl, inr, Bool, true, false, All, Contains, IfSome, List, [], ◌∷◌, ◌++◌, Some, is_some, pos, slice_get, refl, sym, ap, ◌∙◌, subst, arith}
 use Rattle.std.proofs.lemmas.Bool.{both_ways, cases_lt}
 use Rattle.std.proofs.lemmas.Int.{ints}
 use Rattle.std.proofs.lemmas.List.Elements.{All-cons, All-nil}
 use Rattle.vlink.specs.declared.message.Message.{Message}
 use Rattle.vlink.specs.Order.{message_order}
 use Rattle.vlink.specs.Numbering.{greatest_number}
-use Rattle.virtual_time.specs.Law.{IsOrder, World, IsAscending, IsIn, IsSafeGroup, least, minuses, pluses, reached, times_in}
+use Rattle.virtual_time.specs.Law.{IsOrder, World, IsAscending, IsIn, IsSafeGroup, done_by, in_hand, minuses, pluses, reached, times_in}
+use Rattle.virtual_time.specs.declared.step.Step.{Step}
 use Rattle.virtual_time.proofs.Ascending.{ascending-once}
-use Rattle.virtual_time.proofs.Least.{least-from}
 use Rattle.virtual_time.proofs.Letters.{received-mine}
 use Rattle.virtual_time.proofs.Lists.{in-cons, in-head, times-append}
 use Rattle.virtual_time.proofs.Order.{less-time, not_less-time}
@@ -18,13 +18,17 @@ use Rattle.reverse.specs.Setting.{Setting, simulation_of}
 use Rattle.reverse.specs.declared.sends.Sends.{Sends}
 use Rattle.reverse.proofs.Members.{in-all}
 use Rattle.antimessages.specs.Counting.{signed_count}
+use Rattle.hand.specs.Block.{steps_told}
 use Rattle.hand.specs.Deeds.{deeds_at, deeds_of, messages_of}
-use Rattle.hand.specs.Hands.{FirstWaits, Held, IsMember, StandsForGroup, StaysDone, counted, is_ours}
+use Rattle.hand.specs.Flow.{Flow}
+use Rattle.hand.specs.Hands.{Held, IsAsBefore, IsMember, StandsForGroup, StaysDone, counted, is_ours}
 use Rattle.hand.specs.Sealing.{Stays}
-use Rattle.hand.proofs.Among.{contains-in}
+use Rattle.hand.proofs.Among.{contains-in, none-among}
 use Rattle.hand.proofs.Going.{held-is}
 use Rattle.hand.proofs.Member.{all-minuses, all-pluses, done-times, messages-of, next-here, present-here}
-use Rattle.group_exchange.specs.Effects.{WantsNumbers}
+use Rattle.group_exchange.specs.Views.{world_after}
+use Rattle.group_exchange.specs.Keeps.{Holds}
+use Rattle.group_exchange.specs.Effects.{IsShort, WantsNumbers}
 
 -- what holds of each message in a list
 each-in : IsOrder message_order → (P : Message → Type 0) (ms : List Message) → ((y : Message) → IsIn message_order y ms → P y) → All P ms
@@ -122,17 +126,31 @@ module _ {S K : Type 0} (plain : Plain S Message Sends K) (O : IsOrder message_o
       sym (ap messages_of e ∙ messages-of (rules_of plain) O V (reached (rules_of plain) (x.opening p) (v.parts p).committed) (v.parts p).done)
 
   -- the first message of the queue, where it is not done, is what its receiver handles next
-  pub wants : FirstWaits message_order h → (m : Message) → Contains h.flow.queue m → All (λ y. is_before y m ≡ false) h.flow.queue →
+  pub wants : (m : Message) → Contains h.flow.queue m → All (λ y. is_before y m ≡ false) h.flow.queue → (IsAscending message_order (messages_of h.done) → All (λ y. y ≢ m) (messages_of h.done)) →
       ((s : S) → slice_get h.members m.receiver ≡ Some (Some s) → greatest_number < plain.counter s + 24) →
       (is_ours h.members m.receiver ≡ true) × WantsNumbers (simulation_of (rules_of plain) x) [] (v.parts m.receiver)
-  wants first m c before few =
+  wants m c before new few =
       let i = contains-in O h.flow.queue m c in
       let low : (y : Message) → IsIn message_order y h.flow.queue → message_order.less y m ≡ false = λ y j. in-all message_order O (λ z. is_before z m ≡ false) y h.flow.queue before j in
-      let is-least : least message_order h.flow.queue ≡ Some m = least-from message_order O h.flow.queue m (record { inside = i; lowest = low }) in
-      let none : times_in message_order m (messages_of h.done) ≡ 0 = subst (λ o. IfSome o (λ z. times_in message_order z (messages_of h.done) ≡ 0)) is-least first in
+      let none = none-among O (messages_of h.done) m (new stands.ascending) in
       let t = waits m i in
       let k = its m t in
       let next = next-here (rules_of plain) O V (x.opening m.receiver) m.receiver (v.parts m.receiver) (at m t).0 h stands.beside k m refl i none low in (
         stands.home m t,
         (ap is_some next, subst (λ s. greatest_number < plain.counter s + 24) (sym k.state) (few (at m t).0 (at m t).1)),
       )
+
+-- where the first message of a group is not handled for want of numbers, its receiver wants them
+pub is-short : {S K : Type 0} {plain : Plain S Message Sends K} {number end : S → ℕ} {is_placed : S → Type 0} {x : Setting S} {owners : List ℕ} {V : S → Message → Type 0} {groups g seen : ℕ} {last : List Step} {h : Held S K} →
+    Holds (rules_of plain) number end is_placed x owners V groups g seen last h → IsOrder message_order → (new : Held S K) → IsAsBefore h new →
+    ((m : Message) × Contains h.flow.queue m × All (λ y. is_before y m ≡ false) h.flow.queue × (IsAscending message_order (messages_of h.done) → All (λ y. y ≢ m) (messages_of h.done))
+    × ((s : S) → slice_get h.members m.receiver ≡ Some (Some s) → greatest_number < plain.counter s + 24)) → (gone : ℕ) →
+    IsShort (simulation_of (rules_of plain) x) owners (record { number = g; held = new; last = last; seen = seen; gone = gone })
+is-short {plain = plain} {x = x} {owners = owners} {V = V} {seen = seen} {last = last} {h = h} old O new a e gone =
+    let f = simulation_of (rules_of plain) x in
+    let begun = in_hand f seen (world_after f last) in
+    let s = wants plain O V x (done_by f (steps_told h.flow.words) begun) h old.stands e.0 e.1 e.2 e.3 e.4 in (
+      e.0.receiver,
+      sym (old.ours e.0.receiver) ∙ s.0,
+      subst (λ ds. WantsNumbers f owners ((done_by f (steps_told ds) begun).parts e.0.receiver)) (sym (ap (λ (z : Flow). z.words) a.flow)) s.1,
+    )

@@ -46,3 +46,9 @@ module _ {S K : Type 0} {r : Rules Message S K Note} {number end : S → ℕ} {i
         stands = subst (λ ds. StandsForGroup r V x (done_by f (steps_told ds) v) new) (sym words) (stands _ old.stands);
         safe = subst (λ ds. IsSafeGroup f (is_of owners g) seen (done_by f (steps_told ds) v)) (sym words) old.safe;
       }
+
+  -- the same moment and steps, as they are seen elsewhere
+  pub holds-as : {h : Held S K} → Holds r number end is_placed x owners V groups g seen last h → (seen' : ℕ) (last' : List Step) → seen' ≡ seen → last' ≡ last →
+      Holds r number end is_placed x owners V groups g seen' last' h
+  holds-as {h = h} old seen' last' a b =
+      subst (λ n. Holds r number end is_placed x owners V groups g n last' h) (sym a) (subst (λ ss. Holds r number end is_placed x owners V groups g seen ss h) (sym b) old)

@@ -16,6 +16,13 @@ pub mod Halves
 pub mod Below
 pub mod Told
 pub mod Opened
+pub mod Trays
+pub mod Again
+pub mod Going
+pub mod Waiting
+pub mod Parting
+pub mod Ends
+pub mod Gathers
 pub mod RowOrder
 pub mod RowsWhole
 pub mod RowsKept

@@ -1,5 +1,5 @@
 -- Boxes of letters, one of them changed; and the letters that go to a group.
-use Rattle.std.proofs.Common.{◌≡◌, ◌≢◌, ℕ, zero, suc, ◌+◌, ◌<◌, ◌≤◌, ◌==◌, inl, inr, cond, min, List, [], ◌∷◌, ◌++◌, map, flat_map, set, get_or, length, take, slice_get, slice_index, All, IfSome, Option, Some, None, option_map, refl, sym, ap, ◌∙◌, subst, arith, append_assoc, append-nil, eq-eqb, ne_eqb}
+use Rattle.std.proofs.Common.{◌≡◌, ◌≢◌, ℕ, zero, suc, ◌+◌, ◌<◌, ◌≤◌, ◌^◌, ◌==◌, inl, inr, cond, min, List, [], ◌∷◌, ◌++◌, map, flat_map, set, get_or, length, take, slice_get, slice_index, All, IfSome, Option, Some, None, option_map, refl, sym, ap, ◌∙◌, subst, arith, append_assoc, append-nil, eq-eqb, ne_eqb}
 use Rattle.std.proofs.lemmas.Bool.{cases_eq}
 use Rattle.std.proofs.lemmas.Grind.{flat_map-append}
 use Rattle.std.proofs.lemmas.List.{take_more, map-append}
@@ -9,7 +9,7 @@ use Rattle.vlink.specs.Letters.{Letter}
 use Rattle.vlink.specs.Order.{message_order}
 use Rattle.vlink.specs.declared.message.Message.{Message}
 use Rattle.virtual_time.specs.Law.{Order, lowest, times_of}
-use Rattle.group_exchange.specs.Boxing.{is_of, is_number, for_group, box_of, HasRoom}
+use Rattle.group_exchange.specs.Boxing.{is_of, is_number, for_group, box_of, AreShort, HasRoom}
 
 module _ {X : Type 0} (f : X → List Letter) where
   -- the changed box
@@ -37,6 +37,20 @@ module _ {X : Type 0} (f : X → List Letter) where
   box-same [] i x y h e = refl
   box-same (z ∷ zs) zero x y h e = ap (λ u. u ∷ map f zs) (e ∙ ap f h)
   box-same (z ∷ zs) (suc i) x y h e = ap (λ u. f z ∷ u) (box-same zs i x y h e)
+
+  -- a box that is short comes in the place of another one
+  pub short-set : (xs : List X) (i : ℕ) (x : X) → length (f x) < 2 ^ 32 → AreShort (map f xs) → AreShort (map f (set xs i x))
+  short-set [] i x h short k d w = short k d w
+  short-set (y ∷ ys) zero x h short zero d w = h
+  short-set (y ∷ ys) zero x h short (suc k) d w = short (suc k) d (omega arith)
+  short-set (y ∷ ys) (suc i) x h short zero d w = short 0 d (omega arith)
+  short-set (y ∷ ys) (suc i) x h short (suc k) d w = short-set ys i x h (λ j e v. short (suc j) e (omega arith)) k d (omega arith)
+
+-- empty boxes are short
+pub short-none : (boxes : List (List Letter)) → ((g : ℕ) → box_of boxes g ≡ []) → AreShort boxes
+short-none [] none k d w = absurd (omega arith)
+short-none (b ∷ bs) none zero d w = let e = ap length (none 0) in omega arith
+short-none (b ∷ bs) none (suc k) d w = short-none bs (λ g. none (suc g)) k d (omega arith)
 
 module _ {X : Type 0} (r : X → ℕ) where
   -- the first boxes, and this one, have so much room

@@ -1,6 +1,8 @@
 -- An exchange of groups and its groups at the start.
-use Rattle.std.proofs.Common.{◌≡◌, ℕ, suc, ◌<◌, ◌≤◌, inl, true, All, List, [], ◌∷◌, map, length, slice_get, Some, refl, sym, ap, ◌∙◌, subst, arith}
+use Rattle.std.proofs.Common.{◌≡◌, ℕ, suc, ◌<◌, ◌≤◌, inl, true, All, List, [], ◌∷◌, map, length, slice_get, Some, IsPermutation, refl, sym, ap, ◌∙◌, subst, arith}
 use Rattle.std.proofs.lemmas.List.Elements.{All-cons, All-filter, All-nil, filter_passes}
+use Rattle.std.proofs.lemmas.List.{nil_from_length}
+use Rattle.std.proofs.lemmas.List.Sorted.{length_permutation}
 use Rattle.std.proofs.lemmas.Option.{slice_get_within}
 use Rattle.vlink.specs.declared.message.Message.{Message}
 use Rattle.vlink.specs.declared.note.Note.{Note}
@@ -10,7 +12,7 @@ use Rattle.virtual_time.specs.declared.step.Step.{Step}
 use Rattle.virtual_time.proofs.Lists.{in-head}
 use Rattle.reverse.specs.Setting.{Setting, simulation_of, IsLaidOut}
 use Rattle.gvt.specs.Horizon.{Floors}
-use Rattle.hand.specs.Hands.{Held, IsOpened, StandsForGroup, is_ours}
+use Rattle.hand.specs.Hands.{HasDoneNothing, Held, IsOpened, StandsForGroup, is_ours}
 use Rattle.group_exchange.specs.declared.mark.Standing.{Standing}
 use Rattle.group_exchange.specs.Views.{Boxes, IsUnplaced, box_of, for_group, is_of, world_after}
 use Rattle.group_exchange.specs.Keeps.{AreAsIn, AreGrouped, Holds, IsRecorded}
@@ -19,7 +21,20 @@ use Rattle.group_exchange.proofs.Collected.{of-process}
 use Rattle.group_exchange.proofs.Posted.{of-group}
 use Rattle.group_exchange.proofs.Holding.{holds-empty}
 use Rattle.group_exchange.proofs.Marks.{as-is}
+use Rattle.group_exchange.proofs.RowsKept.{each-message}
 use Rattle.group_exchange.proofs.SafeNow.{safe-now}
+
+-- a hand of no offers has done nothing
+pub nothing-done : {S K : Type 0} (h : Held S K) → h.done ≡ [] → h.rows ≡ record { all = []; left = 0 } → IsPermutation [] h.flow.queue → h.flow.extra ≡ [] → h.flow.tray ≡ [] → h.flow.abroad ≡ [] →
+    HasDoneNothing h
+nothing-done h done rows queue extra tray abroad = record {
+  done = done;
+  rows = ap (λ z. z.all) rows;
+  queue = nil_from_length h.flow.queue (length_permutation [] h.flow.queue queue);
+  extra = extra;
+  tray = tray;
+  abroad = abroad;
+}
 
 -- what holds of each message of a list holds of the letters that bring them
 each-offered : (o : Order Message) (O : IsOrder o) (P : Message → Type 0) (ms : List Message) → ((m : Message) → IsIn o m ms → P m) → All (λ l. P l.message) (map plus_of ms)
@@ -64,6 +79,11 @@ module _ {S K : Type 0} {r : Rules Message S K Note} {number end : S → ℕ} {i
           };
         };
       })
+
+  -- the offers go to processes
+  pub offers-home : IsOrder r.order → (offers : List Message) → offers ≡ x.offers → (count : ℕ) → count ≡ x.processes → All (λ m. r.order.receiver m < count) offers
+  offers-home O offers same count e =
+      each-message r.order O (λ m. r.order.receiver m < count) offers (λ m i. let a = laid.offered_to m (subst (IsIn r.order m) same i) in omega arith)
 
   -- a group that has done nothing
   pub holds-opened : Laws (simulation_of r x) → {V : S → Message → Type 0} (g : ℕ) → g < groups → (h : Held S K) → ((p : ℕ) → is_ours h.members p ≡ is_of owners g p) → h.flow.words ≡ [] →

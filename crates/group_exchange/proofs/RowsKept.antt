@@ -30,7 +30,7 @@ use Rattle.group_exchange.proofs.RowOrder.{event-rows, of-one-event, ordered-app
 use Rattle.group_exchange.proofs.Told.{by-same}
 
 -- what holds of each message in a list, and of one of them
-each-message : (o : Order Message) (O : IsOrder o) (P : Message → Type 0) (ms : List Message) → ((y : Message) → IsIn o y ms → P y) → All P ms
+pub each-message : (o : Order Message) (O : IsOrder o) (P : Message → Type 0) (ms : List Message) → ((y : Message) → IsIn o y ms → P y) → All P ms
 each-message o O P [] p = All-nil P
 each-message o O P (m ∷ ms) p = All-cons P m ms (p m (in-head o O m ms)) (each-message o O P ms (λ y i. p y (omega arith)))
 

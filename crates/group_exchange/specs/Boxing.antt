@@ -1,5 +1,5 @@
 -- Letters on their way between groups of processes.
-use Rattle.std.specs.Prelude.{◌≤◌, ℕ, ◌==◌, Bool, false, List, [], filter, slice_get, get_or, All, Option, Some, None}
+use Rattle.std.specs.Prelude.{◌<◌, ◌≤◌, ◌-◌, ◌^◌, ℕ, ◌==◌, Bool, false, List, [], filter, length, min, slice_get, get_or, All, Option, Some, None}
 use Rattle.vlink.specs.declared.message.Message.{Message}
 use Rattle.vlink.specs.Letters.{Letter}
 use Rattle.virtual_time.specs.Law.{Order}
@@ -26,6 +26,14 @@ box_of boxes g = get_or boxes g []
 -- of these letters those to processes of a group, in their order
 abbrev pub for_group : Order Message → List ℕ → ℕ → List Letter → List Letter
 for_group o owners g ls = filter (λ l. is_of owners g (o.receiver l.message)) ls
+
+-- each box has so few letters that a step of the journal can name the place of each
+abbrev pub AreShort : List (List Letter) → Type 0
+AreShort boxes = All (λ box. length box < 2 ^ 32) boxes
+
+-- for how many letters more a box has room that has so many, and memory for so many in all
+abbrev pub room_in : ℕ → ℕ → ℕ
+room_in capacity len = min capacity (2 ^ 32 - 1) - len
 
 -- each box has room for so many letters more
 abbrev pub HasRoom : ℕ → List ℕ → Type 0

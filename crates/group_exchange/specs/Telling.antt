@@ -1,5 +1,5 @@
 -- For which steps all that stands which a journal is told.
-use Rattle.std.specs.Prelude.{◌<◌, ◌^◌, ℕ, List, [], ◌∷◌, map, length, slice_get, Option, Some, None, All}
+use Rattle.std.specs.Prelude.{ℕ, List, [], ◌∷◌, map, length, slice_get, Option, Some, None}
 use Rattle.vlink.specs.Letters.{Letter}
 use Rattle.vlink.specs.Order.{message_order}
 use Rattle.virtual_time.specs.Law.{behind, received_by}
@@ -24,7 +24,3 @@ abbrev pub steps_by : Entry → List Step
 steps_by (Taken group boxes) = map (λ l. Take l.message.receiver 0) (box_of boxes.value.boxes group)
 steps_by (Did words boxes) = map (behind (waiting_for boxes.value)) (steps_told words.value.words)
 steps_by Set = Gvt ∷ []
-
--- no box has so many letters that a step cannot name the place of each
-abbrev pub AreShort : List (List Letter) → Type 0
-AreShort boxes = All (λ box. length box < 2 ^ 32) boxes

@@ -1,18 +1,18 @@
 //! Letters on their way between groups.
-ghost use Rattle.std.specs.Prelude.{◌≡◌, ◌≢◌, true, ℕ, ◌+◌, ◌<◌, ◌≤◌, [], ◌++◌, map, flat_map, length, slice_get, slice_index, All, OnOk, IfOk, IfSome};
+ghost use Rattle.std.specs.Prelude.{◌≡◌, ◌≢◌, ℕ, ◌<◌, [], ◌++◌, map, flat_map, length, slice_get, slice_index, All, OnOk, IfOk, IfSome};
 ghost use Rattle.virtual_time.specs.Law.{lowest, plus_of, times_of};
 ghost use Rattle.vlink.specs.Order.{message_order};
 ghost use Rattle.group_exchange.specs.Boxing.{HasRoom, box_of, for_group};
-ghost use Rattle.group_exchange.specs.Telling.{AreShort, waiting_for};
+ghost use Rattle.group_exchange.specs.Telling.{waiting_for};
 
-use crate::carrying::{are_short, count_for, least_time, make_room, owner_of, push_all, put_all};
+use crate::carrying::{count_for, least_time, make_room, owner_of, push_all, put_all};
 use antimessages::OutOfMemory;
 use std::alloc::Global;
 use std::marker::Model;
 use vlink::{Letter, Message, Time};
 
 /// The letters that were posted and not collected: for each group those that its processes receive, in the order in which they were posted.
-/// Groups and processes are numbered from 0.
+/// Groups and processes are numbered from 0. For each group they are fewer than 2 ^ 32, so that a step of the journal can name the place of each.
 #[derive(Drop)]
 pub struct Boxes {
     boxes: Vec<Vec<Letter>>,
@@ -21,19 +21,19 @@ pub struct Boxes {
 }
 
 impl Model for Boxes {
-    ghost use Rattle.std.specs.Prelude.{◌-◌, ◌<◌, map, length, All, vec_len, vec_capacity};
-    ghost use Rattle.group_exchange.specs.Boxing.{Boxes as Boxed};
+    ghost use Rattle.std.specs.Prelude.{◌<◌, map, length, All, vec_len, vec_capacity};
+    ghost use Rattle.group_exchange.specs.Boxing.{AreShort, Boxes as Boxed, room_in};
 
     ghost Value = { Boxed };
 
     ghost view = { λ b. record {
       boxes = map (λ x. x.items) b.boxes.items;
       owners = b.owners.items;
-      rooms = map (λ x. vec_capacity x - vec_len x) b.boxes.items;
+      rooms = map (λ x. room_in (vec_capacity x) (vec_len x)) b.boxes.items;
     } };
 
     // each process is of some group
-    ghost invariant = { λ b. All (λ owner. owner < length b.boxes.items) b.owners.items };
+    ghost invariant = { λ b. All (λ owner. owner < length b.boxes.items) b.owners.items × AreShort (map (λ x. x.items) b.boxes.items) };
 }
 
 impl Boxes {
@@ -84,20 +84,12 @@ impl Boxes {
 
     /// How many letters are on their way to a process; 0 where there is no such process.
     pub fn waiting(&self, process: u16) -> u32
-        requires { AreShort self.now.boxes }
         ensures { result ≡ waiting_for self.now process }
     {
-        match self.owner(process) {
-            Some(owner) => count_for(self.letters(owner), process),
+        match owner_of(&self.owners, process) {
+            Some(owner) => count_for(&self.boxes[usize::from(owner)], process),
             None => 0,
         }
-    }
-
-    /// Whether no box has so many letters that a step cannot name the place of each.
-    pub fn are_short(&self) -> bool
-        ensures { result ≡ true → AreShort self.now.boxes }
-    {
-        are_short(&self.boxes)
     }
 
     /// Makes room for so many letters more in each box.

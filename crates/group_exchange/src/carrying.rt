@@ -1,11 +1,10 @@
 //! Letters that are put into the boxes of groups, and the least of their times.
-ghost use Rattle.std.specs.Prelude.{◌≡◌, ℕ, ◌+◌, ◌-◌, ◌<◌, ◌≤◌, ◌^◌, true, [], ◌∷◌, ◌++◌, map, flat_map, length, slice_get, All, OnOk, vec_len, vec_capacity};
+ghost use Rattle.std.specs.Prelude.{◌≡◌, ℕ, ◌<◌, ◌≤◌, ◌^◌, [], ◌∷◌, ◌++◌, map, flat_map, length, slice_get, All, OnOk, vec_len, vec_capacity};
 ghost use Rattle.virtual_time.specs.Law.{lowest, plus_of, received_by, times_of};
 ghost use Rattle.vlink.specs.Order.{message_order};
-ghost use Rattle.group_exchange.specs.Boxing.{HasRoom, box_of, for_group};
-ghost use Rattle.group_exchange.specs.Telling.{AreShort};
+ghost use Rattle.group_exchange.specs.Boxing.{AreShort, HasRoom, box_of, for_group, room_in};
 
-use std::alloc::AllocError;
+use antimessages::OutOfMemory;
 use vlink::{Letter, Message, Sign, Time, earlier};
 
 /// The group of this process. None: there is no such process.
@@ -16,13 +15,25 @@ pub(crate) fn owner_of(owners: &[u16], process: u16) -> Option<u16>
 }
 
 /// Makes room for so many letters more in each box.
-pub(crate) fn make_room(boxes: &mut Vec<Vec<Letter>>, more: usize) -> Result<(), AllocError>
+pub(crate) fn make_room(boxes: &mut Vec<Vec<Letter>>, more: usize) -> Result<(), OutOfMemory>
     ensures items { map (λ x. x.items) boxes.new.items ≡ map (λ x. x.items) boxes.old.items }
-    ensures room { OnOk result (HasRoom more (map (λ x. vec_capacity x - vec_len x) boxes.new.items)) }
+    ensures room { OnOk result (HasRoom more (map (λ x. room_in (vec_capacity x) (vec_len x)) boxes.new.items)) }
 {
     for group in 0..boxes.len() {
-        boxes[group].reserve(more)?;
+        grow(&mut boxes[group], more)?;
     }
+    Ok(())
+}
+
+/// Makes room for so many items more in a box. It is refused to one that would have 2 ^ 32, since a step of the journal cannot name the place of each.
+fn grow<T>(items: &mut Vec<T>, more: usize) -> Result<(), OutOfMemory>
+    ensures items { items.new.items ≡ items.old.items }
+    ensures room { OnOk result (more ≤ room_in (vec_capacity items.new) (vec_len items.new)) }
+{
+    if items.len().saturating_add(more) > u32::MAX as usize {
+        return Err(OutOfMemory);
+    }
+    items.reserve(more)?;
     Ok(())
 }
 
@@ -30,9 +41,10 @@ pub(crate) fn make_room(boxes: &mut Vec<Vec<Letter>>, more: usize) -> Result<(),
 pub(crate) fn put_all(boxes: &mut Vec<Vec<Letter>>, owners: &[u16], letters: &[Letter])
     requires each { All (λ owner. owner < length boxes.old.items) owners.now }
     requires receivers { All (λ l. l.message.receiver < length owners.now) letters.now }
-    requires room { HasRoom (length letters.now) (map (λ x. vec_capacity x - vec_len x) boxes.old.items) }
+    requires room { HasRoom (length letters.now) (map (λ x. room_in (vec_capacity x) (vec_len x)) boxes.old.items) }
     ensures put { (g : ℕ) → g < length boxes.old.items → box_of (map (λ x. x.items) boxes.new.items) g
         ≡ box_of (map (λ x. x.items) boxes.old.items) g ++ for_group message_order owners.now g letters.now }
+    ensures short { AreShort (map (λ x. x.items) boxes.old.items) → AreShort (map (λ x. x.items) boxes.new.items) }
     ensures count { length boxes.new.items ≡ length boxes.old.items }
 {
     for letter in letters {
@@ -46,11 +58,12 @@ pub(crate) fn push_all(
     boxes: &mut Vec<Vec<Letter>>,
     owners: &[u16],
     messages: &[Message],
-) -> Result<(), AllocError>
+) -> Result<(), OutOfMemory>
     requires each { All (λ owner. owner < length boxes.old.items) owners.now }
     requires receivers { All (λ m. m.receiver < length owners.now) messages.now }
     ensures put { OnOk result ((g : ℕ) → g < length boxes.old.items → box_of (map (λ x. x.items) boxes.new.items) g
         ≡ box_of (map (λ x. x.items) boxes.old.items) g ++ for_group message_order owners.now g (map plus_of messages.now)) }
+    ensures short { OnOk result (AreShort (map (λ x. x.items) boxes.old.items) → AreShort (map (λ x. x.items) boxes.new.items)) }
     ensures count { length boxes.new.items ≡ length boxes.old.items }
 {
     for message in messages {
@@ -64,11 +77,13 @@ pub(crate) fn push_all(
     Ok(())
 }
 
-/// The item goes to the back.
-fn push<T: Copy>(items: &mut Vec<T>, item: T) -> Result<(), AllocError>
-    ensures { OnOk result (items.new.items ≡ items.old.items ++ item ∷ []) }
+/// The item goes to the back of a box.
+fn push<T: Copy>(items: &mut Vec<T>, item: T) -> Result<(), OutOfMemory>
+    ensures items { OnOk result (items.new.items ≡ items.old.items ++ item ∷ []) }
+    ensures short { OnOk result (length items.new.items < 2 ^ 32) }
 {
-    items.push(item)?;
+    grow(items, 1)?;
+    items.push_reserved(item);
     Ok(())
 }
 
@@ -104,16 +119,4 @@ pub(crate) fn count_for(letters: &[Letter], process: u16) -> u32
         .filter(|letter| letter.message.receiver == process)
         .count();
     count as u32
-}
-
-/// Whether no box has so many letters that a step cannot name the place of each.
-pub(crate) fn are_short(boxes: &[Vec<Letter>]) -> bool
-    ensures { result ≡ true → AreShort (map (λ x. x.items) boxes.now) }
-{
-    for letters in boxes {
-        if letters.len() > u32::MAX as usize {
-            return false;
-        }
-    }
-    true
 }

@@ -7,8 +7,8 @@ ghost use Rattle.group_exchange.specs.Views.{block_of, in_group, is_of, mark_at,
 ghost use Rattle.group_exchange.specs.Keeps.{AreAsIn};
 ghost use Rattle.group_exchange.specs.Effects.{block_in};
 
-use crate::exchange::GroupExchange;
 use crate::group::Group;
+use crate::groups::GroupExchange;
 use crate::run_of::GroupRun;
 use halves::agree;
 use reverse::Actor;

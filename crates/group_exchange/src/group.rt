@@ -33,7 +33,7 @@ impl<R: Actor, J: GroupRun<R>> Model for Group<R, J> {
     ghost use Rattle.std.specs.Prelude.{◌≡◌, suc, length};
     ghost use Rattle.reverse.specs.Rules.{rules_of};
     ghost use Rattle.group_exchange.specs.Views.{GroupState, last_in};
-    ghost use Rattle.group_exchange.specs.Keeps.{Holds, Tells};
+    ghost use Rattle.group_exchange.specs.Keeps.{Holds, KeepsRows, Tells};
 
     ghost Value = { GroupState R R.Record };
 
@@ -47,7 +47,8 @@ impl<R: Actor, J: GroupRun<R>> Model for Group<R, J> {
 
     ghost invariant = { λ g. Holds (rules_of R.plain) R.number R.end R.is_placed J.setting J.owners R.is_value (length J.names)
         g.number g.standing.seen (last_in g.standing) g.hand × Tells J.names g.number g.mark g.standing × (g.hand.flow.keeps ≡ J.keeps)
-        × (g.standing.steps ≡ length (last_in g.standing)) × (g.end ≡ suc J.setting.until) };
+        × (g.standing.steps ≡ length (last_in g.standing)) × (g.end ≡ suc J.setting.until)
+        × KeepsRows (rules_of R.plain) J.owners g.number g.standing.seen g.gone g.hand };
 }
 
 impl<R: Actor, J: GroupRun<R>> Group<R, J> {

@@ -4,23 +4,33 @@
 
 mod boxes;
 mod carrying;
+mod collecting;
 mod entry;
-mod exchange;
 mod fits;
 mod group;
+mod groups;
 mod listing;
 mod mark;
+mod opening;
 mod pairs;
+mod posting;
 mod publishing;
+mod reading;
 mod run_of;
+mod sealed;
+mod splitting;
 mod steps;
+mod working;
 
 pub use boxes::Boxes;
+pub use collecting::collect;
 pub use entry::Entry;
-pub use exchange::GroupExchange;
 pub use group::Group;
+pub use groups::GroupExchange;
 pub use mark::{Mark, Standing};
 pub use pairs::Pairs;
+pub use posting::post;
 pub use publishing::publish;
 pub use run_of::GroupRun;
 pub use steps::Steps;
+pub use working::work;

@@ -3,7 +3,7 @@ ghost use Rattle.std.specs.Prelude.{true, ◌≡◌, ◌+◌, ◌<◌, ◌≤◌
 ghost use Rattle.virtual_time.specs.Law.{behind};
 ghost use Rattle.virtual_time.specs.declared.step.Step.TheVariants.{Take};
 ghost use Rattle.hand.specs.Block.{steps_of_word, steps_told};
-ghost use Rattle.group_exchange.specs.Telling.{AreShort, waiting_for};
+ghost use Rattle.group_exchange.specs.Telling.{waiting_for};
 
 use crate::boxes::Boxes;
 use hand::{Did, Words};
@@ -26,7 +26,6 @@ pub(crate) fn list_takes(steps: &mut Vec<Step>, letters: &[Letter])
 pub(crate) fn list_block(steps: &mut Vec<Step>, words: &Words, boxes: &Boxes)
     requires keeps { words.now.keeps ≡ true }
     requires room { vec_len steps.old + length (steps_told words.now.words) ≤ vec_capacity steps.old }
-    requires short { AreShort boxes.now.boxes }
     ensures { steps.new.items ≡ steps.old.items ++ map (behind (waiting_for boxes.now)) (steps_told words.now.words) }
 {
     list_words(steps, words.list(), boxes);
@@ -35,7 +34,6 @@ pub(crate) fn list_block(steps: &mut Vec<Step>, words: &Words, boxes: &Boxes)
 /// The steps for which these words stand, each Take behind the letters that are on their way. There is room for them.
 fn list_words(steps: &mut Vec<Step>, words: &[Did], boxes: &Boxes)
     requires room { vec_len steps.old + length (steps_told words.now) ≤ vec_capacity steps.old }
-    requires short { AreShort boxes.now.boxes }
     ensures { steps.new.items ≡ steps.old.items ++ map (behind (waiting_for boxes.now)) (steps_told words.now) }
 {
     for did in words {
@@ -46,7 +44,6 @@ fn list_words(steps: &mut Vec<Step>, words: &[Did], boxes: &Boxes)
 /// The steps for which this word stands.
 fn list_word(steps: &mut Vec<Step>, did: Did, boxes: &Boxes)
     requires room { vec_len steps.old + length (steps_of_word did) ≤ vec_capacity steps.old }
-    requires short { AreShort boxes.now.boxes }
     ensures items { steps.new.items ≡ steps.old.items ++ map (behind (waiting_for boxes.now)) (steps_of_word did) }
     ensures len { vec_len steps.new ≡ vec_len steps.old + length (steps_of_word did) }
     ensures capacity { vec_capacity steps.new ≡ vec_capacity steps.old }

@@ -6,7 +6,7 @@ ghost use Rattle.reverse.specs.Setting.{simulation_of};
 ghost use Rattle.journal.specs.declared.fault.PoolFault.TheVariants.{OutOfMemory, JournalFull, Torn};
 ghost use Rattle.group_exchange.specs.Effects.{Publishes, IsHeldBack};
 
-use crate::exchange::GroupExchange;
+use crate::groups::GroupExchange;
 use crate::run_of::GroupRun;
 use gvt::Floors;
 use journal::PoolFault;

@@ -5,7 +5,7 @@ ghost use Rattle.virtual_time.specs.declared.step.Step.TheVariants.{Take, Gvt};
 ghost use Rattle.journal.specs.declared.fault.PoolFault.TheVariants.{OutOfMemory, Torn};
 ghost use Rattle.hand.specs.Block.{steps_told};
 ghost use Rattle.group_exchange.specs.Boxing.{box_of};
-ghost use Rattle.group_exchange.specs.Telling.{AreShort, waiting_for};
+ghost use Rattle.group_exchange.specs.Telling.{waiting_for};
 
 use crate::boxes::Boxes;
 use crate::entry::Entry;
@@ -131,7 +131,6 @@ impl Steps {
     pub fn tell(&mut self, words: &Words, boxes: &Boxes, count: u64)
         requires count { count ≡ length (steps_told words.now.words) }
         requires kept { self.old.keeps ≡ true → words.now.keeps ≡ true }
-        requires short { self.old.keeps ≡ true → AreShort boxes.now.boxes }
         requires some { 0 < self.old.room }
         requires room { count ≤ self.old.room }
         requires few { length self.old.steps + count < 2 ^ 63 }

@@ -1,12 +1,12 @@
 -- Rows that are gathered process by process.
-use Rattle.std.proofs.Common.{◌≡◌, ◌≢◌, ℕ, zero, suc, ◌+◌, ◌<◌, ◌≤◌, ◌==◌, Bool, true, cond, List, [], ◌∷◌, ◌++◌, refl, ap, sym, ◌∙◌, inl, inr, ◌⊎◌, arith, ne_eqb, eq-eqb, All, filter, flat_map, append-nil}
+use Rattle.std.proofs.Common.{◌≡◌, ◌≢◌, ℕ, zero, suc, ◌+◌, ◌<◌, ◌≤◌, ◌==◌, Bool, true, false, cond, List, [], ◌∷◌, ◌++◌, refl, ap, sym, ◌∙◌, inl, inr, ◌⊎◌, arith, ne_eqb, eq-eqb, All, filter, flat_map, append-nil}
 use Rattle.std.specs.List.{AllByRecursion, range_with_len}
-use Rattle.std.proofs.lemmas.Bool.{cases_lt}
+use Rattle.std.proofs.lemmas.Bool.{cases_lt, false_from_ne_true}
 use Rattle.std.proofs.lemmas.List.Elements.{filter-append, filter_passes, recursion_from_All, All-weaker, All-same}
 use Rattle.std.proofs.lemmas.Map.Views.{exact_unsigned_eq}
 use Rattle.virtual_time.specs.Law.{rows_at}
 use Rattle.vlink.specs.Letters.{Row}
-use Rattle.trace_segments.specs.Words.{gathered}
+use Rattle.trace_segments.specs.Words.{IsOfOneGroup, gathered}
 
 -- the rows are of this process
 abbrev pub AreAt : ℕ → List Row → Type 0
@@ -15,21 +15,32 @@ AreAt p rows = All (λ row. row.place ≡ p) rows
 pub rows_at-are : (p : ℕ) (rows : List Row) → AreAt p (rows_at p rows)
 rows_at-are p rows = All-weaker (λ row. (row.place == p) ≡ true) (λ row. row.place ≡ p) (λ row t. exact_unsigned_eq row.place p t) (rows_at p rows) (filter_passes (λ row. row.place == p) rows)
 
-own : (p : ℕ) (rows : List Row) → AllByRecursion (λ row. row.place ≡ p) rows → rows_at p rows ≡ rows
-own p [] h = refl
-own p (row ∷ rows) h = ap (λ b. cond b (row ∷ rows_at p rows) (rows_at p rows)) (eq-eqb row.place p h.0) ∙ ap (λ (rs : List Row). row ∷ rs) (own p rows h.1)
+-- a test that all rows pass, and one that none passes
+pub all-pass : (test : Row → Bool) (rows : List Row) → AllByRecursion (λ row. test row ≡ true) rows → filter test rows ≡ rows
+all-pass test [] h = refl
+all-pass test (row ∷ rows) h = ap (λ b. cond b (row ∷ filter test rows) (filter test rows)) h.0 ∙ ap (λ (rs : List Row). row ∷ rs) (all-pass test rows h.1)
 
-of-another : (p q : ℕ) (rows : List Row) → q ≢ p → AllByRecursion (λ row. row.place ≡ q) rows → rows_at p rows ≡ []
-of-another p q [] differ h = refl
-of-another p q (row ∷ rows) differ h =
-    ap (λ b. cond b (row ∷ rows_at p rows) (rows_at p rows)) (ne_eqb row.place p (λ e. differ (sym h.0 ∙ e))) ∙ of-another p q rows differ h.1
+none-pass : (test : Row → Bool) (rows : List Row) → AllByRecursion (λ row. test row ≡ false) rows → filter test rows ≡ []
+none-pass test [] h = refl
+none-pass test (row ∷ rows) h = ap (λ b. cond b (row ∷ filter test rows) (filter test rows)) h.0 ∙ none-pass test rows h.1
+
+-- a test that all rows of a process pass, or that none passes, by their place
+pub all-pass-at : (test : ℕ → Bool) (p : ℕ) (rows : List Row) → test p ≡ true → AreAt p rows → filter (λ row. test row.place) rows ≡ rows
+all-pass-at test p rows t h =
+    let P : Row → Type 0 = λ row. test row.place ≡ true in
+    all-pass (λ row. test row.place) rows (recursion_from_All P rows (All-weaker (λ row. row.place ≡ p) P (λ row e. ap test e ∙ t) rows h))
+
+pub none-pass-at : (test : ℕ → Bool) (p : ℕ) (rows : List Row) → test p ≡ false → AreAt p rows → filter (λ row. test row.place) rows ≡ []
+none-pass-at test p rows t h =
+    let P : Row → Type 0 = λ row. test row.place ≡ false in
+    none-pass (λ row. test row.place) rows (recursion_from_All P rows (All-weaker (λ row. row.place ≡ p) P (λ row e. ap test e ∙ t) rows h))
 
 -- all rows of a process are its rows, and another process has none of them
 pub rows_at-own : (p : ℕ) (rows : List Row) → AreAt p rows → rows_at p rows ≡ rows
-rows_at-own p rows h = own p rows (recursion_from_All (λ row. row.place ≡ p) rows h)
+rows_at-own p rows h = all-pass-at (λ q. q == p) p rows (eq-eqb p p refl) h
 
 pub rows_at-other : (p q : ℕ) (rows : List Row) → q ≢ p → AreAt q rows → rows_at p rows ≡ []
-rows_at-other p q rows differ h = of-another p q rows differ (recursion_from_All (λ row. row.place ≡ q) rows h)
+rows_at-other p q rows differ h = none-pass-at (λ r. r == p) q rows (ne_eqb q p differ) h
 
 -- the rows of many lists that pass a test are those of each list
 filter-flat_map : (test : Row → Bool) (rows_of : ℕ → List Row) (qs : List ℕ) → filter test (flat_map rows_of qs) ≡ flat_map (λ q. filter test (rows_of q)) qs
@@ -59,6 +70,22 @@ one-in-range {X} f p a (suc n) low high none = go (cases_lt a p) (λ lt. one-in-
         ap (λ (xs : List X). f a ++ xs) (none-in-range f (a + 1) n (λ q above below. none q (omega arith) (λ e. omega arith)))
         ∙ append-nil (f a)
         ∙ ap f here
+
+-- rows of one process are in the list of its group, and in that list alone
+pub gathered-by-group : (ours : ℕ → ℕ → Bool) (groups p : ℕ) → IsOfOneGroup ours groups p → (rows : List Row) → AreAt p rows →
+    gathered groups (λ g. filter (λ row. ours g row.place) rows) ≡ rows
+gathered-by-group ours groups p one rows at =
+    one-in-range (λ g. filter (λ row. ours g row.place) rows) one.group 0 groups (omega arith) (let below = one.below in omega arith)
+    (λ g below differ. none-pass-at (ours g) p rows (false_from_ne_true (ours g p) (λ t. differ (one.alone g t))) at)
+    ∙ all-pass-at (ours one.group) p rows one.its at
+
+-- and of no rows nothing is gathered
+pub nothing-by-group : (ours : ℕ → ℕ → Bool) (groups : ℕ) → gathered groups (λ g. filter (λ row. ours g row.place) []) ≡ []
+nothing-by-group ours groups = none-in-range (λ g. filter (λ row. ours g row.place) []) 0 groups (λ g low high. refl)
+
+-- a process is of one of the groups of single processes
+pub alone-in-group : (n p : ℕ) → p < n → IsOfOneGroup (λ g q. q == g) n p
+alone-in-group n p below = record { group = p; below = below; its = eq-eqb p p refl; alone = λ g t. sym (exact_unsigned_eq p g t) }
 
 -- of rows that are gathered, each process has those of its own list
 pub rows_at-gathered : (n : ℕ) (rows_of : ℕ → List Row) → ((q : ℕ) → q < n → AreAt q (rows_of q)) → (p : ℕ) → p < n → rows_at p (gathered n rows_of) ≡ rows_of p

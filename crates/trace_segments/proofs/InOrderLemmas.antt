@@ -1,5 +1,5 @@
 -- The batches of a trace, one after another, are its rows in message order.
-use Rattle.std.proofs.Common.{◌≡◌, ◌∙◌, ℕ, zero, suc, ◌+◌, ◌<◌, ◌≤◌, ◌⊎◌, inl, inr, Bool, true, false, cond, List, [], ◌∷◌, ◌++◌, refl, sym, ap, arith, append_assoc, append-nil, ◌&&◌, nat_le, nat_lt, slice_index_or, All, filter, flat_map, Ordering, Less, Equal, Greater, is_eq, is_lt}
+use Rattle.std.proofs.Common.{◌≡◌, ◌∙◌, ℕ, zero, suc, ◌+◌, ◌<◌, ◌≤◌, ◌==◌, ◌⊎◌, inl, inr, Bool, true, false, cond, List, [], ◌∷◌, ◌++◌, refl, sym, ap, arith, append_assoc, append-nil, ◌&&◌, nat_le, nat_lt, slice_index_or, All, filter, flat_map, Ordering, Less, Equal, Greater, is_eq, is_lt}
 use Rattle.std.specs.Cmp.{IsTotalOrder}
 use Rattle.std.specs.List.{range_with_len}
 use Rattle.std.proofs.lemmas.Bool.{cases_lt}
@@ -9,10 +9,11 @@ use Rattle.virtual_time.specs.Law.{rows_at}
 use Rattle.vlink.specs.declared.message.Message.{Message}
 use Rattle.vlink.specs.Order.{message_cmp}
 use Rattle.vlink.specs.Letters.{Row}
-use Rattle.trace_segments.specs.Words.{gathered, cut, interval_count, rows_within, rows_before, rows_from, AreInMessageOrder, AreAtReceivers, IsInOrder, rows_of_event}
-use Rattle.trace_segments.proofs.GatherLemmas.{filter-gathered, same-gathered}
+use Rattle.trace_segments.specs.Words.{IsOfOneGroup, gathered, cut, interval_count, rows_within, rows_before, rows_from, AreInMessageOrder, AreAtReceivers, IsInOrder, rows_of_event}
+use Rattle.trace_segments.proofs.GatherLemmas.{filter-gathered, gathered-by-group, nothing-by-group, alone-in-group}
 use Rattle.trace_segments.proofs.IntervalLemmas.{cut-first, cut-rises, cut-last}
-use Rattle.trace_segments.proofs.RowOrderLemmas.{same-by-event, events-by-place}
+use Rattle.trace_segments.proofs.RowOrderLemmas.{event-at, event-of, same-by-event}
+use Rattle.trace_segments.proofs.SortedLemmas.{filters-swap}
 use Rattle.trace_segments.proofs.TimeLemmas.{time_of, Rise, none-before, all-before, split-at, before-within}
 
 -- lists that are made of the same ones
@@ -118,10 +119,31 @@ module _ (O : IsTotalOrder message_cmp) (exact : (a b : Message) → message_cmp
       ap (λ (moment : ℕ). rows_before moment rows) (cut-last until)
       ∙ all-before (until + 1) rows (λ i d below. let le = early i d below in omega arith)
 
-  -- rows in message order, each at the process that received its message, are in order what their processes have
+  -- rows in message order, each at the process that received its message, are in order what the groups of these processes have
+  module _ (ours : ℕ → ℕ → Bool) (groups processes : ℕ) (rows : List Row) (here : AreAtReceivers rows) (up : AreInMessageOrder rows)
+      (none : (p : ℕ) → processes ≤ p → rows_at p rows ≡ []) (owned : (p : ℕ) → p < processes → IsOfOneGroup ours groups p) where
+    abbrev of_groups : List Row → List Row
+    of_groups es = gathered groups (λ g. filter (λ row. ours g row.place) es)
+
+    event-in-group : (m : Message) → of_groups (rows_of_event m rows) ≡ rows_of_event m rows
+    event-in-group m = go (cases_lt m.receiver processes)
+      where
+        go : (m.receiver < processes) ⊎ (processes ≤ m.receiver) → of_groups (rows_of_event m rows) ≡ rows_of_event m rows
+        go (inl lt) = gathered-by-group ours groups m.receiver (owned m.receiver lt) (rows_of_event m rows) (event-at O exact m rows here)
+        go (inr ge) =
+            let nothing : rows_of_event m rows ≡ [] = event-of O exact m rows here ∙ ap (rows_of_event m) (none m.receiver ge) in
+            ap of_groups nothing ∙ (nothing-by-group ours groups ∙ sym nothing)
+
+    pub by-group : IsInOrder (of_groups rows) rows
+    by-group = record {
+      ascending = up;
+      each_event = λ m. sym (filter-gathered (λ row. is_eq (message_cmp m row.message)) groups (λ g. filter (λ row. ours g row.place) rows)
+          ∙ (flat_map-same (λ g. rows_of_event m (filter (λ row. ours g row.place) rows)) (λ g. filter (λ row. ours g row.place) (rows_of_event m rows)) 0 groups
+          (λ g below. filters-swap (λ row. is_eq (message_cmp m row.message)) (λ row. ours g row.place) rows)
+          ∙ event-in-group m));
+    }
+
+  -- so they are what the processes have, which are groups of one
   pub by-process : (processes : ℕ) (rows : List Row) → AreAtReceivers rows → AreInMessageOrder rows → ((p : ℕ) → processes ≤ p → rows_at p rows ≡ []) →
       IsInOrder (gathered processes (λ p. rows_at p rows)) rows
-  by-process processes rows here up none = record {
-    ascending = up;
-    each_event = λ m. events-by-place O exact rows (gathered processes (λ p. rows_at p rows)) here (λ p. sym (same-gathered processes (λ q. rows_at q rows) rows (λ q below. refl) none p)) m;
-  }
+  by-process processes rows here up none = by-group (λ p q. q == p) processes processes rows here up none (alone-in-group processes)

@@ -8,7 +8,7 @@ use denote.Param.Members.{Mut}
 use denote.Ref.{Bor}
 use Rattle.std.specs.Ordering.{ordering_reverse}
 use Rattle.std.proofs.lemmas.Fn.{always_returns_same}
-use Rattle.std.proofs.lemmas.List.Elements.{recursion_from_All, filter_agree}
+use Rattle.std.proofs.lemmas.List.Elements.{recursion_from_All, filter_agree, All-filter, All-same}
 use Rattle.std.proofs.lemmas.List.Kept.{IsSortedBy-filter}
 use Rattle.std.proofs.lemmas.List.Sorted.{ranks_by}
 use Rattle.virtual_time.specs.Law.{rows_at}
@@ -17,6 +17,7 @@ use Rattle.vlink.specs.declared.note.Note.TheVariants.{Delivered}
 use Rattle.vlink.specs.Order.{message_cmp}
 use Rattle.vlink.specs.Letters.{Row}
 use Rattle.trace_segments.specs.Words.{AreInMessageOrder, rows_of_event, AreAtReceivers}
+use Rattle.trace_segments.proofs.GatherLemmas.{AreAt, rows_at-are}
 use Rattle.trace_segments.proofs.SortedLemmas.{filters-swap, filter-narrower, one-sorted}
 
 abbrev IsHere : Row → Type 0
@@ -115,6 +116,16 @@ module _ (O : IsTotalOrder message_cmp) where
         each [] h = tt
         each (row ∷ rows) h =
             ((λ e. eq-eqb row.place m.receiver (h.0 ∙ ap (λ (x : Message). x.receiver) (sym (exact m row.message (tied (message_cmp m row.message) e))))), each rows h.1)
+
+    -- so they are where each row is at its receiver, and then they are at that process
+    pub event-of : (m : Message) (rows : List Row) → AreAtReceivers rows → rows_of_event m rows ≡ rows_of_event m (rows_at m.receiver rows)
+    event-of m rows here = event-here m rows (recursion_from_All IsHere rows here)
+
+    pub event-at : (m : Message) (rows : List Row) → AreAtReceivers rows → AreAt m.receiver (rows_of_event m rows)
+    event-at m rows here =
+        let P : Row → Type 0 = λ row. row.place ≡ m.receiver in
+        All-same P (rows_of_event m rows) (rows_of_event m (rows_at m.receiver rows)) (event-of m rows here)
+        (All-filter (λ row. is_eq (message_cmp m row.message)) P (rows_at m.receiver rows) (rows_at-are m.receiver rows))
 
     -- rows that are the same at each process are the same for each event
     pub events-by-place : (xs ys : List Row) → AreAtReceivers xs → ((p : ℕ) → rows_at p xs ≡ rows_at p ys) → (m : Message) → rows_of_event m xs ≡ rows_of_event m ys

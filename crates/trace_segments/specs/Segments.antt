@@ -18,6 +18,10 @@ pub record BatchRows : Type 0 where
   pub to : ℕ
   pub rows : List Row
 
+-- a row is of a moment from one on and before another
+abbrev pub is_between : ℕ → ℕ → Row → Bool
+is_between from to row = nat_le from row.message.time && nat_lt row.message.time to
+
 -- a row is of a process, and of a moment from one on and before another
 abbrev pub is_at_within : ℕ → ℕ → ℕ → Row → Bool
 is_at_within process from to row = (row.place == process) && (nat_le from row.message.time && nat_lt row.message.time to)
@@ -31,4 +35,15 @@ segment_of run process k until rows =
       from = cut until k;
       to = cut until (k + 1);
       rows = rows_within (cut until k) (cut until (k + 1)) (rows_at process rows);
+    }
+
+-- the segment of interval k in the place of a group, of these rows, which are of the group's processes
+abbrev pub group_segment_of : ℕ → ℕ → ℕ → ℕ → List Row → SegmentRows
+group_segment_of run group k until rows =
+    record {
+      run = run;
+      process = group;
+      from = cut until k;
+      to = cut until (k + 1);
+      rows = rows_within (cut until k) (cut until (k + 1)) rows;
     }

@@ -5,8 +5,8 @@ pub use Rattle.trace_segments.specs.Intervals.{HasInterval, interval_count, inte
 unfoldable pub use Rattle.trace_segments.specs.Intervals.{cut}
 pub use Rattle.trace_segments.specs.Known.{is_in_network, is_known, vl_of}
 pub use Rattle.trace_segments.specs.Ordered.{AreAtReceivers, AreInMessageOrder, IsInOrder, rows_of_event}
-pub use Rattle.trace_segments.specs.Places.{gathered}
-pub use Rattle.trace_segments.specs.Segments.{BatchRows, SegmentRows, is_at_within, segment_of}
+pub use Rattle.trace_segments.specs.Places.{IsOfOneGroup, gathered}
+pub use Rattle.trace_segments.specs.Segments.{BatchRows, SegmentRows, group_segment_of, is_at_within, is_between, segment_of}
 pub use Rattle.trace_segments.specs.Sinking.{IsBeginning}
 pub use Rattle.trace_segments.specs.Text.{cause_name, line, note_fields, place_name, trace_head, trace_line, trace_text}
 pub use Rattle.trace_segments.specs.Writing.{Adds, Holds}

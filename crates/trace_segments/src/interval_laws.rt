@@ -1,10 +1,10 @@
 //! What the batches of a trace are, one after another.
-ghost use Rattle.std.specs.Prelude.{ℕ, ◌≡◌, ◌+◌, ◌<◌, ◌≤◌, ◌++◌, [], List, All};
-ghost use Rattle.std.specs.List.{flat_map, range_with_len};
+ghost use Rattle.std.specs.Prelude.{ℕ, ◌≡◌, ◌+◌, ◌<◌, ◌≤◌, ◌++◌, [], Bool, List, All};
+ghost use Rattle.std.specs.List.{filter, flat_map, range_with_len};
 ghost use Rattle.virtual_time.specs.Law.{rows_at};
 ghost use Rattle.vlink.specs.Order.{message_order};
 ghost use Rattle.vlink.specs.Letters.{Row};
-ghost use Rattle.trace_segments.specs.Places.{gathered};
+ghost use Rattle.trace_segments.specs.Places.{IsOfOneGroup, gathered};
 ghost use Rattle.trace_segments.specs.Intervals.{cut, interval_count, rows_within, rows_before, rows_from};
 ghost use Rattle.trace_segments.specs.Ordered.{AreInMessageOrder, AreAtReceivers, IsInOrder};
 
@@ -18,6 +18,7 @@ use vlink::message_order;
 /// - `whole`: before the last cut are all rows, where none is later than the end.
 /// - `by_process`: rows in message order are, in order, what the processes have, where each row is of the process that received its message, and
 ///   only these processes have rows.
+/// - `by_group`: so are, in order, what groups of these processes have, where each process is of just one group.
 ///
 /// A call does nothing: its caller learns what the clauses say.
 pub fn batches_in_order()
@@ -31,6 +32,9 @@ pub fn batches_in_order()
         → rows_before (cut until (interval_count until)) rows ≡ rows }
     ensures by_process { (processes : ℕ) (rows : List Row) → AreAtReceivers rows → AreInMessageOrder rows
         → ((p : ℕ) → processes ≤ p → rows_at p rows ≡ []) → IsInOrder (gathered processes (λ p. rows_at p rows)) rows }
+    ensures by_group { (ours : ℕ → ℕ → Bool) (groups processes : ℕ) (rows : List Row) → AreAtReceivers rows → AreInMessageOrder rows
+        → ((p : ℕ) → processes ≤ p → rows_at p rows ≡ []) → ((p : ℕ) → p < processes → IsOfOneGroup ours groups p)
+        → IsInOrder (gathered groups (λ g. filter (λ row. ours g row.place) rows)) rows }
 {
     message_order();
 }

@@ -1,17 +1,17 @@
 //! The rows of one process in one interval of the trace.
 ghost use Rattle.std.specs.Prelude.{◌≡◌, ◌<◌, ◌↔◌, IsSome, IfSome, IfOk};
 ghost use Rattle.std.specs.List.{filter};
-ghost use Rattle.trace_segments.specs.Intervals.{HasInterval};
-ghost use Rattle.trace_segments.specs.Segments.{segment_of, is_at_within};
+ghost use Rattle.trace_segments.specs.Intervals.{HasInterval, rows_within};
+ghost use Rattle.trace_segments.specs.Segments.{group_segment_of, is_at_within, is_between, segment_of};
 
 use crate::interval::{cut, has_interval};
 use std::alloc::{AllocError, Global};
 use std::marker::Model;
 use vlink::{GREATEST_NS, Row, Time};
 
-/// The rows of one process of a run from one moment on and before another.
+/// The rows of one process of a run, or of one group of processes, from one moment on and before another.
 ///
-/// Clauses see it as the run, the process, the two moments in ns, and the rows.
+/// Clauses see it as the run, the number of the process or group, the two moments in ns, and the rows.
 #[derive(Debug, Drop)]
 pub struct Segment {
     run: u64,
@@ -53,7 +53,54 @@ fn rows_of_process(
         .collect(alloc)
 }
 
+/// Whether the row is of a moment from `from` on and before `to`.
+fn is_between(row: &Row, from: Time, to: Time) -> bool
+    ensures { result ≡ is_between from to row.now }
+{
+    let time = row.message.time.ns();
+    from.ns() <= time && time < to.ns()
+}
+
+/// The rows of the moments from `from` on and before `to`, in their order.
+fn rows_between(alloc: Global, rows: &[Row], from: Time, to: Time) -> Result<Vec<Row>, AllocError>
+    ensures { IfOk result (λ found. found.items ≡ rows_within from to rows.now) }
+{
+    rows.iter()
+        .copied()
+        .filter(|row| is_between(row, from, to))
+        .collect(alloc)
+}
+
 impl Segment {
+    /// The segment of interval `k` of a run until `until`, in the place of a group: of these rows, which are of the group's processes, those of the
+    /// interval, in their order. None where there is no such interval. It fails only where memory is refused.
+    pub fn of_group(
+        alloc: Global,
+        rows: &[Row],
+        run: u64,
+        group: u16,
+        k: u64,
+        until: Time,
+    ) -> Result<Option<Segment>, AllocError>
+        requires { until < GREATEST_NS }
+        ensures some { IfOk result (λ segment. IsSome segment ↔ HasInterval until k) }
+        ensures segment { IfOk result (λ segment. IfSome segment (λ p. p ≡ group_segment_of run group k until rows.now)) }
+    {
+        if !has_interval(until, k) {
+            return Ok(None);
+        }
+        let from = cut(until, k);
+        let to = cut(until, k + 1);
+        let rows = rows_between(alloc, rows, from, to)?;
+        Ok(Some(Segment {
+            run,
+            process: group,
+            from,
+            to,
+            rows,
+        }))
+    }
+
     /// The segment of interval `k` of a run until `until`: the rows of the process and of the interval, among these rows and in their order. None
     /// where there is no such interval. It fails only where memory is refused.
     pub fn cut(

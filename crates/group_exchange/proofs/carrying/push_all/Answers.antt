@@ -4,7 +4,7 @@ use Rattle.vlink.specs.declared.message.Message.{Message}
 use Rattle.vlink.specs.Order.{message_order}
 use Rattle.virtual_time.specs.Law.{plus_of}
 use Rattle.group_exchange.specs.Boxing.{box_of, for_group}
-use Rattle.group_exchange.proofs.Lists.{owner-of, one-of, box-put}
+use Rattle.group_exchange.proofs.Lists.{owner-of, one-of, box-put, short-set}
 use Rattle.group_exchange.proofs.carrying.push_all.Goals as goal
 
 pub loop-message-preserved : goal.loop-message-preserved
@@ -22,8 +22,9 @@ loop-message-preserved c =
     record {
       count = length-set boxes at new ∙ inv.count;
       put = λ g h. box-put c.args.owners.now (plus_of m) at own.0 (λ x. x.items) (map (λ x. x.items) c.args.boxes.now.items) boxes old new
-          (map plus_of (take k ms)) (map plus_of (take (k + 1) ms)) (omega (arith, own.1, inv.count)) c.index_mut.ensures.value c.in_ok-push.ensures
+          (map plus_of (take k ms)) (map plus_of (take (k + 1) ms)) (omega (arith, own.1, inv.count)) c.index_mut.ensures.value c.in_ok-push.ensures.items
           (ap (map plus_of) (take_more ms k m c.loop-message-test.true ∙ ap (λ z. take k ms ++ z ∷ []) (sym c.message-item.is)) ∙ map-append plus_of (take k ms) (m ∷ [])) g (inv.put g h);
+      short = λ s. short-set (λ x. x.items) boxes at new c.in_ok-push.ensures.short (inv.short s);
     }
 
 pub returns-clause-put : goal.returns-clause-put

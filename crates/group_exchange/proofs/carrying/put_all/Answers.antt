@@ -1,8 +1,8 @@
 use Rattle.std.proofs.Common.{◌≡◌, ◌<◌, ◌+◌, ◌++◌, ◌-◌, [], ◌∷◌, Some, length, map, take, slice_get, ap, sym, ◌∙◌, arith, length-set, take_all, vec_len, vec_capacity}
 use Rattle.std.proofs.lemmas.List.{take_more}
 use Rattle.vlink.specs.Order.{message_order}
-use Rattle.group_exchange.specs.Boxing.{box_of, for_group}
-use Rattle.group_exchange.proofs.Lists.{owner-of, one-of, box-put, room-at, room-less}
+use Rattle.group_exchange.specs.Boxing.{box_of, for_group, room_in}
+use Rattle.group_exchange.proofs.Lists.{owner-of, one-of, box-put, room-at, room-less, short-set}
 use Rattle.group_exchange.proofs.carrying.put_all.Goals.{After-index_mut}
 use Rattle.group_exchange.proofs.carrying.put_all.Goals as goal
 
@@ -17,7 +17,7 @@ pub push_reserved-requires : goal.push_reserved-requires
 push_reserved-requires c =
     let inv = c.loop-letter.invariant in
     let within = (owner (goal.at.push_reserved-requires c).After-index_mut).1 in
-    let room = room-at (λ x. vec_capacity x - vec_len x) c.loop-letter.boxes.items c.from-in-loop-letter.result c.index_mut.result.now
+    let room = room-at (λ x. room_in (vec_capacity x) (vec_len x)) c.loop-letter.boxes.items c.from-in-loop-letter.result c.index_mut.result.now
     (length c.args.letters.now - c.loop-letter.letter-index) (omega (arith, within, inv.count)) c.index_mut.ensures.value inv.room in
     omega (arith, room, c.loop-letter-test.true)
 
@@ -33,13 +33,14 @@ loop-letter-preserved c =
     let ls = c.args.letters.now in
     let own = owner (goal.at.loop-letter-preserved c).After-index_mut in
     let within : at < length boxes = omega (arith, own.1, inv.count) in
-    let room = room-at (λ x. vec_capacity x - vec_len x) boxes at old (length ls - k) within c.index_mut.ensures.value inv.room in
+    let room = room-at (λ x. room_in (vec_capacity x) (vec_len x)) boxes at old (length ls - k) within c.index_mut.ensures.value inv.room in
     record {
       count = length-set boxes at new ∙ inv.count;
       put = λ g h. box-put c.args.owners.now l at own.0 (λ x. x.items) (map (λ x. x.items) c.args.boxes.now.items) boxes old new (take k ls) (take (k + 1) ls)
           within c.index_mut.ensures.value c.push_reserved.ensures.items (take_more ls k l c.loop-letter-test.true ∙ ap (λ z. take k ls ++ z ∷ []) (sym c.letter-item.is)) g (inv.put g h);
-      room = room-less (λ x. vec_capacity x - vec_len x) boxes at new (length ls - (k + 1)) (length ls - k) (omega arith)
+      room = room-less (λ x. room_in (vec_capacity x) (vec_len x)) boxes at new (length ls - (k + 1)) (length ls - k) (omega arith)
           (omega (arith, room, c.push_reserved.ensures.len, c.push_reserved.ensures.capacity)) inv.room;
+      short = λ s. short-set (λ x. x.items) boxes at new (omega (arith, room, c.push_reserved.ensures.len, c.loop-letter-test.true)) (inv.short s);
     }
 
 pub returns-clause-put : goal.returns-clause-put

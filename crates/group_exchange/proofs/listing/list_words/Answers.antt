@@ -7,8 +7,8 @@ use Rattle.group_exchange.specs.Telling.{waiting_for}
 use Rattle.group_exchange.proofs.Words.{told-more, told-few, word-at}
 use Rattle.group_exchange.proofs.listing.list_words.Goals as goal
 
-pub list_word-requires-clause-room : goal.list_word-requires-clause-room
-list_word-requires-clause-room c =
+pub list_word-requires : goal.list_word-requires
+list_word-requires c =
     let ws = c.args.words.now in
     let k = c.loop-did.did-index in
     let inv = c.loop-did.invariant in
@@ -16,7 +16,7 @@ list_word-requires-clause-room c =
     let more = ap length (told-more ws k w c.loop-did-test.true (word-at ws k (Ran 0) c.loop-did-test.true)) in
     let sum = length-append (steps_told (take k ws)) (steps_of_word w) in
     let few = told-few ws (k + 1) in
-    omega (arith, more, sum, few, inv.len, inv.capacity, c.requires.room)
+    record { room = omega (arith, more, sum, few, inv.len, inv.capacity, c.requires.room) }
 
 pub loop-did-preserved : goal.loop-did-preserved
 loop-did-preserved c =

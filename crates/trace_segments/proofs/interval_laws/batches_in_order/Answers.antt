@@ -1,4 +1,4 @@
-use Rattle.trace_segments.proofs.InOrderLemmas.{batch-is, batches-are, begins, whole, by-process}
+use Rattle.trace_segments.proofs.InOrderLemmas.{batch-is, batches-are, begins, whole, by-group, by-process}
 use Rattle.trace_segments.proofs.interval_laws.batches_in_order.Goals as goal
 
 pub returns-clause-batch : goal.returns-clause-batch
@@ -12,6 +12,9 @@ returns-clause-beginning c = let o = c.message_order.ensures in begins o.total o
 
 pub returns-clause-whole : goal.returns-clause-whole
 returns-clause-whole c = let o = c.message_order.ensures in whole o.total o.exact o.by_time
+
+pub returns-clause-by_group : goal.returns-clause-by_group
+returns-clause-by_group c = let o = c.message_order.ensures in by-group o.total o.exact o.by_time
 
 pub returns-clause-by_process : goal.returns-clause-by_process
 returns-clause-by_process c = let o = c.message_order.ensures in by-process o.total o.exact o.by_time

@@ -1,8 +1,15 @@
-use Rattle.std.proofs.Common.{length, ap, ◌∙◌, arith}
+use Rattle.std.proofs.Common.{◌<◌, All, length, sym, ap, ◌∙◌, subst, arith, length-set}
 use Rattle.std.proofs.lemmas.List.{length-map}
 use Rattle.group_exchange.specs.Boxing.{box_of}
-use Rattle.group_exchange.proofs.Lists.{box-here, box-other}
+use Rattle.group_exchange.proofs.Lists.{box-here, box-other, short-set}
 use Rattle.group_exchange.proofs.boxes.Boxes.clear.Goals as goal
+
+pub invariant_of-self : goal.invariant_of-self
+invariant_of-self c =
+    let boxes = c.self.inside.boxes.items in (
+      subst (λ n. All (λ owner. owner < n) c.self.inside.owners.items) (sym (length-set boxes c.from.result c.clear.new.self)) c.self.invariant.0,
+      short-set (λ x. x.items) boxes c.from.result c.clear.new.self (omega (arith, ap length c.clear.ensures.items)) c.self.invariant.1,
+    )
 
 pub returns-clause-cleared : goal.returns-clause-cleared
 returns-clause-cleared c =

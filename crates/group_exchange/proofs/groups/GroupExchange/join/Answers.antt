@@ -3,9 +3,9 @@ use Rattle.std.proofs.lemmas.List.{length-map}
 use Rattle.halves.specs.declared.LeftHalf.{LeftHalf}
 use Rattle.group_exchange.specs.declared.mark.Standing.{Standing}
 use Rattle.group_exchange.proofs.Halves.{half-told, mark-told, it-stands, seen-low, enabled-now, parts-now}
-use Rattle.group_exchange.proofs.exchange.GroupExchange.join.Given.{Over}
-use Rattle.group_exchange.proofs.exchange.GroupExchange.join.Goals.{After-agree}
-use Rattle.group_exchange.proofs.exchange.GroupExchange.join.Goals as goal
+use Rattle.group_exchange.proofs.groups.GroupExchange.join.Given.{Over}
+use Rattle.group_exchange.proofs.groups.GroupExchange.join.Goals.{After-agree}
+use Rattle.group_exchange.proofs.groups.GroupExchange.join.Goals as goal
 
 -- the standing in hand is the one that the exchange has of it
 told : (g : Over) (c : After-agree g) → slice_get (map (λ (b : LeftHalf Standing). b.value) c.self.inside.marks.items) c.group.inside.number ≡ Some c.group.inside.standing

@@ -3,6 +3,7 @@ ghost use Rattle.std.specs.Prelude.{◌≡◌, ◌<◌, ◌≤◌, length};
 ghost use Rattle.reverse.specs.Rules.{rules_of};
 ghost use Rattle.reverse.specs.Setting.{simulation_of};
 ghost use Rattle.group_exchange.specs.Views.{world_after};
+ghost use Rattle.group_exchange.specs.Keeps.{AreGrouped};
 
 use crate::boxes::Boxes;
 use crate::mark::Standing;
@@ -50,7 +51,8 @@ impl<R: Actor, J: GroupRun<R>> Model for GroupExchange<R, J> {
 impl<R: Actor, J: GroupRun<R>> GroupExchange<R, J> {
     /// How many groups there are.
     pub fn groups(&self) -> u16
-        ensures { result ≡ length J.names }
+        ensures count { result ≡ length J.names }
+        ensures grouped { AreGrouped J.setting.processes result J.owners }
     {
         self.floors.processes()
     }

@@ -1,0 +1,72 @@
+-- One call of a group after another.
+use Rattle.std.proofs.Common.{◌≡◌, ℕ, suc, false, ◌∷◌, ◌≤◌, inl, min, List, [], ◌++◌, All, IsPermutation, Option, Some, None, IfNone, Result, Ok, Err, IfErr, sym, ap, ◌∙◌, subst, arith}
+use Rattle.std.proofs.lemmas.List.Elements.{All-nil, All-cons, All-weaker}
+use Rattle.virtual_time.proofs.Lists.{in-head}
+use Rattle.std.proofs.lemmas.List.Sorted.{All-permutation}
+use Rattle.vlink.specs.declared.message.Message.{Message}
+use Rattle.vlink.specs.declared.note.Note.{Note}
+use Rattle.vlink.specs.Order.{message_order}
+use Rattle.virtual_time.specs.Law.{IsIn, IsOrder, Simulation}
+use Rattle.virtual_time.proofs.Order.{not_less-time}
+use Rattle.reverse.specs.Rules.{is_before}
+use Rattle.journal.specs.declared.fault.PoolFault.{PoolFault}
+use Rattle.journal.specs.declared.fault.PoolFault.TheVariants.{OutOfMemory}
+use Rattle.hand.specs.Flow.{Flow}
+use Rattle.group_exchange.specs.Views.{GroupState}
+use Rattle.group_exchange.specs.Effects.{Goes, IsGroupAsBefore, WorksSome}
+use Rattle.group_exchange.proofs.Worked.{went-both, went-nowhere}
+
+-- what holds of each message that is in a list
+pub each-inside : IsOrder message_order → (P : Message → Type 0) (ms : List Message) → ((y : Message) → IsIn message_order y ms → P y) → All P ms
+each-inside O P [] p = All-nil P
+each-inside O P (m ∷ ms) p = All-cons P m ms (p m (in-head message_order O m ms)) (each-inside O P ms (λ y i. p y (omega arith)))
+
+-- where none is earlier than the limit, and none is after the end, none is earlier than the moment that was asked for
+pub idle-late : (asked limit end until : ℕ) (mid ms : List Message) → limit ≡ min asked end → end ≡ suc until → IsPermutation mid ms → All (λ m. limit ≤ m.time) mid → All (λ m. m.time ≤ until) ms →
+    All (λ m. asked ≤ m.time) ms
+idle-late asked limit end until mid ms l e p late in_time = λ k d h.
+    let a = All-permutation (λ (m : Message). limit ≤ m.time) mid ms p late k d h in
+    let b = in_time k d h in
+    omega arith
+
+-- where the first message is not earlier than the limit, none is
+pub none-early : IsOrder message_order → (limit : ℕ) (m : Message) (ms : List Message) → All (λ y. is_before y m ≡ false) ms → limit ≤ m.time → All (λ (y : Message). limit ≤ y.time) ms
+none-early O limit m ms first late = All-weaker (λ y. is_before y m ≡ false) (λ (y : Message). limit ≤ y.time) (λ y e. let a = not_less-time message_order O y m e in omega arith) ms first
+
+module _ {S K : Type 0} (f : Simulation Message S K Note) (owners : List ℕ) where
+  -- nothing joined the block
+  pub goes-same : (h k : GroupState S K) → IsGroupAsBefore h k → Goes f owners h k
+  goes-same h k a = record { did = []; went = went-nowhere f owners h k (ap (λ (z : Flow). z.words) a.flow) a.others }
+
+  pub goes-both : (h mid k : GroupState S K) → Goes f owners h mid → Goes f owners mid k → Goes f owners h k
+  goes-both h mid k a b = record { did = a.did ++ b.did; went = went-both f owners a.did b.did h mid k a.went b.went }
+
+  -- nothing joined the block, and then some words did
+  pub goes-later : (h mid begun k : GroupState S K) → IsGroupAsBefore h mid → begun ≡ mid → Goes f owners begun k → Goes f owners h k
+  goes-later h mid begun k a e b = goes-both h mid k (goes-same h mid a) (subst (λ z. Goes f owners z k) e b)
+
+  pub goes-seen : (h k : GroupState S K) → Goes f owners h k → k.seen ≡ h.seen
+  goes-seen h k a = ap (λ (z : GroupState S K). z.seen) a.went.others
+
+  -- some words joined the block, and then a growth was refused
+  pub works-some : (h k : GroupState S K) → Goes f owners h k → (r : Result ℕ PoolFault) → IfErr r (λ fault. fault ≡ OutOfMemory) → IfErr r (WorksSome f owners h k)
+  works-some h k a (Ok n) memory = tt
+  works-some h k a (Err fault) memory = record {
+    did = a.did;
+    went = a.went;
+    numbers = λ e. absurd (let t = sym memory ∙ e in cc);
+    faults = inl memory;
+  }
+
+-- what none tells, where that tells more
+pub when-none : {X : Type 0} (o : Option X) (P Q : Type 0) → (P → Q) → IfNone o P → IfNone o Q
+when-none None P Q k p = k p
+when-none (Some y) P Q k p = tt
+
+-- two that one answer tells are the same
+pub ok-same : {X Y : Type 0} (a b : X) (r : Result X Y) → r ≡ Ok a → r ≡ Ok b → a ≡ b
+ok-same a b r p q = ap (value a) (sym p ∙ q)
+  where
+    value : {X Y : Type 0} → X → Result X Y → X
+    value d (Ok y) = y
+    value d (Err fault) = d

@@ -1,0 +1,25 @@
+use Rattle.std.proofs.Common.{sym, ◌∙◌}
+use Rattle.group_exchange.proofs.RowsKept.{rows-does}
+use Rattle.group_exchange.proofs.Told.{does}
+use Rattle.group_exchange.proofs.group.Group.arrive_all.Goals as goal
+
+pub invariant_of-self : goal.invariant_of-self
+invariant_of-self g c =
+    let h = c.self.invariant.0 in
+    let L = c.actor_laws.ensures g.J.GroupRun.setting h.laid in
+    let d = c.arrive_all.ensures.did in
+    let t = does h L c.arrive_all.new.self d in (
+      t.holds,
+      c.self.invariant.1,
+      d.keeps ∙ c.self.invariant.2,
+      c.self.invariant.3,
+      c.self.invariant.4,
+      rows-does h c.self.invariant.5 L c.arrive_all.new.self d d.rows,
+    )
+
+pub returns-clause-goes : goal.returns-clause-goes
+returns-clause-goes g c =
+    let h = c.self.invariant.0 in
+    let d = c.arrive_all.ensures.did in
+    let t = does h (c.actor_laws.ensures g.J.GroupRun.setting h.laid) c.arrive_all.new.self d in
+    rw (sym c.self.view_is) (record { did = d.did; went = t.went c.self.inside.gone })

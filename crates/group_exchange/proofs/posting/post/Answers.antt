@@ -1,0 +1,177 @@
+use Rattle.std.proofs.Common.{◌≡◌, ◌<◌, ◌≤◌, ◌++◌, inl, inr, All, map, length, refl, sym, ap, ◌∙◌, subst, arith, length-append}
+use Rattle.vlink.specs.Letters.{Letter}
+use Rattle.vlink.specs.Order.{message_order}
+use Rattle.virtual_time.specs.Law.{AreBy, behind, waiting_in}
+use Rattle.reverse.specs.Rules.{rules_of}
+use Rattle.reverse.specs.Setting.{simulation_of}
+use Rattle.hand.specs.Block.{steps_told}
+use Rattle.hand.specs.Flow.{Flow}
+use Rattle.group_exchange.specs.Telling.{waiting_for}
+use Rattle.group_exchange.specs.Views.{box_of, for_group, is_of, last_in, world_after}
+use Rattle.group_exchange.specs.Keeps.{Holds, IsMarked}
+use Rattle.group_exchange.proofs.Again.{left-block}
+use Rattle.group_exchange.proofs.Ends.{posts-some}
+use Rattle.group_exchange.proofs.Gathers.{posts-shown}
+use Rattle.group_exchange.proofs.Halves.{marked-by, recorded-as}
+use Rattle.group_exchange.proofs.Holding.{holds-again, holds-as}
+use Rattle.group_exchange.proofs.Posted.{abroad-lawful, kept-posted, holds-posted}
+use Rattle.group_exchange.proofs.RowsKept.{rows-again}
+use Rattle.group_exchange.proofs.Waiting.{behind-waiting, recorded-mail}
+use Rattle.group_exchange.proofs.Words.{length_behind}
+use Rattle.group_exchange.proofs.posting.post.Given.{Over}
+use Rattle.group_exchange.proofs.posting.post.Goals.{After-join, After-reserve_post, After-post_reserved}
+use Rattle.group_exchange.proofs.posting.post.Goals as goal
+
+-- where the group stands
+marked : (g : Over) (c : After-join g) →
+    IsMarked (rules_of g.R.Reversible.plain) g.R.Actor.number g.R.Actor.end g.R.Actor.is_placed g.J.GroupRun.setting g.J.GroupRun.owners
+    c.exchange.inside.journal.steps c.exchange.inside.gvt c.group.inside.number c.group.inside.standing
+marked g c =
+    marked-by c.exchange.invariant.3 c.group.inside.number c.group.inside.standing (rw (sym c.group.view_is, sym c.exchange.view_is) at c.join.ensures.stands) c.group.invariant.3
+    (rw (sym c.group.view_is, sym c.exchange.view_is) at c.join.ensures.seen)
+
+-- the group in hand where messages that are done count beside
+held : (g : Over) (c : After-reserve_post g) →
+    Holds (rules_of g.R.Reversible.plain) g.R.Actor.number g.R.Actor.end g.R.Actor.is_placed g.J.GroupRun.setting g.J.GroupRun.owners g.R.Reversible.is_value (length g.J.GroupRun.names)
+    c.group.inside.number c.group.inside.standing.seen (last_in c.group.inside.standing) c.reserve_post.new.hand
+held g c =
+    let e = c.reserve_post.ensures in
+    holds-again c.group.invariant.0 c.reserve_post.new.hand (ap (λ z. z.members) e.counted) (ap (λ z. z.flow.words) e.counted) (λ v t. e.stands g.J.GroupRun.setting v t)
+
+-- its block has so many steps
+counted : (g : Over) (c : After-reserve_post g) → length (steps_told c.reserve_post.new.hand.flow.words) ≡ c.steps-count.result
+counted g c =
+    ap (λ ws. length (steps_told ws)) (ap (λ z. z.flow.words) c.reserve_post.ensures.counted ∙ sym c.block.ensures.words) ∙ sym c.steps-count.ensures
+
+-- which are in the journal, each Take behind the letters that wait there
+posted : (g : Over) (c : After-post_reserved g) → AreBy (is_of g.J.GroupRun.owners c.group.inside.number) (steps_told c.reserve_post.new.hand.flow.words) →
+    c.post_reserved.new.journal.steps ≡ c.exchange.inside.journal.steps
+    ++ map (behind (waiting_in (simulation_of (rules_of g.R.Reversible.plain) g.J.GroupRun.setting) (world_after (simulation_of (rules_of g.R.Reversible.plain) g.J.GroupRun.setting) c.exchange.inside.journal.steps)))
+    (steps_told c.reserve_post.new.hand.flow.words)
+posted g c by =
+    let e = c.reserve_post.ensures in
+    let boxes = c.reserve_post.new.boxes in
+    c.post_reserved.ensures.steps ∙
+    ((λ i. e.steps i ++ map (behind (waiting_for boxes)) (steps_told (ap (λ (z : Flow). z.words) c.floor-floor.ensures.same.flow i))) ∙
+    ap (λ xs. c.exchange.inside.journal.steps ++ xs)
+    (behind-waiting (recorded-mail c.exchange.invariant.3 boxes e.owners e.boxes) refl c.group.inside.number (steps_told c.reserve_post.new.hand.flow.words) by))
+
+pub invariant_of-exchange : goal.invariant_of-exchange
+invariant_of-exchange g c =
+    let e = c.reserve_post.ensures in (
+      (let a = ap length e.steps in let b = c.exchange.invariant.0 in omega arith),
+      c.exchange.invariant.1,
+      c.exchange.invariant.2,
+      recorded-as (recorded-mail c.exchange.invariant.3 c.reserve_post.new.boxes e.owners e.boxes) c.reserve_post.new.journal.steps e.steps,
+      c.exchange.invariant.4,
+      e.keeps ∙ c.exchange.invariant.5,
+    )
+
+pub invariant_of-group : goal.invariant_of-group
+invariant_of-group g c =
+    let e = c.reserve_post.ensures.counted in (
+      held g (goal.at.invariant_of-group g c).After-reserve_post,
+      c.group.invariant.1,
+      ap (λ z. z.flow.keeps) e ∙ c.group.invariant.2,
+      c.group.invariant.3,
+      c.group.invariant.4,
+      rows-again c.group.invariant.5 c.reserve_post.new.hand (ap (λ z. z.rows) e) (ap (λ z. z.done) e) c.group.inside.standing.seen (omega arith),
+    )
+
+pub post_reserved-requires : goal.post_reserved-requires
+post_reserved-requires g c =
+    let at = goal.at.post_reserved-requires g c in
+    let k = c.exchange.invariant.3 in
+    let L = c.actor_laws.ensures g.J.GroupRun.setting k.laid in
+    let x = g.J.GroupRun.setting in
+    let e = c.reserve_post.ensures in
+    let same = c.floor-floor.ensures.same.flow in
+    let words = ap (λ (z : Flow). length (steps_told z.words)) same ∙ counted g at.After-reserve_post in
+    let abroad = ap (λ (z : Flow). z.abroad) same in
+    let lawful = abroad-lawful k c.group.inside.number (marked g at.After-join) (held g at.After-reserve_post) _ refl L in
+    let goes = subst (λ ls. All (λ (l : Letter). (l.message.receiver < x.processes) × (l.message.time ≤ x.until)) ls) (sym abroad) lawful in
+    record {
+      some = omega (arith, words, c.if-count-eq0.false);
+      kept = λ t. ap (λ (z : Flow). z.keeps) same ∙ (ap (λ z. z.flow.keeps) e.counted ∙ (c.group.invariant.2 ∙ (sym (e.keeps ∙ c.exchange.invariant.5) ∙ t)));
+      step_room = omega (arith, words, c.in_default.ensures.step_room);
+      few = omega (arith, words, ap length e.steps, c.if-exchange-len.false, c.len.ensures, c.exchange.invariant.0, c.exchange.invariant.1);
+      receivers = λ i d w. (let a = goes i d w in omega (arith, a.0, ap length (e.owners ∙ k.owners_is), k.grouped.each));
+      box_room = λ i d w. (let a = c.in_default.ensures.box_room i d w in omega (arith, a, ap length abroad));
+    }
+
+pub invariant_of-exchange-2 : goal.invariant_of-exchange-2
+invariant_of-exchange-2 g c =
+    let at = goal.at.invariant_of-exchange-2 g c in
+    let k = c.exchange.invariant.3 in
+    let L = c.actor_laws.ensures g.J.GroupRun.setting k.laid in
+    let x = g.J.GroupRun.setting in
+    let h = held g at.After-reserve_post in
+    let e = c.reserve_post.ensures in
+    let p = c.post_reserved.ensures in
+    let floor = c.floor-floor.ensures in
+    let now = c.standing_now.ensures in
+    let abroad = ap (λ (z : Flow). z.abroad) floor.same.flow in
+    let waiting = waiting_for c.reserve_post.new.boxes in
+    let block = steps_told c.floor-floor.new.self.flow.words in
+    let words = ap (λ (z : Flow). length (steps_told z.words)) floor.same.flow ∙ counted g at.After-reserve_post in (
+      omega (
+        arith,
+        ap length p.steps,
+        length-append c.reserve_post.new.journal.steps (map (behind waiting) block),
+        length_behind waiting block,
+        words,
+        ap length e.steps,
+        c.if-exchange-len.false,
+        c.len.ensures,
+        c.exchange.invariant.0,
+      ),
+      c.exchange.invariant.1,
+      c.exchange.invariant.2,
+      kept-posted k c.group.inside.number (marked g at.After-join) h c.post_reserved.new.journal.steps (posted g at.After-post_reserved h.by) L
+          c.post_reserved.new.boxes (p.owners ∙ e.owners) (p.boxes ∙ ap length e.boxes)
+          (λ i w. p.posted i (omega (arith, w, k.boxes, ap length e.boxes)) ∙ (λ j. box_of (e.boxes j) i ++ for_group message_order ((e.owners ∙ k.owners_is) j) i (abroad j)))
+          c.set.new.self c.set.ensures.processes c.set.ensures.until c.floor-floor.result
+          (record {
+            bound = λ q o. floor.bound x _ c.exchange.invariant.2 h.stands q o;
+            reached = elim (floor.reached x _ c.exchange.invariant.2 h.stands (c.in_default.ensures.waits h.stands.ascending)) [ inl a ↦ inl (a ∙ c.exchange.invariant.2) | inr b ↦ inr b ];
+          })
+          c.set.ensures.here c.set.ensures.others c.standing_now.result now.last now.steps now.seen _ c.tell_both.ensures.marks,
+      c.tell_both.ensures.names ∙ c.exchange.invariant.4,
+      p.keeps ∙ (e.keeps ∙ c.exchange.invariant.5),
+    )
+
+pub invariant_of-group-2 : goal.invariant_of-group-2
+invariant_of-group-2 g c =
+    let at = goal.at.invariant_of-group-2 g c in
+    let h = held g at.After-reserve_post in
+    let e = c.reserve_post.ensures.counted in
+    let left = c.post_reserved.ensures.left in
+    let same = c.floor-floor.ensures.same in
+    let now = c.standing_now.ensures in
+    let new = c.post_reserved.new.hand in (
+      holds-as (holds-posted c.exchange.invariant.3 c.group.inside.number (marked g at.After-join) h c.post_reserved.new.journal.steps (posted g at.After-post_reserved h.by)
+          new (ap (λ z. z.members) left ∙ same.members) (ap (λ z. z.flow.words) left)
+          (λ v t. c.post_reserved.ensures.stands g.J.GroupRun.setting v (c.hand_laws.ensures.as_before c.reserve_post.new.hand c.floor-floor.new.self same g.J.GroupRun.setting v t)))
+          c.standing_now.result.seen (last_in c.standing_now.result) now.seen now.last,
+      record { name = c.tell_both.ensures.name ∙ c.group.invariant.1.name; value = c.tell_both.ensures.mark },
+      ap (λ z. z.flow.keeps) left ∙ (ap (λ (z : Flow). z.keeps) same.flow ∙ (ap (λ z. z.flow.keeps) e ∙ c.group.invariant.2)),
+      now.steps ∙ sym (ap length now.last),
+      c.group.invariant.4,
+      rows-again c.group.invariant.5 new (ap (λ z. z.rows) left ∙ (same.rows ∙ ap (λ z. z.rows) e)) (ap (λ z. z.done) left ∙ (same.done ∙ ap (λ z. z.done) e))
+          c.standing_now.result.seen (omega (arith, now.seen)),
+    )
+
+pub returns-clause-ok : goal.returns-clause-ok
+returns-clause-ok g c =
+    let at = goal.at.returns-clause-ok g c in
+    let f = simulation_of (rules_of g.R.Reversible.plain) g.J.GroupRun.setting in
+    let steps = c.exchange.inside.journal.steps in
+    let e = c.reserve_post.ensures.counted in
+    let h = c.group.inside.hand in
+    let now = c.standing_now.ensures in
+    let words = ap (λ ws. length (steps_told ws)) c.block.ensures.words in
+    let more = posted g at.After-post_reserved (held g at.After-reserve_post).by ∙ ap (λ ws. steps ++ map (behind (waiting_in f (world_after f steps))) (steps_told ws)) (ap (λ z. z.flow.words) e) in
+    rw (sym c.group.view_is, sym c.exchange.view_is) (posts-some f g.J.GroupRun.owners h.flow.words _ _ _ _ (omega (arith, words, c.if-count-eq0.false, c.steps-count.ensures))
+    (posts-shown c.exchange.invariant.3 c.group.inside.number c.group.invariant.0.number_is h c.post_reserved.new.journal.steps more _ c.standing_now.result c.tell_both.ensures.marks
+    now.last now.steps c.group.inside.standing now.seen c.post_reserved.new.hand
+    (left-block h c.reserve_post.new.hand c.floor-floor.new.self c.post_reserved.new.hand e c.floor-floor.ensures.same c.post_reserved.ensures.left) c.exchange.inside.limit c.group.inside.gone))

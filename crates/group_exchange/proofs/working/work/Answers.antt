@@ -1,0 +1,27 @@
+use Rattle.std.proofs.Common.{rules, ◌≤◌, ◌+◌, inl, inr, min, All, ap, ◌∙◌, subst}
+use Rattle.vlink.specs.declared.message.Message.{Message}
+use Rattle.hand.specs.Deeds.{messages_of}
+use Rattle.group_exchange.proofs.Going.{goes-both, goes-seen, idle-late, works-some}
+use Rattle.group_exchange.proofs.working.work.Goals as goal
+
+pub returns-in_err-commit-clause-some : goal.returns-in_err-commit-clause-some
+returns-in_err-commit-clause-some g c =
+    works-some _ _ _ _ (goes-both _ _ _ _ _ c.run_early.ensures.goes c.commit.ensures.goes) c.from_residual-in_err-commit.result (search rules)
+
+pub returns-clause-ok : goal.returns-clause-ok
+returns-clause-ok g c =
+    let went = goes-both _ _ _ _ _ c.run_early.ensures.goes c.commit.ensures.goes in
+    let seen = ap (λ z. z.seen) c.group.view_is in
+    let asked = c.args.group.now.seen + c.args.window in
+    record {
+      did = went.did;
+      went = went.went;
+      within = c.in_ok-count.ensures.within;
+      idle = elim c.in_ok-count.ensures.idle [
+        | inl all ↦ inl all
+        | inr late ↦ inr (idle-late asked c.limit_of-limit.result c.group.inside.end g.J.GroupRun.setting.until c.run_early.new.self.held.flow.queue c.commit.new.self.held.flow.queue
+            (c.limit_of-limit.ensures ∙ ap (λ s. min (s + c.args.window) c.group.inside.end) seen) c.group.invariant.4 c.commit.ensures.queue late c.commit.ensures.in_time)
+      ];
+      arrived = c.commit.ensures.tray ∙ c.in_ok-count.ensures.arrived;
+      committed_below = subst (λ t. All (λ (m : Message). t ≤ m.time) (messages_of c.commit.new.self.held.done)) (goes-seen _ _ _ _ c.run_early.ensures.goes) c.in_ok-commit.ensures.below;
+    }

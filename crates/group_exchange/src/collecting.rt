@@ -1,0 +1,106 @@
+//! A group takes the letters that are on their way to it.
+ghost use Rattle.std.specs.Prelude.{List, ◌≡◌, ◌≢◌, ◌<◌, ◌≤◌, ◌+◌, ◌⊎◌, ℕ, [], ◌∷◌, ◌++◌, set, length, slice_get, All, IfOk, OnErr, IfErr, Err, true};
+ghost use Rattle.std.specs.Option.{option_map};
+ghost use Rattle.vlink.specs.declared.message.Message.{Message};
+ghost use Rattle.vlink.specs.Letters.{Letter};
+ghost use Rattle.vlink.specs.Order.{message_order};
+ghost use Rattle.virtual_time.specs.Law.{World, lowest, times_of};
+ghost use Rattle.reverse.specs.Rules.{rules_of};
+ghost use Rattle.reverse.specs.Setting.{Setting, simulation_of};
+ghost use Rattle.journal.specs.declared.fault.PoolFault.TheVariants.{OutOfMemory, JournalFull, Torn};
+ghost use Rattle.hand.specs.Hands.{StandsForGroup, is_ours};
+ghost use Rattle.group_exchange.specs.Views.{mark_at, with_letters, world_after};
+ghost use Rattle.group_exchange.specs.Effects.{AreWaiting, Collects, IsGroupAsBefore, TookLetters};
+
+use crate::group::Group;
+use crate::groups::GroupExchange;
+use crate::mark::{standing_now, tell_both};
+use crate::run_of::GroupRun;
+use gvt::Floors;
+use hand::{Hand, hand_laws};
+use journal::PoolFault;
+use reverse::{Actor, actor_laws};
+use vlink::Letter;
+
+/// All letters on their way to a group go to the tray of its hand, with a step in the journal for each. Both marks note how long the journal is then, and
+/// the GVT of the exchange. The answer is how many letters were taken.
+///
+/// Any refusal leaves both as they were. `JournalFull`: exactly where the steps would pass the limit, which is looked at before any growth.
+/// `Torn`: the journal is kept, and another one has written the places of the steps in the table, which is seen behind all growths.
+pub fn collect<R: Actor, J: GroupRun<R>>(
+    group: &mut Group<R, J>,
+    exchange: &mut GroupExchange<R, J>,
+) -> Result<u64, PoolFault>
+    requires posted { group.old.held.flow.words ≡ [] }
+    ensures ok { IfOk result (λ count. Collects (simulation_of (rules_of R.plain) J.setting) J.owners exchange.old group.old exchange.new group.new count) }
+    ensures unchanged { OnErr result ((exchange.new ≡ exchange.old) × IsGroupAsBefore group.old group.new) }
+    ensures full { result ≡ Err JournalFull → (letters : List Letter)
+        × AreWaiting (simulation_of (rules_of R.plain) J.setting) J.owners exchange.old group.old letters × (exchange.old.limit < length exchange.old.steps + length letters) }
+    ensures limited { (result ≡ Err JournalFull → ⊥) → (letters : List Letter)
+        × AreWaiting (simulation_of (rules_of R.plain) J.setting) J.owners exchange.old group.old letters × (length exchange.old.steps + length letters ≤ exchange.old.limit) }
+    ensures faults { IfErr result (λ fault. (fault ≡ OutOfMemory) ⊎ ((fault ≡ JournalFull) ⊎ ((fault ≡ Torn) × (J.keeps ≡ true)))) }
+{
+    actor_laws::<R>();
+    hand_laws::<R>();
+    exchange.join(group);
+    let count = exchange.boxes.letters(group.number).len();
+    if count == 0 {
+        group.standing = standing_now(&exchange.journal, exchange.gvt);
+        tell_both(
+            &mut exchange.marks,
+            &mut group.mark,
+            group.number,
+            &group.standing,
+        );
+        return Ok(0);
+    }
+    if exchange.limit - exchange.journal.len() < count as u64 {
+        return Err(PoolFault::JournalFull);
+    }
+    if group.hand.reserve_letters(count).is_err() {
+        return Err(PoolFault::OutOfMemory);
+    }
+    if let Err(fault) = exchange.journal.reserve(count) {
+        return Err(fault);
+    }
+    let letters = exchange.boxes.letters(group.number);
+    exchange.journal.take_all(&exchange.boxes, group.number);
+    deliver_all(&mut group.hand, letters);
+    lower_floor(&mut exchange.floors, group.number, letters);
+    exchange.boxes.clear(group.number);
+    group.standing = standing_now(&exchange.journal, exchange.gvt);
+    tell_both(
+        &mut exchange.marks,
+        &mut group.mark,
+        group.number,
+        &group.standing,
+    );
+    Ok(count as u64)
+}
+
+/// These letters go to the back of the tray. There is room for them.
+fn deliver_all<R: Actor>(hand: &mut Hand<R>, letters: &[Letter])
+    requires ours { All (λ l. is_ours hand.old.members l.message.receiver ≡ true) letters.now }
+    requires room { length letters.now ≤ hand.old.flow.room }
+    ensures told { hand.new ≡ record hand.old { flow = record hand.old.flow { tray = hand.old.flow.tray ++ letters.now; room = hand.new.flow.room } } }
+    ensures stands { (x : Setting R) (v : World Message R) → All (λ l. l.message.time ≤ x.until) letters.now → StandsForGroup (rules_of R.plain) R.is_value x v hand.old →
+        StandsForGroup (rules_of R.plain) R.is_value x (with_letters message_order letters.now v) hand.new }
+{
+    for letter in letters {
+        hand.deliver_reserved(*letter);
+    }
+}
+
+/// The floor of a group falls to the least time of these letters.
+fn lower_floor(floors: &mut Floors, group: u16, letters: &[Letter])
+    requires within { group < length floors.old.floors }
+    ensures floor { slice_get floors.new.floors group
+        ≡ option_map (λ floor. lowest floor (times_of message_order letters.now)) (slice_get floors.old.floors group) }
+    ensures others { (g : ℕ) → g ≢ group → slice_get floors.new.floors g ≡ slice_get floors.old.floors g }
+    ensures groups { length floors.new.floors ≡ length floors.old.floors }
+    ensures until { floors.new.until ≡ floors.old.until }
+{
+    for letter in letters {
+        floors.lower(group, letter.message.time);
+    }
+}

@@ -1,0 +1,73 @@
+//! What is asked of a group in hand, and of the exchange.
+ghost use Rattle.std.specs.Prelude.{◌≡◌, ◌≢◌, ◌<◌, ◌≤◌, true, false, [], length, slice_get, All, Contains, IfSome, IfNone};
+ghost use Rattle.vlink.specs.declared.message.Message.{Message};
+ghost use Rattle.hand.specs.Hands.{IsAsBefore};
+
+use crate::group::Group;
+use crate::groups::GroupExchange;
+use crate::run_of::GroupRun;
+use hand::hand_laws;
+use reverse::Actor;
+use vlink::{Letter, Step, Time};
+
+impl<R: Actor, J: GroupRun<R>> Group<R, J> {
+    /// Whether its block has a word: something that it did is not posted.
+    pub fn has_block(&self) -> bool
+        ensures some { result ≡ true → self.now.held.flow.words ≢ [] }
+        ensures none { result ≡ false → self.now.held.flow.words ≡ [] }
+    {
+        let steps = self.hand.block().steps();
+        0 < steps
+    }
+
+    /// The GVT that it saw, in ns.
+    pub fn seen(&self) -> Time
+        ensures { result ≡ self.now.seen }
+    {
+        self.standing.seen
+    }
+
+    /// The moment, in ns, before which rows of its committed events may have left. None has where it is 0.
+    pub fn gone(&self) -> Time
+        ensures { result ≡ self.now.gone }
+    {
+        self.gone
+    }
+
+    /// The letters for other groups that wait to be posted, in order.
+    pub fn abroad(&self) -> &[Letter]
+        ensures { result.now ≡ self.now.held.flow.abroad }
+    {
+        self.hand.abroad()
+    }
+
+    /// The moment of the first message of its queue, in ns, if there is one; of letters that are still in the tray it says nothing.
+    pub fn next_time(&mut self) -> Option<Time>
+        ensures same { IsAsBefore self.old.held self.new.held }
+        ensures others { self.new ≡ record self.old { held = self.new.held } }
+        ensures among { IfSome result (λ time. (m : Message) × Contains self.old.held.flow.queue m × (m.time ≡ time)) }
+        ensures least { IfSome result (λ time. All (λ m. time ≤ m.time) self.old.held.flow.queue) }
+        ensures none { IfNone result (self.old.held.flow.queue ≡ []) }
+    {
+        hand_laws::<R>();
+        self.hand.next_time()
+    }
+}
+
+impl<R: Actor, J: GroupRun<R>> GroupExchange<R, J> {
+    /// The number of the group of this process. None: there is no such process.
+    pub fn owner(&self, process: u16) -> Option<u16>
+        ensures is { result ≡ slice_get J.owners process }
+        ensures within { IfSome result (λ group. group < length J.names) }
+    {
+        self.boxes.owner(process)
+    }
+
+    /// The steps of a journal that is kept, in order.
+    pub fn step_list(&self) -> &[Step]
+        requires { J.keeps ≡ true }
+        ensures { result.now ≡ self.now.steps }
+    {
+        self.journal.list()
+    }
+}

@@ -1,0 +1,89 @@
+//! The rows of a group that are for good.
+ghost use Rattle.std.specs.Prelude.{◌≡◌, ◌≤◌, ◌↔◌, ℕ, [], All, IsTrue, max, true, false};
+ghost use Rattle.vlink.specs.Order.{message_order};
+ghost use Rattle.virtual_time.specs.Law.{earlier, one, rowed, rows_at};
+ghost use Rattle.reverse.specs.Rules.{rules_of};
+ghost use Rattle.reverse.specs.Setting.{simulation_of};
+ghost use Rattle.fossil.specs.Within.{rows_within};
+ghost use Rattle.hand.specs.Deeds.{messages_of};
+ghost use Rattle.group_exchange.specs.Rows.{rows_of_group};
+ghost use Rattle.group_exchange.specs.Views.{in_group, is_of};
+
+use crate::group::Group;
+use crate::run_of::GroupRun;
+use fossil::rows_in_time;
+use reverse::{Actor, actor_laws};
+use vlink::{Row, Time};
+
+impl<R: Actor, J: GroupRun<R>> Group<R, J> {
+    /// Whether each done event of its processes is committed.
+    pub fn all_committed(&self) -> bool
+        ensures all { IsTrue result ↔ (self.now.held.done ≡ []) }
+        ensures each { result ≡ true → (p : ℕ) → is_of J.owners self.now.number p ≡ true →
+            ((in_group (simulation_of (rules_of R.plain) J.setting) self.now).parts p).done ≡ [] }
+    {
+        actor_laws::<R>();
+        self.hand.all_committed()
+    }
+
+    /// Whether its events before a moment, in ns, are all committed and are for good: the moment is not later than the GVT that it saw, and no done
+    /// event is earlier.
+    pub fn is_sealed_before(&self, moment: Time) -> bool
+        ensures all { IsTrue result ↔ ((moment ≤ self.now.seen) × All (λ m. moment ≤ m.time) (messages_of self.now.held.done)) }
+        ensures each { result ≡ true → (p : ℕ) → is_of J.owners self.now.number p ≡ true →
+            earlier message_order moment ((in_group (simulation_of (rules_of R.plain) J.setting) self.now).parts p).done ≡ [] }
+    {
+        actor_laws::<R>();
+        moment.ns() <= self.standing.seen.ns() && !self.hand.is_done_before(moment)
+    }
+
+    /// The rows of its committed events, in their order, but those that have left.
+    ///
+    /// - `each`: where none has left, they are, at each of its processes, all rows of its committed events.
+    /// - `others`: none is of a process of another group.
+    pub fn sealed(&self) -> &[Row]
+        ensures each { self.now.gone ≡ 0 → (p : ℕ) → is_of J.owners self.now.number p ≡ true → rows_at p result.now
+            ≡ rowed (rules_of R.plain) (J.setting.opening p) ((in_group (simulation_of (rules_of R.plain) J.setting) self.now).parts p).committed }
+        ensures others { (p : ℕ) → is_of J.owners self.now.number p ≡ false → rows_at p result.now ≡ [] }
+    {
+        actor_laws::<R>();
+        self.hand.rows()
+    }
+
+    /// The rows of its committed events of the moments from `from` on and before `to`, in ns, in their order. None of these has left, since
+    /// `from` is not earlier than `gone`.
+    ///
+    /// - `rows`: they are such rows of its committed events.
+    /// - `whole`: where its events before `to` are all committed and are for good, they are all such rows that the one-thread run has of its processes,
+    ///   in its order.
+    pub fn rows_between(&self, from: Time, to: Time) -> &[Row]
+        requires { self.now.gone ≤ from }
+        ensures rows { result.now ≡ rows_within (rules_of R.plain) from to self.now.held.rows.all }
+        ensures whole { to ≤ self.now.seen → ((p : ℕ) → is_of J.owners self.now.number p ≡ true →
+            earlier message_order to ((in_group (simulation_of (rules_of R.plain) J.setting) self.now).parts p).done ≡ []) →
+            (event_count : ℕ) → (one (simulation_of (rules_of R.plain) J.setting) event_count).waiting ≡ [] → result.now
+            ≡ rows_within (rules_of R.plain) from to (rows_of_group J.owners self.now.number
+            (one (simulation_of (rules_of R.plain) J.setting) event_count).rows) }
+    {
+        actor_laws::<R>();
+        rows_in_time(self.hand.rows(), from, to)
+    }
+
+    /// The rows of its committed events that are earlier than a moment, in ns, leave, the oldest first; where memory is refused for it, some may stay.
+    pub fn let_rows_go(&mut self, moment: Time)
+        ensures gone { self.new.gone ≡ max self.old.gone moment }
+        ensures others { self.new ≡ record self.old { held = self.new.held; gone = self.new.gone } }
+        ensures rows { self.new.held ≡ record self.old.held { rows = record self.old.held.rows { left = self.new.held.rows.left } } }
+    {
+        actor_laws::<R>();
+        let _refused = self.hand.let_rows_go(moment);
+        self.gone = later(self.gone, moment);
+    }
+}
+
+/// The later of two moments.
+fn later(one: Time, other: Time) -> Time
+    ensures { result ≡ max one other }
+{
+    one.max(other)
+}

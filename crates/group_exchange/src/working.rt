@@ -1,0 +1,239 @@
+//! What a group does alone.
+ghost use Rattle.std.specs.Prelude.{◌≡◌, ◌≤◌, ◌+◌, ◌⊎◌, min, false, [], OnOk, IfOk, IfErr, IfNone, Ok, Err, All, IsPermutation};
+ghost use Rattle.reverse.specs.Rules.{rules_of};
+ghost use Rattle.reverse.specs.Setting.{simulation_of};
+ghost use Rattle.journal.specs.declared.fault.PoolFault.TheVariants.{OutOfMemory, Exhausted};
+ghost use Rattle.hand.specs.Deeds.{messages_of};
+ghost use Rattle.hand.specs.declared.early.Early.TheVariants.{Idle, Late};
+ghost use Rattle.group_exchange.specs.Effects.{Goes, IsGroupAsBefore, IsIdleBefore, IsShort, Works, WorksSome};
+
+use crate::group::Group;
+use crate::run_of::GroupRun;
+use exchange::Gate;
+use hand::{Early, HandFault, hand_laws};
+use journal::PoolFault;
+use reverse::{Actor, actor_laws};
+use vlink::{Message, Time};
+
+/// All letters of the tray arrive; then messages that are earlier than the GVT seen and `window`, in ns, are handled, `turn` at most, as long
+/// as there are any; then all done events below the GVT seen are committed. Each step joins the block. The answer is how many messages were handled. A
+/// gate that hears is told of each.
+///
+/// A refusal comes between two steps, and leaves what was done before it. `Exhausted`: the process that handles the first message has too few numbers
+/// left. `OutOfMemory`: a growth was refused.
+pub fn work<R: Actor, J: GroupRun<R>, G: Gate>(
+    group: &mut Group<R, J>,
+    turn: u32,
+    window: u64,
+    gate: &G,
+) -> Result<u64, PoolFault>
+    ensures ok { IfOk result (λ count. Works (simulation_of (rules_of R.plain) J.setting) J.owners turn window group.old group.new count) }
+    ensures some { IfErr result (λ fault. WorksSome (simulation_of (rules_of R.plain) J.setting) J.owners group.old group.new fault) }
+{
+    let limit = limit_of(group.standing.seen, window, group.end);
+    let count = group.run_early(turn, limit, gate)?;
+    group.commit()?;
+    Ok(count)
+}
+
+/// The moment so long after another one, or the end where that is earlier.
+fn limit_of(seen: Time, window: u64, end: Time) -> Time
+    ensures { result ≡ min (seen + window) end }
+{
+    match Time::until(seen.ns().saturating_add(window), end) {
+        Some(limit) => limit,
+        None => end,
+    }
+}
+
+/// The receiver of the message, where that is earlier than the limit.
+fn receiver_before(message: &Message, limit: Time) -> Option<u16>
+    ensures { IfNone result (limit ≤ message.now.time) }
+{
+    if limit <= message.time {
+        return None;
+    }
+    Some(message.receiver)
+}
+
+impl<R: Actor, J: GroupRun<R>> Group<R, J> {
+    /// Letters of the tray arrive, and messages that are earlier than the limit are handled, `turn` at most, as long as there are any; behind each of them
+    /// arrive the letters that it brought.
+    fn run_early<G: Gate>(&mut self, turn: u32, limit: Time, gate: &G) -> Result<u64, PoolFault>
+        ensures goes { Goes (simulation_of (rules_of R.plain) J.setting) J.owners self.old self.new }
+        ensures within { IfOk result (λ count. count ≤ turn) }
+        ensures idle { IfOk result (λ count. (count ≡ turn) ⊎ IsIdleBefore (simulation_of (rules_of R.plain) J.setting) J.owners limit self.new) }
+        ensures arrived { OnOk result (self.new.held.flow.tray ≡ []) }
+        ensures short { result ≡ Err Exhausted → IsShort (simulation_of (rules_of R.plain) J.setting) J.owners self.new }
+        ensures faults { IfErr result (λ fault. (fault ≡ OutOfMemory) ⊎ (fault ≡ Exhausted)) }
+    {
+        self.arrive_all()?;
+        for run in 0..turn {
+            if !self.run_next(limit, gate)? {
+                return Ok(u64::from(run));
+            }
+            self.arrive_all()?;
+        }
+        Ok(u64::from(turn))
+    }
+
+    /// All letters of the tray arrive.
+    #[inline(always)]
+    fn arrive_all(&mut self) -> Result<(), PoolFault>
+        ensures goes { Goes (simulation_of (rules_of R.plain) J.setting) J.owners self.old self.new }
+        ensures arrived { OnOk result (self.new.held.flow.tray ≡ []) }
+        ensures memory { IfErr result (λ fault. fault ≡ OutOfMemory) }
+    {
+        actor_laws::<R>();
+        match self.hand.arrive_all() {
+            Ok(()) => Ok(()),
+            Err(_fault) => Err(PoolFault::OutOfMemory),
+        }
+    }
+
+    /// The first message is handled, if there is one that is earlier than the limit, and the gate is told of it, if it hears. The answer is whether there
+    /// was one.
+    #[inline(always)]
+    fn run_next<G: Gate>(&mut self, limit: Time, gate: &G) -> Result<bool, PoolFault>
+        ensures goes { Goes (simulation_of (rules_of R.plain) J.setting) J.owners self.old self.new }
+        ensures idle { result ≡ Ok false → IsIdleBefore (simulation_of (rules_of R.plain) J.setting) J.owners limit self.new }
+        ensures tray { result ≡ Ok false → self.new.held.flow.tray ≡ self.old.held.flow.tray }
+        ensures short { result ≡ Err Exhausted → IsShort (simulation_of (rules_of R.plain) J.setting) J.owners self.new }
+        ensures faults { IfErr result (λ fault. (fault ≡ OutOfMemory) ⊎ (fault ≡ Exhausted)) }
+    {
+        if gate.hears() {
+            return self.run_told(limit, gate);
+        }
+        self.run_first(limit)
+    }
+
+    /// The first message is handled, if there is one that is earlier than the limit, and the gate is told of it, before and after. The answer is whether
+    /// there was one.
+    fn run_told<G: Gate>(&mut self, limit: Time, gate: &G) -> Result<bool, PoolFault>
+        ensures goes { Goes (simulation_of (rules_of R.plain) J.setting) J.owners self.old self.new }
+        ensures idle { result ≡ Ok false → IsIdleBefore (simulation_of (rules_of R.plain) J.setting) J.owners limit self.new }
+        ensures tray { result ≡ Ok false → self.new.held.flow.tray ≡ self.old.held.flow.tray }
+        ensures short { result ≡ Err Exhausted → IsShort (simulation_of (rules_of R.plain) J.setting) J.owners self.new }
+        ensures faults { IfErr result (λ fault. (fault ≡ OutOfMemory) ⊎ (fault ≡ Exhausted)) }
+    {
+        self.count_done()?;
+        let Some(process) = self.next_before(limit) else {
+            return Ok(false);
+        };
+        let run = self.handled(process);
+        gate.before(process, run);
+        let has_run = self.run_first(limit)?;
+        gate.after(process, run);
+        self.count_run(process, run);
+        Ok(has_run)
+    }
+
+    /// The first message is handled, if there is one that is earlier than the limit. The answer is whether there was one.
+    #[inline(always)]
+    fn run_first(&mut self, limit: Time) -> Result<bool, PoolFault>
+        ensures goes { Goes (simulation_of (rules_of R.plain) J.setting) J.owners self.old self.new }
+        ensures idle { result ≡ Ok false → IsIdleBefore (simulation_of (rules_of R.plain) J.setting) J.owners limit self.new }
+        ensures tray { result ≡ Ok false → self.new.held.flow.tray ≡ self.old.held.flow.tray }
+        ensures short { result ≡ Err Exhausted → IsShort (simulation_of (rules_of R.plain) J.setting) J.owners self.new }
+        ensures faults { IfErr result (λ fault. (fault ≡ OutOfMemory) ⊎ (fault ≡ Exhausted)) }
+    {
+        match self.run_in_order(limit)? {
+            Early::Ran => Ok(true),
+            Early::Idle => Ok(false),
+            Early::Late => self.run_late(limit),
+        }
+    }
+
+    /// The first message is handled, where it is earlier than the limit and comes after all that the group has done.
+    #[inline(always)]
+    fn run_in_order(&mut self, limit: Time) -> Result<Early, PoolFault>
+        ensures goes { Goes (simulation_of (rules_of R.plain) J.setting) J.owners self.old self.new }
+        ensures idle { result ≡ Ok Idle → IsIdleBefore (simulation_of (rules_of R.plain) J.setting) J.owners limit self.new }
+        ensures tray { (result ≡ Ok Idle) ⊎ (result ≡ Ok Late) → self.new.held.flow.tray ≡ self.old.held.flow.tray }
+        ensures short { result ≡ Err Exhausted → IsShort (simulation_of (rules_of R.plain) J.setting) J.owners self.new }
+        ensures faults { IfErr result (λ fault. (fault ≡ OutOfMemory) ⊎ (fault ≡ Exhausted)) }
+    {
+        actor_laws::<R>();
+        match self.hand.run_early(limit) {
+            Ok(early) => Ok(early),
+            Err(HandFault::Exhausted) => Err(PoolFault::Exhausted),
+            Err(HandFault::OutOfMemory) => Err(PoolFault::OutOfMemory),
+        }
+    }
+
+    /// The first message that is not done is handled, if there is one that is earlier than the limit, whether other members have done later events or not.
+    /// The answer is whether there was one.
+    fn run_late(&mut self, limit: Time) -> Result<bool, PoolFault>
+        ensures goes { Goes (simulation_of (rules_of R.plain) J.setting) J.owners self.old self.new }
+        ensures idle { result ≡ Ok false → IsIdleBefore (simulation_of (rules_of R.plain) J.setting) J.owners limit self.new }
+        ensures tray { result ≡ Ok false → self.new.held.flow.tray ≡ self.old.held.flow.tray }
+        ensures short { result ≡ Err Exhausted → IsShort (simulation_of (rules_of R.plain) J.setting) J.owners self.new }
+        ensures faults { IfErr result (λ fault. (fault ≡ OutOfMemory) ⊎ (fault ≡ Exhausted)) }
+    {
+        actor_laws::<R>();
+        self.count_done()?;
+        match self.hand.run_next(limit) {
+            Ok(has_run) => Ok(has_run),
+            Err(HandFault::Exhausted) => Err(PoolFault::Exhausted),
+            Err(HandFault::OutOfMemory) => Err(PoolFault::OutOfMemory),
+        }
+    }
+
+    /// Messages at the front of the queue that are done already count beside, until the first is not done.
+    fn count_done(&mut self) -> Result<(), PoolFault>
+        ensures stood { IsGroupAsBefore self.old self.new }
+        ensures memory { IfErr result (λ fault. fault ≡ OutOfMemory) }
+    {
+        match self.hand.count_done() {
+            Ok(()) => Ok(()),
+            Err(_fault) => Err(PoolFault::OutOfMemory),
+        }
+    }
+
+    /// The process that handles the first message, if there is one that is earlier than the limit.
+    fn next_before(&mut self, limit: Time) -> Option<u16>
+        ensures stood { IsGroupAsBefore self.old self.new }
+        ensures idle { IfNone result (IsIdleBefore (simulation_of (rules_of R.plain) J.setting) J.owners limit self.new) }
+    {
+        actor_laws::<R>();
+        hand_laws::<R>();
+        match self.hand.next() {
+            Some(message) => receiver_before(&message, limit),
+            None => None,
+        }
+    }
+
+    /// All done events that are earlier than the GVT seen are committed. No letter waits in the tray.
+    fn commit(&mut self) -> Result<(), PoolFault>
+        requires { self.old.held.flow.tray ≡ [] }
+        ensures goes { Goes (simulation_of (rules_of R.plain) J.setting) J.owners self.old self.new }
+        ensures below { OnOk result (All (λ m. self.old.seen ≤ m.time) (messages_of self.new.held.done)) }
+        ensures queue { IsPermutation self.old.held.flow.queue self.new.held.flow.queue }
+        ensures in_time { All (λ m. m.time ≤ J.setting.until) self.new.held.flow.queue }
+        ensures tray { self.new.held.flow.tray ≡ self.old.held.flow.tray }
+        ensures memory { IfErr result (λ fault. fault ≡ OutOfMemory) }
+    {
+        actor_laws::<R>();
+        match self.hand.commit(self.standing.seen) {
+            Ok(()) => Ok(()),
+            Err(_fault) => Err(PoolFault::OutOfMemory),
+        }
+    }
+
+    /// How many messages a process has handled, those that it handled again included.
+    fn handled(&self, process: u16) -> u64 {
+        match self.runs.get(usize::from(process)) {
+            Some(runs) => *runs,
+            None => 0,
+        }
+    }
+
+    /// A process has handled one message more. The count stops at its greatest value.
+    fn count_run(&mut self, process: u16, run: u64)
+        ensures { self.new ≡ self.old }
+    {
+        if usize::from(process) < self.runs.len() {
+            self.runs[usize::from(process)] = run.saturating_add(1);
+        }
+    }
+}
