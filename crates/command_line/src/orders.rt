@@ -38,9 +38,9 @@ pub struct Run {
     pub net: String,
     /// The number of threads, 1 to 64.
     pub workers: u8,
-    /// The most events that a process handles in one turn, 1 to 256.
+    /// The most events that a group of processes handles in one turn, 1 to 256.
     pub turn: u16,
-    /// How far beyond the GVT a process may handle events, in ns: 1 to `vlink::LATEST_NS`.
+    /// How far beyond the GVT that it saw a group of processes may handle events, in ns: 1 to `vlink::LATEST_NS`.
     pub window_ns: u64,
     /// The path of the file that is to get the journal, if one is.
     pub journal: Option<String>,

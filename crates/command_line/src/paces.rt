@@ -16,7 +16,7 @@ pub(crate) const USUAL_WORKERS: u64 = 4;
 /// The greatest number of events in a turn.
 pub(crate) const MOST_TURN: u64 = 256;
 /// The number of events in a turn where the words name none.
-pub(crate) const USUAL_TURN: u64 = 16;
+pub(crate) const USUAL_TURN: u64 = 256;
 /// The window, in ns, where the words name none.
 pub(crate) const USUAL_WINDOW_NS: u64 = 1_000_000;
 
@@ -30,7 +30,7 @@ pub(crate) fn workers<'a>(alloc: Global) -> Arg<'a>
         "workers",
         "N",
         value_parser!(u64).range(1..=MOST_WORKERS as i64),
-        "How many threads simulate: 1 to 64 [default: 4]. More than one pays where many events fall within some 16 us of simulated time; more than there are cores never does",
+        "How many threads simulate: 1 to 64 [default: 4]. There are never more than groups of processes: in a network of more than 16 processes, no more than cores, and one where more are not worth the letters between them. More than one pays where many events fall within some 8 us of simulated time and few frames go between the groups",
     )
 }
 
@@ -44,7 +44,7 @@ pub(crate) fn turn<'a>(alloc: Global) -> Arg<'a>
         "turn",
         "N",
         value_parser!(u64).range(1..=MOST_TURN as i64),
-        "How many events a process handles at most in one turn: 1 to 256 [default: 16]",
+        "How many events a group of processes handles at most in one turn: 1 to 256 [default: 256]. Between turns letters go out and come in",
     )
 }
 
@@ -58,6 +58,6 @@ pub(crate) fn window<'a>(alloc: Global) -> Arg<'a>
         "window",
         "NS",
         value_parser!(u64).range(1..=LATEST_NS as i64),
-        "How far a process may run ahead of the global virtual time, in ns: 1 to 1000000000000000 [default: 1000000]. It is an upper bound: workers keep processes within some 16 us of each other by themselves",
+        "How far a group of processes may run ahead of the global virtual time that it saw, in ns: 1 to 1000000000000000 [default: 1000000]. It is an upper bound: workers keep groups within some 8 us of each other by themselves",
     )
 }

@@ -5,27 +5,40 @@ use denote.Param.Send.{IsSend, IsSync, view_send, sendable}
 use denote.Param.SendFields.{declared_send, declared_sync}
 use Rattle.std.proofs.Crossing.{crosses}
 use Rattle.std.proofs.option.Option.TheSendSync as option
+use Rattle.virtual_time.proofs.letter.Letter.TheSendSync as letter
+use Rattle.virtual_time.proofs.row.Row.TheSendSync as row
 use Rattle.vlink.specs.declared.message.Message.{Message}
+use Rattle.vlink.proofs.message.Message.TheSendSync as message
+use Rattle.vlink.proofs.note.Note.TheSendSync as note
 use Rattle.vlink.proofs.time.Time.TheSendSync as time
 use Rattle.reverse.specs.declared.actor.Actor.{Ghosts as ActorGhosts}
 use Rattle.reverse.specs.declared.reversible.Reversible.{Ghosts as ReversibleGhosts}
 use Rattle.reverse.specs.declared.sends.Sends.{Sends}
 use Rattle.reverse.proofs.outbound.Outbound.TheSendSync as outbound
-use Rattle.antimessages.proofs.mail.Mail.TheSendSync as mail
+use Rattle.antimessages.proofs.tally.Tally.TheSendSync as tally
 use Rattle.gvt.proofs.floors.Floors.TheSendSync as floors
-use Rattle.process_queues.proofs.process.Process.TheSendSync as process
-use Rattle.journal.specs.contracts.entry.Deed as Deed
-use Rattle.journal.specs.contracts.entry.Entry as Entry
-use Rattle.journal.specs.contracts.entry.Prior as Prior
-use Rattle.journal.specs.contracts.list.Entries as Entries
-use Rattle.journal.specs.contracts.list.Entries.TheInside as EntriesIn
-use Rattle.journal.proofs.block.Block.TheSendSync as block
-use Rattle.exchange.specs.declared.run_of.ActorRun.{Ghosts as RunGhosts}
-use Rattle.exchange.specs.contracts.exchange.Exchange as Exchange
-use Rattle.exchange.specs.contracts.exchange.Exchange.TheInside as ExchangeIn
-use Rattle.exchange.specs.contracts.held.Held as Held
-use Rattle.exchange.specs.contracts.held.Held.TheInside as HeldIn
-use Rattle.exchange.specs.contracts.mark.Standing as Standing
+use Rattle.hand.proofs.deeds.Deeds.TheSendSync as deeds
+use Rattle.hand.proofs.queue.Queue.TheSendSync as queue
+use Rattle.hand.proofs.undoing.Undoing.TheSendSync as undoing
+use Rattle.hand.specs.contracts.block.Words as Words
+use Rattle.hand.specs.contracts.block.Words.TheInside as WordsIn
+use Rattle.hand.specs.contracts.hand.Hand as Hand
+use Rattle.hand.specs.contracts.hand.Hand.TheInside as HandIn
+use Rattle.hand.specs.contracts.letters.Letters as Letters
+use Rattle.hand.specs.contracts.letters.Letters.TheInside as LettersIn
+use Rattle.hand.specs.contracts.rows.Rows as Rows
+use Rattle.hand.specs.contracts.rows.Rows.TheInside as RowsIn
+use Rattle.journal.proofs.table.Table.TheSendSync as table
+use Rattle.group_exchange.specs.declared.run_of.GroupRun.{Ghosts as RunGhosts}
+use Rattle.group_exchange.specs.contracts.groups.GroupExchange as Exchange
+use Rattle.group_exchange.specs.contracts.groups.GroupExchange.TheInside as ExchangeIn
+use Rattle.group_exchange.specs.contracts.group.Group as Group
+use Rattle.group_exchange.specs.contracts.group.Group.TheInside as GroupIn
+use Rattle.group_exchange.specs.contracts.mark.Standing as Standing
+use Rattle.group_exchange.specs.contracts.steps.Steps as Steps
+use Rattle.group_exchange.specs.contracts.steps.Steps.TheInside as StepsIn
+use Rattle.group_exchange.proofs.boxes.Boxes.TheSendSync as boxes
+use Rattle.group_exchange.proofs.steps.Kept.TheSendSync as kept
 use Rattle.halves.proofs.LeftHalf.TheSendSync as left
 use Rattle.halves.proofs.RightHalf.TheSendSync as right
 use Rattle.nodes.proofs.node.Node.TheSendSync as node
@@ -34,43 +47,55 @@ use Rattle.worker_pool.specs.declared.network_run.NetworkRun.{Ghosts as NetworkG
 use Rattle.trace_tables.proofs.so_far.TablesSoFar.TheSendSync as so_far
 use Rattle.worker_pool.specs.contracts.counted.Counted as Counted
 use Rattle.worker_pool.specs.contracts.leaving.Leaving as Leaving
-use Rattle.worker_pool.specs.contracts.locks.Locks as Locks
+use Rattle.worker_pool.specs.contracts.rounds.row.Row as Row
+use Rattle.worker_pool.specs.contracts.rounds.seat.Seat as Seat
 use Rattle.worker_pool.specs.contracts.row_tables.RowTables as RowTables
 use Rattle.worker_pool.specs.contracts.row_tables.RowTables.TheInside as RowTablesIn
 use Rattle.worker_pool.specs.contracts.shared.Shared as Shared
 use Rattle.worker_pool.specs.contracts.shared.Shared.TheInside as SharedIn
 use Rattle.worker_pool.proofs.desk.TraceLock.TheSendSync as trace
 
--- ---- entries
-prior-send : IsSend Prior.the_row
-prior-send = search (sendable, crosses) depth 20
+-- ---- a hand
+words-send : IsSend Words.the_row
+words-send = view_send _ _ _ _ _ (declared_send WordsIn.the_type (search (option.the_send, sendable, crosses) depth 20))
 
-deed-send : IsSend Deed.the_row
-deed-send = search (block.the_send, sendable, crosses) depth 20
+letters-send : IsSend Letters.the_row
+letters-send = view_send _ _ _ _ _ (declared_send LettersIn.the_type (search (queue.the_send, tally.the_send, letter.the_send, message.the_send, words-send, sendable, crosses) depth 20))
 
-entry-send : IsSend Entry.the_row
-entry-send = declared_send Entry.the_type (prior-send, (deed-send, (search sendable, tt)))
+rows-send : IsSend Rows.the_row
+rows-send = view_send _ _ _ _ _ (declared_send RowsIn.the_type (search (row.the_send, message.the_send, note.the_send, sendable, crosses) depth 20))
 
-entries-send : IsSend Entries.the_row
-entries-send = view_send _ _ _ _ _ (declared_send EntriesIn.the_type (search (entry-send, option.the_send, sendable, crosses) depth 20))
+hand-send : (R K : RattleType) (g : ActorGhosts R.Denot K.Denot) (h : ReversibleGhosts R.Denot Message Sends K.Denot)
+    → IsSend R → IsSend K → IsSend (Hand.the_row R K g h)
+hand-send R K g h s t = view_send _ _ _ _ _ (declared_send (HandIn.the_type R K g h)
+    (search (option.the_send, deeds.the_send, undoing.the_send, rows-send, letters-send, outbound.the_send, sendable, crosses) depth 20))
+
+-- ---- a group in hand, and what the groups share
+steps-send : IsSend Steps.the_row
+steps-send = view_send _ _ _ _ _ (declared_send StepsIn.the_type (search (kept.the_send, option.the_send, sendable, crosses) depth 20))
 
 standing-send : IsSend Standing.the_row
-standing-send = declared_send Standing.the_type (prior-send, (time.the_send, tt))
+standing-send = declared_send Standing.the_type (search (time.the_send, sendable, crosses) depth 20)
 
--- ---- a process in hand, and what the processes share
-held-send : (R J K : RattleType) (g : ActorGhosts R.Denot K.Denot) (h : ReversibleGhosts R.Denot Message Sends K.Denot) (k : RunGhosts J.Denot R.Denot K.Denot)
-    → IsSend R → IsSend K → IsSend (Held.the_row R J K g h k)
-held-send R J K g h k s t = view_send _ _ _ _ _ (declared_send (HeldIn.the_type R J K g h k)
-    (search (standing-send, right.the_send, process.the_send, block.the_send, time.the_send, outbound.the_send, sendable, crosses) depth 20))
+group-send : (R J K : RattleType) (g : ActorGhosts R.Denot K.Denot) (h : ReversibleGhosts R.Denot Message Sends K.Denot) (k : RunGhosts J.Denot R.Denot K.Denot)
+    → IsSend R → IsSend K → IsSend (Group.the_row R J K g h k)
+group-send R J K g h k s t = view_send _ _ _ _ _ (declared_send (GroupIn.the_type R J K g h k)
+    (search (hand-send, standing-send, right.the_send, time.the_send, sendable, crosses) depth 20))
 
 exchange-send : (R J K : RattleType) (g : ActorGhosts R.Denot K.Denot) (h : ReversibleGhosts R.Denot Message Sends K.Denot) (k : RunGhosts J.Denot R.Denot K.Denot)
     → IsSend (Exchange.the_row R J K g h k)
 exchange-send R J K g h k = view_send _ _ _ _ _ (declared_send (ExchangeIn.the_type R J K g h k)
-    (search (entries-send, left.the_send, mail.the_send, floors.the_send, time.the_send, sendable, crosses) depth 20))
+    (search (steps-send, left.the_send, boxes.the_send, floors.the_send, time.the_send, sendable, crosses) depth 20))
 
--- ---- the locks
+-- ---- what workers share
 pub shared-send : (J : RattleType) (g : NetworkGhosts J.Denot) → IsSend (Shared.the_row J g)
-shared-send J g = view_send _ _ _ _ _ (declared_send (SharedIn.the_type J g) (search (exchange-send, crosses) depth 10, tt))
+shared-send J g = view_send _ _ _ _ _ (declared_send (SharedIn.the_type J g) (search (exchange-send, sendable, crosses) depth 10))
+
+seat-send : (J : RattleType) (g : NetworkGhosts J.Denot) → IsSend (Seat.the_row J g)
+seat-send J g = declared_send (Seat.the_type J g) (search (group-send, node.the_send, node_record.the_send, sendable, crosses) depth 10)
+
+pub row-sync : (J : RattleType) (g : NetworkGhosts J.Denot) → IsSync (Row.the_row J g)
+row-sync J g = declared_sync (Row.the_type J g) (search (seat-send, sendable, crosses) depth 20)
 
 tables-send : (J : RattleType) (g : NetworkGhosts J.Denot) → IsSend (RowTables.the_row J g)
 tables-send J g = view_send _ _ _ _ _ (declared_send (RowTablesIn.the_type J g) (search (so_far.the_send, sendable, crosses) depth 20))
@@ -78,14 +103,8 @@ tables-send J g = view_send _ _ _ _ _ (declared_send (RowTablesIn.the_type J g) 
 pub counted-send : (J : RattleType) (g : NetworkGhosts J.Denot) → IsSend (Counted.the_row J g)
 counted-send J g = declared_send (Counted.the_type J g) (search (tables-send, option.the_send, time.the_send, sendable, crosses) depth 20)
 
-leaving-sync : (J : RattleType) (g : NetworkGhosts J.Denot) → IsSync (Leaving.the_row J g)
+pub leaving-sync : (J : RattleType) (g : NetworkGhosts J.Denot) → IsSync (Leaving.the_row J g)
 leaving-sync J g = declared_sync (Leaving.the_type J g) (
   search (counted-send, option.the_sync, sendable, crosses) depth 20,
   (search (trace.the_sync, option.the_sync, sendable, crosses) depth 20, tt),
-)
-
-pub locks-sync : (J : RattleType) (g : NetworkGhosts J.Denot) → IsSync (Locks.the_row J g)
-locks-sync J g = declared_sync (Locks.the_type J g) (
-  search (held-send, node.the_send, node_record.the_send, sendable, crosses) depth 10,
-  (time.the_sync, (leaving-sync J g, tt)),
 )

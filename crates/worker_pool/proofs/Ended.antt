@@ -1,95 +1,162 @@
 -- What holds of a run that is ended.
-use Rattle.std.proofs.Common.{◌≡◌, ◌≤◌, ◌∙◌, refl, ℕ, suc, ◌+◌, List, [], ◌++◌, filter, length, slice_get, sym, ap, subst, arith, Some}
-use Rattle.std.proofs.lemmas.List.{nil_from_length}
+use Rattle.std.proofs.Common.{◌≡◌, ◌<◌, ◌≤◌, ◌∙◌, ◌++◌, refl, inl, inr, ℕ, suc, ◌+◌, ◌==◌, Bool, true, false, List, [], filter, map, length, get_or, slice_get, append-nil, sym, ap, subst, arith, Option, Some, None}
+use Rattle.std.proofs.lemmas.Bool.{both_ways, cases_eq, cases_lt}
+use Rattle.std.proofs.lemmas.List.Elements.{All-get_or, filter-append}
+use Rattle.std.proofs.lemmas.Option.{slice_get-get_or, slice_get_within}
 use Rattle.vlink.specs.declared.message.Message.{Message}
 use Rattle.vlink.specs.Letters.{Row}
-use Rattle.virtual_time.specs.Law.{rowed, Laws, one, Part, after_moves, IsWhole, Entry, steps, reach}
-use Rattle.virtual_time.specs.declared.moved.Move.{Move}
+use Rattle.vlink.specs.Order.{message_order}
+use Rattle.virtual_time.specs.Law.{World, Part, earlier, rowed, rows_at, Laws, one, IsWhole, behind, waiting_in}
+use Rattle.virtual_time.specs.declared.step.Step.{Step}
 use Rattle.netdesc.specs.Words.{Plan, process_count}
 use Rattle.nodes.specs.Words.{NodeState, opening, simulation_of}
-use Rattle.exchange.specs.Views.{HeldState}
+use Rattle.nodes.specs.declared.node.NodeRecord.{NodeRecord}
+use Rattle.hand.specs.declared.block.Did.{Did}
+use Rattle.hand.specs.Block.{steps_told}
+use Rattle.group_exchange.specs.Effects.{block_in}
+use Rattle.group_exchange.specs.Keeps.{AreGrouped}
+use Rattle.group_exchange.specs.Views.{GroupState, Ledger, in_group, is_of, world_after}
+use Rattle.group_exchange.proofs.Owners.{of-one, of-other, of-owner, of-within, owner-is}
 use Rattle.seqsim.specs.Committed.{after, AreCommittedRows}
 use Rattle.seqsim.specs.Networks.{AreRowsOf}
-use Rattle.seqsim.proofs.CommittedRows.{AreRowsBelow, rows-more, rows-all, rows-whole}
+use Rattle.seqsim.proofs.CommittedRows.{rows-all}
 use Rattle.worker_pool.specs.Counts.{moment_of}
 use Rattle.worker_pool.specs.Runs.{IsOfWorld, IsEnded}
-use Rattle.worker_pool.proofs.SegmentRows.{AreAsInRun, is_inside}
+use Rattle.worker_pool.proofs.GroupRows.{AreOfGroup}
 use Rattle.worker_pool.proofs.Places.{some-at}
 
--- the process at a place has committed all that it has done
-abbrev pub HasCommitted : ℕ → HeldState NodeState → Type 0
-HasCommitted p held = held.part.done ≡ []
+-- the group at a place has committed all that it has done
+abbrev pub HasCommitted : Plan → List ℕ → ℕ → GroupState NodeState NodeRecord → Type 0
+HasCommitted plan owners g group = (p : ℕ) → is_of owners group.number p ≡ true → ((in_group (simulation_of plan) group).parts p).done ≡ []
 
--- the rows that have left the process at a place are of moments before that of the place
-abbrev pub HasGoneBy : List ℕ → ℕ → ℕ → HeldState NodeState → Type 0
-HasGoneBy own end p held = held.gone ≤ moment_of own end p
+-- the rows that have left the group at a place are of moments before that of the place
+abbrev pub HasGoneBy : List ℕ → ℕ → ℕ → GroupState NodeState NodeRecord → Type 0
+HasGoneBy own end g group = group.gone ≤ moment_of own end g
 
--- at the first n processes the rows are those that are committed in the world that the journal reaches, and at no other process is a row
-abbrev pub AreCommittedBelow : Plan → List (Entry Message) → ℕ → List Row → Type 0
-AreCommittedBelow plan entries n rows = AreRowsBelow (simulation_of plan) (after plan (steps entries)) n rows
+-- a process within has a group
+pub own-group : {processes groups : ℕ} {owners : List ℕ} → AreGrouped processes groups owners → (p : ℕ) → p < processes → (g : ℕ) × (g < groups) × (is_of owners g p ≡ true)
+own-group {processes} {groups} {owners} G p i =
+    let within : p < length owners = subst (λ n. p < n) (sym G.each) i in (
+      get_or owners p 0,
+      All-get_or (λ g. g < groups) owners p 0 within G.within,
+      of-owner owners (get_or owners p 0) p (slice_get-get_or owners p 0 within),
+    )
 
-module _ (plan : Plan) (entries : List (Entry Message)) where
+-- and one beyond has none
+pub no-group : {processes groups : ℕ} {owners : List ℕ} → AreGrouped processes groups owners → (p : ℕ) → processes ≤ p → (g : ℕ) → is_of owners g p ≡ true → ⊥
+no-group {processes} {groups} {owners} G p i g o = let within = of-within owners g p o in let all = G.each in omega arith
+
+-- rows gathered of the first n groups: at their processes they are those that are committed after these steps, and at no other process is a row
+pub record AreCommittedOf (plan : Plan) (owners : List ℕ) (steps : List Step) (n : ℕ) (rows : List Row) : Type 0 where
+  pub below : (p g : ℕ) → is_of owners g p ≡ true → g < n → rows_at p rows ≡ rowed (simulation_of plan).rules (opening plan p) ((after plan steps).parts p).committed
+  pub above : (p : ℕ) → ((g : ℕ) → is_of owners g p ≡ true → n ≤ g) → rows_at p rows ≡ []
+
+module _ (plan : Plan) (owners : List ℕ) where
+  pub rows-of-none : (steps : List Step) → AreCommittedOf plan owners steps 0 []
+  rows-of-none steps = record { below = λ p g o i. absurd (omega arith); above = λ p none. refl }
+
   -- with no step that is not in the journal, what fits is what the journal reaches
-  pub of-world : (n : ℕ) (held : HeldState NodeState) → held.number ≡ n → length held.block ≡ 0 →
-      held.part ≡ after_moves (simulation_of plan).rules (opening plan held.number) held.block
-      ((reach (simulation_of plan) entries).parts held.number) →
-      IsOfWorld plan entries n held
-  of-world n held number none part =
+  pub of-world : (x : Ledger) (n : ℕ) (group : GroupState NodeState NodeRecord) → group.number ≡ n → plan.until < group.seen → group.held.flow.words ≡ [] →
+      ((p : ℕ) → is_of owners group.number p ≡ true →
+      (world_after (simulation_of plan) (x.steps ++ block_in (simulation_of plan) owners x group)).parts p ≡ (in_group (simulation_of plan) group).parts p) →
+      IsOfWorld plan owners x.steps n group
+  of-world x n group number seen none parts =
       let f = simulation_of plan in
-      let parts = (reach f entries).parts in (
-        number,
-        part ∙ (ap (λ (b : List Move). after_moves f.rules (opening plan held.number) b (parts held.number))
-            (nil_from_length held.block none) ∙ ap parts number),
-      )
+      let waiting = waiting_in f (world_after f x.steps) in
+      let nothing : block_in f owners x group ≡ [] = ap (λ (words : List Did). map (behind waiting) (steps_told words)) none in
+      let all : x.steps ++ block_in f owners x group ≡ x.steps = ap (λ (more : List Step). x.steps ++ more) nothing ∙ append-nil x.steps in
+      record {
+        number = number;
+        seen = seen;
+        parts = λ p o. sym (parts p (subst (λ g. is_of owners g p ≡ true) (sym number) o)) ∙ ap (λ (steps : List Step). (world_after f steps).parts p) all;
+      }
 
-  module _ (helds : List (HeldState NodeState)) where
-    -- the end is passed, and each process is the one of the journal and has committed all
-    pub ended : (gvt : ℕ) → gvt ≡ (reach (simulation_of plan) entries).gvt → gvt ≡ plan.until + 1 → length helds ≡ process_count plan →
-        ((p : ℕ) (held : HeldState NodeState) → slice_get helds p ≡ Some held → IsOfWorld plan entries p held) →
-        ((p : ℕ) (held : HeldState NodeState) → slice_get helds p ≡ Some held → HasCommitted p held) → IsEnded plan entries helds
-    ended gvt reached over count each committed =
+  module _ (steps : List Step) (groups : List (GroupState NodeState NodeRecord)) where
+    -- the end is passed, and each group is of the journal's world and has committed all
+    pub ended : (gvt : ℕ) → gvt ≡ (after plan steps).gvt → gvt ≡ plan.until + 1 → AreGrouped (process_count plan) (length groups) owners →
+        ((g : ℕ) (group : GroupState NodeState NodeRecord) → slice_get groups g ≡ Some group → IsOfWorld plan owners steps g group) →
+        ((g : ℕ) (group : GroupState NodeState NodeRecord) → slice_get groups g ≡ Some group → HasCommitted plan owners g group) → IsEnded plan owners steps groups
+    ended gvt reached over grouped each committed =
         record {
           finished = record {
-            over = let e : (reach (simulation_of plan) entries).gvt ≡ suc plan.until = omega arith in e;
+            over = let e : (after plan steps).gvt ≡ suc plan.until = omega arith in e;
             all_committed = λ p i.
-                let at = some-at helds p (let a = count in omega arith) in
-                ap (λ (part : Part Message NodeState). part.done) (sym (each p at.0 at.1).1) ∙ committed p at.0 at.1;
+                let own = own-group grouped p i in
+                let at = some-at groups own.0 own.1 in
+                let here = each own.0 at.0 at.1 in
+                ap (λ (part : Part Message NodeState). part.done) (sym (here.parts p own.2))
+                ∙ committed own.0 at.0 at.1 p (subst (λ g. is_of owners g p ≡ true) (sym here.number) own.2);
           };
-          count = count;
+          grouped = grouped;
           each = each;
         }
 
-    module _ (E : IsEnded plan entries helds) (L : Laws (simulation_of plan)) where
-      -- the rows of one process more
-      pub rows-next : (n : ℕ) (held : HeldState NodeState) → slice_get helds n ≡ Some held → (rows more longer : List Row) →
-          longer ≡ rows ++ more → more ≡ rowed (simulation_of plan).rules (opening plan held.number) held.part.committed →
-          AreCommittedBelow plan entries n rows → AreCommittedBelow plan entries (n + 1) longer
-      rows-next n held at rows more longer is e below =
-          let f = simulation_of plan in
-          let here = E.each n held at in
-          let numbered = ap (λ (p : ℕ). rowed f.rules (opening plan p) held.part.committed) here.0 in
-          let reached = ap (λ (part : Part Message NodeState). rowed f.rules (opening plan n) part.committed) here.1 in
-          subst (AreCommittedBelow plan entries (n + 1)) (sym is) (rows-more f L (steps entries) n rows more below (e ∙ (numbered ∙ reached)))
+    module _ (E : IsEnded plan owners steps groups) where
+      -- the rows of one group more
+      pub rows-next : (n : ℕ) (group : GroupState NodeState NodeRecord) → slice_get groups n ≡ Some group → (rows more longer : List Row) → longer ≡ rows ++ more →
+          ((p : ℕ) → is_of owners group.number p ≡ true →
+          rows_at p more ≡ rowed (simulation_of plan).rules (opening plan p) ((in_group (simulation_of plan) group).parts p).committed) →
+          ((p : ℕ) → is_of owners group.number p ≡ false → rows_at p more ≡ []) → AreCommittedOf plan owners steps n rows → AreCommittedOf plan owners steps (n + 1) longer
+      rows-next n group at rows more longer is mine others C =
+          subst (AreCommittedOf plan owners steps (n + 1)) (sym is) (record {
+            below = λ p g o i. elim (cases_eq g n) [
+              | inl d ↦ both p ∙ (ap (λ (xs : List Row). xs ++ rows_at p more) (C.above p (λ h k. let one = of-one owners g h p o k in omega arith))
+                  ∙ here p (subst (λ h. is_of owners h p ≡ true) d o))
+              | inr d ↦ both p ∙ (ap (λ (xs : List Row). rows_at p rows ++ xs) (there p (of-other owners n g p d o)) ∙ (append-nil (rows_at p rows)
+                  ∙ C.below p g o (omega arith)))
+            ];
+            above = λ p none. both p ∙ (ap (λ (xs : List Row). rows_at p rows ++ xs) (there p (not-of p none)) ∙ (append-nil (rows_at p rows)
+                ∙ C.above p (λ g o. let far = none g o in omega arith)));
+          })
+        where
+          both : (p : ℕ) → rows_at p (rows ++ more) ≡ rows_at p rows ++ rows_at p more
+          both p = filter-append (λ row. row.place == p) rows more
+
+          numbered : group.number ≡ n
+          numbered = (E.each n group at).number
+
+          here : (p : ℕ) → is_of owners n p ≡ true → rows_at p more ≡ rowed (simulation_of plan).rules (opening plan p) ((after plan steps).parts p).committed
+          here p o =
+              mine p (subst (λ g. is_of owners g p ≡ true) (sym numbered) o)
+              ∙ ap (λ (part : Part Message NodeState). rowed (simulation_of plan).rules (opening plan p) part.committed) ((E.each n group at).parts p o)
+
+          there : (p : ℕ) → is_of owners n p ≡ false → rows_at p more ≡ []
+          there p o = others p (subst (λ g. is_of owners g p ≡ false) (sym numbered) o)
+
+          not-of : (p : ℕ) → ((g : ℕ) → is_of owners g p ≡ true → n + 1 ≤ g) → is_of owners n p ≡ false
+          not-of p none = go (is_of owners n p) refl
+            where
+              go : (b : Bool) → is_of owners n p ≡ b → b ≡ false
+              go true o = absurd (let far = none n o in omega arith)
+              go false o = refl
 
       -- and of all
-      pub rows-complete : (n : ℕ) → n ≡ length helds → (rows : List Row) → AreCommittedBelow plan entries n rows →
-          AreCommittedRows plan (steps entries) rows
-      rows-complete n k rows below =
-          rows-all (simulation_of plan) L (steps entries) rows
-          (subst (λ m. AreCommittedBelow plan entries m rows) (k ∙ E.count) below)
+      pub rows-complete : Laws (simulation_of plan) → (n : ℕ) → n ≡ length groups → (rows : List Row) → AreCommittedOf plan owners steps n rows → AreCommittedRows plan steps rows
+      rows-complete L n k rows C =
+          rows-all (simulation_of plan) L steps rows record {
+            below = λ p i. let own = own-group E.grouped p i in C.below p own.0 own.2 (let few = own.1 in omega arith);
+            above = λ p i. C.above p (λ g o. absurd (no-group E.grouped p i g o));
+          }
 
-      module _ (W : IsWhole (simulation_of plan) (after plan (steps entries))) where
-        -- there are rows of the one-thread run
-        pub some-rows : (rows : List Row) × AreRowsOf plan rows
-        some-rows = ((one (simulation_of plan) W.event_count).rows, (W.event_count, W.none_waits, refl))
+      -- no process of a group has a done event that is not committed
+      pub none-done : (n : ℕ) (group : GroupState NodeState NodeRecord) → slice_get groups n ≡ Some group → HasCommitted plan owners n group
+      none-done n group at p o =
+          let here = E.each n group at in
+          let mine = subst (λ g. is_of owners g p ≡ true) here.number o in
+          ap (λ (part : Part Message NodeState). part.done) (here.parts p mine)
+          ∙ E.finished.all_committed p (let within = of-within owners n p mine in let all = E.grouped.each in omega arith)
 
-        -- in any interval the rows of a process are those that the one-thread run has of it
-        pub as-in-run : (n : ℕ) (held : HeldState NodeState) → slice_get helds n ≡ Some held → (from to : ℕ) (rows : List Row) →
-            rows ≡ filter (is_inside plan n from to) (rowed (simulation_of plan).rules (opening plan held.number) held.part.committed) →
-            AreAsInRun plan n from to rows
-        as-in-run n held at from to rows is event_count none =
-            let f = simulation_of plan in
-            let here = E.each n held at in
-            let numbered = ap (λ (p : ℕ). rowed f.rules (opening plan p) held.part.committed) here.0 in
-            let reached = ap (λ (part : Part Message NodeState). rowed f.rules (opening plan n) part.committed) here.1 in
-            is ∙ ap (filter (is_inside plan n from to)) (numbered ∙ (reached ∙ sym (rows-whole f L (steps entries) W event_count none n)))
+      -- there are rows of the one-thread run
+      pub some-rows : IsWhole (simulation_of plan) (after plan steps) → (rows : List Row) × AreRowsOf plan rows
+      some-rows W = ((one (simulation_of plan) W.event_count).rows, (W.event_count, W.none_waits, refl))
+
+      -- in any interval that begins where none of its rows has left, the rows of a group are those that the one-thread run has of it
+      pub in-run : (n : ℕ) (group : GroupState NodeState NodeRecord) → slice_get groups n ≡ Some group → (from to : ℕ) (rows : List Row) → to ≡ plan.until + 1 →
+          (to ≤ group.seen → ((p : ℕ) → is_of owners group.number p ≡ true →
+          earlier message_order to ((in_group (simulation_of plan) group).parts p).done ≡ []) → AreOfGroup plan owners group.number from to rows) →
+          AreOfGroup plan owners n from to rows
+      in-run n group at from to rows end whole =
+          let here = E.each n group at in
+          let seen = here.seen in
+          subst (λ g. AreOfGroup plan owners g from to rows) here.number
+          (whole (omega arith) (λ p o. ap (earlier message_order to) (none-done n group at p o)))

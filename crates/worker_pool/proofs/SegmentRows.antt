@@ -45,11 +45,6 @@ segment-of-run plan p k rows here segment is run r =
     (ap (λ (z : List Row). rows_within from to (rows_at p z)) (same-rows plan p from to rows run here r)
     ∙ pass-again (λ (row : Row). row.place == p) (λ (row : Row). nat_le from row.message.time && nat_lt row.message.time to) run)
 
--- the segment of a process is one of the process that it names
-pub segment-by-name : (plan : Plan) (p k : ℕ) (segment : SegmentRows) → IsSegmentOfRun plan p k segment → IsSegmentOfRun plan segment.process k segment
-segment-by-name plan p k segment is rows r =
-    is rows r ∙ ap (λ (n : ℕ). segment_of 0 n k plan.until rows) (sym (ap (λ (z : SegmentRows). z.process) (is rows r)))
-
 -- an interval is known by its beginning
 pub begins-one : (until moment k : ℕ) → HasInterval until k → moment ≡ cut until k → moment / interval_width until ≡ k
 begins-one until moment k inside at =

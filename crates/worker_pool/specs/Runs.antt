@@ -1,11 +1,12 @@
 -- A run that nobody picked, and a run that is ended.
-use Rattle.std.specs.Prelude.{◌≡◌, ◌≤◌, ℕ, Bool, true, false, List, [], length, slice_get, Some}
+use Rattle.std.specs.Prelude.{◌≡◌, ◌<◌, ◌≤◌, ℕ, Bool, true, false, List, [], length, slice_get, Some}
 use Rattle.virtual_time.specs.declared.step.Step.{Step}
-use Rattle.vlink.specs.declared.message.Message.{Message}
-use Rattle.virtual_time.specs.Law.{Entry, reach, IsFinished}
+use Rattle.virtual_time.specs.Law.{IsFinished}
 use Rattle.netdesc.specs.Words.{Plan, process_count}
 use Rattle.nodes.specs.Words.{NodeState, simulation_of}
-use Rattle.exchange.specs.Views.{HeldState}
+use Rattle.nodes.specs.declared.node.NodeRecord.{NodeRecord}
+use Rattle.group_exchange.specs.Views.{GroupState, in_group, is_of}
+use Rattle.group_exchange.specs.Keeps.{AreGrouped}
 use Rattle.seqsim.specs.Committed.{after}
 use Rattle.worker_pool.specs.Counts.{moment_of}
 
@@ -18,19 +19,27 @@ abbrev pub most_steps : Bool → ℕ
 most_steps true = 67108864
 most_steps false = 4611686018427387904
 
--- the process in hand at place p is number p, and is what it is in the world that the journal reaches
-abbrev pub IsOfWorld : Plan → List (Entry Message) → ℕ → HeldState NodeState → Type 0
-IsOfWorld plan entries p held = (held.number ≡ p) × (held.part ≡ (reach (simulation_of plan) entries).parts p)
+-- the processes of a network are in so many groups: there is none where there is no process
+pub record IsGroupingOf (plan : Plan) (groups : ℕ) (owners : List ℕ) : Type 0 where
+  pub grouped : AreGrouped (process_count plan) groups owners
+  pub few : groups ≤ 4096
+  pub some : 0 < groups → 0 < process_count plan
 
--- a run is ended: the world that its journal reaches is finished, and all its processes are in hand, in order
-pub record IsEnded (plan : Plan) (entries : List (Entry Message)) (helds : List (HeldState NodeState)) : Type 0 where
-  pub finished : IsFinished (simulation_of plan) (reach (simulation_of plan) entries)
-  pub count : length helds ≡ process_count plan
-  pub each : (p : ℕ) (held : HeldState NodeState) → slice_get helds p ≡ Some held → IsOfWorld plan entries p held
+-- the group in hand at place g is number g, has seen the GVT behind the end, and its processes are what they are in the world after these steps
+pub record IsOfWorld (plan : Plan) (owners : List ℕ) (steps : List Step) (g : ℕ) (group : GroupState NodeState NodeRecord) : Type 0 where
+  pub number : group.number ≡ g
+  pub seen : plan.until < group.seen
+  pub parts : (p : ℕ) → is_of owners g p ≡ true → (in_group (simulation_of plan) group).parts p ≡ (after plan steps).parts p
 
--- the rows that have left a process are of moments before its own
-abbrev pub HaveGoneBy : List ℕ → ℕ → List (HeldState NodeState) → Type 0
-HaveGoneBy own end helds = (p : ℕ) (held : HeldState NodeState) → slice_get helds p ≡ Some held → held.gone ≤ moment_of own end p
+-- a run is ended: the world after its steps is finished, each process has a group, and all groups are in hand, in order
+pub record IsEnded (plan : Plan) (owners : List ℕ) (steps : List Step) (groups : List (GroupState NodeState NodeRecord)) : Type 0 where
+  pub finished : IsFinished (simulation_of plan) (after plan steps)
+  pub grouped : AreGrouped (process_count plan) (length groups) owners
+  pub each : (g : ℕ) (group : GroupState NodeState NodeRecord) → slice_get groups g ≡ Some group → IsOfWorld plan owners steps g group
+
+-- the rows that have left a group are of moments before its own
+abbrev pub HaveGoneBy : List ℕ → ℕ → List (GroupState NodeState NodeRecord) → Type 0
+HaveGoneBy own end groups = (g : ℕ) (group : GroupState NodeState NodeRecord) → slice_get groups g ≡ Some group → group.gone ≤ moment_of own end g
 
 -- after these steps the world of the network is finished
 abbrev pub IsJournalOf : Plan → List Step → Type 0

@@ -3,10 +3,12 @@
 use Rattle.std.specs.Prelude.{◌≡◌, ℕ, ◌+◌, ◌≤◌, Bool, true, false, cond, List, [], Option, length, All}
 use Rattle.std.specs.Io.KnownBytes.{append_known}
 use Rattle.virtual_time.specs.Law.{rows_at}
+use Rattle.group_exchange.specs.Rows.{rows_of_group}
 use Rattle.vlink.specs.Letters.{Row}
 use Rattle.netdesc.specs.Words.{Plan, process_count}
 use Rattle.trace_segments.specs.Words.{IsOfRows, Gathering, rows_within, rows_before, AreInMessageOrder, AreAtReceivers, BatchRows, IsBeginning, trace_text, WrittenTrace}
 use Rattle.seqsim.specs.Networks.{AreRowsOf}
+use Rattle.group_exchange.specs.Keeps.{AreGrouped}
 
 -- rows in message order, each of the process that received its message, none of a process that the network lacks, and none later than the
 -- end of the run
@@ -25,12 +27,14 @@ pub record IsBatchOfRun (plan : Plan) (batch : BatchRows) : Type 0 where
   pub ordered : batch.from ≤ batch.to
   pub rows_are : (rows : List Row) → AreRowsOf plan rows → batch.rows ≡ rows_within batch.from batch.to rows
 
--- the segments are gathered of run 0, of all processes and up to the end of the network, and those that wait have the rows of the run
-pub record IsGatheringOfRun (plan : Plan) (gathering : Gathering) : Type 0 where
+-- the segments are gathered of run 0, of so many groups that have all processes, and up to the end of the network; those that wait have the rows of
+-- the run
+pub record IsGatheringOfRun (plan : Plan) (owners : List ℕ) (groups : ℕ) (gathering : Gathering) : Type 0 where
   pub run_is : gathering.run ≡ 0
   pub until_is : gathering.until ≡ plan.until
-  pub count : length gathering.waiting ≡ process_count plan
-  pub rows_are : (rows : List Row) → AreRowsOf plan rows → IsOfRows gathering (λ p. rows_at p rows)
+  pub count : length gathering.waiting ≡ groups
+  pub grouped : AreGrouped (process_count plan) groups owners
+  pub rows_are : (rows : List Row) → AreRowsOf plan rows → IsOfRows gathering (λ g. rows_of_group owners g rows)
 
 -- what is written of the trace of these rows: nothing before the first batch, and then that of the rows before the end of the last one
 abbrev pub text_before : Plan → Bool → ℕ → List Row → List ℕ

@@ -1,10 +1,10 @@
 //! The tables of a run, as far as its rows are counted while it goes on.
 ghost use Rattle.std.specs.Prelude.{◌≡◌, ℕ, replicate, IfOk, IfSome};
-ghost use Rattle.worker_pool.specs.Counts.{moment_of, AreCountedBefore};
+ghost use Rattle.worker_pool.specs.Counts.{moment_at, moment_of, AreCountedBefore};
 
 use crate::lawful_rows::lawful_rows;
-use crate::locks::Locked;
 use crate::network_run::NetworkRun;
+use crate::rounds::seat::NetworkGroup;
 use crate::row_tables::RowTables;
 use crate::run_batch::RunBatch;
 use netdesc::Network;
@@ -13,7 +13,7 @@ use std::marker::PhantomData;
 use trace_tables::batches_in_order;
 use vlink::Time;
 
-/// The tables of rows of a run that are for good, or none where a growth was refused: of each process those before a moment of its own, where one
+/// The tables of rows of a run that are for good, or none where a growth was refused: of each group those before a moment of its own, where one
 /// is listed, and else before the moment `end`. By its type they are those of the rows that the one-thread run of the network has there.
 #[derive(Drop)]
 pub(crate) struct Counted<J: NetworkRun> {
@@ -21,39 +21,39 @@ pub(crate) struct Counted<J: NetworkRun> {
     pub own: Vec<Time>,
     pub end: Time,
     of: PhantomData<J>,
-    pub ghost of_run: { ∥ IfSome tables (AreCountedBefore J.plan (moment_of own.items end)) ∥₁ },
+    pub ghost of_run: { ∥ IfSome tables (AreCountedBefore J.plan (moment_at J.owners own.items end)) ∥₁ },
 }
 
-/// The moment before which the rows of a process are counted.
-pub(crate) fn moment_of(own: &[Time], end: Time, process: usize) -> Time
-    ensures { result ≡ moment_of own.now end process }
+/// The moment before which the rows of a group are counted.
+pub(crate) fn moment_of(own: &[Time], end: Time, group: usize) -> Time
+    ensures { result ≡ moment_of own.now end group }
 {
-    match own.get(process) {
+    match own.get(group) {
         Some(moment) => *moment,
         None => end,
     }
 }
 
-/// For each of so many processes the moment 0.
-fn first_moments(alloc: Global, processes: usize) -> Result<Vec<Time>, AllocError>
-    ensures { IfOk result (λ own. own.items ≡ replicate processes 0) }
+/// For each of so many groups the moment 0.
+fn first_moments(alloc: Global, groups: usize) -> Result<Vec<Time>, AllocError>
+    ensures { IfOk result (λ own. own.items ≡ replicate groups 0) }
 {
-    vec![in alloc; Time::default(); processes]
+    vec![in alloc; Time::default(); groups]
 }
 
 impl<J: NetworkRun> Counted<J> {
-    /// No row is counted yet, and no process has a moment of its own. It is refused for memory alone.
+    /// No row is counted yet, and no group has a moment of its own. It is refused for memory alone.
     pub(crate) fn none(alloc: Global, network: &Network) -> Result<Self, AllocError>
         requires { network.now ≡ J.plan }
     {
         Counted::opened(alloc, network, Vec::new(alloc))
     }
 
-    /// No row is counted yet, and each process has a moment of its own. It is refused for memory alone.
-    pub(crate) fn each(alloc: Global, network: &Network) -> Result<Self, AllocError>
+    /// No row is counted yet, and each of so many groups has a moment of its own. It is refused for memory alone.
+    pub(crate) fn each(alloc: Global, network: &Network, groups: u16) -> Result<Self, AllocError>
         requires { network.now ≡ J.plan }
     {
-        let own = first_moments(alloc, network.process_count())?;
+        let own = first_moments(alloc, usize::from(groups))?;
         Counted::opened(alloc, network, own)
     }
 
@@ -69,7 +69,7 @@ impl<J: NetworkRun> Counted<J> {
         })
     }
 
-    /// Counts the rows of the next batch of the run, where no process has a moment of its own. Where a growth is refused, there are no tables from
+    /// Counts the rows of the next batch of the run, where no group has a moment of its own. Where a growth is refused, there are no tables from
     /// then on. A batch that begins elsewhere than the last one ended is not counted, and changes nothing.
     pub(crate) fn take(&mut self, network: &Network, batch: &RunBatch<J>)
         requires { network.now ≡ J.plan }
@@ -90,33 +90,33 @@ impl<J: NetworkRun> Counted<J> {
         self.end = batch.to();
     }
 
-    /// Counts the rows of a process that are for good, as far as it saw, and lets them leave it, where it has a moment of its own. It fails only where
+    /// Counts the rows of a group that are for good, as far as it saw, and lets them leave it, where it has a moment of its own. It fails only where
     /// memory is refused, or was before; then there are no tables from then on.
     pub(crate) fn take_rows(
         &mut self,
         network: &Network,
-        held: &mut Locked<J>,
+        group: &mut NetworkGroup<J>,
     ) -> Result<(), AllocError>
         requires { network.now ≡ J.plan }
     {
         lawful_rows(network);
         batches_in_order();
-        let process = usize::from(held.number());
-        let to = held.mark().seen;
-        if process >= self.own.len() || !held.is_sealed_before(to) {
+        let number = usize::from(group.number());
+        let to = group.seen();
+        if number >= self.own.len() || !group.is_sealed_before(to) {
             return Ok(());
         }
-        let from = moment_of(self.own.as_slice(), self.end, process);
-        if from.ns() < held.gone().ns() || to.ns() < from.ns() {
+        let from = moment_of(self.own.as_slice(), self.end, number);
+        if from.ns() < group.gone().ns() || to.ns() < from.ns() {
             return Ok(());
         }
         let Some(tables) = self.tables.take() else {
             return Err(AllocError);
         };
-        let tables = tables.with(network, held.rows_between(from, to))?;
+        let tables = tables.with(network, group.rows_between(from, to))?;
         self.tables = Some(tables);
-        self.own[process] = to;
-        held.let_rows_go(to);
+        self.own[number] = to;
+        group.let_rows_go(to);
         Ok(())
     }
 }

@@ -1,5 +1,5 @@
 //! The desk of a trace: where the segments of a run are gathered, and from where its batches go to the writer's thread.
-ghost use Rattle.std.specs.Prelude.{◌≡◌, ◌≢◌, ◌<◌, ◌⊎◌, ℕ, None, Some, Ok, Err, IsOk, OnOk, IfOk, IfErr, IfSome, IfNone, OnErr};
+ghost use Rattle.std.specs.Prelude.{◌≡◌, ◌≢◌, ◌<◌, ◌⊎◌, ℕ, None, Some, Ok, Err, IsOk, OnOk, IfOk, IfErr, IfSome, IfNone, OnErr, length};
 ghost use Rattle.vlink.specs.declared.time.TheConstants.{GREATEST_NS};
 ghost use Rattle.std.proofs.Props.{props};
 ghost use Rattle.netdesc.specs.Words.{process_count};
@@ -7,52 +7,52 @@ ghost use Rattle.journal.specs.declared.fault.PoolFault.TheVariants as pool;
 ghost use Rattle.trace_segments.specs.declared.segment_fault.SegmentFault.{SegmentFault};
 ghost use Rattle.trace_segments.specs.declared.segment_fault.SegmentFault.TheVariants.{OutOfMemory};
 ghost use Rattle.trace_segments.specs.Words.{no_segments, segment_fault, Waits, Gives, BatchRows};
-ghost use Rattle.worker_pool.specs.Segments.{IsSegmentOfRun};
+ghost use Rattle.group_exchange.specs.Keeps.{AreGrouped};
+ghost use Rattle.worker_pool.specs.Segments.{IsGroupSegmentOfRun};
 ghost use Rattle.worker_pool.specs.Traces.{HasLawfulRows, IsGatheringOfRun};
 ghost use Rattle.worker_pool.specs.Written.{IsPlaceFault, first_of, told_of};
 
+use crate::group_segments::next_group_segment;
 use crate::lawful_rows::lawful_rows;
-use crate::locks::Locked;
 use crate::network_run::NetworkRun;
-use crate::rounds::schedule::Call;
+use crate::rounds::seat::NetworkGroup;
 use crate::run_batch::RunBatch;
 use crate::run_fault::RunFault;
-use crate::segments::next_segment;
 use crossbeam_channel::{SendError, Sender};
 use journal::PoolFault;
 use netdesc::Network;
 use std::alloc::{AllocError, Global};
 use std::sync::{Mutex, Wait};
-use trace_tables::{Gather, Segment, SegmentFault, batches_in_order, cut, segments_of_rows};
+use trace_tables::{Gather, Segment, SegmentFault, batches_in_order, segments_of_rows};
 use vlink::Time;
 
-/// So many intervals a process without a turn stays behind GVT with its segments.
-const BEHIND: u64 = 16;
-
-/// What the lock of the trace keeps: the segments that wait for those of other processes, the end of the channel to the writer's thread, and
+/// What the lock of the trace keeps: the segments that wait for those of other groups, the end of the channel to the writer's thread, and
 /// the first fault of a segment's place. By its type the segments have the rows that the one-thread run of the network has.
 #[derive(Drop)]
 pub(crate) struct Desk<J: NetworkRun> {
     gather: Gather,
     batches: Sender<RunBatch<J>>,
     pub fault: Option<SegmentFault>,
-    ghost of_run: { ∥ IsGatheringOfRun J.plan gather ∥₁ },
+    ghost of_run: { ∥ IsGatheringOfRun J.plan J.owners (length J.names) gather ∥₁ },
     ghost lawful: { ∥ HasLawfulRows J.plan ∥₁ },
     pub ghost known: { IfSome fault IsPlaceFault } by { Prim.hlevel props },
 }
 
 impl<J: NetworkRun> Desk<J> {
-    /// No segment is there yet, of any process of the network. It is refused for memory alone.
+    /// No segment is there yet, of any of so many groups. It is refused for memory alone.
     fn new(
         alloc: Global,
         network: &Network,
+        groups: u16,
         batches: Sender<RunBatch<J>>,
     ) -> Result<Self, AllocError>
-        requires { network.now ≡ J.plan }
+        requires network { network.now ≡ J.plan }
+        requires grouped { AreGrouped (process_count J.plan) groups J.owners }
+        requires each { groups ≡ length J.names }
     {
         lawful_rows(network);
         segments_of_rows();
-        let gather = Gather::new(alloc, 0, network.process_count() as u16, network.until())?;
+        let gather = Gather::new(alloc, 0, groups, network.until())?;
         Ok(Desk {
             gather,
             batches,
@@ -64,8 +64,8 @@ impl<J: NetworkRun> Desk<J> {
     /// first is kept, and the run goes on.
     fn take<T: Wait>(&mut self, rt: &T, segment: Segment) -> Result<(), PoolFault>
         requires run { segment.run ≡ 0 }
-        requires process { segment.process < process_count J.plan }
-        requires of_run { (k : ℕ) × IsSegmentOfRun J.plan segment.process k segment }
+        requires group { segment.process < length J.names }
+        requires of_run { (k : ℕ) × IsGroupSegmentOfRun J.plan J.owners segment.process k segment }
         ensures taken { segment_fault self.old.gather segment ≡ None → OnOk result
             (Waits self.old.gather segment self.new.gather ⊎ ((batch : BatchRows) × Gives self.old.gather segment batch self.new.gather)) }
         ensures refused { (fault : SegmentFault) → segment_fault self.old.gather segment ≡ Some fault → IsOk result × (self.new.fault ≡ first_of self.old.fault fault) }
@@ -83,12 +83,12 @@ impl<J: NetworkRun> Desk<J> {
         }
     }
 
-    /// Takes the next segment of a process, which is one of the run. Once the segments of all processes for an interval are there, the batch of the
+    /// Takes the next segment of a group, which is one of the run. Once the segments of all groups for an interval are there, the batch of the
     /// interval is given. Its refusals are those of `Gather::take`, and change nothing.
     fn gathered(&mut self, segment: Segment) -> Result<Option<RunBatch<J>>, SegmentFault>
         requires run { segment.run ≡ 0 }
-        requires process { segment.process < process_count J.plan }
-        requires of_run { (k : ℕ) × IsSegmentOfRun J.plan segment.process k segment }
+        requires group { segment.process < length J.names }
+        requires of_run { (k : ℕ) × IsGroupSegmentOfRun J.plan J.owners segment.process k segment }
         ensures refused { (fault : SegmentFault) → segment_fault self.old.gather segment ≡ Some fault → result ≡ Err fault }
         ensures place { IfErr result (λ fault. fault ≢ OutOfMemory → IsPlaceFault fault) }
         ensures memory { segment_fault self.old.gather segment ≡ None → IfErr result (λ fault. fault ≡ OutOfMemory) }
@@ -148,60 +148,47 @@ impl<J: NetworkRun> TraceLock<J> {
     pub(crate) fn new(
         alloc: Global,
         network: &Network,
+        groups: u16,
         batches: Sender<RunBatch<J>>,
     ) -> Result<Self, AllocError>
-        requires { network.now ≡ J.plan }
+        requires network { network.now ≡ J.plan }
+        requires grouped { AreGrouped (process_count J.plan) groups J.owners }
+        requires each { groups ≡ length J.names }
     {
         let until = network.until();
-        let desk = Mutex::new(Desk::new(alloc, network, batches)?);
+        let desk = Mutex::new(Desk::new(alloc, network, groups, batches)?);
         Ok(TraceLock { alloc, until, desk })
     }
 
-    /// The next segment that a process can give goes to the desk. The answer is whether there was one.
-    fn give_segment<T: Wait>(&self, rt: &T, locked: &mut Locked<J>) -> Result<bool, PoolFault>
+    /// The next segment that a group can give goes to the desk. The answer is whether there was one.
+    fn give_segment<T: Wait>(&self, rt: &T, group: &mut NetworkGroup<J>) -> Result<bool, PoolFault>
         ensures memory { IfErr result (λ fault. fault ≡ pool.OutOfMemory) }
     {
-        // The process is one of the network.
-        let _process = locked.number();
-        let Some(segment) = next_segment(self.alloc, locked, self.until)? else {
+        // The group is one of the run.
+        let _number = group.number();
+        let Some(segment) = next_group_segment(self.alloc, group, self.until)? else {
             return Ok(false);
         };
         self.desk.lock(rt).take(rt, segment)?;
         Ok(true)
     }
 
-    /// The segments that a process can give go to the desk, one after another. The caller has the lock of the process, and not that of the
-    /// exchange.
+    /// The segments that a group can give go to the desk, one after another. The caller does not have the lock of the exchange.
     pub(crate) fn give_segments<T: Wait>(
         &self,
         rt: &T,
-        locked: &mut Locked<J>,
+        group: &mut NetworkGroup<J>,
     ) -> Result<(), RunFault<J>>
         ensures memory { IfErr result (λ fault. fault ≡ pool.OutOfMemory) }
     {
         for _ in rt.forever() {
-            match self.give_segment(rt, locked) {
+            match self.give_segment(rt, group) {
                 Ok(true) => {}
                 Ok(false) => return Ok(()),
                 Err(fault) => return Err(RunFault::other(fault)),
             }
         }
         unreachable!()
-    }
-
-    /// A process that gave its segments, and had its turn up to this limit, in ns, is called `BEHIND` intervals further on, though it may have nothing
-    /// else to do: the segments of the others wait for its own. Behind the end of the run it is not called: the end of the run takes what is left.
-    pub(crate) fn call(&self, locked: &Locked<J>, limit_ns: u64) -> Call {
-        let behind_ns = cut(self.until, BEHIND).ns();
-        let moment_ns = locked.gone().ns().max(limit_ns).saturating_add(behind_ns);
-        Call {
-            process: locked.number(),
-            moment_ns: if moment_ns <= self.until.ns() {
-                moment_ns
-            } else {
-                u64::MAX
-            },
-        }
     }
 
     /// The first fault of a segment that is not want of memory. No batch is sent from here on.

@@ -1,69 +1,59 @@
 //! The end of a run: one thread has all in hand, and gives turns until everything is committed.
 ghost use Rattle.std.specs.Prelude.{◌≡◌, ◌≢◌, ◌<◌, ℕ, true, [], length, slice_get, Some, IsTrue, IfErr, OnOk};
 ghost use Rattle.netdesc.specs.Words.{process_count};
-ghost use Rattle.nodes.specs.Words.{NodeState};
+ghost use Rattle.nodes.specs.Words.{NodeState, simulation_of};
+ghost use Rattle.nodes.specs.declared.node.NodeRecord.{NodeRecord};
 ghost use Rattle.journal.specs.declared.fault.PoolFault.TheVariants.{Spawn};
-ghost use Rattle.exchange.specs.Views.{HeldState};
+ghost use Rattle.group_exchange.specs.Views.{GroupState, in_group, is_of};
+ghost use Rattle.group_exchange.specs.Keeps.{AreGrouped};
 ghost use Rattle.worker_pool.specs.Runs.{IsOfWorld, IsEnded, HaveGoneBy};
 
 use crate::counted::moment_of;
+use crate::group_work::work_ahead;
 use crate::leaving::Leaving;
-use crate::locks::{Locked, Locks};
 use crate::network_run::{NetworkRun, Of};
 use crate::pace::Pace;
-use crate::rounds::batch::{ExchangeLock, work_to};
+use crate::rounds::seat::NetworkGroup;
 use crate::run_fault::RunFault;
 use crate::shared::Shared;
-use exchange::{Exchange, Gate};
+use exchange::Gate;
+use group_exchange::GroupExchange;
 use netdesc::Network;
 use nodes::Node;
-use std::alloc::{AllocError, Global};
 use std::sync::Wait;
 use vlink::Time;
 
-/// The exchange and all processes of a run, out of their locks, and what becomes of its rows.
+/// The exchange and all groups of a run, which no worker has any more, and what becomes of its rows.
 #[derive(Drop)]
 pub(crate) struct Unlocked<J: NetworkRun> {
     pub exchange: Shared<J>,
-    pub helds: Vec<Locked<J>>,
+    pub groups: Vec<NetworkGroup<J>>,
     pub leaving: Leaving<J>,
 }
 
-/// Whether this process is number `place`, and has no step that is not in the journal: then it is the one of the journal.
+/// Whether this group is number `place`, has seen a GVT later than the end, and has no step that is not in the journal: then its processes are those
+/// of the journal.
 fn is_of_world<J: NetworkRun>(
-    exchange: &Exchange<Node, Of<J>>,
-    held: &Locked<J>,
+    exchange: &GroupExchange<Node, Of<J>>,
+    group: &NetworkGroup<J>,
     place: usize,
+    until: Time,
 ) -> bool
-    ensures { result ≡ true → IsOfWorld J.plan exchange.now.entries place held.now }
+    requires { until ≡ J.plan.until }
+    ensures { result ≡ true → IsOfWorld J.plan J.owners exchange.now.steps place group.now }
 {
-    if usize::from(held.number()) != place || held.pending() != 0 {
+    if usize::from(group.number()) != place
+        || group.has_block()
+        || group.seen().ns() <= until.ns()
+    {
         return false;
     }
-    exchange.fits(held)
+    exchange.fits(group)
 }
 
 impl<J: NetworkRun> Unlocked<J> {
-    /// Takes out of the locks what they keep, in order. It is refused for memory alone.
-    pub(crate) fn of(
-        alloc: Global,
-        locks: Locks<J>,
-        exchange: ExchangeLock<J>,
-    ) -> Result<Self, AllocError> {
-        let Locks { locks, leaving, .. } = locks;
-        let mut helds = Vec::with_capacity(alloc, locks.len())?;
-        for lock in locks {
-            helds.push(lock.into_inner())?;
-        }
-        Ok(Unlocked {
-            exchange: exchange.into_inner().into_inner(),
-            helds,
-            leaving,
-        })
-    }
-
-    /// Sets GVT and gives each process a turn, once and again until the run is ended, and, where it is asked for, no row has left a process.
-    /// In the last turn each process has seen the GVT behind the end, and has no segment of the trace left
+    /// Sets GVT and gives each group a turn, once and again until the run is ended, and, where it is asked for, no row has left a group.
+    /// In the last turn each group has seen the GVT behind the end, and has no segment of the trace left
     /// to give.
     pub(crate) fn end<G: Gate, T: Wait>(
         &mut self,
@@ -74,8 +64,8 @@ impl<J: NetworkRun> Unlocked<J> {
         gate: &G,
     ) -> Result<(), RunFault<J>>
         requires { network.now ≡ J.plan }
-        ensures ended { OnOk result (IsEnded J.plan self.new.exchange.entries self.new.helds.items) }
-        ensures kept { OnOk result (IsTrue keeps_rows → HaveGoneBy [] 0 self.new.helds.items) }
+        ensures ended { OnOk result (IsEnded J.plan J.owners self.new.exchange.steps self.new.groups.items) }
+        ensures kept { OnOk result (IsTrue keeps_rows → HaveGoneBy [] 0 self.new.groups.items) }
         ensures no_spawn { IfErr result (λ fault. fault ≢ Spawn) }
     {
         let until = network.until();
@@ -89,7 +79,7 @@ impl<J: NetworkRun> Unlocked<J> {
         unreachable!()
     }
 
-    /// Each process gets a turn, and its rows that are for good leave it where they do.
+    /// Each group gets a turn, and its rows that are for good leave it where they do.
     fn take_turns<G: Gate, T: Wait>(
         &mut self,
         rt: &T,
@@ -100,68 +90,71 @@ impl<J: NetworkRun> Unlocked<J> {
         requires { network.now ≡ J.plan }
         ensures no_spawn { IfErr result (λ fault. fault ≢ Spawn) }
     {
-        for held in self.helds.iter_mut() {
-            self.exchange.take_letters(held)?;
-            if let Err(fault) = work_to(held, u64::MAX, pace, gate) {
-                return Err(self.exchange.fault_of(held, fault));
+        for group in self.groups.iter_mut() {
+            // What a worker left is posted, so that the group sees GVT.
+            self.exchange.give_block(group)?;
+            self.exchange.take_letters(group)?;
+            if let Err(fault) = work_ahead(group, u32::from(pace.turn), pace.window_ns, gate) {
+                return Err(self.exchange.fault_of(group, fault));
             }
-            self.exchange.give_block(held)?;
-            self.leaving.take_rows(rt, network, held)?;
+            self.exchange.give_block(group)?;
+            self.leaving.take_rows(rt, network, group)?;
         }
         Ok(())
     }
 
-    /// Whether GVT is beyond the end, all processes are there, each in its place and without a block, and each has committed all that it has done.
+    /// Whether GVT is beyond the end, all groups are there, each in its place and without a block, and each has committed all that it has done.
     fn is_ended(&self, until: Time) -> bool
         requires { until ≡ J.plan.until }
-        ensures { result ≡ true → IsEnded J.plan self.now.exchange.entries self.now.helds.items }
+        ensures { result ≡ true → IsEnded J.plan J.owners self.now.exchange.steps self.now.groups.items }
     {
-        if self.exchange.lent().gvt().ns() != until.ns() + 1 || !self.are_of_world() {
+        if self.exchange.lent().gvt().ns() != until.ns() + 1 || !self.are_of_world(until) {
             return false;
         }
         self.all_committed()
     }
 
-    /// Whether all rows that have left a process are of moments before its own, in ns, where one is listed, and else before `end`; none has left
+    /// Whether all rows that have left a group are of moments before its own, in ns, where one is listed, and else before `end`; none has left
     /// where that is 0.
     pub(crate) fn have_gone_by(&self, own: &[Time], end: Time) -> bool
-        ensures { result ≡ true → HaveGoneBy own.now end self.now.helds.items }
+        ensures { result ≡ true → HaveGoneBy own.now end self.now.groups.items }
     {
-        for place in 0..self.helds.len() {
-            let held = &self.helds[place];
-            if held.gone().ns() > moment_of(own, end, place).ns() {
+        for place in 0..self.groups.len() {
+            let group = &self.groups[place];
+            if group.gone().ns() > moment_of(own, end, place).ns() {
                 return false;
             }
         }
         true
     }
 
-    /// Whether all processes of the network are there, each in its place and without a block.
-    fn are_of_world(&self) -> bool
-        ensures count { result ≡ true → length self.now.helds.items ≡ process_count J.plan }
-        ensures each { result ≡ true → (p : ℕ) (held : HeldState NodeState) → slice_get self.now.helds.items p ≡ Some held →
-            IsOfWorld J.plan self.now.exchange.entries p held }
+    /// Whether all groups of the run are there, each in its place and without a block, and have seen a GVT later than the end.
+    fn are_of_world(&self, until: Time) -> bool
+        requires { until ≡ J.plan.until }
+        ensures grouped { result ≡ true → AreGrouped (process_count J.plan) (length self.now.groups.items) J.owners }
+        ensures each { result ≡ true → (g : ℕ) (group : GroupState NodeState NodeRecord) → slice_get self.now.groups.items g ≡ Some group →
+            IsOfWorld J.plan J.owners self.now.exchange.steps g group }
     {
-        if self.helds.len() != usize::from(self.exchange.processes()) {
+        if self.groups.len() != usize::from(self.exchange.lent().groups()) {
             return false;
         }
-        for place in 0..self.helds.len() {
-            let held = &self.helds[place];
-            if !is_of_world(self.exchange.lent(), held, place) {
+        for place in 0..self.groups.len() {
+            let group = &self.groups[place];
+            if !is_of_world(self.exchange.lent(), group, place, until) {
                 return false;
             }
         }
         true
     }
 
-    /// Whether no process has a done event that is not committed.
+    /// Whether no group has a done event that is not committed.
     fn all_committed(&self) -> bool
-        ensures { result ≡ true → (p : ℕ) (held : HeldState NodeState) → slice_get self.now.helds.items p ≡ Some held →
-            held.part.done ≡ [] }
+        ensures { result ≡ true → (g : ℕ) (group : GroupState NodeState NodeRecord) → slice_get self.now.groups.items g ≡ Some group →
+            (p : ℕ) → is_of J.owners group.number p ≡ true → ((in_group (simulation_of J.plan) group).parts p).done ≡ [] }
     {
-        for place in 0..self.helds.len() {
-            let held = &self.helds[place];
-            if !held.all_committed() {
+        for place in 0..self.groups.len() {
+            let group = &self.groups[place];
+            if !group.all_committed() {
                 return false;
             }
         }

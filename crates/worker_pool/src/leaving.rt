@@ -5,19 +5,18 @@ ghost use Rattle.worker_pool.specs.Written.{IsPlaceFault};
 
 use crate::counted::Counted;
 use crate::desk::TraceLock;
-use crate::locks::Locked;
 use crate::network_run::NetworkRun;
-use crate::rounds::schedule::Call;
+use crate::rounds::seat::NetworkGroup;
 use crate::run_fault::RunFault;
 use netdesc::Network;
 use std::sync::{Mutex, Wait};
 use trace_tables::SegmentFault;
 
-/// So many rows a process has for good before they are counted.
-const MANY_ROWS: usize = 64;
+/// So many rows a group has for good before they are counted.
+const MANY_ROWS: usize = 512;
 
 /// What becomes of the rows of a run that are for good: they are counted, where there is something that counts; they go to the trace, in segments,
-/// where one is written; and where there is neither they stay in their processes.
+/// where one is written; and where there is neither they stay in their groups.
 #[derive(Drop)]
 pub(crate) struct Leaving<J: NetworkRun> {
     counted: Option<Mutex<Counted<J>>>,
@@ -49,38 +48,25 @@ impl<J: NetworkRun> Leaving<J> {
         }
     }
 
-    /// Whether they stay.
-    pub(crate) fn is_stay(&self) -> bool {
-        self.counted.is_none() && self.trace.is_none()
-    }
-
-    /// Rows of a process that are for good leave it. The caller has the lock of the process, and not that of the exchange.
+    /// Rows of a group that are for good leave it. The caller does not have the lock of the exchange.
     pub(crate) fn take_rows<T: Wait>(
         &self,
         rt: &T,
         network: &Network,
-        locked: &mut Locked<J>,
+        group: &mut NetworkGroup<J>,
     ) -> Result<(), RunFault<J>>
         requires { network.now ≡ J.plan }
         ensures memory { IfErr result (λ fault. fault ≡ OutOfMemory) }
     {
         if let Some(trace) = &self.trace {
-            return trace.give_segments(rt, locked);
+            return trace.give_segments(rt, group);
         }
         if let Some(counted) = &self.counted {
-            if locked.sealed().len() >= MANY_ROWS {
-                counted.lock(rt).take_rows(network, locked)?;
+            if group.sealed().len() >= MANY_ROWS {
+                counted.lock(rt).take_rows(network, group)?;
             }
         }
         Ok(())
-    }
-
-    /// Where the trace waits for rows of a process that had its turn up to this limit, in ns: when it is called again.
-    pub(crate) fn call(&self, locked: &Locked<J>, limit_ns: u64) -> Option<Call> {
-        match &self.trace {
-            Some(trace) => Some(trace.call(locked, limit_ns)),
-            None => None,
-        }
     }
 
     /// The first fault of a segment that is not want of memory, where a trace is written, to which no batch is sent from here on; and what was

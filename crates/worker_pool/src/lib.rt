@@ -1,13 +1,16 @@
-//! A run of a network by workers: threads that give turns to locked processes, which share one locked exchange. What a network gives to the
-//! exchange of `exchange`, and the names of both, so that a user has one door.
+//! A run of a network by workers: threads that give turns to groups of processes, which share one locked exchange. And what a network gives to the
+//! exchange of single processes, and the names of it, so that a user has one door.
 #![tactic(auto)]
 
 mod counted;
 mod desk;
 mod ending;
+mod group_opening;
+mod group_segments;
+mod group_work;
+mod grouping;
 mod lawful_rows;
 mod leaving;
-mod locks;
 mod network_run;
 mod opening;
 mod outcomes;

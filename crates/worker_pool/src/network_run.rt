@@ -1,10 +1,11 @@
 //! Of which run of a network an exchange and its processes are.
 use exchange::ActorRun;
+use group_exchange::GroupRun;
 use nodes::Node;
 use std::marker::{Brand, PhantomData};
 
-/// A run of a network, known by its type: which network it is of, whether its journal is kept, and which marks it has. It
-/// has no bytes, and who calls at `Brand` picks all three.
+/// A run of a network, known by its type: which network it is of, whether its journal is kept, which marks it has,
+/// and which groups. It has no bytes, and who calls at `Brand` picks all of them.
 pub trait NetworkRun {
     ghost use Rattle.std.specs.Prelude.{ℕ, Bool, List};
     ghost use Rattle.netdesc.specs.Words.{Plan};
@@ -15,8 +16,11 @@ pub trait NetworkRun {
     /// Whether the entries of its journal are kept, to be listed at its end.
     ghost keeps: { Bool };
 
-    /// The names of the marks, one for each process.
+    /// The names of the marks, one for each process of an exchange of processes, and one for each group of a run.
     ghost names: { List ℕ };
+
+    /// For each process the number of its group.
+    ghost owners: { List ℕ };
 }
 
 impl NetworkRun for Brand {
@@ -28,6 +32,8 @@ impl NetworkRun for Brand {
     ghost keeps = { false };
 
     ghost names = { [] };
+
+    ghost owners = { [] };
 }
 
 /// The run of a network, as a run of its nodes and lines.
@@ -43,4 +49,16 @@ impl<J: NetworkRun> ActorRun<Node> for Of<J> {
     ghost keeps = { J.keeps };
 
     ghost names = { J.names };
+}
+
+impl<J: NetworkRun> GroupRun<Node> for Of<J> {
+    ghost use Rattle.seqsim.specs.Networks.{setting_of};
+
+    ghost setting = { setting_of J.plan };
+
+    ghost keeps = { J.keeps };
+
+    ghost names = { J.names };
+
+    ghost owners = { J.owners };
 }

@@ -24,26 +24,26 @@ use vlink::{Message, Note, Row, Step, Time};
 impl<J: NetworkRun> Unlocked<J> {
     /// The steps of the run, in their order, where its journal is kept. It is refused for memory alone.
     pub(crate) fn steps(&self, alloc: Global) -> Result<Vec<Step>, PoolFault>
-        requires ended { IsEnded J.plan self.now.exchange.entries self.now.helds.items }
+        requires ended { IsEnded J.plan J.owners self.now.exchange.steps self.now.groups.items }
         requires keeps { J.keeps ≡ true }
         ensures journal { IfOk result (λ steps. IsJournalOf J.plan steps.items) }
         ensures memory { IfErr result (λ fault. fault ≡ OutOfMemory) }
     {
-        self.exchange.inner.step_list(alloc)
+        Ok(Vec::from_slice(alloc, self.exchange.inner.step_list())?)
     }
 
-    /// The rows of all committed events, process by process. It is refused for memory alone.
+    /// The rows of all committed events, group by group. It is refused for memory alone.
     fn gathered_rows(&self, alloc: Global, network: &Network) -> Result<Vec<Row>, AllocError>
         requires network { network.now ≡ J.plan }
-        requires ended { IsEnded J.plan self.now.exchange.entries self.now.helds.items }
-        requires kept { HaveGoneBy [] 0 self.now.helds.items }
-        ensures { IfOk result (λ rows. AreCommittedRows J.plan (steps self.now.exchange.entries) rows.items) }
+        requires ended { IsEnded J.plan J.owners self.now.exchange.steps self.now.groups.items }
+        requires kept { HaveGoneBy [] 0 self.now.groups.items }
+        ensures { IfOk result (λ rows. AreCommittedRows J.plan self.now.exchange.steps rows.items) }
     {
         network_laws(network);
         let mut rows = Vec::new(alloc);
-        for process in 0..self.helds.len() {
-            let held = &self.helds[process];
-            rows.extend_from_slice(held.sealed())?;
+        for place in 0..self.groups.len() {
+            let group = &self.groups[place];
+            rows.extend_from_slice(group.sealed())?;
         }
         Ok(rows)
     }
@@ -51,8 +51,8 @@ impl<J: NetworkRun> Unlocked<J> {
     /// The rows of all events, in message order. It is refused for memory alone.
     pub(crate) fn rows(&self, alloc: Global, network: &Network) -> Result<Vec<Row>, AllocError>
         requires network { network.now ≡ J.plan }
-        requires ended { IsEnded J.plan self.now.exchange.entries self.now.helds.items }
-        requires kept { HaveGoneBy [] 0 self.now.helds.items }
+        requires ended { IsEnded J.plan J.owners self.now.exchange.steps self.now.groups.items }
+        requires kept { HaveGoneBy [] 0 self.now.groups.items }
         ensures { IfOk result (λ rows. AreRowsOf J.plan rows.items) }
     {
         rows_by_process(network);
@@ -70,8 +70,8 @@ impl<J: NetworkRun> Unlocked<J> {
         counted: Counted<J>,
     ) -> Result<Tables, AllocError>
         requires network { network.now ≡ J.plan }
-        requires ended { IsEnded J.plan self.now.exchange.entries self.now.helds.items }
-        requires counted { HaveGoneBy counted.own.items counted.end self.now.helds.items }
+        requires ended { IsEnded J.plan J.owners self.now.exchange.steps self.now.groups.items }
+        requires counted { HaveGoneBy counted.own.items counted.end self.now.groups.items }
         ensures whole { IfOk result (λ tables. (rows : List Row) × AreRowsOf J.plan rows × (tables ≡ tables_of J.plan rows)) }
         ensures each { IfOk result (λ tables. (rows : List Row) → AreRowsOf J.plan rows → tables ≡ tables_of J.plan rows) }
     {
@@ -90,10 +90,10 @@ impl<J: NetworkRun> Unlocked<J> {
             return Err(AllocError);
         };
         let behind = Time::known(network.until().ns() + 1);
-        for process in 0..self.helds.len() {
-            let held = &self.helds[process];
-            let from = moment_of(own.as_slice(), end, process);
-            tables = tables.with(network, held.rows_between(from, behind))?;
+        for place in 0..self.groups.len() {
+            let group = &self.groups[place];
+            let from = moment_of(own.as_slice(), end, place);
+            tables = tables.with(network, group.rows_between(from, behind))?;
         }
         tables.tables(network)
     }

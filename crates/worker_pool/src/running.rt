@@ -5,26 +5,26 @@ ghost use Rattle.journal.specs.declared.fault.PoolFault.TheVariants.{Exhausted, 
 ghost use Rattle.trace_tables.specs.Tables.{tables_of};
 ghost use Rattle.seqsim.specs.Networks.{AreRowsOf};
 ghost use Rattle.worker_pool.specs.Outcomes.{CanWantWorkers, UsesUpNumbers};
-ghost use Rattle.worker_pool.specs.Runs.{IsEnded, IsJournalOf, HaveGoneBy};
+ghost use Rattle.worker_pool.specs.Runs.{IsEnded, IsGroupingOf, IsJournalOf, HaveGoneBy};
 ghost use Rattle.worker_pool.specs.Written.{IsPlaceFault};
 
 use crate::counted::Counted;
 use crate::ending::Unlocked;
+use crate::group_opening::open_groups;
+use crate::grouping::{Grouping, groups_for};
 use crate::leaving::Leaving;
-use crate::locks::locks_of;
 use crate::network_run::NetworkRun;
-use crate::opening::open_network;
 use crate::pace::Pace;
-use crate::rounds::apart::Apart;
 use crate::shared::{Shared, most_steps};
-use crate::workers::start_all;
+use crate::workers::work_all;
 use actor_run::{Unwatched, Watch};
-use exchange::{Gate, Pairs};
+use exchange::Gate;
+use group_exchange::Pairs;
 use journal::{PoolFault, Table};
 use netdesc::Network;
 use std::alloc::{AllocError, Global};
 use std::marker::Brand;
-use std::sync::{Mutex, Wait};
+use std::sync::Wait;
 use std::thread::Threads;
 use trace_tables::{SegmentFault, Tables};
 use vlink::{Row, Step};
@@ -38,8 +38,8 @@ pub struct Outcome {
     pub journal: Vec<Step>,
 }
 
-/// Runs a network by workers until it is ended, with a journal that is kept where `keeps` says so. Rows that are for good leave the processes, or stay, and where they are to be kept none has left at the end; once the run is ended
-/// no batch is sent to a trace. Beside the run are the first fault of a segment that is not want of memory, and what was counted, where rows are.
+/// Runs a network by workers until it is ended, with a journal that is kept where `keeps` says so. Rows that are for good leave the groups, or stay,
+/// and where they are to be kept none has left at the end; once the run is ended no batch is sent to a trace. Beside the run are the first fault of a segment that is not want of memory, and what was counted, where rows are.
 /// The watch is shown GVT while the run goes on.
 pub(crate) fn run_to_end<
     J: NetworkRun + Send + Sync,
@@ -51,6 +51,7 @@ pub(crate) fn run_to_end<
     alloc: Global,
     network: &Network,
     keeps: bool,
+    grouping: Grouping,
     pairs: Pairs,
     pace: &Pace,
     gate: &G,
@@ -60,22 +61,25 @@ pub(crate) fn run_to_end<
 ) -> Result<(Unlocked<J>, Option<SegmentFault>, Option<Counted<J>>), PoolFault>
     requires network { network.now ≡ J.plan }
     requires keeps { keeps ≡ J.keeps }
+    requires owners { grouping.owners.items ≡ J.owners }
+    requires grouped { IsGroupingOf network.now grouping.groups J.owners }
     requires names { pairs ≡ J.names }
-    requires each_name { length J.names ≡ process_count network.now }
-    ensures ended { IfOk result (λ r. IsEnded J.plan r.0.exchange.entries r.0.helds.items) }
-    ensures kept { IfOk result (λ r. IsTrue keeps_rows → HaveGoneBy [] 0 r.0.helds.items) }
+    requires each_name { length J.names ≡ grouping.groups }
+    ensures ended { IfOk result (λ r. IsEnded J.plan J.owners r.0.exchange.steps r.0.groups.items) }
+    ensures kept { IfOk result (λ r. IsTrue keeps_rows → HaveGoneBy [] 0 r.0.groups.items) }
     ensures fault { IfOk result (λ r. IfSome r.1 IsPlaceFault) }
     ensures exhausted { IfErr result (λ fault. fault ≡ Exhausted → UsesUpNumbers J.plan) }
     ensures spawn { IfErr result (λ fault. fault ≡ Spawn → CanWantWorkers pace.now.workers (process_count network.now)) }
     ensures watched { W.becomes watch.old watch.new }
 {
     let table = table_of(alloc, keeps)?;
-    let (exchange, helds) = open_network::<J>(alloc, network, table, pairs, most_steps(keeps))?;
-    let locks = locks_of(alloc, network, helds, leaving)?;
-    let exchange = Mutex::new(Apart::new(Shared { inner: exchange }));
-    let (started, _watch) = start_all(rt, alloc, network, &locks, &exchange, pace, gate, watch);
-    started?;
-    let mut unlocked = Unlocked::of(alloc, locks, exchange)?;
+    let limit = most_steps(keeps);
+    let (inner, groups) = open_groups::<J>(alloc, network, grouping, table, pairs, limit)?;
+    let exchange = Shared { inner, sections: 0 };
+    let (worked, _watch) = work_all(
+        rt, alloc, network, exchange, groups, leaving, pace, gate, watch,
+    );
+    let mut unlocked = worked?;
     unlocked.end(rt, network, keeps_rows, pace, gate)?;
     let (fault, counted) = unlocked.leaving.closed();
     Ok((unlocked, fault, counted))
@@ -96,14 +100,17 @@ fn run_named<J: NetworkRun + Send + Sync, G: Gate + Sync, T: Threads + Wait + Sy
     rt: &T,
     alloc: Global,
     network: &Network,
+    grouping: Grouping,
     pairs: Pairs,
     pace: &Pace,
     gate: &G,
 ) -> Result<Outcome, PoolFault>
     requires network { network.now ≡ J.plan }
     requires keeps { J.keeps ≡ true }
+    requires owners { grouping.owners.items ≡ J.owners }
+    requires grouped { IsGroupingOf network.now grouping.groups J.owners }
     requires names { pairs ≡ J.names }
-    requires each_name { length J.names ≡ process_count network.now }
+    requires each_name { length J.names ≡ grouping.groups }
     ensures rows { IfOk result (λ o. AreRowsOf J.plan o.rows.items) }
     ensures tables { IfOk result (λ o. o.tables ≡ tables_of J.plan o.rows.items) }
     ensures finished { IfOk result (λ o. IsJournalOf J.plan o.journal.items) }
@@ -116,6 +123,7 @@ fn run_named<J: NetworkRun + Send + Sync, G: Gate + Sync, T: Threads + Wait + Sy
         alloc,
         network,
         true,
+        grouping,
         pairs,
         pace,
         gate,
@@ -155,6 +163,7 @@ pub fn run<G: Gate + Sync, T: Threads + Wait + Sync>(
     ensures exhausted { IfErr result (λ fault. fault ≡ Exhausted → UsesUpNumbers network.now) }
     ensures spawn { IfErr result (λ fault. fault ≡ Spawn → CanWantWorkers pace.workers (process_count network.now)) }
 {
-    let pairs = Pairs::new(alloc, network.process_count())?;
-    run_named::<Brand, G, T>(rt, alloc, network, pairs, &pace.that_goes(), gate)
+    let grouping = groups_for(rt, alloc, network, pace.workers)?;
+    let pairs = Pairs::new(alloc, usize::from(grouping.groups))?;
+    run_named::<Brand, G, T>(rt, alloc, network, grouping, pairs, &pace.that_goes(), gate)
 }

@@ -48,7 +48,7 @@ pub fn next_segment<J: NetworkRun>(
 }
 
 /// The number of the interval that begins at this moment, in ns, if one does.
-fn interval_at(until: Time, moment: Time) -> Option<u64>
+pub(crate) fn interval_at(until: Time, moment: Time) -> Option<u64>
     requires { until < GREATEST_NS }
     ensures some { IfSome result (λ k. HasInterval until k × (moment ≡ cut until k)) }
     ensures none { IfNone result ((k : ℕ) → HasInterval until k → moment ≡ cut until k → ⊥) }

@@ -1,16 +1,18 @@
 //! The exchange that all workers of a run share.
-ghost use Rattle.std.specs.Prelude.{◌≡◌, ◌≢◌, ◌⊎◌, ◌+◌, ◌<◌, ◌≤◌, true, length, IfErr, Err};
-ghost use Rattle.virtual_time.specs.Law.{steps, reach};
-ghost use Rattle.netdesc.specs.Words.{process_count};
+ghost use Rattle.std.specs.Prelude.{◌≡◌, ◌≢◌, ◌+◌, ◌<◌, ◌≤◌, ◌⊎◌, List, length, true, IfErr, Err};
+ghost use Rattle.vlink.specs.Letters.{Letter};
 ghost use Rattle.nodes.specs.Words.{simulation_of};
-ghost use Rattle.journal.specs.declared.fault.PoolFault.TheVariants.{Exhausted, JournalFull, OutOfMemory, Spawn, Torn};
-ghost use Rattle.worker_pool.specs.Outcomes.{LacksNumbers};
+ghost use Rattle.journal.specs.declared.fault.PoolFault.TheVariants.{OutOfMemory, Exhausted, JournalFull, Spawn, Torn};
+ghost use Rattle.group_exchange.specs.Views.{block_of};
+ghost use Rattle.group_exchange.specs.Effects.{AreWaiting};
+ghost use Rattle.worker_pool.specs.Outcomes.{LackNumbers};
 ghost use Rattle.worker_pool.specs.Runs.{most_steps};
 
-use crate::locks::Locked;
 use crate::network_run::{NetworkRun, Of};
+use crate::rounds::SECTIONS_PER_GVT;
+use crate::rounds::seat::NetworkGroup;
 use crate::run_fault::RunFault;
-use exchange::{Exchange, collect, post, publish};
+use group_exchange::{GroupExchange, collect, post, publish};
 use journal::PoolFault;
 use nodes::Node;
 use std::marker::Model;
@@ -27,17 +29,18 @@ pub(crate) fn most_steps(keeps: bool) -> u64
     }
 }
 
-/// The exchange of a run, whose journal can have so many steps.
+/// The exchange of a run, whose journal can have so many steps, and how many sections workers had in it.
 ///
 /// Clauses see it as the exchange.
 #[derive(Drop)]
 pub(crate) struct Shared<J: NetworkRun> {
-    pub inner: Exchange<Node, Of<J>>,
+    pub inner: GroupExchange<Node, Of<J>>,
+    pub sections: u64,
 }
 
 impl<J: NetworkRun> Model for Shared<J> {
     ghost use Rattle.std.specs.Prelude.{◌≡◌};
-    ghost use Rattle.exchange.specs.Views.{Ledger};
+    ghost use Rattle.group_exchange.specs.Views.{Ledger};
     ghost use Rattle.worker_pool.specs.Runs.{most_steps};
 
     ghost Value = { Ledger };
@@ -48,45 +51,39 @@ impl<J: NetworkRun> Model for Shared<J> {
 }
 
 impl<J: NetworkRun> Shared<J> {
-    /// How many processes there are.
-    pub(crate) fn processes(&self) -> u16
-        ensures { result ≡ process_count J.plan }
-    {
-        self.inner.processes()
-    }
-
     /// The exchange.
-    pub(crate) fn lent(&self) -> &Exchange<Node, Of<J>>
+    pub(crate) fn lent(&self) -> &GroupExchange<Node, Of<J>>
         ensures { result.now ≡ self.now }
     {
         &self.inner
     }
 
-    /// All letters in the mail of the process come to its tray. A process with a block, which a refusal left, takes none before that is posted.
+    /// All letters that wait for the group come to its tray. A group with a block, which a refusal left, takes none before that is posted.
     /// `JournalFull`: the steps would pass the most that a run can have.
-    pub(crate) fn take_letters(&mut self, locked: &mut Locked<J>) -> Result<(), RunFault<J>>
-        ensures full { result ≡ Err JournalFull → most_steps J.keeps < length (steps self.old.entries)
-            + length ((reach (simulation_of J.plan) self.old.entries).mail locked.old.number) }
+    pub(crate) fn take_letters(&mut self, group: &mut NetworkGroup<J>) -> Result<(), RunFault<J>>
+        ensures full { result ≡ Err JournalFull → (letters : List Letter) × AreWaiting (simulation_of J.plan) J.owners self.old group.old letters
+            × (most_steps J.keeps < length self.old.steps + length letters) }
         ensures no_spawn { IfErr result (λ fault. fault ≢ Spawn) }
     {
-        if locked.pending() != 0 {
+        if group.has_block() {
             return Ok(());
         }
-        match collect(locked, &mut self.inner, u32::MAX) {
+        match collect(group, &mut self.inner) {
             Ok(_letters) => Ok(()),
             Err(fault) => Err(RunFault::other(fault)),
         }
     }
 
-    /// What the process did goes to the journal, and its letters to the mail. `JournalFull`: the steps would pass the most that a run can have.
-    pub(crate) fn give_block(&mut self, locked: &mut Locked<J>) -> Result<(), RunFault<J>>
-        ensures full { result ≡ Err JournalFull → most_steps J.keeps < length (steps self.old.entries) + length locked.old.block + 1 }
-        ensures limited { 0 < length locked.old.block → most_steps J.keeps < length (steps self.old.entries) + length locked.old.block + 1 →
+    /// What the group did goes to the journal, and its letters to the other groups. `JournalFull`: the steps would pass the most that a run can have.
+    pub(crate) fn give_block(&mut self, group: &mut NetworkGroup<J>) -> Result<(), RunFault<J>>
+        ensures full { result ≡ Err JournalFull → (0 < length (block_of group.old))
+            × (most_steps J.keeps < length self.old.steps + length (block_of group.old)) }
+        ensures limited { most_steps J.keeps < length self.old.steps + length (block_of group.old) → 0 < length (block_of group.old) →
             result ≡ Err JournalFull }
         ensures faults { IfErr result (λ fault. (fault ≡ OutOfMemory) ⊎ ((fault ≡ JournalFull) ⊎ ((fault ≡ Torn) × (J.keeps ≡ true)))) }
         ensures no_spawn { IfErr result (λ fault. fault ≢ Spawn) }
     {
-        match post(locked, &mut self.inner) {
+        match post(group, &mut self.inner) {
             Ok(()) => Ok(()),
             Err(fault) => Err(RunFault::other(fault)),
         }
@@ -94,7 +91,7 @@ impl<J: NetworkRun> Shared<J> {
 
     /// Sets GVT. The answer is GVT, in ns. `JournalFull`: there are as many steps as a run can have.
     pub(crate) fn set_gvt(&mut self) -> Result<Time, RunFault<J>>
-        ensures full { result ≡ Err JournalFull → most_steps J.keeps ≤ length (steps self.old.entries) }
+        ensures full { result ≡ Err JournalFull → most_steps J.keeps ≤ length self.old.steps }
         ensures no_spawn { IfErr result (λ fault. fault ≢ Spawn) }
     {
         match publish(&mut self.inner) {
@@ -103,13 +100,25 @@ impl<J: NetworkRun> Shared<J> {
         }
     }
 
-    /// The fault of a process at its work. Where it lacks numbers, it does so in a run: after the steps of the journal and those of its block.
-    pub(crate) fn fault_of(&self, locked: &Locked<J>, fault: PoolFault) -> RunFault<J>
-        requires { fault ≡ Exhausted → LacksNumbers locked.now.part }
+    /// A worker has a section. In one of `SECTIONS_PER_GVT`, and where it waits for it, GVT is set: then it is the answer, in ns.
+    pub(crate) fn passed(&mut self, waits: bool) -> Result<Option<Time>, RunFault<J>>
+        ensures no_spawn { IfErr result (λ fault. fault ≢ Spawn) }
+    {
+        self.sections = self.sections.wrapping_add(1);
+        if !waits && self.sections % SECTIONS_PER_GVT != 0 {
+            return Ok(None);
+        }
+        let gvt = self.set_gvt()?;
+        Ok(Some(gvt))
+    }
+
+    /// The fault of a group at its work. Where a process of it lacks numbers, it does so in a run: after the steps of the journal and those of its block.
+    pub(crate) fn fault_of(&self, group: &NetworkGroup<J>, fault: PoolFault) -> RunFault<J>
+        requires { fault ≡ Exhausted → LackNumbers J.plan J.owners group.now }
         ensures { result ≡ fault }
     {
-        let _process = locked.number();
-        self.inner.fits(locked);
+        let _groups = self.inner.groups();
+        self.inner.fits(group);
         RunFault::new(fault)
     }
 }

@@ -6,16 +6,18 @@ ghost use Rattle.journal.specs.declared.fault.PoolFault.TheVariants.{OutOfMemory
 ghost use Rattle.trace_tables.specs.Tables.{tables_of};
 ghost use Rattle.seqsim.specs.Networks.{AreRowsOf};
 ghost use Rattle.worker_pool.specs.Outcomes.{CanWantWorkers, UsesUpNumbers};
-ghost use Rattle.worker_pool.specs.Runs.{IsEnded, IsJournalAsked};
+ghost use Rattle.worker_pool.specs.Runs.{IsEnded, IsGroupingOf, IsJournalAsked};
 
 use crate::counted::Counted;
 use crate::ending::Unlocked;
+use crate::grouping::{Grouping, groups_for};
 use crate::leaving::Leaving;
 use crate::network_run::NetworkRun;
 use crate::pace::Pace;
 use crate::running::run_to_end;
 use actor_run::Watch;
-use exchange::{Gate, Pairs};
+use exchange::Gate;
+use group_exchange::Pairs;
 use journal::PoolFault;
 use netdesc::Network;
 use std::alloc::Global;
@@ -43,7 +45,7 @@ impl<J: NetworkRun> Unlocked<J> {
         with_steps: bool,
     ) -> Result<Summary, PoolFault>
         requires network { network.now ≡ J.plan }
-        requires ended { IsEnded J.plan self.now.exchange.entries self.now.helds.items }
+        requires ended { IsEnded J.plan J.owners self.now.exchange.steps self.now.groups.items }
         requires keeps { with_steps ≡ J.keeps }
         ensures tables { IfOk result (λ s. (rows : List Row) × AreRowsOf J.plan rows × (s.tables ≡ tables_of J.plan rows)) }
         ensures each { IfOk result (λ s. (rows : List Row) → AreRowsOf J.plan rows → s.tables ≡ tables_of J.plan rows) }
@@ -67,7 +69,7 @@ impl<J: NetworkRun> Unlocked<J> {
 
     /// The steps of an ended run, or none where they are not asked for.
     fn steps_asked(&self, alloc: Global, with_steps: bool) -> Result<Vec<Step>, PoolFault>
-        requires ended { IsEnded J.plan self.now.exchange.entries self.now.helds.items }
+        requires ended { IsEnded J.plan J.owners self.now.exchange.steps self.now.groups.items }
         requires keeps { with_steps ≡ J.keeps }
         ensures asked { IfOk result (λ steps. IsJournalAsked J.plan with_steps steps.items) }
         ensures memory { IfErr result (λ fault. fault ≡ OutOfMemory) }
@@ -84,6 +86,7 @@ fn summary_named<J: NetworkRun + Send + Sync, G: Gate + Sync, T: Threads + Wait 
     rt: &T,
     alloc: Global,
     network: &Network,
+    grouping: Grouping,
     pairs: Pairs,
     pace: &Pace,
     with_steps: bool,
@@ -92,8 +95,10 @@ fn summary_named<J: NetworkRun + Send + Sync, G: Gate + Sync, T: Threads + Wait 
 ) -> Result<Summary, PoolFault>
     requires network { network.now ≡ J.plan }
     requires keeps { with_steps ≡ J.keeps }
+    requires owners { grouping.owners.items ≡ J.owners }
+    requires grouped { IsGroupingOf network.now grouping.groups J.owners }
     requires names { pairs ≡ J.names }
-    requires each_name { length J.names ≡ process_count network.now }
+    requires each_name { length J.names ≡ grouping.groups }
     ensures tables { IfOk result (λ s. (rows : List Row) × AreRowsOf J.plan rows × (s.tables ≡ tables_of J.plan rows)) }
     ensures each { IfOk result (λ s. (rows : List Row) → AreRowsOf J.plan rows → s.tables ≡ tables_of J.plan rows) }
     ensures journal { IfOk result (λ s. IsJournalAsked J.plan with_steps s.journal.items) }
@@ -101,9 +106,9 @@ fn summary_named<J: NetworkRun + Send + Sync, G: Gate + Sync, T: Threads + Wait 
     ensures spawn { IfErr result (λ fault. fault ≡ Spawn → CanWantWorkers pace.now.workers (process_count network.now)) }
     ensures watched { W.becomes watch.old watch.new }
 {
-    let leaving = Leaving::counted(Counted::each(alloc, network)?);
+    let leaving = Leaving::counted(Counted::each(alloc, network, grouping.groups)?);
     let (ended, _none, counted) = run_to_end::<J, G, T, W>(
-        rt, alloc, network, with_steps, pairs, pace, gate, leaving, false, watch,
+        rt, alloc, network, with_steps, grouping, pairs, pace, gate, leaving, false, watch,
     )?;
     ended.summary(alloc, network, counted, with_steps)
 }
@@ -126,11 +131,13 @@ pub fn run_summary<G: Gate + Sync, T: Threads + Wait + Sync, W: Watch>(
     ensures spawn { IfErr result (λ fault. fault ≡ Spawn → CanWantWorkers pace.workers (process_count network.now)) }
     ensures watched { W.becomes watch.old watch.new }
 {
-    let pairs = Pairs::new(alloc, network.process_count())?;
+    let grouping = groups_for(rt, alloc, network, pace.workers)?;
+    let pairs = Pairs::new(alloc, usize::from(grouping.groups))?;
     summary_named::<Brand, G, T, W>(
         rt,
         alloc,
         network,
+        grouping,
         pairs,
         &pace.that_goes(),
         with_steps,

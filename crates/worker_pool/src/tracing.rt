@@ -10,12 +10,13 @@ ghost use Rattle.trace_segments.specs.Words.{IsBeginning, trace_text};
 ghost use Rattle.trace_tables.specs.Tables.{tables_of};
 ghost use Rattle.seqsim.specs.Networks.{AreRowsOf};
 ghost use Rattle.worker_pool.specs.Outcomes.{UsesUpNumbers};
-ghost use Rattle.worker_pool.specs.Runs.{IsEnded, IsJournalAsked};
+ghost use Rattle.worker_pool.specs.Runs.{IsEnded, IsGroupingOf, IsJournalAsked};
 ghost use Rattle.worker_pool.specs.Written.{IsFaultOfTrace, IsPlaceFault, IsWritten};
 
 use crate::counted::Counted;
 use crate::desk::TraceLock;
 use crate::ending::Unlocked;
+use crate::grouping::{Grouping, groups_for};
 use crate::leaving::Leaving;
 use crate::network_run::NetworkRun;
 use crate::pace::Pace;
@@ -25,7 +26,8 @@ use crate::trace_run::TraceRun;
 use crate::writing::{Writing, write_batches};
 use actor_run::Watch;
 use crossbeam_channel::bounded;
-use exchange::{Gate, Pairs};
+use exchange::Gate;
+use group_exchange::Pairs;
 use journal::PoolFault;
 use netdesc::Network;
 use std::alloc::Global;
@@ -57,7 +59,7 @@ fn traced_of<'a, J: NetworkRun, K: TraceRun, S: Sink + Drop>(
 ) -> Result<Traced<S>, PoolFault>
     requires network { network.now ≡ J.plan }
     requires keeps { with_steps ≡ J.keeps }
-    requires ended { IfOk ran (λ r. IsEnded J.plan r.0.exchange.entries r.0.helds.items) }
+    requires ended { IfOk ran (λ r. IsEnded J.plan J.owners r.0.exchange.steps r.0.groups.items) }
     requires fault { IfOk ran (λ r. IfSome r.1 IsPlaceFault) }
     requires exhausted { IfErr ran (λ fault. fault ≡ Exhausted → UsesUpNumbers J.plan) }
     ensures tables { IfOk result (λ t. (rows : List Row) × AreRowsOf J.plan rows × (t.outcome.tables ≡ tables_of J.plan rows)) }
@@ -88,6 +90,7 @@ fn traced_named<
     rt: &T,
     alloc: Global,
     network: &Network,
+    grouping: Grouping,
     pairs: Pairs,
     pace: &Pace,
     with_steps: bool,
@@ -97,8 +100,10 @@ fn traced_named<
 ) -> (Result<Traced<S>, PoolFault>, W)
     requires network { network.now ≡ J.plan }
     requires keeps { with_steps ≡ J.keeps }
+    requires owners { grouping.owners.items ≡ J.owners }
+    requires grouped { IsGroupingOf network.now grouping.groups J.owners }
     requires names { pairs ≡ J.names }
-    requires each_name { length J.names ≡ process_count network.now }
+    requires each_name { length J.names ≡ grouping.groups }
     requires taken { S.taken sink ≡ K.taken }
     requires failures { S.failures sink ≡ K.failures }
     ensures tables { IfOk result.0 (λ t. (rows : List Row) × AreRowsOf J.plan rows × (t.outcome.tables ≡ tables_of J.plan rows)) }
@@ -111,7 +116,7 @@ fn traced_named<
     let Ok((to, from)) = bounded(alloc, MOST_BATCHES) else {
         return (Err(PoolFault::OutOfMemory), watch);
     };
-    let Ok(trace) = TraceLock::new(alloc, network, to) else {
+    let Ok(trace) = TraceLock::new(alloc, network, grouping.groups, to) else {
         return (Err(PoolFault::OutOfMemory), watch);
     };
     let Ok(counted) = Counted::none(alloc, network) else {
@@ -124,8 +129,10 @@ fn traced_named<
         |scope| -> (Result<Traced<S>, PoolFault>, W)
             requires network { network.now ≡ J.plan }
             requires keeps { with_steps ≡ J.keeps }
+            requires owners { grouping.owners.items ≡ J.owners }
+            requires grouped { IsGroupingOf network.now grouping.groups J.owners }
             requires names { pairs ≡ J.names }
-            requires each_name { length J.names ≡ process_count network.now }
+            requires each_name { length J.names ≡ grouping.groups }
             ensures tables { IfOk result.0 (λ t. (rows : List Row) × AreRowsOf J.plan rows × (t.outcome.tables ≡ tables_of J.plan rows)) }
             ensures each { IfOk result.0 (λ t. (rows : List Row) → AreRowsOf J.plan rows → t.outcome.tables ≡ tables_of J.plan rows) }
             ensures journal { IfOk result.0 (λ t. IsJournalAsked J.plan with_steps t.outcome.journal.items) }
@@ -143,6 +150,7 @@ fn traced_named<
                 alloc,
                 network,
                 with_steps,
+                grouping,
                 pairs,
                 pace,
                 gate,
@@ -197,11 +205,13 @@ pub fn run_traced<S: Sink + Drop + Send, G: Gate + Sync, T: Threads + Wait + Syn
     ensures exhausted { IfErr result (λ fault. fault ≡ Exhausted → UsesUpNumbers network.now) }
     ensures watched { W.becomes watch.old watch.new }
 {
-    let pairs = Pairs::new(alloc, network.process_count())?;
+    let grouping = groups_for(rt, alloc, network, pace.workers)?;
+    let pairs = Pairs::new(alloc, usize::from(grouping.groups))?;
     let (traced, _watch) = traced_named::<Brand, Brand, S, G, T, &mut W>(
         rt,
         alloc,
         network,
+        grouping,
         pairs,
         &pace.that_goes(),
         with_steps,

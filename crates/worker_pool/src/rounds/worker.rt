@@ -1,40 +1,44 @@
-//! A worker: it goes round after round over its list, and gives turns.
+//! A worker: it has a group, and gives it turns.
 ghost use Rattle.std.specs.Prelude.{◌≡◌};
 
-use super::batch::{Batch, ExchangeLock, add_call, collect_for, list_calls, post_for, work_to};
-use super::hint::Hint;
-use super::picker::Picker;
-use super::schedule::{Call, Schedule};
+use super::apart::Apart;
+use super::moments::Moments;
+use super::row::Row;
+use super::seat::{NetworkGroup, Seat};
 use super::{
-    HELD, LOOKS_BEFORE_ALL, LOOKS_BEFORE_REST, LOOKS_PER_GVT, PAUSES, REST_US, ROUNDS_PER_GVT,
-    STOLEN,
+    BEHIND_NS, LOOKS_BEFORE_REST, LOOKS_PER_GVT, MOST_UNPOSTED, MOST_WITH_LETTERS, PAUSES,
+    PAUSES_OF_TRY, PIECE, TRIES,
 };
-use crate::locks::{Locked, Locks};
-use crate::network_run::NetworkRun;
+use crate::group_work::work_ahead;
+use crate::leaving::Leaving;
+use crate::network_run::{NetworkRun, Of};
 use crate::pace::Pace;
 use crate::run_fault::RunFault;
+use crate::shared::Shared;
 use exchange::Gate;
+use group_exchange::GroupExchange;
 use netdesc::Network;
-use std::alloc::AllocError;
-use std::sync::Wait;
+use nodes::Node;
+use std::hint;
 use std::sync::atomic::{AtomicBool, Ordering};
-use std::{hint, thread};
+use std::sync::{Mutex, MutexGuard, Wait};
+
+/// The lock of the exchange.
+pub(crate) type ExchangeLock<J> = Mutex<Apart<Shared<J>>>;
 
 /// What a worker has for itself, and what it shares with the others.
 #[derive(Drop)]
 pub(crate) struct Worker<'s, J: NetworkRun, G: Gate, T: Wait> {
     pub rt: &'s T,
     pub network: &'s Network,
-    pub picker: Picker<J>,
-    /// Whom the processes called that worked last.
-    pub calls: Vec<Call>,
-    /// How many rounds gave turns.
-    pub rounds: u64,
-    /// How often it has looked in vain since.
+    /// For each group the least moment of the letters that were posted to it last, in ns.
+    pub letters_ns: Vec<u64>,
+    /// How often it has looked in vain since a turn.
     pub looks: u64,
-    pub schedule: &'s Schedule<J>,
-    pub locks: &'s Locks<J>,
+    pub row: &'s Row<J>,
+    pub moments: &'s Moments,
     pub exchange: &'s ExchangeLock<J>,
+    pub leaving: &'s Leaving<J>,
     pub pace: &'s Pace,
     pub gate: &'s G,
     /// Is set where a refusal ends all workers.
@@ -43,18 +47,19 @@ pub(crate) struct Worker<'s, J: NetworkRun, G: Gate, T: Wait> {
 }
 
 impl<'s, J: NetworkRun, G: Gate, T: Wait> Worker<'s, J, G, T> {
-    /// A turn for the worker's first process, and then round after round, until the run is over or the flag is set. It holds processes in this
-    /// list, which is empty.
-    pub(crate) fn turns(&mut self, batch: &mut Batch<'s, J>) -> Result<(), RunFault<J>> {
+    /// Turns for one group after another, or for one to the end, until the run is over or the flag is set.
+    pub(crate) fn turns(&mut self) -> Result<(), RunFault<J>> {
         let rt = self.rt;
-        self.first_turn(batch)?;
         for _ in rt.forever() {
+            let Some(mut seat) = self.row.take(rt) else {
+                return Ok(());
+            };
+            let has_worked = self.give_turns(&mut seat)?;
+            self.row.put(rt, seat)?;
             if self.is_over() {
                 return Ok(());
             }
-            if self.round(batch)? {
-                self.went_round()?;
-            } else {
+            if !has_worked {
                 self.found_nothing()?;
             }
         }
@@ -63,217 +68,253 @@ impl<'s, J: NetworkRun, G: Gate, T: Wait> Worker<'s, J, G, T> {
 
     /// Whether GVT is beyond the end, or the flag is set.
     fn is_over(&self) -> bool {
-        self.schedule.gvt_ns() > self.locks.until.ns() || self.stop.load(Ordering::SeqCst)
+        self.moments.gvt_ns() > self.network.until().ns() || self.stop.load(Ordering::SeqCst)
     }
 
-    /// A turn for the process that has the worker's number, counted round and round, unless another worker has it.
-    fn first_turn(&mut self, batch: &mut Batch<'s, J>) -> Result<(), RunFault<J>> {
-        let process = self.picker.worker % self.locks.locks.len().max(1);
-        let limit_ns = self.schedule.limit_ns(self.pace.window_ns);
-        if let Some(hint) = self.schedule.hint_at(process) {
-            if self.is_held(batch, &hint)? {
-                self.give_turns(batch, limit_ns)?;
-            }
-        }
-        Ok(())
-    }
-
-    /// Turns for those processes of its list that are due; where there is none, for some of the others. The answer is whether there were any.
-    fn round(&mut self, batch: &mut Batch<'s, J>) -> Result<bool, RunFault<J>> {
-        let limit_ns = self.schedule.limit_ns(self.pace.window_ns);
-        self.schedule.look(&mut self.picker, limit_ns);
-        let mut has_turned = false;
-        for given in 0..self.locks.locks.len() {
-            self.hold_own(batch, limit_ns)?;
-            if batch.is_empty() {
+    /// A turn for a group where groups go round; else turns for it, until the run is over. The answer is whether it worked.
+    fn give_turns(&mut self, seat: &mut Seat<J>) -> Result<bool, RunFault<J>> {
+        let rt = self.rt;
+        let goes_round = self.row.turns_round();
+        for _ in rt.forever() {
+            if self.is_over() {
                 break;
             }
-            self.give_turns(batch, limit_ns)?;
-            has_turned = true;
+            let has_worked = self.turn(seat)?;
+            if goes_round {
+                if seat.group.has_block() {
+                    self.meet(seat)?;
+                }
+                return Ok(has_worked);
+            }
+            if !has_worked {
+                self.found_nothing_for(seat)?;
+            }
         }
-        self.schedule.tell(&self.picker);
-        if has_turned {
-            return Ok(true);
-        }
-        self.hold_others(batch, limit_ns)?;
-        if batch.is_empty() {
-            return Ok(false);
-        }
-        self.give_turns(batch, limit_ns)?;
         Ok(true)
     }
 
-    /// Holds processes of its own hints, as long as there are any and it holds fewer than `HELD`.
-    fn hold_own(&mut self, batch: &mut Batch<'s, J>, limit_ns: u64) -> Result<(), AllocError> {
-        for tried in 0..self.locks.locks.len() {
-            if batch.len() >= HELD {
-                return Ok(());
-            }
-            let Some(hint) = self.picker.hint() else {
-                return Ok(());
-            };
-            let moment_ns = self.schedule.moment_ns(&hint);
-            if moment_ns >= limit_ns || !self.is_held(batch, &hint)? {
-                self.picker.leave(moment_ns);
-            }
+    /// A turn for a group. The answer is whether a message was handled.
+    fn turn(&mut self, seat: &mut Seat<J>) -> Result<bool, RunFault<J>> {
+        let limit_ns = self.moments.limit_ns();
+        if self.is_to_meet(seat, limit_ns) {
+            self.meet(seat)?;
+        } else if !self.is_due(seat, limit_ns) {
+            return Ok(false);
         }
+        let has_worked = self.work(seat)?;
+        self.moments.turned();
+        if has_worked {
+            self.looks = 0;
+            seat.unposted = seat.unposted.saturating_add(1);
+        }
+        self.leaving
+            .take_rows(self.rt, self.network, &mut seat.group)?;
+        Ok(has_worked)
+    }
+
+    /// Whether the next event of the group is due, where that is what is before the limit, in ns, and the window.
+    fn is_due(&self, seat: &Seat<J>, limit_ns: u64) -> bool {
+        let seen_ns = seat.group.seen().ns();
+        seat.next_ns < limit_ns.min(seen_ns.saturating_add(self.pace.window_ns))
+    }
+
+    /// Whether a group is to post and to look for letters before it goes on: it has letters for others, or did not post for a while; or a letter waits
+    /// that comes before its next event; or nothing is due, and what it did is not posted, or GVT is further on.
+    fn is_to_meet(&self, seat: &Seat<J>, limit_ns: u64) -> bool {
+        if seat.unposted >= MOST_UNPOSTED || !seat.group.abroad().is_empty() {
+            return true;
+        }
+        let letter_ns = self.moments.letter_ns(seat.group.number());
+        if letter_ns <= seat.next_ns && letter_ns < limit_ns {
+            return true;
+        }
+        if self.is_due(seat, limit_ns) {
+            return false;
+        }
+        let seen_ns = seat.group.seen().ns();
+        let gvt_ns = self.moments.gvt_ns();
+        seat.group.has_block()
+            || gvt_ns >= seen_ns.saturating_add(BEHIND_NS)
+            || (gvt_ns > seen_ns && seat.next_ns < limit_ns)
+    }
+
+    /// In one section of the exchange what the group did goes to the journal, its letters go to the other groups, and its own come to it; and now and
+    /// then, or where its next event is beyond the window, GVT is set in between. Then the other groups are told.
+    fn meet(&mut self, seat: &mut Seat<J>) -> Result<(), RunFault<J>> {
+        let number = seat.group.number();
+        let seen_ns = seat.group.seen().ns();
+        let waits = seat.next_ns >= seen_ns.saturating_add(self.pace.window_ns);
+        let mut exchange = locked_soon(self.rt, self.exchange);
+        let shared = &mut exchange.value;
+        list_letters(&mut self.letters_ns, &shared.inner, &seat.group);
+        shared.give_block(&mut seat.group)?;
+        if let Some(gvt) = shared.passed(waits)? {
+            let _is_new = self.moments.set_gvt(gvt.ns());
+        }
+        shared.take_letters(&mut seat.group)?;
+        // A letter in the tray is to be worked on no later than an event of its moment.
+        seat.next_ns = seat.next_ns.min(self.moments.taken(number));
+        drop(exchange);
+        seat.unposted = 0;
+        self.call_all();
         Ok(())
     }
 
-    /// Holds processes of hints that it steals; without one, and where it has looked in vain for a while, any one that is due.
-    fn hold_others(&mut self, batch: &mut Batch<'s, J>, limit_ns: u64) -> Result<(), AllocError> {
-        for stolen in 0..STOLEN {
-            match self.schedule.steal(self.picker.worker) {
-                Some(hint) => self.hold_other(batch, &hint, limit_ns)?,
-                None => break,
-            }
-        }
-        if batch.is_empty() && self.looks >= LOOKS_BEFORE_ALL {
-            self.hold_any(batch, limit_ns)?;
-        }
-        Ok(())
-    }
-
-    /// Holds the first process behind its list that is due and free.
-    fn hold_any(&mut self, batch: &mut Batch<'s, J>, limit_ns: u64) -> Result<(), AllocError> {
-        for passed in 0..self.locks.locks.len() {
-            if let Some(hint) = self.schedule.due_behind(&self.picker, passed, limit_ns) {
-                self.hold_other(batch, &hint, limit_ns)?;
-            }
-            if !batch.is_empty() {
+    /// The group handles messages as long as they are due, as many as a turn has, and tells now and then how far it is. It ends where it is to meet the
+    /// others. The answer is whether a message was handled.
+    fn work(&mut self, seat: &mut Seat<J>) -> Result<bool, RunFault<J>> {
+        let number = seat.group.number();
+        let turn = u32::from(self.pace.turn);
+        let mut handled = 0;
+        // Nobody asks how far the only group is.
+        let piece = if self.moments.groups() == 1 {
+            turn
+        } else {
+            PIECE
+        };
+        for given in 0..turn {
+            let most = piece.min(turn - handled.min(turn));
+            let limit_ns = self.moments.limit_ns();
+            let count = self.work_to(&mut seat.group, most, limit_ns)?;
+            handled = handled.saturating_add(count);
+            seat.look();
+            self.moments.tell(number, seat.next_ns);
+            if count < most || handled >= turn || self.ends_turn(seat, handled) {
                 break;
             }
         }
-        Ok(())
+        Ok(handled != 0)
     }
 
-    /// Holds the process of a hint that is not of its list, if it is due and free.
-    fn hold_other(
+    /// Whether a group that has handled so many messages in its turn is to meet the others: it has letters for them, or a letter waits that comes before
+    /// its next event.
+    fn ends_turn(&self, seat: &Seat<J>, handled: u32) -> bool {
+        if handled >= MOST_WITH_LETTERS && !seat.group.abroad().is_empty() {
+            return true;
+        }
+        self.moments.letter_ns(seat.group.number()) <= seat.next_ns
+    }
+
+    /// The group handles messages before the limit, in ns, so many at most, no further ahead of the GVT that it saw than the window. The answer is how
+    /// many. At a refusal the exchange tells whether numbers are used up.
+    fn work_to(
         &self,
-        batch: &mut Batch<'s, J>,
-        hint: &Hint<J>,
+        group: &mut NetworkGroup<J>,
+        most: u32,
         limit_ns: u64,
-    ) -> Result<(), AllocError> {
-        let moment_ns = self.schedule.moment_ns(hint);
-        if moment_ns < limit_ns && self.is_held(batch, hint)? {
-            self.schedule.take_over(self.picker.worker, moment_ns);
-        }
-        Ok(())
-    }
-
-    /// Holds the process of a hint, if it is free. The answer is whether it is.
-    fn is_held(&self, batch: &mut Batch<'s, J>, hint: &Hint<J>) -> Result<bool, AllocError> {
-        let locks = self.locks;
-        match locks.locks[usize::from(hint.process)].try_lock() {
-            Some(locked) => {
-                batch.push(locked)?;
-                self.schedule.begin(hint);
-                Ok(true)
-            }
-            None => Ok(false),
+    ) -> Result<u32, RunFault<J>> {
+        let ahead_ns = limit_ns
+            .saturating_sub(group.seen().ns())
+            .min(self.pace.window_ns);
+        match work_ahead(group, most, ahead_ns, self.gate) {
+            Ok(count) => Ok(count),
+            Err(fault) => Err(self.exchange.lock(self.rt).value.fault_of(group, fault)),
         }
     }
 
-    /// Turns of the processes that it holds, up to the limit, in ns; what the workers tell one another of them, and the rows that leave them.
-    /// Then it holds none. Where the flag is set they get no turn.
-    fn give_turns(&mut self, batch: &mut Batch<'s, J>, limit_ns: u64) -> Result<(), RunFault<J>> {
-        if self.stop.load(Ordering::SeqCst) {
-            batch.clear();
-            return Ok(());
-        }
-        collect_for(self.rt, batch, self.exchange)?;
-        self.calls.clear();
-        for locked in batch.iter_mut() {
-            self.work(&mut *locked, limit_ns)?;
-            list_calls(&mut self.calls, &*locked)?;
-        }
-        post_for(self.rt, batch, self.exchange)?;
-        self.picker.call_all(self.calls.as_slice(), self.schedule);
-        self.let_rows_leave(batch, limit_ns)?;
-        batch.clear();
-        self.schedule.turned();
-        Ok(())
-    }
-
-    /// The process works on its events before the limit, in ns. At a refusal the exchange tells whether numbers are used up.
-    fn work(&self, locked: &mut Locked<J>, limit_ns: u64) -> Result<(), RunFault<J>> {
-        match work_to(locked, limit_ns, self.pace, self.gate) {
-            Ok(()) => Ok(()),
-            Err(fault) => Err(self.exchange.lock(self.rt).value.fault_of(locked, fault)),
-        }
-    }
-
-    /// The rows of the processes that are for good leave them, where they do.
-    fn let_rows_leave(
-        &mut self,
-        batch: &mut Batch<'s, J>,
-        limit_ns: u64,
-    ) -> Result<(), RunFault<J>> {
-        let leaving = &self.locks.leaving;
-        if leaving.is_stay() {
-            return Ok(());
-        }
-        self.calls.clear();
-        for locked in batch.iter_mut() {
-            leaving.take_rows(self.rt, self.network, &mut *locked)?;
-            if let Some(call) = leaving.call(&*locked, limit_ns) {
-                add_call(&mut self.calls, call)?;
+    /// The groups that are listed are told of their letters, and none is listed from then on.
+    fn call_all(&mut self) {
+        for group in 0..self.letters_ns.len() {
+            let moment_ns = self.letters_ns[group];
+            if moment_ns != u64::MAX {
+                self.moments.call(group, moment_ns);
+                self.letters_ns[group] = u64::MAX;
             }
         }
-        self.picker.call_all(self.calls.as_slice(), self.schedule);
-        Ok(())
     }
 
-    /// A round gave turns. Once in `ROUNDS_PER_GVT` of them GVT is set.
-    fn went_round(&mut self) -> Result<(), RunFault<J>> {
-        self.looks = 0;
-        self.rounds = self.rounds.wrapping_add(1);
-        if self.rounds % ROUNDS_PER_GVT == 0 {
-            self.set_gvt()?;
-        }
-        Ok(())
-    }
-
-    /// A round found nothing due. GVT is set where that is what is waited for, or once in `LOOKS_PER_GVT` looks.
+    /// Nothing was due for the groups that it took: it looks again later.
     fn found_nothing(&mut self) -> Result<(), RunFault<J>> {
-        self.looks = self.looks.saturating_add(1);
-        if self.looks % LOOKS_PER_GVT == 0 || self.needs_gvt() {
-            self.set_gvt()?;
+        if self.is_to_look_on()? {
+            return Ok(());
         }
-        self.pause();
+        let woken = self.moments.begin_rest();
+        if !self.is_over() {
+            self.moments.rest(self.rt, woken);
+        }
+        self.moments.end_rest();
         Ok(())
     }
 
-    /// Lets other threads run, and rests where it has looked in vain for long, or has no list.
-    fn pause(&self) {
-        if self.looks >= LOOKS_BEFORE_REST || !self.picker.has_list() {
-            self.schedule.rest(self.rt, REST_US);
-            return;
+    /// Nothing was due for the group in hand: it looks again later.
+    fn found_nothing_for(&mut self, seat: &Seat<J>) -> Result<(), RunFault<J>> {
+        if self.is_to_look_on()? {
+            return Ok(());
         }
-        for _ in 0..PAUSES {
+        let woken = self.moments.begin_rest();
+        if !self.is_over() && !self.can_go_on(seat) {
+            self.moments.rest(self.rt, woken);
+        }
+        self.moments.end_rest();
+        Ok(())
+    }
+
+    /// It has looked in vain once more. GVT is set once in `LOOKS_PER_GVT` looks, and after `LOOKS_BEFORE_REST` of them it is to rest. The answer is
+    /// whether it is not yet, and then it has made some pauses.
+    fn is_to_look_on(&mut self) -> Result<bool, RunFault<J>> {
+        self.looks = self.looks.saturating_add(1);
+        if self.looks % LOOKS_PER_GVT == 0 {
+            self.set_gvt()?;
+        }
+        if self.looks >= LOOKS_BEFORE_REST {
+            return Ok(false);
+        }
+        for pause in 0..PAUSES {
             hint::spin_loop();
         }
-        thread::yield_now();
+        Ok(true)
     }
 
-    /// Whether nothing is due before GVT is set.
-    fn needs_gvt(&self) -> bool {
-        self.schedule
-            .needs_gvt(self.locks.until.ns(), self.pace.window_ns)
+    /// Whether there is something to do for the group in hand.
+    fn can_go_on(&self, seat: &Seat<J>) -> bool {
+        let limit_ns = self.moments.limit_ns();
+        self.is_to_meet(seat, limit_ns) || self.is_due(seat, limit_ns)
     }
 
-    /// GVT is set, where a turn was given since it was set last, and no other thread is at the exchange.
+    /// GVT is set, where no other thread is at the exchange.
     fn set_gvt(&self) -> Result<(), RunFault<J>> {
-        if !self.schedule.has_turned() {
+        let Some(mut exchange) = self.exchange.try_lock() else {
             return Ok(());
-        }
-        match self.exchange.try_lock() {
-            Some(mut exchange) => {
-                let gvt = exchange.value.set_gvt()?;
-                self.schedule.set_gvt(gvt.ns());
-            }
-            None => self.schedule.turned(),
+        };
+        let gvt = exchange.value.set_gvt()?;
+        let is_new = self.moments.set_gvt(gvt.ns());
+        drop(exchange);
+        if is_new {
+            self.moments.turned();
         }
         Ok(())
     }
+}
+
+/// Lowers for each group the moment, in ns, to the least of the letters that this group has for it.
+fn list_letters<J: NetworkRun>(
+    letters_ns: &mut [u64],
+    exchange: &GroupExchange<Node, Of<J>>,
+    group: &NetworkGroup<J>,
+) {
+    for letter in group.abroad() {
+        if let Some(owner) = exchange.owner(letter.message.receiver) {
+            lower(letters_ns, usize::from(owner), letter.message.time.ns());
+        }
+    }
+}
+
+/// Lowers the moment at a place.
+fn lower(moments_ns: &mut [u64], place: usize, moment_ns: u64) {
+    if let Some(least_ns) = moments_ns.get_mut(place) {
+        *least_ns = moment_ns.min(*least_ns);
+    }
+}
+
+/// The value of a lock that others have for some microseconds at most: a thread that slept would lose more, so it tries for a while.
+fn locked_soon<'b, V, T: Wait>(rt: &T, lock: &'b Mutex<V>) -> MutexGuard<'b, V> {
+    for _ in 0..TRIES {
+        if let Some(guard) = lock.try_lock() {
+            return guard;
+        }
+        for _ in 0..PAUSES_OF_TRY {
+            hint::spin_loop();
+        }
+    }
+    lock.lock(rt)
 }

@@ -4,4 +4,4 @@ use Rattle.worker_pool.proofs.ending.is_of_world.Goals as goal
 
 pub returns : goal.returns
 returns g c = λ yes.
-    of-world g.J.NetworkRun.plan c.args.exchange.now.entries c.args.place c.args.held.now (omega arith) (omega arith) c.fits.ensures.part
+    of-world g.J.NetworkRun.plan g.J.NetworkRun.owners c.args.exchange.now c.args.place c.args.group.now (omega arith) (omega arith) (c.has_block.ensures.none cc) c.fits.ensures.parts

@@ -1,6 +1,7 @@
 use Rattle.std.proofs.Common.{◌∙◌, ap, subst}
-use Rattle.virtual_time.specs.Law.{rows_at}
 use Rattle.netdesc.specs.Words.{Plan, process_count}
+use Rattle.group_exchange.specs.Keeps.{AreGrouped}
+use Rattle.group_exchange.specs.Rows.{rows_of_group}
 use Rattle.worker_pool.specs.Traces.{HasLawfulRows}
 use Rattle.worker_pool.proofs.GatheredRun.{none-gathered}
 use Rattle.worker_pool.proofs.desk.Desk.new.Goals as goal
@@ -8,9 +9,11 @@ use Rattle.worker_pool.proofs.desk.Desk.new.Goals as goal
 pub invariant_of-result : goal.invariant_of-result
 invariant_of-result g c =
     let plan = g.J.NetworkRun.plan in
+    let owners = g.J.NetworkRun.owners in
     record {
-      of_run = ∣ none-gathered plan _ _ (c.process_count.ensures.value ∙ ap process_count c.requires) (c.until.ensures.value ∙ ap (λ (p : Plan). p.until) c.requires)
-          (λ rows r. c.segments_of_rows.ensures.none _ _ _ (λ p. rows_at p rows)) c.in_ok-gather.gather c.in_ok-gather.ensures ∣₁;
-      lawful = ∣ subst HasLawfulRows c.requires c.lawful_rows.ensures ∣₁;
+      of_run = ∣ none-gathered plan owners _ _ _ c.requires.each (c.until.ensures.value ∙ ap (λ (p : Plan). p.until) c.requires.network)
+          (subst (λ n. AreGrouped (process_count plan) n owners) c.requires.each c.requires.grouped)
+          (λ rows r. c.segments_of_rows.ensures.none _ _ _ (λ n. rows_of_group owners n rows)) c.in_ok-gather.gather c.in_ok-gather.ensures ∣₁;
+      lawful = ∣ subst HasLawfulRows c.requires.network c.lawful_rows.ensures ∣₁;
       known = tt;
     }

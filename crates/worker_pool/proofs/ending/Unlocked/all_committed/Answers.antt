@@ -5,12 +5,12 @@ use Rattle.worker_pool.proofs.ending.Unlocked.all_committed.Goals as goal
 
 pub loop-place-preserved : goal.loop-place-preserved
 loop-place-preserved g c =
-    let items = c.args.self.now.helds.items in
-    let held = c.index-held.result.now in
-    let at = read-at items c.loop-place.place held (omega arith) c.index-held.ensures in
-    below-more HasCommitted items c.loop-place.place held at (c.all_committed.ensures.0 cc) c.loop-place.invariant
+    let items = c.args.self.now.groups.items in
+    let group = c.index-group.result.now in
+    let at = read-at items c.loop-place.place group (omega arith) c.index-group.ensures in
+    below-more (HasCommitted g.J.NetworkRun.plan g.J.NetworkRun.owners) items c.loop-place.place group at (c.all_committed.ensures.each cc) c.loop-place.invariant
 
 pub returns : goal.returns
 returns g c = λ yes.
-    let items = c.args.self.now.helds.items in
-    below-all HasCommitted items c.loop-place.place (omega arith) c.loop-place.invariant
+    let items = c.args.self.now.groups.items in
+    below-all (HasCommitted g.J.NetworkRun.plan g.J.NetworkRun.owners) items c.loop-place.place (omega arith) c.loop-place.invariant

@@ -3,4 +3,4 @@ use Rattle.worker_pool.proofs.Places.{AreBelow}
 use Rattle.worker_pool.proofs.ending.Unlocked.all_committed.Given as goal
 
 abbrev pub invariant-loop-place : goal.invariant-loop-place
-invariant-loop-place g l = AreBelow HasCommitted l.self.helds.items l.place
+invariant-loop-place g l = AreBelow (HasCommitted g.J.NetworkRun.plan g.J.NetworkRun.owners) l.self.groups.items l.place

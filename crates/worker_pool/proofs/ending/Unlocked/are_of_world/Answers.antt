@@ -1,21 +1,29 @@
-use Rattle.std.proofs.Common.{subst, arith}
-use Rattle.exchange.specs.Views.{Ledger}
+use Rattle.std.proofs.Common.{subst, arith, length}
+use Rattle.netdesc.specs.Words.{process_count}
+use Rattle.group_exchange.specs.Keeps.{AreGrouped}
+use Rattle.group_exchange.specs.Views.{Ledger}
 use Rattle.worker_pool.specs.Runs.{IsOfWorld}
 use Rattle.worker_pool.proofs.Places.{below-more, below-all, read-at}
 use Rattle.worker_pool.proofs.ending.Unlocked.are_of_world.Goals as goal
 
 pub loop-place-preserved : goal.loop-place-preserved
 loop-place-preserved g c =
-    let entries = c.args.self.now.exchange.entries in
-    let items = c.args.self.now.helds.items in
-    let held = c.index-held.result.now in
-    let at = read-at items c.loop-place.place held (omega arith) c.index-held.ensures in
-    below-more (IsOfWorld g.J.NetworkRun.plan entries) items c.loop-place.place held at
-    (subst (λ (ledger : Ledger). IsOfWorld g.J.NetworkRun.plan ledger.entries c.loop-place.place held) c.lent.ensures (c.is_of_world.ensures cc)) c.loop-place.invariant
+    let plan = g.J.NetworkRun.plan in
+    let owners = g.J.NetworkRun.owners in
+    let steps = c.args.self.now.exchange.steps in
+    let items = c.args.self.now.groups.items in
+    let group = c.index-group.result.now in
+    let at = read-at items c.loop-place.place group (omega arith) c.index-group.ensures in
+    below-more (IsOfWorld plan owners steps) items c.loop-place.place group at
+    (subst (λ (ledger : Ledger). IsOfWorld plan owners ledger.steps c.loop-place.place group) c.lent-in-loop-place.ensures (c.is_of_world.ensures cc)) c.loop-place.invariant
+
+pub returns-clause-grouped : goal.returns-clause-grouped
+returns-clause-grouped g c = λ yes.
+    let count = c.if-len-from.false in
+    subst (λ n. AreGrouped (process_count g.J.NetworkRun.plan) n g.J.NetworkRun.owners) (omega arith) c.groups.ensures.grouped
 
 pub returns-clause-each : goal.returns-clause-each
 returns-clause-each g c = λ yes.
-    let entries = c.args.self.now.exchange.entries in
-    let items = c.args.self.now.helds.items in
-    below-all (IsOfWorld g.J.NetworkRun.plan entries) items c.loop-place.place
+    let items = c.args.self.now.groups.items in
+    below-all (IsOfWorld g.J.NetworkRun.plan g.J.NetworkRun.owners c.args.self.now.exchange.steps) items c.loop-place.place
     (omega arith) c.loop-place.invariant

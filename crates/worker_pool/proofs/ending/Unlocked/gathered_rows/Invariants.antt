@@ -1,6 +1,5 @@
-use Rattle.worker_pool.proofs.Ended.{AreCommittedBelow}
+use Rattle.worker_pool.proofs.Ended.{AreCommittedOf}
 use Rattle.worker_pool.proofs.ending.Unlocked.gathered_rows.Given as goal
 
-abbrev pub invariant-loop-process : goal.invariant-loop-process
-invariant-loop-process g l =
-    AreCommittedBelow g.J.NetworkRun.plan l.self.exchange.entries l.process l.rows.items
+abbrev pub invariant-loop-place : goal.invariant-loop-place
+invariant-loop-place g l = AreCommittedOf g.J.NetworkRun.plan g.J.NetworkRun.owners l.self.exchange.steps l.place l.rows.items

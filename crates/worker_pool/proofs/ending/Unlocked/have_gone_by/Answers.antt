@@ -5,12 +5,12 @@ use Rattle.worker_pool.proofs.ending.Unlocked.have_gone_by.Goals as goal
 
 pub loop-place-preserved : goal.loop-place-preserved
 loop-place-preserved g c =
-    let items = c.args.self.now.helds.items in
-    let held = c.index-held.result.now in
-    let at = read-at items c.loop-place.place held (omega arith) c.index-held.ensures in
-    below-more (HasGoneBy c.args.own.now c.args.end) items c.loop-place.place held at (omega arith) c.loop-place.invariant
+    let items = c.args.self.now.groups.items in
+    let group = c.index-group.result.now in
+    let at = read-at items c.loop-place.place group (omega arith) c.index-group.ensures in
+    below-more (HasGoneBy c.args.own.now c.args.end) items c.loop-place.place group at (omega arith) c.loop-place.invariant
 
 pub returns : goal.returns
 returns g c = λ yes.
-    let items = c.args.self.now.helds.items in
+    let items = c.args.self.now.groups.items in
     below-all (HasGoneBy c.args.own.now c.args.end) items c.loop-place.place (omega arith) c.loop-place.invariant

@@ -1,7 +1,7 @@
 use Rattle.std.proofs.Common.{◌≡◌, List, subst}
 use Rattle.vlink.specs.declared.message.Message.{Message}
 use Rattle.vlink.specs.Letters.{Row}
-use Rattle.virtual_time.specs.Law.{steps, IsFinished}
+use Rattle.virtual_time.specs.Law.{IsFinished}
 use Rattle.virtual_time.specs.declared.step.Step.{Step}
 use Rattle.netdesc.specs.Words.{Plan}
 use Rattle.nodes.specs.Words.{simulation_of}
@@ -18,5 +18,5 @@ AreOrdered plan =
 
 pub returns : goal.returns
 returns g c =
-    subst AreOrdered c.requires.network c.rows_by_process.ensures.finished (steps c.args.self.now.exchange.entries) c.requires.ended.finished
+    subst AreOrdered c.requires.network c.rows_by_process.ensures.finished c.args.self.now.exchange.steps c.requires.ended.finished
     _ _ c.in_ok-rows.ensures c.in_ok-put_in_message_order.ensures.ascending c.put_in_message_order.ensures.each_event

@@ -1,6 +1,5 @@
-use Rattle.worker_pool.specs.Counts.{moment_of}
-use Rattle.worker_pool.proofs.CountedRun.{AreCountedOf}
+use Rattle.worker_pool.proofs.EndedTables.{AreCountedOf}
 use Rattle.worker_pool.proofs.ending.Unlocked.tables.Given as goal
 
-abbrev pub invariant-loop-process : goal.invariant-loop-process
-invariant-loop-process g l = AreCountedOf g.J.NetworkRun.plan (moment_of l.own.items l.end) l.process l.tables
+abbrev pub invariant-loop-place : goal.invariant-loop-place
+invariant-loop-place g l = AreCountedOf g.J.NetworkRun.plan g.J.NetworkRun.owners l.own.items l.end l.place l.tables

@@ -5,6 +5,6 @@ use Rattle.worker_pool.proofs.shared.Shared.take_letters.Goals as goal
 
 pub invariant_of-self : goal.invariant_of-self
 invariant_of-self g c =
-    collect-limit (simulation_of g.J.NetworkRun.plan) 4294967295 c.self.inside.inner c.args.locked.now c.collect.new.exchange c.collect.new.held c.collect.result
+    collect-limit (simulation_of g.J.NetworkRun.plan) g.J.NetworkRun.owners c.self.inside.inner c.args.group.now c.collect.new.exchange c.collect.new.group c.collect.result
     c.collect.ensures.ok c.collect.ensures.unchanged
     ∙ c.self.invariant

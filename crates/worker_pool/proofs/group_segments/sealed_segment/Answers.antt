@@ -1,0 +1,46 @@
+use Rattle.std.proofs.Common.{◌≡◌, ◌∙◌, ◌↔◌, ◌+◌, ap, Option, IsSome, IfSome}
+use Rattle.std.proofs.lemmas.Option.{IfSome_then}
+use Rattle.actor_run.proofs.Errors.{ok-weaker}
+use Rattle.trace_segments.specs.Words.{cut, HasInterval, SegmentRows, group_segment_of}
+use Rattle.worker_pool.specs.Segments.{IsGroupIntervalSealed, IsGroupSegmentOfRun}
+use Rattle.worker_pool.proofs.GroupSegments.{segment-at, some-at}
+use Rattle.worker_pool.proofs.group_segments.sealed_segment.Goals as goal
+
+pub returns-clause-own : goal.returns-clause-own
+returns-clause-own g c =
+    ok-weaker (λ (segment : Option SegmentRows). IfSome segment (λ p. p ≡ group_segment_of 0 c.number.result c.args.k c.args.until c.rows_between-rows.result.now))
+    (λ segment. IfSome segment (λ p. (p.run ≡ 0) × (p.process ≡ c.args.group.now.number)))
+    (λ segment h. IfSome_then segment h (λ p is. (ap (λ (z : SegmentRows). z.run) is, ap (λ (z : SegmentRows). z.process) is ∙ c.number.ensures.number)))
+    c.of_group.result c.of_group.ensures.segment
+
+pub returns-clause-ends : goal.returns-clause-ends
+returns-clause-ends g c =
+    ok-weaker (λ (segment : Option SegmentRows). IfSome segment (λ p. p ≡ group_segment_of 0 c.number.result c.args.k c.args.until c.rows_between-rows.result.now))
+    (λ segment. IfSome segment (λ p. (p.from ≡ cut c.args.until c.args.k) × (p.to ≡ cut c.args.until (c.args.k + 1))))
+    (λ segment h. IfSome_then segment h (λ p is. (ap (λ (z : SegmentRows). z.from) is, ap (λ (z : SegmentRows). z.to) is)))
+    c.of_group.result c.of_group.ensures.segment
+
+pub returns-clause-segment : goal.returns-clause-segment
+returns-clause-segment g c =
+    let plan = g.J.NetworkRun.plan in
+    let group = c.args.group.now in
+    let owners = g.J.NetworkRun.owners in
+    let sealed = c.if-not-is_sealed_before.false in
+    let good = c.is_sealed_before.ensures.all.0 sealed in
+    ok-weaker (λ (segment : Option SegmentRows). IfSome segment (λ p. p ≡ group_segment_of 0 c.number.result c.args.k c.args.until c.rows_between-rows.result.now))
+    (λ segment. IfSome segment (IsGroupSegmentOfRun plan owners group.number c.args.k))
+    (λ segment h. IfSome_then segment h (segment-at plan owners c.args.k c.args.until c.cut-from.result c.cut-to.result c.requires.until
+    c.cut-from.ensures c.cut-to.ensures group.number c.number.result c.number.ensures.number c.rows_between-rows.result.now
+    (c.rows_between-rows.ensures.whole good.0 (c.is_sealed_before.ensures.each sealed))))
+    c.of_group.result c.of_group.ensures.segment
+
+pub returns-clause-some : goal.returns-clause-some
+returns-clause-some g c =
+    let plan = g.J.NetworkRun.plan in
+    let group = c.args.group.now in
+    let owners = g.J.NetworkRun.owners in
+    let good = c.is_sealed_before.ensures.all.0 c.if-not-is_sealed_before.false in
+    ok-weaker (λ (segment : Option SegmentRows). IsSome segment ↔ HasInterval c.args.until c.args.k) (λ segment. IsSome segment ↔ IsGroupIntervalSealed plan c.args.k group)
+    (λ segment. some-at plan owners c.args.k c.args.until c.cut-from.result c.cut-to.result c.requires.until
+    c.cut-from.ensures c.cut-to.ensures group c.requires.there good (IsSome segment))
+    c.of_group.result c.of_group.ensures.some

@@ -1,0 +1,5 @@
+use Rattle.std.proofs.Common.{◌≡◌, ◌<◌, All, length}
+use Rattle.worker_pool.proofs.grouping.each_alone.Given as goal
+
+abbrev pub invariant-loop-process : goal.invariant-loop-process
+invariant-loop-process l = (length l.owners.items ≡ l.process) × All (λ group. group < l.processes) l.owners.items

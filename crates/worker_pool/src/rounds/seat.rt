@@ -1,0 +1,36 @@
+//! A group in the hands of a worker.
+use crate::network_run::{NetworkRun, Of};
+use group_exchange::Group;
+use nodes::Node;
+
+/// A group of the run.
+pub(crate) type NetworkGroup<J> = Group<Node, Of<J>>;
+
+/// A group, and how far its worker has come.
+#[derive(Drop)]
+pub(crate) struct Seat<J: NetworkRun> {
+    pub group: NetworkGroup<J>,
+    /// The moment of its next event, in ns.
+    pub next_ns: u64,
+    /// How many turns it had since its block was posted.
+    pub unposted: u32,
+}
+
+impl<J: NetworkRun> Seat<J> {
+    /// A group that has had no turn.
+    pub(crate) fn new(group: NetworkGroup<J>) -> Self {
+        Seat {
+            group,
+            next_ns: u64::MAX,
+            unposted: 0,
+        }
+    }
+
+    /// The moment of its next event is asked anew.
+    pub(crate) fn look(&mut self) {
+        self.next_ns = match self.group.next_time() {
+            Some(moment) => moment.ns(),
+            None => u64::MAX,
+        };
+    }
+}
