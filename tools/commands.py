@@ -53,8 +53,8 @@ WRITES = ("--trace", "--journal")
 
 # What is said of `run` alone.
 OF_RUN = (
-    "run is for those who want to see Time Warp at work. On a machine that does other things besides, run with four workers was\n"
-    "measured to take 20 times as long as seq, as its workers wait for each other: where tables are all that is wanted, use seq."
+    "run has threads that run ahead and roll back (Time Warp). Whether it is faster than seq depends on the network and on the\n"
+    "machine: where tables are all that is wanted, and you have not measured it, use seq."
 )
 # What is said of the tools that have the program run.
 OF_CHOICE = "--by WHAT (proved or try; default: proved, else try) or --program PATH names the program that makes the runs."

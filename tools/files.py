@@ -317,12 +317,24 @@ SIGNALS = [signal.SIGINT, signal.SIGTERM, signal.SIGHUP]
 
 @contextlib.contextmanager
 def signals_held():
-    """Signals that come meanwhile are taken afterwards."""
-    before = signal.pthread_sigmask(signal.SIG_BLOCK, SIGNALS)
+    """Signals that come meanwhile are taken afterwards, the first of them. Blocked here they come by other threads, if there are
+    any, so they are noted besides."""
+    if threading.current_thread() is not threading.main_thread():
+        yield
+        return
+    came, before = [], {number: signal.getsignal(number) for number in SIGNALS}
+    held = [number for number, handler in before.items() if handler not in (signal.SIG_IGN, None)]
+    mask = signal.pthread_sigmask(signal.SIG_BLOCK, SIGNALS)
+    for number in held:
+        signal.signal(number, lambda number, _: came.append(number))
     try:
         yield
     finally:
-        signal.pthread_sigmask(signal.SIG_SETMASK, before)
+        signal.pthread_sigmask(signal.SIG_SETMASK, mask)
+        for number in held:
+            signal.signal(number, before[number])
+        if came:
+            signal.raise_signal(came[0])
 
 
 @contextlib.contextmanager
