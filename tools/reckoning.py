@@ -96,7 +96,7 @@ def results(reckoner, runs, jobs, folder):
                 raise ended
         finally:
             if waiting:
-                end(waiting)
+                end_processes()
 
 
 def ask(pool, reckoner, path, key, run, printed):
@@ -144,9 +144,8 @@ def told(waiting):
     return key, run, printed, found
 
 
-def end(waiting):
-    """Ends what is still reckoned on: nobody hears it any more."""
-    for it in waiting:
-        it.future.cancel()
+def end_processes():
+    """Ends what is still reckoned on: nobody hears it any more. No future is cancelled: the pool fails at one that is where it finds
+    its processes ended, and leaves some of them."""
     for process in multiprocessing.active_children():
         process.terminate()
