@@ -13,7 +13,7 @@ use crate::fault::StepFault;
 use antimessages::{Mail, plus_letters};
 use gvt::Floors;
 use process_queues::Process;
-use reverse::{Actor, Outbound, actor_rules};
+use reverse::{Actor, Outbound, actor_rules_law};
 use std::alloc::Global;
 use std::marker::Model;
 use vlink::{Letter, Message, Row, Time};
@@ -62,7 +62,7 @@ impl<R: Actor + Drop> ActorWorld<R> {
             StandsForWorld (simulation_of (rules_of R.plain) x) R.is_value (start (simulation_of (rules_of R.plain) x)) world) }
         ensures memory { IfErr result (λ fault. fault ≡ OutOfMemory) }
     {
-        actor_rules::<R>();
+        actor_rules_law::<R>();
         let count = actors.len() as u16;
         let letters = plus_letters(alloc, offers)?;
         let mail = Mail::with_letters(alloc, count, &letters)?;

@@ -1,4 +1,5 @@
 //! A journal, done on a network, and what is told of it.
+//! All lines are read first, so that the two functions called are those whose contracts are the promise.
 ghost use Rattle.std.specs.Prelude.{◌≡◌, ◌⊎◌, List, IfOk, IfErr, string_bytes};
 ghost use Rattle.vlink.specs.Letters.{Row};
 ghost use Rattle.virtual_time.specs.declared.step.Step.{Step};
@@ -105,7 +106,7 @@ fn committed_tables(alloc: Global, world: &World) -> Result<Tables, AllocError>
 }
 
 /// Tells what a replay has found.
-fn told(alloc: Global, found: Replay) -> Result<Conclusion, AllocError>
+fn conclusion_after(alloc: Global, found: Replay) -> Result<Conclusion, AllocError>
     ensures told { IfOk result (λ conclusion. (steps : List Step) → IsReplayed found steps → TellsOfSteps found.world.plan steps conclusion) }
     ensures network { IfOk result (λ conclusion. conclusion.world.plan ≡ found.world.plan) }
 {
@@ -135,5 +136,5 @@ pub fn conclusion_of(
 {
     let steps = steps_of(alloc, text)?;
     let found = done(alloc, network, &steps)?;
-    Ok(told(alloc, found)?)
+    Ok(conclusion_after(alloc, found)?)
 }

@@ -17,9 +17,9 @@ use crate::groups::GroupExchange;
 use crate::mark::{standing_now, tell_both};
 use crate::run_of::GroupRun;
 use gvt::Floors;
-use hand::{Hand, hand_laws};
+use hand::{Hand, hand_law};
 use journal::PoolFault;
-use reverse::{Actor, actor_laws};
+use reverse::{Actor, actor_law};
 use vlink::Letter;
 
 /// All letters on their way to a group go to the tray of its hand, with a step in the journal for each. Both marks note how long the journal is then, and
@@ -40,9 +40,9 @@ pub fn collect<R: Actor, J: GroupRun<R>>(
         × AreWaiting (simulation_of (rules_of R.plain) J.setting) J.owners exchange.old group.old letters × (length exchange.old.steps + length letters ≤ exchange.old.limit) }
     ensures faults { IfErr result (λ fault. (fault ≡ OutOfMemory) ⊎ ((fault ≡ JournalFull) ⊎ ((fault ≡ Torn) × (J.keeps ≡ true)))) }
 {
-    actor_laws::<R>();
-    hand_laws::<R>();
-    exchange.join(group);
+    actor_law::<R>();
+    hand_law::<R>();
+    exchange.join_law(group);
     let count = exchange.boxes.letters(group.number).len();
     if count == 0 {
         group.standing = standing_now(&exchange.journal, exchange.gvt);
@@ -64,7 +64,7 @@ pub fn collect<R: Actor, J: GroupRun<R>>(
         return Err(fault);
     }
     let letters = exchange.boxes.letters(group.number);
-    exchange.journal.take_all(&exchange.boxes, group.number);
+    exchange.journal.collect(&exchange.boxes, group.number);
     deliver_all(&mut group.hand, letters);
     lower_floor(&mut exchange.floors, group.number, letters);
     exchange.boxes.clear(group.number);

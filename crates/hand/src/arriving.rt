@@ -9,7 +9,7 @@ use crate::arrive::arrive;
 use crate::fault::HandFault;
 use crate::hand::Hand;
 use crate::letters::Letters;
-use reverse::{Actor, actor_rules};
+use reverse::{Actor, actor_rules_law};
 
 impl<R: Actor> Hand<R> {
     /// Whether no letter waits to arrive.
@@ -27,7 +27,7 @@ impl<R: Actor> Hand<R> {
         ensures quiet { OnOk result (IsQuiet self.new) }
         ensures memory { IfErr result (λ fault. fault ≡ OutOfMemory) }
     {
-        actor_rules::<R>();
+        actor_rules_law::<R>();
         if self.is_quiet() {
             return Ok(());
         }
@@ -61,11 +61,11 @@ impl<R: Actor> Hand<R> {
         ensures unchanged { OnErr result (IsAsBefore self.old self.new) }
         ensures memory { IfErr result (λ fault. fault ≡ OutOfMemory) }
     {
-        actor_rules::<R>();
+        actor_rules_law::<R>();
         let Some(letter) = self.letters.front() else {
             return Ok(false);
         };
-        let Some(room) = room_for(self.done.len(), self.done.sent()) else {
+        let Some(room) = room_for(self.done.len(), self.done.sent_count()) else {
             return Err(HandFault::OutOfMemory);
         };
         self.letters.reserve(room)?;

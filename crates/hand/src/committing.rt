@@ -6,7 +6,7 @@ ghost use Rattle.vlink.specs.declared.message.Message.{Message};
 ghost use Rattle.hand.specs.declared.block.Did.TheVariants.{Committed};
 ghost use Rattle.hand.specs.Deeds.{Deed, messages_of};
 ghost use Rattle.hand.specs.Flow.{IsFirst};
-ghost use Rattle.hand.specs.Sealing.{CanSeal, Stays, rows_in, words_of};
+ghost use Rattle.hand.specs.Sealing.{CanCommit, Stays, rows_in, words_of};
 
 use crate::block::{Did, Words};
 use crate::deeds::{Deeds, precedes};
@@ -14,17 +14,17 @@ use crate::letters::Letters;
 use crate::rows::Rows;
 use std::alloc::AllocError;
 use std::collections::VecDeque;
-use vlink::{Message, Row, Time, lawful_order};
+use vlink::{Message, Row, Time, order_law};
 
 impl Letters {
     /// Whether a done event with this message can be committed below the moment; `first` is the first message of the queue, if there is one.
     #[inline(always)]
-    fn can_seal(&self, message: &Message, moment: Time, first: &Option<Message>) -> bool
+    fn can_commit(&self, message: &Message, moment: Time, first: &Option<Message>) -> bool
         requires { IsFirst first.now self.now.queue }
-        ensures yes { result ≡ true → CanSeal moment self.now message.now }
+        ensures yes { result ≡ true → CanCommit moment self.now message.now }
         ensures no { result ≡ false → Stays moment self.now message.now }
     {
-        lawful_order();
+        order_law();
         if message.time >= moment {
             return false;
         }
@@ -43,11 +43,11 @@ impl Letters {
     ) -> usize
         requires { IsFirst first.now self.now.queue }
         ensures within { result ≤ length done.now.deeds }
-        ensures early { All (CanSeal moment self.now) (take result (messages_of done.now.deeds)) }
+        ensures early { All (CanCommit moment self.now) (take result (messages_of done.now.deeds)) }
         ensures left { IfSome (slice_get (messages_of done.now.deeds) result) (Stays moment self.now) }
     {
         for place in 0..done.events.len() {
-            if !self.can_seal(&done.events[place].message, moment, first) {
+            if !self.can_commit(&done.events[place].message, moment, first) {
                 return place;
             }
         }
@@ -55,7 +55,7 @@ impl Letters {
     }
 
     /// The oldest done events, so many, are committed: they are forgotten, and their rows go to the end of `sealed`. A refusal changes nothing.
-    pub(crate) fn seal<K: Copy>(
+    pub(crate) fn commit<K: Copy>(
         &mut self,
         done: &mut Deeds<K>,
         sealed: &mut Rows,

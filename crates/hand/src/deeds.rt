@@ -7,11 +7,13 @@ ghost use Rattle.process_queues.specs.Past.{newest_of};
 ghost use Rattle.antimessages.specs.Counting.{is_after};
 ghost use Rattle.hand.specs.Deeds.{Deed, messages_of};
 ghost use Rattle.hand.specs.Undoing.{HasRoomFor};
+ghost use Rattle.reverse.specs.declared.sends.TheConstants.{MOST_SENT};
 
+use reverse::MOST_SENT;
 use std::alloc::{AllocError, Global};
 use std::collections::VecDeque;
 use std::marker::Model;
-use vlink::{Message, Note, Row, compare, lawful_order, message_order};
+use vlink::{Message, Note, Row, compare, message_order_law, order_law};
 
 /// What is kept of a done event: its message, how many messages it sent, how many rows it gave, and the record by which it is undone.
 #[derive(Clone, Copy)]
@@ -65,7 +67,7 @@ impl<K: Copy> Deeds<K> {
     #[inline(always)]
     pub(crate) fn reserve(&mut self) -> Result<(), AllocError>
         ensures events { OnOk result (1 ≤ self.new.events_room) }
-        ensures sends { OnOk result (24 ≤ self.new.sends_room) }
+        ensures sends { OnOk result (MOST_SENT ≤ self.new.sends_room) }
         ensures rows { OnOk result (2 ≤ self.new.rows_room) }
         ensures same { self.new.deeds ≡ self.old.deeds }
     {
@@ -79,11 +81,11 @@ impl<K: Copy> Deeds<K> {
     #[inline(always)]
     fn has_room(&self) -> bool
         ensures events { result ≡ true → 1 ≤ self.now.events_room }
-        ensures sends { result ≡ true → 24 ≤ self.now.sends_room }
+        ensures sends { result ≡ true → MOST_SENT ≤ self.now.sends_room }
         ensures rows { result ≡ true → 2 ≤ self.now.rows_room }
     {
         1 <= self.events.capacity() - self.events.len()
-            && 24 <= self.sends.capacity() - self.sends.len()
+            && MOST_SENT <= self.sends.capacity() - self.sends.len()
             && 2 <= self.rows.capacity() - self.rows.len()
     }
 
@@ -91,12 +93,12 @@ impl<K: Copy> Deeds<K> {
     #[inline(never)]
     fn grow(&mut self) -> Result<(), AllocError>
         ensures events { OnOk result (1 ≤ self.new.events_room) }
-        ensures sends { OnOk result (24 ≤ self.new.sends_room) }
+        ensures sends { OnOk result (MOST_SENT ≤ self.new.sends_room) }
         ensures rows { OnOk result (2 ≤ self.new.rows_room) }
         ensures same { self.new.deeds ≡ self.old.deeds }
     {
         self.events.reserve(1)?;
-        self.sends.reserve(24)?;
+        self.sends.reserve(MOST_SENT)?;
         self.rows.reserve(2)?;
         Ok(())
     }
@@ -111,7 +113,7 @@ impl<K: Copy> Deeds<K> {
         notes: &[Note],
     )
         requires events { 1 ≤ self.old.events_room }
-        requires sends { (length sends.now ≤ 24) × (length sends.now ≤ self.old.sends_room) }
+        requires sends { (length sends.now ≤ MOST_SENT) × (length sends.now ≤ self.old.sends_room) }
         requires rows { (length notes.now ≤ 2) × (length notes.now ≤ self.old.rows_room) }
         ensures deeds { self.new.deeds ≡ self.old.deeds ++ record { message = message.now; kept = kept; sent = sends.now; rows = rows_of message_order message.now notes.now } ∷ [] }
         ensures left { (ds : List (Deed K)) → HasRoomFor (record { message = message.now; kept = kept; sent = sends.now; rows = rows_of message_order message.now notes.now } ∷ ds) self.old → HasRoomFor ds self.new }
@@ -143,8 +145,8 @@ impl<K: Copy> Deeds<K> {
 pub(crate) fn precedes(first: &Message, second: &Message) -> bool
     ensures { result ≡ message_order.less first.now second.now }
 {
-    message_order();
-    lawful_order();
+    message_order_law();
+    order_law();
     if first.time < second.time {
         return true;
     }

@@ -12,7 +12,7 @@ use antimessages::Tally;
 use std::alloc::{AllocError, Global};
 use std::collections::VecDeque;
 use std::marker::Model;
-use vlink::{Letter, Message, Sign, compare, lawful_order, message_order};
+use vlink::{Letter, Message, Sign, compare, message_order_law, order_law};
 
 /// What waits for the members of a group, what they sent to others, and what was done.
 #[derive(Drop)]

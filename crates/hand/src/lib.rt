@@ -33,4 +33,4 @@ pub use block::{Did, Words};
 pub use early::Early;
 pub use fault::HandFault;
 pub use hand::Hand;
-pub use laws::hand_laws;
+pub use laws::hand_law;

@@ -12,7 +12,7 @@ ghost use Rattle.hand.specs.Undoing.{HasRoomFor, sent_in};
 use crate::deeds::{Deeds, Event};
 use std::alloc::AllocError;
 use std::collections::VecDeque;
-use vlink::{Message, lawful_order};
+use vlink::{Message, order_law};
 
 impl<K: Copy> Deeds<K> {
     /// The message of the newest event, if there is one.
@@ -44,7 +44,7 @@ impl<K: Copy> Deeds<K> {
     }
 
     /// How many messages they sent in all.
-    pub(crate) fn sent(&self) -> usize
+    pub(crate) fn sent_count(&self) -> usize
         ensures { result ≡ sent_in self.now.deeds }
     {
         self.sends.len()
@@ -55,7 +55,7 @@ impl<K: Copy> Deeds<K> {
         ensures yes { result ≡ true → Contains (messages_of self.now.deeds) message.now }
         ensures no { result ≡ false → IsAscending message_order (messages_of self.now.deeds) → All (λ x. x ≢ message.now) (messages_of self.now.deeds) }
     {
-        lawful_order();
+        order_law();
         !self.is_before(message) && is_among(&self.events, message)
     }
 

@@ -15,7 +15,7 @@ use crate::block::Did;
 use crate::letters::Letters;
 use crate::members::is_ours;
 use antimessages::OutOfMemory;
-use vlink::{Letter, Message, Sign, lawful_order};
+use vlink::{Letter, Message, Sign, order_law};
 
 /// What becomes of the message of a letter that arrives.
 #[derive(Clone, Copy)]
@@ -107,7 +107,7 @@ impl Letters {
         ensures room { self.new.room ≡ self.old.room }
         ensures unchanged { OnErr result (self.new.extra ≡ self.old.extra) }
     {
-        lawful_order();
+        order_law();
         self.extra.add(*letter)?;
         Ok(())
     }

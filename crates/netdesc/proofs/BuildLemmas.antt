@@ -14,13 +14,13 @@ use Rattle.network_rows.specs.declared.rows.LinkRow.{LinkRow}
 use Rattle.network_rows.specs.declared.rows.Rows.{Rows}
 use Rattle.netdesc.specs.Words.{greatest_processes, each, each_after, when, top, place_by, names_of, is_among, number_of, Plan, NodePlan, node_plan, link_plan, plan_of, directions, lines_of, faults_of, unknown_names, double_names, not_links, not_trees, too_many, unknown_at_link, process_count, IsAccepted}
 use Rattle.netdesc.specs.declared.wiring.Link.{Link}
-use Rattle.netdesc.specs.declared.wiring.Direction.{Direction}
+use Rattle.netdesc.specs.declared.wiring.LinePlan.{LinePlan}
 
 -- a link ends at nodes up to this number; so does a line
 abbrev pub EndsWithin : ℕ → Link → Type 0
 EndsWithin n link = (link.a ≤ n) × (link.b ≤ n)
 
-abbrev pub LeadsWithin : ℕ → Direction → Type 0
+abbrev pub LeadsWithin : ℕ → LinePlan → Type 0
 LeadsWithin n line = (line.from ≤ n) × (line.to ≤ n)
 
 lines-within : (nodes : List NodePlan) (n : ℕ) (earlier links : List Link) → AllByRecursion (EndsWithin n) links → AllByRecursion (LeadsWithin n) (each_after (directions nodes) earlier links)
@@ -107,7 +107,7 @@ read-made f v xs ys n k y same len lt read =
 abbrev pub BothEnds : (ℕ → Type 0) → Link → Type 0
 BothEnds P link = P link.a × P link.b
 
-abbrev pub BothNodes : (ℕ → Type 0) → Direction → Type 0
+abbrev pub BothNodes : (ℕ → Type 0) → LinePlan → Type 0
 BothNodes P line = P line.from × P line.to
 
 lines-from-links : (P : ℕ → Type 0) (nodes : List NodePlan) (earlier links : List Link) → AllByRecursion (BothEnds P) links → AllByRecursion (BothNodes P) (each_after (directions nodes) earlier links)
@@ -160,5 +160,5 @@ pub read-item : {X : Type 0} (P : X → Type 0) (xs : List X) (i : ℕ) (x : X) 
 read-item P xs i x all read = subst P (get_or_from_slice_get xs i x x read) (all i x (slice_get_within xs i x read))
 
 -- the line that is read leads from a node to a node
-pub line-read : (plan : Plan) (k : ℕ) (line : Direction) → IsAccepted plan → slice_get (lines_of plan) k ≡ Some line → BothNodes (λ n. n < length plan.nodes) line
+pub line-read : (plan : Plan) (k : ℕ) (line : LinePlan) → IsAccepted plan → slice_get (lines_of plan) k ≡ Some line → BothNodes (λ n. n < length plan.nodes) line
 line-read plan k line accepted read = read-item (BothNodes (λ n. n < length plan.nodes)) (lines_of plan) k line (lines-below plan accepted) read

@@ -13,7 +13,7 @@ use Rattle.network_rows.specs.declared.rows.Rate.TheVariants.{Mbit10, Mbit100}
 use Rattle.network_rows.specs.Within.{IsLinkWithin}
 use Rattle.netdesc.specs.Words.{greatest_ports, each, each_after, names_of, Plan, NodePlan, link_plan, byte_ns_of, plan_of, is_end_system, is_switch_of, port_at, directions, lines_of, unknown_names, double_names, not_links, not_trees, too_many, too_many_at_node, touches, IsAccepted}
 use Rattle.netdesc.specs.declared.wiring.Link.{Link}
-use Rattle.netdesc.specs.declared.wiring.Direction.{Direction}
+use Rattle.netdesc.specs.declared.wiring.LinePlan.{LinePlan}
 use Rattle.netdesc.proofs.BuildLemmas.{BothEnds, front-none, behind-none, when-none, ends-below, read-item}
 use Rattle.netdesc.proofs.EachLemmas.{each-at, length-before}
 use Rattle.netdesc.proofs.LimitLemmas.{bounds}
@@ -28,7 +28,7 @@ pub record AreTimesWithin (byte_ns propagation_ns : ℕ) : Type 0 where
 abbrev pub IsLinkTimely : Link → Type 0
 IsLinkTimely link = AreTimesWithin link.byte_ns link.propagation_ns
 
-pub record IsLineWithin (line : Direction) : Type 0 where
+pub record IsLineWithin (line : LinePlan) : Type 0 where
   pub times : AreTimesWithin line.byte_ns line.propagation_ns
   pub from_port : line.from_port < greatest_ports
   pub to_port : line.to_port < greatest_ports
@@ -112,7 +112,7 @@ lines-within nodes earlier (link ∷ links) few ends times =
     )
 
 -- the line that is read in an accepted network
-pub line-within : (plan : Plan) (k : ℕ) (line : Direction) → IsAccepted plan → slice_get (lines_of plan) k ≡ Some line → IsLineWithin line
+pub line-within : (plan : Plan) (k : ℕ) (line : LinePlan) → IsAccepted plan → slice_get (lines_of plan) k ≡ Some line → IsLineWithin line
 line-within plan k line accepted read =
     let rows = accepted.rows in
     let stands = accepted.stands in

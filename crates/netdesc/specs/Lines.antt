@@ -6,7 +6,7 @@ use Rattle.vlink.specs.declared.frame.Net.TheVariants.{A}
 use Rattle.netdesc.specs.declared.wiring.Link.{Link}
 use Rattle.netdesc.specs.declared.wiring.Outage.{Outage}
 use Rattle.netdesc.specs.declared.wiring.Hop.{Hop}
-use Rattle.netdesc.specs.declared.wiring.Direction.{Direction}
+use Rattle.netdesc.specs.declared.wiring.LinePlan.{LinePlan}
 use Rattle.netdesc.specs.declared.wiring.Way.{Way}
 use Rattle.netdesc.specs.Rows.{each, place_by}
 use Rattle.netdesc.specs.Plan.{Plan, NodePlan, VlPlan}
@@ -21,17 +21,17 @@ port_at nodes earlier node other =
     cond (is_end_system nodes node) (cond (is_switch_of nodes A other) 0 1) (count_by (touches node) earlier)
 
 -- the two directions of a link, which has these ports at its nodes: from a to b, and back
-abbrev pub both : Link → ℕ → ℕ → List Direction
+abbrev pub both : Link → ℕ → ℕ → List LinePlan
 both link a_port b_port =
     record { from = link.a; from_port = a_port; to = link.b; to_port = b_port; byte_ns = link.byte_ns; propagation_ns = link.propagation_ns }
     ∷ record { from = link.b; from_port = b_port; to = link.a; to_port = a_port; byte_ns = link.byte_ns; propagation_ns = link.propagation_ns }
     ∷ []
 
-abbrev pub directions : List NodePlan → List Link → Link → List Direction
+abbrev pub directions : List NodePlan → List Link → Link → List LinePlan
 directions nodes earlier link = both link (port_at nodes earlier link.a link.b) (port_at nodes earlier link.b link.a)
 
 -- the lines: line k is process k behind the nodes
-abbrev pub lines_of : Plan → List Direction
+abbrev pub lines_of : Plan → List LinePlan
 lines_of plan = each (directions plan.nodes) plan.links
 
 -- the line from one node to another: twice the place of their link, and one more where the link's row names the other end first
@@ -64,21 +64,21 @@ abbrev pub route_of : Plan → VlPlan → List ℕ
 route_of plan vl = route_over plan.links vl
 
 -- the port by which a line leaves this node, and by which it comes in
-abbrev pub out_at : ℕ → VlId → Direction → Option Way
+abbrev pub out_at : ℕ → VlId → LinePlan → Option Way
 out_at node vl line = cond (line.from == node) (Some (record { vl = vl; port = line.from_port })) None
 
-abbrev pub in_at : ℕ → VlId → Direction → Option Way
+abbrev pub in_at : ℕ → VlId → LinePlan → Option Way
 in_at node vl line = cond (line.to == node) (Some (record { vl = vl; port = line.to_port })) None
 
 -- the ports at which the lines of a route meet a node, in the order of the route
-abbrev pub ways_over : (Direction → Option Way) → List Direction → List ℕ → List Way
+abbrev pub ways_over : (LinePlan → Option Way) → List LinePlan → List ℕ → List Way
 ways_over way lines route = flat_map (λ k. option_to_list (option_and_then way (slice_get lines k))) route
 
 -- the ports by which a virtual link leaves a node, and by which it comes in, where these are the lines and the links
-abbrev pub leaves : ℕ → List Direction → List Link → VlPlan → List Way
+abbrev pub leaves : ℕ → List LinePlan → List Link → VlPlan → List Way
 leaves node lines links vl = ways_over (out_at node vl.link.id) lines (route_over links vl)
 
-abbrev pub comes_in : ℕ → List Direction → List Link → VlPlan → List Way
+abbrev pub comes_in : ℕ → List LinePlan → List Link → VlPlan → List Way
 comes_in node lines links vl = ways_over (in_at node vl.link.id) lines (route_over links vl)
 
 -- the same of all virtual links: by virtual link, then by line, so that the ports of a switch rise
@@ -92,7 +92,7 @@ arrivals_of plan node = flat_map (comes_in node (lines_of plan) plan.links) plan
 abbrev pub node_name : List NodePlan → ℕ → List ℕ
 node_name nodes n = option_map_or (λ node. node.name) (slice_get nodes n) []
 
-abbrev pub line_name : List NodePlan → Direction → List ℕ
+abbrev pub line_name : List NodePlan → LinePlan → List ℕ
 line_name nodes line = node_name nodes line.from ++ 62 ∷ node_name nodes line.to
 
 -- the place of the virtual link with this number

@@ -91,7 +91,7 @@ pub record IsRisingOf (xs ys : List ℕ) : Type 0 where
   pub increasing : IsStrictlyIncreasing ys
   pub members : (n : ℕ) → Contains ys n ↔ Contains xs n
 
--- that list (`rising_is` proves that it is the one), made number by number
+-- that list (`rising_law` proves that it is the one), made number by number
 abbrev pub rising_from : List ℕ → List ℕ → List ℕ
 rising_from found [] = found
 rising_from found (x ∷ xs) = rising_from (insert_key nat_cmp found x) xs

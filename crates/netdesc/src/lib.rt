@@ -18,9 +18,9 @@ mod too_many;
 mod unknown;
 mod wiring;
 
-pub use laws::{port_laws, rising_is};
+pub use laws::{port_law, rising_law};
 pub use network::Network;
 pub use network_rows::{DescFault, Key, NodeKind, Place, Policing, Priority, Section, VirtualLink};
 pub use reading::read;
 pub use too_many::{GREATEST_DESTINATIONS, GREATEST_OUTAGES, GREATEST_PORTS, GREATEST_PROCESSES};
-pub use wiring::{Direction, Outage, Way};
+pub use wiring::{LinePlan, Outage, Way};

@@ -10,7 +10,7 @@ ghost use Rattle.netdesc.specs.Code.Views.{outages_at};
 
 use crate::links::{Joined, count_link, no_counts};
 use crate::tables::{no_lists, put};
-use crate::wiring::{Direction, Link, Outage, is_end_system, is_switch_of};
+use crate::wiring::{LinePlan, Link, Outage, is_end_system, is_switch_of};
 use network_rows::{DescFault, NodeRow};
 use std::alloc::{AllocError, Global};
 use vlink::Net;
@@ -33,7 +33,7 @@ fn port_at(nodes: &[NodeRow], count: usize, node: usize, other: usize) -> u16
 
 /// Puts the two directions of a link at the end, which has these ports at its two nodes.
 fn push_both(
-    lines: &mut Vec<Direction>,
+    lines: &mut Vec<LinePlan>,
     link: Link,
     a_port: u16,
     b_port: u16,
@@ -43,7 +43,7 @@ fn push_both(
     ensures lines { OnOk result (lines.new.items ≡ lines.old.items ++ both link a_port b_port) }
     ensures memory { IfErr result (λ fault. fault ≡ OutOfMemory) }
 {
-    let there = Direction {
+    let there = LinePlan {
         from: link.a as u16,
         from_port: a_port,
         to: link.b as u16,
@@ -51,7 +51,7 @@ fn push_both(
         byte_ns: link.byte_ns,
         propagation_ns: link.propagation_ns,
     };
-    let back = Direction {
+    let back = LinePlan {
         from: link.b as u16,
         from_port: b_port,
         to: link.a as u16,
@@ -69,7 +69,7 @@ pub fn lines_of(
     alloc: Global,
     nodes: &[NodeRow],
     links: &[Link],
-) -> Result<Vec<Direction>, DescFault>
+) -> Result<Vec<LinePlan>, DescFault>
     requires ends { All (λ link. (link.a ≤ length nodes.now) × (link.b ≤ length nodes.now)) links.now }
     requires few { length nodes.now + 2 * length links.now ≤ 4096 }
     ensures ends { IfOk result (λ lines. All (λ line. (line.from ≤ length nodes.now) × (line.to ≤ length nodes.now)) lines.items) }
@@ -110,7 +110,7 @@ fn name_between(alloc: Global, from: &str, to: &str) -> Result<String, AllocErro
 }
 
 /// The name of a line.
-fn line_name(alloc: Global, nodes: &[NodeRow], line: Direction) -> Result<String, DescFault>
+fn line_name(alloc: Global, nodes: &[NodeRow], line: LinePlan) -> Result<String, DescFault>
     ensures name { IfOk result (λ name. string_bytes name ≡ line_name (map node_plan nodes.now) line) }
     ensures memory { IfErr result (λ fault. fault ≡ OutOfMemory) }
 {
@@ -123,7 +123,7 @@ fn line_name(alloc: Global, nodes: &[NodeRow], line: Direction) -> Result<String
 pub fn line_names(
     alloc: Global,
     nodes: &[NodeRow],
-    lines: &[Direction],
+    lines: &[LinePlan],
 ) -> Result<Vec<String>, DescFault>
     ensures names { IfOk result (λ names. map string_bytes names.items ≡ map (line_name (map node_plan nodes.now)) lines.now) }
     ensures memory { IfErr result (λ fault. fault ≡ OutOfMemory) }
@@ -165,7 +165,7 @@ fn put_outage(
 }
 
 /// For each of `count` lines its outages, in their order.
-pub fn losses_of(
+pub fn outage_table(
     alloc: Global,
     count: usize,
     joined: &Joined,

@@ -16,7 +16,7 @@ ghost use Rattle.netdesc.specs.Code.Tables.{plan_with};
 
 use crate::plan::Numbered;
 use crate::tables::{Tables, tables_of};
-use crate::wiring::{Direction, Outage, Way};
+use crate::wiring::{LinePlan, Outage, Way};
 use network_rows::{DescFault, NodeKind, NodeRow, VirtualLink};
 use std::alloc::Global;
 use std::marker::Model;
@@ -72,8 +72,8 @@ impl Network {
         })
     }
 
-    /// Every network is that of rows without a fault, within the limits of their keys. Nothing is done.
-    pub fn accepted(&self)
+    /// Every network is that of rows without a fault, within the limits of their keys.
+    pub fn accepted_law(&self)
         ensures { IsAccepted self.now }
     {
         let _fields = &self.numbered;
@@ -102,7 +102,7 @@ impl Network {
         self.nodes.len()
     }
 
-    /// How many lines there are: two for each link. Direction `k` is process `k` behind the nodes.
+    /// How many lines there are: two for each link. Line `k` is process `k` behind the nodes.
     pub fn line_count(&self) -> usize
         ensures value { result ≡ length (lines_of self.now) }
         ensures links { length (lines_of self.now) ≡ 2 * length self.now.links }
@@ -152,7 +152,7 @@ impl Network {
     }
 
     /// A line: its nodes, its ports there, and its times.
-    pub fn line(&self, line: usize) -> Direction
+    pub fn line(&self, line: usize) -> LinePlan
         requires { line < length (lines_of self.now) }
         ensures value { slice_get (lines_of self.now) line ≡ Some result }
         ensures from { result.from < length self.now.nodes }
@@ -172,7 +172,7 @@ impl Network {
         requires { line < length (lines_of self.now) }
         ensures { result.now ≡ outages_of self.now line }
     {
-        self.tables.losses[line].as_slice()
+        self.tables.outages[line].as_slice()
     }
 
     /// How many virtual links there are. They have the places 0, 1, .. in the order of their numbers.

@@ -43,7 +43,7 @@ fn network_of(alloc: Global, rows: Rows) -> Result<Network, DescFault>
     requires { AreWithin rows }
     ensures { MatchResult result (IsPlanOf rows) (λ fault. Tells fault (faults_of rows)) }
 {
-    let mut numbered = checked(alloc, &rows)?;
+    let mut numbered = numbered_of(alloc, &rows)?;
     sort_vls(&mut numbered.vls)?;
     Network::new(
         alloc,
@@ -65,7 +65,7 @@ fn sort_vls(vls: &mut Vec<Routed>) -> Result<(), DescFault>
 }
 
 /// The rows with numbers in place of names, where they make a network.
-fn checked(alloc: Global, rows: &Rows) -> Result<Numbered, DescFault>
+fn numbered_of(alloc: Global, rows: &Rows) -> Result<Numbered, DescFault>
     ensures { Gives row_lists_of result (faults_of rows.now) (row_lists_in rows.now) }
 {
     let names = Names::new(alloc, rows.nodes.as_slice())?;

@@ -6,11 +6,11 @@ ghost use Rattle.netdesc.specs.Lines.{place_of_vl};
 ghost use Rattle.netdesc.specs.Code.Tables.{plan_with, AreTables};
 ghost use Rattle.netdesc.specs.Code.Views.{lists_of};
 
-use crate::lines::{line_names, lines_of, losses_of};
+use crate::lines::{line_names, lines_of, outage_table};
 use crate::links::Joined;
 use crate::plan::{Numbered, Routed};
 use crate::routes::{Meetings, all_destinations, meetings_of};
-use crate::wiring::{Direction, Outage};
+use crate::wiring::{LinePlan, Outage};
 use network_rows::{DescFault, NodeRow};
 use std::alloc::Global;
 use vlink::VlId;
@@ -18,10 +18,10 @@ use vlink::VlId;
 /// What is looked up in a network by number.
 #[derive(Debug, Drop)]
 pub struct Tables {
-    pub lines: Vec<Direction>,
+    pub lines: Vec<LinePlan>,
     pub line_names: Vec<String>,
     /// The outages of each line.
-    pub losses: Vec<Vec<Outage>>,
+    pub outages: Vec<Vec<Outage>>,
     /// For each node the ports by which virtual links leave it and come in.
     pub meetings: Meetings,
     /// The destinations of each virtual link.
@@ -104,7 +104,7 @@ pub fn tables_of(alloc: Global, nodes: &[NodeRow], numbered: &Numbered) -> Resul
     let joined = Joined::new(alloc, numbered.links.as_slice())?;
     let lines = lines_of(alloc, nodes, joined.links)?;
     let line_names = line_names(alloc, nodes, lines.as_slice())?;
-    let losses = losses_of(alloc, lines.len(), &joined, numbered.outages.as_slice())?;
+    let outages = outage_table(alloc, lines.len(), &joined, numbered.outages.as_slice())?;
     let meetings = meetings_of(
         alloc,
         nodes.len() + 1,
@@ -117,7 +117,7 @@ pub fn tables_of(alloc: Global, nodes: &[NodeRow], numbered: &Numbered) -> Resul
     Ok(Tables {
         lines,
         line_names,
-        losses,
+        outages,
         meetings,
         destinations,
         places,

@@ -37,7 +37,7 @@ pub struct Hop {
 
 /// One direction of a link.
 #[derive(Clone, Copy, Debug, PartialEq, Eq)]
-pub struct Direction {
+pub struct LinePlan {
     /// The node that it leads out of, and its port there.
     pub from: u16,
     pub from_port: u16,

@@ -49,7 +49,7 @@ fn switch(
     requires { node < length network.now.nodes }
     ensures { IfOk result (λ s. s ≡ switch_opening network.now node latency_ns bytes) }
 {
-    network.accepted();
+    network.accepted_law();
     let arriving = meetings(alloc, network, node, Side::In)?;
     let departing = meetings(alloc, network, node, Side::Out)?;
     Ok(Switch::new(
@@ -107,7 +107,7 @@ impl Node {
         requires { process < process_count network.now }
         ensures { IfOk result (λ node. node ≡ opening network.now process) }
     {
-        network.accepted();
+        network.accepted_law();
         let equipment = equipment(alloc, network, process)?;
         Ok(Node::of_equipment(process, network.until(), equipment))
     }

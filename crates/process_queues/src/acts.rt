@@ -10,11 +10,12 @@ ghost use Rattle.antimessages.specs.declared.tally.Change.TheVariants.{Same};
 ghost use Rattle.process_queues.specs.declared.fault.ProcFault.TheVariants.{OutOfMemory, Exhausted};
 ghost use Rattle.process_queues.specs.Past.{newest_of};
 ghost use Rattle.process_queues.specs.Queues.{StandsFor, Does, next_in, state_in};
+ghost use Rattle.reverse.specs.declared.sends.TheConstants.{MOST_SENT};
 
 use crate::fault::ProcFault;
 use crate::process::Process;
 use antimessages::{Tally, rewind};
-use reverse::{Actor, Outbound, actor_rules};
+use reverse::{Actor, Outbound, actor_rules_law};
 use std::collections::VecDeque;
 use vlink::{Letter, Message, Sign, Time};
 
@@ -32,7 +33,7 @@ impl<R: Actor> Process<R> {
         ensures unchanged { OnErr result (self.new.queues ≡ self.old.queues) }
         ensures memory { IfErr result (λ fault. fault ≡ OutOfMemory) }
     {
-        actor_rules::<R>();
+        actor_rules_law::<R>();
         let Some(letter) = self.tray.front().copied() else {
             return Ok(None);
         };
@@ -65,7 +66,7 @@ impl<R: Actor> Process<R> {
         ensures toggled { IsTrue result → change_by message_order letter.now self.now.queues.tally ≢ Same }
         ensures same { result ≡ false → change_by message_order letter.now self.now.queues.tally ≡ Same }
     {
-        actor_rules::<R>();
+        actor_rules_law::<R>();
         let is_other = match letter.sign {
             Sign::Plus => !self.past.has_done(&letter.message),
             Sign::Minus => self.past.has_done(&letter.message),
@@ -83,7 +84,7 @@ impl<R: Actor> Process<R> {
         ensures tray { self.new.queues.tray ≡ self.old.queues.tray }
         ensures left { self.new.queues.left ≡ self.old.queues.left }
         ensures exhausted { (result ≡ Err Exhausted) ↔
-            IsSome (next_in self.old.queues) × (greatest_number < R.plain.counter (state_in self.old.queues) + 24) }
+            IsSome (next_in self.old.queues) × (greatest_number < R.plain.counter (state_in self.old.queues) + MOST_SENT) }
         ensures idle { result ≡ Ok None → self.new.queues ≡ self.old.queues }
         ensures refused { OnErr result ((opening : R) (part : Part Message R) →
             StandsFor (rules_of R.plain) R.is_value opening part self.old.queues → IsSome (next_of message_order part)) }
@@ -102,13 +103,13 @@ impl<R: Actor> Process<R> {
         ensures tray { self.new.queues.tray ≡ self.old.queues.tray }
         ensures left { self.new.queues.left ≡ self.old.queues.left }
         ensures exhausted { (result ≡ Err Exhausted) ↔
-            IsSome (next_in self.old.queues) × (greatest_number < R.plain.counter (state_in self.old.queues) + 24) }
+            IsSome (next_in self.old.queues) × (greatest_number < R.plain.counter (state_in self.old.queues) + MOST_SENT) }
         ensures idle { result ≡ Ok None → self.new.queues ≡ self.old.queues }
         ensures refused { OnErr result ((opening : R) (part : Part Message R) →
             StandsFor (rules_of R.plain) R.is_value opening part self.old.queues → IsSome (next_of message_order part)) }
         ensures unchanged { OnErr result (self.new.queues ≡ self.old.queues) }
     {
-        actor_rules::<R>();
+        actor_rules_law::<R>();
         let Some(message) = self.next() else {
             return Ok(None);
         };
@@ -138,7 +139,7 @@ impl<R: Actor> Process<R> {
         ensures reserved { OnErr result (self.old.committed_room ≡ 0) }
         ensures memory { IfErr result (λ fault. fault ≡ OutOfMemory) }
     {
-        actor_rules::<R>();
+        actor_rules_law::<R>();
         let Some(event) = self.past.oldest() else {
             return Ok(false);
         };

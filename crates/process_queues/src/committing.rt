@@ -14,7 +14,7 @@ use crate::fault::ProcFault;
 use crate::past::Event;
 use crate::process::Process;
 use antimessages::Tally;
-use reverse::{Actor, actor_rules};
+use reverse::{Actor, actor_rules_law};
 use std::collections::VecDeque;
 use vlink::{Message, Time};
 
@@ -26,8 +26,8 @@ impl<R: Actor> Process<R> {
         ensures stands { (opening : R) (part : Part Message R) → StandsFor (rules_of R.plain) R.is_value opening part self.now.queues →
             result ≡ committable message_order moment part.tally (take most part.done) }
     {
-        actor_rules::<R>();
-        committable_of::<R>(&self.tally, moment, self.past.done(), most)
+        actor_rules_law::<R>();
+        committable_of::<R>(&self.tally, moment, self.past.done_events(), most)
     }
 
     /// Makes room for so many committed events: as long as no other call comes between, so many calls of `commit_oldest` take no memory.
@@ -53,7 +53,7 @@ fn committable_of<R: Actor>(
     requires { IsAscending message_order (map (λ e. e.message) events.now.items) }
     ensures { result ≡ committable message_order moment (with_done tally.now events.now.items) (take most (map (λ e. e.message) events.now.items)) }
 {
-    actor_rules::<R>();
+    actor_rules_law::<R>();
     let limit = most.min(events.len());
     for place in 0..limit {
         if !is_committable(tally, moment, &events[place].message) {

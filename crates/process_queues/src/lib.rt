@@ -15,5 +15,5 @@ mod restoring;
 mod rollback;
 
 pub use fault::ProcFault;
-pub use laws::process_laws;
+pub use laws::sending_law;
 pub use process::Process;

@@ -1,4 +1,5 @@
 //! A process that runs ahead and rolls back.
+//! A done message that is tallied once is not in the map: it leaves the map as it is handled, and a commit changes no map.
 ghost use Rattle.std.specs.Prelude.{◌≡◌, ◌≢◌, false, pos, ◌+ℤ◌, ◌+◌, ◌<◌, ◌≤◌, ◌^◌, ◌-◌, ◌↔◌, [], ◌∷◌, ◌++◌, ℕ, length, map, min, take, drop, All, IsTrue, IsOk, OnOk, OnErr, IfOk, IfErr, slice_get};
 ghost use Rattle.std.specs.Option.{option_map};
 ghost use Rattle.std.specs.VecDeque.{deque_len, deque_capacity};
@@ -11,11 +12,12 @@ ghost use Rattle.antimessages.specs.Counting.{signed_count};
 ghost use Rattle.antimessages.specs.Mailing.{letters_for};
 ghost use Rattle.process_queues.specs.declared.fault.ProcFault.TheVariants.{OutOfMemory};
 ghost use Rattle.process_queues.specs.Queues.{StandsFor, Does, rows_there, delivered_all, next_in, state_in};
+ghost use Rattle.reverse.specs.declared.sends.TheConstants.{MOST_SENT};
 
 use crate::fault::ProcFault;
 use crate::past::Past;
 use antimessages::{Mail, Outbox, Tally};
-use reverse::{Actor, actor_rules};
+use reverse::{Actor, actor_rules_law};
 use std::alloc::Global;
 use std::collections::VecDeque;
 use std::marker::Model;
@@ -98,9 +100,7 @@ impl<R: Actor> Process<R> {
     }
 
     /// A process stands for a part of a process that opened in some state: what other clauses say of such a part holds of one.
-    ///
-    /// A call does nothing: its caller learns what the clause says.
-    pub fn stands(&self)
+    pub fn stands_law(&self)
         ensures { (opening : R) × (part : Part Message R) × StandsFor (rules_of R.plain) R.is_value opening part self.now.queues }
     {
         let _tray = &self.tray;
@@ -112,7 +112,7 @@ impl<R: Actor> Process<R> {
         ensures { (opening : R) (part : Part Message R) → StandsFor (rules_of R.plain) R.is_value opening part self.now.queues →
             result ≡ signed_count message_order message.now part.tally }
     {
-        actor_rules::<R>();
+        actor_rules_law::<R>();
         count_with(&self.tally, message, self.past.has_done(message))
     }
 
@@ -197,13 +197,13 @@ impl<R: Actor> Process<R> {
         ensures stands { (opening : R) (part : Part Message R) → StandsFor (rules_of R.plain) R.is_value opening part self.now.queues →
             result ≡ next_of message_order part }
     {
-        actor_rules::<R>();
+        actor_rules_law::<R>();
         self.next
     }
 
     /// Whether its actor has enough numbers left for what one event can send. Where it has not, `run` is refused for that.
     pub fn has_numbers(&self) -> bool
-        ensures { IsTrue result ↔ (R.plain.counter (state_in self.now.queues) + 24 ≤ greatest_number) }
+        ensures { IsTrue result ↔ (R.plain.counter (state_in self.now.queues) + MOST_SENT ≤ greatest_number) }
     {
         self.past.actor().has_numbers()
     }
@@ -222,7 +222,7 @@ impl<R: Actor> Process<R> {
         ensures { (opening : R) (part : Part Message R) → StandsFor (rules_of R.plain) R.is_value opening part self.now.queues →
             result ≡ floor_of message_order (R.end (state_in self.now.queues)) (record part { tray = [] }) }
     {
-        actor_rules::<R>();
+        actor_rules_law::<R>();
         let end = Time::new(self.past.actor().until().ns() + 1).unwrap();
         match self.next() {
             Some(message) => earlier(message.time, end),
@@ -277,14 +277,19 @@ impl<R: Actor> Process<R> {
     {
         let count = mail.count(process).min(most);
         self.tray.reserve(count)?;
-        take_letters::<R>(&mut self.tray, mail, process, count);
+        collect_letters::<R>(&mut self.tray, mail, process, count);
         Ok(count)
     }
 }
 
 /// The first `count` letters for this process go from the mail to the back of the tray, which has room for them. Where that are all and the tray
 /// has none, none is copied.
-fn take_letters<R: Actor>(tray: &mut VecDeque<Letter>, mail: &mut Mail, process: u16, count: usize)
+fn collect_letters<R: Actor>(
+    tray: &mut VecDeque<Letter>,
+    mail: &mut Mail,
+    process: u16,
+    count: usize,
+)
     requires room { deque_len tray.old + count ≤ deque_capacity tray.old }
     requires enough { count ≤ length (letters_for process mail.old) }
     ensures tray { tray.new.items ≡ tray.old.items ++ take count (letters_for process mail.old) }

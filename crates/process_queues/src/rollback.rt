@@ -10,7 +10,7 @@ ghost use Rattle.process_queues.specs.declared.past.Event.{Event};
 use crate::order::is_before;
 use crate::past::Past;
 use antimessages::Outbox;
-use reverse::{Actor, actor_rules};
+use reverse::{Actor, actor_rules_law};
 use std::collections::VecDeque;
 use vlink::{Letter, Message, Sign};
 
@@ -44,7 +44,7 @@ impl<R: Actor> Past<R> {
             outbox.old.letters ≡ part.outbox → outbox.new.letters ≡ (rolled_back (rules_of R.plain) opening message.now part).outbox }
         ensures count { result + length self.new.done ≡ length self.old.done }
     {
-        actor_rules::<R>();
+        actor_rules_law::<R>();
         let events = self.done_len();
         while !self.is_before(message) {
             self.undo_newest(outbox);
@@ -57,7 +57,7 @@ impl<R: Actor> Past<R> {
         requires { (start : R) × (ms : List Message) × (earlier : Rows) × IsPastOf (rules_of R.plain) R.is_value start ms earlier self }
         ensures { (start : R) (ms : List Message) (earlier : Rows) → IsPastOf (rules_of R.plain) R.is_value start ms earlier self → result ≡ start }
     {
-        actor_rules::<R>();
+        actor_rules_law::<R>();
         let Past {
             mut actor,
             mut done,
@@ -84,7 +84,7 @@ impl<R: Actor> Past<R> {
             (self.new.done ≡ front) × (outbox.old.room ≤ outbox.new.room + event.sent) }
         ensures fewer { length self.new.done + 1 ≡ length self.old.done }
     {
-        actor_rules::<R>();
+        actor_rules_law::<R>();
         if let Some(event) = self.done.pop_back() {
             self.actor.undo(&event.message, event.kept);
             take_back(&mut self.sends, outbox, usize::from(event.sent));

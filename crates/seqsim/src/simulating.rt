@@ -8,7 +8,7 @@ ghost use Rattle.actor_run.specs.declared.fault.SimFault.TheVariants.{Exhausted}
 ghost use Rattle.actor_run.specs.Running.{IsExhaustedAt, HasNumbersFrom};
 ghost use Rattle.seqsim.specs.Networks.{AreRowsOf};
 
-use crate::networks::network_laws;
+use crate::networks::network_law;
 use actor_run::{SimFault, Watch, run_actors};
 use netdesc::Network;
 use nodes::Node;
@@ -47,7 +47,7 @@ pub fn run<W: Watch>(alloc: Global, network: &Network, watch: &mut W) -> Result<
     ensures numbers { OnOk result (HasNumbersFrom (simulation_of network.now) 0) }
     ensures watched { W.becomes watch.old watch.new }
 {
-    network_laws(network);
+    network_law(network);
     let offers = offers(alloc, network)?;
     let mut nodes = nodes_of(alloc, network)?;
     let rows = run_actors(alloc, &mut nodes, &offers, watch)?;

@@ -58,7 +58,7 @@ fn vl_offer_count(seed: u64, until: Time, link: &VirtualLink) -> u64
 pub fn offer_count(network: &Network) -> u64
     ensures { result ≡ length (offers_of network.now) }
 {
-    network.accepted();
+    network.accepted_law();
     let mut count: u64 = 0;
     for vl in 0..network.vl_count() {
         let link = network.virtual_link(vl);

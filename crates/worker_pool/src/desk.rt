@@ -13,9 +13,9 @@ ghost use Rattle.worker_pool.specs.Traces.{HasLawfulRows, IsGatheringOfRun};
 ghost use Rattle.worker_pool.specs.Written.{IsPlaceFault, first_of, told_of};
 
 use crate::group_segments::next_group_segment;
-use crate::lawful_rows::lawful_rows;
 use crate::network_run::NetworkRun;
 use crate::rounds::seat::NetworkGroup;
+use crate::rows_law::rows_law;
 use crate::run_batch::RunBatch;
 use crate::run_fault::RunFault;
 use crossbeam_channel::{SendError, Sender};
@@ -23,7 +23,7 @@ use journal::PoolFault;
 use netdesc::Network;
 use std::alloc::{AllocError, Global};
 use std::sync::{Mutex, Wait};
-use trace_tables::{Gather, Segment, SegmentFault, batches_in_order, segments_of_rows};
+use trace_tables::{Gather, Segment, SegmentFault, batches_in_order_law, segments_of_rows_law};
 use vlink::Time;
 
 /// What the lock of the trace keeps: the segments that wait for those of other groups, the end of the channel to the writer's thread, and
@@ -50,8 +50,8 @@ impl<J: NetworkRun> Desk<J> {
         requires grouped { AreGrouped (process_count J.plan) groups J.owners }
         requires each { groups ≡ length J.names }
     {
-        lawful_rows(network);
-        segments_of_rows();
+        rows_law(network);
+        segments_of_rows_law();
         let gather = Gather::new(alloc, 0, groups, network.until())?;
         Ok(Desk {
             gather,
@@ -96,8 +96,8 @@ impl<J: NetworkRun> Desk<J> {
         ensures gives { IfOk result (λ given. IfSome given (λ batch. Gives self.old.gather segment batch.batch self.new.gather)) }
         ensures fault { self.new.fault ≡ self.old.fault }
     {
-        segments_of_rows();
-        batches_in_order();
+        segments_of_rows_law();
+        batches_in_order_law();
         match self.gather.take(segment)? {
             Some(batch) => Ok(Some(RunBatch::new(batch))),
             None => Ok(None),

@@ -70,7 +70,7 @@ impl<J: NetworkRun> Unlocked<J> {
     {
         let until = network.until();
         for _ in rt.forever() {
-            let _gvt = self.exchange.set_gvt()?;
+            let _gvt = self.exchange.publish()?;
             self.take_turns(rt, network, pace, gate)?;
             if self.is_ended(until) && (!keeps_rows || self.have_gone_by(&[], Time::default())) {
                 return Ok(());
@@ -92,12 +92,12 @@ impl<J: NetworkRun> Unlocked<J> {
     {
         for group in self.groups.iter_mut() {
             // What a worker left is posted, so that the group sees GVT.
-            self.exchange.give_block(group)?;
-            self.exchange.take_letters(group)?;
+            self.exchange.post(group)?;
+            self.exchange.collect(group)?;
             if let Err(fault) = work_ahead(group, u32::from(pace.turn), pace.window_ns, gate) {
                 return Err(self.exchange.fault_of(group, fault));
             }
-            self.exchange.give_block(group)?;
+            self.exchange.post(group)?;
             self.leaving.take_rows(rt, network, group)?;
         }
         Ok(())

@@ -10,7 +10,7 @@ use group_exchange::{GroupExchange, Pairs};
 use journal::{PoolFault, Table};
 use netdesc::Network;
 use nodes::Node;
-use seqsim::{network_layout, nodes_of};
+use seqsim::{layout_law, nodes_of};
 use std::alloc::Global;
 use traffic::offers;
 
@@ -37,7 +37,7 @@ pub(crate) fn open_groups<J: NetworkRun>(
     ensures count { IfOk result (λ r. length r.1.items ≡ grouping.groups) }
     ensures memory { IfErr result (λ fault. fault ≡ OutOfMemory) }
 {
-    network_layout(network);
+    layout_law(network);
     // A network has at most 4,096 processes.
     let _processes = network.process_count();
     let offers = offers(alloc, network)?;

@@ -10,15 +10,15 @@ ghost use Rattle.worker_pool.specs.Runs.{IsEnded, IsJournalOf, HaveGoneBy};
 
 use crate::counted::{Counted, moment_of};
 use crate::ending::Unlocked;
-use crate::lawful_rows::lawful_rows;
 use crate::network_run::NetworkRun;
+use crate::rows_law::rows_law;
 use journal::PoolFault;
 use netdesc::Network;
 use nodes::{Node, NodeRecord};
-use seqsim::{network_laws, rows_by_process};
+use seqsim::{network_law, rows_by_process_law};
 use std::alloc::{AllocError, Global};
-use trace_tables::{Tables, batches_in_order, put_in_message_order, tables_by_place};
-use virtual_time::headline;
+use trace_tables::{Tables, batches_in_order_law, put_in_message_order, tables_by_place_law};
+use virtual_time::headline_law;
 use vlink::{Message, Note, Row, Step, Time};
 
 impl<J: NetworkRun> Unlocked<J> {
@@ -39,7 +39,7 @@ impl<J: NetworkRun> Unlocked<J> {
         requires kept { HaveGoneBy [] 0 self.now.groups.items }
         ensures { IfOk result (λ rows. AreCommittedRows J.plan self.now.exchange.steps rows.items) }
     {
-        network_laws(network);
+        network_law(network);
         let mut rows = Vec::new(alloc);
         for place in 0..self.groups.len() {
             let group = &self.groups[place];
@@ -55,7 +55,7 @@ impl<J: NetworkRun> Unlocked<J> {
         requires kept { HaveGoneBy [] 0 self.now.groups.items }
         ensures { IfOk result (λ rows. AreRowsOf J.plan rows.items) }
     {
-        rows_by_process(network);
+        rows_by_process_law(network);
         let mut rows = self.gathered_rows(alloc, network)?;
         put_in_message_order(&mut rows)?;
         Ok(rows)
@@ -75,11 +75,11 @@ impl<J: NetworkRun> Unlocked<J> {
         ensures whole { IfOk result (λ tables. (rows : List Row) × AreRowsOf J.plan rows × (tables ≡ tables_of J.plan rows)) }
         ensures each { IfOk result (λ tables. (rows : List Row) → AreRowsOf J.plan rows → tables ≡ tables_of J.plan rows) }
     {
-        network_laws(network);
-        lawful_rows(network);
-        batches_in_order();
-        headline::<Message, Node, NodeRecord, Note>();
-        tables_by_place();
+        network_law(network);
+        rows_law(network);
+        batches_in_order_law();
+        headline_law::<Message, Node, NodeRecord, Note>();
+        tables_by_place_law();
         let Counted {
             tables,
             own,

@@ -1,4 +1,5 @@
 //! The trace of a run, as far as it is written, and the writer's thread.
+//! Which fault comes first is told here and not of the run: a channel tells nothing of what it was given.
 ghost use Rattle.std.specs.Prelude.{◌≡◌, ◌≢◌, true, false, Some, Err, OnOk, OnErr, IfErr, IfSome};
 ghost use Rattle.std.specs.Io.KnownBytes.{append_known};
 ghost use Rattle.std.proofs.Props.{props};
@@ -10,8 +11,8 @@ ghost use Rattle.worker_pool.specs.Traces.{HasLawfulRows, IsTraceOfRun};
 ghost use Rattle.worker_pool.specs.Written.{outcome_of, IsPlaceFault, IsFaultOfTrace, IsWritten};
 
 use crate::counted::Counted;
-use crate::lawful_rows::lawful_rows;
 use crate::network_run::NetworkRun;
+use crate::rows_law::rows_law;
 use crate::run_batch::RunBatch;
 use crate::trace_run::TraceRun;
 use crossbeam_channel::Receiver;
@@ -19,7 +20,7 @@ use netdesc::Network;
 use std::alloc::Global;
 use std::marker::PhantomData;
 use std::sync::Wait;
-use trace_tables::{OutFault, SegmentFault, Sink, TraceFault, TraceWriter, batches_in_order};
+use trace_tables::{OutFault, SegmentFault, Sink, TraceFault, TraceWriter, batches_in_order_law};
 
 /// The trace of a run, as far as it is written, and the first fault of a batch. By its type the sink took a beginning of the text that the rows
 /// of the one-thread run have.
@@ -41,7 +42,7 @@ impl<'a, J: NetworkRun, K: TraceRun, S: Sink> Writing<'a, J, K, S> {
         requires taken { S.taken sink ≡ K.taken }
         requires failures { S.failures sink ≡ K.failures }
     {
-        lawful_rows(network);
+        rows_law(network);
         Writing {
             writer: TraceWriter::new(alloc, network, sink),
             outcome: Ok(()),
@@ -63,7 +64,7 @@ impl<'a, J: NetworkRun, K: TraceRun, S: Sink> Writing<'a, J, K, S> {
           end = batch.batch.to;
         })) }
     {
-        batches_in_order();
+        batches_in_order_law();
         if self.outcome.is_ok() {
             let RunBatch { batch, .. } = batch;
             self.outcome = self.writer.take(batch);
@@ -76,7 +77,7 @@ impl<'a, J: NetworkRun, K: TraceRun, S: Sink> Writing<'a, J, K, S> {
         requires { IfSome gathering IsPlaceFault }
         ensures { IsWritten J.plan K.taken K.failures result.0 (S.taken result.1) (S.failures result.1) }
     {
-        batches_in_order();
+        batches_in_order_law();
         let Writing {
             writer,
             outcome,

@@ -24,8 +24,8 @@ plan_with until seed nodes numbered = record {
 pub record AreTables (plan : Plan) (tables : Tables) : Type 0 where
   pub lines : tables.lines.items ≡ lines_of plan
   pub line_names : map string_bytes tables.line_names.items ≡ map (line_name plan.nodes) (lines_of plan)
-  pub losses : (k : ℕ) → k < length (lines_of plan) → outages_at tables.losses k ≡ outages_of plan k
-  pub losses_len : vec_len tables.losses ≡ length (lines_of plan)
+  pub outages : (k : ℕ) → k < length (lines_of plan) → outages_at tables.outages k ≡ outages_of plan k
+  pub outages_len : vec_len tables.outages ≡ length (lines_of plan)
   pub departures : (node : ℕ) → node < length plan.nodes + 1 → ways_at tables.meetings.departures node ≡ departures_of plan node
   pub departures_len : vec_len tables.meetings.departures ≡ length plan.nodes + 1
   pub arrivals : (node : ℕ) → node < length plan.nodes + 1 → ways_at tables.meetings.arrivals node ≡ arrivals_of plan node

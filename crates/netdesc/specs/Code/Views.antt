@@ -5,7 +5,7 @@ use Rattle.network_rows.specs.declared.fault.DescFault.{DescFault}
 use Rattle.network_rows.specs.declared.fault.DescFault.TheVariants.{OutOfMemory}
 use Rattle.netdesc.specs.declared.routes.End.{End}
 use Rattle.netdesc.specs.declared.routes.End.TheVariants.{From, To}
-use Rattle.netdesc.specs.declared.wiring.Direction.{Direction}
+use Rattle.netdesc.specs.declared.wiring.LinePlan.{LinePlan}
 use Rattle.netdesc.specs.declared.wiring.Outage.{Outage}
 use Rattle.netdesc.specs.declared.wiring.Way.{Way}
 use Rattle.vlink.specs.declared.frame.VlId.{VlId}
@@ -37,10 +37,10 @@ abbrev pub outages_at : Vec (Vec Outage Global) Global → ℕ → List Outage
 outages_at table k = slice_index_or (lists_of table) k []
 
 -- the node at an end of a line, and the port there, if it is this node
-abbrev pub end_at : End → Direction → ℕ
+abbrev pub end_at : End → LinePlan → ℕ
 end_at From line = line.from
 end_at To line = line.to
 
-abbrev pub way_at : End → ℕ → VlId → Direction → Option Way
+abbrev pub way_at : End → ℕ → VlId → LinePlan → Option Way
 way_at From node vl line = out_at node vl line
 way_at To node vl line = in_at node vl line

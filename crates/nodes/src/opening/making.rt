@@ -15,7 +15,7 @@ use crate::transit::Transit;
 use crate::vl_end::VlEnd;
 use bag_regulator::BagRegulator;
 use integrity::Integrity;
-use netdesc::{Policing, VirtualLink};
+use netdesc::{GREATEST_PORTS, Policing, VirtualLink};
 use policer::{Account, Measure};
 use redundancy::Redundancy;
 use std::alloc::{AllocError, Global};
@@ -113,13 +113,13 @@ fn port_priority(priority: netdesc::Priority) -> output_port::Priority
 }
 
 /// The ports of the virtual link with this number.
-fn ports_among(meetings: &[Meeting], vl: VlId) -> [bool; 24]
+fn ports_among(meetings: &[Meeting], vl: VlId) -> [bool; GREATEST_PORTS]
     requires { IsRising (map number_met meetings.now) }
     ensures { result ≡ ports_among meetings.now vl.0 }
 {
     match place_of(meetings, vl) {
         Some(place) => meetings[place].ports,
-        None => [false; 24],
+        None => [false; GREATEST_PORTS],
     }
 }
 

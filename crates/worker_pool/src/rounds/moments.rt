@@ -60,7 +60,7 @@ impl Moments {
     }
 
     /// GVT is this moment, in ns. The answer is whether it is another one. Its caller has the lock of the exchange.
-    pub(crate) fn set_gvt(&self, gvt_ns: u64) -> bool {
+    pub(crate) fn publish(&self, gvt_ns: u64) -> bool {
         if self.gvt_ns() == gvt_ns {
             return false;
         }

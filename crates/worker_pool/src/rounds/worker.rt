@@ -147,11 +147,11 @@ impl<'s, J: NetworkRun, G: Gate, T: Wait> Worker<'s, J, G, T> {
         let mut exchange = locked_soon(self.rt, self.exchange);
         let shared = &mut exchange.value;
         list_letters(&mut self.letters_ns, &shared.inner, &seat.group);
-        shared.give_block(&mut seat.group)?;
+        shared.post(&mut seat.group)?;
         if let Some(gvt) = shared.passed(waits)? {
-            let _is_new = self.moments.set_gvt(gvt.ns());
+            let _is_new = self.moments.publish(gvt.ns());
         }
-        shared.take_letters(&mut seat.group)?;
+        shared.collect(&mut seat.group)?;
         // A letter in the tray is to be worked on no later than an event of its moment.
         seat.next_ns = seat.next_ns.min(self.moments.taken(number));
         drop(exchange);
@@ -254,7 +254,7 @@ impl<'s, J: NetworkRun, G: Gate, T: Wait> Worker<'s, J, G, T> {
     fn is_to_look_on(&mut self) -> Result<bool, RunFault<J>> {
         self.looks = self.looks.saturating_add(1);
         if self.looks % LOOKS_PER_GVT == 0 {
-            self.set_gvt()?;
+            self.publish()?;
         }
         if self.looks >= LOOKS_BEFORE_REST {
             return Ok(false);
@@ -272,12 +272,12 @@ impl<'s, J: NetworkRun, G: Gate, T: Wait> Worker<'s, J, G, T> {
     }
 
     /// GVT is set, where no other thread is at the exchange.
-    fn set_gvt(&self) -> Result<(), RunFault<J>> {
+    fn publish(&self) -> Result<(), RunFault<J>> {
         let Some(mut exchange) = self.exchange.try_lock() else {
             return Ok(());
         };
-        let gvt = exchange.value.set_gvt()?;
-        let is_new = self.moments.set_gvt(gvt.ns());
+        let gvt = exchange.value.publish()?;
+        let is_new = self.moments.publish(gvt.ns());
         drop(exchange);
         if is_new {
             self.moments.turned();

@@ -21,5 +21,5 @@ pub returns : goal.returns
 returns c =
     let arriving = c.deref.ensures.value ∙ c.in_ok-arriving.ensures.meetings in
     let departing = c.deref-2.ensures.value ∙ c.in_ok-departing.ensures.meetings in
-    c.new.ensures ∙ switch-made c.args.network.now c.args.node c.args.latency_ns c.args.bytes c.accepted.ensures _ refl
+    c.new.ensures ∙ switch-made c.args.network.now c.args.node c.args.latency_ns c.args.bytes c.accepted_law.ensures _ refl
     (c.in_ok-transits_of.ensures ∙ λ i. map (transit_met (departing i)) (arriving i)) c.in_ok-ports_of.ensures

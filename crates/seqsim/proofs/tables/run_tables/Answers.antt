@@ -29,4 +29,4 @@ each-of plan L (Ok tables) some = λ rows r. some.2 ∙ ap (tables_of plan) (sam
 each-of plan L (Err fault) some = some
 
 pub returns-clause-each : goal.returns-clause-each
-returns-clause-each g c = each-of c.args.network.now c.network_laws.ensures c.count_all.result c.count_all.ensures.whole
+returns-clause-each g c = each-of c.args.network.now c.network_law.ensures c.count_all.result c.count_all.ensures.whole

@@ -33,7 +33,7 @@ invariant_of-self-in_err-count_again g c = rw (c.in_ok-reserve.ensures.same, c.i
 
 pub returns-then-is_before-clause-arrived : goal.returns-then-is_before-clause-arrived
 returns-then-is_before-clause-arrived g c opening part h =
-    let R = of-messages g.R.Reversible.plain c.actor_rules.ensures.order c.actor_rules.ensures.undoes in
+    let R = of-messages g.R.Reversible.plain c.actor_rules_law.ensures.order c.actor_rules_law.ensures.undoes in
     let k = rw (← c.self.view_is) at h in
     still-stands R k c.in-Some.letter (search rules) (inr (sym c.if-is_before.ensures)) c.self.inside.tally c.add.new.self _ refl
     (added-same_counts message_order R.messages c.in-Some.letter c.add.new.self c.self.inside.tally c.in_ok-change.ensures.count c.in_ok-change.ensures.others)
@@ -41,12 +41,12 @@ returns-then-is_before-clause-arrived g c opening part h =
 
 pub returns-then-is_before-clause-answer : goal.returns-then-is_before-clause-answer
 returns-then-is_before-clause-answer g c opening part h =
-    let R = of-messages g.R.Reversible.plain c.actor_rules.ensures.order c.actor_rules.ensures.undoes in
+    let R = of-messages g.R.Reversible.plain c.actor_rules_law.ensures.order c.actor_rules_law.ensures.undoes in
     still-answer R (rw (← c.self.view_is) at h) c.in-Some.letter (search rules) (inr (sym c.if-is_before.ensures))
 
 pub invariant_of-self-then-is_before : goal.invariant_of-self-then-is_before
 invariant_of-self-then-is_before g c =
-    let R = of-messages g.R.Reversible.plain c.actor_rules.ensures.order c.actor_rules.ensures.undoes in
+    let R = of-messages g.R.Reversible.plain c.actor_rules_law.ensures.order c.actor_rules_law.ensures.undoes in
     let i = c.self.invariant in
     let l = c.in-Some.letter in
     let t = c.self.inside.tally in
@@ -76,7 +76,7 @@ same g c = subst (λ q. change_by message_order c.in-Some.letter q.queues.tally 
 
 pub returns-then-not-is_toggled-clause-arrived : goal.returns-then-not-is_toggled-clause-arrived
 returns-then-not-is_toggled-clause-arrived g c opening part h =
-    let R = of-messages g.R.Reversible.plain c.actor_rules.ensures.order c.actor_rules.ensures.undoes in
+    let R = of-messages g.R.Reversible.plain c.actor_rules_law.ensures.order c.actor_rules_law.ensures.undoes in
     let k = rw (← c.self.view_is) at h in
     still-stands R k c.in-Some.letter (search rules) (inl (same g c)) c.self.inside.tally c.add-then-not-is_toggled.new.self _ refl
     (added-same_counts message_order R.messages c.in-Some.letter c.add-then-not-is_toggled.new.self c.self.inside.tally c.in_ok-add.ensures.count c.in_ok-add.ensures.others)
@@ -84,12 +84,12 @@ returns-then-not-is_toggled-clause-arrived g c opening part h =
 
 pub returns-then-not-is_toggled-clause-answer : goal.returns-then-not-is_toggled-clause-answer
 returns-then-not-is_toggled-clause-answer g c opening part h =
-    let R = of-messages g.R.Reversible.plain c.actor_rules.ensures.order c.actor_rules.ensures.undoes in
+    let R = of-messages g.R.Reversible.plain c.actor_rules_law.ensures.order c.actor_rules_law.ensures.undoes in
     still-answer R (rw (← c.self.view_is) at h) c.in-Some.letter (search rules) (inl (same g c))
 
 pub invariant_of-self-then-not-is_toggled : goal.invariant_of-self-then-not-is_toggled
 invariant_of-self-then-not-is_toggled g c =
-    let O = c.actor_rules.ensures.order in
+    let O = c.actor_rules_law.ensures.order in
     let i = c.self.invariant in
     let l = c.in-Some.letter in
     let done = c.self.inside.past.done in
@@ -118,7 +118,7 @@ count_again-requires-clause-within g c =
 
 pub count_again-requires-clause-not_owed : goal.count_again-requires-clause-not_owed
 count_again-requires-clause-not_owed g c m j =
-    let R = of-messages g.R.Reversible.plain c.actor_rules.ensures.order c.actor_rules.ensures.undoes in
+    let R = of-messages g.R.Reversible.plain c.actor_rules_law.ensures.order c.actor_rules_law.ensures.undoes in
     not-owed R c.self.invariant.2 m c.self.inside.tally refl j
 
 pub roll_back-undone-requires-clause-some : goal.roll_back-undone-requires-clause-some
@@ -131,7 +131,7 @@ toggled g c = subst (λ q. change_by message_order c.in-Some.letter q.queues.tal
 
 pub returns-clause-arrived : goal.returns-clause-arrived
 returns-clause-arrived g c opening part h =
-    let R = of-messages g.R.Reversible.plain c.actor_rules.ensures.order c.actor_rules.ensures.undoes in
+    let R = of-messages g.R.Reversible.plain c.actor_rules_law.ensures.order c.actor_rules_law.ensures.undoes in
     let k = rw (← c.self.view_is) at h in
     let first : slice_get c.self.inside.tray.items 0 ≡ Some c.in-Some.letter = search rules in
     let b = tallied-belongs R k c.in-Some.letter first in
@@ -141,7 +141,7 @@ returns-clause-arrived g c opening part h =
 
 pub returns-clause-answer : goal.returns-clause-answer
 returns-clause-answer g c opening part h =
-    let R = of-messages g.R.Reversible.plain c.actor_rules.ensures.order c.actor_rules.ensures.undoes in
+    let R = of-messages g.R.Reversible.plain c.actor_rules_law.ensures.order c.actor_rules_law.ensures.undoes in
     let k = rw (← c.self.view_is) at h in
     let first : slice_get c.self.inside.tray.items 0 ≡ Some c.in-Some.letter = search rules in
     let b = tallied-belongs R k c.in-Some.letter first in
@@ -149,7 +149,7 @@ returns-clause-answer g c opening part h =
 
 pub invariant_of-self-2 : goal.invariant_of-self-2
 invariant_of-self-2 g c =
-    let R = of-messages g.R.Reversible.plain c.actor_rules.ensures.order c.actor_rules.ensures.undoes in
+    let R = of-messages g.R.Reversible.plain c.actor_rules_law.ensures.order c.actor_rules_law.ensures.undoes in
     let i = c.self.invariant in
     let stands = returns-clause-arrived g c i.0 i.1 (rw (← c.self.view_is) i.2) in (
       i.0,

@@ -11,9 +11,9 @@ pub invariant_of-self-2 : goal.invariant_of-self-2
 invariant_of-self-2 g c =
     let i = c.self.invariant in
     let taken = take c.min-count.result (letters_for c.args.process c.args.mail.now) in
-    (i.0, delivered_all taken i.1, delivered_all-stands taken i.2 (rw (c.take_letters.ensures.tray, c.reserve.ensures.items) refl), i.3)
+    (i.0, delivered_all taken i.1, delivered_all-stands taken i.2 (rw (c.collect_letters.ensures.tray, c.reserve.ensures.items) refl), i.3)
 
 pub returns-clause-delivered : goal.returns-clause-delivered
 returns-clause-delivered g c = λ opening part h.
     let k = rw (← c.self.view_is) at h in
-    delivered_all-stands (take c.min-count.result (letters_for c.args.process c.args.mail.now)) k (rw (c.take_letters.ensures.tray, c.reserve.ensures.items) refl)
+    delivered_all-stands (take c.min-count.result (letters_for c.args.process c.args.mail.now)) k (rw (c.collect_letters.ensures.tray, c.reserve.ensures.items) refl)

@@ -34,7 +34,7 @@ returns-clause-handled g c = λ opening part h. sym c.in-Some.is ∙ c.next.ensu
 pub returns-clause-ran : goal.returns-clause-ran
 returns-clause-ran g c = λ opening part h.
     let r = rules_of g.R.Reversible.plain in
-    let R = of-messages g.R.Reversible.plain c.actor_rules.ensures.order c.actor_rules.ensures.undoes in
+    let R = of-messages g.R.Reversible.plain c.actor_rules_law.ensures.order c.actor_rules_law.ensures.undoes in
     let k = rw (← c.self.view_is) at h in
     let m = c.in-Some.message in
     let t = c.self.inside.tally in
@@ -50,7 +50,7 @@ invariant_of-self g c = rw (c.in_err-handle.ensures.unchanged, c.in_err-handle.e
 
 pub invariant_of-self-2 : goal.invariant_of-self-2
 invariant_of-self-2 g c =
-    let R = of-messages g.R.Reversible.plain c.actor_rules.ensures.order c.actor_rules.ensures.undoes in
+    let R = of-messages g.R.Reversible.plain c.actor_rules_law.ensures.order c.actor_rules_law.ensures.undoes in
     let i = c.self.invariant in
     let stands = returns-clause-ran g c i.0 i.1 (rw (← c.self.view_is) i.2) in (
       i.0,

@@ -14,7 +14,7 @@ invariant_of-self g c = rw c.in_err-reserve_if_zero.ensures.same c.self.invarian
 
 pub returns-in_err-reserve_if_zero-clause-refused : goal.returns-in_err-reserve_if_zero-clause-refused
 returns-in_err-reserve_if_zero-clause-refused g c = err-gives c.from_residual.result (λ opening part h.
-    let R = of-messages g.R.Reversible.plain c.actor_rules.ensures.order c.actor_rules.ensures.undoes in
+    let R = of-messages g.R.Reversible.plain c.actor_rules_law.ensures.order c.actor_rules_law.ensures.undoes in
     let k = rw (← c.self.view_is) at h in
     (seals R k c.self.inside.tally refl c.in-Some.event.now (sym c.oldest.ensures ∙ ap option_copied c.in-Some.is)).0 c.in_err-reserve_if_zero.ensures.zero)
 
@@ -23,7 +23,7 @@ invariant_of-self-then-not-is_zero g c = rw c.in_ok-reserve_if_zero.ensures.same
 
 pub returns-then-not-is_zero-clause-answer : goal.returns-then-not-is_zero-clause-answer
 returns-then-not-is_zero-clause-answer g c = λ opening part h.
-    let R = of-messages g.R.Reversible.plain c.actor_rules.ensures.order c.actor_rules.ensures.undoes in
+    let R = of-messages g.R.Reversible.plain c.actor_rules_law.ensures.order c.actor_rules_law.ensures.undoes in
     let k = rw (← c.self.view_is) at h in
     let not_one = (seals R k c.self.inside.tally refl c.in-Some.event.now (sym c.oldest.ensures ∙ ap option_copied c.in-Some.is)).1 in
     sym (not_one (λ zero. let bad = c.if-not-is_zero.ensures.1 zero in cc))
@@ -40,13 +40,13 @@ forget_oldest-noted-requires g c =
 
 pub returns-clause-answer : goal.returns-clause-answer
 returns-clause-answer g c opening part h =
-    let R = of-messages g.R.Reversible.plain c.actor_rules.ensures.order c.actor_rules.ensures.undoes in
+    let R = of-messages g.R.Reversible.plain c.actor_rules_law.ensures.order c.actor_rules_law.ensures.undoes in
     let k = rw (← c.self.view_is) at h in
     sym ((seals R k c.self.inside.tally refl c.in-Some.event.now (sym c.oldest.ensures ∙ ap option_copied c.in-Some.is)).0 (c.if-not-is_zero.ensures.0 refl))
 
 pub returns-clause-sealed : goal.returns-clause-sealed
 returns-clause-sealed g c opening part h =
-    let R = of-messages g.R.Reversible.plain c.actor_rules.ensures.order c.actor_rules.ensures.undoes in
+    let R = of-messages g.R.Reversible.plain c.actor_rules_law.ensures.order c.actor_rules_law.ensures.undoes in
     let k = rw (← c.self.view_is) at h in
     let first = first-done k c.in-Some.event.now (sym c.oldest.ensures ∙ ap option_copied c.in-Some.is) in
     let noted = c.from.ensures ∙ c.forget_oldest-noted.ensures.noted _ first.0 _ _ first.2 in
@@ -57,7 +57,7 @@ returns-clause-sealed g c opening part h =
 
 pub invariant_of-self-2 : goal.invariant_of-self-2
 invariant_of-self-2 g c =
-    let R = of-messages g.R.Reversible.plain c.actor_rules.ensures.order c.actor_rules.ensures.undoes in
+    let R = of-messages g.R.Reversible.plain c.actor_rules_law.ensures.order c.actor_rules_law.ensures.undoes in
     let i = c.self.invariant in
     let sealed = returns-clause-sealed g c i.0 i.1 (rw (← c.self.view_is) i.2) in
     (i.0, commit_oldest (rules_of g.R.Reversible.plain) i.1, sealed, i.3 ∙ sym (next-kept R i.2 sealed))

@@ -13,7 +13,7 @@ invariant_of-result g c =
     record {
       of_run = ∣ none-gathered plan owners _ _ _ c.requires.each (c.until.ensures.value ∙ ap (λ (p : Plan). p.until) c.requires.network)
           (subst (λ n. AreGrouped (process_count plan) n owners) c.requires.each c.requires.grouped)
-          (λ rows r. c.segments_of_rows.ensures.none _ _ _ (λ n. rows_of_group owners n rows)) c.in_ok-gather.gather c.in_ok-gather.ensures ∣₁;
-      lawful = ∣ subst HasLawfulRows c.requires.network c.lawful_rows.ensures ∣₁;
+          (λ rows r. c.segments_of_rows_law.ensures.none _ _ _ (λ n. rows_of_group owners n rows)) c.in_ok-gather.gather c.in_ok-gather.ensures ∣₁;
+      lawful = ∣ subst HasLawfulRows c.requires.network c.rows_law.ensures ∣₁;
       known = tt;
     }

@@ -9,7 +9,7 @@ invariant_of-result-clause-of_run g c =
     c.new.result c.new.ensures ∣₁
 
 pub invariant_of-result-clause-lawful : goal.invariant_of-result-clause-lawful
-invariant_of-result-clause-lawful g c = ∣ subst HasLawfulRows c.requires.network c.lawful_rows.ensures ∣₁
+invariant_of-result-clause-lawful g c = ∣ subst HasLawfulRows c.requires.network c.rows_law.ensures ∣₁
 
 pub invariant_of-result-clause-known : goal.invariant_of-result-clause-known
 invariant_of-result-clause-known g c = tt
