@@ -1,7 +1,7 @@
 -- What error output heard of a run, as its host tells it.
 use Rattle.std.proofs.Common.{◌≡◌, ◌∙◌, ℕ, Bool, true, false, List, Option, refl, sym, ap, subst, arith, flat_map}
 use Rattle.std.specs.Io.KnownBytes.{append_known}
-use Rattle.netdesc.specs.Words.{Plan}
+use Rattle.network.specs.Words.{Plan}
 use Rattle.afdxsim.specs.MoreProgress.{asked_none}
 use Rattle.afdxsim.specs.Orders.{IsHeard, heard_host}
 use Rattle.afdxsim.specs.Outside.{IsHost, Outside}

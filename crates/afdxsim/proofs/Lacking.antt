@@ -3,7 +3,7 @@ use Rattle.std.proofs.Common.{◌≡◌, ◌∙◌, ◌⊎◌, ◌≢◌, inl, i
 use Rattle.std.specs.Io.KnownBytes.{append_known}
 use Rattle.vlink.specs.Letters.{Row}
 use Rattle.virtual_time.specs.declared.step.Step.{Step}
-use Rattle.netdesc.specs.Words.{Plan}
+use Rattle.network.specs.Words.{Plan}
 use Rattle.journal_text.specs.Text.{steps_text}
 use Rattle.seqsim.specs.Networks.{AreRowsOf}
 use Rattle.trace_segments.specs.Words.{IsBeginning, trace_text}

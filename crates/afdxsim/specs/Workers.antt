@@ -2,7 +2,7 @@
 use Rattle.std.specs.Prelude.{◌≡◌, ℕ, List, Option, None, Some}
 use Rattle.std.specs.Borrow.{Bor}
 use Rattle.virtual_time.specs.declared.step.Step.{Step}
-use Rattle.netdesc.specs.Words.{Plan, process_count}
+use Rattle.network.specs.Words.{Plan, process_count}
 use Rattle.journal_text.specs.Text.{steps_text}
 use Rattle.journal.specs.declared.fault.PoolFault.{PoolFault}
 use Rattle.journal.specs.declared.fault.PoolFault.TheVariants as pool

@@ -4,7 +4,7 @@ ghost use Rattle.std.specs.Prelude.{◌≡◌, ◌⊎◌, List, IfOk, IfErr, str
 ghost use Rattle.vlink.specs.Letters.{Row};
 ghost use Rattle.virtual_time.specs.declared.step.Step.{Step};
 ghost use Rattle.virtual_time.specs.Law.{IsFinished};
-ghost use Rattle.netdesc.specs.Words.{Plan};
+ghost use Rattle.network.specs.Words.{Plan};
 ghost use Rattle.nodes.specs.Words.{simulation_of};
 ghost use Rattle.trace_tables.specs.Tables.{tables_of};
 ghost use Rattle.seqsim.specs.Networks.{AreRowsOf};
@@ -16,7 +16,7 @@ ghost use Rattle.afdxsim.specs.Replaying.{counts_text, finish_text, summary_text
 
 use crate::fault::Fault;
 use crate::journal_steps::{done, steps_of};
-use netdesc::Network;
+use network::Network;
 use std::alloc::{AllocError, Global};
 use timewarp::{Replay, World};
 use trace_tables::Tables;

@@ -3,7 +3,7 @@ ghost use Rattle.std.specs.Prelude.{◌≡◌, ◌≢◌, ◌⊎◌, ℕ, false,
 ghost use Rattle.command_line.specs.declared.orders.Order.TheVariants as ordered;
 ghost use Rattle.journal_text.specs.Text.{steps_text};
 ghost use Rattle.trace_tables.specs.Text.{tables_text};
-ghost use Rattle.netdesc.specs.Words.{process_count};
+ghost use Rattle.network.specs.Words.{process_count};
 ghost use Rattle.worker_pool.specs.Outcomes.{CanWantWorkers};
 ghost use Rattle.worker_pool.specs.Runs.{IsJournalAsked};
 ghost use Rattle.afdxsim.specs.declared.fault.Fault.TheVariants.{CannotWrite};
@@ -20,7 +20,7 @@ use crate::seq::show_tables;
 use crate::steps::write_steps;
 use crate::workers::{fault_of_trace, found_by_workers, pace_of, traced};
 use command_line::Run;
-use netdesc::Network;
+use network::Network;
 use std::alloc::Global;
 use std::sync::Wait;
 use std::thread::Threads;

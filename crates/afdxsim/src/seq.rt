@@ -15,7 +15,7 @@ use crate::fault::Fault;
 use crate::host::{FileFault, Host};
 use crate::progress::{Asked, Progress, asked_of};
 use command_line::Seq;
-use netdesc::Network;
+use network::Network;
 use seqsim::{Finished, run, run_tables};
 use std::alloc::Global;
 use std::time::Clock;

@@ -1,7 +1,7 @@
 //! A run by workers: its tables, and what else is asked for.
 ghost use Rattle.std.specs.Prelude.{◌≡◌, ◌≢◌, ◌+◌, List, IfErr, IfOk, OnOk};
 ghost use Rattle.vlink.specs.Letters.{Row};
-ghost use Rattle.netdesc.specs.Words.{process_count};
+ghost use Rattle.network.specs.Words.{process_count};
 ghost use Rattle.trace_segments.specs.declared.fault.OutFault.TheVariants.{Device};
 ghost use Rattle.trace_segments.specs.declared.trace_fault.TraceFault.TheVariants.{Out};
 ghost use Rattle.trace_segments.specs.Words.{IsBeginning, trace_text};
@@ -17,7 +17,7 @@ ghost use Rattle.afdxsim.specs.Workers.{fault_of_trace, IsFaultOfPool};
 use crate::fault::Fault;
 use crate::progress::{Asked, Progress};
 use command_line::Run;
-use netdesc::Network;
+use network::Network;
 use std::alloc::Global;
 use std::sync::Wait;
 use std::thread::Threads;

@@ -3,10 +3,11 @@ use Rattle.std.proofs.Common.{◌≡◌, ℕ, suc, ◌+◌, ◌*◌, Bool, true,
 use Rattle.std.specs.List.{list_any}
 use Rattle.std.proofs.lemmas.Bool.{false≢true}
 use Rattle.std.proofs.lemmas.Bool.Decides.{nat_tests}
-use Rattle.netdesc.specs.declared.wiring.Link.{Link}
-use Rattle.netdesc.specs.declared.wiring.LinePlan.{LinePlan}
-use Rattle.netdesc.specs.Words.{each_after, place_by, Plan, NodePlan, goes, joins, is_linked, is_no_link, link_between, port_at, directions, lines_of, line_at, line_between, Faces}
-use Rattle.netdesc.proofs.PlaceLemmas.{is_some-place_by}
+use Rattle.network.specs.declared.wiring.Link.{Link}
+use Rattle.network.specs.declared.wiring.LinePlan.{LinePlan}
+use Rattle.network.specs.Words.{each_after, place_by, Plan, NodePlan, goes, joins, is_linked, is_no_link, link_between, port_at, directions, lines_of, line_at, line_between}
+use Rattle.netdesc.specs.Words.{Faces}
+use Rattle.network.proofs.PlaceLemmas.{is_some-place_by}
 use Rattle.netdesc.proofs.JoinLemmas.{goes-true, ||-flip, link_between-flip}
 use Rattle.netdesc.proofs.HopLemmas.{or-left, or-right}
 

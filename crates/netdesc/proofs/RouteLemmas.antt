@@ -4,9 +4,10 @@ use Rattle.std.proofs.lemmas.Option.{none-some, same_Some}
 use Rattle.std.proofs.lemmas.Bool.Decides.{nat_tests}
 use Rattle.vlink.specs.declared.frame.Net.{Net}
 use Rattle.vlink.specs.declared.frame.VlId.{VlId}
-use Rattle.netdesc.specs.declared.wiring.LinePlan.{LinePlan}
-use Rattle.netdesc.specs.declared.wiring.Way.{Way}
-use Rattle.netdesc.specs.Words.{Plan, VlPlan, all_hops, lines_of, line_between, lines_over, route_over, out_at, in_at, ways_over, leaves, comes_in, arrivals_of, departures_of, IsInput, IsOutput, Precedes, Faces, FacesPredecessor, FacesSuccessor, IsArrival, IsDeparture}
+use Rattle.network.specs.declared.wiring.LinePlan.{LinePlan}
+use Rattle.network.specs.declared.wiring.Way.{Way}
+use Rattle.network.specs.Words.{Plan, VlPlan, all_hops, lines_of, line_between, lines_over, route_over, out_at, in_at, ways_over, leaves, comes_in, arrivals_of, departures_of}
+use Rattle.netdesc.specs.Words.{IsInput, IsOutput, Precedes, Faces, FacesPredecessor, FacesSuccessor, IsArrival, IsDeparture}
 use Rattle.netdesc.proofs.MemberLemmas.{Has, has-from_contains, contains-from_has, has-option, option-has, has-flat_map, flat_map-has, has-rising, rising-has}
 use Rattle.netdesc.proofs.HopLemmas.{hop, hop-of-both, both-of-hop}
 use Rattle.netdesc.proofs.JoinLemmas.{link_between-flip}

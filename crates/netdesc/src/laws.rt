@@ -1,14 +1,14 @@
 //! Where the virtual links of a network are configured, and which list is a rising one.
 ghost use Rattle.std.specs.Prelude.{ℕ, ◌≡◌, ◌↔◌, true, List, Contains};
 ghost use Rattle.vlink.specs.declared.frame.Net.{Net};
-ghost use Rattle.netdesc.specs.declared.wiring.Way.{Way};
-ghost use Rattle.netdesc.specs.Plan.{VlPlan};
-ghost use Rattle.netdesc.specs.Wiring.{is_end_system};
-ghost use Rattle.netdesc.specs.Trees.{IsRisingOf, rising};
-ghost use Rattle.netdesc.specs.Lines.{arrivals_of, departures_of};
+ghost use Rattle.network.specs.declared.wiring.Way.{Way};
+ghost use Rattle.network.specs.Plan.{VlPlan};
+ghost use Rattle.network.specs.Wiring.{is_end_system};
+ghost use Rattle.network.specs.Trees.{IsRisingOf, rising};
+ghost use Rattle.network.specs.Lines.{arrivals_of, departures_of};
 ghost use Rattle.netdesc.specs.PortLaws.{IsInput, IsOutput, FacesPredecessor, FacesSuccessor, IsArrival, IsDeparture, GoesThrough, ExactlyOne, Precedes, Faces, port_for};
 
-use crate::network::Network;
+use network::Network;
 
 /// The ports at which a virtual link is configured at a node are those that its paths say: it comes in just at the ports that face the
 /// node's predecessor on a path, and leaves just by those that face a successor; what `arrivals` and `departures` tell of a node is just

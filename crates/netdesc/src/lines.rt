@@ -2,15 +2,16 @@
 ghost use Rattle.std.specs.Prelude.{◌≡◌, ℕ, ◌+◌, ◌*◌, ◌^◌, ◌<◌, ◌≤◌, [], ◌∷◌, ◌++◌, length, map, filter, cond, All, vec_len, string_bytes, IfOk, OnOk, IfErr};
 ghost use Rattle.network_rows.specs.declared.fault.DescFault.TheVariants.{OutOfMemory};
 ghost use Rattle.vlink.specs.declared.frame.Net.TheVariants.{A};
-ghost use Rattle.netdesc.specs.Rows.{each};
-ghost use Rattle.netdesc.specs.Plan.{node_plan};
-ghost use Rattle.netdesc.specs.Wiring.{is_end_system, is_switch_of};
-ghost use Rattle.netdesc.specs.Lines.{both, directions, line_between, node_name, line_name, is_outage_of};
-ghost use Rattle.netdesc.specs.Code.Views.{outages_at};
+ghost use Rattle.network.specs.Rows.{each};
+ghost use Rattle.network.specs.Plan.{node_plan};
+ghost use Rattle.network.specs.Wiring.{is_end_system, is_switch_of};
+ghost use Rattle.network.specs.Lines.{both, directions, line_between, node_name, line_name, is_outage_of};
+ghost use Rattle.network.specs.Code.Views.{outages_at};
 
+use crate::kinds::{is_end_system, is_switch_of};
 use crate::links::{Joined, count_link, no_counts};
 use crate::tables::{no_lists, put};
-use crate::wiring::{LinePlan, Link, Outage, is_end_system, is_switch_of};
+use network::{LinePlan, Link, Outage};
 use network_rows::{DescFault, NodeRow};
 use std::alloc::{AllocError, Global};
 use vlink::Net;

@@ -3,24 +3,24 @@ ghost use Rattle.std.specs.Prelude.{◌≡◌, ◌++◌, map, IsPermutation, Mat
 ghost use Rattle.network_rows.specs.declared.fault.DescFault.TheVariants.{OutOfMemory};
 ghost use Rattle.std.specs.List.Sorted.{IsNonDecreasing};
 ghost use Rattle.network_rows.specs.Within.{AreWithin};
-ghost use Rattle.netdesc.specs.Rows.{each};
-ghost use Rattle.netdesc.specs.Plan.{node_plan};
-ghost use Rattle.netdesc.specs.Faults.{faults_of, double_names, not_links, not_trees, too_many, double_at_node, double_at_link, double_at_vl, Tells};
+ghost use Rattle.network.specs.Rows.{each};
+ghost use Rattle.network.specs.Plan.{node_plan};
+ghost use Rattle.network.specs.Faults.{faults_of, double_names, not_links, not_trees, too_many, double_at_node, double_at_link, double_at_vl, Tells};
 ghost use Rattle.netdesc.specs.Code.Finding.{Finds};
-ghost use Rattle.netdesc.specs.Accepted.{ids_of, IsPlanOf};
+ghost use Rattle.network.specs.Accepted.{ids_of, IsPlanOf};
 ghost use Rattle.netdesc.specs.Description.{HasNoFault, TellsFaultOf, Describes};
 ghost use Rattle.netdesc.specs.Code.RowLists.{row_lists_of, row_lists_in, plan_in};
 ghost use Rattle.netdesc.specs.Code.Views.{Gives};
 
 use crate::double;
 use crate::links::Joined;
+use crate::making::network_with;
 use crate::names::Names;
-use crate::network::Network;
 use crate::no_link::check_no_link;
 use crate::no_tree::check_no_tree;
-use crate::plan::{Numbered, Routed};
 use crate::too_many::check_too_many;
 use crate::unknown::number_rows;
+use network::{Network, Numbered, Routed};
 use network_rows::{DescFault, Rows, read_rows};
 use std::alloc::Global;
 
@@ -45,7 +45,7 @@ fn network_of(alloc: Global, rows: Rows) -> Result<Network, DescFault>
 {
     let mut numbered = numbered_of(alloc, &rows)?;
     sort_vls(&mut numbered.vls)?;
-    Network::new(
+    network_with(
         alloc,
         rows.until,
         rows.seed,

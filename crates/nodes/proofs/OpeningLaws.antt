@@ -1,8 +1,8 @@
 -- Each process of an accepted network begins as the law of virtual time asks: its delays are at least 1 ns, and it sends to processes.
 use Rattle.std.proofs.Common.{◌≡◌, ℕ, zero, suc, ◌+◌, ◌-◌, ◌<◌, ◌≤◌, Bool, true, false, cond, List, [], ◌∷◌, map, length, Option, Some, None, All, refl, ap, sym, ◌∙◌, subst, arith, slice_get, IfSome, filter, not, option_map}
 use Rattle.nodes.specs.declared.source.Source.{Source}
-use Rattle.netdesc.specs.declared.wiring.Way.{Way}
-use Rattle.netdesc.specs.Words.{is_none, Plan, NodePlan, VlPlan, IsAccepted, lines_of, process_count}
+use Rattle.network.specs.declared.wiring.Way.{Way}
+use Rattle.network.specs.Words.{is_none, Plan, NodePlan, VlPlan, IsAccepted, lines_of, process_count}
 use Rattle.nodes.specs.declared.opening.meeting.Side.TheVariants.{Out}
 use Rattle.nodes.specs.Words.{ways_at, with_ways, leaves_by, wire_among, wires_of, outlet_of, ports_of, source_of, node_opening, equipment_opening, line_opening, opening, AllWires, IsPlacedEquipment, IsPlaced, IsWiredEquipment, IsWired}
 use Rattle.std.specs.List.{AllByRecursion, range_with_len}
@@ -10,11 +10,11 @@ use Rattle.std.proofs.lemmas.List.Elements.{All-from_recursion}
 use Rattle.std.proofs.lemmas.Option.{slice_get_within, none-some}
 use Rattle.network_rows.specs.declared.rows.NodeKind.{NodeKind}
 use Rattle.network_rows.specs.declared.rows.NodeKind.TheVariants as kind
-use Rattle.netdesc.specs.declared.wiring.LinePlan.{LinePlan}
-use Rattle.netdesc.specs.declared.too_many.TheConstants.{GREATEST_PORTS}
-use Rattle.netdesc.proofs.BuildLemmas.{line-read, length-lines}
-use Rattle.netdesc.proofs.PortLemmas.{line-within}
-use Rattle.netdesc.proofs.LimitLemmas.{kind-read, link-read}
+use Rattle.network.specs.declared.wiring.LinePlan.{LinePlan}
+use Rattle.network.specs.declared.limits.TheConstants.{GREATEST_PORTS}
+use Rattle.network.proofs.BuildLemmas.{line-read, length-lines}
+use Rattle.network.proofs.PortLemmas.{line-within}
+use Rattle.network.proofs.LimitLemmas.{kind-read, link-read}
 use Rattle.nodes.specs.declared.ports.Wire.{Wire}
 use Rattle.nodes.specs.declared.equipment.Equipment.TheVariants as equipment
 

@@ -5,12 +5,12 @@ use Rattle.std.specs.List.Sorted.{IsStrictlySortedBy}
 use Rattle.std.proofs.lemmas.Bool.Decides.{nat_tests}
 use Rattle.std.proofs.lemmas.List.Elements.{All-from_recursion}
 use Rattle.std.proofs.lemmas.Map.Keys.{sorted_head, sorted_tail, sorted_from_strictly_increasing}
-use Rattle.netdesc.specs.declared.too_many.TheConstants.{GREATEST_PORTS}
-use Rattle.netdesc.specs.declared.wiring.LinePlan.{LinePlan}
-use Rattle.netdesc.specs.declared.wiring.Way.{Way}
-use Rattle.netdesc.specs.Words.{Plan, VlPlan, IsAccepted, ids_of, is_none, lines_of, out_at, in_at, ways_over, route_over, place_of_vl}
-use Rattle.netdesc.proofs.PortLemmas.{line-within}
-use Rattle.netdesc.proofs.RisingLemmas.{ids-rise}
+use Rattle.network.specs.declared.limits.TheConstants.{GREATEST_PORTS}
+use Rattle.network.specs.declared.wiring.LinePlan.{LinePlan}
+use Rattle.network.specs.declared.wiring.Way.{Way}
+use Rattle.network.specs.Words.{Plan, VlPlan, IsAccepted, ids_of, is_none, lines_of, out_at, in_at, ways_over, route_over, place_of_vl}
+use Rattle.network.proofs.PortLemmas.{line-within}
+use Rattle.network.proofs.RisingLemmas.{ids-rise}
 use Rattle.nodes.specs.declared.opening.meeting.Side.{Side}
 use Rattle.nodes.specs.declared.opening.meeting.Side.TheVariants.{Out, In}
 use Rattle.nodes.specs.Words.{ways_at, with_ways, first_port, ports_by, meeting, meetings, IsRising, number_met, met, met_by, vl_with, all_met}

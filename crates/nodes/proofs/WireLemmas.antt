@@ -1,9 +1,9 @@
 -- The wires of a node's ports, one line more.
 use Rattle.std.proofs.Common.{◌≡◌, ℕ, ◌+◌, ◌<◌, ◌&&◌, Bool, true, false, cond, is_none, List, [], ◌∷◌, ◌++◌, length, take, Option, Some, None, refl, ap, sym, ◌∙◌, arith, slice_get, length-take-le}
 use Rattle.std.proofs.lemmas.Option.{slice_get_within, get_or_from_slice_get}
-use Rattle.netdesc.specs.declared.wiring.LinePlan.{LinePlan}
-use Rattle.netdesc.proofs.PlaceLemmas.{or_else, or_else-stored}
-use Rattle.netdesc.proofs.EachLemmas.{take-read}
+use Rattle.network.specs.declared.wiring.LinePlan.{LinePlan}
+use Rattle.network.proofs.PlaceLemmas.{or_else, or_else-stored}
+use Rattle.network.proofs.EachLemmas.{take-read}
 use Rattle.nodes.specs.declared.ports.Wire.{Wire}
 use Rattle.nodes.specs.Words.{leaves_by, wire_among}
 

@@ -6,7 +6,7 @@ ghost use Rattle.reverse.specs.Sending.{replied};
 ghost use Rattle.nodes.specs.rules.Line.{carried, is_within, line};
 ghost use Rattle.reverse.specs.declared.sends.TheConstants.{MOST_SENT};
 
-use netdesc::Outage;
+use network::Outage;
 use reverse::Outbound;
 use std::marker::Model;
 use vlink::{Body, Cause, Frame, Message, Time};

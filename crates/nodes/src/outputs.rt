@@ -1,10 +1,10 @@
 //! The output ports of a virtual link at a switch.
 ghost use Rattle.std.specs.Prelude.{◌≡◌, ◌≤◌, length};
 ghost use Rattle.nodes.specs.rules.Outputs.{marked_from};
-ghost use Rattle.netdesc.specs.declared.too_many.TheConstants.{GREATEST_PORTS};
+ghost use Rattle.network.specs.declared.limits.TheConstants.{GREATEST_PORTS};
 
 use arrayvec::ArrayVec;
-use netdesc::GREATEST_PORTS;
+use network::GREATEST_PORTS;
 use std::marker::Model;
 
 /// The output ports of a virtual link at a switch. They stand also in a list, so that a frame goes to each without a look at the others.

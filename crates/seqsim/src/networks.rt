@@ -4,7 +4,7 @@ ghost use Rattle.reverse.specs.Setting.{IsLaidOut};
 ghost use Rattle.nodes.specs.Words.{IsPlaced, simulation_of};
 ghost use Rattle.seqsim.specs.Networks.{setting_of};
 
-use netdesc::Network;
+use network::Network;
 use nodes::{Node, NodeRecord};
 use reverse::{actor_law, actor_rules_law};
 use traffic::offers_law;

@@ -4,14 +4,14 @@ ghost use Rattle.vlink.specs.Order.{message_order};
 ghost use Rattle.vlink.specs.Letters.{Row};
 ghost use Rattle.virtual_time.specs.Law.{rowed, rows_at, one, IsFinished};
 ghost use Rattle.virtual_time.specs.declared.step.Step.{Step};
-ghost use Rattle.netdesc.specs.Words.{process_count};
+ghost use Rattle.network.specs.Words.{process_count};
 ghost use Rattle.nodes.specs.Words.{opening, simulation_of};
 ghost use Rattle.trace_segments.specs.Words.{gathered, AreInMessageOrder, rows_of_event};
 ghost use Rattle.seqsim.specs.Committed.{after, AreCommittedRows};
 ghost use Rattle.seqsim.specs.Networks.{AreRowsOf};
 
 use crate::networks::network_law;
-use netdesc::Network;
+use network::Network;
 use nodes::{Node, NodeRecord};
 use trace_tables::rows_by_place_law;
 use virtual_time::headline_law;

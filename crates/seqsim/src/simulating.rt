@@ -1,7 +1,7 @@
 //! The run of a network.
 ghost use Rattle.std.specs.Prelude.{◌≡◌, ℕ, Err, OnOk, IfOk};
 ghost use Rattle.reverse.specs.Setting.{AreInStates};
-ghost use Rattle.netdesc.specs.Words.{process_count};
+ghost use Rattle.network.specs.Words.{process_count};
 ghost use Rattle.nodes.specs.Words.{opening, simulation_of};
 ghost use Rattle.trace_tables.specs.Tables.{tables_of};
 ghost use Rattle.actor_run.specs.declared.fault.SimFault.TheVariants.{Exhausted};
@@ -10,7 +10,7 @@ ghost use Rattle.seqsim.specs.Networks.{AreRowsOf};
 
 use crate::networks::network_law;
 use actor_run::{SimFault, Watch, run_actors};
-use netdesc::Network;
+use network::Network;
 use nodes::Node;
 use std::alloc::{AllocError, Global};
 use trace_tables::Tables;

@@ -11,7 +11,7 @@ use crate::counted::Counted;
 use crate::networks::network_law;
 use crate::simulating::nodes_of;
 use actor_run::{SimFault, Waiting, Watch, handle_all};
-use netdesc::Network;
+use network::Network;
 use nodes::Node;
 use std::alloc::Global;
 use trace_tables::Tables;

@@ -14,7 +14,7 @@ ghost use Rattle.timewarp.specs.Replaying.{did, not_enabled, refused};
 use crate::laws::world_law;
 use crate::replaying::Replay;
 use actor_world::StepFault;
-use netdesc::Network;
+use network::Network;
 use std::alloc::Global;
 use vlink::Step;
 

@@ -3,11 +3,11 @@ ghost use Rattle.std.specs.Prelude.{ℕ, ◌≡◌, ◌<◌, ◌≤◌, List, �
 ghost use Rattle.vlink.specs.declared.message.Message.{Message};
 ghost use Rattle.virtual_time.specs.Law.{rowed, rows_at, IsAscending, IsIn, earlier, times_in, made, IsBelow, one, events, IsNamed, Safe, history, CountLaw, NothingBefore, IsFinished, IsWhole};
 ghost use Rattle.virtual_time.specs.declared.step.Step.{Step};
-ghost use Rattle.netdesc.specs.Words.{process_count};
+ghost use Rattle.network.specs.Words.{process_count};
 ghost use Rattle.nodes.specs.Words.{opening, simulation_of};
 ghost use Rattle.seqsim.specs.Committed.{after};
 
-use netdesc::Network;
+use network::Network;
 use nodes::{Node, NodeRecord};
 use seqsim::network_law;
 use virtual_time::headline_law;

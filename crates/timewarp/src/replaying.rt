@@ -13,7 +13,7 @@ ghost use Rattle.timewarp.specs.Replayed.{IsReplayed};
 use crate::laws::world_law;
 use crate::world::World;
 use actor_world::{Done, StepFault};
-use netdesc::Network;
+use network::Network;
 use std::alloc::Global;
 use vlink::Step;
 

@@ -5,7 +5,7 @@ ghost use Rattle.virtual_time.specs.declared.step.Step.TheVariants.{Gvt};
 ghost use Rattle.virtual_time.specs.Law.{IsLeft, undo_all, is_enabled, IsFinished};
 ghost use Rattle.virtual_time.specs.declared.step.Step.{Step};
 ghost use Rattle.antimessages.specs.Steps.{names_none};
-ghost use Rattle.netdesc.specs.Words.{process_count};
+ghost use Rattle.network.specs.Words.{process_count};
 ghost use Rattle.nodes.specs.Words.{opening, simulation_of};
 ghost use Rattle.actor_world.specs.declared.done.Done.TheVariants.{Did};
 ghost use Rattle.actor_world.specs.declared.fault.StepFault.TheVariants.{NoProcess, OutOfMemory, Exhausted};
@@ -15,7 +15,7 @@ ghost use Rattle.timewarp.specs.Networks.{IsAfter};
 
 use crate::laws::world_law;
 use actor_world::{ActorWorld, Done, StepFault};
-use netdesc::Network;
+use network::Network;
 use nodes::Node;
 use seqsim::{layout_law, nodes_of};
 use std::alloc::Global;

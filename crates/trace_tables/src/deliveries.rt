@@ -1,13 +1,13 @@
 //! Latencies by destination.
 ghost use Rattle.std.specs.Prelude.{◌≡◌, ◌-◌, ◌^◌, ◌<◌, [], map, IfOk, OnOk};
 ghost use Rattle.std.specs.List.Sorted.{IsStrictlyIncreasing};
-ghost use Rattle.netdesc.specs.Words.{ids_of};
+ghost use Rattle.network.specs.Words.{ids_of};
 ghost use Rattle.trace_tables.specs.Destinations.{destination, counts_in, with_destinations, with_latency_at};
 ghost use Rattle.trace_tables.specs.Tables.{latency_table};
 
 use crate::destination::{Destination, destination_order_law};
 use crate::latencies::Latencies;
-use netdesc::Network;
+use network::Network;
 use std::alloc::{AllocError, Global};
 use std::collections::BTreeMap;
 use vlink::VlId;

@@ -4,7 +4,7 @@ ghost use Rattle.trace_tables.specs.Losses.{count_in, with_loss, with_losses};
 ghost use Rattle.trace_segments.specs.Words.{is_in_network};
 
 use crate::loss::{Loss, loss_order_law};
-use netdesc::Network;
+use network::Network;
 use std::alloc::AllocError;
 use std::collections::BTreeMap;
 use trace_segments::is_in_network;

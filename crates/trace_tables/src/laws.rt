@@ -5,7 +5,7 @@ ghost use Rattle.std.specs.List.Sorted.{IsStrictlySortedBy};
 ghost use Rattle.std.specs.Map.{keys_of, values_of};
 ghost use Rattle.virtual_time.specs.Law.{rows_at};
 ghost use Rattle.vlink.specs.Letters.{Row};
-ghost use Rattle.netdesc.specs.Words.{Plan};
+ghost use Rattle.network.specs.Words.{Plan};
 ghost use Rattle.trace_tables.specs.declared.loss.Loss.{Loss};
 ghost use Rattle.trace_segments.specs.Words.{gathered};
 ghost use Rattle.trace_tables.specs.Counting.{times_lost, times_delivered};

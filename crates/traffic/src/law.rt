@@ -3,11 +3,11 @@ ghost use Rattle.std.specs.Prelude.{ℕ, ◌<◌, ◌≤◌, ◌↔◌};
 ghost use Rattle.vlink.specs.declared.message.Message.{Message};
 ghost use Rattle.virtual_time.specs.Law.{Simulation};
 ghost use Rattle.network_rows.specs.declared.rows.VirtualLink.{VirtualLink};
-ghost use Rattle.netdesc.specs.Words.{IsLinkInLimits};
+ghost use Rattle.network.specs.Words.{IsLinkInLimits};
 ghost use Rattle.traffic.specs.Offers.{due_of, due_count};
 ghost use Rattle.traffic.specs.Lawful.{IsOfNetwork, HasLawfulOffers};
 
-use netdesc::Network;
+use network::Network;
 
 /// What the law of virtual time asks of offers: each is there once, comes from no process, goes to a process, and is not
 /// after the end. It holds of every simulation with the messages, processes, end and offers of a network, whatever its

@@ -8,7 +8,7 @@ use Rattle.std.proofs.lemmas.List.{get_or-set_same, get_or-set_other}
 use Rattle.std.proofs.lemmas.List.Elements.{filter-append}
 use Rattle.virtual_time.specs.Law.{rows_at}
 use Rattle.vlink.specs.Letters.{Row}
-use Rattle.netdesc.specs.Words.{Plan}
+use Rattle.network.specs.Words.{Plan}
 use Rattle.group_exchange.specs.Rows.{rows_of_group}
 use Rattle.group_exchange.specs.Views.{is_number, is_of}
 use Rattle.trace_segments.specs.Words.{rows_within, rows_before, BatchRows}

@@ -6,7 +6,7 @@ use Rattle.std.proofs.Props.{props}
 use Rattle.std.proofs.lemmas.Grind.{common_steps}
 use Rattle.virtual_time.specs.Law.{rows_at}
 use Rattle.vlink.specs.Letters.{Row}
-use Rattle.netdesc.specs.Words.{Plan, process_count}
+use Rattle.network.specs.Words.{Plan, process_count}
 use Rattle.trace_segments.specs.declared.fault.OutFault.{OutFault}
 use Rattle.trace_segments.specs.declared.fault.OutFault.TheVariants.{Device, OutOfMemory, Layout}
 use Rattle.trace_segments.specs.declared.segment_fault.SegmentFault.TheVariants.{Gap}

@@ -3,7 +3,7 @@ use Rattle.std.proofs.Common.{◌≡◌, ◌∙◌, ℕ, zero, suc, List, [], �
 use Rattle.std.specs.List.{repeat}
 use Rattle.std.proofs.lemmas.List.{length-map}
 use Rattle.vlink.specs.Letters.{Row}
-use Rattle.netdesc.specs.Words.{Plan, process_count}
+use Rattle.network.specs.Words.{Plan, process_count}
 use Rattle.group_exchange.specs.Keeps.{AreGrouped}
 use Rattle.group_exchange.specs.Rows.{rows_of_group}
 use Rattle.trace_segments.specs.Words.{IsOfRows, Gathering, no_segments, segment_fault, with_segment, Waits, Gives, rows_within, SegmentRows, BatchRows}

@@ -9,7 +9,7 @@ use Rattle.vlink.specs.Letters.{Row}
 use Rattle.virtual_time.specs.Law.{rows_of, rowed, rows_at, least, Simulation, Laws, one, handle}
 use Rattle.virtual_time.proofs.Least.{least-some}
 use Rattle.virtual_time.proofs.OneThread.{right, nothing_outside}
-use Rattle.netdesc.specs.Words.{Plan, process_count}
+use Rattle.network.specs.Words.{Plan, process_count}
 use Rattle.nodes.specs.declared.node.NodeRecord.{NodeRecord}
 use Rattle.nodes.specs.Words.{NodeState, simulation_of}
 use Rattle.trace_segments.specs.Words.{AreInMessageOrder, AreAtReceivers}

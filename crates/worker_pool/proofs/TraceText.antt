@@ -7,7 +7,7 @@ use Rattle.std.proofs.lemmas.List.Concat.{flat_map-append}
 use Rattle.std.proofs.lemmas.List.Elements.{filter-append}
 use Rattle.std.proofs.Math.Seq.{take-append_seam, take-append-add}
 use Rattle.vlink.specs.Letters.{Row}
-use Rattle.netdesc.specs.Words.{Plan}
+use Rattle.network.specs.Words.{Plan}
 use Rattle.trace_segments.specs.Words.{rows_within, rows_before, rows_from, IsBeginning, trace_head, trace_line, trace_text, next_text}
 use Rattle.trace_segments.proofs.TimeLemmas.{none-before}
 use Rattle.worker_pool.specs.Traces.{text_before}

@@ -4,7 +4,7 @@ use Rattle.std.specs.Prelude.{⊤}
 use Rattle.std.specs.Io.KnownBytes.{append_known}
 use Rattle.std.proofs.lemmas.Grind.{common_steps}
 use Rattle.vlink.specs.Letters.{Row}
-use Rattle.netdesc.specs.Words.{Plan}
+use Rattle.network.specs.Words.{Plan}
 use Rattle.trace_segments.specs.declared.fault.OutFault.{OutFault}
 use Rattle.trace_segments.specs.declared.fault.OutFault.TheVariants as out
 use Rattle.trace_segments.specs.declared.fault.OutFault.TheVariants.{Device}

@@ -3,7 +3,7 @@ use Rattle.std.proofs.Common.{◌≡◌, ◌≢◌, ◌∙◌, ℕ, ◌+◌, ◌
 use Rattle.std.specs.Io.KnownBytes.{append_known}
 use Rattle.std.proofs.lemmas.Grind.{common_steps}
 use Rattle.vlink.specs.Letters.{Row}
-use Rattle.netdesc.specs.Words.{Plan}
+use Rattle.network.specs.Words.{Plan}
 use Rattle.trace_segments.specs.declared.fault.OutFault.{OutFault}
 use Rattle.trace_segments.specs.declared.fault.OutFault.TheVariants.{Device, OutOfMemory, Layout}
 use Rattle.trace_segments.specs.declared.trace_fault.TraceFault.{TraceFault}

@@ -5,7 +5,7 @@ use Rattle.vlink.specs.Order.{message_order}
 use Rattle.vlink.specs.Numbering.{greatest_number}
 use Rattle.virtual_time.specs.Law.{Part, next_of}
 use Rattle.virtual_time.specs.declared.step.Step.{Step}
-use Rattle.netdesc.specs.Words.{Plan, process_count}
+use Rattle.network.specs.Words.{Plan, process_count}
 use Rattle.nodes.specs.Words.{NodeState, simulation_of}
 use Rattle.nodes.specs.declared.node.NodeRecord.{NodeRecord}
 use Rattle.journal.specs.declared.fault.PoolFault.{PoolFault}

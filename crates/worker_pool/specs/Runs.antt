@@ -2,7 +2,7 @@
 use Rattle.std.specs.Prelude.{◌≡◌, ◌<◌, ◌≤◌, ℕ, Bool, true, false, List, [], length, slice_get, Some}
 use Rattle.virtual_time.specs.declared.step.Step.{Step}
 use Rattle.virtual_time.specs.Law.{IsFinished}
-use Rattle.netdesc.specs.Words.{Plan, process_count}
+use Rattle.network.specs.Words.{Plan, process_count}
 use Rattle.nodes.specs.Words.{NodeState, simulation_of}
 use Rattle.nodes.specs.declared.node.NodeRecord.{NodeRecord}
 use Rattle.group_exchange.specs.Views.{GroupState, in_group, is_of}

@@ -5,7 +5,7 @@ use Rattle.std.specs.Io.KnownBytes.{append_known}
 use Rattle.virtual_time.specs.Law.{rows_at}
 use Rattle.group_exchange.specs.Rows.{rows_of_group}
 use Rattle.vlink.specs.Letters.{Row}
-use Rattle.netdesc.specs.Words.{Plan, process_count}
+use Rattle.network.specs.Words.{Plan, process_count}
 use Rattle.trace_segments.specs.Words.{IsOfRows, Gathering, rows_within, rows_before, AreInMessageOrder, AreAtReceivers, BatchRows, IsBeginning, trace_text, WrittenTrace}
 use Rattle.seqsim.specs.Networks.{AreRowsOf}
 use Rattle.group_exchange.specs.Keeps.{AreGrouped}

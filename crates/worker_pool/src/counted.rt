@@ -7,7 +7,7 @@ use crate::rounds::seat::NetworkGroup;
 use crate::row_tables::RowTables;
 use crate::rows_law::rows_law;
 use crate::run_batch::RunBatch;
-use netdesc::Network;
+use network::Network;
 use std::alloc::{AllocError, Global};
 use std::marker::PhantomData;
 use trace_tables::batches_in_order_law;

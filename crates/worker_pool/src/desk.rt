@@ -2,7 +2,7 @@
 ghost use Rattle.std.specs.Prelude.{◌≡◌, ◌≢◌, ◌<◌, ◌⊎◌, ℕ, None, Some, Ok, Err, IsOk, OnOk, IfOk, IfErr, IfSome, IfNone, OnErr, length};
 ghost use Rattle.vlink.specs.declared.time.TheConstants.{GREATEST_NS};
 ghost use Rattle.std.proofs.Props.{props};
-ghost use Rattle.netdesc.specs.Words.{process_count};
+ghost use Rattle.network.specs.Words.{process_count};
 ghost use Rattle.journal.specs.declared.fault.PoolFault.TheVariants as pool;
 ghost use Rattle.trace_segments.specs.declared.segment_fault.SegmentFault.{SegmentFault};
 ghost use Rattle.trace_segments.specs.declared.segment_fault.SegmentFault.TheVariants.{OutOfMemory};
@@ -20,7 +20,7 @@ use crate::run_batch::RunBatch;
 use crate::run_fault::RunFault;
 use crossbeam_channel::{SendError, Sender};
 use journal::PoolFault;
-use netdesc::Network;
+use network::Network;
 use std::alloc::{AllocError, Global};
 use std::sync::{Mutex, Wait};
 use trace_tables::{Gather, Segment, SegmentFault, batches_in_order_law, segments_of_rows_law};

@@ -1,6 +1,6 @@
 //! The end of a run: one thread has all in hand, and gives turns until everything is committed.
 ghost use Rattle.std.specs.Prelude.{◌≡◌, ◌≢◌, ◌<◌, ℕ, true, [], length, slice_get, Some, IsTrue, IfErr, OnOk};
-ghost use Rattle.netdesc.specs.Words.{process_count};
+ghost use Rattle.network.specs.Words.{process_count};
 ghost use Rattle.nodes.specs.Words.{NodeState, simulation_of};
 ghost use Rattle.nodes.specs.declared.node.NodeRecord.{NodeRecord};
 ghost use Rattle.journal.specs.declared.fault.PoolFault.TheVariants.{Spawn};
@@ -18,7 +18,7 @@ use crate::run_fault::RunFault;
 use crate::shared::Shared;
 use exchange::Gate;
 use group_exchange::GroupExchange;
-use netdesc::Network;
+use network::Network;
 use nodes::Node;
 use std::sync::Wait;
 use vlink::Time;

@@ -8,7 +8,7 @@ use crate::network_run::{NetworkRun, Of};
 use crate::rounds::seat::NetworkGroup;
 use group_exchange::{GroupExchange, Pairs};
 use journal::{PoolFault, Table};
-use netdesc::Network;
+use network::Network;
 use nodes::Node;
 use seqsim::{layout_law, nodes_of};
 use std::alloc::Global;

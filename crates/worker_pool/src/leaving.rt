@@ -8,7 +8,7 @@ use crate::desk::TraceLock;
 use crate::network_run::NetworkRun;
 use crate::rounds::seat::NetworkGroup;
 use crate::run_fault::RunFault;
-use netdesc::Network;
+use network::Network;
 use std::sync::{Mutex, Wait};
 use trace_tables::SegmentFault;
 

@@ -8,7 +8,7 @@ use std::marker::{Brand, PhantomData};
 /// and which groups. It has no bytes, and who calls at `Brand` picks all of them.
 pub trait NetworkRun {
     ghost use Rattle.std.specs.Prelude.{ℕ, Bool, List};
-    ghost use Rattle.netdesc.specs.Words.{Plan};
+    ghost use Rattle.network.specs.Words.{Plan};
 
     /// The network that is simulated.
     ghost plan: { Plan };

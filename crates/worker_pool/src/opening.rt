@@ -1,6 +1,6 @@
 //! The exchange of a network at the start.
 ghost use Rattle.std.specs.Prelude.{◌≡◌, ℕ, ◌<◌, ◌≤◌, ◌^◌, [], replicate, length, slice_get, Some, is_some, IfOk, IfErr};
-ghost use Rattle.netdesc.specs.Words.{process_count};
+ghost use Rattle.network.specs.Words.{process_count};
 ghost use Rattle.nodes.specs.Words.{opening};
 ghost use Rattle.journal.specs.declared.fault.PoolFault.TheVariants.{OutOfMemory};
 ghost use Rattle.exchange.specs.Views.{blank, opened_held};
@@ -8,7 +8,7 @@ ghost use Rattle.exchange.specs.Views.{blank, opened_held};
 use crate::network_run::{NetworkRun, Of};
 use exchange::{Exchange, Held, Pairs};
 use journal::{PoolFault, Table};
-use netdesc::Network;
+use network::Network;
 use nodes::Node;
 use seqsim::{layout_law, nodes_of};
 use std::alloc::Global;

@@ -13,7 +13,7 @@ use crate::ending::Unlocked;
 use crate::network_run::NetworkRun;
 use crate::rows_law::rows_law;
 use journal::PoolFault;
-use netdesc::Network;
+use network::Network;
 use nodes::{Node, NodeRecord};
 use seqsim::{network_law, rows_by_process_law};
 use std::alloc::{AllocError, Global};

@@ -3,7 +3,7 @@ ghost use Rattle.std.specs.Prelude.{◌≡◌, [], ◌++◌, map, IfOk, OnOk};
 ghost use Rattle.trace_tables.specs.Tables.{tables_of};
 
 use crate::network_run::NetworkRun;
-use netdesc::Network;
+use network::Network;
 use std::alloc::{AllocError, Global};
 use std::marker::{Model, PhantomData};
 use std::snapshot::Snapshot;

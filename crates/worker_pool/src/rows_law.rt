@@ -2,7 +2,7 @@
 ghost use Rattle.vlink.specs.Order.{message_order};
 ghost use Rattle.worker_pool.specs.Traces.{HasLawfulRows};
 
-use netdesc::Network;
+use network::Network;
 use seqsim::network_law;
 use vlink::message_order_law;
 

@@ -1,6 +1,6 @@
 //! The run of a network by workers.
 ghost use Rattle.std.specs.Prelude.{◌≡◌, true, [], length, is_some, IsTrue, IfOk, IfErr, IfSome};
-ghost use Rattle.netdesc.specs.Words.{process_count};
+ghost use Rattle.network.specs.Words.{process_count};
 ghost use Rattle.journal.specs.declared.fault.PoolFault.TheVariants.{Exhausted, Spawn};
 ghost use Rattle.trace_tables.specs.Tables.{tables_of};
 ghost use Rattle.seqsim.specs.Networks.{AreRowsOf};
@@ -21,7 +21,7 @@ use actor_run::{Unwatched, Watch};
 use exchange::Gate;
 use group_exchange::Pairs;
 use journal::{PoolFault, Table};
-use netdesc::Network;
+use network::Network;
 use std::alloc::{AllocError, Global};
 use std::marker::Brand;
 use std::sync::Wait;

@@ -1,7 +1,7 @@
 //! What is asked of a run beside its trace: its tables, and its steps where they are wanted. No row is listed for it.
 ghost use Rattle.std.specs.Prelude.{◌≡◌, ◌⊎◌, List, length, Err, IfOk, IfErr, IfSome, IfNone};
 ghost use Rattle.vlink.specs.Letters.{Row};
-ghost use Rattle.netdesc.specs.Words.{process_count};
+ghost use Rattle.network.specs.Words.{process_count};
 ghost use Rattle.journal.specs.declared.fault.PoolFault.TheVariants.{OutOfMemory, Exhausted, Spawn, Torn};
 ghost use Rattle.trace_tables.specs.Tables.{tables_of};
 ghost use Rattle.seqsim.specs.Networks.{AreRowsOf};
@@ -19,7 +19,7 @@ use actor_run::Watch;
 use exchange::Gate;
 use group_exchange::Pairs;
 use journal::PoolFault;
-use netdesc::Network;
+use network::Network;
 use std::alloc::Global;
 use std::marker::Brand;
 use std::sync::Wait;

@@ -1,6 +1,6 @@
 //! Threads that give turns to processes.
 ghost use Rattle.std.specs.Prelude.{◌≡◌, ◌+◌, ◌<◌, IfErr, IfOk, Err, Some, length, slice_get};
-ghost use Rattle.netdesc.specs.Words.{process_count};
+ghost use Rattle.network.specs.Words.{process_count};
 ghost use Rattle.journal.specs.declared.fault.PoolFault.TheVariants.{Spawn};
 ghost use Rattle.worker_pool.specs.Outcomes.{CanWantWorkers, IsToldOf};
 
@@ -20,7 +20,7 @@ use crate::shared::Shared;
 use actor_run::Watch;
 use exchange::Gate;
 use journal::PoolFault;
-use netdesc::Network;
+use network::Network;
 use std::alloc::{AllocError, Global};
 use std::sync::atomic::{AtomicBool, Ordering};
 use std::sync::{Mutex, Wait};

@@ -16,7 +16,7 @@ use crate::rows_law::rows_law;
 use crate::run_batch::RunBatch;
 use crate::trace_run::TraceRun;
 use crossbeam_channel::Receiver;
-use netdesc::Network;
+use network::Network;
 use std::alloc::Global;
 use std::marker::PhantomData;
 use std::sync::Wait;

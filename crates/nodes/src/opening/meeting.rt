@@ -2,15 +2,15 @@
 //! Ways are taken together by virtual link here alone: only rising numbers tell where the next virtual link begins.
 ghost use Rattle.std.specs.Prelude.{◌≡◌, ◌<◌, ◌≤◌, ◌++◌, ◌∷◌, All, length, map, take, drop, IfOk, OnOk};
 ghost use Rattle.std.specs.List.{flat_map};
-ghost use Rattle.netdesc.specs.declared.too_many.TheConstants.{GREATEST_PORTS};
-ghost use Rattle.netdesc.specs.Words.{IsLinkInLimits};
+ghost use Rattle.network.specs.declared.limits.TheConstants.{GREATEST_PORTS};
+ghost use Rattle.network.specs.Words.{IsLinkInLimits};
 ghost use Rattle.nodes.specs.rules.Finding.{IsRising};
 ghost use Rattle.nodes.specs.rules.Meeting.{ports_by, ways_at, meetings};
 ghost use Rattle.nodes.specs.laws.Grouping.{groups, met, all_met};
 ghost use Rattle.nodes.specs.laws.Making.{number_met};
 
 use crate::finding::Numbered;
-use netdesc::{GREATEST_PORTS, Network, VirtualLink, Way};
+use network::{GREATEST_PORTS, Network, VirtualLink, Way};
 use std::alloc::{AllocError, Global};
 
 /// Whether virtual links leave a node or come in.

@@ -1,11 +1,11 @@
 //! Which line each port leads into.
 ghost use Rattle.std.specs.Prelude.{◌≡◌, ℕ, ◌+◌, ◌<◌, ◌&&◌, None, Some, is_none, if◌then◌else◌, length, slice_index_or, vec_len, IfOk};
 ghost use Rattle.std.specs.Option.{option_map};
-ghost use Rattle.netdesc.specs.Words.{lines_of};
+ghost use Rattle.network.specs.Words.{lines_of};
 ghost use Rattle.nodes.specs.rules.Opening.{leaves_by, wires_of, outlet_of, ports_of};
 
 use crate::ports::{Outlet, Ports, Wire};
-use netdesc::{LinePlan, Network};
+use network::{LinePlan, Network};
 use output_port::Port;
 use std::alloc::{AllocError, Global};
 

@@ -17,7 +17,7 @@ use crate::run_fault::RunFault;
 use crate::shared::Shared;
 use exchange::Gate;
 use group_exchange::GroupExchange;
-use netdesc::Network;
+use network::Network;
 use nodes::Node;
 use std::hint;
 use std::sync::atomic::{AtomicBool, Ordering};

@@ -1,5 +1,5 @@
 use Rattle.std.proofs.Common.{◌≡◌, ℕ, ◌<◌, ◌++◌, drop, vec_len, filter}
-use Rattle.netdesc.specs.Words.{is_outage_of, outages_at}
+use Rattle.network.specs.Words.{is_outage_of, outages_at}
 use Rattle.netdesc.proofs.lines.outage_table.Given as goal
 
 abbrev pub invariant-loop-outage : goal.invariant-loop-outage

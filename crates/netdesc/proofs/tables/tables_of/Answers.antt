@@ -1,6 +1,6 @@
 use Rattle.std.proofs.Common.{◌≡◌, ◌<◌, length, map, ap, ◌∙◌, arith}
 use Rattle.std.proofs.lemmas.List.{length-map}
-use Rattle.netdesc.specs.Words.{each, node_plan, directions, line_name}
+use Rattle.network.specs.Words.{each, node_plan, directions, line_name}
 use Rattle.netdesc.proofs.tables.tables_of.Goals as goal
 
 pub returns-clause-tables : goal.returns-clause-tables

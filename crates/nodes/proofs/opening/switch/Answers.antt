@@ -1,5 +1,5 @@
 use Rattle.std.proofs.Common.{List, map, refl, ap, sym, ◌∙◌, subst, All}
-use Rattle.netdesc.specs.Words.{IsLinkInLimits}
+use Rattle.network.specs.Words.{IsLinkInLimits}
 use Rattle.nodes.specs.declared.opening.meeting.Meeting.{Meeting}
 use Rattle.nodes.specs.Words.{IsRising, transit_number, number_met, transit_met}
 use Rattle.nodes.proofs.MakingLemmas.{transit-numbers}

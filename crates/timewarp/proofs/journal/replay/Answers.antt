@@ -1,6 +1,6 @@
 use Rattle.std.proofs.Common.{◌≡◌, Err, map, take, subst}
 use Rattle.std.proofs.lemmas.Result.{err_from_is_err_and}
-use Rattle.netdesc.specs.Words.{Plan}
+use Rattle.network.specs.Words.{Plan}
 use Rattle.nodes.specs.Words.{simulation_of}
 use Rattle.actor_world.specs.declared.fault.StepFault.TheVariants.{Exhausted}
 use Rattle.actor_world.specs.Worlds.{IsExhausted}

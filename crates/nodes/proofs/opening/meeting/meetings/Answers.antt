@@ -1,7 +1,7 @@
 use Rattle.std.proofs.Common.{◌≡◌, ℕ, ◌<◌, List, map, ap, sym, ◌∙◌, subst, All, IfOk, flat_map}
-use Rattle.netdesc.specs.declared.too_many.TheConstants.{GREATEST_PORTS}
-use Rattle.netdesc.specs.declared.wiring.Way.{Way}
-use Rattle.netdesc.specs.Words.{Plan, IsAccepted}
+use Rattle.network.specs.declared.limits.TheConstants.{GREATEST_PORTS}
+use Rattle.network.specs.declared.wiring.Way.{Way}
+use Rattle.network.specs.Words.{Plan, IsAccepted}
 use Rattle.nodes.specs.declared.opening.meeting.Side.{Side}
 use Rattle.nodes.specs.declared.opening.meeting.Meeting.{Meeting}
 use Rattle.nodes.specs.Words.{ways_at, meetings, IsRising, number_met, all_met}

@@ -2,7 +2,7 @@ use Rattle.std.proofs.Common.{◌≡◌, ◌++◌, ◌+◌, ℕ, List, [], map, 
 use Rattle.vlink.specs.Letters.{Row}
 use Rattle.virtual_time.specs.Law.{rowed, Laws}
 use Rattle.virtual_time.specs.declared.step.Step.{Step}
-use Rattle.netdesc.specs.Words.{Plan, process_count}
+use Rattle.network.specs.Words.{Plan, process_count}
 use Rattle.nodes.specs.Words.{IsNodeValue, IsPlaced, simulation_of}
 use Rattle.trace_tables.specs.SoFar.{SoFarLists, IsSoFar}
 use Rattle.trace_tables.specs.Tables.{TableLists, tables_of}

@@ -1,7 +1,7 @@
 use Rattle.std.proofs.Common.{◌∙◌, ◌≢◌, ◌<◌, ℕ, rules, sym, subst, Option, Result, IfSome, IfErr, length}
 use mathlib.Core.Logic.{∥∥₁_elim, ∥∥₁_map, ∥∥₁_map₂}
 use Rattle.std.proofs.Props.{props}
-use Rattle.netdesc.specs.Words.{process_count}
+use Rattle.network.specs.Words.{process_count}
 use Rattle.group_exchange.specs.Rows.{rows_of_group}
 use Rattle.group_exchange.specs.Views.{is_of}
 use Rattle.trace_segments.specs.declared.segment_fault.SegmentFault.{SegmentFault}

@@ -1,5 +1,5 @@
 use Rattle.std.proofs.Common.{◌∙◌, ap}
-use Rattle.netdesc.specs.Words.{Plan}
+use Rattle.network.specs.Words.{Plan}
 use Rattle.worker_pool.proofs.ending.Unlocked.end.Goals as goal
 
 pub is_ended-requires : goal.is_ended-requires

@@ -3,7 +3,7 @@ use Rattle.vlink.specs.declared.message.Message.{Message}
 use Rattle.vlink.specs.Letters.{Row}
 use Rattle.virtual_time.specs.Law.{IsFinished}
 use Rattle.virtual_time.specs.declared.step.Step.{Step}
-use Rattle.netdesc.specs.Words.{Plan}
+use Rattle.network.specs.Words.{Plan}
 use Rattle.nodes.specs.Words.{simulation_of}
 use Rattle.trace_segments.specs.Words.{AreInMessageOrder, rows_of_event}
 use Rattle.seqsim.specs.Committed.{after, AreCommittedRows}

@@ -1,7 +1,7 @@
 use Rattle.std.proofs.Common.{◌≡◌, ◌∙◌, ◌≤◌, ℕ, ◌+◌, List, length, refl, sym, ap, subst, arith, Option, IfSome}
 use Rattle.vlink.specs.Letters.{Row}
 use Rattle.virtual_time.specs.Law.{Laws}
-use Rattle.netdesc.specs.Words.{Plan, process_count}
+use Rattle.network.specs.Words.{Plan, process_count}
 use Rattle.group_exchange.specs.Keeps.{AreGrouped}
 use Rattle.actor_run.proofs.Errors.{ok-weaker}
 use Rattle.trace_tables.specs.Tables.{TableLists, tables_of}

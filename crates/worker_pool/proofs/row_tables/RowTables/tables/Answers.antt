@@ -1,6 +1,6 @@
 use Rattle.std.proofs.Common.{◌≡◌, ◌∙◌, List, map, sym, ap, subst}
 use Rattle.vlink.specs.Letters.{Row}
-use Rattle.netdesc.specs.Words.{Plan}
+use Rattle.network.specs.Words.{Plan}
 use Rattle.trace_tables.specs.SoFar.{IsSoFar}
 use Rattle.trace_tables.specs.Tables.{tables_of}
 use Rattle.worker_pool.proofs.CountedRun.{known-so-far}

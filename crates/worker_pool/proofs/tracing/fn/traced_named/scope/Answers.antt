@@ -2,7 +2,7 @@ use contract.Lifetimes.{Lfts}
 use denote.Param.Send.{IsSend, IsSync, param_send, sendable}
 use Rattle.std.proofs.Crossing.{crosses}
 use Rattle.crossbeam_channel.proofs.channel.Receiver.TheSendSync as receiver
-use Rattle.netdesc.proofs.network.Network.TheSendSync as network
+use Rattle.network.proofs.network.Network.TheSendSync as network
 use Rattle.worker_pool.proofs.Crossing.{counted-send}
 use Rattle.worker_pool.specs.contracts.tracing.fn.traced_named.scope.{S-row, T-row}
 use Rattle.worker_pool.proofs.run_batch.RunBatch.TheSendSync as batch

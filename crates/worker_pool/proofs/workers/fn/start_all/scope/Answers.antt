@@ -3,7 +3,7 @@ use denote.Param.Send.{IsSend, IsSync, param_send, sendable}
 use Rattle.std.proofs.Common.{rules}
 use Rattle.std.proofs.Crossing.{crosses}
 use Rattle.std.proofs.sync.atomic.AtomicBool.TheSendSync as flag
-use Rattle.netdesc.proofs.network.Network.TheSendSync as network
+use Rattle.network.proofs.network.Network.TheSendSync as network
 use Rattle.worker_pool.proofs.Crossing.{leaving-sync, row-sync, shared-send}
 use Rattle.worker_pool.proofs.pace.Pace.TheSendSync as pace
 use Rattle.worker_pool.proofs.rounds.apart.Apart.TheSendSync as apart
