@@ -110,12 +110,12 @@ impl<R: Actor + Drop> ActorWorld<R> {
     }
 
     /// The rows of the committed events of process `process`, in their order.
-    pub fn sealed(&self, process: u32) -> &[Row]
+    pub fn sealed(&self, process: usize) -> &[Row]
         requires { process < length self.now.processes }
         ensures { AtEachWorld (rules_of R.plain) R.number R.end R.is_placed R.is_value self.now
             (λ f w. result.now ≡ rowed f.rules (f.opening process) (w.parts process).committed) }
     {
-        self.processes[process as usize].sealed()
+        self.processes[process].sealed()
     }
 
     /// Undoes all done events of process `process`, the newest first, each by its record, and gives the actor back; none where there is
