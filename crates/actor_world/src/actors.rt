@@ -77,13 +77,6 @@ impl<R: Actor + Drop> ActorWorld<R> {
         })
     }
 
-    /// How many processes there are.
-    pub fn processes(&self) -> usize
-        ensures { result ≡ length self.now.processes }
-    {
-        self.processes.len()
-    }
-
     /// GVT.
     pub fn gvt(&self) -> Time
         ensures { result ≡ self.now.gvt }
@@ -116,21 +109,13 @@ impl<R: Actor + Drop> ActorWorld<R> {
         true
     }
 
-    /// How many events of process `process` are committed.
-    pub fn committed(&self, process: u32) -> u64
-        requires { process < length self.now.processes }
-        ensures { AtEachWorld (rules_of R.plain) R.number R.end R.is_placed R.is_value self.now (λ f w. result ≡ length (w.parts process).committed) }
-    {
-        self.processes[process as usize].committed()
-    }
-
     /// The rows of the committed events of process `process`, in their order.
-    pub fn sealed(&self, process: u32) -> &[Row]
+    pub fn sealed(&self, process: usize) -> &[Row]
         requires { process < length self.now.processes }
         ensures { AtEachWorld (rules_of R.plain) R.number R.end R.is_placed R.is_value self.now
             (λ f w. result.now ≡ rowed f.rules (f.opening process) (w.parts process).committed) }
     {
-        self.processes[process as usize].sealed()
+        self.processes[process].sealed()
     }
 
     /// Undoes all done events of process `process`, the newest first, each by its record, and gives the actor back; none where there is

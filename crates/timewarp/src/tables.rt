@@ -27,7 +27,7 @@ impl World {
         network_law(&self.network);
         let mut tables = TablesSoFar::none(alloc, &self.network)?;
         for process in 0..self.network.process_count() {
-            tables.count(&self.network, self.actors.sealed(process as u32))?;
+            tables.count(&self.network, self.actors.sealed(process))?;
         }
         tables.tables(&self.network)
     }
