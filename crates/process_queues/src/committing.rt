@@ -1,14 +1,14 @@
-//! Before events are committed: how many can be, and room for them.
-ghost use Rattle.std.specs.Prelude.{◌≡◌, ◌<◌, ◌≤◌, ◌+ℤ◌, pos, List, map, take, OnOk, OnErr, IfErr};
+//! Events are committed, the oldest first: how many can be, room for them, and one after another.
+ghost use Rattle.std.specs.Prelude.{◌≡◌, ◌+◌, ◌<◌, ◌≤◌, ◌+ℤ◌, pos, false, true, List, map, take, Ok, OnOk, OnErr, IfOk, IfErr, vec_len, vec_capacity};
 ghost use Rattle.vlink.specs.declared.message.Message.{Message};
-ghost use Rattle.virtual_time.specs.Law.{IsAscending, Part};
+ghost use Rattle.virtual_time.specs.Law.{IsAscending, Part, can_commit, commit_oldest};
 ghost use Rattle.reverse.specs.Rules.{rules_of};
 ghost use Rattle.vlink.specs.Order.{message_order};
 ghost use Rattle.vlink.specs.Letters.{Letter};
 ghost use Rattle.antimessages.specs.Counting.{signed_count};
 ghost use Rattle.process_queues.specs.declared.fault.ProcFault.TheVariants.{OutOfMemory};
 ghost use Rattle.process_queues.specs.Committing.{is_committable, committable};
-ghost use Rattle.process_queues.specs.Queues.{StandsFor, with_done};
+ghost use Rattle.process_queues.specs.Queues.{StandsFor, Does, with_done};
 
 use crate::fault::ProcFault;
 use crate::past::Event;
@@ -41,6 +41,62 @@ impl<R: Actor> Process<R> {
         self.committed.reserve(events)?;
         Ok(())
     }
+
+    /// The oldest done event is committed, where its signed count is just 1: it leaves the done events and the counts, and its rows are
+    /// sealed. The answer is whether there was one. Where there is room for a committed event this takes no memory and succeeds.
+    pub fn seal_oldest(&mut self) -> Result<bool, ProcFault>
+        ensures sealed { OnOk result (Does (rules_of R.plain) R.is_value (λ opening. commit_oldest (rules_of R.plain)) self.old.queues self.new.queues) }
+        ensures answer { IfOk result (λ done. (opening : R) (part : Part Message R) →
+            StandsFor (rules_of R.plain) R.is_value opening part self.old.queues → done ≡ can_commit message_order part part.done) }
+        ensures tray { self.new.queues.tray ≡ self.old.queues.tray }
+        ensures left { self.new.queues.left ≡ self.old.queues.left }
+        ensures outbox { self.new.queues.outbox ≡ self.old.queues.outbox }
+        ensures room { self.old.committed_room ≤ self.new.committed_room + 1 }
+        ensures unchanged { OnErr result (self.new.queues ≡ self.old.queues) }
+        ensures idle { result ≡ Ok false → self.new.queues ≡ self.old.queues }
+        ensures refused { OnErr result ((opening : R) (part : Part Message R) →
+            StandsFor (rules_of R.plain) R.is_value opening part self.old.queues → can_commit message_order part part.done ≡ true) }
+        ensures reserved { OnErr result (self.old.committed_room ≡ 0) }
+        ensures memory { IfErr result (λ fault. fault ≡ OutOfMemory) }
+    {
+        actor_rules_law::<R>();
+        let Some(event) = self.past.oldest() else {
+            return Ok(false);
+        };
+        let message = event.message;
+        reserve_if_zero(&mut self.committed, &self.tally, &message)?;
+        if !self.tally.is_zero(&message) {
+            return Ok(false);
+        }
+        let _rows = self.past.rows().len();
+        let noted = self.past.forget_oldest();
+        self.sealed += usize::from(noted);
+        self.committed.push_reserved(());
+        Ok(true)
+    }
+}
+
+/// Makes room for one committed event more, where the signed count of its message in the tally is 0. A refusal comes only where it is, and
+/// where there was no room. Where there is room the count is not looked for.
+fn reserve_if_zero(
+    committed: &mut Vec<()>,
+    tally: &Tally,
+    message: &Message,
+) -> Result<(), ProcFault>
+    ensures same { committed.new.items ≡ committed.old.items }
+    ensures room { OnOk result (signed_count message_order message.now tally.now ≡ pos 0 → vec_len committed.new < vec_capacity committed.new) }
+    ensures no_less { vec_capacity committed.old ≤ vec_capacity committed.new }
+    ensures zero { OnErr result (signed_count message_order message.now tally.now ≡ pos 0) }
+    ensures full { OnErr result (vec_capacity committed.old ≤ vec_len committed.old) }
+    ensures memory { IfErr result (λ fault. fault ≡ OutOfMemory) }
+{
+    if committed.len() < committed.capacity() {
+        return Ok(());
+    }
+    if tally.is_zero(message) {
+        committed.reserve(1)?;
+    }
+    Ok(())
 }
 
 /// How many of these done events, `most` at most, come before the first one that cannot be committed. The tally is that beside them.

@@ -8,7 +8,7 @@ use Rattle.antimessages.proofs.Agreeing.{added-same_counts}
 use Rattle.antimessages.proofs.Following.{next-same}
 use Rattle.process_queues.specs.Past.{newest_of}
 use Rattle.process_queues.specs.Queues.{with_done}
-use Rattle.process_queues.proofs.Arriving.{tallied-belongs, still-stands, still-answer, back-stands, back-answer}
+use Rattle.process_queues.proofs.Arrivals.{tallied-belongs, still-stands, still-answer, back-stands, back-answer}
 use Rattle.process_queues.proofs.Beside.{with_done-same}
 use Rattle.process_queues.proofs.Counting.{of-messages}
 use Rattle.process_queues.proofs.Done.{before-within}
