@@ -48,9 +48,13 @@ pub record StandsFor {S K : Type 0} (r : Rules Message S K Note) (is_value : S �
   -- the part is one that the law of a process speaks of
   pub well : IsWell r (λ s. ⊤) opening part
 
+-- what holds of each part that the queues stand for, in whatever state it opened
+abbrev pub AtEachPart : {S K : Type 0} → Rules Message S K Note → (S → Message → Type 0) → Queues S K → (S → Part Message S → Type 0) → Type 0
+AtEachPart {S} r is_value q holds = (opening : S) (part : Part Message S) → StandsFor r is_value opening part q → holds opening part
+
 -- whatever the queues stood for before, they stand for what this act makes of it afterwards
 abbrev pub Does : {S K : Type 0} → Rules Message S K Note → (S → Message → Type 0) → (S → Part Message S → Part Message S) → Queues S K → Queues S K → Type 0
-Does {S} r is_value act old new = (opening : S) (part : Part Message S) → StandsFor r is_value opening part old → StandsFor r is_value opening (act opening part) new
+Does r is_value act old new = AtEachPart r is_value old (λ opening part. StandsFor r is_value opening (act opening part) new)
 
 -- the state of the actor
 abbrev pub state_in : {S K : Type 0} → Queues S K → S

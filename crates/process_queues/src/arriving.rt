@@ -1,14 +1,13 @@
 //! A letter arrives: it is tallied, and where it comes late the process rolls back.
 ghost use Rattle.std.specs.Prelude.{map, ◌≡◌, ◌≢◌, [], false, drop, IsTrue, MatchOption, OnOk, OnErr, IfOk, IfErr};
-ghost use Rattle.vlink.specs.declared.message.Message.{Message};
-ghost use Rattle.virtual_time.specs.Law.{Part, arrive, undone_by};
+ghost use Rattle.virtual_time.specs.Law.{arrive, undone_by};
 ghost use Rattle.reverse.specs.Rules.{rules_of};
 ghost use Rattle.vlink.specs.Order.{message_order};
 ghost use Rattle.antimessages.specs.Counting.{change_by, is_after};
 ghost use Rattle.antimessages.specs.declared.tally.Change.TheVariants.{Same};
 ghost use Rattle.process_queues.specs.declared.fault.ProcFault.TheVariants.{OutOfMemory};
 ghost use Rattle.process_queues.specs.Past.{newest_of};
-ghost use Rattle.process_queues.specs.Queues.{StandsFor, Does};
+ghost use Rattle.process_queues.specs.Queues.{AtEachPart, Does};
 
 use crate::fault::ProcFault;
 use crate::process::Process;
@@ -23,8 +22,8 @@ impl<R: Actor> Process<R> {
     /// answer is how many events that undid, or none where the tray is empty.
     pub fn arrive(&mut self) -> Result<Option<u64>, ProcFault>
         ensures arrived { OnOk result (Does (rules_of R.plain) R.is_value (arrive (rules_of R.plain)) self.old.queues self.new.queues) }
-        ensures answer { IfOk result (λ undone. (opening : R) (part : Part Message R) → StandsFor (rules_of R.plain) R.is_value opening part self.old.queues →
-            MatchOption undone (part.tray ≡ []) (λ count. (part.tray ≢ []) × (count ≡ undone_by message_order part part.tray))) }
+        ensures answer { IfOk result (λ undone. AtEachPart (rules_of R.plain) R.is_value self.old.queues
+            (λ opening part. MatchOption undone (part.tray ≡ []) (λ count. (part.tray ≢ []) × (count ≡ undone_by message_order part part.tray)))) }
         ensures tray { OnOk result (self.new.queues.tray ≡ drop 1 self.old.queues.tray) }
         ensures left { self.new.queues.left ≡ self.old.queues.left }
         ensures refused { OnErr result (self.old.queues.tray ≢ []) }

@@ -1,14 +1,14 @@
 //! Events are committed, the oldest first: how many can be, room for them, and one after another.
 ghost use Rattle.std.specs.Prelude.{◌≡◌, ◌+◌, ◌<◌, ◌≤◌, ◌+ℤ◌, pos, false, true, List, map, take, Ok, OnOk, OnErr, IfOk, IfErr, vec_len, vec_capacity};
 ghost use Rattle.vlink.specs.declared.message.Message.{Message};
-ghost use Rattle.virtual_time.specs.Law.{IsAscending, Part, can_commit, commit_oldest};
+ghost use Rattle.virtual_time.specs.Law.{IsAscending, can_commit, commit_oldest};
 ghost use Rattle.reverse.specs.Rules.{rules_of};
 ghost use Rattle.vlink.specs.Order.{message_order};
 ghost use Rattle.vlink.specs.Letters.{Letter};
 ghost use Rattle.antimessages.specs.Counting.{signed_count};
 ghost use Rattle.process_queues.specs.declared.fault.ProcFault.TheVariants.{OutOfMemory};
 ghost use Rattle.process_queues.specs.Committing.{is_committable, committable};
-ghost use Rattle.process_queues.specs.Queues.{StandsFor, Does, with_done};
+ghost use Rattle.process_queues.specs.Queues.{AtEachPart, Does, with_done};
 
 use crate::fault::ProcFault;
 use crate::past::Event;
@@ -23,8 +23,8 @@ impl<R: Actor> Process<R> {
     /// in ns, or whose signed count is not 1. So many can be committed one after another. It takes no memory.
     pub fn committable(&self, moment: Time, most: usize) -> usize
         ensures within { result ≤ most }
-        ensures stands { (opening : R) (part : Part Message R) → StandsFor (rules_of R.plain) R.is_value opening part self.now.queues →
-            result ≡ committable message_order moment part.tally (take most part.done) }
+        ensures stands { AtEachPart (rules_of R.plain) R.is_value self.now.queues
+            (λ opening part. result ≡ committable message_order moment part.tally (take most part.done)) }
     {
         actor_rules_law::<R>();
         committable_of::<R>(&self.tally, moment, self.past.done_events(), most)
@@ -46,16 +46,15 @@ impl<R: Actor> Process<R> {
     /// sealed. The answer is whether there was one. Where there is room for a committed event this takes no memory and succeeds.
     pub fn seal_oldest(&mut self) -> Result<bool, ProcFault>
         ensures sealed { OnOk result (Does (rules_of R.plain) R.is_value (λ opening. commit_oldest (rules_of R.plain)) self.old.queues self.new.queues) }
-        ensures answer { IfOk result (λ done. (opening : R) (part : Part Message R) →
-            StandsFor (rules_of R.plain) R.is_value opening part self.old.queues → done ≡ can_commit message_order part part.done) }
+        ensures answer { IfOk result (λ done. AtEachPart (rules_of R.plain) R.is_value self.old.queues
+            (λ opening part. done ≡ can_commit message_order part part.done)) }
         ensures tray { self.new.queues.tray ≡ self.old.queues.tray }
         ensures left { self.new.queues.left ≡ self.old.queues.left }
         ensures outbox { self.new.queues.outbox ≡ self.old.queues.outbox }
         ensures room { self.old.committed_room ≤ self.new.committed_room + 1 }
         ensures unchanged { OnErr result (self.new.queues ≡ self.old.queues) }
         ensures idle { result ≡ Ok false → self.new.queues ≡ self.old.queues }
-        ensures refused { OnErr result ((opening : R) (part : Part Message R) →
-            StandsFor (rules_of R.plain) R.is_value opening part self.old.queues → can_commit message_order part part.done ≡ true) }
+        ensures refused { OnErr result (AtEachPart (rules_of R.plain) R.is_value self.old.queues (λ opening part. can_commit message_order part part.done ≡ true)) }
         ensures reserved { OnErr result (self.old.committed_room ≡ 0) }
         ensures memory { IfErr result (λ fault. fault ≡ OutOfMemory) }
     {

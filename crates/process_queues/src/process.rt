@@ -11,7 +11,7 @@ ghost use Rattle.vlink.specs.Order.{message_order};
 ghost use Rattle.antimessages.specs.Counting.{signed_count};
 ghost use Rattle.antimessages.specs.Mailing.{letters_for};
 ghost use Rattle.process_queues.specs.declared.fault.ProcFault.TheVariants.{OutOfMemory};
-ghost use Rattle.process_queues.specs.Queues.{StandsFor, Does, rows_there, delivered_all, next_in, state_in};
+ghost use Rattle.process_queues.specs.Queues.{AtEachPart, StandsFor, Does, rows_there, delivered_all, next_in, state_in};
 ghost use Rattle.reverse.specs.declared.sends.TheConstants.{MOST_SENT};
 
 use crate::fault::ProcFault;
@@ -109,8 +109,7 @@ impl<R: Actor> Process<R> {
     /// The signed count of a message: how many plus letters of it arrived, less the minus letters. A committed event's letter does not
     /// count any more.
     pub fn count(&self, message: &Message) -> i128
-        ensures { (opening : R) (part : Part Message R) → StandsFor (rules_of R.plain) R.is_value opening part self.now.queues →
-            result ≡ signed_count message_order message.now part.tally }
+        ensures { AtEachPart (rules_of R.plain) R.is_value self.now.queues (λ opening part. result ≡ signed_count message_order message.now part.tally) }
     {
         actor_rules_law::<R>();
         count_with(&self.tally, message, self.past.has_done(message))
@@ -118,24 +117,22 @@ impl<R: Actor> Process<R> {
 
     /// The moment of the oldest done event, if there is one.
     pub fn oldest(&self) -> Option<Time>
-        ensures { (opening : R) (part : Part Message R) → StandsFor (rules_of R.plain) R.is_value opening part self.now.queues →
-            result ≡ option_map (λ m. m.time) (slice_get part.done 0) }
+        ensures { AtEachPart (rules_of R.plain) R.is_value self.now.queues (λ opening part. result ≡ option_map (λ m. m.time) (slice_get part.done 0)) }
     {
         self.past.oldest_time()
     }
 
     /// How many events are committed.
     pub fn committed(&self) -> u64
-        ensures { (opening : R) (part : Part Message R) → StandsFor (rules_of R.plain) R.is_value opening part self.now.queues →
-            result ≡ length part.committed }
+        ensures { AtEachPart (rules_of R.plain) R.is_value self.now.queues (λ opening part. result ≡ length part.committed) }
     {
         self.committed.len() as u64
     }
 
     /// The rows of the committed events but those that have left, in their order.
     pub fn sealed(&self) -> &[Row]
-        ensures { (opening : R) (part : Part Message R) → StandsFor (rules_of R.plain) R.is_value opening part self.now.queues →
-            result.now ≡ rows_there (rules_of R.plain) opening part self.now.queues }
+        ensures { AtEachPart (rules_of R.plain) R.is_value self.now.queues
+            (λ opening part. result.now ≡ rows_there (rules_of R.plain) opening part self.now.queues) }
     {
         &self.past.rows()[..self.sealed]
     }
@@ -194,8 +191,7 @@ impl<R: Actor> Process<R> {
     /// The message that is handled next: the first present one that is not done, if there is one.
     pub fn next(&self) -> Option<Message>
         ensures next { result ≡ next_in self.now.queues }
-        ensures stands { (opening : R) (part : Part Message R) → StandsFor (rules_of R.plain) R.is_value opening part self.now.queues →
-            result ≡ next_of message_order part }
+        ensures stands { AtEachPart (rules_of R.plain) R.is_value self.now.queues (λ opening part. result ≡ next_of message_order part) }
     {
         actor_rules_law::<R>();
         self.next
@@ -211,16 +207,16 @@ impl<R: Actor> Process<R> {
     /// A moment that nothing in hand is earlier than, as a post sets it: the least time of the tray's letters and of the present messages
     /// that are not done, or the moment after the end.
     pub fn floor(&self) -> Time
-        ensures { (opening : R) (part : Part Message R) → StandsFor (rules_of R.plain) R.is_value opening part self.now.queues →
-            result ≡ floor_of message_order (R.end (state_in self.now.queues)) part }
+        ensures { AtEachPart (rules_of R.plain) R.is_value self.now.queues
+            (λ opening part. result ≡ floor_of message_order (R.end (state_in self.now.queues)) part) }
     {
         floor_of_tray::<R>(&self.tray, self.floor_of_messages())
     }
 
     /// The least time of the present messages that are not done, or the moment after the end.
     fn floor_of_messages(&self) -> Time
-        ensures { (opening : R) (part : Part Message R) → StandsFor (rules_of R.plain) R.is_value opening part self.now.queues →
-            result ≡ floor_of message_order (R.end (state_in self.now.queues)) (record part { tray = [] }) }
+        ensures { AtEachPart (rules_of R.plain) R.is_value self.now.queues
+            (λ opening part. result ≡ floor_of message_order (R.end (state_in self.now.queues)) (record part { tray = [] })) }
     {
         actor_rules_law::<R>();
         let end = Time::new(self.past.actor().until().ns() + 1).unwrap();

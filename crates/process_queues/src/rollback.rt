@@ -5,7 +5,7 @@ ghost use Rattle.vlink.specs.declared.message.Message.{Message};
 ghost use Rattle.virtual_time.specs.Law.{reached, minus_of, Part, rolled_back, undo_all};
 ghost use Rattle.reverse.specs.Rules.{rules_of};
 ghost use Rattle.process_queues.specs.Past.{Rows, IsPastOf, LastDone, BelongsTo, sent_since};
-ghost use Rattle.process_queues.specs.Queues.{StandsFor};
+ghost use Rattle.process_queues.specs.Queues.{AtEachPart};
 ghost use Rattle.process_queues.specs.declared.past.Event.{Event};
 
 use crate::order::is_before;
@@ -99,10 +99,8 @@ impl<R: Actor> Past<R> {
 impl<R: Actor> Process<R> {
     /// Undoes all done events, the newest first, each by its record, and gives the actor back. Nothing is sent.
     pub fn undo_all(self) -> R
-        ensures undone { (opening : R) (part : Part Message R) →
-            StandsFor (rules_of R.plain) R.is_value opening part self.queues → result ≡ undo_all (rules_of R.plain) opening part }
-        ensures committed { (opening : R) (part : Part Message R) →
-            StandsFor (rules_of R.plain) R.is_value opening part self.queues → result ≡ reached (rules_of R.plain) opening part.committed }
+        ensures undone { AtEachPart (rules_of R.plain) R.is_value self.queues (λ opening part. result ≡ undo_all (rules_of R.plain) opening part) }
+        ensures committed { AtEachPart (rules_of R.plain) R.is_value self.queues (λ opening part. result ≡ reached (rules_of R.plain) opening part.committed) }
     {
         let Process { past, .. } = self;
         past.undo_all()
