@@ -1,5 +1,5 @@
 -- What each act of a process makes of the part that its queues stand for.
-use Rattle.std.proofs.Common.{◌≡◌, ℕ, ◌+◌, ◌-◌, ◌≤◌, true, false, cond, List, [], ◌∷◌, ◌++◌, length, map, drop, Some, refl, sym, ap, ◌∙◌, subst, arith, append_assoc, append-nil, length-append, length-drop, drop-drop}
+use Rattle.std.proofs.Common.{◌≡◌, ℕ, ◌+◌, ◌-◌, ◌≤◌, true, false, cond, List, [], ◌∷◌, ◌++◌, length, map, drop, Option, Some, refl, sym, ap, ◌∙◌, subst, arith, append_assoc, append-nil, length-append, length-drop, drop-drop}
 use Rattle.std.specs.Prelude.{⊤}
 use Rattle.std.proofs.lemmas.List.{drop-append-le}
 use Rattle.vlink.specs.declared.message.Message.{Message}
@@ -13,7 +13,7 @@ use Rattle.vlink.specs.Order.{message_order}
 use Rattle.vlink.specs.Letters.{Letter}
 use Rattle.antimessages.specs.Counting.{HaveSameCounts, signed_count}
 use Rattle.process_queues.specs.Past.{Past, Rows, IsPastOf, handled_past}
-use Rattle.process_queues.specs.Queues.{Queues, StandsFor, rows_there, delivered_all, with_done}
+use Rattle.process_queues.specs.Queues.{Queues, InHand, StandsFor, Does, IsStanding, rows_there, delivered_all, next_in, with_done}
 use Rattle.process_queues.proofs.Beside.{with_done-committed}
 use Rattle.process_queues.proofs.Counting.{OfMessages, counts-less}
 use Rattle.process_queues.proofs.Pasts.{past-more, length-rows, messages-of}
@@ -178,3 +178,12 @@ module _ {S K : Type 0} {r : Rules Message S K Note} {is_value : S → Message �
   delivered_all-stands [] {opening} {part} {q} h e = subst (StandsFor r is_value opening part) (sym (e ∙ ap (λ ts. record q { tray = ts }) (append-nil q.tray))) h
   delivered_all-stands (l ∷ ls) {q = q} h e =
       delivered_all-stands ls (delivered-stands h l refl) (e ∙ ap (λ ts. record q { tray = ts }) (sym (append_assoc q.tray (l ∷ []) ls)))
+
+  -- what an act does keeps what always holds of a process: the old one, as it is told, and the queues afterwards, where the message that is kept is the next one then
+  pub keeps : {act : S → Part Message S → Part Message S} {old told : InHand S K} {new : Queues S K} {next next' : Option Message} → old ≡ told →
+      IsStanding r is_value next old.queues → Does r is_value act told.queues new →
+      ((opening : S) (part : Part Message S) → StandsFor r is_value opening part old.queues → StandsFor r is_value opening (act opening part) new → next' ≡ next_in new) →
+      IsStanding r is_value next' new
+  keeps {act} e i does found =
+      let stands = does i.0 i.1 (subst (λ p. StandsFor r is_value i.0 i.1 p.queues) e i.2) in
+      (i.0, act i.0 i.1, stands, found i.0 i.1 i.2 stands)

@@ -1,5 +1,5 @@
 -- A letter of a message that does not come after all done events: whether that is done, and whether the letter makes it present or absent.
-use Rattle.std.proofs.Common.{◌≡◌, ℕ, ◌≤◌, ℤ, inl, inr, Bool, true, false, not, List, map, pos, ◌+ℤ◌, Some, slice_get, refl, sym, ap, ◌∙◌, subst, arith, ◌≢◌, IsTrue}
+use Rattle.std.proofs.Common.{◌≡◌, ℕ, ◌≤◌, ℤ, inl, inr, Bool, true, false, not, List, map, pos, ◌+ℤ◌, Option, Some, slice_get, refl, sym, ap, ◌∙◌, subst, arith, ◌≢◌, IsTrue}
 use Rattle.std.proofs.lemmas.Int.{ints}
 use Rattle.std.proofs.lemmas.Bool.{both_ways, cases_lt}
 use Rattle.vlink.specs.declared.message.Message.{Message}
@@ -115,6 +115,10 @@ module _ {S K : Type 0} {r : Rules Message S K Note} (R : OfMessages r) {is_valu
   next-beside =
       let newest = newest_of (map (λ e. e.message) q.past.done) in
       ap (present_after message_order newest) e ∙ with_done-next R.messages newest t q.past.done (after-none R h)
+
+  -- so it is looked for behind the newest done event
+  pub found-beside : {next newest : Option Message} → next ≡ present_after message_order newest t → newest ≡ newest_of (map (λ e. e.message) q.past.done) → next ≡ next_in q
+  found-beside n w = n ∙ (ap (λ o. present_after message_order o t) w ∙ sym next-beside)
 
   pub beside-present : (m : Message) → next_in q ≡ Some m → IsPresent message_order t m
   beside-present m next = (first_after-is message_order R.messages (newest_of (map (λ e. e.message) q.past.done)) t m (sym next-beside ∙ next)).present

@@ -61,11 +61,12 @@ abbrev pub state_in : {S K : Type 0} → Queues S K → S
 state_in q = q.past.state
 
 -- the message that is handled next: the first present one of those that come after the newest done event
-abbrev pub next_by : {S K : Type 0} → Past S K → List Letter → Option Message
-next_by past tally = present_after message_order (newest_of (map (λ e. e.message) past.done)) tally
-
 abbrev pub next_in : {S K : Type 0} → Queues S K → Option Message
-next_in q = next_by q.past q.tally
+next_in q = present_after message_order (newest_of (map (λ e. e.message) q.past.done)) q.tally
+
+-- what always holds of a process: its queues stand for some part, and the message that it keeps as the next one is that
+abbrev pub IsStanding : {S K : Type 0} → Rules Message S K Note → (S → Message → Type 0) → Option Message → Queues S K → Type 0
+IsStanding {S} r is_value next q = (opening : S) × (part : Part Message S) × StandsFor r is_value opening part q × (next ≡ next_in q)
 
 -- these letters come to the back of the tray, one after another
 abbrev pub delivered_all : {S : Type 0} → List Letter → Part Message S → Part Message S

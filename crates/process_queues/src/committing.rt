@@ -1,6 +1,5 @@
 //! Events are committed, the oldest first: how many can be, room for them, and one after another.
 ghost use Rattle.std.specs.Prelude.{◌≡◌, ◌+◌, ◌<◌, ◌≤◌, ◌+ℤ◌, pos, false, true, List, map, take, Ok, OnOk, OnErr, IfOk, IfErr, vec_len, vec_capacity};
-ghost use Rattle.vlink.specs.declared.message.Message.{Message};
 ghost use Rattle.virtual_time.specs.Law.{IsAscending, can_commit, commit_oldest};
 ghost use Rattle.reverse.specs.Rules.{rules_of};
 ghost use Rattle.vlink.specs.Order.{message_order};

@@ -44,12 +44,10 @@ pub struct Process<R: Actor> {
 }
 
 impl<R: Actor> Model for Process<R> {
-    ghost use Rattle.std.specs.Prelude.{◌≡◌, ◌-◌, length, map, vec_len, vec_capacity};
+    ghost use Rattle.std.specs.Prelude.{◌-◌, length, vec_len, vec_capacity};
     ghost use Rattle.std.specs.VecDeque.{deque_len, deque_capacity};
-    ghost use Rattle.vlink.specs.declared.message.Message.{Message};
-    ghost use Rattle.virtual_time.specs.Law.{Part};
     ghost use Rattle.reverse.specs.Rules.{rules_of};
-    ghost use Rattle.process_queues.specs.Queues.{InHand, StandsFor, next_by, with_done};
+    ghost use Rattle.process_queues.specs.Queues.{InHand, IsStanding, with_done};
 
     ghost Value = { InHand R R.Record };
 
@@ -67,16 +65,15 @@ impl<R: Actor> Model for Process<R> {
       committed_room = vec_capacity p.committed - vec_len p.committed;
     } };
 
-    ghost invariant = { λ p. (opening : R) × (part : Part Message R) × StandsFor (rules_of R.plain) R.is_value opening part
-        (record {
-          past = p.past;
-          left = p.left;
-          sealed = p.sealed;
-          committed = length p.committed.items;
-          tally = with_done p.tally p.past.done;
-          tray = p.tray.items;
-          outbox = p.outbox.letters;
-        }) × (p.next ≡ next_by p.past (with_done p.tally p.past.done)) };
+    ghost invariant = { λ p. IsStanding (rules_of R.plain) R.is_value p.next (record {
+      past = p.past;
+      left = p.left;
+      sealed = p.sealed;
+      committed = length p.committed.items;
+      tally = with_done p.tally p.past.done;
+      tray = p.tray.items;
+      outbox = p.outbox.letters;
+    }) };
 }
 
 impl<R: Actor> Process<R> {

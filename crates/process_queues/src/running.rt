@@ -1,6 +1,5 @@
 //! The next event is run.
 ghost use Rattle.std.specs.Prelude.{◌≡◌, ◌+◌, ◌<◌, ◌↔◌, IsSome, None, Ok, OnOk, OnErr, IfOk};
-ghost use Rattle.vlink.specs.declared.message.Message.{Message};
 ghost use Rattle.vlink.specs.Numbering.{greatest_number};
 ghost use Rattle.virtual_time.specs.Law.{run_one, next_of};
 ghost use Rattle.reverse.specs.Rules.{rules_of};

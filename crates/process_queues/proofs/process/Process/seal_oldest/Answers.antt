@@ -1,11 +1,9 @@
 use Rattle.std.proofs.Common.{◌≡◌, ◌+◌, [], ◌∷◌, length, refl, sym, ap, ◌∙◌, length-append, option_copied}
-use Rattle.virtual_time.specs.Law.{commit_oldest}
-use Rattle.reverse.specs.Rules.{rules_of}
 use Rattle.process_queues.proofs.Counting.{of-messages}
 use Rattle.process_queues.proofs.Stragglers.{seals}
 use Rattle.process_queues.proofs.Next.{next-kept}
 use Rattle.process_queues.proofs.Reading.{first-done}
-use Rattle.process_queues.proofs.Standing.{commit-stands, commit-stays}
+use Rattle.process_queues.proofs.Standing.{commit-stands, commit-stays, keeps}
 use Rattle.process_queues.proofs.Taking.{err-gives}
 use Rattle.process_queues.proofs.process.Process.seal_oldest.Goals as goal
 
@@ -58,6 +56,4 @@ returns-clause-sealed g c opening part h =
 pub invariant_of-self-2 : goal.invariant_of-self-2
 invariant_of-self-2 g c =
     let R = of-messages g.R.Reversible.plain c.actor_rules_law.ensures.order c.actor_rules_law.ensures.undoes in
-    let i = c.self.invariant in
-    let sealed = returns-clause-sealed g c i.0 i.1 (rw (← c.self.view_is) i.2) in
-    (i.0, commit_oldest (rules_of g.R.Reversible.plain) i.1, sealed, i.3 ∙ sym (next-kept R i.2 sealed))
+    keeps c.self.view_is c.self.invariant (returns-clause-sealed g c) (λ opening part h s. c.self.invariant.3 ∙ sym (next-kept R h s))
