@@ -24,7 +24,7 @@ pub record Queues (S K : Type 0) : Type 0 where
   pub tray : List Letter
   pub outbox : List Letter
 
--- the queues, for how many more letters the tray has room, and for how many more committed events there is room
+-- the queues, for how many more letters the tray has room, and how many more events can be committed
 pub record InHand (S K : Type 0) : Type 0 where
   pub queues : Queues S K
   pub room : ℕ

@@ -1,5 +1,5 @@
 //! Events are committed, the oldest first: how many can be, room for them, and one after another.
-ghost use Rattle.std.specs.Prelude.{◌≡◌, ◌+◌, ◌<◌, ◌≤◌, ◌+ℤ◌, pos, false, true, List, map, take, Ok, OnOk, OnErr, IfOk, IfErr, vec_len, vec_capacity};
+ghost use Rattle.std.specs.Prelude.{◌≡◌, ◌+◌, ◌<◌, ◌≤◌, ◌+ℤ◌, pos, false, true, List, map, take, Ok, OnOk, OnErr, IfOk, IfErr};
 ghost use Rattle.virtual_time.specs.Law.{IsAscending, can_commit, commit_oldest};
 ghost use Rattle.reverse.specs.Rules.{rules_of};
 ghost use Rattle.vlink.specs.Order.{message_order};
@@ -29,7 +29,8 @@ impl<R: Actor> Process<R> {
         committable_of::<R>(&self.tally, moment, self.past.done_events(), most)
     }
 
-    /// Makes room for so many committed events: as long as no other call comes between, so many calls of `commit_oldest` take no memory.
+    /// Sees that there is room for so many committed events, which are counted to 2^64 - 1: as long as no other call comes between, so many
+    /// calls of `seal_oldest` succeed. It takes no memory.
     pub fn reserve_rows(&mut self, events: usize) -> Result<(), ProcFault>
         ensures room { OnOk result (events ≤ self.new.committed_room) }
         ensures same { self.new.queues ≡ self.old.queues }
@@ -37,12 +38,14 @@ impl<R: Actor> Process<R> {
         ensures reserved { OnErr result (self.old.committed_room < events) }
         ensures memory { IfErr result (λ fault. fault ≡ OutOfMemory) }
     {
-        self.committed.reserve(events)?;
+        if u64::MAX - self.committed < events as u64 {
+            return Err(ProcFault::OutOfMemory);
+        }
         Ok(())
     }
 
     /// The oldest done event is committed, where its signed count is just 1: it leaves the done events and the counts, and its rows are
-    /// sealed. The answer is whether there was one. Where there is room for a committed event this takes no memory and succeeds.
+    /// sealed. The answer is whether there was one. Where there is room for a committed event this succeeds. It takes no memory.
     pub fn seal_oldest(&mut self) -> Result<bool, ProcFault>
         ensures sealed { OnOk result (Does (rules_of R.plain) R.is_value (λ opening. commit_oldest (rules_of R.plain)) self.old.queues self.new.queues) }
         ensures answer { IfOk result (λ done. AtEachPart (rules_of R.plain) R.is_value self.old.queues
@@ -62,39 +65,18 @@ impl<R: Actor> Process<R> {
             return Ok(false);
         };
         let message = event.message;
-        reserve_if_zero(&mut self.committed, &self.tally, &message)?;
         if !self.tally.is_zero(&message) {
             return Ok(false);
+        }
+        if self.committed == u64::MAX {
+            return Err(ProcFault::OutOfMemory);
         }
         let _rows = self.past.rows().len();
         let noted = self.past.forget_oldest();
         self.sealed += usize::from(noted);
-        self.committed.push_reserved(());
+        self.committed += 1;
         Ok(true)
     }
-}
-
-/// Makes room for one committed event more, where the signed count of its message in the tally is 0. A refusal comes only where it is, and
-/// where there was no room. Where there is room the count is not looked for.
-fn reserve_if_zero(
-    committed: &mut Vec<()>,
-    tally: &Tally,
-    message: &Message,
-) -> Result<(), ProcFault>
-    ensures same { committed.new.items ≡ committed.old.items }
-    ensures room { OnOk result (signed_count message_order message.now tally.now ≡ pos 0 → vec_len committed.new < vec_capacity committed.new) }
-    ensures no_less { vec_capacity committed.old ≤ vec_capacity committed.new }
-    ensures zero { OnErr result (signed_count message_order message.now tally.now ≡ pos 0) }
-    ensures full { OnErr result (vec_capacity committed.old ≤ vec_len committed.old) }
-    ensures memory { IfErr result (λ fault. fault ≡ OutOfMemory) }
-{
-    if committed.len() < committed.capacity() {
-        return Ok(());
-    }
-    if tally.is_zero(message) {
-        committed.reserve(1)?;
-    }
-    Ok(())
 }
 
 /// How many of these done events, `most` at most, come before the first one that cannot be committed. The tally is that beside them.

@@ -1,6 +1,6 @@
 //! The done events of a process.
 //! What was sent is one queue, so a rollback takes from its back without asking the actor again; rows of done events stand behind the
-//! committed ones, so a commit copies none; how many are committed is a length without bytes, since no number bounds it.
+//! committed ones, so a commit copies none.
 ghost use Rattle.std.specs.Prelude.{◌≡◌, ◌+◌, ◌<◌, ◌≤◌, ◌-◌, List, [], ◌∷◌, ◌++◌, length, map, drop, reverse, vec_len, vec_capacity, OnOk, OnErr, slice_get};
 ghost use Rattle.std.specs.Option.{option_map, option_copied};
 ghost use Rattle.std.specs.VecDeque.{deque_len, deque_capacity};

@@ -33,8 +33,8 @@ pub struct Process<R: Actor> {
     /// How many rows of committed events have left, and how many are still there.
     pub(crate) left: usize,
     pub(crate) sealed: usize,
-    /// As many as events are committed. They have no bytes.
-    pub(crate) committed: Vec<()>,
+    /// How many events are committed.
+    pub(crate) committed: u64,
     /// The signed counts of the messages, less 1 for each done event: a done message that is tallied once has none here.
     pub(crate) tally: Tally,
     /// The message that is handled next, if there is one: it is looked for once, and kept until something changes it.
@@ -44,7 +44,7 @@ pub struct Process<R: Actor> {
 }
 
 impl<R: Actor> Model for Process<R> {
-    ghost use Rattle.std.specs.Prelude.{◌-◌, length, vec_len, vec_capacity};
+    ghost use Rattle.std.specs.Prelude.{◌-◌, ◌^◌};
     ghost use Rattle.std.specs.VecDeque.{deque_len, deque_capacity};
     ghost use Rattle.reverse.specs.Rules.{rules_of};
     ghost use Rattle.process_queues.specs.Queues.{InHand, IsStanding, with_done};
@@ -56,20 +56,20 @@ impl<R: Actor> Model for Process<R> {
         past = p.past;
         left = p.left;
         sealed = p.sealed;
-        committed = length p.committed.items;
+        committed = p.committed;
         tally = with_done p.tally p.past.done;
         tray = p.tray.items;
         outbox = p.outbox.letters;
       };
       room = deque_capacity p.tray - deque_len p.tray;
-      committed_room = vec_capacity p.committed - vec_len p.committed;
+      committed_room = 2 ^ 64 - 1 - p.committed;
     } };
 
     ghost invariant = { λ p. IsStanding (rules_of R.plain) R.is_value p.next (record {
       past = p.past;
       left = p.left;
       sealed = p.sealed;
-      committed = length p.committed.items;
+      committed = p.committed;
       tally = with_done p.tally p.past.done;
       tray = p.tray.items;
       outbox = p.outbox.letters;
@@ -88,7 +88,7 @@ impl<R: Actor> Process<R> {
             past: Past::new(alloc, actor),
             left: 0,
             sealed: 0,
-            committed: Vec::new(alloc),
+            committed: 0,
             tally: Tally::new(alloc),
             next: None,
             tray: VecDeque::new(alloc),
@@ -123,7 +123,7 @@ impl<R: Actor> Process<R> {
     pub fn committed(&self) -> u64
         ensures { AtEachPart (rules_of R.plain) R.is_value self.now.queues (λ opening part. result ≡ length part.committed) }
     {
-        self.committed.len() as u64
+        self.committed
     }
 
     /// The rows of the committed events but those that have left, in their order.
