@@ -64,7 +64,7 @@ state_in q = q.past.state
 abbrev pub next_in : {S K : Type 0} → Queues S K → Option Message
 next_in q = present_after message_order (newest_of (map (λ e. e.message) q.past.done)) q.tally
 
--- what always holds of a process: its queues stand for some part, and the message that it keeps as the next one is that
+-- what always holds of a process: its queues stand for some part, and the message that it keeps is the next one
 abbrev pub IsStanding : {S K : Type 0} → Rules Message S K Note → (S → Message → Type 0) → Option Message → Queues S K → Type 0
 IsStanding {S} r is_value next q = (opening : S) × (part : Part Message S) × StandsFor r is_value opening part q × (next ≡ next_in q)
 

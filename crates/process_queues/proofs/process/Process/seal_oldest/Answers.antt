@@ -1,7 +1,8 @@
-use Rattle.std.proofs.Common.{refl, sym, ap, ◌∙◌, option_copied}
+use Rattle.std.proofs.Common.{map, refl, sym, ap, ◌∙◌, option_copied}
+use Rattle.reverse.specs.Rules.{rules_of}
 use Rattle.process_queues.proofs.Counting.{of-messages}
-use Rattle.process_queues.proofs.Stragglers.{seals}
-use Rattle.process_queues.proofs.Next.{next-kept}
+use Rattle.process_queues.proofs.Stragglers.{next-beside, next-left, seals}
+use Rattle.process_queues.proofs.Pasts.{messages-of}
 use Rattle.process_queues.proofs.Reading.{first-done}
 use Rattle.process_queues.proofs.Standing.{commit-stands, commit-stays, keeps}
 use Rattle.process_queues.proofs.process.Process.seal_oldest.Goals as goal
@@ -46,4 +47,9 @@ returns-clause-sealed g c opening part h =
 pub invariant_of-self : goal.invariant_of-self
 invariant_of-self g c =
     let R = of-messages g.R.Reversible.plain c.actor_rules_law.ensures.order c.actor_rules_law.ensures.undoes in
-    keeps c.self.view_is c.self.invariant (returns-clause-sealed g c) (λ opening part h s. c.self.invariant.3 ∙ sym (next-kept R h s))
+    let t = c.self.inside.tally in
+    keeps c.self.view_is c.self.invariant (returns-clause-sealed g c) (λ opening part h s.
+    let first = first-done h c.in-Some.event.now (sym c.oldest.ensures ∙ ap option_copied c.in-Some.is) in
+    let done = (c.forget_oldest-noted.ensures.forgotten _ first.0 _ _ first.2).done in
+    c.self.invariant.3 ∙ (next-left R h t refl c.in-Some.event.now.message first.0 _ first.1 (c.if-not-is_zero.ensures.0 refl)
+    (ap (map (λ e. e.message)) done ∙ messages-of (rules_of g.R.Reversible.plain) _ first.0) ∙ sym (next-beside R s t refl)))
