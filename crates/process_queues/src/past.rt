@@ -1,13 +1,13 @@
 //! The done events of a process.
 //! What was sent is one queue, so a rollback takes from its back without asking the actor again; rows of done events stand behind the
-//! committed ones, so a commit copies none; how many are committed is a length without bytes, since no number bounds it.
-ghost use Rattle.std.specs.Prelude.{◌≡◌, ◌+◌, ◌<◌, ◌≤◌, ◌-◌, List, [], ◌∷◌, ◌++◌, ◌↔◌, length, map, take, drop, reverse, vec_len, vec_capacity, IsTrue, OnOk, OnErr, IfErr, slice_get};
+//! committed ones, so a commit copies none.
+ghost use Rattle.std.specs.Prelude.{◌≡◌, ◌+◌, ◌<◌, ◌≤◌, ◌-◌, List, [], ◌∷◌, ◌++◌, length, map, drop, reverse, vec_len, vec_capacity, OnOk, OnErr, slice_get};
 ghost use Rattle.std.specs.Option.{option_map, option_copied};
 ghost use Rattle.std.specs.VecDeque.{deque_len, deque_capacity};
 ghost use Rattle.vlink.specs.Order.{message_order};
 ghost use Rattle.vlink.specs.declared.message.Message.{Message};
 ghost use Rattle.vlink.specs.Numbering.{greatest_number};
-ghost use Rattle.virtual_time.specs.Law.{reached, rows_of, plus_of, minus_of};
+ghost use Rattle.virtual_time.specs.Law.{rows_of, plus_of};
 ghost use Rattle.reverse.specs.Rules.{rules_of};
 ghost use Rattle.antimessages.specs.Counting.{is_after};
 ghost use Rattle.process_queues.specs.Past.{Past, Rows, IsPastOf, handled_past, newest_of, FirstDone};

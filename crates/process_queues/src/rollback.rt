@@ -2,13 +2,15 @@
 ghost use Rattle.std.specs.Prelude.{◌≡◌, ◌+◌, ◌≤◌, ◌-◌, List, [], ◌∷◌, ◌++◌, length, map, take, drop, reverse};
 ghost use Rattle.std.specs.VecDeque.{deque_len};
 ghost use Rattle.vlink.specs.declared.message.Message.{Message};
-ghost use Rattle.virtual_time.specs.Law.{reached, minus_of, Part, rolled_back};
+ghost use Rattle.virtual_time.specs.Law.{reached, minus_of, Part, rolled_back, undo_all};
 ghost use Rattle.reverse.specs.Rules.{rules_of};
 ghost use Rattle.process_queues.specs.Past.{Rows, IsPastOf, LastDone, BelongsTo, sent_since};
+ghost use Rattle.process_queues.specs.Queues.{AtEachPart};
 ghost use Rattle.process_queues.specs.declared.past.Event.{Event};
 
 use crate::order::is_before;
 use crate::past::Past;
+use crate::process::Process;
 use antimessages::Outbox;
 use reverse::{Actor, actor_rules_law};
 use std::collections::VecDeque;
@@ -91,6 +93,17 @@ impl<R: Actor> Past<R> {
             let rows = self.rows.len() - usize::from(event.noted);
             self.rows.truncate(rows);
         }
+    }
+}
+
+impl<R: Actor> Process<R> {
+    /// Undoes all done events, the newest first, each by its record, and gives the actor back. Nothing is sent.
+    pub fn undo_all(self) -> R
+        ensures undone { AtEachPart (rules_of R.plain) R.is_value self.queues (λ opening part. result ≡ undo_all (rules_of R.plain) opening part) }
+        ensures committed { AtEachPart (rules_of R.plain) R.is_value self.queues (λ opening part. result ≡ reached (rules_of R.plain) opening part.committed) }
+    {
+        let Process { past, .. } = self;
+        past.undo_all()
     }
 }
 

@@ -1,6 +1,6 @@
-use Rattle.std.proofs.Common.{◌++◌, take, drop, ap, ◌∙◌, append_assoc, length, length-drop, arith}
+use Rattle.std.proofs.Common.{◌++◌, take, drop, sym, ap, ◌∙◌, append_assoc, length, length-drop, drop-drop, arith}
+use Rattle.std.proofs.Math.Seq.{take-add}
 use Rattle.antimessages.specs.Mailing.{letters_for}
-use Rattle.process_queues.proofs.Taking.{take-next, drop-next}
 use Rattle.process_queues.proofs.process.collect_letters.Goals as goal
 
 pub loop-taken-preserved : goal.loop-taken-preserved
@@ -12,8 +12,8 @@ loop-taken-preserved g c =
           (ap (λ z. z ++ take 1 (letters_for c.args.process c.loop-taken.mail)) i.tray_is ∙
           (ap (λ z. (c.args.tray.now.items ++ take c.loop-taken.taken letters) ++ take 1 z) i.left ∙
           (append_assoc c.args.tray.now.items (take c.loop-taken.taken letters) _ ∙
-          ap (λ z. c.args.tray.now.items ++ z) (take-next letters c.loop-taken.taken))));
-      left = c.take_letter.ensures.left ∙ (ap (drop 1) i.left ∙ drop-next letters c.loop-taken.taken);
+          ap (λ z. c.args.tray.now.items ++ z) (sym (take-add c.loop-taken.taken 1 letters)))));
+      left = c.take_letter.ensures.left ∙ (ap (drop 1) i.left ∙ drop-drop 1 c.loop-taken.taken letters);
       others = λ q n. c.take_letter.ensures.others q n ∙ i.others q n;
       processes = c.take_letter.ensures.processes ∙ i.processes;
       room = omega arith;

@@ -1,5 +1,5 @@
 use Rattle.std.proofs.Common.{rules, ◌≡◌, inl, inr, false, ◌∷◌, map, drop, slice_get, Some, refl, sym, ap, ◌∙◌, subst, ◌≢◌}
-use Rattle.virtual_time.specs.Law.{rowed, arrive}
+use Rattle.virtual_time.specs.Law.{rowed}
 use Rattle.reverse.specs.Rules.{rules_of}
 use Rattle.vlink.specs.Order.{message_order}
 use Rattle.antimessages.specs.Counting.{change_by, is_after, present_after}
@@ -8,12 +8,13 @@ use Rattle.antimessages.proofs.Agreeing.{added-same_counts}
 use Rattle.antimessages.proofs.Following.{next-same}
 use Rattle.process_queues.specs.Past.{newest_of}
 use Rattle.process_queues.specs.Queues.{with_done}
-use Rattle.process_queues.proofs.Arriving.{tallied-belongs, still-stands, still-answer, back-stands, back-answer}
+use Rattle.process_queues.proofs.Arrivals.{tallied-belongs, still-stands, still-answer, back-stands, back-answer}
 use Rattle.process_queues.proofs.Beside.{with_done-same}
 use Rattle.process_queues.proofs.Counting.{of-messages}
 use Rattle.process_queues.proofs.Done.{before-within}
-use Rattle.process_queues.proofs.Stragglers.{next-beside, not-owed}
+use Rattle.process_queues.proofs.Stragglers.{next-beside, found-beside, not-owed}
 use Rattle.process_queues.proofs.Rolls.{done-ascending}
+use Rattle.process_queues.proofs.Standing.{keeps}
 use Rattle.process_queues.proofs.process.Process.arrive.Given.{Over}
 use Rattle.process_queues.proofs.process.Process.arrive.Goals as goal
 
@@ -47,20 +48,14 @@ returns-then-is_before-clause-answer g c opening part h =
 pub invariant_of-self-then-is_before : goal.invariant_of-self-then-is_before
 invariant_of-self-then-is_before g c =
     let R = of-messages g.R.Reversible.plain c.actor_rules_law.ensures.order c.actor_rules_law.ensures.undoes in
-    let i = c.self.invariant in
     let l = c.in-Some.letter in
     let t = c.self.inside.tally in
     let newest = c.newest.ensures in
-    let stands = returns-then-is_before-clause-arrived g c i.0 i.1 (rw (← c.self.view_is) i.2) in (
-      i.0,
-      arrive (rules_of g.R.Reversible.plain) i.0 i.1,
-      stands,
-      c.next_with-self-inside.ensures t
-          (added-same_counts message_order R.messages l c.add.new.self t c.in_ok-change.ensures.count c.in_ok-change.ensures.others) c.in_ok-change.ensures.change
-          (λ n. ap (λ o. is_after message_order o l.message) newest ∙ sym c.if-is_before.ensures)
-          (i.3 ∙ (next-beside R i.2 t refl ∙ ap (λ o. present_after message_order o t) (sym newest))) ∙
-          (ap (λ o. present_after message_order o c.add.new.self) newest ∙ sym (next-beside R stands c.add.new.self refl)),
-    )
+    keeps c.self.view_is c.self.invariant (returns-then-is_before-clause-arrived g c) (λ opening part h s. found-beside R s c.add.new.self refl
+    (c.next_with-self-inside.ensures t
+    (added-same_counts message_order R.messages l c.add.new.self t c.in_ok-change.ensures.count c.in_ok-change.ensures.others) c.in_ok-change.ensures.change
+    (λ n. ap (λ o. is_after message_order o l.message) newest ∙ sym c.if-is_before.ensures)
+    (c.self.invariant.3 ∙ (next-beside R h t refl ∙ ap (λ o. present_after message_order o t) (sym newest)))) newest)
 
 -- it comes late
 
@@ -90,17 +85,13 @@ returns-then-not-is_toggled-clause-answer g c opening part h =
 pub invariant_of-self-then-not-is_toggled : goal.invariant_of-self-then-not-is_toggled
 invariant_of-self-then-not-is_toggled g c =
     let O = c.actor_rules_law.ensures.order in
-    let i = c.self.invariant in
     let l = c.in-Some.letter in
     let done = c.self.inside.past.done in
     let new = c.add-then-not-is_toggled.new.self in
     let counts = with_done-same O new (l ∷ c.self.inside.tally) done
-    (added-same_counts message_order O l new c.self.inside.tally c.in_ok-add.ensures.count c.in_ok-add.ensures.others) in (
-      i.0,
-      arrive (rules_of g.R.Reversible.plain) i.0 i.1,
-      returns-then-not-is_toggled-clause-arrived g c i.0 i.1 (rw (← c.self.view_is) i.2),
-      i.3 ∙ next-same message_order O (newest_of (map (λ e. e.message) done)) l (with_done c.self.inside.tally done) (with_done new done) counts (same g c),
-    )
+    (added-same_counts message_order O l new c.self.inside.tally c.in_ok-add.ensures.count c.in_ok-add.ensures.others) in
+    keeps c.self.view_is c.self.invariant (returns-then-not-is_toggled-clause-arrived g c) (λ opening part h s. c.self.invariant.3 ∙
+    next-same message_order O (newest_of (map (λ e. e.message) done)) l (with_done c.self.inside.tally done) (with_done new done) counts (same g c))
 
 -- it toggles its message, and events are undone
 
@@ -150,11 +141,5 @@ returns-clause-answer g c opening part h =
 pub invariant_of-self-2 : goal.invariant_of-self-2
 invariant_of-self-2 g c =
     let R = of-messages g.R.Reversible.plain c.actor_rules_law.ensures.order c.actor_rules_law.ensures.undoes in
-    let i = c.self.invariant in
-    let stands = returns-clause-arrived g c i.0 i.1 (rw (← c.self.view_is) i.2) in (
-      i.0,
-      arrive (rules_of g.R.Reversible.plain) i.0 i.1,
-      stands,
-      c.next_after-self-inside.ensures ∙ (ap (λ o. present_after message_order o c.count_again.new.tally) c.newest-2.ensures ∙
-          sym (next-beside R stands c.count_again.new.tally refl)),
-    )
+    keeps c.self.view_is c.self.invariant (returns-clause-arrived g c)
+    (λ opening part h s. found-beside R s c.count_again.new.tally refl c.next_after-self-inside.ensures c.newest-2.ensures)
