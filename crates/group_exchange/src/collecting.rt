@@ -22,6 +22,9 @@ use journal::PoolFault;
 use reverse::{Actor, actor_law};
 use vlink::Letter;
 
+/// The tray gets room for so many letters more than are taken, so that it is not copied to a larger place while the first of them arrive.
+const SPARE: usize = 64;
+
 /// All letters on their way to a group go to the tray of its hand, with a step in the journal for each. Both marks note how long the journal is then, and
 /// the GVT of the exchange. The answer is how many letters were taken.
 ///
@@ -57,7 +60,11 @@ pub fn collect<R: Actor, J: GroupRun<R>>(
     if exchange.limit - exchange.journal.len() < count as u64 {
         return Err(PoolFault::JournalFull);
     }
-    if group.hand.reserve_letters(count).is_err() {
+    if group
+        .hand
+        .reserve_letters(count.saturating_add(SPARE))
+        .is_err()
+    {
         return Err(PoolFault::OutOfMemory);
     }
     if let Err(fault) = exchange.journal.reserve(count) {
