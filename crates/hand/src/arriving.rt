@@ -92,6 +92,7 @@ impl Letters {
         ensures queue { IsPermutation self.old.queue self.new.queue }
         ensures others { self.new ≡ record self.old { queue = self.new.queue; room = self.new.room } }
     {
+        self.room = 0;
         self.queue.sort_many();
         give_back(&mut self.tray);
     }

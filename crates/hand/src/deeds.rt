@@ -1,6 +1,5 @@
 //! The done events of a group.
 ghost use Rattle.std.specs.Prelude.{◌≡◌, true, List, ◌+◌, ◌<◌, ◌≤◌, [], ◌∷◌, ◌++◌, length, OnOk};
-ghost use Rattle.std.specs.VecDeque.{deque_len, deque_capacity};
 ghost use Rattle.vlink.specs.Order.{message_order};
 ghost use Rattle.virtual_time.specs.Law.{rows_of};
 ghost use Rattle.process_queues.specs.Past.{newest_of};
@@ -9,9 +8,9 @@ ghost use Rattle.hand.specs.Deeds.{Deed, messages_of};
 ghost use Rattle.hand.specs.Undoing.{HasRoomFor};
 ghost use Rattle.reverse.specs.declared.sends.TheConstants.{MOST_SENT};
 
+use crate::trail::Trail;
 use reverse::MOST_SENT;
 use std::alloc::{AllocError, Global};
-use std::collections::VecDeque;
 use std::marker::Model;
 use vlink::{Message, Note, Row, compare, message_order_law, order_law};
 
@@ -29,23 +28,22 @@ pub(crate) struct Event<K: Copy> {
 /// Clauses see each event with what it sent and its rows, and for how many more events, messages and rows there is room.
 #[derive(Drop)]
 pub(crate) struct Deeds<K: Copy> {
-    pub(crate) events: VecDeque<Event<K>>,
-    pub(crate) sends: VecDeque<Message>,
-    pub(crate) rows: VecDeque<Row>,
+    pub(crate) events: Trail<Event<K>>,
+    pub(crate) sends: Trail<Message>,
+    pub(crate) rows: Trail<Row>,
 }
 
 impl<K: Copy> Model for Deeds<K> {
-    ghost use Rattle.std.specs.Prelude.{◌≡◌, ◌-◌, length};
-    ghost use Rattle.std.specs.VecDeque.{deque_len, deque_capacity};
+    ghost use Rattle.std.specs.Prelude.{◌≡◌, length};
     ghost use Rattle.hand.specs.Deeds.{Done, deeds_in, all_sent, all_noted};
 
     ghost Value = { Done K };
 
     ghost view = { λ d. record {
       deeds = deeds_in d.events.items d.sends.items d.rows.items;
-      events_room = deque_capacity d.events - deque_len d.events;
-      sends_room = deque_capacity d.sends - deque_len d.sends;
-      rows_room = deque_capacity d.rows - deque_len d.rows;
+      events_room = d.events.room;
+      sends_room = d.sends.room;
+      rows_room = d.rows.room;
     } };
 
     ghost invariant = { λ d. (length d.sends.items ≡ all_sent d.events.items) × (length d.rows.items ≡ all_noted d.events.items) };
@@ -57,9 +55,9 @@ impl<K: Copy> Deeds<K> {
         ensures { result.deeds ≡ [] }
     {
         Deeds {
-            events: VecDeque::new(alloc),
-            sends: VecDeque::new(alloc),
-            rows: VecDeque::new(alloc),
+            events: Trail::new(alloc),
+            sends: Trail::new(alloc),
+            rows: Trail::new(alloc),
         }
     }
 
@@ -84,9 +82,7 @@ impl<K: Copy> Deeds<K> {
         ensures sends { result ≡ true → MOST_SENT ≤ self.now.sends_room }
         ensures rows { result ≡ true → 2 ≤ self.now.rows_room }
     {
-        1 <= self.events.capacity() - self.events.len()
-            && MOST_SENT <= self.sends.capacity() - self.sends.len()
-            && 2 <= self.rows.capacity() - self.rows.len()
+        1 <= self.events.room() && MOST_SENT <= self.sends.room() && 2 <= self.rows.room()
     }
 
     /// Makes room for one event more, whatever it sends and notes, where some of it is missing.
@@ -128,6 +124,15 @@ impl<K: Copy> Deeds<K> {
         note_all(&mut self.rows, message, notes);
     }
 
+    /// Where no more are there than have left, they take the place of those.
+    pub(crate) fn close_up(&mut self)
+        ensures { self.new.deeds ≡ self.old.deeds }
+    {
+        self.events.close_up();
+        self.sends.close_up();
+        self.rows.close_up();
+    }
+
     /// Whether the message comes after the newest event, if there is one.
     #[inline(always)]
     pub(crate) fn is_before(&self, message: &Message) -> bool
@@ -155,10 +160,10 @@ pub(crate) fn precedes(first: &Message, second: &Message) -> bool
 
 /// The messages go behind those that were sent. There is room for them.
 #[inline(always)]
-fn send_all(sends: &mut VecDeque<Message>, messages: &[Message])
-    requires room { deque_len sends.old + length messages.now ≤ deque_capacity sends.old }
+fn send_all(sends: &mut Trail<Message>, messages: &[Message])
+    requires room { length messages.now ≤ sends.old.room }
     ensures sends { sends.new.items ≡ sends.old.items ++ messages.now }
-    ensures capacity { deque_capacity sends.new ≡ deque_capacity sends.old }
+    ensures capacity { sends.new.room + length messages.now ≡ sends.old.room }
 {
     for message in messages {
         sends.push_back_reserved(*message);
@@ -167,10 +172,10 @@ fn send_all(sends: &mut VecDeque<Message>, messages: &[Message])
 
 /// The notes that the message's event gave go behind the rows, which have room for them.
 #[inline(always)]
-fn note_all(rows: &mut VecDeque<Row>, message: &Message, notes: &[Note])
-    requires { deque_len rows.old + length notes.now ≤ deque_capacity rows.old }
+fn note_all(rows: &mut Trail<Row>, message: &Message, notes: &[Note])
+    requires { length notes.now ≤ rows.old.room }
     ensures rows { rows.new.items ≡ rows.old.items ++ rows_of message_order message.now notes.now }
-    ensures capacity { deque_capacity rows.new ≡ deque_capacity rows.old }
+    ensures capacity { rows.new.room + length notes.now ≡ rows.old.room }
 {
     for note in notes {
         rows.push_back_reserved(Row {

@@ -66,6 +66,7 @@ impl Letters {
         ensures room { self.old.room ≤ self.new.room + 1 }
     {
         push_back(&mut self.tray, letter);
+        self.room -= 1;
     }
 }
 

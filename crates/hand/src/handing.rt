@@ -108,6 +108,7 @@ impl Letters {
         ensures keeps { result.keeps ≡ self.old.keeps }
         ensures anew { self.new ≡ record self.old { words = []; room = self.new.room } }
     {
+        self.room = 0;
         let next = Words::new(alloc, self.block.keeps());
         mem::replace(&mut self.block, next)
     }

@@ -21,7 +21,7 @@ use crate::letters::Letters;
 use crate::members::{act, is_ours};
 use crate::undoing::bring_back;
 use reverse::{Actor, Outbound, actor_rules_law};
-use vlink::{Letter, Message, Sign, message_order_law, order_law};
+use vlink::{Message, Sign, message_order_law, order_law};
 
 impl Letters {
     /// A message that was just sent goes on: to others; or its letter is taken, and waits in the tray.
@@ -31,17 +31,10 @@ impl Letters {
         ensures home { is_home ≡ true → WasTaken message.now self.old self.new }
         ensures room { self.old.room ≤ self.new.room + 1 }
     {
-        let letter = Letter {
-            message: *message,
-            sign: Sign::Plus,
-        };
         if is_home {
-            self.tray.push_back_reserved(letter);
-            self.block.push_reserved(Did::Taken {
-                process: message.receiver,
-            });
+            self.hold(message, Sign::Plus);
         } else {
-            self.abroad.push_reserved(letter);
+            self.post(message, Sign::Plus);
         }
     }
 }

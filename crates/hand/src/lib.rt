@@ -26,6 +26,7 @@ mod oldest;
 mod queue;
 mod rows;
 mod run;
+mod trail;
 mod tray;
 mod undoing;
 
