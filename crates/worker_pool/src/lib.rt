@@ -23,6 +23,7 @@ mod run_fault;
 mod running;
 mod segments;
 mod shared;
+mod start;
 mod summary;
 mod trace_run;
 mod tracing;

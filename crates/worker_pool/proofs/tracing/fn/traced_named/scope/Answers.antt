@@ -1,5 +1,6 @@
 use contract.Lifetimes.{Lfts}
 use denote.Param.Send.{IsSend, IsSync, param_send, sendable}
+use Rattle.std.proofs.Common.{rules}
 use Rattle.std.proofs.Crossing.{crosses}
 use Rattle.crossbeam_channel.proofs.channel.Receiver.TheSendSync as receiver
 use Rattle.netdesc.proofs.network.Network.TheSendSync as network
@@ -23,7 +24,7 @@ given-send g κs sink = search (counted-send, writing.the_send, sendable, crosse
 
 pub spawn-requires-send-F : goal.spawn-requires-send-F
 spawn-requires-send-F g c κs within =
-    param_send 1 _ (captures-send g κs c.requires-raw.1.1.1.1.1.1.1.1.0 c.requires-raw.1.1.1.1.1.1.1.1.1.1.1.1.0)
+    param_send 1 _ (captures-send g κs (search (rules, c.requires-raw) parts 20) (search (rules, c.requires-raw) parts 20))
 
 pub spawn-requires-send-T : goal.spawn-requires-send-T
-spawn-requires-send-T g c κs within = param_send 2 _ (given-send g κs c.requires-raw.1.1.1.1.1.1.1.1.0)
+spawn-requires-send-T g c κs within = param_send 2 _ (given-send g κs (search (rules, c.requires-raw) parts 20))
