@@ -13,10 +13,6 @@ use Rattle.seqsim.specs.Committed.{after}
 use Rattle.seqsim.specs.Networks.{AreRowsOf}
 use Rattle.worker_pool.specs.Counts.{moment_of}
 
--- a network of nothing
-abbrev pub empty_plan : Plan
-empty_plan = record { until = 0; seed = 0; nodes = []; links = []; outages = []; vls = [] }
-
 -- so many steps the journal of a run can have: 2 to the power of 26 where it is kept, and of 62 where it is not
 abbrev pub most_steps : Bool → ℕ
 most_steps true = 67108864

@@ -7,18 +7,19 @@ ghost use Rattle.trace_segments.specs.declared.segment_fault.SegmentFault.{Segme
 ghost use Rattle.trace_segments.specs.declared.segment_fault.SegmentFault.TheVariants.{OutOfMemory};
 ghost use Rattle.trace_segments.specs.Words.{no_segments, segment_fault, Waits, Gives, BatchRows};
 ghost use Rattle.worker_pool.specs.Segments.{IsGroupSegmentOfRun};
-ghost use Rattle.worker_pool.specs.Traces.{HasLawfulRows, IsGatheringOfRun};
-ghost use Rattle.worker_pool.specs.Written.{IsPlaceFault, first_of, told_of};
+ghost use Rattle.run_rows.specs.Traces.{HasLawfulRows};
+ghost use Rattle.worker_pool.specs.Gatherings.{IsGatheringOfRun};
+ghost use Rattle.run_rows.specs.Written.{IsPlaceFault};
+ghost use Rattle.worker_pool.specs.Gatherings.{first_of, told_of};
 
 use crate::group_segments::next_group_segment;
 use crate::network_run::NetworkRun;
 use crate::rounds::seat::NetworkGroup;
-use crate::rows_law::rows_law;
-use crate::run_batch::RunBatch;
 use crate::run_fault::RunFault;
 use crate::start::StartOf;
 use crossbeam_channel::{SendError, Sender};
 use journal::PoolFault;
+use run_rows::{RunBatch, rows_law};
 use std::alloc::{AllocError, Global};
 use std::sync::{Mutex, Wait};
 use trace_tables::{Gather, Segment, SegmentFault, batches_in_order_law, segments_of_rows_law};

@@ -2,7 +2,7 @@ use Rattle.std.proofs.Common.{◌∙◌, ap, sym, subst}
 use Rattle.netdesc.specs.Words.{Plan, process_count}
 use Rattle.group_exchange.specs.Keeps.{AreGrouped}
 use Rattle.group_exchange.specs.Rows.{rows_of_group}
-use Rattle.worker_pool.specs.Traces.{HasLawfulRows}
+use Rattle.run_rows.specs.Traces.{HasLawfulRows}
 use Rattle.worker_pool.proofs.GatheredRun.{none-gathered}
 use Rattle.worker_pool.proofs.desk.Desk.new.Goals as goal
 

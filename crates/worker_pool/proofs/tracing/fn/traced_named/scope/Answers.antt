@@ -6,8 +6,8 @@ use Rattle.crossbeam_channel.proofs.channel.Receiver.TheSendSync as receiver
 use Rattle.netdesc.proofs.network.Network.TheSendSync as network
 use Rattle.worker_pool.proofs.Crossing.{counted-send}
 use Rattle.worker_pool.specs.contracts.tracing.fn.traced_named.scope.{S-row, T-row}
-use Rattle.worker_pool.proofs.run_batch.RunBatch.TheSendSync as batch
-use Rattle.worker_pool.proofs.writing.Writing.TheSendSync as writing
+use Rattle.run_rows.proofs.run_batch.RunBatch.TheSendSync as batch
+use Rattle.run_rows.proofs.writing.Writing.TheSendSync as writing
 use Rattle.worker_pool.proofs.tracing.fn.traced_named.scope.Given.{Over}
 use Rattle.worker_pool.proofs.tracing.fn.traced_named.scope.Goals as goal
 use Rattle.worker_pool.proofs.tracing.fn.traced_named.scope.Lts.{arg-0-1, arg-0-2}
