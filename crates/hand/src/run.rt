@@ -20,11 +20,11 @@ use crate::fault::HandFault;
 use crate::hand::Hand;
 use crate::late::handle_late;
 use crate::members::has_numbers;
-use reverse::{Actor, actor_rules_law};
+use reverse::{Actor, MOST_SENT, actor_rules_law};
 use vlink::Time;
 
 /// The most letters, and words beside the first, that one event gives.
-const MOST_SENT: usize = 25;
+const MOST_LETTERS: usize = MOST_SENT + 1;
 
 impl<R: Actor> Hand<R> {
     /// The first message of all members is handled, where it is earlier than the limit and comes after all that the group has done. What it sends to
@@ -49,7 +49,7 @@ impl<R: Actor> Hand<R> {
         ensures unchanged { OnErr result (IsAsBefore self.old self.new) }
     {
         actor_rules_law::<R>();
-        self.letters.reserve(MOST_SENT)?;
+        self.letters.reserve(MOST_LETTERS)?;
         self.done.reserve()?;
         let Some(message) = self.letters.pop() else {
             return Ok(Early::Idle);
@@ -127,7 +127,7 @@ impl<R: Actor> Hand<R> {
         if !has_numbers(&self.members, message.receiver) {
             return Err(HandFault::Exhausted);
         }
-        self.letters.reserve(MOST_SENT)?;
+        self.letters.reserve(MOST_LETTERS)?;
         self.done.reserve()?;
         self.undoing.aside.reserve_for(&self.done)?;
         handle_late(
