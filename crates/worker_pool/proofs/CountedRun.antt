@@ -1,8 +1,6 @@
 -- The tables of a run: those of the rows that were counted while it went on, of each group before a moment of its own.
-use Rattle.std.proofs.Common.{◌≡◌, ◌∙◌, ℕ, ◌<◌, ◌≤◌, ◌==◌, Bool, true, false, ◌&&◌, nat_le, nat_lt, List, [], ◌++◌, length, set, slice_get, take, refl, sym, ap, subst, arith, append-nil, Option, IfSome, Some, None, ◌^◌, eq-eqb, eqb-true}
-use mathlib.Core.Logic.{∥∥₁_elim, ∥∥₁_map, ∥∥₁_map₂}
-use Rattle.std.proofs.Props.{props}
-use Rattle.std.proofs.Math.Seq.{take-append_seam}
+use Rattle.std.proofs.Common.{◌≡◌, ◌∙◌, ℕ, ◌<◌, ◌≤◌, ◌==◌, Bool, true, false, ◌&&◌, nat_le, nat_lt, List, [], ◌++◌, length, set, slice_get, refl, sym, ap, subst, arith, append-nil, Option, IfSome, Some, None, eq-eqb, eqb-true}
+use mathlib.Core.Logic.{∥∥₁_map, ∥∥₁_map₂}
 use Rattle.std.proofs.lemmas.Bool.{both_ways}
 use Rattle.std.proofs.lemmas.List.{get_or-set_same, get_or-set_other}
 use Rattle.std.proofs.lemmas.List.Elements.{filter-append}
@@ -12,7 +10,6 @@ use Rattle.netdesc.specs.Words.{Plan}
 use Rattle.group_exchange.specs.Rows.{rows_of_group}
 use Rattle.group_exchange.specs.Views.{is_number, is_of}
 use Rattle.trace_segments.specs.Words.{rows_within, rows_before, BatchRows}
-use Rattle.trace_tables.specs.SoFar.{SoFarLists, AreInTables, IsSoFar}
 use Rattle.trace_segments.proofs.SortedLemmas.{filters-swap}
 use Rattle.trace_segments.proofs.TimeLemmas.{none-before}
 use Rattle.seqsim.specs.Networks.{AreRowsOf}

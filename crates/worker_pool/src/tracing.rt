@@ -12,6 +12,7 @@ ghost use Rattle.worker_pool.specs.Outcomes.{UsesUpNumbers};
 ghost use Rattle.worker_pool.specs.Runs.{IsEnded, IsJournalAsked, IsSummaryOf};
 ghost use Rattle.run_rows.specs.Written.{IsFaultOfTrace, IsWritten};
 
+use crate::batches::write_batches;
 use crate::counted::Counted;
 use crate::desk::TraceLock;
 use crate::ending::Unlocked;
@@ -23,7 +24,6 @@ use crate::run_fault::RunFault;
 use crate::running::run_to_end;
 use crate::start::{Start, StartOf};
 use crate::summary::Summary;
-use crate::batches::write_batches;
 use actor_run::Watch;
 use crossbeam_channel::{Receiver, bounded};
 use exchange::Gate;
