@@ -2,16 +2,16 @@
 //! run of the network.
 #![tactic(auto)]
 
+mod lawful_rows;
 mod network_run;
 mod row_tables;
-mod rows_law;
 mod run_batch;
 mod trace_run;
 mod writing;
 
+pub use lawful_rows::rows_law;
 pub use network_run::NetworkRun;
 pub use row_tables::RowTables;
-pub use rows_law::rows_law;
 pub use run_batch::RunBatch;
 pub use trace_run::TraceRun;
 pub use writing::Writing;

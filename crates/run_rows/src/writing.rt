@@ -10,8 +10,8 @@ ghost use Rattle.trace_segments.specs.Words.{next_text, batch_fault};
 ghost use Rattle.run_rows.specs.Traces.{HasLawfulRows, IsTraceOfRun};
 ghost use Rattle.run_rows.specs.Written.{outcome_of, IsPlaceFault, IsFaultOfTrace, IsWritten};
 
+use crate::lawful_rows::rows_law;
 use crate::network_run::NetworkRun;
-use crate::rows_law::rows_law;
 use crate::run_batch::RunBatch;
 use crate::trace_run::TraceRun;
 use netdesc::Network;
