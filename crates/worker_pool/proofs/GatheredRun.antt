@@ -11,12 +11,8 @@ use Rattle.trace_segments.specs.declared.segment_fault.SegmentFault.{SegmentFaul
 use Rattle.trace_segments.proofs.IntervalLemmas.{cut-rises}
 use Rattle.seqsim.specs.Networks.{AreRowsOf}
 use Rattle.worker_pool.specs.Segments.{IsGroupSegmentOfRun}
-use Rattle.worker_pool.specs.Traces.{IsBatchOfRun, IsGatheringOfRun}
-
--- what can be nothing else
-pub none-of : {X : Type 0} (o : Option X) → ((x : X) → o ≡ Some x → ⊥) → o ≡ None
-none-of None h = refl
-none-of (Some x) h = absurd (h x refl)
+use Rattle.run_rows.specs.Traces.{IsBatchOfRun}
+use Rattle.worker_pool.specs.Gatherings.{IsGatheringOfRun}
 
 -- of each group a list
 repeat-count : {X : Type 0} (x : X) (n : ℕ) → length (repeat n (x ∷ [])) ≡ n

@@ -4,10 +4,8 @@ ghost use Rattle.worker_pool.specs.Counts.{moment_at, moment_of, AreCountedBefor
 
 use crate::network_run::NetworkRun;
 use crate::rounds::seat::NetworkGroup;
-use crate::row_tables::RowTables;
-use crate::rows_law::rows_law;
-use crate::run_batch::RunBatch;
 use network::Network;
+use run_rows::{RowTables, RunBatch, rows_law};
 use std::alloc::{AllocError, Global};
 use std::marker::PhantomData;
 use trace_tables::batches_in_order_law;

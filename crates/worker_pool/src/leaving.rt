@@ -1,7 +1,7 @@
 //! What becomes of the rows of a run that are for good, while it goes on.
 ghost use Rattle.std.specs.Prelude.{◌≡◌, IfErr, IfSome};
 ghost use Rattle.journal.specs.declared.fault.PoolFault.TheVariants.{OutOfMemory};
-ghost use Rattle.worker_pool.specs.Written.{IsPlaceFault};
+ghost use Rattle.run_rows.specs.Written.{IsPlaceFault};
 
 use crate::counted::Counted;
 use crate::desk::TraceLock;

@@ -11,17 +11,16 @@ ghost use Rattle.worker_pool.specs.Runs.{IsEnded, IsJournalOf, HaveGoneBy};
 use crate::counted::{Counted, moment_of};
 use crate::ending::Unlocked;
 use crate::network_run::NetworkRun;
-use crate::rows_law::rows_law;
 use journal::PoolFault;
-use network::Network;
 use nodes::{Node, NodeRecord};
+use run_rows::rows_law;
 use seqsim::{network_law, rows_by_process_law};
 use std::alloc::{AllocError, Global};
 use trace_tables::{Tables, batches_in_order_law, put_in_message_order, tables_by_place_law};
 use virtual_time::headline_law;
 use vlink::{Message, Note, Row, Step, Time};
 
-impl<J: NetworkRun> Unlocked<J> {
+impl<J: NetworkRun> Unlocked<'_, J> {
     /// The steps of the run, in their order, where its journal is kept. It is refused for memory alone.
     pub(crate) fn steps(&self, alloc: Global) -> Result<Vec<Step>, PoolFault>
         requires ended { IsEnded J.plan J.owners self.now.exchange.steps self.now.groups.items }
@@ -33,13 +32,12 @@ impl<J: NetworkRun> Unlocked<J> {
     }
 
     /// The rows of all committed events, group by group. It is refused for memory alone.
-    fn gathered_rows(&self, alloc: Global, network: &Network) -> Result<Vec<Row>, AllocError>
-        requires network { network.now ≡ J.plan }
+    fn gathered_rows(&self, alloc: Global) -> Result<Vec<Row>, AllocError>
         requires ended { IsEnded J.plan J.owners self.now.exchange.steps self.now.groups.items }
         requires kept { HaveGoneBy [] 0 self.now.groups.items }
         ensures { IfOk result (λ rows. AreCommittedRows J.plan self.now.exchange.steps rows.items) }
     {
-        network_law(network);
+        network_law(self.network);
         let mut rows = Vec::new(alloc);
         for place in 0..self.groups.len() {
             let group = &self.groups[place];
@@ -49,14 +47,13 @@ impl<J: NetworkRun> Unlocked<J> {
     }
 
     /// The rows of all events, in message order. It is refused for memory alone.
-    pub(crate) fn rows(&self, alloc: Global, network: &Network) -> Result<Vec<Row>, AllocError>
-        requires network { network.now ≡ J.plan }
+    pub(crate) fn rows(&self, alloc: Global) -> Result<Vec<Row>, AllocError>
         requires ended { IsEnded J.plan J.owners self.now.exchange.steps self.now.groups.items }
         requires kept { HaveGoneBy [] 0 self.now.groups.items }
         ensures { IfOk result (λ rows. AreRowsOf J.plan rows.items) }
     {
-        rows_by_process_law(network);
-        let mut rows = self.gathered_rows(alloc, network)?;
+        rows_by_process_law(self.network);
+        let mut rows = self.gathered_rows(alloc)?;
         put_in_message_order(&mut rows)?;
         Ok(rows)
     }
@@ -64,19 +61,14 @@ impl<J: NetworkRun> Unlocked<J> {
     /// The tables of the run: those of the rows that were counted, and of the rows that each process has from there on. No row of it is kept.
     ///
     /// It fails only where memory is refused, or was while rows were counted.
-    pub(crate) fn tables(
-        &self,
-        network: &Network,
-        counted: Counted<J>,
-    ) -> Result<Tables, AllocError>
-        requires network { network.now ≡ J.plan }
+    pub(crate) fn tables(&self, counted: Counted<J>) -> Result<Tables, AllocError>
         requires ended { IsEnded J.plan J.owners self.now.exchange.steps self.now.groups.items }
         requires counted { HaveGoneBy counted.own.items counted.end self.now.groups.items }
         ensures whole { IfOk result (λ tables. (rows : List Row) × AreRowsOf J.plan rows × (tables ≡ tables_of J.plan rows)) }
         ensures each { IfOk result (λ tables. (rows : List Row) → AreRowsOf J.plan rows → tables ≡ tables_of J.plan rows) }
     {
-        network_law(network);
-        rows_law(network);
+        network_law(self.network);
+        rows_law(self.network);
         batches_in_order_law();
         headline_law::<Message, Node, NodeRecord, Note>();
         tables_by_place_law();
@@ -89,12 +81,12 @@ impl<J: NetworkRun> Unlocked<J> {
         let Some(mut tables) = tables else {
             return Err(AllocError);
         };
-        let behind = Time::known(network.until().ns() + 1);
+        let behind = Time::known(self.network.until().ns() + 1);
         for place in 0..self.groups.len() {
             let group = &self.groups[place];
             let from = moment_of(own.as_slice(), end, place);
-            tables = tables.with(network, group.rows_between(from, behind))?;
+            tables = tables.with(self.network, group.rows_between(from, behind))?;
         }
-        tables.tables(network)
+        tables.tables(self.network)
     }
 }

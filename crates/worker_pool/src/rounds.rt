@@ -5,6 +5,7 @@
 //! the row after each turn, and takes the first (`row`). For each group the workers tell one another the moment of what it has to do next
 //! (`moments`). Nothing here is part of a proof: a wrong estimate costs a turn or a rollback.
 pub(crate) mod apart;
+pub(crate) mod common;
 pub(crate) mod moments;
 pub(crate) mod row;
 pub(crate) mod seat;

@@ -8,9 +8,10 @@ use Rattle.trace_segments.specs.declared.segment_fault.SegmentFault.{SegmentFaul
 use Rattle.trace_segments.specs.declared.segment_fault.SegmentFault.TheVariants.{OutOfMemory}
 use Rattle.trace_segments.specs.Words.{gathered, segment_fault, Gives, rows_within, IsInOrder, BatchRows}
 use Rattle.worker_pool.proofs.GroupSegments.{one-group}
-use Rattle.worker_pool.proofs.GatheredRun.{none-of, own-rows, segment-gathered, given-batch}
-use Rattle.worker_pool.specs.Written.{IsPlaceFault}
-use Rattle.worker_pool.proofs.Written.{segment-told}
+use Rattle.run_rows.proofs.Nothing.{none-of}
+use Rattle.worker_pool.proofs.GatheredRun.{own-rows, segment-gathered, given-batch}
+use Rattle.run_rows.specs.Written.{IsPlaceFault}
+use Rattle.run_rows.proofs.Written.{segment-told}
 use Rattle.worker_pool.proofs.desk.Desk.gathered.Goals as goal
 
 pub invariant_of-self : goal.invariant_of-self

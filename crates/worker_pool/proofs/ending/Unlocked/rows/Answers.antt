@@ -18,5 +18,5 @@ AreOrdered plan =
 
 pub returns : goal.returns
 returns g c =
-    subst AreOrdered c.requires.network c.rows_by_process_law.ensures.finished c.args.self.now.exchange.steps c.requires.ended.finished
+    subst AreOrdered c.args.self.now.planned c.rows_by_process_law.ensures.finished c.args.self.now.exchange.steps c.requires.ended.finished
     _ _ c.in_ok-rows.ensures c.in_ok-put_in_message_order.ensures.ascending c.put_in_message_order.ensures.each_event

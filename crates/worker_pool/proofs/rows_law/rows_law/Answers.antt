@@ -1,5 +1,0 @@
-use Rattle.worker_pool.proofs.LawfulRows.{lawful-rows}
-use Rattle.worker_pool.proofs.rows_law.rows_law.Goals as goal
-
-pub returns : goal.returns
-returns c = lawful-rows c.args.network.now c.network_law.ensures c.message_order_law.ensures.total
