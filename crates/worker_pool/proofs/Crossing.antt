@@ -50,8 +50,8 @@ use Rattle.trace_tables.proofs.so_far.TablesSoFar.TheSendSync as so_far
 use Rattle.worker_pool.specs.contracts.counted.Counted as Counted
 use Rattle.worker_pool.specs.contracts.leaving.Leaving as Leaving
 use Rattle.worker_pool.specs.contracts.rounds.common.Common as Common
-use Rattle.worker_pool.specs.contracts.rounds.row.Row as Row
 use Rattle.worker_pool.specs.contracts.rounds.seat.Seat as Seat
+use Rattle.worker_pool.specs.contracts.rounds.seats.Seats as Seats
 use Rattle.run_rows.specs.contracts.row_tables.RowTables as RowTables
 use Rattle.run_rows.specs.contracts.row_tables.RowTables.TheInside as RowTablesIn
 use Rattle.worker_pool.specs.contracts.shared.Shared as Shared
@@ -100,8 +100,8 @@ shared-send J g = view_send _ _ _ _ _ (declared_send (SharedIn.the_type J g) (se
 seat-send : (J : RattleType) (g : NetworkGhosts J.Denot) → IsSend (Seat.the_row J g)
 seat-send J g = declared_send (Seat.the_type J g) (search (group-send, node.the_send, node_record.the_send, sendable, crosses) depth 10)
 
-row-sync : (J : RattleType) (g : NetworkGhosts J.Denot) → IsSync (Row.the_row J g)
-row-sync J g = declared_sync (Row.the_type J g) (search (seat-send, sendable, crosses) depth 20)
+seats-sync : (J : RattleType) (g : NetworkGhosts J.Denot) → IsSync (Seats.the_row J g)
+seats-sync J g = declared_sync (Seats.the_type J g) (search (seat-send, apart.the_sync, sendable, crosses) depth 20)
 
 tables-send : (J : RattleType) (g : NetworkGhosts J.Denot) → IsSend (RowTables.the_row J g)
 tables-send J g = view_send _ _ _ _ _ (declared_send (RowTablesIn.the_type J g) (search (so_far.the_send, sendable, crosses) depth 20))
@@ -117,4 +117,4 @@ leaving-sync J g = declared_sync (Leaving.the_type J g) (
 
 pub common-sync : (κ : NamedLft) (J : RattleType) (g : NetworkGhosts J.Denot) → IsSync (Common.the_row κ J g)
 common-sync κ J g = declared_sync (Common.the_type κ J g)
-    (search (row-sync, leaving-sync, shared-send, network.the_sync, apart.the_send, moments.the_sync, pace.the_sync, flag.the_sync, sendable, crosses) depth 20)
+    (search (seats-sync, leaving-sync, shared-send, network.the_sync, apart.the_send, moments.the_sync, pace.the_sync, flag.the_sync, sendable, crosses) depth 20)

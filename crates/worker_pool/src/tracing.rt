@@ -1,5 +1,5 @@
 //! The run of a network by workers whose trace is written while it goes on.
-ghost use Rattle.std.specs.Prelude.{◌≡◌, ◌≢◌, ◌+◌, List, IfOk, IfErr, OnOk};
+ghost use Rattle.std.specs.Prelude.{◌≡◌, ◌≢◌, ◌+◌, List, IfOk, IfErr, IfSome, OnOk};
 ghost use Rattle.std.specs.Io.KnownBytes.{append_known};
 ghost use Rattle.vlink.specs.Letters.{Row};
 ghost use Rattle.journal.specs.declared.fault.PoolFault.TheVariants.{Exhausted};
@@ -10,7 +10,7 @@ ghost use Rattle.trace_tables.specs.Tables.{tables_of};
 ghost use Rattle.seqsim.specs.Networks.{AreRowsOf};
 ghost use Rattle.worker_pool.specs.Outcomes.{UsesUpNumbers};
 ghost use Rattle.worker_pool.specs.Runs.{IsEnded, IsJournalAsked, IsSummaryOf};
-ghost use Rattle.run_rows.specs.Written.{IsFaultOfTrace, IsWritten};
+ghost use Rattle.run_rows.specs.Written.{IsFaultOfTrace, IsPlaceFault, IsWritten};
 
 use crate::batches::write_batches;
 use crate::counted::Counted;
@@ -36,7 +36,7 @@ use std::marker::Brand;
 use std::sync::Wait;
 use std::thread;
 use std::thread::Threads;
-use trace_tables::{Sink, TraceFault};
+use trace_tables::{SegmentFault, Sink, TraceFault};
 
 /// So many batches can wait for the writer's thread. Workers wait where one more is there.
 const MOST_BATCHES: usize = 16;
@@ -49,22 +49,35 @@ pub struct Traced<S> {
     pub sink: S,
 }
 
+/// No batch comes behind what a run has sent to the writer's thread, which else would wait for it. The answer is the run, and the first fault of a segment.
+fn closed<'n, J: NetworkRun>(
+    ran: Result<Unlocked<'n, J>, RunFault<J>>,
+) -> Result<(Unlocked<'n, J>, Option<SegmentFault>), RunFault<J>>
+    requires ended { IfOk ran (λ r. IsEnded J.plan J.owners r.exchange.steps r.groups.items) }
+    ensures ended { IfOk result (λ r. IsEnded J.plan J.owners r.0.exchange.steps r.0.groups.items) }
+    ensures fault { IfOk result (λ r. IfSome r.1 IsPlaceFault) }
+{
+    let mut ended = ran?;
+    let (fault, _none) = ended.leaving.closed();
+    Ok((ended, fault))
+}
+
 /// What a run comes to whose trace was written by a thread that is joined: it gave these back.
 fn traced_of<'a, J: NetworkRun, K: TraceRun, S: Sink + Drop>(
     alloc: Global,
-    ran: Result<Unlocked<'_, J>, RunFault<J>>,
+    ran: Result<(Unlocked<'_, J>, Option<SegmentFault>), RunFault<J>>,
     writing: Writing<'a, J, K, S>,
     counted: Counted<J>,
     with_steps: bool,
 ) -> Result<Traced<S>, PoolFault>
     requires keeps { with_steps ≡ J.keeps }
-    requires ended { IfOk ran (λ r. IsEnded J.plan J.owners r.exchange.steps r.groups.items) }
+    requires ended { IfOk ran (λ r. IsEnded J.plan J.owners r.0.exchange.steps r.0.groups.items) }
+    requires fault { IfOk ran (λ r. IfSome r.1 IsPlaceFault) }
     ensures found { IfOk result (λ t. IsSummaryOf J.plan J.keeps t.outcome.tables t.outcome.journal.items) }
     ensures written { IfOk result (λ t. IsWritten J.plan K.taken K.failures t.written (S.taken t.sink) (S.failures t.sink)) }
     ensures exhausted { IfErr result (λ fault. fault ≡ Exhausted → UsesUpNumbers J.plan) }
 {
-    let mut ended = ran?;
-    let (fault, _none) = ended.leaving.closed();
+    let (ended, fault) = ran?;
     let outcome = ended.summary(alloc, Some(counted), with_steps)?;
     let (written, sink) = writing.finish(fault);
     Ok(Traced {
@@ -134,6 +147,7 @@ fn traced_named<
             };
             let keeps = start.keeps;
             let ran = run_to_end(rt, alloc, start, gate, leaving, false, &mut watch);
+            let ran = closed(ran);
             let (writing, counted) = writer.join(rt);
             (traced_of(alloc, ran, writing, counted, keeps), watch)
         },

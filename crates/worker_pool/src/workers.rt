@@ -57,7 +57,7 @@ fn unlocked_of<'n, J: NetworkRun>(
     let Common {
         network,
         pace,
-        row,
+        seats,
         exchange,
         leaving,
         ..
@@ -66,7 +66,7 @@ fn unlocked_of<'n, J: NetworkRun>(
         network,
         pace,
         exchange: exchange.into_inner().into_inner(),
-        groups: row.into_groups(alloc)?,
+        groups: seats.into_groups(alloc)?,
         leaving,
     })
 }
@@ -97,7 +97,7 @@ fn start_all<
                     start = common.refused(RunFault::other(PoolFault::OutOfMemory));
                     break;
                 }
-                let Ok(handle) = scope.spawn(move || work(rt, alloc, common, gate)) else {
+                let Ok(handle) = scope.spawn(move || work(rt, alloc, common, gate, worker)) else {
                     start = common.refused(RunFault::other(PoolFault::Spawn));
                     break;
                 };
@@ -158,14 +158,15 @@ fn joined<J: NetworkRun, T: Threads + Wait>(
     least_fault(outcomes_of(rt, alloc, start, handles)?)
 }
 
-/// A worker gives turns until the run is over or a refusal ends it. One of its own ends the others at their next turn.
+/// The worker of this number gives turns until the run is over or a refusal ends it. One of its own ends the others at their next turn.
 fn work<J: NetworkRun, G: Gate, T: Wait>(
     rt: &T,
     alloc: Global,
     common: &Common<'_, J>,
     gate: &G,
+    number: usize,
 ) -> Result<(), RunFault<J>> {
-    let outcome = match turns(rt, alloc, common, gate) {
+    let outcome = match turns(rt, alloc, common, gate, number) {
         Err(fault) => common.refused(fault),
         Ok(()) => Ok(()),
     };
@@ -174,25 +175,13 @@ fn work<J: NetworkRun, G: Gate, T: Wait>(
 }
 
 /// The turns that a worker gives.
-fn turns<'s, J: NetworkRun, G: Gate, T: Wait>(
-    rt: &'s T,
+fn turns<J: NetworkRun, G: Gate, T: Wait>(
+    rt: &T,
     alloc: Global,
-    common: &'s Common<'_, J>,
-    gate: &'s G,
+    common: &Common<'_, J>,
+    gate: &G,
+    number: usize,
 ) -> Result<(), RunFault<J>> {
-    let letters_ns = vec![in alloc; u64::MAX; common.moments.groups()]?;
-    let mut worker = Worker {
-        rt,
-        network: common.network,
-        letters_ns,
-        looks: 0,
-        row: &common.row,
-        moments: &common.moments,
-        exchange: &common.exchange,
-        leaving: &common.leaving,
-        pace: &common.pace,
-        gate,
-        stop: &common.stop,
-    };
+    let mut worker = Worker::new(rt, alloc, common, gate, number)?;
     worker.turns()
 }

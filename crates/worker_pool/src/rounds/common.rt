@@ -5,8 +5,8 @@ ghost use Rattle.worker_pool.specs.Outcomes.{CanWantWorkers};
 
 use super::apart::Apart;
 use super::moments::Moments;
-use super::row::Row;
 use super::seat::NetworkGroup;
+use super::seats::Seats;
 use super::worker::ExchangeLock;
 use crate::leaving::Leaving;
 use crate::network_run::NetworkRun;
@@ -24,7 +24,7 @@ pub(crate) struct Common<'n, J: NetworkRun> {
     pub network: &'n Network,
     pub pace: Pace,
     pub workers: usize,
-    pub row: Row<J>,
+    pub seats: Seats<J>,
     pub moments: Moments,
     pub exchange: ExchangeLock<J>,
     pub leaving: Leaving<J>,
@@ -35,7 +35,7 @@ pub(crate) struct Common<'n, J: NetworkRun> {
 }
 
 impl<'n, J: NetworkRun> Common<'n, J> {
-    /// The groups are in the row, and no worker has come yet. It is refused for memory alone.
+    /// No group has had a turn. It is refused for memory alone.
     pub(crate) fn of(
         alloc: Global,
         network: &'n Network,
@@ -49,13 +49,13 @@ impl<'n, J: NetworkRun> Common<'n, J> {
         ensures { IfOk result (λ common. common.pace.workers ≡ pace.workers) }
     {
         let workers = groups.len().min(usize::from(pace.workers));
-        let moments = Moments::new(alloc, groups.len())?;
-        let row = Row::of(alloc, groups, workers)?;
+        let moments = Moments::new(alloc, groups.len(), workers)?;
+        let seats = Seats::of(alloc, groups)?;
         Ok(Common {
             network,
             pace,
             workers,
-            row,
+            seats,
             moments,
             exchange: Mutex::new(Apart::new(exchange)),
             leaving,
