@@ -12,6 +12,7 @@ use Rattle.trace_segments.proofs.IntervalLemmas.{cut-rises}
 use Rattle.seqsim.specs.Networks.{AreRowsOf}
 use Rattle.worker_pool.specs.Segments.{IsGroupSegmentOfRun}
 use Rattle.run_rows.specs.Traces.{IsBatchOfRun}
+use Rattle.run_rows.proofs.Nothing.{none-of}
 use Rattle.worker_pool.specs.Gatherings.{IsGatheringOfRun}
 
 -- of each group a list
